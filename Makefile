@@ -1,0 +1,30 @@
+RELAY = relay --hub 5412345000006 --owner 4012345500004 --moment 1748942400 --number 1
+PROVED = crates/edihub/out/edihub
+
+.PHONY: run try test bench edihub clean
+
+# The main job, with the proved program: the example's ORDERS interchange becomes the supplier's mailbox interchange.
+run: edihub
+	./edihub $(RELAY) < examples/orders.edi
+
+# Proves and builds the program. With no change since, it only copies it.
+edihub:
+	cd crates/edihub && rt run -- --help > out/help 2> out/log || { cat out/log; exit 1; }
+	cp $(PROVED) edihub
+
+# The same job without any proof, in seconds.
+try:
+	@echo "make try: this run proves nothing" >&2
+	cd crates/edihub && rt try -- $(RELAY) < ../../examples/orders.edi
+
+# The gate, and then the end-to-end tests of the program that the gate built.
+test:
+	python3 tests/test.py
+
+bench: edihub
+	mkdir -p crates/edihub/out
+	rustc --edition 2021 -O -o crates/edihub/out/plain bench/plain.rs
+	python3 bench/run.py ./edihub crates/edihub/out/plain
+
+clean:
+	rm -rf edihub crates/*/out

@@ -1,0 +1,76 @@
+"""Relays the loads of loads.py with the proved program and with plain.rs, one after the other, and prints
+ratios of instructions (where valgrind is there), of time and of peak memory, and the growth from 1/16 of the
+size to the whole."""
+import os
+import re
+import shutil
+import subprocess
+import sys
+import tempfile
+import time
+
+import loads
+
+WORDS = ["relay", "--hub", "5412345000006", "--owner", "4012345500004", "--moment", "1748942400", "--number", "1"]
+ROUNDS = 7
+
+
+def run(program, text):
+    """Seconds, peak memory in KiB and output of one run."""
+    with open(text, "rb") as source, tempfile.TemporaryFile() as target:
+        began = time.perf_counter()
+        child = subprocess.Popen([program, *WORDS], stdin=source, stdout=target)
+        _, status, used = os.wait4(child.pid, 0)
+        seconds = time.perf_counter() - began
+        child.returncode = os.waitstatus_to_exitcode(status)
+        target.seek(0)
+        if child.returncode:
+            sys.exit(f"{program} ended with {child.returncode}")
+        return seconds, used.ru_maxrss, target.read()
+
+
+def instructions(program, text):
+    if not shutil.which("valgrind"):
+        return None
+    words = ["valgrind", "--tool=callgrind", "--callgrind-out-file=/dev/null", program, *WORDS]
+    with open(text, "rb") as source:
+        ran = subprocess.run(words, stdin=source, stdout=subprocess.DEVNULL, stderr=subprocess.PIPE, text=True)
+    found = re.search(r"Collected : (\d+)", ran.stderr)
+    return int(found[1]) if found else None
+
+
+def measure(programs, text):
+    """For each program: least seconds, peak memory, instructions."""
+    times, memory, outputs = {it: [] for it in programs}, {}, {}
+    for _ in range(ROUNDS):
+        for program in programs:
+            seconds, peak, outputs[program] = run(program, text)
+            times[program].append(seconds)
+            memory[program] = max(peak, memory.get(program, 0))
+    if len({*outputs.values()}) > 1:
+        sys.exit("the two programs print different texts")
+    return {it: (min(times[it]), memory[it], instructions(it, text)) for it in programs}
+
+
+def main(ours, plain):
+    with tempfile.TemporaryDirectory() as room:
+        for name, make in loads.LOADS.items():
+            counts = {}
+            for limit in (loads.LIMIT // 16, loads.LIMIT):
+                text = os.path.join(room, "load.edi")
+                data = make(limit)
+                with open(text, "wb") as it:
+                    it.write(data)
+                found = measure([ours, plain], text)
+                (seconds, memory, count), (plain_seconds, plain_memory, plain_count) = found[ours], found[plain]
+                counts[limit] = count
+                line = f"{name}, {len(data):>9,} bytes: time {seconds / plain_seconds:.2f}, memory {memory / 1024:.1f} MiB of {plain_memory / 1024:.1f}"
+                if count and plain_count:
+                    line += f", instructions {count / plain_count:.2f} ({count / len(data):.0f} a byte, {plain_count / len(data):.0f} in the plain program)"
+                print(line, flush=True)
+            if all(counts.values()):
+                print(f"{name}: 16 times the size, {counts[loads.LIMIT] / counts[loads.LIMIT // 16]:.1f} times the instructions", flush=True)
+
+
+if __name__ == "__main__":
+    main(*sys.argv[1:3])

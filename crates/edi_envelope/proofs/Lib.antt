@@ -1,0 +1,10 @@
+pub mod BlockLemmas
+pub mod FrameLemmas
+pub mod HeaderLemmas
+pub mod JoinLemmas
+pub mod LawLemmas
+pub mod LimitLemmas
+pub mod MailLemmas
+pub mod MessageLemmas
+pub mod OpenLemmas
+pub mod MomentLemmas

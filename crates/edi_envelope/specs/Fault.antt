@@ -1,0 +1,35 @@
+-- The faults of an envelope: what is printed for each.
+use Rattle.std.specs.Prelude.{ℕ, List, codes}
+use Rattle.edi_envelope.specs.declared.fault.EnvelopeFault.{EnvelopeFault}
+use Rattle.edi_envelope.specs.declared.fault.EnvelopeFault.TheVariants.{InterchangeFrame, InterchangeHeader, MessageFrame, MessageHeader, SegmentCount, MessageReference, MessageCount, ControlReference, RepeatedReference, TestIndicator, TooManyMessages, CharacterSet, Memory}
+
+-- the number of a condition; want of memory is none
+abbrev pub number : EnvelopeFault → ℕ
+number InterchangeFrame = 6
+number InterchangeHeader = 7
+number MessageFrame = 10
+number MessageHeader = 11
+number SegmentCount = 12
+number MessageReference = 13
+number MessageCount = 14
+number ControlReference = 15
+number RepeatedReference = 16
+number TestIndicator = 17
+number TooManyMessages = 18
+number CharacterSet = 19
+number Memory = 0
+
+abbrev pub code_text : EnvelopeFault → List ℕ
+code_text InterchangeFrame = codes "E06"
+code_text InterchangeHeader = codes "E07"
+code_text MessageFrame = codes "E10"
+code_text MessageHeader = codes "E11"
+code_text SegmentCount = codes "E12"
+code_text MessageReference = codes "E13"
+code_text MessageCount = codes "E14"
+code_text ControlReference = codes "E15"
+code_text RepeatedReference = codes "E16"
+code_text TestIndicator = codes "E17"
+code_text TooManyMessages = codes "E18"
+code_text CharacterSet = codes "E19"
+code_text Memory = codes "memory"

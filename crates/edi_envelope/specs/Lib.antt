@@ -1,0 +1,11 @@
+pub mod Segments
+pub mod Limits
+pub mod Header
+pub mod Blocks
+pub mod Message
+pub mod Fault
+pub mod Interchange
+pub mod Parts
+pub mod Law
+pub mod Moment
+pub mod Mail

@@ -1,0 +1,23 @@
+//! The envelope of an interchange, UNB to UNZ, and of each message in it, UNH to UNT (ISO 9735, syntax version 3).
+#![tactic(auto)]
+
+mod blocks;
+mod fault;
+mod header;
+mod interchange;
+mod law;
+mod limits;
+mod message;
+mod moment;
+mod opening;
+mod mail;
+
+pub use fault::EnvelopeFault;
+pub use interchange::{Head, Interchange, RawMessage};
+pub use moment::Moment;
+pub use opening::open;
+pub use law::lowest_condition;
+pub use mail::wrap;
+
+#[cfg(test)]
+mod tests;

@@ -1,0 +1,155 @@
+ghost use Rattle.std.specs.Prelude.{◌≡◌, ◌≤◌, [], ◌∷◌, All, IsTrue, IfOk};
+ghost use Rattle.edi_tokens.specs.Characters.{is_digit};
+ghost use Rattle.edi_tokens.specs.Text.{text};
+ghost use Rattle.edi_envelope.specs.Moment.{date_text, time_text};
+ghost use Rattle.edi_envelope.specs.Mail.{unb_from, unz_of, with_one, renumbered, mail_segments, mail_body};
+
+use crate::interchange::RawMessage;
+use crate::message::copied;
+use crate::moment::{Moment, date_digits, time_digits};
+use edi_tokens::{Elements, Items, MemoryFault, Segment};
+use std::alloc::Global;
+
+// A copy of an element.
+fn copied_element(
+    alloc: Global,
+    components: &[Items<u8>],
+) -> Result<Items<Items<u8>>, MemoryFault>
+    ensures { IfOk result (λ copy. copy ≡ components.now) }
+{
+    let mut copy = Items::new(alloc);
+    for component in components {
+        copy.push(copied(alloc, component.as_slice())?)?;
+    }
+    Ok(copy)
+}
+
+// A copy of elements.
+fn copied_elements(
+    alloc: Global,
+    elements: &[Items<Items<u8>>],
+) -> Result<Elements, MemoryFault>
+    ensures { IfOk result (λ copy. copy ≡ elements.now) }
+{
+    let mut copy = Items::new(alloc);
+    for element in elements {
+        copy.push(copied_element(alloc, element.as_slice())?)?;
+    }
+    Ok(copy)
+}
+
+// An element of two components.
+fn pair(alloc: Global, first: &[u8], second: &[u8]) -> Result<Items<Items<u8>>, MemoryFault>
+    ensures { IfOk result (λ element. element ≡ first.now ∷ second.now ∷ []) }
+{
+    let mut element = Items::new(alloc);
+    element.push(copied(alloc, first)?)?;
+    element.push(copied(alloc, second)?)?;
+    Ok(element)
+}
+
+// An element of one component.
+fn single(alloc: Global, only: &[u8]) -> Result<Items<Items<u8>>, MemoryFault>
+    ensures { IfOk result (λ element. element ≡ only.now ∷ []) }
+{
+    let mut element = Items::new(alloc);
+    element.push(copied(alloc, only)?)?;
+    Ok(element)
+}
+
+// UNB of the hub's interchange.
+fn header(
+    alloc: Global,
+    hub: &[u8; 13],
+    owner: &[u8; 13],
+    moment: Moment,
+    reference: &[u8],
+) -> Result<Segment, MemoryFault>
+    ensures { IfOk result (λ segment. segment ≡ unb_from hub.now owner.now (date_text moment) (time_text moment) reference.now) }
+{
+    let mut elements = Items::new(alloc);
+    elements.push(pair(alloc, b"UNOC", b"3")?)?;
+    elements.push(pair(alloc, hub, b"14")?)?;
+    elements.push(pair(alloc, owner, b"14")?)?;
+    elements.push(pair(alloc, &date_digits(moment), &time_digits(moment))?)?;
+    elements.push(single(alloc, reference)?)?;
+    Ok(Segment {
+        tag: *b"UNB",
+        elements,
+    })
+}
+
+// UNZ of the hub's interchange.
+fn trailer(alloc: Global, reference: &[u8]) -> Result<Segment, MemoryFault>
+    ensures { IfOk result (λ segment. segment ≡ unz_of reference.now) }
+{
+    let mut elements = Items::new(alloc);
+    elements.push(single(alloc, b"1")?)?;
+    elements.push(single(alloc, reference)?)?;
+    Ok(Segment {
+        tag: *b"UNZ",
+        elements,
+    })
+}
+
+// The elements, with `1` as the first component of the element at a place.
+fn numbered_elements(
+    alloc: Global,
+    elements: Elements,
+    place: usize,
+) -> Result<Elements, MemoryFault>
+    ensures { IfOk result (λ numbered. numbered ≡ with_one elements place) }
+{
+    let mut elements = elements.into_vec();
+    if place < elements.len() {
+        let mut element = copied_element(alloc, elements[place].as_slice())?.into_vec();
+        if !element.is_empty() {
+            element[0] = copied(alloc, b"1")?;
+        }
+        elements[place] = Items::from_vec(element);
+    }
+    Ok(Items::from_vec(elements))
+}
+
+// A copy of a segment, with `1` as the message reference number of UNH and UNT.
+fn numbered_segment(alloc: Global, segment: &Segment) -> Result<Segment, MemoryFault>
+    ensures { IfOk result (λ numbered. numbered ≡ renumbered segment.now) }
+{
+    let mut elements = copied_elements(alloc, segment.elements.as_slice())?;
+    if segment.tag == *b"UNH" {
+        elements = numbered_elements(alloc, elements, 0)?;
+    } else if segment.tag == *b"UNT" {
+        elements = numbered_elements(alloc, elements, 1)?;
+    }
+    Ok(Segment {
+        tag: segment.tag,
+        elements,
+    })
+}
+
+/// The segments of the hub's interchange to a supplier that carries one message: UNB from `hub` to `owner` (GLNs of
+/// 13 digits) with date and time of `moment` at UTC and `number` as control reference, the message with the message
+/// reference number `1`, and UNZ. Written behind a service string they are the mail text. Fails only for memory.
+pub fn wrap(
+    alloc: Global,
+    hub: &[u8; 13],
+    owner: &[u8; 13],
+    moment: Moment,
+    number: u64,
+    message: &RawMessage,
+) -> Result<Items<Segment>, MemoryFault>
+    requires hub { All (λ digit. IsTrue (is_digit digit)) hub.now }
+    requires owner { All (λ digit. IsTrue (is_digit digit)) owner.now }
+    requires number { (1 ≤ number) × (number ≤ 99_999_999_999_999) }
+    ensures segments { IfOk result (λ segments. segments ≡ mail_segments hub.now owner.now moment number message.now) }
+    ensures text { IfOk result (λ segments. text segments ≡ mail_body hub.now owner.now moment number message.now) }
+{
+    let reference = format!(in alloc; "{number}")?;
+    let mut segments = Items::new(alloc);
+    segments.push(header(alloc, hub, owner, moment, reference.as_bytes())?)?;
+    for segment in message.segments.as_slice() {
+        segments.push(numbered_segment(alloc, segment)?)?;
+    }
+    segments.push(trailer(alloc, reference.as_bytes())?)?;
+    Ok(segments)
+}

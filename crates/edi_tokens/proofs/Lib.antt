@@ -1,0 +1,13 @@
+mod Examples
+pub mod Parts
+pub mod Fronts
+pub mod Steps
+pub mod Sound
+pub mod Whole
+pub mod Exact
+pub mod SpelledAgain
+pub mod Differs
+pub mod EmptyEnd
+pub mod Runs
+pub mod Going
+pub mod Canonical

@@ -1,0 +1,12 @@
+use Rattle.std.proofs.Common.{◌≡◌, [], length}
+use Rattle.edi_tokens.specs.Buffer.{Goes}
+use Rattle.edi_tokens.proofs.buffer.write_whole.Given as goal
+
+abbrev pub invariant-loop-rest : goal.invariant-loop-rest
+invariant-loop-rest g l = record {
+  bytes : Goes (g.W.Sink.contents l.fn.out) (g.W.Sink.contents l.out) [] [] l.rest l.bytes;
+  flag : g.W.Sink.failed l.out ≡ g.W.Sink.failed l.fn.out;
+}
+
+abbrev pub decreases-loop-rest : goal.decreases-loop-rest
+decreases-loop-rest g l = length l.rest

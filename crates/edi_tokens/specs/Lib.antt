@@ -1,0 +1,14 @@
+pub mod Segment
+pub mod Characters
+pub mod Service
+pub mod Spelling
+pub mod Reading
+pub mod OpenSegment
+pub mod Reader
+pub mod Plain
+pub mod Fault
+pub mod Text
+pub mod Sink
+pub mod Source
+pub mod Buffer
+pub mod Code

@@ -1,0 +1,44 @@
+-- The service characters of a text, and the service string advice UNA (ISO 9735 section 7.1).
+use Rattle.std.specs.Prelude.{ℕ, Bool, true, false, ◌==◌, ◌&&◌, ◌||◌, not, nat_le, List, [], ◌∷◌, Option, Some, None, if◌then◌else◌}
+use Rattle.edi_tokens.specs.declared.segment.Service.{Service}
+use Rattle.edi_tokens.specs.Characters.{is_capital, is_small, is_digit}
+
+-- the characters of a text without a service string: `:` `+` `.` `?` `'`
+abbrev pub usual : Service
+usual = record { component = 58; element = 43; decimal = 46; release = Some 63; terminator = 39 }
+
+-- the tag that announces six service characters
+abbrev pub una_tag : List ℕ
+una_tag = 85 ∷ 78 ∷ 65 ∷ []
+
+-- what may be a separator, the release character or the terminator: 0x21 to 0x7E, no letter and no digit
+abbrev pub is_mark : ℕ → Bool
+is_mark b = (nat_le 33 b && nat_le b 126) && not (is_capital b || is_small b || is_digit b)
+
+abbrev pub is_decimal : ℕ → Bool
+is_decimal b = b == 46 || b == 44
+
+abbrev pub differs : ℕ → List ℕ → Bool
+differs b [] = true
+differs b (c ∷ cs) = not (b == c) && differs b cs
+
+-- whether six characters are right, in their order: component separator, element separator, decimal mark,
+-- release character or a blank, reserved position, terminator
+abbrev pub are_right : ℕ → ℕ → ℕ → ℕ → ℕ → ℕ → Bool
+are_right component element decimal release reserved terminator =
+    ((is_mark component && is_mark element) && (is_mark terminator && (release == 32 || is_mark release)))
+    && ((is_decimal decimal && (nat_le 32 reserved && nat_le reserved 126))
+    && ((differs component (element ∷ terminator ∷ release ∷ decimal ∷ []) && differs element (terminator ∷ release ∷ decimal ∷ []))
+    && (differs terminator (release ∷ decimal ∷ []) && differs release (decimal ∷ []))))
+
+-- what six characters say, where they are right; a blank for the release character says that there is none
+abbrev pub service_of : List ℕ → Option Service
+service_of (component ∷ element ∷ decimal ∷ release ∷ reserved ∷ terminator ∷ []) =
+    if are_right component element decimal release reserved terminator
+    then Some (record {
+      component = component; element = element; decimal = decimal;
+      release = if release == 32 then None else Some release;
+      terminator = terminator
+    })
+    else None
+service_of _ = None

@@ -1,0 +1,7 @@
+-- What a write does to the flag of a sink.
+use Rattle.std.specs.Prelude.{ℕ, Bool, true, ◌==◌, ◌&&◌, not, List, length, Result, Ok, Err}
+
+-- an error was answered, or nothing taken of some bytes
+abbrev pub write_failed : {E : Type 0} → Result ℕ E → List ℕ → Bool
+write_failed (Ok n) bytes = n == 0 && not (length bytes == 0)
+write_failed (Err e) bytes = true

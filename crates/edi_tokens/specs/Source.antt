@@ -1,0 +1,12 @@
+-- What a piece that is read does to the bytes of a source and to those that were read.
+use Rattle.std.specs.Prelude.{◌≡◌, ℕ, ◌<◌, ◌≤◌, List, ◌++◌, length, Option}
+use Rattle.std.specs.Io.KnownBytes.{Consumes, IsAtEnd}
+
+-- so many bytes of the source, none only at its end or where there is no room, stand behind those before
+pub record TakesPiece (old new : Option (List ℕ)) (before after : List ℕ) (room count : ℕ) : Type 0 where
+  pub bytes : List ℕ
+  pub consumed : Consumes old new bytes
+  pub after_is : after ≡ before ++ bytes
+  pub count_is : length bytes ≡ count
+  pub within : count ≤ room
+  pub ends : count ≡ 0 → 0 < room → IsAtEnd new

@@ -1,0 +1,93 @@
+//! Bytes that wait to be written together.
+
+ghost use Rattle.std.specs.Prelude.{◌≡◌, ◌+◌, ◌≤◌, [], ◌++◌, length, OnOk};
+ghost use Rattle.edi_tokens.specs.Buffer.{Puts, Flags};
+
+use crate::sink::{Sink, WriteFault};
+use std::marker::Model;
+
+/// How many bytes wait at most.
+const ROOM: usize = 1024;
+
+/// Bytes that wait to be written together. It takes no memory of an allocator.
+#[derive(Drop)]
+pub(crate) struct Buffer {
+    bytes: [u8; ROOM],
+    filled: usize,
+}
+
+impl Model for Buffer {
+    ghost use Rattle.std.specs.Prelude.{ℕ, List, take, ◌≤◌};
+
+    ghost Value = { List ℕ };
+
+    ghost view = { λ b. take b.filled b.bytes };
+
+    ghost invariant = { λ b. b.filled ≤ 1024 };
+}
+
+/// Writes all of the bytes.
+pub(crate) fn write_whole<W: Sink>(out: &mut W, bytes: &[u8]) -> Result<(), WriteFault>
+    ensures bytes { Puts result (W.contents out.old) (W.contents out.new) [] [] bytes.now }
+    ensures flag { Flags result (W.failed out.old) (W.failed out.new) }
+{
+    let mut rest = bytes;
+    while !rest.is_empty() {
+        let Ok(count) = out.write(rest) else {
+            return Err(WriteFault);
+        };
+        if count == 0 {
+            return Err(WriteFault);
+        }
+        let (_, after) = rest.split_at(count);
+        rest = after;
+    }
+    Ok(())
+}
+
+impl Buffer {
+    /// No bytes wait.
+    pub(crate) fn new() -> Self
+        ensures { result ≡ [] }
+    {
+        Buffer {
+            bytes: [0; ROOM],
+            filled: 0,
+        }
+    }
+
+    /// Writes the bytes that wait.
+    pub(crate) fn flush<W: Sink>(&mut self, out: &mut W) -> Result<(), WriteFault>
+        ensures bytes { Puts result (W.contents out.old) (W.contents out.new) self.old [] [] }
+        ensures flag { Flags result (W.failed out.old) (W.failed out.new) }
+        ensures empty { OnOk result (self.new ≡ []) }
+    {
+        write_whole(out, &self.bytes[..self.filled])?;
+        self.filled = 0;
+        Ok(())
+    }
+
+    /// Puts bytes behind those that wait, and writes as many as there is no room for.
+    pub(crate) fn put<W: Sink>(&mut self, out: &mut W, bytes: &[u8]) -> Result<(), WriteFault>
+        ensures bytes { Puts result (W.contents out.old) (W.contents out.new) self.old self.new bytes.now }
+        ensures flag { Flags result (W.failed out.old) (W.failed out.new) }
+    {
+        if bytes.len() > ROOM - self.filled {
+            self.flush(out)?;
+            if bytes.len() > ROOM {
+                return write_whole(out, bytes);
+            }
+        }
+        self.append(bytes);
+        Ok(())
+    }
+
+    fn append(&mut self, bytes: &[u8])
+        requires { length self.old + length bytes.now ≤ 1024 }
+        ensures { self.new ≡ self.old ++ bytes.now }
+    {
+        let end = self.filled + bytes.len();
+        self.bytes[self.filled..end].copy_from_slice(bytes);
+        self.filled = end;
+    }
+}

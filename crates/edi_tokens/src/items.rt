@@ -1,0 +1,73 @@
+ghost use Rattle.std.specs.Prelude.{◌≡◌, ◌==◌, ◌++◌, ◌∷◌, [], length, OnOk, OnErr};
+
+use std::alloc::{AllocFailed, Global};
+use std::marker::Model;
+
+/// A vector that contracts see as the list of its items.
+#[derive(Debug, Drop)]
+pub struct Items<T> {
+    vector: Vec<T>,
+}
+
+impl<T> Model for Items<T> {
+    ghost use Rattle.std.specs.Prelude.{List};
+
+    ghost Value = { List T };
+
+    ghost view = { λ a. a.vector.items };
+}
+
+impl<T> Items<T> {
+    /// No items. Takes no memory.
+    pub fn new(alloc: Global) -> Self
+        ensures { result ≡ [] }
+    {
+        Items {
+            vector: Vec::new(alloc),
+        }
+    }
+
+    /// The items of the vector, in their order. Takes no memory.
+    pub fn from_vec(vector: Vec<T>) -> Self
+        ensures { result ≡ vector.items }
+    {
+        Items { vector }
+    }
+
+    /// The vector of the items. Takes no memory.
+    pub fn into_vec(self) -> Vec<T>
+        ensures { result.items ≡ self }
+    {
+        let Items { vector } = self;
+        vector
+    }
+
+    /// The items as a slice.
+    pub fn as_slice(&self) -> &[T]
+        ensures { result.now ≡ self.now }
+    {
+        self.vector.as_slice()
+    }
+
+    /// How many items there are.
+    pub fn len(&self) -> usize
+        ensures { result ≡ length self.now }
+    {
+        self.vector.len()
+    }
+
+    /// Whether there is no item.
+    pub fn is_empty(&self) -> bool
+        ensures { result ≡ (length self.now == 0) }
+    {
+        self.vector.is_empty()
+    }
+
+    /// Puts an item at the end.
+    pub fn push(&mut self, item: T) -> Result<(), AllocFailed<T>>
+        ensures ok { OnOk result (self.new ≡ self.old ++ item ∷ []) }
+        ensures err { OnErr result (self.new ≡ self.old) }
+    {
+        self.vector.push(item)
+    }
+}

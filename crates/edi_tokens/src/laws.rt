@@ -1,0 +1,50 @@
+//! The laws of the token grammar. Each is the contract of a function without a body.
+
+ghost use Rattle.std.specs.Prelude.{◌≡◌, ◌⊎◌, ◌↔◌, ◌≤◌, ℕ, List, ◌++◌, length, Result};
+ghost use Rattle.std.specs.List.{AllByRecursion};
+ghost use Rattle.edi_tokens.specs.declared.segment.Service.{Service};
+ghost use Rattle.edi_tokens.specs.declared.segment.Segment.{Segment};
+ghost use Rattle.edi_tokens.specs.declared.segment.Tokens.{Tokens};
+ghost use Rattle.edi_tokens.specs.declared.fault.TokenFault.{TokenFault};
+ghost use Rattle.edi_tokens.specs.Spelling.{Spells, text_limit, segment_limit};
+ghost use Rattle.edi_tokens.specs.Fault.{Shows};
+ghost use Rattle.edi_tokens.specs.Reading.{tokens_of};
+ghost use Rattle.edi_tokens.specs.Text.{text, una, segment_text, with_decimal};
+
+/// A text spells at most one list of segments, with one set of service characters.
+pub fn text_spells_one_list()
+    ensures { (bytes : List ℕ) (s t : Service) (xs ys : List Segment) →
+        Spells bytes s xs → Spells bytes t ys → (s ≡ t) × (xs ≡ ys) }
+{
+}
+
+/// A text spells segments or shows a fault, and never both; the fault that it shows is one.
+pub fn text_spells_or_shows_a_fault()
+    ensures either { (bytes : List ℕ) →
+        ((s : Service) × (xs : List Segment) × Spells bytes s xs) ⊎ ((fault : TokenFault) × Shows bytes fault) }
+    ensures never_both { (bytes : List ℕ) (s : Service) (xs : List Segment) (fault : TokenFault) →
+        Spells bytes s xs → ¬ Shows bytes fault }
+    ensures one_fault { (bytes : List ℕ) (fault other : TokenFault) →
+        Shows bytes fault → Shows bytes other → fault ≡ other }
+{
+}
+
+/// What is read of a text is what it spells, or the fault that it shows.
+pub fn reading_is_the_grammar()
+    ensures spelled { (bytes : List ℕ) (s : Service) (xs : List Segment) →
+        Spells bytes s xs ↔ (tokens_of bytes ≡ Ok (record { service = s; segments = xs })) }
+    ensures shown { (bytes : List ℕ) (fault : TokenFault) →
+        Shows bytes fault ↔ (tokens_of bytes ≡ Err fault) }
+{
+}
+
+/// The canonical text of segments that some text spells, behind a service string, spells them again,
+/// where it keeps within the longest text and the longest segment.
+pub fn canonical_text_spells_again()
+    ensures { (bytes : List ℕ) (s : Service) (xs : List Segment) (decimal : ℕ) →
+        Spells bytes s xs → (decimal ≡ 46) ⊎ (decimal ≡ 44) →
+        AllByRecursion (λ x. length (segment_text x) ≤ segment_limit) xs →
+        length (una decimal ++ text xs) ≤ text_limit →
+        Spells (una decimal ++ text xs) (with_decimal decimal) xs }
+{
+}

@@ -1,0 +1,161 @@
+//! What text is read from.
+
+ghost use Rattle.std.specs.Prelude.{◌≡◌, ◌≢◌, ◌≤◌, ◌||◌, ℕ, Bool, true, List, take, Option, None, Err, is_err, IfOk, IfSome, length, vec_len};
+ghost use Rattle.std.specs.Io.{ReadsAtMost};
+ghost use Rattle.std.specs.Io.KnownBytes.{ReadConsumes, Consumes};
+ghost use Rattle.edi_tokens.specs.Source.{TakesPiece};
+ghost use Rattle.edi_tokens.specs.declared.source.ReadFault.TheVariants.{Memory};
+
+use std::alloc::{AllocError, Global};
+use std::error::Error;
+use std::fmt;
+use std::io;
+use std::io::Read;
+use std::marker::Model;
+
+/// A reader that knows whether a read failed.
+pub trait Source {
+    // The bytes that reads will give from here on, where they are known.
+    ghost remaining: { Self → Option (List ℕ) } = { λ _. None };
+
+    // Whether a read has answered an error so far.
+    ghost failed: { Self → Bool };
+
+    /// Puts the next bytes at the front of the buffer, and says how many. None only at the end, or where
+    /// the buffer has no room.
+    fn read(&mut self, buffer: &mut [u8]) -> io::Result<usize>
+        ensures bound { ReadsAtMost result buffer.new }
+        ensures bytes { ReadConsumes (remaining self.old) (remaining self.new) result buffer.new }
+        ensures flag { failed self.new ≡ (failed self.old || is_err result) };
+}
+
+/// A reader of std, and whether a read has answered an error so far.
+#[derive(Debug, Drop)]
+pub struct OfRead<R> {
+    reader: R,
+    failed: bool,
+}
+
+impl<R> Model for OfRead<R> {
+    ghost use Rattle.std.specs.Prelude.{Bool};
+
+    ghost Value = { R × Bool };
+
+    ghost view = { λ r. (r.reader, r.failed) };
+}
+
+impl<R> OfRead<R> {
+    ghost use Rattle.std.specs.Prelude.{false};
+
+    /// No read has answered an error.
+    pub fn new(reader: R) -> Self
+        ensures { result ≡ (reader, false) }
+    {
+        OfRead {
+            reader,
+            failed: false,
+        }
+    }
+
+    pub fn into_inner(self) -> R
+        ensures { result ≡ self.0 }
+    {
+        let OfRead { reader, failed: _ } = self;
+        reader
+    }
+
+    /// Whether a read has answered an error so far.
+    pub fn failed(&self) -> bool
+        ensures { result ≡ self.now.1 }
+    {
+        self.failed
+    }
+}
+
+impl<R: Read> Source for OfRead<R> {
+    ghost remaining = { λ r. R.remaining r.0 };
+
+    ghost failed = { λ r. r.1 };
+
+    fn read(&mut self, buffer: &mut [u8]) -> io::Result<usize> {
+        let result = self.reader.read(buffer);
+        self.failed = self.failed || result.is_err();
+        result
+    }
+}
+
+/// Why the bytes of a source were not read.
+#[derive(Clone, Copy, Debug, PartialEq, Eq, Hash)]
+pub enum ReadFault {
+    /// The source answered an error.
+    Read,
+    /// Want of memory.
+    Memory,
+}
+
+impl fmt::Display for ReadFault {
+    fn fmt<W: fmt::Write>(&self, f: &mut fmt::Formatter<W>) -> fmt::Result {
+        let text = match self {
+            ReadFault::Read => "read",
+            ReadFault::Memory => "memory",
+        };
+        write!(f, "{text}")
+    }
+}
+
+impl Error for ReadFault {}
+
+impl From<AllocError> for ReadFault {
+    ghost from_gives = { λ _ fault. fault ≡ Memory };
+
+    fn from(_refused: AllocError) -> ReadFault {
+        ReadFault::Memory
+    }
+}
+
+/// How many bytes are asked for at once.
+const PIECE: usize = 65_536;
+
+/// Reads once, and puts what came behind what was read before.
+fn read_piece<R: Source>(
+    source: &mut R,
+    piece: &mut [u8],
+    read: &mut Vec<u8>,
+) -> Result<usize, ReadFault>
+    ensures taken { IfOk result (TakesPiece (R.remaining source.old) (R.remaining source.new) read.old.items read.new.items (length piece.old)) }
+    ensures read { result ≡ Err ReadFault.Read → R.failed source.new ≡ true }
+    ensures kept { result ≢ Err ReadFault.Read → R.failed source.new ≡ R.failed source.old }
+{
+    let Ok(count) = source.read(piece) else {
+        return Err(ReadFault::Read);
+    };
+    read.extend_from_slice(&piece[..count])?;
+    Ok(count)
+}
+
+/// Reads to the end of a source, and at most `limit` bytes.
+pub fn read_to_limit<R: Source>(
+    alloc: Global,
+    source: &mut R,
+    limit: usize,
+) -> Result<Vec<u8>, ReadFault>
+    // What is read is what the source gave, up to its end or the limit.
+    ensures bytes { IfOk result (λ read. Consumes (R.remaining source.old) (R.remaining source.new) read.items) }
+    ensures whole { IfOk result (λ read. IfSome (R.remaining source.old) (λ known. read.items ≡ take limit known)) }
+    ensures limit { IfOk result (λ read. vec_len read ≤ limit) }
+
+    // A read fault comes only from the source, and else the source's flag stays.
+    ensures read { result ≡ Err ReadFault.Read → R.failed source.new ≡ true }
+    ensures kept { result ≢ Err ReadFault.Read → R.failed source.new ≡ R.failed source.old }
+{
+    let mut read = Vec::new(alloc);
+    let mut piece = Vec::from_elem(alloc, 0u8, PIECE.min(limit))?;
+    while read.len() < limit {
+        let room = (limit - read.len()).min(piece.len());
+        let count = read_piece(source, &mut piece[..room], &mut read)?;
+        if count == 0 {
+            return Ok(read);
+        }
+    }
+    Ok(read)
+}

@@ -1,0 +1,6 @@
+pub mod CheckDigits
+pub mod Decided
+pub mod FilledFields
+pub mod Overlaps
+pub mod Prefixes
+pub mod StoredPrefixes

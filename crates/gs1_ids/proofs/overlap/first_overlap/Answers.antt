@@ -1,0 +1,37 @@
+use Rattle.std.proofs.Common.{◌≡◌, ◌+◌, refl, sym, subst, ◌∙◌, ⊎_elim, arith}
+use Rattle.std.proofs.lemmas.Bool.{cases_lt, true≢false}
+use Rattle.gs1_ids.specs.Overlap.{OverlapAt, IsFirstOverlap}
+use Rattle.gs1_ids.proofs.Overlaps.{search_behind, found_behind, none_behind, free_if_none, none_if_free}
+use Rattle.gs1_ids.proofs.overlap.first_overlap.Goals as goal
+use Rattle.gs1_ids.proofs.overlap.first_overlap.Goals.{In-Some}
+
+here : (c : In-Some) → IsFirstOverlap c.args.prefixes.now c.loop-first.first (c.loop-first.first + 1 + c.in-Some.offset)
+here c =
+    let ps = c.args.prefixes.now in
+    let i = c.loop-first.first in
+    let e = search_behind ps i _ _ c.loop-first-test.true c.index-prefixes-first.is c.overlapped.ensures in
+    let found = found_behind ps i c.in-Some.offset (sym e ∙ c.in-Some.is) in
+    record {
+      here = found.0;
+      least_first = λ k l o. ⊎_elim (λ passed. absurd (c.loop-first.invariant k l passed o)) (λ h. h) (cases_lt k i);
+      least_second = found.1;
+    }
+
+pub returns-in-Some-clause-least : goal.returns-in-Some-clause-least
+returns-in-Some-clause-least c = here c
+
+pub returns-in-Some-clause-free : goal.returns-in-Some-clause-free
+returns-in-Some-clause-free c =
+    (λ e. absurd (true≢false e), λ free. absurd (none_if_free c.args.prefixes.now free _ _ (here c).here))
+
+pub loop-first-preserved : goal.loop-first-preserved
+loop-first-preserved c = λ i j h o.
+    let ps = c.args.prefixes.now in
+    let first = c.loop-first.first in
+    let e = search_behind ps first _ _ c.loop-first-test.true c.index-prefixes-first.is c.overlapped.ensures in
+    ⊎_elim (λ passed. c.loop-first.invariant i j passed o) (λ past. let last : i ≡ first = omega arith in none_behind ps first (sym e ∙ c.in_default.is) j (subst (λ n. OverlapAt ps n j) last o)) (cases_lt i first)
+
+pub returns-clause-free : goal.returns-clause-free
+returns-clause-free c =
+    let ps = c.args.prefixes.now in
+    (λ _. free_if_none ps (λ i j o. c.loop-first.invariant i j (omega arith) o), λ _. refl)

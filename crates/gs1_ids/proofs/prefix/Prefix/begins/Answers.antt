@@ -1,0 +1,5 @@
+use Rattle.gs1_ids.proofs.Prefixes.{begins-iff}
+use Rattle.gs1_ids.proofs.prefix.Prefix.begins.Goals as goal
+
+pub returns-clause-exact : goal.returns-clause-exact
+returns-clause-exact c = begins-iff _ _ c.starts_with.result (cc)

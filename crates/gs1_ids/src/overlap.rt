@@ -1,0 +1,40 @@
+//! Prefixes that overlap.
+ghost use Rattle.std.specs.Prelude.{◌≡◌, ◌↔◌, [], ◌∷◌, map, position, IsNone, IfSome};
+ghost use Rattle.gs1_ids.specs.Overlap.{IsFirstOverlap, PrefixFree, PrefixesOfOneOverlap, SsccHasOneSupplier};
+ghost use Rattle.gs1_ids.specs.Prefix.{overlap};
+
+use crate::prefix::Prefix;
+
+// The place of the first of `others` that `prefix` overlaps.
+fn overlapped(prefix: &Prefix, others: &[Prefix]) -> Option<usize>
+    ensures { result ≡ position (overlap prefix.now) others.now }
+{
+    others.iter().position(|other| prefix.overlaps(other))
+}
+
+/// The first two places, from 0, whose prefixes overlap: where one begins the other, as equal ones
+/// do. The least first place, and with it the least second one; `None` where all prefixes are free
+/// of one another. It compares each prefix with each later one, so its cost grows with the square of
+/// their number.
+pub fn first_overlap(prefixes: &[Prefix]) -> Option<(usize, usize)>
+    ensures least { IfSome result (λ places. IsFirstOverlap prefixes.now places.0 places.1) }
+    ensures free { IsNone result ↔ PrefixFree (map (λ prefix. prefix ∷ []) prefixes.now) }
+{
+    for (first, prefix) in prefixes.iter().enumerate() {
+        if let Some(offset) = overlapped(prefix, &prefixes[first + 1..]) {
+            return Some((first, first + 1 + offset));
+        }
+    }
+    None
+}
+
+/// Two prefixes that both begin one list of digits begin one another.
+pub fn prefixes_of_one_overlap()
+    ensures { PrefixesOfOneOverlap }
+{}
+
+/// Where the prefixes of suppliers are free of one another, an SSCC is under those of one supplier at
+/// most.
+pub fn sscc_has_one_supplier()
+    ensures { SsccHasOneSupplier }
+{}

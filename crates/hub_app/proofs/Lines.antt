@@ -1,0 +1,45 @@
+-- Lines and mail texts on their way to writers.
+use Rattle.std.proofs.Common.{◌≡◌, ℕ, Bool, true, false, List, [], ◌∷◌, ◌++◌, take, Option, Some, None, Result, Ok, Err, refl, sym, ap, subst, ◌∙◌, append_assoc}
+use Rattle.std.specs.Prelude.{IfSome, OnOk, OnErr, is_ok}
+use Rattle.std.proofs.lemmas.Bool.{true≢false, false≢true}
+use Rattle.std.specs.Io.KnownBytes.{Appends, Keeps}
+use Rattle.std.proofs.KnownBytes.{Appends-trans}
+use Rattle.edi_tokens.specs.Buffer.{AppendsFront}
+use Rattle.hub_app.specs.declared.relay.RelayWords.{RelayWords}
+use Rattle.hub_app.specs.declared.relay.RelayFault.{RelayFault}
+use Rattle.hub_app.specs.Relay.{relayed}
+use Rattle.hub_app.specs.Run.{read_limit, Delivers, DeliversFront, IsRefused}
+
+-- a fact where a call failed, or did not
+pub on_err : {T E P : Type 0} (r : Result T E) → P → OnErr r P
+on_err (Ok x) p = tt
+on_err (Err e) p = p
+
+pub at_ok : {T E P : Type 0} (r : Result T E) → OnOk r P → is_ok r ≡ true → P
+at_ok (Ok x) p e = p
+at_ok (Err d) p e = absurd (false≢true e)
+
+pub at_err : {T E P : Type 0} (r : Result T E) → OnErr r P → is_ok r ≡ false → P
+at_err (Ok x) p e = absurd (true≢false e)
+at_err (Err d) p e = p
+
+-- a front of a part is a front of the whole
+pub front_of_first : (old new : Option (List ℕ)) (first second : List ℕ) → AppendsFront old new first → AppendsFront old new (first ++ second)
+front_of_first old new first second h = (h.0, h.1 ++ second, ap (λ (t : List ℕ). t ++ second) h.2 ∙ append_assoc h.0 h.1 second, h.3)
+
+pub front_of_second : (old mid new : Option (List ℕ)) (first second : List ℕ) → Appends old mid first → AppendsFront mid new second → AppendsFront old new (first ++ second)
+front_of_second old mid new first second begun h =
+    (first ++ h.0, h.1, ap (λ (t : List ℕ). first ++ t) h.2 ∙ sym (append_assoc first h.0 h.1), Appends-trans old mid new first h.0 begun h.3)
+
+-- what a run did, by what was read, relayed and written
+pub is_delivered : (known : Option (List ℕ)) (words : RelayWords) (old new : Option (List ℕ)) (read bytes mail : List ℕ) → IfSome known (λ k. read ≡ take read_limit k) → bytes ≡ read → relayed bytes words ≡ Ok mail → Appends old new mail → Delivers known words old new
+is_delivered None words old new read bytes mail whole same mailed written = tt
+is_delivered (Some k) words old new read bytes mail whole same mailed written = (mail, ap (λ (t : List ℕ). relayed t words) (sym whole ∙ sym same) ∙ mailed, written)
+
+pub is_front_delivered : (known : Option (List ℕ)) (words : RelayWords) (old new : Option (List ℕ)) (read bytes mail : List ℕ) → IfSome known (λ k. read ≡ take read_limit k) → bytes ≡ read → relayed bytes words ≡ Ok mail → AppendsFront old new mail → DeliversFront known words old new
+is_front_delivered None words old new read bytes mail whole same mailed written = tt
+is_front_delivered (Some k) words old new read bytes mail whole same mailed written = (mail, ap (λ (t : List ℕ). relayed t words) (sym whole ∙ sym same) ∙ mailed, written)
+
+pub is_refused : (known : Option (List ℕ)) (words : RelayWords) (fault : RelayFault) (read bytes : List ℕ) → IfSome known (λ k. read ≡ take read_limit k) → bytes ≡ read → relayed bytes words ≡ Err fault → IsRefused known words fault
+is_refused None words fault read bytes whole same refused = tt
+is_refused (Some k) words fault read bytes whole same refused = ap (λ (t : List ℕ). relayed t words) (sym whole ∙ sym same) ∙ refused

@@ -1,0 +1,31 @@
+-- What a run of `relay` between a reader and two writers does, by the bytes that are known of each.
+use Rattle.std.specs.Prelude.{◌≡◌, ℕ, Bool, true, false, List, ◌++◌, take, codes, Option, IfSome, Result, Ok, Err}
+use Rattle.std.specs.Io.KnownBytes.{Appends, Keeps}
+use Rattle.edi_tokens.specs.Buffer.{AppendsFront}
+use Rattle.hub_app.specs.declared.relay.RelayWords.{RelayWords}
+use Rattle.hub_app.specs.declared.relay.RelayFault.{RelayFault}
+use Rattle.hub_app.specs.Relay.{relayed, code_of}
+
+-- one byte more than the longest text is read, so that a longer one shows
+abbrev pub read_limit : ℕ
+read_limit = 1_048_577
+
+-- what was read is relayed, and the mail texts were written
+abbrev pub Delivers : Option (List ℕ) → RelayWords → Option (List ℕ) → Option (List ℕ) → Type 0
+Delivers known words old new = IfSome known (λ bytes. (mail : List ℕ) × (relayed (take read_limit bytes) words ≡ Ok mail) × Appends old new mail)
+
+-- what was read is relayed, and a front of the mail texts was written
+abbrev pub DeliversFront : Option (List ℕ) → RelayWords → Option (List ℕ) → Option (List ℕ) → Type 0
+DeliversFront known words old new = IfSome known (λ bytes. (mail : List ℕ) × (relayed (take read_limit bytes) words ≡ Ok mail) × AppendsFront old new mail)
+
+-- what was read is refused
+abbrev pub IsRefused : Option (List ℕ) → RelayWords → RelayFault → Type 0
+IsRefused known words fault = IfSome known (λ bytes. relayed (take read_limit bytes) words ≡ Err fault)
+
+-- a line was written, or, where the writer failed, a front of it
+pub record Tells (old new : Option (List ℕ)) (failed : Bool) (line : List ℕ) : Type 0 where
+  pub front : AppendsFront old new line
+  pub whole : failed ≡ false → Appends old new line
+
+abbrev pub refusal : RelayFault → List ℕ
+refusal fault = codes "refused " ++ (code_of fault ++ codes "\n")

@@ -1,0 +1,105 @@
+//! A run of `relay` between a reader and two writers.
+
+ghost use Rattle.std.specs.Prelude.{◌≡◌, ◌⊎◌, ◌≤◌, ◌++◌, true, false, take, List, codes, OnOk, OnErr, IsTrue, IfSome};
+ghost use Rattle.std.specs.Io.KnownBytes.{Appends, Keeps};
+ghost use Rattle.edi_tokens.specs.Buffer.{AppendsFront};
+ghost use Rattle.hub_app.specs.declared.relay.RelayFault.{RelayFault};
+ghost use Rattle.hub_app.specs.Relay.{AreRelayWords};
+ghost use Rattle.hub_app.specs.Run.{Delivers, DeliversFront, IsRefused, Tells, refusal};
+
+use crate::relay::{RelayFault, RelayWords, relay_text};
+use edi_tokens::{ReadFault, Sink, Source, WriteFault, read_to_limit, write_bytes};
+use std::alloc::Global;
+
+/// One byte more than the longest text is read, so that a longer one shows.
+const READ_LIMIT: usize = 1_048_577;
+
+/// The exit statuses of the program: done, refused, and a failed read or write or want of memory.
+const DONE: u8 = 0;
+const REFUSED: u8 = 1;
+const FAILED: u8 = 3;
+
+// Writes the line that a refusal prints.
+fn write_refusal<E: Sink>(fault: RelayFault, err: &mut E) -> Result<(), WriteFault>
+    ensures ok { OnOk result (Appends (E.contents err.old) (E.contents err.new) (refusal fault)) }
+    ensures err { OnErr result (AppendsFront (E.contents err.old) (E.contents err.new) (refusal fault)) }
+    ensures failed { OnErr result (IsTrue (E.failed err.new)) }
+{
+    write_bytes(b"refused ", err)?;
+    write_bytes(fault.code().as_bytes(), err)?;
+    write_bytes(b"\n", err)
+}
+
+// Prints the line of a refusal. Where the writer fails, the exit status alone tells.
+fn tell_refusal<E: Sink>(fault: RelayFault, err: &mut E)
+    ensures { Tells (E.contents err.old) (E.contents err.new) (E.failed err.new) (refusal fault) }
+{
+    let _ = write_refusal(fault, err);
+}
+
+// Prints a line. Where the writer fails, the exit status alone tells.
+fn tell<E: Sink>(line: &[u8], err: &mut E)
+    ensures { Tells (E.contents err.old) (E.contents err.new) (E.failed err.new) line.now }
+{
+    let _ = write_bytes(line, err);
+}
+
+/// Reads an interchange, at most 1,048,577 bytes, and writes its mail texts to `out`. Answers the exit status: 0 where
+/// they were written; 1 where the interchange is refused, and then `refused` with the code is a line on `err`; 3 where
+/// a read or write failed, with the line `file`, or memory ran out, with the line `memory`.
+pub fn relay_run<R: Source, W: Sink, E: Sink>(
+    alloc: Global,
+    words: &RelayWords,
+    input: &mut R,
+    out: &mut W,
+    err: &mut E,
+) -> u8
+    requires { AreRelayWords words.now }
+    ensures status { (result ≡ 0) ⊎ ((result ≡ 1) ⊎ (result ≡ 3)) }
+    ensures done { result ≡ 0 →
+        Delivers (R.remaining input.old) words.now (W.contents out.old) (W.contents out.new)
+        × Keeps (E.contents err.old) (E.contents err.new) }
+    ensures refused { result ≡ 1 →
+        Keeps (W.contents out.old) (W.contents out.new)
+        × (fault : RelayFault) × IsRefused (R.remaining input.old) words.now fault
+        × Tells (E.contents err.old) (E.contents err.new) (E.failed err.new) (refusal fault) }
+    ensures failed { result ≡ 3 →
+        (Tells (E.contents err.old) (E.contents err.new) (E.failed err.new) (codes "file\n")
+            × (((R.failed input.new ≡ true) × Keeps (W.contents out.old) (W.contents out.new))
+                ⊎ ((W.failed out.new ≡ true) × DeliversFront (R.remaining input.old) words.now (W.contents out.old) (W.contents out.new))))
+        ⊎ (Tells (E.contents err.old) (E.contents err.new) (E.failed err.new) (codes "memory\n")
+            × Keeps (W.contents out.old) (W.contents out.new)) }
+{
+    let text = match read_to_limit(alloc, input, READ_LIMIT) {
+        Ok(text) => text,
+        Err(ReadFault::Read) => {
+            tell(b"file\n", err);
+            return FAILED;
+        }
+        Err(ReadFault::Memory) => {
+            tell(b"memory\n", err);
+            return FAILED;
+        }
+    };
+    match relay_text(alloc, text.as_slice(), words) {
+        Ok(mail) => {
+            if write_bytes(mail.as_slice(), out).is_ok() {
+                return DONE;
+            }
+            tell(b"file\n", err);
+            FAILED
+        }
+        Err(RelayFault::Memory) => {
+            tell(b"memory\n", err);
+            FAILED
+        }
+        Err(RelayFault::Token(fault)) => {
+            tell_refusal(RelayFault::Token(fault), err);
+            REFUSED
+        }
+        Err(RelayFault::Envelope(fault)) => {
+            tell_refusal(RelayFault::Envelope(fault), err);
+            REFUSED
+        }
+    }
+}

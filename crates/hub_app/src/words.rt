@@ -1,0 +1,91 @@
+//! The words of the command line.
+
+ghost use Rattle.std.specs.Prelude.{IfOk, IfSome};
+ghost use Rattle.hub_app.specs.Relay.{AreRelayWords};
+ghost use Rattle.hub_app.specs.Words.{AreWords};
+
+use crate::relay::RelayWords;
+use clap::error::ErrorKind;
+use clap::{Arg, ArgAction, ArgMatches, Command, Error};
+use edi_envelope::Moment;
+use std::alloc::{AllocError, Global};
+use std::convert::AsStr;
+
+/// What the words ask for: a command with its options.
+#[derive(Drop)]
+pub enum Words {
+    Relay(RelayWords),
+}
+
+// An option that has to be given, with one value.
+fn option<'a>(alloc: Global, name: &'a str, value: &'a str, help: &'a str) -> Arg<'a> {
+    Arg::new(alloc, name)
+        .long(name)
+        .value_name(value)
+        .required(true)
+        .action(ArgAction::Set)
+        .help(help)
+}
+
+const RELAY: &str =
+    "Reads an ORDERS interchange on standard input, prints the supplier's mail texts";
+
+const RELAY_LIMITS: &str =
+    "a GLN has 13 digits, --moment is 0 to 4102444799, and --number is 1 to 99999999999001";
+
+const STATUS: &str = "Exit status: 0 done; 1 refused, the code stands on standard error; 2 wrong words; 3 a failed read or write, or want of memory";
+
+fn relay_command<'a>(alloc: Global) -> Result<Command<'a>, AllocError> {
+    Command::new(alloc, "relay")
+        .about(RELAY)
+        .after_help(STATUS)
+        .arg(option(alloc, "hub", "GLN", "GLN of the hub, 13 digits"))?
+        .arg(option(alloc, "owner", "GLN", "GLN of the supplier, 13 digits"))?
+        .arg(option(alloc, "moment", "SECONDS", "Moment of the mail, in seconds since 1970 began at UTC, at most 4102444799"))?
+        .arg(option(alloc, "number", "N", "Number of the first mail text, 1 to 99999999999001"))
+}
+
+fn program<'a>(alloc: Global) -> Result<Command<'a>, AllocError> {
+    Command::new(alloc, "edihub")
+        .about("The EDI hub of one retailer (GS1 EANCOM 2002, ISO 9735 syntax version 3)")
+        .subcommand_required(true)
+        .subcommand(relay_command(alloc)?)
+}
+
+// Whether a text is so many digits.
+fn are_digits(text: &str, least: usize, most: usize) -> bool {
+    let bytes = text.as_bytes();
+    least <= bytes.len() && bytes.len() <= most && bytes.iter().all(|byte| byte.is_ascii_digit())
+}
+
+// A number of 1 to 14 digits.
+fn number(text: &str) -> Option<u64> {
+    if are_digits(text, 1, 14) { text.parse().ok() } else { None }
+}
+
+// The options of `relay`, where each is within its limits.
+fn relay_words(options: &ArgMatches<'_>) -> Option<RelayWords>
+    ensures { IfSome result AreRelayWords }
+{
+    let hub = options.get_str("hub")?;
+    let owner = options.get_str("owner")?;
+    let moment = Moment::new(number(options.get_str("moment")?)?)?;
+    let first = number(options.get_str("number")?)?;
+    RelayWords::new(hub, owner, moment, first)
+}
+
+/// Reads the words of the command line, the program's name first. The error is a text to print, on standard output
+/// where it is help, else on standard error with status 2.
+pub fn read_words<'a, S: AsStr>(alloc: Global, words: &'a [S]) -> Result<Words, Error>
+    ensures { IfOk result AreWords }
+{
+    let mut program = program(alloc)?;
+    let matches = program.try_get_matches_from_mut(words)?;
+    match matches.subcommand() {
+        Some(("relay", options)) => match relay_words(options) {
+            Some(relay) => Ok(Words::Relay(relay)),
+            None => Err(program.error(ErrorKind::ValueValidation, RELAY_LIMITS)?),
+        },
+        _ => Err(program.error(ErrorKind::MissingSubcommand, "no command is named")?),
+    }
+}

@@ -1,0 +1,141 @@
+"""The cases of the built program: words, standard input, and the expected standard output, standard error and status."""
+from dataclasses import dataclass, field
+
+
+@dataclass
+class Case:
+    name: str
+    words: list
+    input: bytes = b""
+    output: object = b""
+    error: object = b""
+    status: int = 0
+    files: dict = field(default_factory=dict)
+    # where standard output goes, if not to the test, as to a full device
+    output_to: str = ""
+    # standard input is a folder, so that each read fails
+    input_closed: bool = False
+
+
+HUB, OWNER = "5412345000006", "4012345500004"
+TEXT_LIMIT = 1_048_576
+
+
+def relay(hub=HUB, owner=OWNER, moment="1748942400", number="1"):
+    return ["relay", "--hub", hub, "--owner", owner, "--moment", moment, "--number", number]
+
+
+MESSAGE = (
+    "UNH+1+ORDERS:D:01B:UN:EAN010'BGM+220+128576+9'DTM+137:20250603:102'"
+    "NAD+BY+5412345000013::9'NAD+SU+4012345500004::9'"
+    "LIN+1++4000862141404:SRV'QTY+21:48'UNS+S'CNT+2:1'UNT+10+1'"
+)
+HEAD = "UNB+UNOC:3+5412345000013:14+5412345000006:14+250603:0915+1001'"
+ORDERS = "UNA:+.? '" + HEAD + MESSAGE + "UNZ+1+1001'"
+
+
+def mail(number=1, message=MESSAGE, mark="."):
+    """The hub's interchange with the message, in one line."""
+    return f"UNA:+{mark}? 'UNB+UNOC:3+{HUB}:14+{OWNER}:14+250603:0920+{number}'{message}UNZ+1+{number}'"
+
+
+def text(it):
+    return it.encode("latin-1")
+
+
+def relayed(name, source, target, **words):
+    return Case(name, relay(**words), text(source), text(target))
+
+
+def refused(name, source, code):
+    source = source if isinstance(source, bytes) else text(source)
+    return Case(name, relay(), source, error=text(f"refused {code}\n"), status=1)
+
+
+def is_usage(found):
+    """A fault of the command line: a text that says so, and how the command is called."""
+    return found.startswith(b"error: ") and b"Usage:" in found
+
+
+def wrong_words(name, words):
+    return Case(name, words, text(ORDERS), error=is_usage, status=2)
+
+
+def respelled(source, marks, end=""):
+    """The segments in other service characters, with `end` after each. The source has no released character."""
+    component, element, decimal, release, terminator = marks
+    body = source.removeprefix("UNA:+.? '").translate(str.maketrans({":": component, "+": element, "'": terminator + end}))
+    return f"UNA{component}{element}{decimal}{release} {terminator}{end}{body}"
+
+
+def with_note(note, source=ORDERS):
+    """A free text behind the date, and the segment counted."""
+    return source.replace("20250603:102'", "20250603:102'FTX+AAI+++" + note).replace("UNT+10", "UNT+11")
+
+
+def messages(count, source=MESSAGE):
+    """So many messages, numbered from 1, in one interchange."""
+    body = "".join(source.replace("UNH+1+", f"UNH+{k}+").replace("UNT+10+1'", f"UNT+10+{k}'") for k in range(1, count + 1))
+    return "UNA:+.? '" + HEAD + body + f"UNZ+{count}+1001'"
+
+
+def mails(count, first=1):
+    return "".join(mail(first + k) for k in range(count))
+
+
+RELAY = [
+    relayed("an order becomes the supplier's mail", ORDERS, mail()),
+    relayed("an order without a service string", ORDERS.removeprefix("UNA:+.? '"), mail()),
+    relayed("other separators, and CR LF after each segment", respelled(ORDERS, "*|,! ~".replace(" ", ""), "\r\n"), mail(mark=",")),
+    relayed(
+        "characters that are released in another place",
+        respelled(ORDERS, ("*", "|", ",", "!", "~"), "\r\n")
+        .replace("20250603*102~\r\n", "20250603*102~\r\nFTX|AAI|||Dock 3+4, O'Neill?~\r\n")
+        .replace("UNT|10", "UNT|11"),
+        mail(message=with_note("Dock 3?+4, O?'Neill??'", MESSAGE), mark=","),
+    ),
+    relayed(
+        "no release character: ? is data",
+        with_note("Gate 3?'").replace("UNA:+.? '", "UNA:+.  '"),
+        mail(message=with_note("Gate 3??'", MESSAGE)),
+    ),
+    relayed("a released terminator does not end its segment", with_note("it?'s'"), mail(message=with_note("it?'s'", MESSAGE))),
+    relayed("empty last components and elements are dropped", ORDERS.replace("QTY+21:48'", "QTY+21:48:+'"), mail()),
+    relayed("an empty element in the middle stays", ORDERS.replace("QTY+21:48'", "QTY+21:48++7'"), mail(message=MESSAGE.replace("QTY+21:48'", "QTY+21:48++7'"))),
+    relayed("two messages become two mail texts", messages(2), mails(2, 7), number="7"),
+    relayed("no message, no mail", HEAD.replace("1001", "1004") + "UNZ+0+1004'", ""),
+    relayed("the greatest first number", ORDERS, mail(99_999_999_999_001), number="99999999999001"),
+    relayed("leading zeros in a number", ORDERS, mail(7), number="0007"),
+    relayed("the first moment", ORDERS, mail().replace("250603:0920", "700101:0000"), moment="0"),
+    relayed("the last moment", ORDERS, mail().replace("250603:0920", "991231:2359"), moment="4102444799"),
+    relayed("a leap day", ORDERS, mail().replace("250603:0920", "240229:2359"), moment="1709251199"),
+    Case("line ends up to 1,048,576 bytes", relay(), text(ORDERS).ljust(TEXT_LIMIT, b"\n"), text(mail())),
+    refused("one byte more", text(ORDERS).ljust(TEXT_LIMIT + 1, b"\n"), "E01"),
+    refused("a service string whose characters are equal", ORDERS.replace("UNA:+.? '", "UNA++.? '"), "E02"),
+    refused("a cut service string", "UNA:+.?", "E02"),
+    refused("a line end inside of a segment", ORDERS.replace("BGM+220", "BGM+\n220"), "E03"),
+    refused("a cut text", ORDERS[: ORDERS.index("QTY+21:4") + len("QTY+21:4")], "E04"),
+    refused("a tag in small letters", ORDERS.replace("BGM", "bgm"), "E05"),
+    refused("a segment of 8,193 bytes", with_note("x" * (8193 - len("FTX+AAI+++'")) + "'"), "E20"),
+    refused("an empty text", "", "E06"),
+    refused("a wrong segment count", ORDERS.replace("UNT+10", "UNT+9"), "E12"),
+    refused("a wrong segment count and a wrong control reference", ORDERS.replace("UNT+10", "UNT+9").replace("UNZ+1+1001", "UNZ+1+1009"), "E12"),
+    Case("the help of the program", ["--help"], output=lambda it: b"Usage: edihub" in it and b"relay" in it),
+    Case("the help of relay", ["relay", "--help"], output=lambda it: b"Usage: edihub relay" in it and b"--moment" in it),
+    wrong_words("no command", []),
+    wrong_words("an unknown command", ["deliver"]),
+    wrong_words("no words for relay", ["relay"]),
+    wrong_words("a GLN of twelve digits", relay(hub="541234500000")),
+    wrong_words("a GLN with a letter", relay(owner="401234550000x")),
+    wrong_words("the number 0", relay(number="0")),
+    wrong_words("a number past the greatest", relay(number="99999999999002")),
+    wrong_words("a number with a sign", relay(number="+5")),
+    wrong_words("a number of fifteen digits", relay(number="000000000000001")),
+    wrong_words("a moment past 2099", relay(moment="4102444800")),
+    wrong_words("a moment that is no number", relay(moment="now")),
+    wrong_words("an option twice", [*relay(), "--number", "2"]),
+    Case("a failed read", relay(), input_closed=True, error=b"file\n", status=3),
+    Case("a failed write", relay(), text(ORDERS), output_to="/dev/full", error=b"file\n", status=3),
+]
+
+CASES = RELAY

@@ -1,0 +1,81 @@
+"""`make test`: the gate (rt ci), and then the cases of cases.py on the program that the gate built.
+The last line is `N passed, M failed` over both."""
+import os
+import re
+import subprocess
+import sys
+import tempfile
+
+import cases
+
+ROOT = os.path.dirname(os.path.dirname(os.path.abspath(__file__)))
+PROGRAM = os.path.join(ROOT, "crates", "edihub", "out", "edihub")
+SECONDS = 60
+
+
+def gate():
+    """What rt ci counts, its output passed on."""
+    passed, failed = 0, 1
+    child = subprocess.Popen(["rt", "ci"], cwd=ROOT, stdout=subprocess.PIPE, text=True, errors="replace")
+    for line in child.stdout:
+        found = re.fullmatch(r"(\d+) passed, (\d+) failed\n?", line)
+        if found:
+            passed, failed = int(found[1]), int(found[2])
+        else:
+            print(line, end="", flush=True)
+    if child.wait() and not failed:
+        failed = 1
+    return passed, failed
+
+
+def run(program, case, folder):
+    """Why the case fails, or nothing."""
+    for name, data in case.files.items():
+        with open(os.path.join(folder, name), "wb") as it:
+            it.write(data)
+    with tempfile.TemporaryFile() as source:
+        source.write(case.input)
+        source.seek(0)
+        how = {"stdin": source, "stdout": subprocess.PIPE, "stderr": subprocess.PIPE}
+        if case.output_to:
+            how["stdout"] = open(case.output_to, "wb")
+        if case.input_closed:
+            how["stdin"] = os.open(folder, os.O_RDONLY)
+        try:
+            ran = subprocess.run([program, *case.words], cwd=folder, timeout=SECONDS, **how)
+        except subprocess.TimeoutExpired:
+            return f"no end in {SECONDS} seconds"
+    for what, found, wanted in (("status", ran.returncode, case.status), ("output", ran.stdout or b"", case.output), ("error", ran.stderr, case.error)):
+        if callable(wanted) and not wanted(found) or not callable(wanted) and found != wanted:
+            return f"{what} is {found!r:.300}" + ("" if callable(wanted) else f", not {wanted!r:.300}")
+    return None
+
+
+def program_cases(program):
+    passed, failed = 0, 0
+    for case in cases.CASES:
+        with tempfile.TemporaryDirectory() as folder:
+            why = run(program, case, folder)
+        if why:
+            failed += 1
+            print(f"case '{case.name}' failed: {why}")
+        else:
+            passed += 1
+    return passed, failed
+
+
+def main(words):
+    alone = "--alone" in words
+    passed, failed = (0, 0) if alone else gate()
+    if os.path.isfile(PROGRAM):
+        more_passed, more_failed = program_cases(PROGRAM)
+        passed, failed = passed + more_passed, failed + more_failed
+    else:
+        print("no program was built, so none of its cases was run")
+        failed += 1
+    print(f"{passed} passed, {failed} failed")
+    return 1 if failed else 0
+
+
+if __name__ == "__main__":
+    sys.exit(main(sys.argv[1:]))
