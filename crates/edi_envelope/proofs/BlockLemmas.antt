@@ -1,12 +1,11 @@
 -- How a list of segments is cut before each UNH.
-use Rattle.std.proofs.Common.{◌≡◌, ℕ, zero, suc, ◌+◌, ◌<◌, ◌≤◌, List, [], ◌∷◌, ◌++◌, length, get_or, take, drop, reverse, true, false, Bool, not, ◌||◌, cond, take_while, refl, sym, ap, ◌∙◌, subst, arith, add-one, append_assoc}
+use Rattle.std.proofs.Common.{◌≡◌, ℕ, ◌+◌, ◌<◌, List, [], ◌∷◌, ◌++◌, length, get_or, take, drop, reverse, true, false, refl, sym, ap, ◌∙◌, append_assoc}
 use Rattle.std.specs.List.{list_any}
-use Rattle.std.proofs.lemmas.Bool.{or_parts, cases_Bool, cond-true, cond-false}
+use Rattle.std.proofs.lemmas.Bool.{or_parts, cases_Bool}
 use Rattle.std.proofs.lemmas.List.{drop_more, take-append-drop, reverse-append}
 use Rattle.edi_tokens.specs.declared.segment.Segment.{Segment}
 use Rattle.edi_envelope.specs.Segments.{is_unh, no_segment}
 use Rattle.edi_envelope.specs.Blocks.{before_message, blocks, IsLastHeader}
-use mathlib.Core.Logic.{◌⊎◌}
 use Rattle.std.proofs.Common.{inl, inr}
 
 -- where no UNH stands, all stands before the first

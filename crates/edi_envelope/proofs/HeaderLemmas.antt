@@ -1,13 +1,10 @@
 -- What a header that is taken has in its places.
-use Rattle.std.proofs.Common.{◌≡◌, ℕ, zero, suc, ◌+◌, ◌<◌, ◌≤◌, List, [], ◌∷◌, ◌++◌, length, get_or, remove, true, Bool, ◌&&◌, refl, arith}
-use Rattle.std.specs.List.{list_all}
-use Rattle.std.specs.Str.{bytes_eq}
+use Rattle.std.proofs.Common.{◌≡◌, ℕ, zero, suc, ◌<◌, List, [], ◌∷◌, length, get_or, remove, true, refl, arith}
 use Rattle.std.proofs.lemmas.Bool.{and_parts}
 use Rattle.edi_tokens.specs.declared.segment.Segment.{Segment}
-use Rattle.edi_tokens.specs.Characters.{is_digit}
 use Rattle.edi_envelope.specs.Segments.{component}
-use Rattle.edi_envelope.specs.Limits.{has_length, is_printable, is_reference, are_digits}
-use Rattle.edi_envelope.specs.Header.{has_syntax, has_partner, has_date_and_time, is_header}
+use Rattle.edi_envelope.specs.Limits.{is_reference, are_digits}
+use Rattle.edi_envelope.specs.Header.{has_partner, is_header}
 use Rattle.edi_envelope.proofs.LimitLemmas.{has_length_bounds}
 
 pub record HasPlaces (unb : Segment) : Type 0 where

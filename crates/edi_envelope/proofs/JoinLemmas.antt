@@ -1,15 +1,14 @@
 -- An interchange is its header, its messages joined, and its trailer.
-use Rattle.std.proofs.Common.{◌≡◌, ℕ, zero, suc, ◌+◌, ◌-◌, ◌<◌, ◌≤◌, List, [], ◌∷◌, ◌++◌, length, get_or, take, drop, map, true, false, Bool, ◌&&◌, ◌||◌, not, refl, sym, ap, ◌∙◌, arith, codes, append-nil, length-append, inl, inr}
+use Rattle.std.proofs.Common.{◌≡◌, ◌+◌, ◌-◌, ◌≤◌, List, [], ◌∷◌, ◌++◌, length, drop, map, true, false, refl, sym, ap, ◌∙◌, arith, codes, append-nil, length-append, inl, inr}
 use Rattle.std.specs.List.{flat_map, AllByRecursion, list_any, list_all}
-use Rattle.std.specs.Str.{bytes_eq}
-use Rattle.std.proofs.lemmas.Bool.{and_parts, and_from, or_parts, or_from, cases_Bool, not-true, not-false, true≢false, false≢true, eqb-true}
+use Rattle.std.proofs.lemmas.Bool.{and_parts, or_parts, or_from, cases_Bool, not-true, not-false, true≢false, false≢true, eqb-true}
 use Rattle.std.proofs.lemmas.List.{take-append-drop, drop_more, drop_all, get_or_at, take_at, nil_from_length}
 use Rattle.edi_tokens.specs.declared.segment.Segment.{Segment}
 use Rattle.edi_tokens.specs.declared.segment.Tokens.{Tokens}
 use Rattle.edi_envelope.specs.declared.interchange.Interchange.{Interchange}
 use Rattle.edi_envelope.specs.declared.interchange.RawMessage.{RawMessage}
 use Rattle.edi_envelope.specs.declared.fault.EnvelopeFault.TheVariants.{InterchangeFrame, MessageFrame}
-use Rattle.edi_envelope.specs.Segments.{is_unb, is_unz, is_unh, is_unt, no_segment, first_segment, last_segment, between}
+use Rattle.edi_envelope.specs.Segments.{is_unh, is_unt, no_segment, first_segment, last_segment, between}
 use Rattle.edi_envelope.specs.Header.{head_of}
 use Rattle.edi_envelope.specs.Blocks.{before_message, blocks}
 use Rattle.edi_envelope.specs.Message.{is_frame, is_block, message_of}
@@ -21,8 +20,8 @@ use Rattle.edi_envelope.proofs.FrameLemmas.{framed_unb, framed_unz, framed_lengt
 pub frame_split : (xs : List Segment) → 2 ≤ length xs → xs ≡ first_segment xs ∷ between xs ++ last_segment xs ∷ []
 frame_split xs h =
     let end : drop (length xs - 1) xs ≡ last_segment xs ∷ [] =
-      drop_more xs (length xs - 1) no_segment (omega arith)
-      ∙ ap (λ rest. last_segment xs ∷ rest) (drop_all (length xs - 1 + 1) xs (omega arith)) in
+    drop_more xs (length xs - 1) no_segment (omega arith)
+    ∙ ap (λ rest. last_segment xs ∷ rest) (drop_all (length xs - 1 + 1) xs (omega arith)) in
     sym (take-append-drop (length xs - 1) xs)
     ∙ ap (λ front. front ++ drop (length xs - 1) xs) (front_is xs h)
     ∙ ap (λ rest. first_segment xs ∷ between xs ++ rest) end
@@ -55,7 +54,7 @@ IsInterchange-contents tokens h =
     let row = and_parts _ _ (not-false (is_row_of_messages xs) (h MessageFrame)) in
     let none = nil_from_length (before_message (between xs)) (eqb-true _ _ row.0) in
     let middle : between xs ≡ flat_map (λ (message : RawMessage). message.segments) (map message_of (messages_in xs)) =
-      joined (between xs) ∙ ap (λ front. front ++ flat_map (λ block. block) (messages_in xs)) none ∙ sym (segments_of-message_of (messages_in xs)) in
+    joined (between xs) ∙ ap (λ front. front ++ flat_map (λ block. block) (messages_in xs)) none ∙ sym (segments_of-message_of (messages_in xs)) in
     record {
       unb = first_segment xs;
       unz = last_segment xs;
@@ -107,9 +106,10 @@ block_before b zs h start =
     let split = frame_split b (block_length b ends.0 ends.1) in
     let none = no_unh (between b) (last_segment b) (not-true _ parts.1) ends.1 in
     let u = first_segment b in
-    let ys = between b ++ last_segment b ∷ [] in
-    (ap (λ block. blocks (block ++ zs)) split ∙ one_block u ys zs ends.0 none start ∙ ap (λ block. block ∷ blocks zs) (sym split),
-    ap (λ block. before_message (block ++ zs)) split ∙ rw ends.0 refl)
+    let ys = between b ++ last_segment b ∷ [] in (
+      ap (λ block. blocks (block ++ zs)) split ∙ one_block u ys zs ends.0 none start ∙ ap (λ block. block ∷ blocks zs) (sym split),
+      ap (λ block. before_message (block ++ zs)) split ∙ rw ends.0 refl,
+    )
 
 -- messages that are joined are cut again as they were
 cut_again : (ms : List RawMessage) → AllByRecursion IsMessage ms → (blocks (flat_map (λ (m : RawMessage). m.segments) ms) ≡ map (λ (m : RawMessage). m.segments) ms) × (before_message (flat_map (λ (m : RawMessage). m.segments) ms) ≡ [])

@@ -1,6 +1,6 @@
 -- The lowest condition that holds, found in the list of all faults.
-use Rattle.std.proofs.Common.{◌≡◌, ℕ, ◌<◌, ◌≤◌, length, ◌⊎◌, inl, inr, List, [], ◌∷◌, true, false, Bool, cond, Option, Some, None, Result, Ok, Err, refl, sym, ap, ◌∙◌, subst, arith, find}
-use Rattle.std.proofs.lemmas.Bool.{cases_Bool, true≢false, false≢true, ltb-false}
+use Rattle.std.proofs.Common.{◌≡◌, ℕ, ◌<◌, ◌≤◌, length, ◌⊎◌, inl, inr, List, [], ◌∷◌, true, false, Bool, Option, Some, None, Ok, Err, refl, sym, ap, ◌∙◌, arith, find}
+use Rattle.std.proofs.lemmas.Bool.{cases_Bool, true≢false, ltb-false}
 use Rattle.std.proofs.lemmas.List.{length-map}
 use Rattle.edi_envelope.specs.Message.{message_of}
 use Rattle.edi_tokens.specs.declared.segment.Segment.{Segment}
@@ -137,9 +137,10 @@ judged_contents (Some g) contents i h = cc
 
 pub fault_law : (tokens : Tokens) (f : EnvelopeFault) → (interchange_of tokens ≡ Err f → IsLowest f tokens.segments) × (IsLowest f tokens.segments → interchange_of tokens ≡ Err f)
 unfolding interchange_of
-fault_law tokens f =
-    ((λ h. IsLowest-from_fault_of tokens.segments f (judged_fault (fault_of tokens.segments) (contents_of tokens) f h)),
-    (λ h. ap (λ found. judged found (contents_of tokens)) (fault_of-lowest tokens.segments f h)))
+fault_law tokens f = (
+  (λ h. IsLowest-from_fault_of tokens.segments f (judged_fault (fault_of tokens.segments) (contents_of tokens) f h)),
+  (λ h. ap (λ found. judged found (contents_of tokens)) (fault_of-lowest tokens.segments f h)),
+)
 
 pub contents_law : (tokens : Tokens) (i : Interchange) → interchange_of tokens ≡ Ok i → IsFaultless tokens.segments × (i ≡ contents_of tokens)
 unfolding interchange_of

@@ -1,7 +1,7 @@
 -- The days counted from 1970-01-01 are the dates that `jiff` gives to the day numbers.
-use Rattle.std.proofs.Common.{◌≡◌, ℕ, zero, suc, ◌+◌, ◌-◌, ◌*◌, ◌/◌, ◌%◌, ◌<◌, ◌≤◌, nat_lt, cond, true, false, refl, sym, ap, ◌∙◌, arith, rules, ℤ, pos, ◌+ℤ◌, ◌*ℤ◌, ◌≤ℤ◌, inl, inr, subst}
+use Rattle.std.proofs.Common.{◌≡◌, ℕ, zero, suc, ◌+◌, ◌*◌, ◌/◌, ◌%◌, ◌<◌, ◌≤◌, refl, sym, ◌∙◌, arith, rules, ℤ, pos, ◌*ℤ◌, inl, inr, subst}
 use Rattle.std.specs.Int.{IsInRange}
-use Rattle.std.proofs.lemmas.Bool.{cases_lt, lt-ltb, le-ltb, cases_eq}
+use Rattle.std.proofs.lemmas.Bool.{cases_lt, lt-ltb, le-ltb}
 use Rattle.jiff.specs.Types.{Date, DateTime}
 use Rattle.jiff.specs.Words.{epoch_day, days_in_month, IsYear, civil_nanos, time_nanos}
 use Rattle.jiff.proofs.SpanFacts.{signed_arith}

@@ -1,9 +1,8 @@
 -- The fault and the contents of an interchange by its parts.
-use Rattle.std.proofs.Common.{◌≡◌, List, true, false, map, Option, Some, None, Ok, Err, Result, refl, sym, ap, ◌∙◌}
+use Rattle.std.proofs.Common.{◌≡◌, List, true, false, map, Some, None, Ok, Err, refl, ap, ◌∙◌}
 use Rattle.edi_tokens.specs.declared.segment.Segment.{Segment}
 use Rattle.edi_tokens.specs.declared.segment.Tokens.{Tokens}
 use Rattle.edi_envelope.specs.declared.opening.Parts.{Parts}
-use Rattle.edi_envelope.specs.declared.interchange.Interchange.{Interchange}
 use Rattle.edi_envelope.specs.declared.fault.EnvelopeFault.{EnvelopeFault}
 use Rattle.edi_envelope.specs.declared.fault.EnvelopeFault.TheVariants.{InterchangeFrame, InterchangeHeader}
 use Rattle.edi_envelope.specs.Segments.{first_segment}

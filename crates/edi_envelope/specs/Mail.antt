@@ -24,8 +24,8 @@ abbrev pub unb_from : List ℕ → List ℕ → List ℕ → List ℕ → List �
 unb_from sender recipient date time reference = record {
   tag = codes "UNB";
   elements =
-    (codes "UNOC" ∷ codes "3" ∷ []) ∷ (sender ∷ codes "14" ∷ []) ∷ (recipient ∷ codes "14" ∷ [])
-    ∷ (date ∷ time ∷ []) ∷ (reference ∷ []) ∷ [];
+      (codes "UNOC" ∷ codes "3" ∷ []) ∷ (sender ∷ codes "14" ∷ []) ∷ (recipient ∷ codes "14" ∷ [])
+      ∷ (date ∷ time ∷ []) ∷ (reference ∷ []) ∷ [];
 }
 
 -- the trailer of an interchange of one message

@@ -41,6 +41,8 @@ pub struct RawMessage {
 pub struct Interchange {
     /// The decimal mark of the text, a full stop or a comma.
     pub decimal: u8,
+    /// What UNB says.
     pub head: Head,
+    /// The messages, none where UNZ follows UNB.
     pub messages: Items<RawMessage>,
 }

@@ -13,5 +13,4 @@ pub fn lowest_condition()
         (interchange_of tokens ≡ Err fault) ↔ IsLowest fault tokens.segments }
     ensures interchange { (tokens : Tokens) (interchange : Interchange) →
         (interchange_of tokens ≡ Ok interchange) ↔ (IsFaultless tokens.segments × IsInterchange tokens interchange) }
-{
-}
+{}

@@ -7,17 +7,17 @@ mod header;
 mod interchange;
 mod law;
 mod limits;
+mod mail;
 mod message;
 mod moment;
 mod opening;
-mod mail;
 
 pub use fault::EnvelopeFault;
 pub use interchange::{Head, Interchange, RawMessage};
-pub use moment::Moment;
-pub use opening::open;
 pub use law::lowest_condition;
 pub use mail::wrap;
+pub use moment::Moment;
+pub use opening::open;
 
 #[cfg(test)]
 mod tests;

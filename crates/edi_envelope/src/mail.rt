@@ -11,10 +11,7 @@ use edi_tokens::{Elements, Items, MemoryFault, Segment};
 use std::alloc::Global;
 
 // A copy of an element.
-fn copied_element(
-    alloc: Global,
-    components: &[Items<u8>],
-) -> Result<Items<Items<u8>>, MemoryFault>
+fn copied_element(alloc: Global, components: &[Items<u8>]) -> Result<Items<Items<u8>>, MemoryFault>
     ensures { IfOk result (λ copy. copy ≡ components.now) }
 {
     let mut copy = Items::new(alloc);
@@ -25,10 +22,7 @@ fn copied_element(
 }
 
 // A copy of elements.
-fn copied_elements(
-    alloc: Global,
-    elements: &[Items<Items<u8>>],
-) -> Result<Elements, MemoryFault>
+fn copied_elements(alloc: Global, elements: &[Items<Items<u8>>]) -> Result<Elements, MemoryFault>
     ensures { IfOk result (λ copy. copy ≡ elements.now) }
 {
     let mut copy = Items::new(alloc);

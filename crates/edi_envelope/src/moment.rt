@@ -1,9 +1,9 @@
 ghost use Rattle.std.specs.Prelude.{◌≡◌, ◌≤◌, ◌↔◌, IsSome, IfSome};
 ghost use Rattle.edi_envelope.specs.Moment.{date_text, time_text, Shows, two_digits as decimals};
 
+use jiff::Timestamp;
 use jiff::civil::DateTime;
 use jiff::tz::Offset;
-use jiff::Timestamp;
 use std::marker::Model;
 
 /// A whole second from 1970-01-01T00:00:00Z to 2099-12-31T23:59:59Z.
@@ -62,10 +62,7 @@ fn utc(moment: Moment) -> DateTime
 fn two_digits(number: u16) -> [u8; 2]
     ensures { result ≡ decimals number }
 {
-    [
-        b'0' + (number / 10 % 10) as u8,
-        b'0' + (number % 10) as u8,
-    ]
+    [b'0' + (number / 10 % 10) as u8, b'0' + (number % 10) as u8]
 }
 
 /// The date of a moment at UTC, YYMMDD.

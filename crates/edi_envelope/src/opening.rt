@@ -1,4 +1,4 @@
-ghost use Rattle.std.specs.Prelude.{◌≡◌, ◌≢◌, ◌||◌, IsTrue, IfOk, IfErr, ◌≤◌, length};
+ghost use Rattle.std.specs.Prelude.{◌≡◌, ◌≢◌, ◌≤◌, ◌||◌, length, IsTrue, IfOk, IfErr};
 ghost use Rattle.std.specs.List.{list_any, list_all};
 ghost use Rattle.edi_envelope.specs.Segments.{is_unb, is_unz, first_segment};
 ghost use Rattle.edi_envelope.specs.Header.{is_header};
@@ -8,8 +8,8 @@ ghost use Rattle.edi_envelope.specs.Interchange as spec;
 
 use crate::blocks::cut;
 use crate::fault::EnvelopeFault;
-use crate::{header, limits, message};
 use crate::interchange::Interchange;
+use crate::{header, limits, message};
 use edi_tokens::{Items, MemoryFault, Segment, Tokens};
 use std::alloc::Global;
 
@@ -114,7 +114,9 @@ fn take_apart(alloc: Global, segments: Vec<Segment>) -> Result<Parts, MemoryFaul
 fn all_blocks(blocks: &[Items<Segment>]) -> bool
     ensures { result ≡ list_all is_block blocks.now }
 {
-    blocks.iter().all(|block| message::is_block(block.as_slice()))
+    blocks
+        .iter()
+        .all(|block| message::is_block(block.as_slice()))
 }
 
 // Whether references, identifier and count of each message are within their limits.

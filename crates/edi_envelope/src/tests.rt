@@ -5,9 +5,91 @@ use std::alloc::{AllocError, Global};
 use std::process::Abort;
 use std::test::Fail;
 
-const UNB: &[u8] = b"UNB+UNOC:3+5412345000013:14+5412345000006:14+250603:0915+1001'";
-const UNZ: &[u8] = b"UNZ+1+1001'";
-const ORDERS: &[u8] = b"UNH+1+ORDERS:D:01B:UN:EAN010'BGM+220+128576+9'DTM+137:20250603:102'NAD+BY+5412345000013::9'NAD+SU+4012345500004::9'LIN+1++4000862141404:SRV'QTY+21:48'UNS+S'CNT+2:1'UNT+10+1'";
+const ORDERS: &[u8] =
+    b"UNH+1+ORDERS:D:01B:UN:EAN010'BGM+220+128576+9'DTM+137:20250603:102'NAD+BY+5412345000013::9'NAD+SU+4012345500004::9'LIN+1++4000862141404:SRV'QTY+21:48'UNS+S'CNT+2:1'UNT+10+1'";
+
+const DESADV: &[u8] = b"UNH+2+DESADV:D:01B:UN'UNT+2+2'";
+// The order alone, and with the despatch advice.
+const WHOLE: &[u8] =
+    b"UNB+UNOC:3+5412345000013:14+5412345000006:14+250603:0915+1001'UNH+1+ORDERS:D:01B:UN:EAN010'BGM+220+128576+9'DTM+137:20250603:102'NAD+BY+5412345000013::9'NAD+SU+4012345500004::9'LIN+1++4000862141404:SRV'QTY+21:48'UNS+S'CNT+2:1'UNT+10+1'UNZ+1+1001'";
+
+const BOTH: &[u8] =
+    b"UNB+UNOC:3+5412345000013:14+5412345000006:14+250603:0915+1001'UNH+1+ORDERS:D:01B:UN:EAN010'BGM+220+128576+9'DTM+137:20250603:102'NAD+BY+5412345000013::9'NAD+SU+4012345500004::9'LIN+1++4000862141404:SRV'QTY+21:48'UNS+S'CNT+2:1'UNT+10+1'UNH+2+DESADV:D:01B:UN'UNT+2+2'UNZ+2+1001'";
+// A message to relay, and what it becomes.
+const RELAYED: &[u8] =
+    b"UNB+UNOC:3+5412345000013:14+5412345000006:14+250603:0915+1001'UNH+7:x+ORDERS:D:01B:UN:EAN010'BGM+220+128576+9'UNT+3+7:y'UNZ+1+1001'";
+
+const MAIL: &[u8] =
+    b"UNB+UNOC:3+5412345000006:14+4012345500004:14+250603:0920+99999999999999'UNH+1:x+ORDERS:D:01B:UN:EAN010'BGM+220+128576+9'UNT+3+1:y'UNZ+1+99999999999999'";
+// Answers and segments that do not begin with UNB, end with UNZ, or have one of them between.
+const FRAMES: &[u8] =
+    b"E06 UNH+1+ORDERS:D:01B:UN:EAN010'BGM+220+128576+9'DTM+137:20250603:102'NAD+BY+5412345000013::9'NAD+SU+4012345500004::9'LIN+1++4000862141404:SRV'QTY+21:48'UNS+S'CNT+2:1'UNT+10+1'UNZ+1+1001'
+E06 UNB+UNOC:3+5412345000013:14+5412345000006:14+250603:0915+1001'UNH+1+ORDERS:D:01B:UN:EAN010'BGM+220+128576+9'DTM+137:20250603:102'NAD+BY+5412345000013::9'NAD+SU+4012345500004::9'LIN+1++4000862141404:SRV'QTY+21:48'UNS+S'CNT+2:1'UNT+10+1'UNZ+1+1001'UNH+1+ORDERS:D:01B:UN:EAN010'BGM+220+128576+9'DTM+137:20250603:102'NAD+BY+5412345000013::9'NAD+SU+4012345500004::9'LIN+1++4000862141404:SRV'QTY+21:48'UNS+S'CNT+2:1'UNT+10+1'
+E06 UNB+UNOC:3+5412345000013:14+5412345000006:14+250603:0915+1001'UNH+1+ORDERS:D:01B:UN:EAN010'BGM+220+128576+9'DTM+137:20250603:102'NAD+BY+5412345000013::9'NAD+SU+4012345500004::9'LIN+1++4000862141404:SRV'QTY+21:48'UNS+S'CNT+2:1'UNT+10+1'UNZ+1+1001'UNZ+1+1001'
+E06 UNB+UNOC:3+5412345000013:14+5412345000006:14+250603:0915+1001'UNZ+1+1001'UNB+UNOC:3+5412345000013:14+5412345000006:14+250603:0915+1001'UNZ+1+1001'";
+
+// Answers and interchanges, whose headers differ.
+const HEADERS: &[u8] =
+    b"ok  UNB+UNOC:3+5412345000013:14+5412345000006:14+250603:0915+1001'UNZ+0+1001'
+ok  UNB+UNOA:3+S:14+R:14+000000:0000+1:x++++++:1'UNZ+0+1'
+E19 UNB+UNOB:3+\xc4123456789012345678901234567890123\xe4:14+x:14+999999:9999+ !~45678901234'UNZ+0+ !~45678901234'
+E07 UNB+UNOD:3+S:14+R:14+250603:0915+1'UNZ+0+1'
+E07 UNB+UNOC:2+S:14+R:14+250603:0915+1'UNZ+0+1'
+E07 UNB+UNOC:3+:14+R:14+250603:0915+1'UNZ+0+1'
+E07 UNB+UNOC:3+123456789012345678901234567890123456:14+R:14+250603:0915+1'UNZ+0+1'
+E07 UNB+UNOC:3+S:1+R:14+250603:0915+1'UNZ+0+1'
+E07 UNB+UNOC:3+S:14+R+250603:0915+1'UNZ+0+1'
+E07 UNB+UNOC:3+S:14+:14+250603:0915+1'UNZ+0+1'
+E07 UNB+UNOC:3+S:14+R:14+20250603:0915+1'UNZ+0+1'
+E07 UNB+UNOC:3+S:14+R:14+250603:09:15+1'UNZ+0+1'
+E07 UNB+UNOC:3+S:14+R:14+25060x:0915+1'UNZ+0+1'
+E07 UNB+UNOC:3+S:14+R:14+250603:0915'UNZ+0'
+E07 UNB+UNOC:3+S:14+R:14+250603:0915+123456789012345'UNZ+0+123456789012345'
+E07 UNB+UNOC:3+S:14+R:14+250603:0915+1\xa0'UNZ+0+1\xa0'
+E07 UNB+UNOC:3+S:14+R:14+250603:0915+1++++++2'UNZ+0+1'";
+
+// Answers and interchanges, whose messages differ.
+const MESSAGES: &[u8] =
+    b"ok  UNB+UNOC:3+5412345000013:14+5412345000006:14+250603:0915+1001'UNH+1+ORDERS:D:01B:UN:EAN010'BGM+220+128576+9'DTM+137:20250603:102'NAD+BY+5412345000013::9'NAD+SU+4012345500004::9'LIN+1++4000862141404:SRV'QTY+21:48'UNS+S'CNT+2:1'UNT+10+1'UNZ+1+1001'
+ok  UNB+UNOC:3+5412345000013:14+5412345000006:14+250603:0915+1001'UNH+1+ABCDEF:1:2:3:123456'UNT+000002+1'UNZ+000001+1001'
+E10 UNB+UNOC:3+5412345000013:14+5412345000006:14+250603:0915+1001'BGM+220'UNH+1+ORDERS:D:01B:UN:EAN010'BGM+220+128576+9'DTM+137:20250603:102'NAD+BY+5412345000013::9'NAD+SU+4012345500004::9'LIN+1++4000862141404:SRV'QTY+21:48'UNS+S'CNT+2:1'UNT+10+1'UNZ+1+1001'
+E10 UNB+UNOC:3+5412345000013:14+5412345000006:14+250603:0915+1001'UNH+1+ORDERS:D:01B:UN:EAN010'BGM+220+128576+9'DTM+137:20250603:102'NAD+BY+5412345000013::9'NAD+SU+4012345500004::9'LIN+1++4000862141404:SRV'QTY+21:48'UNS+S'CNT+2:1'UNT+10+1'BGM+220'UNZ+1+1001'
+E10 UNB+UNOC:3+5412345000013:14+5412345000006:14+250603:0915+1001'UNH+1+ORDERS:D:01B:UN'BGM+220'UNZ+1+1001'
+E10 UNB+UNOC:3+5412345000013:14+5412345000006:14+250603:0915+1001'UNH+1+ORDERS:D:01B:UN'UNH+1+ORDERS:D:01B:UN'UNT+2+1'UNZ+1+1001'
+E10 UNB+UNOC:3+5412345000013:14+5412345000006:14+250603:0915+1001'UNH+1+ORDERS:D:01B:UN'UNG+1'UNT+3+1'UNZ+1+1001'
+E10 UNB+UNOC:3+5412345000013:14+5412345000006:14+250603:0915+1001'UNH+1+ORDERS:D:01B:UN'UNE+1'UNT+3+1'UNZ+1+1001'
+E10 UNB+UNOC:3+5412345000013:14+5412345000006:14+250603:0915+1001'UNH+1+ORDERS:D:01B:UN'UNT+2+1'UNT+2+1'UNZ+1+1001'
+E11 UNB+UNOC:3+5412345000013:14+5412345000006:14+250603:0915+1001'UNH++ORDERS:D:01B:UN'UNT+2'UNZ+1+1001'
+E11 UNB+UNOC:3+5412345000013:14+5412345000006:14+250603:0915+1001'UNH+123456789012345+ORDERS:D:01B:UN'UNT+2+123456789012345'UNZ+1+1001'
+E11 UNB+UNOC:3+5412345000013:14+5412345000006:14+250603:0915+1001'UNH+1+:D:01B:UN'UNT+2+1'UNZ+1+1001'
+E11 UNB+UNOC:3+5412345000013:14+5412345000006:14+250603:0915+1001'UNH+1+ORDERSX:D:01B:UN'UNT+2+1'UNZ+1+1001'
+E11 UNB+UNOC:3+5412345000013:14+5412345000006:14+250603:0915+1001'UNH+1+ORDERS:D:01BX:UN'UNT+2+1'UNZ+1+1001'
+E11 UNB+UNOC:3+5412345000013:14+5412345000006:14+250603:0915+1001'UNH+1+ORDERS:D:01B'UNT+2+1'UNZ+1+1001'
+E11 UNB+UNOC:3+5412345000013:14+5412345000006:14+250603:0915+1001'UNH+1+ORDERS:D:01B:UN:EAN0101'UNT+2+1'UNZ+1+1001'
+E11 UNB+UNOC:3+5412345000013:14+5412345000006:14+250603:0915+1001'UNH+1+ORDERS:D:01B:UN:\xa0'UNT+2+1'UNZ+1+1001'
+E11 UNB+UNOC:3+5412345000013:14+5412345000006:14+250603:0915+1001'UNH+1+ORDERS:D:01B:UN'UNT+0000002+1'UNZ+1+1001'
+E11 UNB+UNOC:3+5412345000013:14+5412345000006:14+250603:0915+1001'UNH+1+ORDERS:D:01B:UN'UNT++1'UNZ+1+1001'
+E14 UNB+UNOC:3+5412345000013:14+5412345000006:14+250603:0915+1001'UNH+1+ORDERS:D:01B:UN:EAN010'BGM+220+128576+9'DTM+137:20250603:102'NAD+BY+5412345000013::9'NAD+SU+4012345500004::9'LIN+1++4000862141404:SRV'QTY+21:48'UNS+S'CNT+2:1'UNT+10+1'UNZ+0000001+1001'
+E14 UNB+UNOC:3+5412345000013:14+5412345000006:14+250603:0915+1001'UNH+1+ORDERS:D:01B:UN:EAN010'BGM+220+128576+9'DTM+137:20250603:102'NAD+BY+5412345000013::9'NAD+SU+4012345500004::9'LIN+1++4000862141404:SRV'QTY+21:48'UNS+S'CNT+2:1'UNT+10+1'UNZ+1x+1001'";
+
+// Answers and interchanges with two faults, of which the one with the higher number stands earlier wherever it can; in
+// the last rows only one is left.
+const PAIRS: &[u8] =
+    b"E06 UNB+UNOC:2+S:14+R:14+250603:0915+1001'UNB'UNH+1+ORDERS:D:01B:UN'UNT+2+1'UNZ+1+1001'
+E07 UNB+UNOC:2+S:14+R:14+250603:0915+1001'BGM'UNH+1+ORDERS:D:01B:UN'UNT+2+1'UNZ+1+1001'
+E10 UNB+UNOC:3+5412345000013:14+5412345000006:14+250603:0915+1001'UNH+1+ORDERS:D:01B:UN'UNT+x+1'BGM'UNZ+1+1001'
+E11 UNB+UNOC:3+5412345000013:14+5412345000006:14+250603:0915+1001'UNH+1+ORDERS:D:01B:UN'UNT+3+1'UNH+2+ORDERSX:D:01B:UN'UNT+2+2'UNZ+2+1001'
+E11 UNB+UNOC:3+5412345000013:14+5412345000006:14+250603:0915+1001'UNH+1+ORDERS:D:01B:UN'UNT+2+9'UNH+2+ORDERSX:D:01B:UN'UNT+2+2'UNZ+2+1001'
+E12 UNB+UNOC:3+5412345000013:14+5412345000006:14+250603:0915+1001'UNH+1+ORDERS:D:01B:UN'UNT+2+9'UNH+2+ORDERS:D:01B:UN'UNT+1+2'UNZ+2+1001'
+E13 UNB+UNOC:3+5412345000013:14+5412345000006:14+250603:0915+1001'UNH+1+ORDERS:D:01B:UN'UNT+2+9'UNZ+2+1001'
+E14 UNB+UNOC:3+5412345000013:14+5412345000006:14+250603:0915+1001'UNH+1+ORDERS:D:01B:UN'UNT+2+1'UNZ+2+1009'
+E15 UNB+UNOC:3+5412345000013:14+5412345000006:14+250603:0915+1001'UNH+1+ORDERS:D:01B:UN'UNT+2+1'UNH+1+ORDERS:D:01B:UN'UNT+2+1'UNZ+2+1009'
+E16 UNB+UNOC:3+S:14+R:14+250603:0915+1001++++++1'UNH+1+ORDERS:D:01B:UN'UNT+2+1'UNH+2+ORDERS:D:01B:UN'UNT+2+2'UNH+1+ORDERS:D:01B:UN'UNT+2+1'UNZ+3+1001'
+E17 UNB+UNOC:3+S:14+R:14+250603:0915+1001++++++1'UNH+1+ORDERS:D:01B:UN'UNT+2+1'UNZ+1+1001'
+E12 UNB+UNOC:3+5412345000013:14+5412345000006:14+250603:0915+1001'UNH+1+ORDERS:D:01B:UN'UNT+1+1'UNZ+1+1009'
+E12 UNB+UNOC:3+5412345000013:14+5412345000006:14+250603:0915+1001'UNH+1+ORDERS:D:01B:UN'UNT+3+1'UNZ+1+1001'
+E19 UNB+UNOA:3+S:14+R:14+250603:0915+1001'UNH+1+ORDERS:D:01B:UN'FTX+a:b\xa0'UNT+3+1'UNZ+1+1001'
+ok  UNB+UNOC:3+5412345000013:14+5412345000006:14+250603:0915+1001'UNH+1+ORDERS:D:01B:UN'FTX+a:b\xa0'UNT+3+1'UNZ+1+1001'";
 
 // A segment that is spelled with the usual service characters and no release character.
 fn segment(alloc: Global, text: &[u8]) -> Result<Segment, AllocError> {
@@ -30,13 +112,11 @@ fn segment(alloc: Global, text: &[u8]) -> Result<Segment, AllocError> {
 }
 
 // The tokens of such segments, each ended by an apostrophe.
-fn tokens(alloc: Global, text: &[&[u8]]) -> Result<Tokens, AllocError> {
+fn tokens(alloc: Global, text: &[u8]) -> Result<Tokens, AllocError> {
     let mut segments = Items::new(alloc);
-    for part in text {
-        for spelled in part.split(|b| *b == b'\'') {
-            if !spelled.is_empty() {
-                segments.push(segment(alloc, spelled)?)?;
-            }
+    for spelled in text.split(|b| *b == b'\'') {
+        if !spelled.is_empty() {
+            segments.push(segment(alloc, spelled)?)?;
         }
     }
     let service = Service {
@@ -50,7 +130,7 @@ fn tokens(alloc: Global, text: &[&[u8]]) -> Result<Tokens, AllocError> {
 }
 
 // What `open` answers: the code of the fault, or `ok`.
-fn verdict(alloc: Global, text: &[&[u8]]) -> Result<&'static str, AllocError> {
+fn verdict(alloc: Global, text: &[u8]) -> Result<&'static str, AllocError> {
     let tokens = tokens(alloc, text)?;
     Ok(match open(alloc, tokens) {
         Ok(_) => "ok",
@@ -86,7 +166,7 @@ fn is_same(one: &[Segment], other: &[Segment]) -> bool {
 }
 
 // The interchange of a text that is one.
-fn opened(rt: &impl Abort, alloc: Global, text: &[&[u8]]) -> Result<Interchange, AllocError> {
+fn opened(rt: &impl Abort, alloc: Global, text: &[u8]) -> Result<Interchange, AllocError> {
     let tokens = tokens(alloc, text)?;
     Ok(open(alloc, tokens).ok().expect(rt, "an interchange"))
 }
@@ -94,8 +174,7 @@ fn opened(rt: &impl Abort, alloc: Global, text: &[&[u8]]) -> Result<Interchange,
 #[test]
 fn gives_the_head_and_the_messages(rt: HostRuntime) -> Result<(), Fail> {
     let alloc = rt.alloc();
-    let other: &[u8] = b"UNH+2+DESADV:D:01B:UN'UNT+2+2'UNZ+2+1001'";
-    let interchange = opened(&rt, alloc, &[UNB, ORDERS, other])?;
+    let interchange = opened(&rt, alloc, BOTH)?;
     assert_eq!(rt; interchange.decimal, b',');
     let head = &interchange.head;
     assert_eq!(rt; head.syntax, *b"UNOC");
@@ -113,13 +192,13 @@ fn gives_the_head_and_the_messages(rt: HostRuntime) -> Result<(), Fail> {
     assert_eq!(rt; first.release.as_slice(), b"01B".as_slice());
     assert_eq!(rt; first.agency.as_slice(), b"UN".as_slice());
     assert_eq!(rt; first.association.as_slice(), b"EAN010".as_slice());
-    let whole = tokens(alloc, &[ORDERS])?;
+    let whole = tokens(alloc, ORDERS)?;
     assert!(rt; is_same(first.segments.as_slice(), whole.segments.as_slice()));
     let second = &messages[1];
     assert_eq!(rt; second.reference.as_slice(), b"2".as_slice());
     assert_eq!(rt; second.kind.as_slice(), b"DESADV".as_slice());
     assert_eq!(rt; second.association.len(), 0);
-    let whole = tokens(alloc, &[b"UNH+2+DESADV:D:01B:UN'UNT+2+2'"])?;
+    let whole = tokens(alloc, DESADV)?;
     assert!(rt; is_same(second.segments.as_slice(), whole.segments.as_slice()));
     Ok(())
 }
@@ -129,13 +208,11 @@ fn wraps_a_message_for_the_mailbox(rt: HostRuntime) -> Result<(), Fail> {
     let alloc = rt.alloc();
     let moment = Moment::new(1_748_942_400).ok_or("a moment")?;
     let (hub, owner) = (b"5412345000006", b"4012345500004");
-    let orders: &[u8] = b"UNH+7:x+ORDERS:D:01B:UN:EAN010'BGM+220+128576+9'UNT+3+7:y'";
-    let interchange = opened(&rt, alloc, &[UNB, orders, UNZ])?;
+    let interchange = opened(&rt, alloc, RELAYED)?;
     let messages = interchange.messages.as_slice();
     assert_eq!(rt; messages.len(), 1);
     let mail = wrap(alloc, hub, owner, moment, 99_999_999_999_999, &messages[0])?;
-    let expected: &[u8] = b"UNB+UNOC:3+5412345000006:14+4012345500004:14+250603:0920+99999999999999'UNH+1:x+ORDERS:D:01B:UN:EAN010'BGM+220+128576+9'UNT+3+1:y'UNZ+1+99999999999999'";
-    let expected = tokens(alloc, &[expected])?;
+    let expected = tokens(alloc, MAIL)?;
     assert!(rt; is_same(mail.as_slice(), expected.segments.as_slice()));
     Ok(())
 }
@@ -165,95 +242,35 @@ fn shows_dates_and_times_at_utc(rt: HostRuntime) -> Result<(), Fail> {
     Ok(())
 }
 
-// Each text is answered by its code.
-fn rows_are(rt: &impl Abort, alloc: Global, rows: &[(&str, &[&[u8]])]) -> Result<(), AllocError> {
-    for (place, (code, text)) in rows.iter().enumerate() {
+// Each line is an answer of three bytes, a blank, and the text that is answered so.
+fn lines_are(rt: &impl Abort, alloc: Global, lines: &[u8]) -> Result<(), AllocError> {
+    for (place, line) in lines.split(|b| *b == b'\n').enumerate() {
+        assert!(rt; line.len() > 4, "line {place}");
+        let (code, text) = line.split_at(4);
         let answer = verdict(alloc, text)?;
-        assert_eq!(rt; answer, *code, "in row {place}");
+        assert!(rt;
+            code.starts_with(answer.as_bytes()),
+            "{answer} in line {place}"
+        );
     }
     Ok(())
 }
 
 #[test]
 fn judges_the_header(rt: HostRuntime) -> Result<(), Fail> {
-    let longest: &[u8] = b"UNB+UNOB:3+\xc4123456789012345678901234567890123\xe4:14+x:14+999999:9999+ !~45678901234'UNZ+0+ !~45678901234'";
-    let rows: [(&str, &[&[u8]]); 17] = [
-        ("ok", &[UNB, b"UNZ+0+1001'"]),
-        ("ok", &[b"UNB+UNOA:3+S:14+R:14+000000:0000+1:x++++++:1'", b"UNZ+0+1'"]),
-        ("E19", &[longest]),
-        ("E07", &[b"UNB+UNOD:3+S:14+R:14+250603:0915+1'UNZ+0+1'"]),
-        ("E07", &[b"UNB+UNOC:2+S:14+R:14+250603:0915+1'UNZ+0+1'"]),
-        ("E07", &[b"UNB+UNOC:3+:14+R:14+250603:0915+1'UNZ+0+1'"]),
-        ("E07", &[b"UNB+UNOC:3+123456789012345678901234567890123456:14+R:14+250603:0915+1'UNZ+0+1'"]),
-        ("E07", &[b"UNB+UNOC:3+S:1+R:14+250603:0915+1'UNZ+0+1'"]),
-        ("E07", &[b"UNB+UNOC:3+S:14+R+250603:0915+1'UNZ+0+1'"]),
-        ("E07", &[b"UNB+UNOC:3+S:14+:14+250603:0915+1'UNZ+0+1'"]),
-        ("E07", &[b"UNB+UNOC:3+S:14+R:14+20250603:0915+1'UNZ+0+1'"]),
-        ("E07", &[b"UNB+UNOC:3+S:14+R:14+250603:09:15+1'UNZ+0+1'"]),
-        ("E07", &[b"UNB+UNOC:3+S:14+R:14+25060x:0915+1'UNZ+0+1'"]),
-        ("E07", &[b"UNB+UNOC:3+S:14+R:14+250603:0915'UNZ+0'"]),
-        ("E07", &[b"UNB+UNOC:3+S:14+R:14+250603:0915+123456789012345'UNZ+0+123456789012345'"]),
-        ("E07", &[b"UNB+UNOC:3+S:14+R:14+250603:0915+1\xa0'UNZ+0+1\xa0'"]),
-        ("E07", &[b"UNB+UNOC:3+S:14+R:14+250603:0915+1++++++2'UNZ+0+1'"]),
-    ];
-    rows_are(&rt, rt.alloc(), &rows)?;
+    lines_are(&rt, rt.alloc(), HEADERS)?;
     Ok(())
 }
 
 #[test]
 fn judges_the_messages(rt: HostRuntime) -> Result<(), Fail> {
-    let rows: [(&str, &[&[u8]]); 21] = [
-        ("ok", &[UNB, ORDERS, UNZ]),
-        ("ok", &[UNB, b"UNH+1+ABCDEF:1:2:3:123456'UNT+000002+1'", b"UNZ+000001+1001'"]),
-        ("E10", &[UNB, b"BGM+220'", ORDERS, UNZ]),
-        ("E10", &[UNB, ORDERS, b"BGM+220'", UNZ]),
-        ("E10", &[UNB, b"UNH+1+ORDERS:D:01B:UN'BGM+220'", UNZ]),
-        ("E10", &[UNB, b"UNH+1+ORDERS:D:01B:UN'UNH+1+ORDERS:D:01B:UN'UNT+2+1'", UNZ]),
-        ("E10", &[UNB, b"UNH+1+ORDERS:D:01B:UN'UNG+1'UNT+3+1'", UNZ]),
-        ("E10", &[UNB, b"UNH+1+ORDERS:D:01B:UN'UNE+1'UNT+3+1'", UNZ]),
-        ("E10", &[UNB, b"UNH+1+ORDERS:D:01B:UN'UNT+2+1'UNT+2+1'", UNZ]),
-        ("E11", &[UNB, b"UNH++ORDERS:D:01B:UN'UNT+2'", UNZ]),
-        ("E11", &[UNB, b"UNH+123456789012345+ORDERS:D:01B:UN'UNT+2+123456789012345'", UNZ]),
-        ("E11", &[UNB, b"UNH+1+:D:01B:UN'UNT+2+1'", UNZ]),
-        ("E11", &[UNB, b"UNH+1+ORDERSX:D:01B:UN'UNT+2+1'", UNZ]),
-        ("E11", &[UNB, b"UNH+1+ORDERS:D:01BX:UN'UNT+2+1'", UNZ]),
-        ("E11", &[UNB, b"UNH+1+ORDERS:D:01B'UNT+2+1'", UNZ]),
-        ("E11", &[UNB, b"UNH+1+ORDERS:D:01B:UN:EAN0101'UNT+2+1'", UNZ]),
-        ("E11", &[UNB, b"UNH+1+ORDERS:D:01B:UN:\xa0'UNT+2+1'", UNZ]),
-        ("E11", &[UNB, b"UNH+1+ORDERS:D:01B:UN'UNT+0000002+1'", UNZ]),
-        ("E11", &[UNB, b"UNH+1+ORDERS:D:01B:UN'UNT++1'", UNZ]),
-        ("E14", &[UNB, ORDERS, b"UNZ+0000001+1001'"]),
-        ("E14", &[UNB, ORDERS, b"UNZ+1x+1001'"]),
-    ];
-    rows_are(&rt, rt.alloc(), &rows)?;
+    lines_are(&rt, rt.alloc(), MESSAGES)?;
     Ok(())
 }
 
 #[test]
 fn answers_the_lowest_of_two_faults(rt: HostRuntime) -> Result<(), Fail> {
-    let first: &[u8] = b"UNH+1+ORDERS:D:01B:UN'UNT+2+1'";
-    let second: &[u8] = b"UNH+2+ORDERS:D:01B:UN'UNT+2+2'";
-    let test: &[u8] = b"UNB+UNOC:3+S:14+R:14+250603:0915+1001++++++1'";
-    let rows: [(&str, &[&[u8]]); 15] = [
-        // E07 stands before UNB in a wrong place.
-        ("E06", &[b"UNB+UNOC:2+S:14+R:14+250603:0915+1001'UNB'", first, UNZ]),
-        ("E07", &[b"UNB+UNOC:2+S:14+R:14+250603:0915+1001'BGM'", first, UNZ]),
-        ("E10", &[UNB, b"UNH+1+ORDERS:D:01B:UN'UNT+x+1'BGM'", UNZ]),
-        ("E11", &[UNB, b"UNH+1+ORDERS:D:01B:UN'UNT+3+1'UNH+2+ORDERSX:D:01B:UN'UNT+2+2'", b"UNZ+2+1001'"]),
-        ("E11", &[UNB, b"UNH+1+ORDERS:D:01B:UN'UNT+2+9'UNH+2+ORDERSX:D:01B:UN'UNT+2+2'", b"UNZ+2+1001'"]),
-        ("E12", &[UNB, b"UNH+1+ORDERS:D:01B:UN'UNT+2+9'UNH+2+ORDERS:D:01B:UN'UNT+1+2'", b"UNZ+2+1001'"]),
-        ("E13", &[UNB, b"UNH+1+ORDERS:D:01B:UN'UNT+2+9'", b"UNZ+2+1001'"]),
-        ("E14", &[UNB, first, b"UNZ+2+1009'"]),
-        ("E15", &[UNB, first, first, b"UNZ+2+1009'"]),
-        ("E16", &[test, first, second, first, b"UNZ+3+1001'"]),
-        ("E17", &[test, first, UNZ]),
-        // A wrong count beside a wrong control reference, and alone.
-        ("E12", &[UNB, b"UNH+1+ORDERS:D:01B:UN'UNT+1+1'", b"UNZ+1+1009'"]),
-        ("E12", &[UNB, b"UNH+1+ORDERS:D:01B:UN'UNT+3+1'", UNZ]),
-        ("E19", &[b"UNB+UNOA:3+S:14+R:14+250603:0915+1001'UNH+1+ORDERS:D:01B:UN'FTX+a:b\xa0'UNT+3+1'", UNZ]),
-        ("ok", &[UNB, b"UNH+1+ORDERS:D:01B:UN'FTX+a:b\xa0'UNT+3+1'", UNZ]),
-    ];
-    rows_are(&rt, rt.alloc(), &rows)?;
+    lines_are(&rt, rt.alloc(), PAIRS)?;
     Ok(())
 }
 
@@ -261,7 +278,7 @@ fn answers_the_lowest_of_two_faults(rt: HostRuntime) -> Result<(), Fail> {
 fn wants_unb_first_and_unz_last(rt: HostRuntime) -> Result<(), Fail> {
     let alloc = rt.alloc();
     for count in 0..12 {
-        let whole = tokens(alloc, &[UNB, ORDERS, UNZ])?;
+        let whole = tokens(alloc, WHOLE)?;
         let Tokens { service, segments } = whole;
         let mut segments = segments.into_vec();
         segments.truncate(count);
@@ -275,14 +292,7 @@ fn wants_unb_first_and_unz_last(rt: HostRuntime) -> Result<(), Fail> {
         };
         assert_eq!(rt; code, "E06", "of {count} segments");
     }
-    let rows: [(&str, &[&[u8]]); 5] = [
-        ("E06", &[]),
-        ("E06", &[ORDERS, UNZ]),
-        ("E06", &[UNB, ORDERS, UNZ, ORDERS]),
-        ("E06", &[UNB, ORDERS, UNZ, UNZ]),
-        ("E06", &[UNB, UNZ, UNB, UNZ]),
-    ];
-    rows_are(&rt, alloc, &rows)?;
+    lines_are(&rt, alloc, FRAMES)?;
     Ok(())
 }
 

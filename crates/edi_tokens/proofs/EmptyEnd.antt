@@ -1,8 +1,8 @@
 -- A list without the empty ones at its end.
-use Rattle.std.proofs.Common.{◌≡◌, ◌≤◌, ◌<◌, ◌-◌, ◌+◌, ℕ, List, [], ◌∷◌, ◌++◌, length, take, get_or, refl, sym, ap, ◌∙◌, subst, arith}
+use Rattle.std.proofs.Common.{◌≡◌, ◌<◌, ◌-◌, ◌+◌, ℕ, List, [], ◌∷◌, ◌++◌, length, take, get_or, refl, sym, ap, ◌∙◌, arith}
 use Rattle.std.proofs.lemmas.List.{take_all, take_more}
 use Rattle.std.proofs.lemmas.Bool.{eqb-true}
-use Rattle.std.specs.Prelude.{Bool, true, false, ◌==◌}
+use Rattle.std.specs.Prelude.{true, false, ◌==◌}
 use Rattle.edi_tokens.specs.Spelling.{and_others, without_empty_end}
 
 pub without_empty_end-push_empty : {A : Type 0} (xs : List (List A)) → without_empty_end (xs ++ [] ∷ []) ≡ without_empty_end xs

@@ -1,24 +1,20 @@
 -- The laws of the token grammar: what is spelled is read, what is shown is the fault, and the canonical text
 -- spells its segments again.
-use Rattle.std.proofs.Common.{◌≡◌, ◌≢◌, ℕ, zero, suc, ◌+◌, ◌<◌, ◌≤◌, Bool, true, false, cond, eqb, ltb, List, [], ◌∷◌, ◌++◌, length, map, take, drop, Option, Some, None, Result, Ok, Err, refl, sym, ap, subst, ◌∙◌, append_assoc, append-nil, arith, inl, inr}
+use Rattle.std.proofs.Common.{◌≡◌, ◌≢◌, ℕ, zero, suc, ◌+◌, ◌<◌, Bool, cond, eqb, ltb, List, [], ◌∷◌, ◌++◌, length, take, Some, Result, Ok, Err, refl, sym, ap, subst, ◌∙◌, arith, inl, inr}
 use Rattle.std.specs.Prelude.{◌⊎◌, ◌↔◌, IfOk, IfErr}
-use Rattle.std.specs.List.{AllByRecursion, flat_map}
-use Rattle.std.proofs.lemmas.List.{take_all, take_at, take-append-le, length-append, map-append}
-use Rattle.std.proofs.lemmas.List.Concat.{flat_map-cons}
-use Rattle.std.proofs.lemmas.Bool.{cases_Bool, cases_lt, eqb-true, eqb-false, le-ltb, lt-ltb, true≢false}
+use Rattle.std.proofs.lemmas.List.{take_all, take_at, length-append}
+use Rattle.std.proofs.lemmas.Bool.{cases_Bool, eqb-true, eqb-false, le-ltb, lt-ltb}
 use Rattle.edi_tokens.specs.declared.segment.Service.{Service}
 use Rattle.edi_tokens.specs.declared.segment.Segment.{Segment}
 use Rattle.edi_tokens.specs.declared.segment.Tokens.{Tokens}
 use Rattle.edi_tokens.specs.declared.fault.TokenFault.{TokenFault}
 use Rattle.edi_tokens.specs.declared.fault.TokenFault.TheVariants.{TooLong, ServiceString, Byte, Cut, Tag, LongSegment, Read, Memory}
-use Rattle.edi_tokens.specs.Characters.{is_data, is_special}
-use Rattle.edi_tokens.specs.Spelling.{text_limit, segment_limit, Each, Behind, Before, SpellsByte, SpellsComponent, SpellsElement, SpellsSegment, SpellsNext, SpellsWhole, Spells, IsTag, tags, counted, without_empty_end, and_others}
-use Rattle.edi_tokens.specs.Reading.{Place, Outside, InService, InTag, InData, Released, Reading, start, step, step_at, run, ◌>>=◌, finish, finish_at, tokens_of, Fails, Answers}
-use Rattle.edi_tokens.specs.Fault.{Ends, EndsAt, shown, shown_at, shown_by_end, ByteShows, EndShows, Shows, is_fresh}
-use Rattle.edi_tokens.specs.Text.{is_usual, byte_text, component_text, components_text, element_text, segment_text, text, una, with_decimal}
+use Rattle.edi_tokens.specs.Spelling.{text_limit, Spells}
+use Rattle.edi_tokens.specs.Reading.{Place, Outside, InService, InTag, InData, Released, Reading, start, step, run, ◌>>=◌, finish, finish_at, tokens_of, Fails, Answers}
+use Rattle.edi_tokens.specs.Fault.{Ends, shown_at, shown_by_end, ByteShows, EndShows, Shows, is_fresh}
 use Rattle.edi_tokens.proofs.Steps.{shown_is, fault_of}
 use Rattle.edi_tokens.proofs.Sound.{IsRead, is_read}
-use Rattle.edi_tokens.proofs.Whole.{Goes, whole_runs, front_runs}
+use Rattle.edi_tokens.proofs.Whole.{whole_runs, front_runs}
 
 -- ---- what is spelled is read, and what is shown is the fault
 
@@ -49,19 +45,19 @@ shown_at_byte bytes fault e =
     let whole : length bytes ≡ length e.front + length (e.byte ∷ e.rest) = ap length e.text_is ∙ length-append e.front (e.byte ∷ e.rest) in
     elim (cases_Bool (eqb (length e.front) text_limit)) [
       | inl full ↦
-        let n : length e.front ≡ text_limit = eqb-true _ _ full in
-        let front_is : take text_limit bytes ≡ e.front = ap (take text_limit) e.text_is ∙ take_at e.front (e.byte ∷ e.rest) text_limit n in
-        let late : Some TooLong ≡ Some fault = sym (ap (λ (t : Bool). cond t (Some TooLong) (shown_at e.reading.service e.reading.place e.byte)) full) ∙ e.shows in
-        let same : TooLong ≡ fault = cc in
-        let runs : run start (take text_limit bytes) ≡ Ok e.reading = ap (run start) front_is ∙ front_at e.front e.reading e.front_ends in
-        ap (λ (x : Result Reading TokenFault). x >>= λ r. cond (ltb text_limit (length bytes)) (Err TooLong) (finish r)) runs ∙ rw (lt-ltb text_limit (length bytes) (omega (arith, whole, n))) (ap (λ (y : TokenFault). Err y) same)
+          let n : length e.front ≡ text_limit = eqb-true _ _ full in
+          let front_is : take text_limit bytes ≡ e.front = ap (take text_limit) e.text_is ∙ take_at e.front (e.byte ∷ e.rest) text_limit n in
+          let late : Some TooLong ≡ Some fault = sym (ap (λ (t : Bool). cond t (Some TooLong) (shown_at e.reading.service e.reading.place e.byte)) full) ∙ e.shows in
+          let same : TooLong ≡ fault = cc in
+          let runs : run start (take text_limit bytes) ≡ Ok e.reading = ap (run start) front_is ∙ front_at e.front e.reading e.front_ends in
+          ap (λ (x : Result Reading TokenFault). x >>= λ r. cond (ltb text_limit (length bytes)) (Err TooLong) (finish r)) runs ∙ rw (lt-ltb text_limit (length bytes) (omega (arith, whole, n))) (ap (λ (y : TokenFault). Err y) same)
       | inr early ↦
-        let short : length e.front < text_limit = omega (arith, eqb-false _ _ early, e.is_first) in
-        let shows : shown_at e.reading.service e.reading.place e.byte ≡ Some fault = sym (ap (λ (t : Bool). cond t (Some TooLong) (shown_at e.reading.service e.reading.place e.byte)) early) ∙ e.shows in
-        let stops : step e.reading e.byte ≡ Err fault = fault_is (step e.reading e.byte) fault (sym (shown_is e.front e.reading e.reading.place e.byte e.front_ends) ∙ shows) in
-        let parts = cut_behind e.front (e.byte) e.rest text_limit short in
-        let runs : run start (take text_limit bytes) ≡ Err fault = ap (λ (t : List ℕ). run start (take text_limit t)) e.text_is ∙ ap (run start) parts.1 ∙ run_stops e.front parts.0 start e.reading e.byte fault (front_at e.front e.reading e.front_ends) stops in
-        ap (λ (x : Result Reading TokenFault). x >>= λ r. cond (ltb text_limit (length bytes)) (Err TooLong) (finish r)) runs
+          let short : length e.front < text_limit = omega (arith, eqb-false _ _ early, e.is_first) in
+          let shows : shown_at e.reading.service e.reading.place e.byte ≡ Some fault = sym (ap (λ (t : Bool). cond t (Some TooLong) (shown_at e.reading.service e.reading.place e.byte)) early) ∙ e.shows in
+          let stops : step e.reading e.byte ≡ Err fault = fault_is (step e.reading e.byte) fault (sym (shown_is e.front e.reading e.reading.place e.byte e.front_ends) ∙ shows) in
+          let parts = cut_behind e.front (e.byte) e.rest text_limit short in
+          let runs : run start (take text_limit bytes) ≡ Err fault = ap (λ (t : List ℕ). run start (take text_limit t)) e.text_is ∙ ap (run start) parts.1 ∙ run_stops e.front parts.0 start e.reading e.byte fault (front_at e.front e.reading e.front_ends) stops in
+          ap (λ (x : Result Reading TokenFault). x >>= λ r. cond (ltb text_limit (length bytes)) (Err TooLong) (finish r)) runs
     ]
   where
     cut_behind : (front : List ℕ) (b : ℕ) (rest : List ℕ) (n : ℕ) → length front < n → (more : List ℕ) × (take n (front ++ b ∷ rest) ≡ front ++ b ∷ more)

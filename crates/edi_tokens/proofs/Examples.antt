@@ -1,11 +1,8 @@
 -- The definitions at small texts.
-use Rattle.std.proofs.Common.{◌≡◌, ℕ, List, [], ◌∷◌, ◌++◌, Ok, Err, Some, None, refl}
+use Rattle.std.proofs.Common.{◌≡◌, [], ◌∷◌, ◌++◌, Ok, Err, refl}
 use Rattle.std.specs.Prelude.{codes}
-use Rattle.edi_tokens.specs.declared.segment.Service.{Service}
-use Rattle.edi_tokens.specs.declared.segment.Segment.{Segment}
-use Rattle.edi_tokens.specs.declared.segment.Tokens.{Tokens}
-use Rattle.edi_tokens.specs.declared.fault.TokenFault.TheVariants.{TooLong, ServiceString, Byte, Cut, Tag, LongSegment}
-use Rattle.edi_tokens.specs.Service.{usual, service_of}
+use Rattle.edi_tokens.specs.declared.fault.TokenFault.TheVariants.{ServiceString, Byte, Cut, Tag}
+use Rattle.edi_tokens.specs.Service.{usual}
 use Rattle.edi_tokens.specs.Reading.{tokens_of}
 use Rattle.edi_tokens.specs.Text.{text, una, with_decimal}
 

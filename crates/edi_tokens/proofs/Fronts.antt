@@ -1,13 +1,13 @@
 -- A byte that shows nothing leads from one right front of a text to the next.
-use Rattle.std.proofs.Common.{◌≡◌, ◌≢◌, ℕ, ◌+◌, ◌<◌, ◌≤◌, Bool, true, false, cond, eqb, ltb, List, [], ◌∷◌, ◌++◌, length, map, Option, Some, None, Result, Ok, Err, refl, sym, ap, subst, ◌∙◌, append_assoc, append-nil, arith, inl, inr}
-use Rattle.std.specs.Prelude.{IsTrue, ◌&&◌, ◌||◌, not}
+use Rattle.std.proofs.Common.{◌≡◌, ◌≢◌, ℕ, ◌+◌, ◌<◌, ◌≤◌, Bool, true, false, List, [], ◌∷◌, ◌++◌, length, map, Option, Some, None, refl, sym, ap, subst, ◌∙◌, append_assoc, append-nil, arith, inl, inr}
+use Rattle.std.specs.Prelude.{IsTrue, ◌||◌, not}
 use Rattle.std.proofs.lemmas.List.{map-append, length-append, length_push}
-use Rattle.std.proofs.lemmas.Bool.{cases_Bool, true≢false, false≢true, eqb-true, and_parts}
+use Rattle.std.proofs.lemmas.Bool.{true≢false}
 use Rattle.edi_tokens.specs.declared.segment.Service.{Service}
 use Rattle.edi_tokens.specs.declared.segment.Segment.{Segment}
 use Rattle.edi_tokens.specs.Characters.{is_data, is_special, is_capital, is_digit, is_line_end}
 use Rattle.edi_tokens.specs.Service.{usual, una_tag, service_of}
-use Rattle.edi_tokens.specs.Spelling.{segment_limit, Each, Behind, Before, SpellsByte, SpellsComponent, SpellsElement, SpellsSegment, SpellsNext, SpellsWhole, LineEnds, IsTag, IsNoAdvice, tags, Advice, Advises, advice_text, counted, without_empty_end}
+use Rattle.edi_tokens.specs.Spelling.{segment_limit, Each, Behind, Before, SpellsByte, SpellsComponent, SpellsElement, SpellsSegment, SpellsNext, SpellsWhole, LineEnds, IsTag, tags, Advice, Advises, advice_text, without_empty_end}
 use Rattle.edi_tokens.specs.Reading.{Open, opened, with_byte, with_component, with_element, with_release, closed_elements}
 use Rattle.edi_tokens.specs.Fault.{is_fresh, EndsOutside, EndsInService, EndsInTag, IsTagFront, SpellsOpen, EndsInData, EndsReleased}
 use Rattle.edi_tokens.proofs.Parts.{Each-push, LineEnds-push, grows}
@@ -147,7 +147,10 @@ segment_opens text s segments fresh tag b e long is_element =
       whole = e.before_ends.whole;
       no_advice = advises_more e.before_ends.whole.advice s segments tag fresh e.before_ends.fresh_is e.before_ends.whole.advises e.no_advice;
       segment_spells = record {
-        closed = []; written = []; front = []; back = [];
+        closed = [];
+        written = [];
+        front = [];
+        back = [];
         text_is = ap (λ (x : ℕ). tag ++ x ∷ []) is_element ∙ ap (λ (t : List ℕ). t ++ s.element ∷ []) (sym (append-nil tag));
         tag_is = is;
         closed_spells = refl;
@@ -188,7 +191,8 @@ empty_segment_ends text s segments fresh tag b e long is_terminator =
     let whole = e.before_ends.whole in
     let x : Segment = record { tag = tag; elements = [] } in
     let spelled : SpellsSegment s (tag ++ b ∷ []) x = record {
-      body = []; written = [];
+      body = [];
+      written = [];
       text_is = ap (λ (y : ℕ). tag ++ y ∷ []) is_terminator ∙ ap (λ (t : List ℕ). t ++ s.terminator ∷ []) (sym (append-nil tag));
       tag_is = is;
       body_spells = refl;
@@ -196,7 +200,7 @@ empty_segment_ends text s segments fresh tag b e long is_terminator =
       is_short = omega (arith, length_push tag b);
     } in
     subst (λ (t : List ℕ). EndsOutside t s (segments ++ x ∷ []) false) (sym (grows text e.before tag b e.text_is))
-      (adds_segment e.before (tag ++ b ∷ []) s segments x whole (advises_more whole.advice s segments tag fresh e.before_ends.fresh_is whole.advises e.no_advice) spelled)
+    (adds_segment e.before (tag ++ b ∷ []) s segments x whole (advises_more whole.advice s segments tag fresh e.before_ends.fresh_is whole.advises e.no_advice) spelled)
 
 -- ---- in data
 
@@ -208,7 +212,10 @@ open_grows s text o b e short = (omega (arith, length_push text b, e.length_is),
 pub open_byte : (s : Service) (text : List ℕ) (o : Open) (part : List ℕ) (b n : ℕ) → SpellsOpen s text o → SpellsByte s part b → n ≡ length (text ++ part) → length (text ++ part) ≤ segment_limit
     → SpellsOpen s (text ++ part) (record { tag = o.tag; elements = o.elements; element = o.element; component = o.component ++ b ∷ []; length = n })
 open_byte s text o part b n e spelled len short = record {
-  closed = e.closed; written = e.written; front = e.front; back = e.back ++ part;
+  closed = e.closed;
+  written = e.written;
+  front = e.front;
+  back = e.back ++ part;
   text_is = ap (λ (t : List ℕ). t ++ part) e.text_is ∙ simp append_assoc;
   tag_is = e.tag_is;
   closed_spells = e.closed_spells;
@@ -223,7 +230,10 @@ pub open_component : (s : Service) (text : List ℕ) (o : Open) (b : ℕ) → Sp
 open_component s text o b e is short =
     let grown = open_grows s text o b e short in
     record {
-      closed = e.closed; written = e.written; front = e.front ++ (e.back ++ b ∷ []); back = [];
+      closed = e.closed;
+      written = e.written;
+      front = e.front ++ (e.back ++ b ∷ []);
+      back = [];
       text_is = ap (λ (t : List ℕ). t ++ b ∷ []) e.text_is ∙ simp (append_assoc, append-nil);
       tag_is = e.tag_is;
       closed_spells = e.closed_spells;
@@ -236,10 +246,20 @@ open_component s text o b e is short =
 
 -- the open element, closed
 element_of : (s : Service) (text : List ℕ) (o : Open) (e : SpellsOpen s text o) → Behind s.element (SpellsElement s) (s.element ∷ (e.front ++ e.back)) (o.element ++ o.component ∷ [])
-element_of s text o e = (e.front ++ e.back, refl, record {
-  front = e.front; back = e.back; closed = o.element; last = o.component;
-  text_is = refl; components_are = refl; front_spells = e.front_spells; back_spells = e.back_spells;
-})
+element_of s text o e = (
+  e.front ++ e.back,
+  refl,
+  record {
+    front = e.front;
+    back = e.back;
+    closed = o.element;
+    last = o.component;
+    text_is = refl;
+    components_are = refl;
+    front_spells = e.front_spells;
+    back_spells = e.back_spells;
+  },
+)
 
 elements_closed : (s : Service) (text : List ℕ) (o : Open) (e : SpellsOpen s text o) → Each (Behind s.element (SpellsElement s)) (e.closed ++ s.element ∷ (e.front ++ e.back)) (e.written ++ (o.element ++ o.component ∷ []) ∷ [])
 elements_closed s text o e = Each-push (Behind s.element (SpellsElement s)) e.closed e.written (s.element ∷ (e.front ++ e.back)) (o.element ++ o.component ∷ []) e.closed_spells (element_of s text o e)
@@ -251,7 +271,10 @@ pub open_element : (s : Service) (text : List ℕ) (o : Open) (b : ℕ) → Spel
 open_element s text o b e is short =
     let grown = open_grows s text o b e short in
     record {
-      closed = e.closed ++ s.element ∷ (e.front ++ e.back); written = e.written ++ (o.element ++ o.component ∷ []) ∷ []; front = []; back = [];
+      closed = e.closed ++ s.element ∷ (e.front ++ e.back);
+      written = e.written ++ (o.element ++ o.component ∷ []) ∷ [];
+      front = [];
+      back = [];
       text_is = ap (λ (t : List ℕ). t ++ b ∷ []) e.text_is ∙ ap (λ (x : ℕ). ((o.tag ++ e.closed) ++ s.element ∷ (e.front ++ e.back)) ++ x ∷ []) is ∙ simp append_assoc;
       tag_is = e.tag_is;
       closed_spells = elements_closed s text o e;
@@ -291,7 +314,7 @@ pub data_ends : (text : List ℕ) (s : Service) (segments : List Segment) (o : O
 data_ends text s segments o b e is short =
     let x : Segment = record { tag = o.tag; elements = without_empty_end (closed_elements o) } in
     subst (λ (t : List ℕ). EndsOutside t s (segments ++ x ∷ []) false) (sym (grows text e.before e.segment b e.text_is))
-      (adds_segment e.before (e.segment ++ b ∷ []) s segments x e.whole e.no_advice (open_ends s e.segment o b e.segment_spells is short))
+    (adds_segment e.before (e.segment ++ b ∷ []) s segments x e.whole e.no_advice (open_ends s e.segment o b e.segment_spells is short))
 
 pub data_byte : (text : List ℕ) (s : Service) (segments : List Segment) (o : Open) (b : ℕ) → EndsInData text s segments o → o.length ≢ segment_limit → IsTrue (is_data b) → IsTrue (not (is_special s b)) → EndsInData (text ++ b ∷ []) s segments (with_byte o b)
 data_byte text s segments o b e short is_data plain =
@@ -300,7 +323,9 @@ data_byte text s segments o b e short is_data plain =
 
 pub release_comes : (text : List ℕ) (s : Service) (segments : List Segment) (o : Open) (b : ℕ) → EndsInData text s segments o → o.length ≢ segment_limit → s.release ≡ Some b → EndsReleased (text ++ b ∷ []) s segments (with_release o)
 release_comes text s segments o b e short is = record {
-  front = text; release = b; data_before = o;
+  front = text;
+  release = b;
+  data_before = o;
   text_is = refl;
   front_ends = e;
   release_is = is;
@@ -316,7 +341,7 @@ released_byte text s segments o b e short is_data =
     let longer : length (f.segment ++ part) ≡ length f.segment + 2 = length-append f.segment part in
     let same_length : o.length ≡ before.length + 1 = ap (λ (x : Open). x.length) e.open_is in
     let spelled : SpellsOpen s (f.segment ++ part) (with_byte (with_release before) b) =
-      open_byte s f.segment before part b (before.length + 1 + 1) f.segment_spells (is_data, inr (e.release, e.release_is, refl)) (omega (arith, longer, f.segment_spells.length_is)) (omega (arith, longer, f.segment_spells.length_is, same_length, short, e.is_short)) in
+    open_byte s f.segment before part b (before.length + 1 + 1) f.segment_spells (is_data, inr (e.release, e.release_is, refl)) (omega (arith, longer, f.segment_spells.length_is)) (omega (arith, longer, f.segment_spells.length_is, same_length, short, e.is_short)) in
     let whole : EndsInData (text ++ b ∷ []) s segments (with_byte (with_release before) b) = record {
       before = f.before;
       segment = f.segment ++ part;

@@ -5,7 +5,7 @@ use Rattle.std.proofs.Math.Seq.{drop-cons}
 use Rattle.std.specs.List.{flat_map}
 use Rattle.std.specs.Prelude.{IsErr}
 use Rattle.std.specs.Io.KnownBytes.{Appends, Consumes}
-use Rattle.edi_tokens.specs.Buffer.{Goes, Puts, AppendsFront}
+use Rattle.edi_tokens.specs.Buffer.{Goes, Puts}
 
 Appends-nil : (a : Option (List ℕ)) → Appends a a []
 Appends-nil None = tt

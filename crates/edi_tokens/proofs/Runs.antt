@@ -1,17 +1,16 @@
 -- The bytes of a text, a run of them at a time.
-use Rattle.std.proofs.Common.{◌≡◌, ◌≢◌, ℕ, suc, ◌+◌, ◌-◌, ◌≤◌, ◌<◌, Bool, true, false, List, [], ◌∷◌, ◌++◌, length, take, drop, Result, Ok, Err, min, refl, sym, ap, subst, ◌∙◌, append_assoc, arith}
+use Rattle.std.proofs.Common.{◌≡◌, ℕ, ◌+◌, ◌-◌, ◌≤◌, ◌<◌, Bool, true, false, List, [], ◌∷◌, ◌++◌, length, take, drop, Result, Ok, Err, min, refl, sym, ap, subst, ◌∙◌, append_assoc, arith}
 use Rattle.std.specs.Prelude.{◌==◌, ◌&&◌, not, nat_lt, if◌then◌else◌}
 use Rattle.std.proofs.lemmas.List.{append-nil, take-append-drop, length-take, take_min}
 use Rattle.std.proofs.lemmas.Bool.{le-ltb}
 use Rattle.std.proofs.lemmas.Grind.{common_steps}
 use Rattle.edi_tokens.specs.declared.segment.Service.{Service}
 use Rattle.edi_tokens.specs.declared.segment.Segment.{Segment}
-use Rattle.edi_tokens.specs.declared.segment.Tokens.{Tokens}
 use Rattle.edi_tokens.specs.declared.fault.TokenFault.{TokenFault}
 use Rattle.edi_tokens.specs.declared.fault.TokenFault.TheVariants.{TooLong, ServiceString, Byte, Cut, Tag, LongSegment, Read, Memory}
 use Rattle.edi_tokens.specs.Characters.{is_data, is_special}
 use Rattle.edi_tokens.specs.Spelling.{text_limit, segment_limit}
-use Rattle.edi_tokens.specs.Reading.{Open, Reading, InData, ◌>>=◌, start, at, step, step_data, within, with_byte, run, finish, tokens_of, Fails, Answers}
+use Rattle.edi_tokens.specs.Reading.{Open, Reading, InData, ◌>>=◌, start, step, within, with_byte, run, finish, tokens_of, Fails}
 use Rattle.edi_tokens.specs.OpenSegment.{with_bytes}
 use Rattle.edi_tokens.specs.Plain.{is_plain, are_plain}
 

@@ -1,18 +1,16 @@
 -- What reading gives, the grammar says: the segments are spelled, the fault is shown.
-use Rattle.std.proofs.Common.{◌≡◌, ◌≢◌, ℕ, ◌+◌, ◌<◌, ◌≤◌, Bool, true, false, cond, eqb, ltb, List, [], ◌∷◌, ◌++◌, length, take, drop, Option, Some, None, Result, Ok, Err, refl, sym, ap, subst, ◌∙◌, append_assoc, append-nil, arith, inl, inr}
-use Rattle.std.specs.Prelude.{◌⊎◌}
+use Rattle.std.proofs.Common.{◌≡◌, ℕ, ◌<◌, ◌≤◌, cond, ltb, List, [], ◌∷◌, ◌++◌, length, take, drop, None, Result, Ok, Err, refl, sym, ap, subst, ◌∙◌, append_assoc, arith, inl, inr}
 use Rattle.std.proofs.lemmas.List.{take-append-drop, length-take, length-append, length-drop, take_all}
 use Rattle.std.proofs.lemmas.Bool.{cases_Bool, ltb-true, ltb-false, ne_eqb, eq-eqb}
 use Rattle.edi_tokens.specs.declared.segment.Service.{Service}
 use Rattle.edi_tokens.specs.declared.segment.Segment.{Segment}
 use Rattle.edi_tokens.specs.declared.segment.Tokens.{Tokens}
 use Rattle.edi_tokens.specs.declared.fault.TokenFault.{TokenFault}
-use Rattle.edi_tokens.specs.declared.fault.TokenFault.TheVariants.{TooLong, ServiceString, Byte, Cut, Tag, LongSegment}
-use Rattle.edi_tokens.specs.Service.{usual}
-use Rattle.edi_tokens.specs.Spelling.{text_limit, SpellsWhole, Spells}
+use Rattle.edi_tokens.specs.declared.fault.TokenFault.TheVariants.{TooLong}
+use Rattle.edi_tokens.specs.Spelling.{text_limit, Spells}
 use Rattle.edi_tokens.specs.Reading.{Place, Outside, InService, InTag, InData, Released, Reading, start, run, ◌>>=◌, finish, finish_at, tokens_of}
-use Rattle.edi_tokens.specs.Fault.{EndsAt, Ends, EndsOutside, shown, shown_at, shown_by_end, ByteShows, EndShows, Shows}
-use Rattle.edi_tokens.proofs.Steps.{Runs, Stops, run_leads, fault_of}
+use Rattle.edi_tokens.specs.Fault.{EndsAt, Ends, Shows}
+use Rattle.edi_tokens.proofs.Steps.{Runs, Stops, run_leads}
 
 -- the empty text is a right front
 pub start_ends : Ends [] start
@@ -28,9 +26,12 @@ IsRead text (Err fault) = Shows text fault
 stops_early : (text : List ℕ) (fault : TokenFault) → Stops (take text_limit text) fault → Shows text fault
 stops_early text fault stop =
     let shorter : length stop.front < text_limit =
-      omega (arith, length-take text_limit text, ap length stop.text_is, length-append stop.front (stop.byte ∷ stop.rest)) in
+    omega (arith, length-take text_limit text, ap length stop.text_is, length-append stop.front (stop.byte ∷ stop.rest)) in
     inl (record {
-      front = stop.front; byte = stop.byte; rest = stop.rest ++ drop text_limit text; reading = stop.reading;
+      front = stop.front;
+      byte = stop.byte;
+      rest = stop.rest ++ drop text_limit text;
+      reading = stop.reading;
       text_is = sym (take-append-drop text_limit text) ∙ ap (λ (t : List ℕ). t ++ drop text_limit text) stop.text_is ∙ append_assoc stop.front (stop.byte ∷ stop.rest) (drop text_limit text);
       front_ends = stop.front_ends;
       is_first = omega arith;
@@ -41,7 +42,10 @@ stops_late : (text : List ℕ) (r : Reading) (rest : List ℕ) → text_limit < 
 stops_late text r [] long e is = absurd (omega (arith, length-drop text_limit text, ap length is))
 stops_late text r (b ∷ rest) long e is =
     inl (record {
-      front = take text_limit text; byte = b; rest = rest; reading = r;
+      front = take text_limit text;
+      byte = b;
+      rest = rest;
+      reading = r;
       text_is = sym (take-append-drop text_limit text) ∙ ap (λ (t : List ℕ). take text_limit text ++ t) is;
       front_ends = e;
       is_first = omega (arith, length-take text_limit text);
@@ -65,5 +69,5 @@ is_read text = go (run start (take text_limit text)) (run_leads [] (take text_li
         elim (cases_Bool (ltb text_limit (length text))) [
           | inl long ↦ rw long (stops_late text r (drop text_limit text) (ltb-true _ _ long) e refl)
           | inr short ↦ let le : length text ≤ text_limit = ltb-false _ _ short in
-            rw short (ends_well text r.service r.segments r.place le (subst (λ (t : List ℕ). Ends t r) (take_all text_limit text le) e))
+              rw short (ends_well text r.service r.segments r.place le (subst (λ (t : List ℕ). Ends t r) (take_all text_limit text le) e))
         ]

@@ -1,12 +1,12 @@
 -- The canonical text of what some text spells spells it again.
-use Rattle.std.proofs.Common.{◌≡◌, ℕ, ◌+◌, ◌≤◌, Bool, true, false, cond, List, [], ◌∷◌, ◌++◌, length, map, Some, refl, sym, ap, subst, ◌∙◌, append_assoc, append-nil, arith, inl, inr}
+use Rattle.std.proofs.Common.{◌≡◌, ℕ, ◌≤◌, Bool, true, false, List, [], ◌∷◌, ◌++◌, length, map, Some, refl, sym, ap, subst, ◌∙◌, append_assoc, append-nil, inl, inr}
 use Rattle.std.specs.Prelude.{IsTrue, not, ◌⊎◌}
 use Rattle.std.specs.List.{AllByRecursion, flat_map}
 use Rattle.edi_tokens.specs.declared.segment.Service.{Service}
 use Rattle.edi_tokens.specs.declared.segment.Segment.{Segment}
-use Rattle.edi_tokens.specs.Characters.{is_data, is_special}
+use Rattle.edi_tokens.specs.Characters.{is_data}
 use Rattle.edi_tokens.specs.Service.{service_of}
-use Rattle.edi_tokens.specs.Spelling.{text_limit, segment_limit, Each, Behind, Before, SpellsByte, SpellsComponent, SpellsElement, SpellsSegment, SpellsNext, SpellsWhole, Spells, IsTag, IsNoAdvice, tags, counted, without_empty_end, and_others}
+use Rattle.edi_tokens.specs.Spelling.{text_limit, segment_limit, Each, Behind, Before, SpellsByte, SpellsComponent, SpellsElement, SpellsSegment, SpellsNext, Spells, IsTag, without_empty_end, and_others}
 use Rattle.edi_tokens.specs.Text.{is_usual, byte_text, component_text, components_text, element_text, segment_text, text, una, with_decimal}
 
 -- ---- what is spelled is in its counted form
@@ -63,8 +63,8 @@ element_is_data : (s : Service) (part : List ℕ) (components : List (List ℕ))
 element_is_data s part components e =
     let inner = e.2 in
     subst DataElement (sym inner.components_are) (all_push Data inner.closed inner.last
-      (each_all (Before s.component (SpellsComponent s)) Data inner.front inner.closed (λ (t : List ℕ) (c : List ℕ) (h : Before s.component (SpellsComponent s) t c). component_is_data s h.0 c h.2) inner.front_spells)
-      (component_is_data s inner.back inner.last inner.back_spells))
+    (each_all (Before s.component (SpellsComponent s)) Data inner.front inner.closed (λ (t : List ℕ) (c : List ℕ) (h : Before s.component (SpellsComponent s) t c). component_is_data s h.0 c h.2) inner.front_spells)
+    (component_is_data s inner.back inner.last inner.back_spells))
 
 all_trimmed_data : (written : List (List (List ℕ))) → AllByRecursion DataElement written → AllByRecursion DataElement (map without_empty_end written)
 all_trimmed_data [] ps = tt
@@ -108,7 +108,10 @@ module _ (decimal : ℕ) where
 
   components_spelled : (first : List ℕ) (others : List (List ℕ)) → Data first → DataElement others → SpellsElement (with_decimal decimal) (component_text first ++ flat_map (λ component. 58 ∷ component_text component) others) (first ∷ others)
   components_spelled first [] h hs = record {
-    front = []; back = component_text first; closed = []; last = first;
+    front = [];
+    back = component_text first;
+    closed = [];
+    last = first;
     text_is = append-nil (component_text first);
     components_are = refl;
     front_spells = refl;
@@ -117,7 +120,10 @@ module _ (decimal : ℕ) where
   components_spelled first (second ∷ others) h hs =
       let rest = components_spelled second others hs.0 hs.1 in
       record {
-        front = (component_text first ++ 58 ∷ []) ++ rest.front; back = rest.back; closed = first ∷ rest.closed; last = rest.last;
+        front = (component_text first ++ 58 ∷ []) ++ rest.front;
+        back = rest.back;
+        closed = first ∷ rest.closed;
+        last = rest.last;
         text_is = ap (λ (t : List ℕ). component_text first ++ 58 ∷ t) rest.text_is ∙ simp append_assoc;
         components_are = ap (λ (cs : List (List ℕ)). first ∷ cs) rest.components_are;
         front_spells = (component_text first ++ 58 ∷ [], rest.front, refl, (component_text first, refl, component_spelled first h), rest.front_spells);
@@ -139,7 +145,8 @@ module _ (decimal : ℕ) where
 
   segment_spelled : (x : Segment) → IsCounted x → length (segment_text x) ≤ segment_limit → SpellsSegment (with_decimal decimal) (segment_text x) x
   segment_spelled x is short = record {
-    body = flat_map element_text x.elements; written = map filled x.elements;
+    body = flat_map element_text x.elements;
+    written = map filled x.elements;
     text_is = refl;
     tag_is = is.tag_is;
     body_spells = elements_spelled x.elements is.data_are;

@@ -1,16 +1,15 @@
 -- What a run of bytes reaches is a right front of the text, and a byte at which it stops shows the fault.
-use Rattle.std.proofs.Common.{◌≡◌, ◌≢◌, ℕ, ◌+◌, ◌<◌, ◌≤◌, Bool, true, false, cond, eqb, ltb, List, [], ◌∷◌, ◌++◌, length, take, drop, Option, Some, None, Result, Ok, Err, refl, sym, ap, subst, ◌∙◌, append_assoc, append-nil, arith, inl, inr}
+use Rattle.std.proofs.Common.{◌≡◌, ◌≢◌, ℕ, ◌<◌, ◌≤◌, Bool, true, false, cond, eqb, ltb, List, [], ◌∷◌, ◌++◌, length, Option, Some, None, Result, Ok, Err, refl, sym, ap, subst, ◌∙◌, append_assoc, append-nil, arith, inl, inr}
 use Rattle.std.specs.Prelude.{IsTrue, ◌&&◌, ◌||◌, not, ◌⊎◌}
-use Rattle.std.proofs.lemmas.Bool.{cases_Bool, cases_lt, true≢false, false≢true, eqb-true, eqb-false, ltb-true, ltb-false, lt-ltb, le-ltb, eq-eqb, ne_eqb, and_parts, or_parts}
+use Rattle.std.proofs.lemmas.Bool.{cases_Bool, cases_lt, true≢false, false≢true, eqb-true, eqb-false, ltb-true, ltb-false, lt-ltb, le-ltb, eq-eqb, ne_eqb, and_parts}
 use Rattle.std.specs.Prelude.{is_none}
 use Rattle.edi_tokens.specs.declared.segment.Service.{Service}
-use Rattle.edi_tokens.specs.declared.segment.Segment.{Segment}
 use Rattle.edi_tokens.specs.declared.fault.TokenFault.{TokenFault}
-use Rattle.edi_tokens.specs.declared.fault.TokenFault.TheVariants.{TooLong, ServiceString, Byte, Cut, Tag, LongSegment}
+use Rattle.edi_tokens.specs.declared.fault.TokenFault.TheVariants.{ServiceString, Byte, Tag, LongSegment}
 use Rattle.edi_tokens.specs.Characters.{is_data, is_special, is_release, is_capital, is_digit, is_line_end}
 use Rattle.edi_tokens.specs.Service.{una_tag, service_of}
 use Rattle.edi_tokens.specs.Spelling.{segment_limit}
-use Rattle.edi_tokens.specs.Reading.{Open, Place, Outside, InService, InTag, InData, Released, Reading, is_una, step, step_at, step_outside, step_service, adopt, step_tag, step_data, step_released, within, run, ◌>>=◌, at, ended, opened, tag_or_service, with_byte, with_component, with_element, with_release, closed_elements}
+use Rattle.edi_tokens.specs.Reading.{Open, Place, Outside, InService, InTag, InData, Released, Reading, is_una, step, step_at, step_outside, step_service, adopt, step_tag, step_data, step_released, within, run, ◌>>=◌, at, tag_or_service, with_component, with_element}
 use Rattle.edi_tokens.specs.Fault.{EndsAt, Ends, shown_at, EndsOutside, EndsInService, EndsInTag, EndsInData, EndsReleased}
 use Rattle.edi_tokens.proofs.Fronts.{line_end_after, tag_begins, tag_goes_on, service_begins, service_goes_on, service_ends, segment_opens, empty_segment_ends, data_goes_on, data_ends, data_byte, release_comes, released_byte, open_component, open_element}
 
@@ -31,7 +30,7 @@ at_test false x y text f g = g refl
 outside_leads : (text : List ℕ) (r : Reading) (fresh : Bool) (b : ℕ) → EndsOutside text r.service r.segments fresh → Leads (text ++ b ∷ []) (step_outside r fresh b)
 outside_leads text r fresh b e =
     at_test (is_line_end b) _ _ (text ++ b ∷ []) (λ h. line_end_after text r.service r.segments fresh b e h) (λ _.
-      at_test (is_capital b) _ _ (text ++ b ∷ []) (λ h. tag_begins text r.service r.segments fresh b e h) (λ _. tt))
+    at_test (is_capital b) _ _ (text ++ b ∷ []) (λ h. tag_begins text r.service r.segments fresh b e h) (λ _. tt))
 
 service_leads : (text : List ℕ) (r : Reading) (six : List ℕ) (b : ℕ) → EndsInService text r.service r.segments six → Leads (text ++ b ∷ []) (step_service r six b)
 service_leads text r six b e =
@@ -60,17 +59,17 @@ is_una_false tag e same = true≢false (sym (ap is_una same) ∙ e)
 tag_leads : (text : List ℕ) (r : Reading) (fresh : Bool) (tag : List ℕ) (b : ℕ) → EndsInTag text r.service r.segments fresh tag → Leads (text ++ b ∷ []) (step_tag r fresh tag b)
 tag_leads text r fresh tag b e =
     at_test (ltb (length tag) 3) _ _ (text ++ b ∷ [])
-      (λ short. at_test (is_capital b || is_digit b) _ _ (text ++ b ∷ []) (λ h. grown (ltb-true _ _ short) h) (λ _. tt))
-      (λ long. at_test (eqb b r.service.element) _ _ (text ++ b ∷ []) (λ h. segment_opens text r.service r.segments fresh tag b e (ltb-false _ _ long) (eqb-true _ _ h)) (λ _.
-        at_test (eqb b r.service.terminator) _ _ (text ++ b ∷ []) (λ h. empty_segment_ends text r.service r.segments fresh tag b e (ltb-false _ _ long) (eqb-true _ _ h)) (λ _. tt)))
+    (λ short. at_test (is_capital b || is_digit b) _ _ (text ++ b ∷ []) (λ h. grown (ltb-true _ _ short) h) (λ _. tt))
+    (λ long. at_test (eqb b r.service.element) _ _ (text ++ b ∷ []) (λ h. segment_opens text r.service r.segments fresh tag b e (ltb-false _ _ long) (eqb-true _ _ h)) (λ _.
+    at_test (eqb b r.service.terminator) _ _ (text ++ b ∷ []) (λ h. empty_segment_ends text r.service r.segments fresh tag b e (ltb-false _ _ long) (eqb-true _ _ h)) (λ _. tt)))
   where
     grown : length tag < 3 → IsTrue (is_capital b || is_digit b) → Ends (text ++ b ∷ []) (at r (tag_or_service r fresh (tag ++ b ∷ [])))
     grown short h =
         elim (cases_Bool (fresh && is_una (tag ++ b ∷ []))) [
           | inl una ↦ let p = and_parts fresh (is_una (tag ++ b ∷ [])) una in
-            subst (λ (t : Bool). EndsAt (text ++ b ∷ []) r.service r.segments (cond t (InService []) (InTag fresh (tag ++ b ∷ [])))) (sym una) (service_begins text r.service r.segments fresh tag b e p.0 (is_una_true _ p.1))
+              subst (λ (t : Bool). EndsAt (text ++ b ∷ []) r.service r.segments (cond t (InService []) (InTag fresh (tag ++ b ∷ [])))) (sym una) (service_begins text r.service r.segments fresh tag b e p.0 (is_una_true _ p.1))
           | inr other ↦ subst (λ (t : Bool). EndsAt (text ++ b ∷ []) r.service r.segments (cond t (InService []) (InTag fresh (tag ++ b ∷ [])))) (sym other)
-            (tag_goes_on text r.service r.segments fresh tag b e short h (λ is_fresh. is_una_false (tag ++ b ∷ []) (subst (λ (t : Bool). (t && is_una (tag ++ b ∷ [])) ≡ false) is_fresh other)))
+              (tag_goes_on text r.service r.segments fresh tag b e short h (λ is_fresh. is_una_false (tag ++ b ∷ []) (subst (λ (t : Bool). (t && is_una (tag ++ b ∷ [])) ≡ false) is_fresh other)))
         ]
 
 data_leads : (text : List ℕ) (r : Reading) (o : Open) (b : ℕ) → EndsInData text r.service r.segments o → Leads (text ++ b ∷ []) (within o (step_data r o b))
@@ -78,13 +77,13 @@ data_leads text r o b e =
     let s = r.service in
     let text' : List ℕ = text ++ b ∷ [] in
     at_test (eqb o.length segment_limit) _ _ text' (λ _. tt) (λ not_full.
-      let short : o.length ≢ segment_limit = eqb-false _ _ not_full in
-      at_test (is_special s b) _ _ text'
-        (λ special. at_test (eqb b s.component) _ _ text' (λ h. data_goes_on text s r.segments o (with_component o) b e refl (open_component s e.segment o b e.segment_spells (eqb-true _ _ h) short)) (λ not_component.
-          at_test (eqb b s.element) _ _ text' (λ h. data_goes_on text s r.segments o (with_element o) b e refl (open_element s e.segment o b e.segment_spells (eqb-true _ _ h) short)) (λ not_element.
-            at_test (eqb b s.terminator) _ _ text' (λ h. data_ends text s r.segments o b e (eqb-true _ _ h) short) (λ not_terminator.
-              release_comes text s r.segments o b e short (release_is s.release b (last_of _ _ _ _ special not_component not_element not_terminator))))))
-        (λ plain. at_test (is_data b) _ _ text' (λ h. data_byte text s r.segments o b e short h (ap not plain)) (λ _. tt)))
+    let short : o.length ≢ segment_limit = eqb-false _ _ not_full in
+    at_test (is_special s b) _ _ text'
+    (λ special. at_test (eqb b s.component) _ _ text' (λ h. data_goes_on text s r.segments o (with_component o) b e refl (open_component s e.segment o b e.segment_spells (eqb-true _ _ h) short)) (λ not_component.
+    at_test (eqb b s.element) _ _ text' (λ h. data_goes_on text s r.segments o (with_element o) b e refl (open_element s e.segment o b e.segment_spells (eqb-true _ _ h) short)) (λ not_element.
+    at_test (eqb b s.terminator) _ _ text' (λ h. data_ends text s r.segments o b e (eqb-true _ _ h) short) (λ not_terminator.
+    release_comes text s r.segments o b e short (release_is s.release b (last_of _ _ _ _ special not_component not_element not_terminator))))))
+    (λ plain. at_test (is_data b) _ _ text' (λ h. data_byte text s r.segments o b e short h (ap not plain)) (λ _. tt)))
   where
     release_is : (release : Option ℕ) (b : ℕ) → is_release release b ≡ true → release ≡ Some b
     release_is None b h = absurd (false≢true h)
@@ -99,7 +98,7 @@ data_leads text r o b e =
 released_leads : (text : List ℕ) (r : Reading) (o : Open) (b : ℕ) → EndsReleased text r.service r.segments o → Leads (text ++ b ∷ []) (within o (step_released r o b))
 released_leads text r o b e =
     at_test (eqb o.length segment_limit) _ _ (text ++ b ∷ []) (λ _. tt) (λ not_full.
-      at_test (is_data b) _ _ (text ++ b ∷ []) (λ h. released_byte text r.service r.segments o b e (eqb-false _ _ not_full) h) (λ _. tt))
+    at_test (is_data b) _ _ (text ++ b ∷ []) (λ h. released_byte text r.service r.segments o b e (eqb-false _ _ not_full) h) (λ _. tt))
 
 step_leads : (text : List ℕ) (r : Reading) (place : Place) (b : ℕ) → EndsAt text r.service r.segments place → Leads (text ++ b ∷ []) (step_at r place b)
 step_leads text r (Outside fresh) b e = outside_leads text r fresh b e

@@ -1,17 +1,16 @@
 -- Each right front of a text is run through, and its run ends where the front does.
 use Rattle.std.proofs.Common.{◌≡◌, ◌≢◌, ℕ, suc, ◌+◌, ◌<◌, ◌≤◌, Bool, true, false, cond, eqb, ltb, leb, List, [], ◌∷◌, ◌++◌, length, map, Option, Some, None, Result, Ok, Err, refl, sym, ap, subst, ◌∙◌, append_assoc, append-nil, add-one, arith, inl, inr}
 use Rattle.std.specs.Prelude.{IsTrue, ◌&&◌, ◌||◌, not, ◌⊎◌}
-use Rattle.std.proofs.lemmas.List.{map-append, length-append}
-use Rattle.std.proofs.lemmas.Bool.{cases_Bool, true≢false, false≢true, eqb-true, eqb-false, ne_eqb, eq-eqb, lt-ltb, le-ltb, leb-true, not-true, and_parts, and_right, and_left, or_cases, or_from, or_left, or_right, false_from_ne_true}
+use Rattle.std.proofs.lemmas.List.{length-append}
+use Rattle.std.proofs.lemmas.Bool.{false≢true, eqb-false, ne_eqb, eq-eqb, lt-ltb, le-ltb, leb-true, not-true, and_parts, and_right, or_left, or_right, false_from_ne_true}
 use Rattle.edi_tokens.specs.declared.segment.Service.{Service}
 use Rattle.edi_tokens.specs.declared.segment.Segment.{Segment}
 use Rattle.edi_tokens.specs.declared.fault.TokenFault.{TokenFault}
 use Rattle.edi_tokens.specs.Characters.{is_data, is_special, is_release, is_capital, is_digit, is_line_end}
 use Rattle.edi_tokens.specs.Service.{usual, una_tag, service_of, differs, is_mark, is_decimal, are_right}
-use Rattle.edi_tokens.specs.Spelling.{segment_limit, Each, Behind, Before, SpellsByte, SpellsComponent, SpellsElement, SpellsSegment, SpellsNext, SpellsWhole, LineEnds, IsTag, IsNoAdvice, tags, Advice, Advises, advice_text, counted, without_empty_end}
-use Rattle.edi_tokens.specs.Reading.{Open, Place, Outside, InService, InTag, InData, Released, Reading, start, is_una, adopt, tag_or_service, step, step_data, step_tag, within, run, ◌>>=◌, ended, with_release}
-use Rattle.edi_tokens.specs.Fault.{is_fresh, EndsAt, Ends, EndsOutside, EndsInService, EndsInTag, IsTagFront, SpellsOpen, EndsInData, EndsReleased}
-use Rattle.edi_tokens.proofs.Parts.{Each-push}
+use Rattle.edi_tokens.specs.Spelling.{segment_limit, Each, Behind, Before, SpellsByte, SpellsComponent, SpellsElement, SpellsSegment, SpellsNext, SpellsWhole, LineEnds, IsTag, IsNoAdvice, tags, Advice, Advises, advice_text, without_empty_end}
+use Rattle.edi_tokens.specs.Reading.{Open, Place, Outside, InService, InTag, InData, Released, Reading, start, is_una, adopt, step, run, ◌>>=◌}
+use Rattle.edi_tokens.specs.Fault.{is_fresh, EndsAt, IsTagFront, SpellsOpen, EndsInData, EndsReleased}
 use Rattle.edi_tokens.proofs.Steps.{is_una_true}
 
 -- ---- service characters are apart
@@ -24,7 +23,9 @@ pub record Apart (s : Service) : Type 0 where
 
 usual_apart : Apart usual
 usual_apart = record {
-  element_component = refl; terminator_component = refl; terminator_element = refl;
+  element_component = refl;
+  terminator_component = refl;
+  terminator_element = refl;
   release_apart = λ r e. let same : 63 ≡ r = cc in subst (λ (x : ℕ). (eqb x 58 ≡ false) × (eqb x 43 ≡ false) × (eqb x 39 ≡ false)) same (refl, refl, refl);
 }
 
@@ -58,7 +59,7 @@ service_apart (c ∷ e ∷ d ∷ r ∷ reserved ∷ t ∷ []) s h =
       terminator_component = swap_differs c t (not-true _ c2.0);
       terminator_element = swap_differs e t (not-true _ e1.0);
       release_apart = λ x is. let same = released_by (eqb r 32) r x is in
-        subst (λ (y : ℕ). (eqb y c ≡ false) × (eqb y e ≡ false) × (eqb y t ≡ false)) same (swap_differs c r (not-true _ c3.0), swap_differs e r (not-true _ e2.0), swap_differs t r (not-true _ t1.0));
+          subst (λ (y : ℕ). (eqb y c ≡ false) × (eqb y e ≡ false) × (eqb y t ≡ false)) same (swap_differs c r (not-true _ c3.0), swap_differs e r (not-true _ e2.0), swap_differs t r (not-true _ t1.0));
     } in
     subst Apart made.1 here
 service_apart _ s h = absurd cc
@@ -136,8 +137,8 @@ tag_front_runs (a ∷ b ∷ []) s segments fresh is not_una =
     run_then (first_tag_byte a s segments fresh is.0) (next_tag_byte (a ∷ []) b s segments fresh (omega arith) is.1 (una_false fresh (a ∷ b ∷ []) not_una))
 tag_front_runs (a ∷ b ∷ c ∷ []) s segments fresh is not_una =
     run_then (first_tag_byte a s segments fresh is.0)
-      (run_then (next_tag_byte (a ∷ []) b s segments fresh (omega arith) is.1 (and_right fresh false refl))
-        (next_tag_byte (a ∷ b ∷ []) c s segments fresh (omega arith) is.2 (una_false fresh (a ∷ b ∷ c ∷ []) not_una)))
+    (run_then (next_tag_byte (a ∷ []) b s segments fresh (omega arith) is.1 (and_right fresh false refl))
+    (next_tag_byte (a ∷ b ∷ []) c s segments fresh (omega arith) is.2 (una_false fresh (a ∷ b ∷ c ∷ []) not_una)))
 tag_front_runs (a ∷ b ∷ c ∷ d ∷ others) s segments fresh is not_una = absurd is
 
 -- ---- data
@@ -155,7 +156,6 @@ same_number : (n : ℕ) → eqb n n ≡ true
 same_number n = eq-eqb n n refl
 
 module _ (s : Service) (segments : List Segment) (tag : List ℕ) (elements : List (List (List ℕ))) where
-
   plain_step : (element : List (List ℕ)) (component : List ℕ) (n b : ℕ) → n < segment_limit → is_special s b ≡ false → is_data b ≡ true
       → Goes (in_data s segments tag elements element component n) (b ∷ []) (in_data s segments tag elements element (component ++ b ∷ []) (n + 1))
   plain_step element component n b short plain known = one_step _ b _ (rw (not_full n short, plain, known) refl)
@@ -200,7 +200,7 @@ module _ (s : Service) (segments : List Segment) (tag : List ℕ) (elements : Li
       let none : length text ≡ 0 = ap length spelled in
       let sum : n ≡ n + length text = omega (arith, none) in
       goes_as {xs = []} text _ (record { is = refl }) spelled
-        (ap (λ (c : List ℕ). in_data s segments tag elements element c n) (sym (append-nil component)) ∙ ap (λ (k : ℕ). in_data s segments tag elements element (component ++ []) k) sum)
+      (ap (λ (c : List ℕ). in_data s segments tag elements element c n) (sym (append-nil component)) ∙ ap (λ (k : ℕ). in_data s segments tag elements element (component ++ []) k) sum)
   component_runs element component text (b ∷ more) n apart spelled fits =
       let first = spelled.0 in
       let rest = spelled.1 in
@@ -209,7 +209,7 @@ module _ (s : Service) (segments : List Segment) (tag : List ℕ) (elements : Li
       let others = component_runs element (component ++ b ∷ []) rest more (n + length first) apart spelled.4 (omega (arith, joined, fits)) in
       let sum : (n + length first) + length rest ≡ n + length text = omega (arith, joined) in
       goes_as text _ (run_then one others) spelled.2
-        (ap (λ (k : ℕ). in_data s segments tag elements element ((component ++ b ∷ []) ++ more) k) sum ∙ ap (λ (c : List ℕ). in_data s segments tag elements element c (n + length text)) (append_assoc component (b ∷ []) more))
+      (ap (λ (k : ℕ). in_data s segments tag elements element ((component ++ b ∷ []) ++ more) k) sum ∙ ap (λ (c : List ℕ). in_data s segments tag elements element c (n + length text)) (append_assoc component (b ∷ []) more))
 
   -- closed components
   pub components_run : (element closed : List (List ℕ)) (text : List ℕ) (n : ℕ) → Apart s → Each (Before s.component (SpellsComponent s)) text closed → n + length text ≤ segment_limit
@@ -218,7 +218,7 @@ module _ (s : Service) (segments : List Segment) (tag : List ℕ) (elements : Li
       let none : length text ≡ 0 = ap length spelled in
       let sum : n ≡ n + length text = omega (arith, none) in
       goes_as {xs = []} text _ (record { is = refl }) spelled
-        (ap (λ (c : List (List ℕ)). in_data s segments tag elements c [] n) (sym (append-nil element)) ∙ ap (λ (k : ℕ). in_data s segments tag elements (element ++ []) [] k) sum)
+      (ap (λ (c : List (List ℕ)). in_data s segments tag elements c [] n) (sym (append-nil element)) ∙ ap (λ (k : ℕ). in_data s segments tag elements (element ++ []) [] k) sum)
   components_run element (c ∷ closed) text n apart spelled fits =
       let first = spelled.0 in
       let rest = spelled.1 in
@@ -231,7 +231,7 @@ module _ (s : Service) (segments : List Segment) (tag : List ℕ) (elements : Li
       let others = components_run (element ++ c ∷ []) closed rest ((n + length front) + 1) apart spelled.4 (omega (arith, joined, one_more, fits)) in
       let sum : ((n + length front) + 1) + length rest ≡ n + length text = omega (arith, joined, one_more) in
       goes_as text _ (run_then closes others) spelled.2
-        (ap (λ (k : ℕ). in_data s segments tag elements ((element ++ c ∷ []) ++ closed) [] k) sum ∙ ap (λ (x : List (List ℕ)). in_data s segments tag elements x [] (n + length text)) (append_assoc element (c ∷ []) closed))
+      (ap (λ (k : ℕ). in_data s segments tag elements ((element ++ c ∷ []) ++ closed) [] k) sum ∙ ap (λ (x : List (List ℕ)). in_data s segments tag elements x [] (n + length text)) (append_assoc element (c ∷ []) closed))
 
 -- ---- elements
 
@@ -311,7 +311,7 @@ elements_run s segments tag (w ∷ written) elements text n r apart ready spelle
       reading = others.reading;
       goes = goes_as text others.reading (run_then begins others.goes) spelled.2 refl;
       ready = subst (λ (k : ℕ). Ready others.reading s segments tag (elements ++ map without_empty_end (w ∷ written)) k) sum
-        (subst (λ (x : List (List (List ℕ))). Ready others.reading s segments tag x (((n + 1) + length inner) + length rest)) (append_assoc elements (without_empty_end w ∷ []) (map without_empty_end written)) others.ready);
+          (subst (λ (x : List (List (List ℕ))). Ready others.reading s segments tag x (((n + 1) + length inner) + length rest)) (append_assoc elements (without_empty_end w ∷ []) (map without_empty_end written)) others.ready);
     }
 
 -- ---- segments
@@ -331,7 +331,7 @@ segment_runs s segments fresh text x apart e not_una =
     let body_part = elements_run s segments x.tag e.written [] e.body 3 (in_tag s segments fresh x.tag) apart (tag_is_ready s segments fresh x.tag apart e.tag_is) e.body_spells (omega (arith, joined, e.is_short)) in
     let end_part = body_part.ready.ends (omega (arith, joined, e.is_short)) in
     goes_as text _ (run_then (run_then tag_part body_part.goes) end_part) e.text_is
-      (ap (λ (y : List (List (List ℕ))). outside s (segments ++ record { tag = x.tag; elements = y } ∷ []) false) (sym e.elements_are))
+    (ap (λ (y : List (List (List ℕ))). outside s (segments ++ record { tag = x.tag; elements = y } ∷ []) false) (sym e.elements_are))
 
 abbrev still : Bool → List Segment → Bool
 still fresh [] = fresh
@@ -372,7 +372,7 @@ six_end : (six : List ℕ) (s : Service) → service_of six ≡ Some s → Goes 
 six_end (c ∷ e ∷ d ∷ r ∷ reserved ∷ t ∷ []) s h =
     let five = six_go_on [] (c ∷ e ∷ d ∷ r ∷ reserved ∷ []) (omega arith) in
     let last : Goes (in_service (c ∷ e ∷ d ∷ r ∷ reserved ∷ [])) (t ∷ []) (outside s [] false) =
-      one_step _ t _ (ap (λ (o : Option Service). adopt (in_service (c ∷ e ∷ d ∷ r ∷ reserved ∷ [])) o) h) in
+    one_step _ t _ (ap (λ (o : Option Service). adopt (in_service (c ∷ e ∷ d ∷ r ∷ reserved ∷ [])) o) h) in
     run_then five last
 six_end _ s h = absurd cc
 
@@ -430,7 +430,7 @@ open_runs s segments fresh text o apart not_una e =
     let sum : (n + length e.front) + length e.back ≡ o.length = omega (arith, joined, inner_sum, e.length_is) in
     let regrouped : text ≡ (o.tag ++ e.closed) ++ (s.element ∷ [] ++ inner) = e.text_is in
     goes_as text (record { service = s; segments = segments; place = InData o }) (run_then (run_then tag_part closed_part.goes) (run_then opens (run_then fronts backs))) regrouped
-      (ap (λ (k : ℕ). in_data s segments o.tag (map without_empty_end e.written) o.element o.component k) sum ∙ ap (λ (x : List (List (List ℕ))). in_data s segments o.tag x o.element o.component o.length) (sym e.elements_are))
+    (ap (λ (k : ℕ). in_data s segments o.tag (map without_empty_end e.written) o.element o.component k) sum ∙ ap (λ (x : List (List (List ℕ))). in_data s segments o.tag x o.element o.component o.length) (sym e.elements_are))
 
 data_runs : (text : List ℕ) (s : Service) (segments : List Segment) (o : Open) → EndsInData text s segments o → Goes start text (record { service = s; segments = segments; place = InData o })
 data_runs text s segments o e =

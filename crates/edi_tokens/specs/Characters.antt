@@ -1,5 +1,5 @@
 -- The characters of a text (ISO 9735 section 5, character sets UNOA to UNOC).
-use Rattle.std.specs.Prelude.{ℕ, Bool, false, ◌==◌, nat_le, ◌&&◌, ◌||◌, not, Option, Some, None}
+use Rattle.std.specs.Prelude.{ℕ, Bool, false, ◌==◌, nat_le, ◌&&◌, ◌||◌, Option, Some, None}
 use Rattle.edi_tokens.specs.declared.segment.Service.{Service}
 
 -- a byte of data: 0x20 to 0x7E, and 0xA0 to 0xFF

@@ -1,7 +1,5 @@
 -- What has come of a text, as a reader keeps it.
-use Rattle.std.specs.Prelude.{ℕ, Bool, true, ◌&&◌, not, List, take}
-use Rattle.std.specs.List.{list_all}
-use Rattle.edi_tokens.specs.declared.segment.Service.{Service}
+use Rattle.std.specs.Prelude.{take}
 use Rattle.edi_tokens.specs.declared.reader.Reader.{Reader}
 use Rattle.edi_tokens.specs.declared.reader.Place as code
 use Rattle.edi_tokens.specs.declared.reader.Place.TheVariants as at

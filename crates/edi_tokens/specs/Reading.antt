@@ -1,13 +1,12 @@
 -- What any bytes are read as: the segments, or the fault that the earliest byte shows.
 use Rattle.std.specs.Prelude.{◌≡◌, ℕ, ◌+◌, Bool, true, false, ◌==◌, nat_lt, ◌&&◌, ◌||◌, List, [], ◌∷◌, ◌++◌, length, take, Option, Some, None, Result, Ok, Err, if◌then◌else◌}
-use Rattle.std.specs.List.{list_all}
 use Rattle.edi_tokens.specs.declared.segment.Service.{Service}
 use Rattle.edi_tokens.specs.declared.segment.Segment.{Segment}
 use Rattle.edi_tokens.specs.declared.segment.Tokens.{Tokens}
 use Rattle.edi_tokens.specs.declared.fault.TokenFault.{TokenFault}
-use Rattle.edi_tokens.specs.declared.fault.TokenFault.TheVariants.{TooLong, ServiceString, Byte, Cut, Tag, LongSegment, Read, Memory}
-use Rattle.edi_tokens.specs.Characters.{is_data, is_special, is_capital, is_digit, is_line_end, is_release}
-use Rattle.edi_tokens.specs.Service.{usual, una_tag, service_of}
+use Rattle.edi_tokens.specs.declared.fault.TokenFault.TheVariants.{TooLong, ServiceString, Byte, Cut, Tag, LongSegment, Memory}
+use Rattle.edi_tokens.specs.Characters.{is_data, is_special, is_capital, is_digit, is_line_end}
+use Rattle.edi_tokens.specs.Service.{usual, service_of}
 use Rattle.edi_tokens.specs.Spelling.{text_limit, segment_limit, without_empty_end}
 
 -- what has come of a segment after its tag: the elements that are closed, the closed components of the open

@@ -1,5 +1,5 @@
 -- The service characters of a text, and the service string advice UNA (ISO 9735 section 7.1).
-use Rattle.std.specs.Prelude.{ℕ, Bool, true, false, ◌==◌, ◌&&◌, ◌||◌, not, nat_le, List, [], ◌∷◌, Option, Some, None, if◌then◌else◌}
+use Rattle.std.specs.Prelude.{ℕ, Bool, true, ◌==◌, ◌&&◌, ◌||◌, not, nat_le, List, [], ◌∷◌, Option, Some, None, if◌then◌else◌}
 use Rattle.edi_tokens.specs.declared.segment.Service.{Service}
 use Rattle.edi_tokens.specs.Characters.{is_capital, is_small, is_digit}
 
@@ -36,9 +36,11 @@ abbrev pub service_of : List ℕ → Option Service
 service_of (component ∷ element ∷ decimal ∷ release ∷ reserved ∷ terminator ∷ []) =
     if are_right component element decimal release reserved terminator
     then Some (record {
-      component = component; element = element; decimal = decimal;
+      component = component;
+      element = element;
+      decimal = decimal;
       release = if release == 32 then None else Some release;
-      terminator = terminator
+      terminator = terminator;
     })
     else None
 service_of _ = None

@@ -15,8 +15,7 @@ ghost use Rattle.edi_tokens.specs.Text.{text, una, segment_text, with_decimal};
 pub fn text_spells_one_list()
     ensures { (bytes : List ℕ) (s t : Service) (xs ys : List Segment) →
         Spells bytes s xs → Spells bytes t ys → (s ≡ t) × (xs ≡ ys) }
-{
-}
+{}
 
 /// A text spells segments or shows a fault, and never both; the fault that it shows is one.
 pub fn text_spells_or_shows_a_fault()
@@ -26,8 +25,7 @@ pub fn text_spells_or_shows_a_fault()
         Spells bytes s xs → ¬ Shows bytes fault }
     ensures one_fault { (bytes : List ℕ) (fault other : TokenFault) →
         Shows bytes fault → Shows bytes other → fault ≡ other }
-{
-}
+{}
 
 /// What is read of a text is what it spells, or the fault that it shows.
 pub fn reading_is_the_grammar()
@@ -35,8 +33,7 @@ pub fn reading_is_the_grammar()
         Spells bytes s xs ↔ (tokens_of bytes ≡ Ok (record { service = s; segments = xs })) }
     ensures shown { (bytes : List ℕ) (fault : TokenFault) →
         Shows bytes fault ↔ (tokens_of bytes ≡ Err fault) }
-{
-}
+{}
 
 /// The canonical text of segments that some text spells, behind a service string, spells them again,
 /// where it keeps within the longest text and the longest segment.
@@ -46,5 +43,4 @@ pub fn canonical_text_spells_again()
         AllByRecursion (λ x. length (segment_text x) ≤ segment_limit) xs →
         length (una decimal ++ text xs) ≤ text_limit →
         Spells (una decimal ++ text xs) (with_decimal decimal) xs }
-{
-}
+{}

@@ -26,3 +26,6 @@ pub use segment::{Elements, Segment, Service, Tokens};
 pub use sink::{OfWrite, Sink, WriteFault, write_bytes};
 pub use source::{OfRead, ReadFault, Source, read_to_limit};
 pub use text::{MemoryFault, append_text, body_text, write_text};
+
+#[cfg(test)]
+mod tests;

@@ -8,10 +8,9 @@ ghost use Rattle.edi_tokens.specs.Sink.{write_failed};
 
 use crate::buffer::write_whole;
 use std::error::Error;
-use std::fmt;
-use std::io;
 use std::io::Write;
 use std::marker::Model;
+use std::{fmt, io};
 
 /// A writer that knows whether a write failed.
 pub trait Sink {
@@ -89,9 +88,10 @@ impl<W: Write> Sink for OfWrite<W> {
     ghost failed = { λ w. w.1 };
 
     fn write(&mut self, bytes: &[u8]) -> io::Result<usize> {
-        let result = self.writer.write(bytes);
-        self.failed = match &result {
-            Ok(count) => self.failed || (*count == 0 && !bytes.is_empty()),
+        let OfWrite { writer, failed } = self;
+        let result = writer.write(bytes);
+        *failed = match &result {
+            Ok(count) => *failed || (*count == 0 && !bytes.is_empty()),
             Err(_) => true,
         };
         result

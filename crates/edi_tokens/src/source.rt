@@ -8,10 +8,9 @@ ghost use Rattle.edi_tokens.specs.declared.source.ReadFault.TheVariants.{Memory}
 
 use std::alloc::{AllocError, Global};
 use std::error::Error;
-use std::fmt;
-use std::io;
 use std::io::Read;
 use std::marker::Model;
+use std::{fmt, io};
 
 /// A reader that knows whether a read failed.
 pub trait Source {
@@ -78,8 +77,9 @@ impl<R: Read> Source for OfRead<R> {
     ghost failed = { λ r. r.1 };
 
     fn read(&mut self, buffer: &mut [u8]) -> io::Result<usize> {
-        let result = self.reader.read(buffer);
-        self.failed = self.failed || result.is_err();
+        let OfRead { reader, failed } = self;
+        let result = reader.read(buffer);
+        *failed = *failed || result.is_err();
         result
     }
 }

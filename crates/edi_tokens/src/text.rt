@@ -119,11 +119,7 @@ fn put_all<W: Sink>(out: &mut W, front: &[u8], segments: &[Segment]) -> Result<(
 
 /// Writes the service string `UNA:+.? '`, with this decimal mark, and the canonical text of segments
 /// (ISO 9735, sections 5, 7.1 and 8). It takes no memory. At `WriteFault` a front of the text was written.
-pub fn write_text<W: Sink>(
-    segments: &[Segment],
-    decimal: u8,
-    out: &mut W,
-) -> Result<(), WriteFault>
+pub fn write_text<W: Sink>(segments: &[Segment], decimal: u8, out: &mut W) -> Result<(), WriteFault>
     ensures ok { OnOk result (Appends (W.contents out.old) (W.contents out.new) (una decimal ++ text segments.now)) }
     ensures err { OnErr result (AppendsFront (W.contents out.old) (W.contents out.new) (una decimal ++ text segments.now)) }
 

@@ -1,5 +1,6 @@
 -- What `relay` makes of an interchange: the mail text of each message, in order.
-use Rattle.std.specs.Prelude.{◌≡◌, ℕ, ◌+◌, ◌≤◌, IsTrue, List, [], ◌∷◌, ◌++◌, Result, Ok, Err, All, codes}
+use Rattle.std.specs.Prelude.{◌≡◌, ℕ, ◌+◌, ◌≤◌, nat_le, ◌==◌, ◌&&◌, if◌then◌else◌, Bool, Option, Some, None, length, IsTrue, List, [], ◌∷◌, ◌++◌, Result, Ok, Err, All, codes}
+use Rattle.std.specs.List.{list_all}
 use Rattle.edi_tokens.specs.declared.segment.Tokens.{Tokens}
 use Rattle.edi_tokens.specs.declared.fault.TokenFault.{TokenFault}
 use Rattle.edi_tokens.specs.declared.fault.TokenFault.TheVariants as token
@@ -16,6 +17,16 @@ use Rattle.edi_envelope.specs.Mail.{mail_text}
 use Rattle.hub_app.specs.declared.relay.RelayWords.{RelayWords}
 use Rattle.hub_app.specs.declared.relay.RelayFault.{RelayFault}
 use Rattle.hub_app.specs.declared.relay.RelayFault.TheVariants.{Token, Envelope, Memory}
+
+abbrev pub are_gln_digits : List ℕ → Bool
+are_gln_digits text = length text == 13 && list_all is_digit text
+
+-- the words, where both GLNs are 13 digits and the number is within its limits
+abbrev pub relay_words_of : List ℕ → List ℕ → ℕ → ℕ → Option RelayWords
+relay_words_of hub owner moment number =
+    if (are_gln_digits hub && are_gln_digits owner) && (nat_le 1 number && nat_le number 99_999_999_999_001)
+    then Some (record { hub = hub; owner = owner; moment = moment; number = number })
+    else None
 
 -- GLNs of digits, and a number that leaves room for those of 999 messages
 pub record AreRelayWords (words : RelayWords) : Type 0 where

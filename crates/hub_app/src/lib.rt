@@ -8,3 +8,6 @@ mod words;
 pub use relay::{RelayFault, RelayWords, relay_text};
 pub use run::relay_run;
 pub use words::{Words, read_words};
+
+#[cfg(test)]
+mod tests;

@@ -23,13 +23,30 @@ pub struct RelayWords {
     pub number: u64,
 }
 
-// The 13 digits of a GLN. Its check digit is not looked at.
-fn gln_digits(text: &str) -> Option<[u8; 13]>
-    ensures { IfSome result (λ digits. All (λ digit. IsTrue (is_digit digit)) digits) }
+// Whether a text is digits alone.
+fn are_digits(text: &[u8]) -> bool
+    ensures value { result ≡ list_all is_digit text.now }
+    ensures digits { IsTrue result → All (λ digit. IsTrue (is_digit digit)) text.now }
 {
-    let digits = *text.as_bytes().as_array::<13>()?;
-    if digits.iter().all(|digit| digit.is_ascii_digit()) {
-        Some(digits)
+    text.iter().all(|digit| digit.is_ascii_digit())
+}
+
+// Whether a text is 13 digits. The check digit is not looked at.
+fn are_gln_digits(text: &[u8]) -> bool
+    ensures value { result ≡ are_gln_digits text.now }
+    ensures digits { IsTrue result → All (λ digit. IsTrue (is_digit digit)) text.now }
+{
+    text.len() == 13 && are_digits(text)
+}
+
+// The 13 digits of a GLN.
+fn gln_digits(text: &str) -> Option<[u8; 13]>
+    ensures value { SomeIff result (IsTrue (are_gln_digits text.now)) text.now }
+    ensures digits { IfSome result (λ digits. All (λ digit. IsTrue (is_digit digit)) digits) }
+{
+    let digits = text.as_bytes();
+    if are_gln_digits(digits) {
+        digits.as_array::<13>().copied()
     } else {
         None
     }
@@ -41,7 +58,8 @@ impl RelayWords {
 
     /// The words, where both GLNs are 13 digits and the number is within its limits.
     pub fn new(hub: &str, owner: &str, moment: Moment, number: u64) -> Option<RelayWords>
-        ensures { IfSome result AreRelayWords }
+        ensures value { result ≡ relay_words_of hub.now owner.now moment number }
+        ensures limits { IfSome result AreRelayWords }
     {
         let hub = gln_digits(hub)?;
         let owner = gln_digits(owner)?;
@@ -130,7 +148,9 @@ impl From<AllocError> for RelayFault {
     }
 }
 
-ghost use Rattle.hub_app.specs.Relay.{AreRelayWords, Relays, relayed, mail_texts};
+ghost use Rattle.std.specs.List.{list_all};
+ghost use Rattle.std.specs.Option.{SomeIff};
+ghost use Rattle.hub_app.specs.Relay.{AreRelayWords, Relays, relayed, mail_texts, are_gln_digits, relay_words_of};
 
 // Appends the mail text of a message.
 fn append_mail(
@@ -146,7 +166,14 @@ fn append_mail(
     requires number { (1 ≤ number) × (number ≤ 99_999_999_999_999) }
     ensures { OnOk result (out.new.items ≡ out.old.items ++ mail_text words.now.hub words.now.owner words.now.moment decimal number message.now) }
 {
-    let segments = wrap(alloc, &words.hub, &words.owner, words.moment, number, message)?;
+    let segments = wrap(
+        alloc,
+        &words.hub,
+        &words.owner,
+        words.moment,
+        number,
+        message,
+    )?;
     out.extend_from_slice(&[b'U', b'N', b'A', b':', b'+', decimal, b'?', b' ', b'\''])?;
     append_text(out, segments.as_slice())
 }
@@ -179,6 +206,11 @@ pub fn relay_text(alloc: Global, text: &[u8], words: &RelayWords) -> Result<Vec<
 {
     let tokens = read_all(alloc, text)?;
     let interchange = open(alloc, tokens)?;
-    let out = mails(alloc, words, interchange.decimal, interchange.messages.as_slice())?;
+    let out = mails(
+        alloc,
+        words,
+        interchange.decimal,
+        interchange.messages.as_slice(),
+    )?;
     Ok(out)
 }

@@ -16,7 +16,9 @@ const READ_LIMIT: usize = 1_048_577;
 
 /// The exit statuses of the program: done, refused, and a failed read or write or want of memory.
 const DONE: u8 = 0;
+
 const REFUSED: u8 = 1;
+
 const FAILED: u8 = 3;
 
 // Writes the line that a refusal prints.
@@ -65,10 +67,10 @@ pub fn relay_run<R: Source, W: Sink, E: Sink>(
         × Tells (E.contents err.old) (E.contents err.new) (E.failed err.new) (refusal fault) }
     ensures failed { result ≡ 3 →
         (Tells (E.contents err.old) (E.contents err.new) (E.failed err.new) (codes "file\n")
-            × (((R.failed input.new ≡ true) × Keeps (W.contents out.old) (W.contents out.new))
-                ⊎ ((W.failed out.new ≡ true) × DeliversFront (R.remaining input.old) words.now (W.contents out.old) (W.contents out.new))))
+        × (((R.failed input.new ≡ true) × Keeps (W.contents out.old) (W.contents out.new))
+        ⊎ ((W.failed out.new ≡ true) × DeliversFront (R.remaining input.old) words.now (W.contents out.old) (W.contents out.new))))
         ⊎ (Tells (E.contents err.old) (E.contents err.new) (E.failed err.new) (codes "memory\n")
-            × Keeps (W.contents out.old) (W.contents out.new)) }
+        × Keeps (W.contents out.old) (W.contents out.new)) }
 {
     let text = match read_to_limit(alloc, input, READ_LIMIT) {
         Ok(text) => text,

@@ -33,7 +33,8 @@ const RELAY: &str =
 const RELAY_LIMITS: &str =
     "a GLN has 13 digits, --moment is 0 to 4102444799, and --number is 1 to 99999999999001";
 
-const STATUS: &str = "Exit status: 0 done; 1 refused, the code stands on standard error; 2 wrong words; 3 a failed read or write, or want of memory";
+const STATUS: &str =
+    "Exit status: 0 done; 1 refused, the code stands on standard error; 2 wrong words; 3 a failed read or write, or want of memory";
 
 fn relay_command<'a>(alloc: Global) -> Result<Command<'a>, AllocError> {
     Command::new(alloc, "relay")
@@ -41,8 +42,18 @@ fn relay_command<'a>(alloc: Global) -> Result<Command<'a>, AllocError> {
         .after_help(STATUS)
         .arg(option(alloc, "hub", "GLN", "GLN of the hub, 13 digits"))?
         .arg(option(alloc, "owner", "GLN", "GLN of the supplier, 13 digits"))?
-        .arg(option(alloc, "moment", "SECONDS", "Moment of the mail, in seconds since 1970 began at UTC, at most 4102444799"))?
-        .arg(option(alloc, "number", "N", "Number of the first mail text, 1 to 99999999999001"))
+        .arg(option(
+            alloc,
+            "moment",
+            "SECONDS",
+            "Moment of the mail, in seconds since 1970 began at UTC, at most 4102444799",
+        ))?
+        .arg(option(
+            alloc,
+            "number",
+            "N",
+            "Number of the first mail text, 1 to 99999999999001",
+        ))
 }
 
 fn program<'a>(alloc: Global) -> Result<Command<'a>, AllocError> {
@@ -60,7 +71,11 @@ fn are_digits(text: &str, least: usize, most: usize) -> bool {
 
 // A number of 1 to 14 digits.
 fn number(text: &str) -> Option<u64> {
-    if are_digits(text, 1, 14) { text.parse().ok() } else { None }
+    if are_digits(text, 1, 14) {
+        text.parse().ok()
+    } else {
+        None
+    }
 }
 
 // The options of `relay`, where each is within its limits.

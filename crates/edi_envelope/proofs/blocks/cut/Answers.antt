@@ -1,7 +1,7 @@
 use Rattle.std.proofs.Common.{◌≡◌, false, sym, ap, ◌∙◌, take, drop, reverse, ◌++◌, ◌∷◌, []}
 use Rattle.std.specs.List.{list_any}
 use Rattle.edi_envelope.specs.Segments.{is_unh}
-use Rattle.edi_envelope.specs.Blocks.{before_message, blocks, IsLastHeader}
+use Rattle.edi_envelope.specs.Blocks.{before_message, IsLastHeader}
 use Rattle.edi_envelope.proofs.BlockLemmas.{before_message-none, blocks-none, before_message-cut, blocks-push}
 use Rattle.edi_envelope.proofs.blocks.cut.Goals as goal
 
@@ -12,7 +12,7 @@ loop-place-preserved c =
     let last : IsLastHeader xs place = rw c.as_slice.ensures.value at c.in-Some.ensures in
     let front : c.split_off.new.self.items ≡ take place xs = c.in_ok-split_off.ensures.items in
     let more : c.push.new.self.items ≡ c.loop-place.blocks.items ++ drop place xs ∷ [] =
-      c.in_ok-push.ensures.items ∙ ap (λ block. c.loop-place.blocks.items ++ block ∷ []) (c.from_vec.ensures ∙ c.in_ok-split_off.ensures.tail) in
+    c.in_ok-push.ensures.items ∙ ap (λ block. c.loop-place.blocks.items ++ block ∷ []) (c.from_vec.ensures ∙ c.in_ok-split_off.ensures.tail) in
     record {
       before = ap before_message front ∙ before_message-cut xs place last ∙ c.loop-place.invariant.before;
       cut = rw (front, more) (blocks-push xs place c.loop-place.blocks.items last ∙ c.loop-place.invariant.cut);

@@ -5,7 +5,7 @@ use Rattle.edi_envelope.proofs.blocks.cut.Given as goal
 abbrev pub invariant-loop-place : goal.invariant-loop-place
 invariant-loop-place l = record {
   before : before_message l.rest.items ≡ before_message l.fn.segments.items;
-  cut : blocks l.rest.items ++ reverse l.blocks.items ≡ blocks l.fn.segments.items
+  cut : blocks l.rest.items ++ reverse l.blocks.items ≡ blocks l.fn.segments.items;
 }
 
 abbrev pub decreases-loop-place : goal.decreases-loop-place

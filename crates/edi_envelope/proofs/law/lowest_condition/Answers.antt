@@ -9,5 +9,6 @@ returns-clause-fault c = fault_law
 
 pub returns-clause-interchange : goal.returns-clause-interchange
 returns-clause-interchange c = λ tokens i. (
-    (λ h. let both = contents_law tokens i h in (both.0, subst (IsInterchange tokens) (sym both.1) (IsInterchange-contents tokens both.0))),
-    (λ h. contents_again tokens i h.0 (contents-from_IsInterchange tokens i h.1)))
+  (λ h. let both = contents_law tokens i h in (both.0, subst (IsInterchange tokens) (sym both.1) (IsInterchange-contents tokens both.0))),
+  (λ h. contents_again tokens i h.0 (contents-from_IsInterchange tokens i h.1)),
+)

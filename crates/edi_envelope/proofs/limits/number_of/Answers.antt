@@ -1,4 +1,4 @@
-use Rattle.std.proofs.Common.{◌≡◌, ◌<◌, ◌≤◌, ◌^◌, ◌*◌, ◌+◌, ◌-◌, ◌∙◌, sym, get_or, arith, length}
+use Rattle.std.proofs.Common.{◌*◌, ◌+◌, ◌-◌, sym, get_or, arith}
 use Rattle.std.proofs.lemmas.List.Sums.{fold_more}
 use Rattle.edi_envelope.proofs.LimitLemmas.{count_length, count_digit, ten_times, six_digits}
 use Rattle.edi_envelope.proofs.limits.number_of.Goals as goal

@@ -9,5 +9,5 @@ use Rattle.edi_envelope.proofs.message.has_twice.Given as goal
 abbrev pub invariant-loop-block : goal.invariant-loop-block
 invariant-loop-block l = record {
   once : has_twice (map reference_of (take l.block-index l.blocks)) ≡ false;
-  seen : (q : List ℕ) → is_seen q l.seen.keys ≡ list_any (bytes_eq q) (map reference_of (take l.block-index l.blocks))
+  seen : (q : List ℕ) → is_seen q l.seen.keys ≡ list_any (bytes_eq q) (map reference_of (take l.block-index l.blocks));
 }

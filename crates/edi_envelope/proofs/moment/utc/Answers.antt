@@ -1,4 +1,4 @@
-use Rattle.std.proofs.Common.{◌≡◌, ◌≤◌, arith, pos, ◌*ℤ◌, to_z, w64, ◌∙◌}
+use Rattle.std.proofs.Common.{◌≡◌, ◌≤◌, arith, pos, ◌*ℤ◌, to_z, w64}
 use Rattle.std.proofs.lemmas.Int.{ints}
 use Rattle.jiff.specs.Words.{civil_nanos}
 use Rattle.jiff.proofs.SpanFacts.{signed_arith}

@@ -1,7 +1,7 @@
-use Rattle.std.proofs.Common.{◌≡◌, true, false, Some, None, Ok, sym, ap, ◌∙◌}
+use Rattle.std.proofs.Common.{sym, ap, ◌∙◌}
 use Rattle.edi_envelope.specs.Segments.{first_segment}
 use Rattle.edi_envelope.specs.Header.{is_header}
-use Rattle.edi_envelope.specs.Interchange.{is_framed, is_outside_set, interchange_of}
+use Rattle.edi_envelope.specs.Interchange.{is_framed, is_outside_set}
 use Rattle.edi_envelope.specs.Parts.{IsTakenApart, fault_of_parts}
 use Rattle.edi_envelope.proofs.OpenLemmas.{interchange_of-frame, interchange_of-header, interchange_of-later, interchange_of-contents}
 use Rattle.edi_envelope.proofs.LawLemmas.{few_messages}

@@ -1,5 +1,4 @@
-use Rattle.std.proofs.Common.{◌≡◌, ℕ, ◌-◌, ◌<◌, ◌≤◌, length, take, get_or, Some, sym, ap, ◌∙◌, [], ◌∷◌, ◌++◌, arith, vec_len, drop}
-use Rattle.edi_tokens.specs.declared.segment.Segment.{Segment}
+use Rattle.std.proofs.Common.{◌≡◌, ◌-◌, ◌<◌, length, take, get_or, Some, sym, ap, ◌∙◌, ◌∷◌, arith, vec_len, drop}
 use Rattle.edi_envelope.specs.Segments.{no_segment, first_segment, last_segment, between}
 use Rattle.edi_envelope.specs.Blocks.{before_message, blocks}
 use Rattle.edi_envelope.proofs.FrameLemmas.{framed_length, framed_before, framed_blocks}
@@ -15,7 +14,7 @@ remove-unb-requires c =
     let xs = c.args.segments.items in
     let len : vec_len c.args.segments ≡ length xs = omega arith in
     let before : c.in_ok-before.before.items ≡ first_segment xs ∷ before_message (between xs) =
-      c.in_ok-before.ensures.before ∙ ap before_message (c.pop.ensures.rest ∙ ap (λ n. take (n - 1) xs) len) ∙ framed_before xs c.requires in
+    c.in_ok-before.ensures.before ∙ ap before_message (c.pop.ensures.rest ∙ ap (λ n. take (n - 1) xs) len) ∙ framed_before xs c.requires in
     let some : 0 < length c.in_ok-before.before.items = rw before (omega arith) in
     omega arith
 
@@ -26,9 +25,9 @@ returns c =
     let len : vec_len c.args.segments ≡ length xs = omega arith in
     let rest : c.pop.new.self.items ≡ take (length xs - 1) xs = c.pop.ensures.rest ∙ ap (λ n. take (n - 1) xs) len in
     let before : c.in_ok-before.before.items ≡ first_segment xs ∷ before_message (between xs) =
-      c.in_ok-before.ensures.before ∙ ap before_message rest ∙ framed_before xs c.requires in
+    c.in_ok-before.ensures.before ∙ ap before_message rest ∙ framed_before xs c.requires in
     let last : Some c.unwrap-unz.result ≡ Some (last_segment xs) =
-      sym c.unwrap-unz.ensures ∙ c.pop.ensures.value no_segment (omega arith) ∙ ap (λ n. Some (get_or xs (n - 1) no_segment)) len in
+    sym c.unwrap-unz.ensures ∙ c.pop.ensures.value no_segment (omega arith) ∙ ap (λ n. Some (get_or xs (n - 1) no_segment)) len in
     record {
       unb = c.remove-unb.ensures.value ∙ ap (λ segments. get_or segments 0 c.remove-unb.result) before;
       before = c.remove-unb.ensures.items ∙ ap (λ segments. drop 1 segments) before;

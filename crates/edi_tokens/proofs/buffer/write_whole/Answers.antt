@@ -1,4 +1,4 @@
-use Rattle.std.proofs.Common.{arith, rules}
+use Rattle.std.proofs.Common.{arith}
 use Rattle.edi_tokens.proofs.Going.{goes_written}
 use Rattle.edi_tokens.proofs.buffer.write_whole.Goals as goal
 

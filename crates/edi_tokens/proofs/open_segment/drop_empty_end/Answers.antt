@@ -1,4 +1,4 @@
-use Rattle.std.proofs.Common.{◌≡◌, ℕ, ◌<◌, ◌-◌, ◌∙◌, sym, ap, length, take, get_or, arith}
+use Rattle.std.proofs.Common.{◌≡◌, ℕ, ◌<◌, ◌-◌, ◌∙◌, sym, ap, length, take, arith}
 use Rattle.std.specs.Vec.{vec_len}
 use Rattle.edi_tokens.proofs.EmptyEnd.{popped, kept}
 use Rattle.edi_tokens.proofs.open_segment.drop_empty_end.Goals as goal

@@ -1,4 +1,4 @@
-use Rattle.std.proofs.Common.{Result, sym, subst}
+use Rattle.std.proofs.Common.{Result, subst}
 use Rattle.edi_tokens.specs.declared.segment.Tokens.{Tokens}
 use Rattle.edi_tokens.specs.declared.fault.TokenFault.{TokenFault}
 use Rattle.edi_tokens.specs.Reading.{Answers}

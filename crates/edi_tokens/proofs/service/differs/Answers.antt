@@ -1,4 +1,4 @@
-use Rattle.std.proofs.Common.{ap, sym, ◌∙◌}
+use Rattle.std.proofs.Common.{ap, ◌∙◌}
 use Rattle.std.specs.Prelude.{not}
 use Rattle.edi_tokens.proofs.Differs.{not_list_any}
 use Rattle.edi_tokens.proofs.service.differs.Goals as goal

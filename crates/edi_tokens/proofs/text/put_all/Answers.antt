@@ -1,4 +1,4 @@
-use Rattle.std.proofs.Common.{◌≡◌, ℕ, List, [], ◌++◌, sym}
+use Rattle.std.proofs.Common.{[], ◌++◌, sym}
 use Rattle.std.proofs.lemmas.List.{append-nil}
 use Rattle.edi_tokens.specs.Buffer.{Goes}
 use Rattle.edi_tokens.specs.Text.{text}

@@ -1,4 +1,4 @@
-use Rattle.std.proofs.Common.{◌≡◌, ◌∷◌, ◌++◌, drop}
+use Rattle.std.proofs.Common.{◌≡◌, ◌∷◌, drop}
 use Rattle.std.specs.List.{flat_map}
 use Rattle.edi_tokens.specs.Text.{component_text, element_text}
 use Rattle.edi_tokens.specs.Buffer.{Goes}

@@ -1,4 +1,4 @@
-use Rattle.std.proofs.Common.{◌≡◌, ℕ, List, sym, ap, subst, ◌∙◌, inl, inr, refl}
+use Rattle.std.proofs.Common.{ℕ, List, sym, subst, ◌∙◌, inl, inr}
 use Rattle.std.specs.Io.KnownBytes.{Appends}
 use Rattle.std.proofs.KnownBytes.{Keeps-refl}
 use Rattle.edi_tokens.specs.Buffer.{AppendsFront}
@@ -11,9 +11,11 @@ returns-then-is_ok-clause-done g c = λ _.
     let old = g.W.Sink.contents c.args.out.now in
     let new = g.W.Sink.contents c.write_bytes.new.out in
     let written = at_ok c.write_bytes.result c.write_bytes.ensures.ok (sym c.is_ok.ensures.value ∙ c.if-is_ok.true) in
-    let mail = subst (λ (t : List ℕ). Appends old new t) c.as_slice-in-Ok-relay_text.ensures.value written in
-    (is_delivered (g.R.Source.remaining c.args.input.now) c.args.words.now old new c.in-Ok.text.items c.as_slice.result.now c.in-Ok-relay_text.mail.items
-      c.in-Ok.ensures.whole c.as_slice.ensures.value c.in-Ok-relay_text.ensures mail, Keeps-refl (g.E.Sink.contents c.args.err.now))
+    let mail = subst (λ (t : List ℕ). Appends old new t) c.as_slice-in-Ok-relay_text.ensures.value written in (
+      is_delivered (g.R.Source.remaining c.args.input.now) c.args.words.now old new c.in-Ok.text.items c.as_slice.result.now c.in-Ok-relay_text.mail.items
+          c.in-Ok.ensures.whole c.as_slice.ensures.value c.in-Ok-relay_text.ensures mail,
+      Keeps-refl (g.E.Sink.contents c.args.err.now),
+    )
 
 pub returns-in-Ok-relay_text-clause-failed : goal.returns-in-Ok-relay_text-clause-failed
 returns-in-Ok-relay_text-clause-failed g c = λ _.
@@ -23,22 +25,32 @@ returns-in-Ok-relay_text-clause-failed g c = λ _.
     let written = at_err c.write_bytes.result c.write_bytes.ensures.err refused in
     let mail = subst (λ (t : List ℕ). AppendsFront old new t) c.as_slice-in-Ok-relay_text.ensures.value written in
     let up = at_err c.write_bytes.result c.write_bytes.ensures.failed refused in
-    inl (c.tell-in-Ok-relay_text.ensures, inr (up, is_front_delivered (g.R.Source.remaining c.args.input.now) c.args.words.now old new c.in-Ok.text.items c.as_slice.result.now c.in-Ok-relay_text.mail.items
-      c.in-Ok.ensures.whole c.as_slice.ensures.value c.in-Ok-relay_text.ensures mail))
+    inl (
+      c.tell-in-Ok-relay_text.ensures,
+      inr (
+        up,
+        is_front_delivered (g.R.Source.remaining c.args.input.now) c.args.words.now old new c.in-Ok.text.items c.as_slice.result.now c.in-Ok-relay_text.mail.items
+            c.in-Ok.ensures.whole c.as_slice.ensures.value c.in-Ok-relay_text.ensures mail,
+      ),
+    )
 
 pub returns-in-Err-Memory-relay_text-clause-failed : goal.returns-in-Err-Memory-relay_text-clause-failed
 returns-in-Err-Memory-relay_text-clause-failed g c = λ _. inr (c.tell-in-Err-Memory-relay_text.ensures, Keeps-refl (g.W.Sink.contents c.args.out.now))
 
 pub returns-in-Err-Token-clause-refused : goal.returns-in-Err-Token-clause-refused
-returns-in-Err-Token-clause-refused g c = λ _.
-    (Keeps-refl (g.W.Sink.contents c.args.out.now), Token c.in-Err-Token.fault,
-      is_refused (g.R.Source.remaining c.args.input.now) c.args.words.now (Token c.in-Err-Token.fault) c.in-Ok.text.items c.as_slice.result.now
-        c.in-Ok.ensures.whole c.as_slice.ensures.value (rw c.in-Err-Token.field-0-is at c.in-Err-Token.ensures),
-      c.tell_refusal.ensures)
+returns-in-Err-Token-clause-refused g c = λ _. (
+  Keeps-refl (g.W.Sink.contents c.args.out.now),
+  Token c.in-Err-Token.fault,
+  is_refused (g.R.Source.remaining c.args.input.now) c.args.words.now (Token c.in-Err-Token.fault) c.in-Ok.text.items c.as_slice.result.now
+      c.in-Ok.ensures.whole c.as_slice.ensures.value (rw c.in-Err-Token.field-0-is at c.in-Err-Token.ensures),
+  c.tell_refusal.ensures,
+)
 
 pub returns-clause-refused : goal.returns-clause-refused
-returns-clause-refused g c = λ _.
-    (Keeps-refl (g.W.Sink.contents c.args.out.now), Envelope c.in-Err-Envelope.fault,
-      is_refused (g.R.Source.remaining c.args.input.now) c.args.words.now (Envelope c.in-Err-Envelope.fault) c.in-Ok.text.items c.as_slice.result.now
-        c.in-Ok.ensures.whole c.as_slice.ensures.value (rw c.in-Err-Envelope.field-0-is at c.in-Err-Envelope.ensures),
-      c.tell_refusal-in-Err-Envelope.ensures)
+returns-clause-refused g c = λ _. (
+  Keeps-refl (g.W.Sink.contents c.args.out.now),
+  Envelope c.in-Err-Envelope.fault,
+  is_refused (g.R.Source.remaining c.args.input.now) c.args.words.now (Envelope c.in-Err-Envelope.fault) c.in-Ok.text.items c.as_slice.result.now
+      c.in-Ok.ensures.whole c.as_slice.ensures.value (rw c.in-Err-Envelope.field-0-is at c.in-Err-Envelope.ensures),
+  c.tell_refusal-in-Err-Envelope.ensures,
+)

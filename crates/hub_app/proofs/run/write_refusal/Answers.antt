@@ -1,4 +1,4 @@
-use Rattle.std.proofs.Common.{◌≡◌, ℕ, List, [], ◌∷◌, ◌++◌, ap, ◌∙◌, subst}
+use Rattle.std.proofs.Common.{◌≡◌, ℕ, List, ◌++◌, ◌∙◌, subst}
 use Rattle.std.specs.Prelude.{codes}
 use Rattle.std.specs.Io.KnownBytes.{Appends}
 use Rattle.std.proofs.lemmas.Result.{on_err_weaker}
@@ -16,8 +16,8 @@ returns-in_err-write_bytes-2-clause-err g c =
     let code : c.as_bytes.result.now ≡ code_of c.args.fault = c.as_bytes.ensures.value ∙ c.code.ensures in
     let middle = subst (λ (t : List ℕ). AppendsFront (g.E.Sink.contents c.write_bytes.new.out) (g.E.Sink.contents c.write_bytes-2.new.out) t) code c.in_err-write_bytes-2.ensures.err in
     on_err c.from_residual-in_err-write_bytes-2.result
-      (front_of_second (g.E.Sink.contents c.args.err.now) (g.E.Sink.contents c.write_bytes.new.out) (g.E.Sink.contents c.write_bytes-2.new.out) (codes "refused ") (code_of c.args.fault ++ codes "\n") c.in_ok-write_bytes.ensures.ok
-        (front_of_first (g.E.Sink.contents c.write_bytes.new.out) (g.E.Sink.contents c.write_bytes-2.new.out) (code_of c.args.fault) (codes "\n") middle))
+    (front_of_second (g.E.Sink.contents c.args.err.now) (g.E.Sink.contents c.write_bytes.new.out) (g.E.Sink.contents c.write_bytes-2.new.out) (codes "refused ") (code_of c.args.fault ++ codes "\n") c.in_ok-write_bytes.ensures.ok
+    (front_of_first (g.E.Sink.contents c.write_bytes.new.out) (g.E.Sink.contents c.write_bytes-2.new.out) (code_of c.args.fault) (codes "\n") middle))
 
 pub returns-clause-err : goal.returns-clause-err
 returns-clause-err g c =
@@ -28,6 +28,6 @@ returns-clause-err g c =
     let code : c.as_bytes.result.now ≡ code_of c.args.fault = c.as_bytes.ensures.value ∙ c.code.ensures in
     let middle = subst (λ (t : List ℕ). Appends first second t) code c.in_ok-write_bytes-2.ensures.ok in
     on_err_weaker c.write_bytes-3.result
-      (λ front. front_of_second start first third (codes "refused ") (code_of c.args.fault ++ codes "\n") c.in_ok-write_bytes.ensures.ok
-        (front_of_second first second third (code_of c.args.fault) (codes "\n") middle front))
-      c.write_bytes-3.ensures.err
+    (λ front. front_of_second start first third (codes "refused ") (code_of c.args.fault ++ codes "\n") c.in_ok-write_bytes.ensures.ok
+    (front_of_second first second third (code_of c.args.fault) (codes "\n") middle front))
+    c.write_bytes-3.ensures.err
