@@ -120,8 +120,31 @@ RELAY = [
     refused("an empty text", "", "E06"),
     refused("a wrong segment count", ORDERS.replace("UNT+10", "UNT+9"), "E12"),
     refused("a wrong segment count and a wrong control reference", ORDERS.replace("UNT+10", "UNT+9").replace("UNZ+1+1001", "UNZ+1+1009"), "E12"),
+    relayed("999 messages", messages(999), mails(999)),
+    refused("1,000 messages", messages(1000), "E18"),
+    refused("a segment before UNB", ORDERS.replace("UNB+", "ABC+x'UNB+"), "E06"),
+    refused("an unknown syntax identifier", ORDERS.replace("UNOC", "UNOD"), "E07"),
+    refused("a qualifier other than 14", ORDERS.replace("5412345000013:14", "5412345000013:9"), "E07"),
+    refused("a test indicator other than 1", ORDERS.replace("+1001'UNH", "+1001++++++2'UNH"), "E07"),
+    refused("a segment between messages", ORDERS.replace("UNZ+1", "ABC+x'UNZ+1"), "E10"),
+    refused("a group", ORDERS.replace("UNH+1", "UNG+x'UNH+1"), "E10"),
+    refused("a message type of seven bytes", ORDERS.replace("ORDERS", "ORDERSX"), "E11"),
+    refused("a wrong count in message 2 beside a wrong reference in message 1", messages(2).replace("UNT+10+1'", "UNT+10+9'").replace("UNT+10+2", "UNT+9+2"), "E12"),
+    refused("a wrong message reference", ORDERS.replace("UNT+10+1", "UNT+10+2"), "E13"),
+    refused("a wrong number of messages", ORDERS.replace("UNZ+1", "UNZ+2"), "E14"),
+    refused("a wrong number of messages and a wrong control reference", ORDERS.replace("UNZ+1+1001", "UNZ+2+1009"), "E14"),
+    refused("a wrong control reference", ORDERS.replace("UNZ+1+1001", "UNZ+1+1009"), "E15"),
+    refused("one message reference twice", messages(2).replace("UNH+2+", "UNH+1+").replace("UNT+10+2", "UNT+10+1"), "E16"),
+    refused("control reference 1003 with a wrong count", ORDERS.replace("1001", "1003").replace("UNT+10", "UNT+9"), "E12"),
+    refused("a test interchange", ORDERS.replace("+1001'UNH", "+1001++++++1'UNH"), "E17"),
+    refused("a byte from 0xA0 on under UNOA", with_note("caf\xe9'").replace("UNOC", "UNOA"), "E19"),
+    relayed("a byte from 0xA0 on under UNOC", with_note("caf\xe9'"), mail(message=with_note("caf\xe9'", MESSAGE))),
+    relayed("a segment of 8,192 bytes", with_note("x" * (8192 - len("FTX+AAI+++'")) + "'"), mail(message=with_note("x" * (8192 - len("FTX+AAI+++'")) + "'", MESSAGE))),
+    refused("8,192 bytes of a segment that does not end", with_note("x" * 9000 + "'")[: ORDERS.index("NAD+BY") + 8192], "E04"),
     Case("the help of the program", ["--help"], output=lambda it: b"Usage: edihub" in it and b"relay" in it),
     Case("the help of relay", ["relay", "--help"], output=lambda it: b"Usage: edihub relay" in it and b"--moment" in it),
+    Case("help that cannot be printed", ["--help"], output_to="/dev/full", error=b"file\n", status=3),
+    Case("a word that is not UTF-8", ["relay", "--hub", b"\xff"], error=b"error: a word is not UTF-8\n", status=2),
     wrong_words("no command", []),
     wrong_words("an unknown command", ["deliver"]),
     wrong_words("no words for relay", ["relay"]),
@@ -138,4 +161,13 @@ RELAY = [
     Case("a failed write", relay(), text(ORDERS), output_to="/dev/full", error=b"file\n", status=3),
 ]
 
-CASES = RELAY
+
+def cut(length):
+    """What the order of 255 bytes, cut to a length, is refused with."""
+    whole = length in (0, 9) or length > 9 and ORDERS[length - 1] == "'"
+    return "E06" if whole else "E02" if 3 <= length <= 8 else "E04"
+
+
+CUTS = [refused(f"the order cut to {length} bytes", ORDERS[:length], cut(length)) for length in range(255)]
+
+CASES = RELAY + CUTS
