@@ -7,8 +7,9 @@ PROVED = crates/edihub/out/edihub
 run: edihub
 	./edihub $(RELAY) < examples/orders.edi
 
-# Proves and builds the program. With no change since, it only copies it.
+# Proves and builds the program. With no change since, nothing is proved again.
 edihub:
+	mkdir -p crates/edihub/out
 	cd crates/edihub && rt run -- --help > out/help 2> out/log || { cat out/log; exit 1; }
 	cp $(PROVED) edihub
 
@@ -22,7 +23,6 @@ test:
 	python3 tests/test.py
 
 bench: edihub
-	mkdir -p crates/edihub/out
 	rustc --edition 2021 -O -o crates/edihub/out/plain bench/plain.rs
 	python3 bench/run.py ./edihub crates/edihub/out/plain
 

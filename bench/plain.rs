@@ -169,7 +169,8 @@ fn read(text: &[u8]) -> Result<(Service, Vec<Segment>), Fault> {
     reader.skip_line_ends();
     let mut service = USUAL;
     if whole[reader.at..].starts_with(b"UNA") {
-        let six = whole.get(reader.at + 3..reader.at + 9).ok_or("E02")?;
+        let cut = if text.len() > TEXT_LIMIT { "E01" } else { "E02" };
+        let six = whole.get(reader.at + 3..reader.at + 9).ok_or(cut)?;
         service = service_of(six).ok_or("E02")?;
         reader.classes = classes(&service);
         reader.at += 9;

@@ -1,5 +1,10 @@
 """The cases of the built program: words, standard input, and the expected standard output, standard error and status."""
-from dataclasses import dataclass, field
+import os
+import sys
+from dataclasses import dataclass
+
+sys.path.insert(0, os.path.join(os.path.dirname(os.path.abspath(__file__)), "..", "bench"))
+import loads
 
 
 @dataclass
@@ -10,11 +15,12 @@ class Case:
     output: object = b""
     error: object = b""
     status: int = 0
-    files: dict = field(default_factory=dict)
     # where standard output goes, if not to the test, as to a full device
     output_to: str = ""
     # standard input is a folder, so that each read fails
-    input_closed: bool = False
+    input_is_folder: bool = False
+    # the most memory that the program may have, in bytes
+    memory: int = 0
 
 
 HUB, OWNER = "5412345000006", "4012345500004"
@@ -157,7 +163,7 @@ RELAY = [
     wrong_words("a moment past 2099", relay(moment="4102444800")),
     wrong_words("a moment that is no number", relay(moment="now")),
     wrong_words("an option twice", [*relay(), "--number", "2"]),
-    Case("a failed read", relay(), input_closed=True, error=b"file\n", status=3),
+    Case("a failed read", relay(), input_is_folder=True, error=b"file\n", status=3),
     Case("a failed write", relay(), text(ORDERS), output_to="/dev/full", error=b"file\n", status=3),
 ]
 
@@ -170,4 +176,10 @@ def cut(length):
 
 CUTS = [refused(f"the order cut to {length} bytes", ORDERS[:length], cut(length)) for length in range(255)]
 
-CASES = RELAY + CUTS
+# so little memory in all that the interchange of 1 MiB cannot be held
+MEMORY = [
+    Case(f"want of memory, {mib} MiB in all", relay(), loads.many_orders(TEXT_LIMIT), error=b"memory\n", status=3, memory=mib << 20)
+    for mib in (4, 6, 8, 10, 12, 16)
+]
+
+CASES = RELAY + CUTS + MEMORY

@@ -2,6 +2,7 @@
 The last line is `N passed, M failed` over both."""
 import os
 import re
+import resource
 import subprocess
 import sys
 import tempfile
@@ -16,7 +17,13 @@ SECONDS = 60
 def gate():
     """What rt ci counts, its output passed on."""
     passed, failed = 0, 1
-    child = subprocess.Popen(["rt", "ci"], cwd=ROOT, stdout=subprocess.PIPE, text=True, errors="replace")
+    if os.path.isfile(PROGRAM):
+        os.remove(PROGRAM)
+    try:
+        child = subprocess.Popen(["rt", "ci"], cwd=ROOT, stdout=subprocess.PIPE, text=True, errors="replace")
+    except OSError as why:
+        print(f"rt ci cannot be run: {why}")
+        return passed, failed
     for line in child.stdout:
         found = re.fullmatch(r"(\d+) passed, (\d+) failed\n?", line)
         if found:
@@ -30,17 +37,16 @@ def gate():
 
 def run(program, case, folder):
     """Why the case fails, or nothing."""
-    for name, data in case.files.items():
-        with open(os.path.join(folder, name), "wb") as it:
-            it.write(data)
     with tempfile.TemporaryFile() as source:
         source.write(case.input)
         source.seek(0)
         how = {"stdin": source, "stdout": subprocess.PIPE, "stderr": subprocess.PIPE}
         if case.output_to:
             how["stdout"] = open(case.output_to, "wb")
-        if case.input_closed:
+        if case.input_is_folder:
             how["stdin"] = os.open(folder, os.O_RDONLY)
+        if case.memory:
+            how["preexec_fn"] = lambda: resource.setrlimit(resource.RLIMIT_AS, (case.memory, case.memory))
         try:
             ran = subprocess.run([program, *case.words], cwd=folder, timeout=SECONDS, **how)
         except subprocess.TimeoutExpired:

@@ -1,9 +1,9 @@
 -- The laws of the token grammar: what is spelled is read, what is shown is the fault, and the canonical text
 -- spells its segments again.
-use Rattle.std.proofs.Common.{◌≡◌, ◌≢◌, ℕ, zero, suc, ◌+◌, ◌<◌, Bool, cond, eqb, ltb, List, [], ◌∷◌, ◌++◌, length, take, Some, Result, Ok, Err, refl, sym, ap, subst, ◌∙◌, arith, inl, inr}
+use Rattle.std.proofs.Common.{false, ◌≡◌, ◌≢◌, ℕ, zero, suc, ◌+◌, ◌<◌, Bool, cond, eqb, ltb, List, [], ◌∷◌, ◌++◌, length, take, Some, Result, Ok, Err, refl, sym, ap, subst, ◌∙◌, arith, inl, inr}
 use Rattle.std.specs.Prelude.{◌⊎◌, ◌↔◌, IfOk, IfErr}
 use Rattle.std.proofs.lemmas.List.{take_all, take_at, length-append}
-use Rattle.std.proofs.lemmas.Bool.{cases_Bool, eqb-true, eqb-false, le-ltb, lt-ltb}
+use Rattle.std.proofs.lemmas.Bool.{cases_Bool, eqb-true, eqb-false, le-ltb, lt-ltb, cases_order, ne_eqb}
 use Rattle.edi_tokens.specs.declared.segment.Service.{Service}
 use Rattle.edi_tokens.specs.declared.segment.Segment.{Segment}
 use Rattle.edi_tokens.specs.declared.segment.Tokens.{Tokens}
@@ -138,3 +138,35 @@ failed_as Memory given other e = absurd (other refl)
 pub is_shown : (bytes : List ℕ) (r : Result Tokens TokenFault) → Answers (λ tokens. tokens) r (tokens_of bytes) → IfErr r (λ fault. fault ≢ Memory → Shows bytes fault)
 is_shown bytes (Ok tokens) e = tt
 is_shown bytes (Err fault) e = λ other. subst (IsRead bytes) (failed_as fault (tokens_of bytes) other e) (is_read bytes)
+
+-- ---- the byte that shows the fault is one
+
+-- of two fronts of one text the longer begins with the shorter and the byte behind it
+longer_front : (f g r q : List ℕ) (a b : ℕ) → f ++ a ∷ r ≡ g ++ b ∷ q → length f < length g → (more : List ℕ) × (g ≡ f ++ a ∷ more)
+longer_front [] [] r q a b e lt = absurd (omega arith)
+longer_front [] (y ∷ g) r q a b e lt = let same : a ≡ y = cc in (g, ap (λ (x : ℕ). x ∷ g) (sym same))
+longer_front (x ∷ f) [] r q a b e lt = absurd (omega arith)
+longer_front (x ∷ f) (y ∷ g) r q a b e lt =
+    let same : x ≡ y = cc in
+    let rest : f ++ a ∷ r ≡ g ++ b ∷ q = cc in
+    let others = longer_front f g r q a b rest (omega arith) in
+    (others.0, ap (λ (z : ℕ). z ∷ g) (sym same) ∙ ap (λ (t : List ℕ). x ∷ t) others.1)
+
+-- where one byte shows a fault, no later byte stands behind a right front
+not_later : (bytes : List ℕ) (fault other : TokenFault) (e : ByteShows bytes fault) (h : ByteShows bytes other) → length e.front < length h.front → ⊥
+not_later bytes fault other e h lt =
+    let early : eqb (length e.front) text_limit ≡ false = ne_eqb (length e.front) text_limit (λ same. absurd (omega (arith, h.is_first))) in
+    let shows : shown_at e.reading.service e.reading.place e.byte ≡ Some fault = sym (ap (λ (t : Bool). cond t (Some TooLong) (shown_at e.reading.service e.reading.place e.byte)) early) ∙ e.shows in
+    let stops : step e.reading e.byte ≡ Err fault = fault_is (step e.reading e.byte) fault (sym (shown_is e.front e.reading e.reading.place e.byte e.front_ends) ∙ shows) in
+    let longer = longer_front e.front h.front e.rest h.rest e.byte h.byte (sym e.text_is ∙ h.text_is) lt in
+    let stopped : run start h.front ≡ Err fault = ap (run start) longer.1 ∙ run_stops e.front longer.0 start e.reading e.byte fault (front_at e.front e.reading e.front_ends) stops in
+    let goes : run start h.front ≡ Ok h.reading = front_at h.front h.reading h.front_ends in
+    cc
+
+pub shows_at_one_byte : (bytes : List ℕ) (fault other : TokenFault) (e : ByteShows bytes fault) (h : ByteShows bytes other) → length e.front ≡ length h.front
+shows_at_one_byte bytes fault other e h =
+    elim (cases_order (length e.front) (length h.front)) [
+      | inl same ↦ same
+      | inr (inl lt) ↦ absurd (not_later bytes fault other e h lt)
+      | inr (inr gt) ↦ absurd (not_later bytes other fault h e gt)
+    ]

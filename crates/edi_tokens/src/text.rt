@@ -134,15 +134,18 @@ pub fn write_text<W: Sink>(segments: &[Segment], decimal: u8, out: &mut W) -> Re
 /// Appends the canonical text of segments, with no service string.
 pub fn append_text(out: &mut Vec<u8>, segments: &[Segment]) -> Result<(), MemoryFault>
     ensures ok { OnOk result (out.new.items ≡ out.old.items ++ text segments.now) }
-
-    // Want of memory leaves what was there, and perhaps a front of the text behind it.
-    ensures err { OnErr result (AppendsFront (Some out.old.items) (Some out.new.items) (text segments.now)) }
+    ensures err { OnErr result (out.new.items ≡ out.old.items) }
 {
+    let length = out.len();
     let empty = Vec::new(*out.allocator());
     let mut sink = OfWrite::new(mem::replace(out, empty));
     let result = put_all(&mut sink, &[], segments);
     *out = sink.into_inner();
-    result.map_err(|_| AllocError)
+    if result.is_err() {
+        out.truncate(length);
+        return Err(AllocError);
+    }
+    Ok(())
 }
 
 /// The canonical text of segments, with no service string (ISO 9735, sections 5 and 8).
