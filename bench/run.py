@@ -1,6 +1,7 @@
 """Relays the loads of loads.py with the proved program and with plain.rs, one after the other, and prints
 ratios of instructions (where valgrind is there), of time and of peak memory, and the growth from 1/16 of the
-size to the whole."""
+size to the whole. A peak below this script's own, from which each run is forked, shows as the script's. Where
+a bound is passed, it says so and ends with status 1."""
 import os
 import re
 import shutil
@@ -13,6 +14,11 @@ import loads
 
 WORDS = ["relay", "--hub", "5412345000006", "--owner", "4012345500004", "--moment", "1748942400", "--number", "1"]
 ROUNDS = 7
+
+# The bounds: instructions of the plain program, growth from 1/16 of the size, and MB on the first load.
+MOST_INSTRUCTIONS = 1.3
+MOST_GROWTH = 18
+MOST_MEMORY = 32
 
 
 def run(program, text):
@@ -52,25 +58,40 @@ def measure(programs, text):
     return {it: (min(times[it]), memory[it], instructions(it, text)) for it in programs}
 
 
+def size(ours, plain, name, text, data):
+    """Prints the ratios of one load in one size. Gives our instructions, and the bounds passed."""
+    with open(text, "wb") as it:
+        it.write(data)
+    found = measure([ours, plain], text)
+    (seconds, memory, count), (plain_seconds, plain_memory, plain_count) = found[ours], found[plain]
+    line = f"{name}, {len(data):>9,} bytes: time {seconds / plain_seconds:.2f}, memory {memory / 1024:.1f} MiB of {plain_memory / 1024:.1f}"
+    passed = []
+    if count and plain_count:
+        line += f", instructions {count / plain_count:.2f} ({count / len(data):.0f} a byte, {plain_count / len(data):.0f} in the plain program)"
+        if count > MOST_INSTRUCTIONS * plain_count:
+            passed.append(f"{name}: more than {MOST_INSTRUCTIONS} times the instructions of the plain program")
+    if name == next(iter(loads.LOADS)) and memory * 1024 > MOST_MEMORY * 10**6:
+        passed.append(f"{name}: more than {MOST_MEMORY} MB")
+    print(line, flush=True)
+    return count, passed
+
+
 def main(ours, plain):
+    passed = []
     with tempfile.TemporaryDirectory() as room:
+        text = os.path.join(room, "load.edi")
         for name, make in loads.LOADS.items():
-            counts = {}
-            for limit in (loads.LIMIT // 16, loads.LIMIT):
-                text = os.path.join(room, "load.edi")
-                data = make(limit)
-                with open(text, "wb") as it:
-                    it.write(data)
-                found = measure([ours, plain], text)
-                (seconds, memory, count), (plain_seconds, plain_memory, plain_count) = found[ours], found[plain]
-                counts[limit] = count
-                line = f"{name}, {len(data):>9,} bytes: time {seconds / plain_seconds:.2f}, memory {memory / 1024:.1f} MiB of {plain_memory / 1024:.1f}"
-                if count and plain_count:
-                    line += f", instructions {count / plain_count:.2f} ({count / len(data):.0f} a byte, {plain_count / len(data):.0f} in the plain program)"
-                print(line, flush=True)
-            if all(counts.values()):
-                print(f"{name}: 16 times the size, {counts[loads.LIMIT] / counts[loads.LIMIT // 16]:.1f} times the instructions", flush=True)
+            small, few = size(ours, plain, name, text, make(loads.LIMIT // 16))
+            whole, more = size(ours, plain, name, text, make(loads.LIMIT))
+            passed += few + more
+            if small and whole:
+                print(f"{name}: 16 times the size, {whole / small:.1f} times the instructions", flush=True)
+                if whole > MOST_GROWTH * small:
+                    passed.append(f"{name}: more than {MOST_GROWTH} times the instructions for 16 times the size")
+    for line in passed:
+        print(f"past its bound: {line}")
+    return 1 if passed else 0
 
 
 if __name__ == "__main__":
-    main(*sys.argv[1:3])
+    sys.exit(main(*sys.argv[1:3]))
