@@ -182,4 +182,21 @@ MEMORY = [
     for mib in (4, 6, 8, 10, 12, 16)
 ]
 
-CASES = RELAY + CUTS + MEMORY
+
+
+def example(name):
+    with open(os.path.join(os.path.dirname(os.path.abspath(__file__)), "..", "examples", name), encoding="latin-1", newline="") as it:
+        return it.read()
+
+
+EXAMPLES = [
+    relayed("the example orders.edi", example("orders.edi"), mail()),
+    relayed(
+        "the example two_orders.edi",
+        example("two_orders.edi"),
+        mail() + mail(2, MESSAGE.replace("128576", "128577").replace("QTY+21:48", "QTY+21:12")),
+    ),
+    relayed("the example other_separators.edi", example("other_separators.edi"), mail(message=with_note("Dock 3?+4, O?'Neill??'", MESSAGE), mark=",")),
+]
+
+CASES = RELAY + CUTS + MEMORY + EXAMPLES

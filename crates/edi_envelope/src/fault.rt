@@ -1,6 +1,7 @@
 ghost use Rattle.std.specs.Prelude.{◌≡◌};
 
 use std::alloc::{AllocError, AllocFailed};
+use std::error::Error;
 use std::fmt;
 
 /// Why an interchange is refused. Each variant but the last is one condition, with the code that is printed for it.
@@ -64,6 +65,8 @@ impl fmt::Display for EnvelopeFault {
         f.write_str(self.code())
     }
 }
+
+impl Error for EnvelopeFault {}
 
 impl From<AllocError> for EnvelopeFault {
     ghost use Rattle.std.specs.Prelude.{◌≡◌};
