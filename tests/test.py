@@ -1,5 +1,5 @@
 """`make test`: the gate (rt ci), and then the cases of cases.py on the program that the gate built.
-The last line is `N passed, M failed` over both."""
+The last line is `N passed, M failed` over both. With `--alone`, the cases alone, on the program that stands."""
 import os
 import re
 import resource
@@ -71,7 +71,10 @@ def program_cases(program):
 
 
 def main(words):
-    alone = "--alone" in words
+    if words not in ([], ["--alone"]):
+        print("usage: test.py [--alone]")
+        return 2
+    alone = bool(words)
     passed, failed = (0, 0) if alone else gate()
     if os.path.isfile(PROGRAM):
         more_passed, more_failed = program_cases(PROGRAM)
