@@ -1,11 +1,21 @@
--- The text of a component, a run of plain bytes at a time.
-use Rattle.std.proofs.Common.{◌≡◌, ℕ, ◌+◌, ◌<◌, true, List, [], ◌∷◌, ◌++◌, length, get_or, take, drop, refl, sym, ap, subst, ◌∙◌, append_assoc, arith}
-use Rattle.std.proofs.lemmas.List.{length-drop, get_or-drop}
+-- The text of segments, a part at a time, and that of a component, a run of plain bytes at a time.
+use Rattle.std.proofs.Common.{◌≡◌, ℕ, ◌+◌, ◌<◌, ◌≤◌, suc, true, List, [], ◌∷◌, ◌++◌, length, get_or, take, drop, refl, sym, ap, subst, ◌∙◌, append_assoc, arith}
+use Rattle.std.proofs.lemmas.List.{length-drop, get_or-drop, drop_all}
+use Rattle.std.proofs.Math.Seq.{drop-cons}
 use Rattle.std.proofs.lemmas.Grind.{flat_map-append}
 use Rattle.std.specs.List.{flat_map}
 use Rattle.edi_tokens.specs.declared.segment.Segment.{Segment}
 use Rattle.edi_tokens.specs.Text.{is_usual, byte_text, component_text, element_text, segment_text}
-use Rattle.edi_tokens.proofs.Going.{flat_map-drop}
+
+-- the part of one item, and those of the items after it
+pub flat_map-drop : {X : Type 0} (f : X → List ℕ) (xs : List X) (i : ℕ) (x : X) → i < length xs → x ≡ get_or xs i x → flat_map f (drop i xs) ≡ f x ++ flat_map f (drop (i + 1) xs)
+flat_map-drop f xs i x lt e =
+    let next : suc i ≡ i + 1 = omega arith in
+    let cons : drop i xs ≡ x ∷ drop (i + 1) xs = drop-cons xs i x lt ∙ ap (λ y. y ∷ drop (suc i) xs) (sym e) ∙ ap (λ (k : ℕ). x ∷ drop k xs) next in
+    ap (flat_map f) cons
+
+pub flat_map-drop_all : {X : Type 0} (f : X → List ℕ) (xs : List X) (i : ℕ) → length xs ≤ i → flat_map f (drop i xs) ≡ []
+flat_map-drop_all f xs i le = ap (flat_map f) (drop_all i xs le)
 
 -- plain bytes stand for themselves
 pub component_text-plain : (bytes plain after : List ℕ) (n : ℕ) → bytes ≡ plain ++ after → plain ≡ take n bytes → component_text (take n bytes) ≡ take n bytes → component_text bytes ≡ plain ++ component_text after

@@ -9,5 +9,4 @@ pub mod SpelledAgain
 pub mod Differs
 pub mod EmptyEnd
 pub mod Runs
-pub mod Going
 pub mod Canonical

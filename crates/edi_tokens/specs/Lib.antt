@@ -8,7 +8,4 @@ pub mod Reader
 pub mod Plain
 pub mod Fault
 pub mod Text
-pub mod Sink
-pub mod Source
-pub mod Buffer
 pub mod Code

@@ -1,31 +1,28 @@
 //! Segments from the text of an interchange, and the text of segments (ISO 9735, syntax version 3).
 #![tactic(auto)]
 
-mod buffer;
 mod characters;
 mod fault;
-mod items;
 mod laws;
 mod open_segment;
 mod reader;
 mod reading;
 mod segment;
 mod service;
-mod sink;
-mod source;
 mod text;
 
+pub use edi_base::{
+    Items, MemoryFault, OfRead, OfWrite, ReadFault, Sink, Source, WriteFault, read_to_limit,
+    write_bytes,
+};
 pub use fault::TokenFault;
-pub use items::Items;
 pub use laws::{
     canonical_text_spells_again, reading_is_the_grammar, text_spells_one_list,
     text_spells_or_shows_a_fault,
 };
 pub use reading::read_all;
 pub use segment::{Elements, Segment, Service, Tokens};
-pub use sink::{OfWrite, Sink, WriteFault, write_bytes};
-pub use source::{OfRead, ReadFault, Source, read_to_limit};
-pub use text::{MemoryFault, append_text, body_text, write_text};
+pub use text::{append_text, body_text, write_text};
 
 #[cfg(test)]
 mod tests;

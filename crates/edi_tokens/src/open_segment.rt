@@ -3,9 +3,8 @@
 ghost use Rattle.std.specs.Prelude.{◌≡◌, ◌+◌, ◌≤◌, ◌<◌, [], ◌∷◌, ◌++◌, length, OnOk, IfOk};
 ghost use Rattle.edi_tokens.specs.Spelling.{segment_limit, without_empty_end};
 
-use crate::items::Items;
 use crate::segment::Segment;
-use crate::text::MemoryFault;
+use edi_base::{Items, MemoryFault};
 use std::alloc::Global;
 use std::mem;
 

@@ -5,9 +5,9 @@ ghost use Rattle.edi_tokens.specs.Reading.{Answers, step, run, start, finish, is
 
 use crate::characters::{is_capital, is_data, is_digit, is_line_end};
 use crate::fault::TokenFault;
-use crate::items::Items;
 use crate::open_segment::{OpenSegment, SEGMENT_LIMIT};
 use crate::segment::{Segment, Service, Tokens};
+use edi_base::Items;
 use std::alloc::Global;
 
 /// Where the bytes so far end.

@@ -1,6 +1,6 @@
 ghost use Rattle.std.specs.Prelude.{◌≡◌, length};
 
-use crate::items::Items;
+use edi_base::Items;
 
 /// The service characters of a text (ISO 9735, section 5, and the service string advice UNA).
 #[derive(Clone, Copy, Debug, PartialEq, Eq)]

@@ -1,7 +1,7 @@
 use super::*;
 use std::alloc::Global;
 use std::io;
-use std::io::{Error, ErrorKind, Read, Write};
+use std::io::{Error, ErrorKind, Write};
 use std::test::*;
 
 const ORDERS: &[u8] =
@@ -228,64 +228,5 @@ fn a_text_longer_than_what_waits_is_written_whole(rt: HostRuntime) -> Result<(),
     let Dribble { written, .. } = sink.into_inner();
     assert_eq!(rt; written.as_slice().get(..9), Some(b"UNA:+,? '".as_slice()));
     assert_eq!(rt; written.as_slice().get(9..), text.as_slice().get(2..));
-    Ok(())
-}
-
-/// A reader that gives one byte at a time, and then fails.
-#[derive(Drop)]
-struct Drip {
-    left: usize,
-}
-
-impl Read for Drip {
-    fn read(&mut self, buffer: &mut [u8]) -> io::Result<usize> {
-        if self.left == 0 {
-            return Err(Error::from(ErrorKind::BrokenPipe));
-        }
-        if buffer.is_empty() {
-            return Ok(0);
-        }
-        buffer[0] = b'a';
-        self.left -= 1;
-        Ok(1)
-    }
-}
-
-#[test]
-fn a_source_is_read_to_its_end_or_the_limit(rt: HostRuntime) -> Result<(), Fail> {
-    for (limit, size) in [
-        (0, 0),
-        (1, 1),
-        (254, 254),
-        (255, 255),
-        (256, 255),
-        (1_048_577, 255),
-    ] {
-        let mut source = OfRead::new(ORDERS);
-        let read = read_to_limit(rt.alloc(), &mut source, limit)?;
-        assert_eq!(rt; read.as_slice(), &ORDERS[..size]);
-        assert!(rt; !source.failed());
-    }
-    let long = long_segment(rt.alloc(), 200_000, b"'")?;
-    let mut source = OfRead::new(long.as_slice());
-    let read = read_to_limit(rt.alloc(), &mut source, 150_000)?;
-    assert_eq!(rt; Some(read.as_slice()), long.as_slice().get(..150_000));
-    assert_eq!(rt; Some(source.into_inner()), long.as_slice().get(150_000..));
-    Ok(())
-}
-
-#[test]
-fn a_failed_read_is_answered(rt: HostRuntime) -> Result<(), Fail> {
-    let mut source = OfRead::new(Drip { left: 3 });
-    assert_eq!(rt;
-        read_to_limit(rt.alloc(), &mut source, 2)?.as_slice(),
-        b"aa".as_slice()
-    );
-    assert!(rt; !source.failed());
-    assert_eq!(rt;
-        read_to_limit(rt.alloc(), &mut source, 2).err(),
-        Some(ReadFault::Read)
-    );
-    assert!(rt; source.failed());
     Ok(())
 }

@@ -4,17 +4,12 @@ ghost use Rattle.std.specs.Prelude.{◌≡◌, ◌≤◌, ◌<◌, [], ◌∷◌
 ghost use Rattle.std.specs.List.{flat_map};
 ghost use Rattle.std.specs.Io.KnownBytes.{Appends};
 ghost use Rattle.edi_tokens.specs.Text.{is_usual, component_text, element_text, segment_text, text, una};
-ghost use Rattle.edi_tokens.specs.Buffer.{Puts, Flags, AppendsFront};
+ghost use Rattle.edi_base.specs.Buffer.{Puts, Flags, AppendsFront};
 
-use crate::buffer::Buffer;
-use crate::items::Items;
 use crate::segment::Segment;
-use crate::sink::{OfWrite, Sink, WriteFault};
+use edi_base::{Buffer, Items, MemoryFault, OfWrite, Sink, WriteFault};
 use std::alloc::{AllocError, Global};
 use std::mem;
-
-/// Want of memory.
-pub type MemoryFault = AllocError;
 
 /// Whether a byte is one of the usual service characters, which a release character stands before in data.
 fn is_usual(byte: u8) -> bool

@@ -1,7 +1,7 @@
 -- What a run of `relay` between a reader and two writers does, by the bytes that are known of each.
 use Rattle.std.specs.Prelude.{◌≡◌, ℕ, Bool, false, List, ◌++◌, take, codes, Option, IfSome, Ok, Err}
 use Rattle.std.specs.Io.KnownBytes.{Appends}
-use Rattle.edi_tokens.specs.Buffer.{AppendsFront}
+use Rattle.edi_base.specs.Buffer.{AppendsFront}
 use Rattle.hub_app.specs.declared.relay.RelayWords.{RelayWords}
 use Rattle.hub_app.specs.declared.relay.RelayFault.{RelayFault}
 use Rattle.hub_app.specs.Relay.{relayed, code_of}

@@ -2,7 +2,7 @@
 
 ghost use Rattle.std.specs.Prelude.{◌≡◌, ◌⊎◌, ◌≤◌, ◌++◌, true, false, take, List, codes, OnOk, OnErr, IsTrue, IfSome};
 ghost use Rattle.std.specs.Io.KnownBytes.{Appends, Keeps};
-ghost use Rattle.edi_tokens.specs.Buffer.{AppendsFront};
+ghost use Rattle.edi_base.specs.Buffer.{AppendsFront};
 ghost use Rattle.hub_app.specs.declared.relay.RelayFault.{RelayFault};
 ghost use Rattle.hub_app.specs.Relay.{AreRelayWords};
 ghost use Rattle.hub_app.specs.Run.{Delivers, DeliversFront, IsRefused, Tells, refusal};

@@ -1,8 +1,8 @@
 use Rattle.std.proofs.Common.{[], ◌++◌, sym}
 use Rattle.std.proofs.lemmas.List.{append-nil}
-use Rattle.edi_tokens.specs.Buffer.{Goes}
+use Rattle.edi_base.specs.Buffer.{Goes}
 use Rattle.edi_tokens.specs.Text.{text}
-use Rattle.edi_tokens.proofs.Going.{goes_none, goes_put, goes_cut, goes_as, puts_cut, puts_last}
+use Rattle.edi_base.proofs.Going.{goes_none, goes_put, goes_cut, goes_as, puts_cut, puts_last}
 use Rattle.edi_tokens.proofs.text.put_all.Given as given
 use Rattle.edi_tokens.proofs.text.put_all.Goals as goal
 use Rattle.edi_tokens.proofs.text.put_all.Goals.{After-put_text}

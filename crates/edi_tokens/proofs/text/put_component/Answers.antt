@@ -1,9 +1,9 @@
 use Rattle.std.proofs.Common.{◌++◌, ap, ◌∙◌}
 use Rattle.std.proofs.lemmas.List.{nil_from_length}
-use Rattle.edi_tokens.specs.Buffer.{Goes}
+use Rattle.edi_base.specs.Buffer.{Goes}
 use Rattle.edi_tokens.specs.Text.{component_text}
 use Rattle.edi_tokens.proofs.Canonical.{component_text-plain, component_text-released}
-use Rattle.edi_tokens.proofs.Going.{goes_put, goes_cut, goes_as, puts_cut}
+use Rattle.edi_base.proofs.Going.{goes_put, goes_cut, goes_as, puts_cut}
 use Rattle.edi_tokens.proofs.text.put_component.Given as given
 use Rattle.edi_tokens.proofs.text.put_component.Goals as goal
 use Rattle.edi_tokens.proofs.text.put_component.Goals.{After-split_at}

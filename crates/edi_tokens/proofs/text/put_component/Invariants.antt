@@ -1,6 +1,6 @@
 use Rattle.std.proofs.Common.{◌≡◌, length}
 use Rattle.edi_tokens.specs.Text.{component_text}
-use Rattle.edi_tokens.specs.Buffer.{Goes}
+use Rattle.edi_base.specs.Buffer.{Goes}
 use Rattle.edi_tokens.proofs.text.put_component.Given as goal
 
 abbrev pub invariant-loop-byte : goal.invariant-loop-byte

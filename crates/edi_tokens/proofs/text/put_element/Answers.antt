@@ -1,8 +1,9 @@
 use Rattle.std.proofs.Common.{ℕ, List, ◌+◌, [], ◌∷◌, ◌++◌, drop, ap, ◌∙◌}
 use Rattle.std.specs.List.{flat_map}
-use Rattle.edi_tokens.specs.Buffer.{Goes}
+use Rattle.edi_base.specs.Buffer.{Goes}
 use Rattle.edi_tokens.specs.Text.{component_text, components_text, element_text}
-use Rattle.edi_tokens.proofs.Going.{goes_none, goes_put, goes_cut, goes_as, puts_cut, flat_map-drop}
+use Rattle.edi_base.proofs.Going.{goes_none, goes_put, goes_cut, goes_as, puts_cut}
+use Rattle.edi_tokens.proofs.Canonical.{flat_map-drop}
 use Rattle.edi_tokens.proofs.text.put_element.Given as given
 use Rattle.edi_tokens.proofs.text.put_element.Goals as goal
 use Rattle.edi_tokens.proofs.text.put_element.Goals.{After-put_component}

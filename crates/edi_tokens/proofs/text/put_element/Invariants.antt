@@ -1,7 +1,7 @@
 use Rattle.std.proofs.Common.{◌≡◌, ◌∷◌, drop}
 use Rattle.std.specs.List.{flat_map}
 use Rattle.edi_tokens.specs.Text.{component_text, element_text}
-use Rattle.edi_tokens.specs.Buffer.{Goes}
+use Rattle.edi_base.specs.Buffer.{Goes}
 use Rattle.edi_tokens.proofs.text.put_element.Given as goal
 
 abbrev pub invariant-loop-component : goal.invariant-loop-component

@@ -1,8 +1,8 @@
 use Rattle.std.proofs.Common.{◌+◌, [], ◌∷◌, ◌++◌, drop, ap, ◌∙◌}
 use Rattle.std.specs.List.{flat_map}
 use Rattle.edi_tokens.specs.Text.{element_text, segment_text}
-use Rattle.edi_tokens.proofs.Canonical.{segment_text-parts, segment_text-next}
-use Rattle.edi_tokens.proofs.Going.{goes_none, goes_put, goes_cut, goes_as, puts_cut, puts_last, flat_map-drop_all}
+use Rattle.edi_tokens.proofs.Canonical.{flat_map-drop_all, segment_text-parts, segment_text-next}
+use Rattle.edi_base.proofs.Going.{goes_none, goes_put, goes_cut, goes_as, puts_cut, puts_last}
 use Rattle.edi_tokens.proofs.text.put_segment.Goals as goal
 
 pub returns-in_err-put-clause-bytes : goal.returns-in_err-put-clause-bytes

@@ -1,7 +1,8 @@
 use Rattle.std.proofs.Common.{◌+◌, drop, ◌∙◌}
 use Rattle.std.specs.List.{flat_map}
 use Rattle.edi_tokens.specs.Text.{segment_text}
-use Rattle.edi_tokens.proofs.Going.{goes_put, goes_cut, goes_as, puts_cut, flat_map-drop}
+use Rattle.edi_base.proofs.Going.{goes_put, goes_cut, goes_as, puts_cut}
+use Rattle.edi_tokens.proofs.Canonical.{flat_map-drop}
 use Rattle.edi_tokens.proofs.text.put_text.Goals as goal
 
 pub returns-in_err-put_segment-clause-bytes : goal.returns-in_err-put_segment-clause-bytes

@@ -3,8 +3,8 @@
 ghost use Rattle.std.specs.Prelude.{◌≡◌, ◌≢◌, ◌≤◌, ◌||◌, ℕ, Bool, true, List, take, Option, None, Err, is_err, IfOk, IfSome, length, vec_len};
 ghost use Rattle.std.specs.Io.{ReadsAtMost};
 ghost use Rattle.std.specs.Io.KnownBytes.{ReadConsumes, Consumes};
-ghost use Rattle.edi_tokens.specs.Source.{TakesPiece};
-ghost use Rattle.edi_tokens.specs.declared.source.ReadFault.TheVariants.{Memory};
+ghost use Rattle.edi_base.specs.Source.{TakesPiece};
+ghost use Rattle.edi_base.specs.declared.source.ReadFault.TheVariants.{Memory};
 
 use std::alloc::{AllocError, Global};
 use std::error::Error;

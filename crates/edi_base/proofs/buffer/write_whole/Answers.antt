@@ -1,6 +1,6 @@
 use Rattle.std.proofs.Common.{arith}
-use Rattle.edi_tokens.proofs.Going.{goes_written}
-use Rattle.edi_tokens.proofs.buffer.write_whole.Goals as goal
+use Rattle.edi_base.proofs.Going.{goes_written}
+use Rattle.edi_base.proofs.buffer.write_whole.Goals as goal
 
 pub loop-rest-preserved : goal.loop-rest-preserved
 loop-rest-preserved g c = record {

@@ -1,7 +1,7 @@
 //! Bytes that wait to be written together.
 
 ghost use Rattle.std.specs.Prelude.{◌≡◌, ◌+◌, ◌≤◌, [], ◌++◌, length, OnOk};
-ghost use Rattle.edi_tokens.specs.Buffer.{Puts, Flags};
+ghost use Rattle.edi_base.specs.Buffer.{Puts, Flags};
 
 use crate::sink::{Sink, WriteFault};
 use std::marker::Model;
@@ -9,9 +9,10 @@ use std::marker::Model;
 /// How many bytes wait at most.
 const ROOM: usize = 1024;
 
-/// Bytes that wait to be written together. It takes no memory of an allocator.
+/// Bytes that wait to be written together, 1,024 at most. Contracts see them as a list. It takes no memory of an
+/// allocator. What is put into it is written in its order, behind what waited, and is lost where no `flush` follows.
 #[derive(Drop)]
-pub(crate) struct Buffer {
+pub struct Buffer {
     bytes: [u8; ROOM],
     filled: usize,
 }
@@ -47,7 +48,7 @@ pub(crate) fn write_whole<W: Sink>(out: &mut W, bytes: &[u8]) -> Result<(), Writ
 
 impl Buffer {
     /// No bytes wait.
-    pub(crate) fn new() -> Self
+    pub fn new() -> Self
         ensures { result ≡ [] }
     {
         Buffer {
@@ -56,8 +57,8 @@ impl Buffer {
         }
     }
 
-    /// Writes the bytes that wait.
-    pub(crate) fn flush<W: Sink>(&mut self, out: &mut W) -> Result<(), WriteFault>
+    /// Writes the bytes that wait. At `WriteFault` a front of them was written, and what then waits is not promised.
+    pub fn flush<W: Sink>(&mut self, out: &mut W) -> Result<(), WriteFault>
         ensures bytes { Puts result (W.contents out.old) (W.contents out.new) self.old [] [] }
         ensures flag { Flags result (W.failed out.old) (W.failed out.new) }
         ensures empty { OnOk result (self.new ≡ []) }
@@ -67,8 +68,9 @@ impl Buffer {
         Ok(())
     }
 
-    /// Puts bytes behind those that wait, and writes as many as there is no room for.
-    pub(crate) fn put<W: Sink>(&mut self, out: &mut W, bytes: &[u8]) -> Result<(), WriteFault>
+    /// Puts bytes behind those that wait, and writes as many as there is no room for. At `WriteFault` a front of
+    /// those that waited and these was written, and what then waits is not promised.
+    pub fn put<W: Sink>(&mut self, out: &mut W, bytes: &[u8]) -> Result<(), WriteFault>
         ensures bytes { Puts result (W.contents out.old) (W.contents out.new) self.old self.new bytes.now }
         ensures flag { Flags result (W.failed out.old) (W.failed out.new) }
     {

@@ -1,6 +1,6 @@
 use Rattle.std.proofs.Common.{[]}
-use Rattle.edi_tokens.proofs.Going.{goes_none, goes_put, goes_cut, puts_cut, puts_last}
-use Rattle.edi_tokens.proofs.buffer.Buffer.put.Goals as goal
+use Rattle.edi_base.proofs.Going.{goes_none, goes_put, goes_cut, puts_cut, puts_last}
+use Rattle.edi_base.proofs.buffer.Buffer.put.Goals as goal
 
 pub returns-in_err-flush-clause-bytes : goal.returns-in_err-flush-clause-bytes
 returns-in_err-flush-clause-bytes g c =

@@ -1,6 +1,6 @@
 use Rattle.std.proofs.Common.{◌≡◌, ◌≤◌, ◌-◌, length, vec_len, min}
 use Rattle.std.specs.Io.KnownBytes.{Consumes}
-use Rattle.edi_tokens.proofs.source.read_to_limit.Given as goal
+use Rattle.edi_base.proofs.source.read_to_limit.Given as goal
 
 abbrev pub invariant-loop-read : goal.invariant-loop-read
 invariant-loop-read g l = record {

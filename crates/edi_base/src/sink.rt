@@ -3,8 +3,8 @@
 ghost use Rattle.std.specs.Prelude.{◌≡◌, ◌||◌, Option, List, ℕ, Bool, None, IsTrue, OnOk, OnErr};
 ghost use Rattle.std.specs.Io.{WritesAtMost};
 ghost use Rattle.std.specs.Io.KnownBytes.{WriteAppends, Appends};
-ghost use Rattle.edi_tokens.specs.Buffer.{AppendsFront};
-ghost use Rattle.edi_tokens.specs.Sink.{write_failed};
+ghost use Rattle.edi_base.specs.Buffer.{AppendsFront};
+ghost use Rattle.edi_base.specs.Sink.{write_failed};
 
 use crate::buffer::write_whole;
 use std::error::Error;

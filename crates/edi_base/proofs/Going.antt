@@ -1,11 +1,9 @@
 -- Bytes on their way to a sink, one part after another.
-use Rattle.std.proofs.Common.{◌≡◌, ℕ, ◌+◌, ◌<◌, ◌≤◌, suc, List, [], ◌∷◌, ◌++◌, length, get_or, take, drop, Option, Some, None, Result, Ok, Err, refl, sym, ap, subst, ◌∙◌, append_assoc, arith}
-use Rattle.std.proofs.lemmas.List.{append-nil, take-append-drop, drop_all}
-use Rattle.std.proofs.Math.Seq.{drop-cons}
-use Rattle.std.specs.List.{flat_map}
+use Rattle.std.proofs.Common.{◌≡◌, ℕ, List, [], ◌++◌, take, drop, Option, Some, None, Result, Ok, Err, refl, sym, ap, subst, ◌∙◌, append_assoc}
+use Rattle.std.proofs.lemmas.List.{append-nil, take-append-drop}
 use Rattle.std.specs.Prelude.{IsErr}
 use Rattle.std.specs.Io.KnownBytes.{Appends, Consumes}
-use Rattle.edi_tokens.specs.Buffer.{Goes, Puts}
+use Rattle.edi_base.specs.Buffer.{Goes, Puts}
 
 Appends-nil : (a : Option (List ℕ)) → Appends a a []
 Appends-nil None = tt
@@ -64,16 +62,6 @@ goes_written {a} {b} {c} {waiting} {ahead} {whole} n rest so_far written e = rec
 pub puts_last : {E : Type 0} {a b : Option (List ℕ)} {waiting left part whole : List ℕ} (r : Result (Unit {0}) E) (c : Option (List ℕ)) (later : List ℕ) → Goes a b waiting left part whole → Puts r b c left later part → Puts r a c waiting later whole
 puts_last {E} {a} {b} {waiting} {left} {part} {whole} (Ok done) c later so_far put = goes_put (goes_as part (part ++ []) (sym (append-nil part)) so_far) put
 puts_last {E} {a} {b} {waiting} {left} {part} {whole} (Err e) c later so_far cut = goes_cut [] (goes_as part (part ++ []) (sym (append-nil part)) so_far) cut
-
--- the part of one item, and those of the items after it
-pub flat_map-drop : {X : Type 0} (f : X → List ℕ) (xs : List X) (i : ℕ) (x : X) → i < length xs → x ≡ get_or xs i x → flat_map f (drop i xs) ≡ f x ++ flat_map f (drop (i + 1) xs)
-flat_map-drop f xs i x lt e =
-    let next : suc i ≡ i + 1 = omega arith in
-    let cons : drop i xs ≡ x ∷ drop (i + 1) xs = drop-cons xs i x lt ∙ ap (λ y. y ∷ drop (suc i) xs) (sym e) ∙ ap (λ (k : ℕ). x ∷ drop k xs) next in
-    ap (flat_map f) cons
-
-pub flat_map-drop_all : {X : Type 0} (f : X → List ℕ) (xs : List X) (i : ℕ) → length xs ≤ i → flat_map f (drop i xs) ≡ []
-flat_map-drop_all f xs i le = ap (flat_map f) (drop_all i xs le)
 
 -- a fault, after a front
 pub puts_cut : {E : Type 0} {a c : Option (List ℕ)} {waiting whole : List ℕ} (r : Result (Unit {0}) E) (later : List ℕ) → IsErr r → ((rest : List ℕ) × Goes a c waiting [] rest whole) → Puts r a c waiting later whole

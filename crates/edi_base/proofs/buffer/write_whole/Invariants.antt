@@ -1,6 +1,6 @@
 use Rattle.std.proofs.Common.{◌≡◌, [], length}
-use Rattle.edi_tokens.specs.Buffer.{Goes}
-use Rattle.edi_tokens.proofs.buffer.write_whole.Given as goal
+use Rattle.edi_base.specs.Buffer.{Goes}
+use Rattle.edi_base.proofs.buffer.write_whole.Given as goal
 
 abbrev pub invariant-loop-rest : goal.invariant-loop-rest
 invariant-loop-rest g l = record {

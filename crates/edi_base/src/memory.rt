@@ -1,0 +1,4 @@
+use std::alloc::AllocError;
+
+/// Want of memory.
+pub type MemoryFault = AllocError;
