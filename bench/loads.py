@@ -74,3 +74,17 @@ LOADS = {
     "other separators, CR LF": other_characters,
     "500,000 components": one_byte_components,
 }
+
+
+def with_check_digit(digits):
+    """A key of GS1, from the digits before its check digit."""
+    return digits + str(-sum(int(digit) * (1 if place % 2 else 3) for place, digit in enumerate(reversed(digits))) % 10)
+
+
+def register(count):
+    """A register of so many suppliers."""
+    parties = [with_check_digit(f"541{number:09}") for number in range(count + 2)]
+    entries = "".join(
+        f'\n[[supplier]]\ngln = "{gln}"\nprefix = "4{number:07}"\nkey = "key-{number:08}"\n' for number, gln in enumerate(parties[2:])
+    )
+    return f'hub = "{parties[0]}"\n\n[retailer]\ngln = "{parties[1]}"\nkey = "retail-key"\n{entries}'.encode()

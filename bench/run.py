@@ -1,9 +1,10 @@
 """Relays the loads of loads.py with the proved program and with plain.rs, one after the other, and prints
 ratios of instructions (where valgrind is there), of time and of peak memory, and the growth from 1/16 of the
-size to the whole. A peak below this script's own, from which each run is forked, shows as the script's. Where
-a bound is passed, it says so and ends with status 1."""
+size to the whole. Then checks a register of 1,000 suppliers beside one of one. A peak below this script's own,
+from which each run is forked, shows as the script's. Where a bound is passed, it says so and ends with status 1."""
 import os
 import re
+import resource
 import shutil
 import subprocess
 import sys
@@ -20,12 +21,16 @@ MOST_INSTRUCTIONS = 1.3
 MOST_GROWTH = 18
 MOST_MEMORY = 32
 
+# The bounds of a check: seconds that 1,000 suppliers take more than one, and MB of address space.
+MOST_CHECK_SECONDS = 0.010
+MOST_CHECK_MEMORY = 16
 
-def run(program, text):
+
+def run(program, text, words=WORDS):
     """Seconds, peak memory in KiB and output of one run."""
     with open(text, "rb") as source, tempfile.TemporaryFile() as target:
         began = time.perf_counter()
-        child = subprocess.Popen([program, *WORDS], stdin=source, stdout=target)
+        child = subprocess.Popen([program, *words], stdin=source, stdout=target)
         _, status, used = os.wait4(child.pid, 0)
         seconds = time.perf_counter() - began
         child.returncode = os.waitstatus_to_exitcode(status)
@@ -76,6 +81,37 @@ def size(ours, plain, name, text, data):
     return count, passed
 
 
+def least_room(words):
+    """The least address space, in whole MB, in which the words end with status 0."""
+    for room in range(1, 1000):
+        limit = lambda: resource.setrlimit(resource.RLIMIT_AS, (room * 10**6, room * 10**6))
+        if subprocess.run(words, stdout=subprocess.DEVNULL, stderr=subprocess.DEVNULL, preexec_fn=limit).returncode == 0:
+            return room
+
+
+def check(ours, folder):
+    """Prints what checks of registers take. Gives the bounds passed."""
+    found = {count: (os.path.join(folder, f"{count}.toml"), []) for count in (1, 1000)}
+    for count, (text, _) in found.items():
+        with open(text, "wb") as it:
+            it.write(loads.register(count))
+    for _ in range(5 * ROUNDS):
+        for count, (text, times) in found.items():
+            seconds, _, output = run(ours, text, ["check", "--register", text])
+            if output != f"ok {count} suppliers\n".encode():
+                sys.exit(f"a check printed {output!r}")
+            times.append(seconds)
+    more = min(found[1000][1]) - min(found[1][1])
+    room = least_room([ours, "check", "--register", found[1000][0]])
+    print(f"check of 1,000 suppliers: {1000 * more:.1f} ms more than of one, in {room} MB", flush=True)
+    passed = []
+    if more > MOST_CHECK_SECONDS:
+        passed.append(f"check: more than {1000 * MOST_CHECK_SECONDS:.0f} ms for 1,000 suppliers")
+    if not room or room > MOST_CHECK_MEMORY:
+        passed.append(f"check: more than {MOST_CHECK_MEMORY} MB")
+    return passed
+
+
 def main(ours, plain):
     passed = []
     with tempfile.TemporaryDirectory() as room:
@@ -88,6 +124,7 @@ def main(ours, plain):
                 print(f"{name}: 16 times the size, {whole / small:.1f} times the instructions", flush=True)
                 if whole > MOST_GROWTH * small:
                     passed.append(f"{name}: more than {MOST_GROWTH} times the instructions for 16 times the size")
+        passed += check(ours, room)
     for line in passed:
         print(f"past its bound: {line}")
     return 1 if passed else 0

@@ -1,7 +1,7 @@
 """The cases of the built program: words, standard input, and the expected standard output, standard error and status."""
 import os
 import sys
-from dataclasses import dataclass
+from dataclasses import dataclass, field
 
 sys.path.insert(0, os.path.join(os.path.dirname(os.path.abspath(__file__)), "..", "bench"))
 import loads
@@ -21,6 +21,8 @@ class Case:
     input_is_folder: bool = False
     # the most memory that the program may have, in bytes
     memory: int = 0
+    # files in the folder in which the program runs
+    files: dict = field(default_factory=dict)
 
 
 HUB, OWNER = "5412345000006", "4012345500004"
@@ -199,4 +201,84 @@ EXAMPLES = [
     relayed("the example other_separators.edi", example("other_separators.edi"), mail(message=with_note("Dock 3?+4, O?'Neill??'", MESSAGE), mark=",")),
 ]
 
-CASES = RELAY + CUTS + MEMORY + EXAMPLES
+RETAILER = "5412345000013"
+ALPHA, BETA, GAMMA, DELTA = OWNER, "8712345000004", "7612345000008", "3512345000005"
+
+
+def register(*suppliers, hub=HUB, retailer=RETAILER, key="retail-key"):
+    """The text of a register. A supplier is its GLN, its prefix and its key."""
+    entries = (f'\n[[supplier]]\ngln = "{gln}"\nprefix = "{prefix}"\nkey = "{secret}"\n' for gln, prefix, secret in suppliers)
+    return f'hub = "{hub}"\n\n[retailer]\ngln = "{retailer}"\nkey = "{key}"\n' + "".join(entries)
+
+
+def of_prefixes(*prefixes):
+    """A register of suppliers with these prefixes."""
+    return register(*((gln, prefix, f"key-of-{gln}") for gln, prefix in zip((ALPHA, BETA, GAMMA, DELTA), prefixes)))
+
+
+CHECK_WORDS = ["check", "--register", "register.toml"]
+
+
+def checked(name, source, line, status=0, **more):
+    source = source if isinstance(source, bytes) else source.encode()
+    return Case(name, CHECK_WORDS, output=text(line + "\n"), status=status, files={"register.toml": source}, **more)
+
+
+def faulty(name, source, fault):
+    return checked(name, source, f"fault {fault}", 1)
+
+
+def unread(name, **files):
+    return Case(name, CHECK_WORDS, error=b"file\n", status=3, **files)
+
+
+CHECK = [
+    checked("two suppliers", of_prefixes("40123455", "8712345"), "ok 2 suppliers"),
+    checked("no supplier", register(), "ok 0 suppliers"),
+    checked("one supplier", of_prefixes("40123455"), "ok 1 suppliers"),
+    checked("a prefix of four and one of twelve digits", of_prefixes("4012", "871234500000"), "ok 2 suppliers"),
+    checked("keys that are ignored", 'name = "Hub"\n' + of_prefixes("40123455") + "name = 1\n[more]\nx = 2\n", "ok 1 suppliers"),
+    checked("the example register.toml", example("register.toml"), "ok 2 suppliers"),
+    faulty("a prefix that begins the next", of_prefixes("4012345", "40123455"), "overlap 1 2"),
+    faulty("a prefix that the next begins", of_prefixes("40123455", "4012345"), "overlap 1 2"),
+    faulty("the first of two overlaps", of_prefixes("8712345", "40123455", "4012345", "8712"), "overlap 1 4"),
+    faulty("equal prefixes", of_prefixes("4012345", "4012345"), "overlap 1 2"),
+    faulty("a prefix of three digits", of_prefixes("401"), "prefix"),
+    faulty("a prefix of thirteen digits", of_prefixes("4012345500004"), "prefix"),
+    faulty("a prefix that is empty", of_prefixes(""), "prefix"),
+    faulty("the retailer's GLN as a supplier's", register((RETAILER, "40123455", "alpha-key-1")), "twice"),
+    faulty("the hub's GLN as the retailer's", register(retailer=HUB), "twice"),
+    faulty("a supplier twice", register((ALPHA, "40123455", "alpha-key-1"), (ALPHA, "8712345", "beta-key-1")), "twice"),
+    faulty("a wrong GLN behind a wrong key", register((ALPHA, "40123455", "short"), ("8712345000005", "8712345", "beta-key-1")), "gln"),
+    faulty("a wrong GLN of the hub", register(hub="5412345000007"), "gln"),
+    faulty("a key of seven bytes", register(key="retail7"), "key"),
+    faulty("a key of 65 bytes", register((ALPHA, "40123455", "k" * 65)), "key"),
+    checked("a key of 64 bytes", register((ALPHA, "40123455", "k" * 64)), "ok 1 suppliers"),
+    faulty("a blank in a key", register((ALPHA, "40123455", "alpha key")), "key"),
+    faulty("a letter past ASCII in a key", register((ALPHA, "40123455", "schl\u00fcssel")), "key"),
+    faulty("an empty text", "", "text"),
+    faulty("no TOML", "hub = 5412345000006 0", "text"),
+    faulty("a GLN that is a number", register().replace(f'"{HUB}"', HUB), "text"),
+    faulty("no key of the retailer", register().replace("key = ", "secret = "), "text"),
+    faulty("a list of prefixes", of_prefixes("40123455").replace('"40123455"', '["40123455"]'), "text"),
+    faulty("one key twice", 'hub = "x"\n' + register(), "text"),
+    faulty("1,001 suppliers, none of them right", register(*[("", "", "")] * 1001), "many"),
+    faulty("1,000 suppliers, none of them right", register(*[("", "", "")] * 1000), "gln"),
+    checked("line ends up to 1,048,576 bytes", register().encode().ljust(TEXT_LIMIT, b"\n"), "ok 0 suppliers"),
+    unread("a register of 1,048,577 bytes", files={"register.toml": register().encode().ljust(TEXT_LIMIT + 1, b"\n")}),
+    unread("a register that is not UTF-8", files={"register.toml": b"\xff" + register().encode()}),
+    unread("no such file"),
+    Case("a folder for a register", ["check", "--register", "."], error=b"file\n", status=3),
+    Case("a verdict that cannot be printed", CHECK_WORDS, output_to="/dev/full", error=b"file\n", status=3, files={"register.toml": register().encode()}),
+    Case("the help of check", ["check", "--help"], output=lambda it: b"Usage: edihub check" in it and b"--register" in it and b"overlap I J" in it),
+    Case("the help of the program names check", ["--help"], output=lambda it: b"check" in it),
+    wrong_words("no register for check", ["check"]),
+    wrong_words("two registers for check", [*CHECK_WORDS, "--register", "other.toml"]),
+    wrong_words("a word too many for check", [*CHECK_WORDS, "more"]),
+    *(
+        Case(f"want of memory for a register, {mib} MiB in all", CHECK_WORDS, error=b"memory\n", status=3, memory=mib << 20, files={"register.toml": register(*[("", "", "")] * 15000).encode()})
+        for mib in (4, 6, 8)
+    ),
+]
+
+CASES = RELAY + CUTS + MEMORY + EXAMPLES + CHECK

@@ -37,6 +37,9 @@ def gate():
 
 def run(program, case, folder):
     """Why the case fails, or nothing."""
+    for name, data in case.files.items():
+        with open(os.path.join(folder, name), "wb") as file:
+            file.write(data)
     with tempfile.TemporaryFile() as source:
         source.write(case.input)
         source.seek(0)

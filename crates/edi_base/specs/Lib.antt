@@ -1,3 +1,4 @@
 pub mod Sink
 pub mod Source
 pub mod Buffer
+pub mod Seen

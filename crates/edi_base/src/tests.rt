@@ -176,3 +176,19 @@ fn a_failed_read_is_answered(rt: HostRuntime) -> Result<(), Fail> {
     assert!(rt; source.failed());
     Ok(())
 }
+
+#[test]
+fn a_text_comes_again(rt: HostRuntime) -> Result<(), Fail> {
+    let mut seen = Seen::new(rt.alloc());
+    for (text, is_new) in [
+        (b"b".as_slice(), true),
+        (b"a", true),
+        (b"", true),
+        (b"ab", true),
+        (b"a", false),
+        (b"", false),
+    ] {
+        assert_eq!(rt; seen.is_new(text)?, is_new);
+    }
+    Ok(())
+}

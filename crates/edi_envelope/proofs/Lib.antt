@@ -5,6 +5,5 @@ pub mod JoinLemmas
 pub mod LawLemmas
 pub mod LimitLemmas
 pub mod MailLemmas
-pub mod MessageLemmas
 pub mod OpenLemmas
 pub mod MomentLemmas

@@ -11,7 +11,8 @@ use Rattle.edi_envelope.specs.Segments.{is_unb, is_unz, component, first_segment
 use Rattle.edi_envelope.specs.Limits.{counts}
 use Rattle.edi_envelope.specs.Header.{is_header, is_test, is_seven_bit_set, head_of}
 use Rattle.edi_envelope.specs.Blocks.{before_message, blocks}
-use Rattle.edi_envelope.specs.Message.{is_block, is_within_limits, is_counted, is_closed, reference_of, has_twice, message_of}
+use Rattle.edi_base.specs.Seen.{has_twice}
+use Rattle.edi_envelope.specs.Message.{is_block, is_within_limits, is_counted, is_closed, reference_of, message_of}
 
 -- UNB first, UNZ last, and neither between them
 unfoldable pub is_framed : List Segment → Bool

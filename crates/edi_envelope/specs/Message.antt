@@ -1,5 +1,5 @@
 -- A message, UNH to UNT (ISO 9735 annex A). Elements and components are counted from 0.
-use Rattle.std.specs.Prelude.{ℕ, Bool, false, not, ◌&&◌, ◌||◌, List, [], ◌∷◌, length}
+use Rattle.std.specs.Prelude.{ℕ, Bool, not, ◌&&◌, ◌||◌, List, length}
 use Rattle.std.specs.List.{list_any}
 use Rattle.std.specs.Str.{bytes_eq}
 use Rattle.edi_tokens.specs.declared.segment.Segment.{Segment}
@@ -37,11 +37,6 @@ is_counted block = counts (component (last_segment block) 0 0) (length block)
 -- the message reference number in UNT is that in UNH
 abbrev pub is_closed : List Segment → Bool
 is_closed block = bytes_eq (component (last_segment block) 1 0) (reference_of block)
-
--- one of the references stands twice
-abbrev pub has_twice : List (List ℕ) → Bool
-has_twice [] = false
-has_twice (reference ∷ others) = list_any (bytes_eq reference) others || has_twice others
 
 abbrev pub message_of : List Segment → RawMessage
 message_of block = record {

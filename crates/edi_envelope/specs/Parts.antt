@@ -9,7 +9,8 @@ use Rattle.edi_envelope.specs.declared.fault.EnvelopeFault.{EnvelopeFault}
 use Rattle.edi_envelope.specs.declared.fault.EnvelopeFault.TheVariants.{MessageFrame, MessageHeader, SegmentCount, MessageReference, MessageCount, ControlReference, RepeatedReference, TestIndicator, TooManyMessages, CharacterSet}
 use Rattle.edi_envelope.specs.Limits.{counts}
 use Rattle.edi_envelope.specs.Header.{is_test}
-use Rattle.edi_envelope.specs.Message.{is_block, is_within_limits, is_counted, is_closed, reference_of, has_twice}
+use Rattle.edi_base.specs.Seen.{has_twice}
+use Rattle.edi_envelope.specs.Message.{is_block, is_within_limits, is_counted, is_closed, reference_of}
 use Rattle.edi_envelope.specs.Blocks.{before_message}
 use Rattle.edi_envelope.specs.Interchange.{messages_in}
 

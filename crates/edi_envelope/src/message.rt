@@ -1,13 +1,14 @@
 ghost use Rattle.std.specs.Prelude.{◌≡◌, length, map, OnOk, IfOk, Ok};
 ghost use Rattle.std.specs.List.{list_any, list_all};
+ghost use Rattle.edi_base.specs.Seen.{has_twice};
 ghost use Rattle.edi_envelope.specs.Segments.{component, first_segment, last_segment};
 ghost use Rattle.edi_envelope.specs.Message as spec;
 
 use crate::interchange::RawMessage;
 use crate::limits;
+use edi_base::Seen;
 use edi_tokens::{Items, MemoryFault, Segment};
 use std::alloc::Global;
-use std::collections::BTreeSet;
 
 /// A component of the first segment, element and place counted from 0.
 pub(crate) fn first_component(segments: &[Segment], element: usize, place: usize) -> &[u8]
@@ -93,11 +94,11 @@ pub(crate) fn is_closed(block: &[Segment]) -> bool
 
 /// Whether two of the messages have one reference.
 pub(crate) fn has_twice(alloc: Global, blocks: &[Items<Segment>]) -> Result<bool, MemoryFault>
-    ensures { IfOk result (λ twice. twice ≡ spec.has_twice (map spec.reference_of blocks.now)) }
+    ensures { IfOk result (λ twice. twice ≡ has_twice (map spec.reference_of blocks.now)) }
 {
-    let mut seen = BTreeSet::new(alloc);
+    let mut seen = Seen::new(alloc);
     for block in blocks {
-        if !seen.insert(reference_of(block.as_slice()))? {
+        if !seen.is_new(reference_of(block.as_slice()))? {
             return Ok(true);
         }
     }

@@ -4,7 +4,9 @@
 use clap::Error;
 use clap::error::ErrorKind;
 use edi_tokens::{OfRead, OfWrite};
-use hub_app::{Words, read_words, relay_run};
+use hub_app::{Words, check_run, read_register_text, read_words, relay_run};
+use std::fmt::Display;
+use std::fs::File;
 use std::process::ExitCode;
 use std::{env, io};
 
@@ -15,7 +17,7 @@ const USAGE: u8 = 2;
 const FAILED: u8 = 3;
 
 // Prints a line on standard error. Where that fails, the exit status alone tells.
-fn tell(rt: &HostRuntime, line: &str, status: u8) -> u8 {
+fn tell<T: Display + Drop>(rt: &HostRuntime, line: T, status: u8) -> u8 {
     let _ = rt.eprintln(line);
     status
 }
@@ -31,9 +33,26 @@ fn tell_words(rt: &HostRuntime, error: &Error) -> u8 {
     }
 }
 
+// Checks the register in a file.
+fn check(rt: &HostRuntime, path: &str) -> u8 {
+    let Ok(file) = File::open(rt, path) else {
+        return tell(rt, "file", FAILED);
+    };
+    match read_register_text(rt.alloc(), &mut OfRead::new(file)) {
+        Ok(text) => check_run(
+            rt.alloc(),
+            text.as_str(),
+            &mut OfWrite::new(rt.stdout()),
+            &mut OfWrite::new(rt.stderr()),
+        ),
+        Err(fault) => tell(rt, fault, FAILED),
+    }
+}
+
 // Runs the command that the words name.
 fn run(rt: &HostRuntime, words: &[String]) -> u8 {
     match read_words(rt.alloc(), words) {
+        Ok(Words::Check(words)) => check(rt, words.register.as_str()),
         Ok(Words::Relay(relay)) => relay_run(
             rt.alloc(),
             &relay,

@@ -1,15 +1,15 @@
 -- The first overlap in a list of prefixes, and the freedom of suppliers with one prefix each.
-use Rattle.std.proofs.Common.{◌≡◌, ℕ, ◌+◌, ◌-◌, ◌<◌, ◌≤◌, Bool, true, false, cond, List, [], ◌∷◌, length, get_or, drop, map, All, Some, None, refl, sym, ap, ◌∙◌, ⊎_elim, arith, length-drop}
+use Rattle.std.proofs.Common.{◌≡◌, ℕ, ◌+◌, ◌-◌, ◌<◌, ◌≤◌, Bool, true, false, cond, List, [], ◌∷◌, length, get_or, drop, map, All, Some, None, refl, sym, ap, ap₂, ◌∙◌, ⊎_elim, zero-add, arith, length-drop}
 use Rattle.std.specs.List.{between, list_any, position_or_len}
 use Rattle.std.specs.Prelude.{Option, position}
 use Rattle.std.proofs.lemmas.Bool.{both_ways, cases_lt, cases_order, false_from_ne_true, ltb-false}
 use Rattle.std.proofs.lemmas.Bool.Decides.{Decides-by_or}
-use Rattle.std.proofs.lemmas.List.{get_or-drop, get_or-map, get_or_read, length-map}
+use Rattle.std.proofs.lemmas.List.{drop_more, get_or-drop, get_or-map, get_or_read, length-map}
 use Rattle.std.proofs.lemmas.List.Elements.{All-cons, All-nil}
 use Rattle.std.proofs.lemmas.List.Quantifiers.{position-Some}
 use Rattle.std.proofs.lemmas.Slice.{between_to_end}
 use Rattle.std.proofs.lemmas.List.Sums.{fails_before_first}
-use Rattle.gs1_ids.specs.Overlap.{OverlapAt, AreApart, PrefixFree, SsccHasOneSupplier}
+use Rattle.gs1_ids.specs.Overlap.{OverlapAt, AreApart, PrefixFree, SsccHasOneSupplier, overlap_from, first_overlap_of}
 use Rattle.gs1_ids.specs.Prefix.{overlap}
 use Rattle.gs1_ids.specs.Sscc.{under, under_some}
 use Rattle.gs1_ids.proofs.Prefixes.{Decides-begins, prefixes_overlap}
@@ -56,6 +56,32 @@ module _ (ps : List (List ℕ)) (i : ℕ) where
 pub search_behind : (ps : List (List ℕ)) (i : ℕ) (p : List ℕ) (answer : Option ℕ) → i < length ps → p ≡ get_or ps i p → answer ≡ position (overlap p) (between (i + 1) (length ps) ps) → answer ≡ position (overlap (get_or ps i [])) (drop (i + 1) ps)
 search_behind ps i p answer within read e =
     e ∙ ap (λ q. position (overlap q) (between (i + 1) (length ps) ps)) (get_or_read ps i p within read []) ∙ ap (position (overlap (get_or ps i []))) (between_to_end ps (i + 1) (length ps) (omega arith))
+
+-- places in a rest of a list, as places in the list
+abbrev pub moved_by : ℕ → Option (ℕ × ℕ) → Option (ℕ × ℕ)
+moved_by n None = None
+moved_by n (Some places) = Some (n + places.0, n + places.1)
+
+pub moved_by-0 : (o : Option (ℕ × ℕ)) → moved_by 0 o ≡ o
+moved_by-0 None = refl
+moved_by-0 (Some places) = ap₂ (λ i j. Some (i, j)) (zero-add places.0) (zero-add places.1)
+
+moved_by-more : (n : ℕ) (o : Option (ℕ × ℕ)) → moved_by n (overlap_from None o) ≡ moved_by (n + 1) o
+moved_by-more n None = refl
+moved_by-more n (Some places) = ap₂ (λ i j. Some (i, j)) (omega arith) (omega arith)
+
+-- the first overlap from a place on, by what the search behind that place answers
+pub found_next : (ps : List (List ℕ)) (i k : ℕ) → i < length ps → position (overlap (get_or ps i [])) (drop (i + 1) ps) ≡ Some k → moved_by i (first_overlap_of (drop i ps)) ≡ Some (i, i + 1 + k)
+found_next ps i k within e =
+    ap (λ rest. moved_by i (first_overlap_of rest)) (drop_more ps i [] within)
+    ∙ ap (λ o. moved_by i (overlap_from o (first_overlap_of (drop (i + 1) ps)))) e
+    ∙ ap₂ (λ m n. Some (m, n)) (omega arith) (omega arith)
+
+pub found_later : (ps : List (List ℕ)) (i : ℕ) → i < length ps → position (overlap (get_or ps i [])) (drop (i + 1) ps) ≡ None → moved_by i (first_overlap_of (drop i ps)) ≡ moved_by (i + 1) (first_overlap_of (drop (i + 1) ps))
+found_later ps i within e =
+    ap (λ rest. moved_by i (first_overlap_of rest)) (drop_more ps i [] within)
+    ∙ ap (λ o. moved_by i (overlap_from o (first_overlap_of (drop (i + 1) ps)))) e
+    ∙ moved_by-more i (first_overlap_of (drop (i + 1) ps))
 
 -- the freedom of suppliers with one prefix each is that of the prefixes
 AreApart-alone : (p q : List ℕ) → overlap p q ≡ false → AreApart (p ∷ []) (q ∷ [])

@@ -1,5 +1,5 @@
 -- When the prefixes of suppliers are free of one another.
-use Rattle.std.specs.Prelude.{◌≡◌, ℕ, ◌<◌, ◌≤◌, false, IsTrue, List, [], length, All, AllPairs, slice_index_or}
+use Rattle.std.specs.Prelude.{◌≡◌, ℕ, ◌+◌, ◌<◌, ◌≤◌, false, IsTrue, List, [], ◌∷◌, length, All, AllPairs, slice_index_or, position, Option, Some, None, option_map}
 use Rattle.gs1_ids.specs.Prefix.{Begins, overlap}
 use Rattle.gs1_ids.specs.Sscc.{under_some}
 
@@ -14,6 +14,15 @@ pub record IsFirstOverlap (prefixes : List (List ℕ)) (i j : ℕ) : Type 0 wher
   pub here : OverlapAt prefixes i j
   pub least_first : (k l : ℕ) → OverlapAt prefixes k l → i ≤ k
   pub least_second : (l : ℕ) → OverlapAt prefixes i l → j ≤ l
+
+-- the same as a list answers it: the place of a later prefix that overlaps the first, or else the places in the rest
+abbrev pub overlap_from : Option ℕ → Option (ℕ × ℕ) → Option (ℕ × ℕ)
+overlap_from (Some second) later = Some (0, second + 1)
+overlap_from None later = option_map (λ places. (places.0 + 1, places.1 + 1)) later
+
+abbrev pub first_overlap_of : List (List ℕ) → Option (ℕ × ℕ)
+first_overlap_of [] = None
+first_overlap_of (prefix ∷ others) = overlap_from (position (overlap prefix) others) (first_overlap_of others)
 
 -- no prefix of one supplier begins one of another supplier
 abbrev pub AreApart : List (List ℕ) → List (List ℕ) → Type 0

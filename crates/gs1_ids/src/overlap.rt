@@ -1,6 +1,6 @@
 //! Prefixes that overlap.
 ghost use Rattle.std.specs.Prelude.{◌≡◌, ◌↔◌, [], ◌∷◌, map, position, IsNone, IfSome};
-ghost use Rattle.gs1_ids.specs.Overlap.{IsFirstOverlap, PrefixFree, PrefixesOfOneOverlap, SsccHasOneSupplier};
+ghost use Rattle.gs1_ids.specs.Overlap.{first_overlap_of, IsFirstOverlap, PrefixFree, PrefixesOfOneOverlap, SsccHasOneSupplier};
 ghost use Rattle.gs1_ids.specs.Prefix.{overlap};
 
 use crate::prefix::Prefix;
@@ -17,6 +17,7 @@ fn overlapped(prefix: &Prefix, others: &[Prefix]) -> Option<usize>
 /// of one another. It compares each prefix with each later one, so its cost grows with the square of
 /// their number.
 pub fn first_overlap(prefixes: &[Prefix]) -> Option<(usize, usize)>
+    ensures value { result ≡ first_overlap_of prefixes.now }
     ensures least { IfSome result (λ places. IsFirstOverlap prefixes.now places.0 places.1) }
     ensures free { IsNone result ↔ PrefixFree (map (λ prefix. prefix ∷ []) prefixes.now) }
 {

@@ -1,2 +1,3 @@
 pub mod Mails
 pub mod Lines
+pub mod Texts

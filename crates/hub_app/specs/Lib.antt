@@ -1,3 +1,5 @@
+pub mod Check
+pub mod Exit
 pub mod Relay
 pub mod Run
 pub mod Words

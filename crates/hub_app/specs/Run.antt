@@ -1,5 +1,5 @@
 -- What a run of `relay` between a reader and two writers does, by the bytes that are known of each.
-use Rattle.std.specs.Prelude.{◌≡◌, ℕ, Bool, false, List, ◌++◌, take, codes, Option, IfSome, Ok, Err}
+use Rattle.std.specs.Prelude.{◌≡◌, ℕ, List, ◌++◌, take, codes, Option, IfSome, Ok, Err}
 use Rattle.std.specs.Io.KnownBytes.{Appends}
 use Rattle.edi_base.specs.Buffer.{AppendsFront}
 use Rattle.hub_app.specs.declared.relay.RelayWords.{RelayWords}
@@ -21,11 +21,6 @@ DeliversFront known words old new = IfSome known (λ bytes. (mail : List ℕ) ×
 -- what was read is refused
 abbrev pub IsRefused : Option (List ℕ) → RelayWords → RelayFault → Type 0
 IsRefused known words fault = IfSome known (λ bytes. relayed (take read_limit bytes) words ≡ Err fault)
-
--- a line was written, or, where the writer failed, a front of it
-pub record Tells (old new : Option (List ℕ)) (failed : Bool) (line : List ℕ) : Type 0 where
-  pub front : AppendsFront old new line
-  pub whole : failed ≡ false → Appends old new line
 
 abbrev pub refusal : RelayFault → List ℕ
 refusal fault = codes "refused " ++ (code_of fault ++ codes "\n")

@@ -1,13 +1,16 @@
 //! The parts of the program `edihub`.
 #![tactic(auto)]
 
+mod check;
+mod exit;
 mod relay;
 mod run;
 mod words;
 
+pub use check::{TextFault, check_run, read_register_text};
 pub use relay::{RelayFault, RelayWords, relay_text};
 pub use run::relay_run;
-pub use words::{Words, read_words};
+pub use words::{CheckWords, Words, read_words};
 
 #[cfg(test)]
 mod tests;

@@ -5,21 +5,16 @@ ghost use Rattle.std.specs.Io.KnownBytes.{Appends, Keeps};
 ghost use Rattle.edi_base.specs.Buffer.{AppendsFront};
 ghost use Rattle.hub_app.specs.declared.relay.RelayFault.{RelayFault};
 ghost use Rattle.hub_app.specs.Relay.{AreRelayWords};
-ghost use Rattle.hub_app.specs.Run.{Delivers, DeliversFront, IsRefused, Tells, refusal};
+ghost use Rattle.hub_app.specs.Exit.{Tells};
+ghost use Rattle.hub_app.specs.Run.{Delivers, DeliversFront, IsRefused, refusal};
 
+use crate::exit::{DONE, FAILED, REFUSED, tell};
 use crate::relay::{RelayFault, RelayWords, relay_text};
 use edi_tokens::{ReadFault, Sink, Source, WriteFault, read_to_limit, write_bytes};
 use std::alloc::Global;
 
 /// One byte more than the longest text is read, so that a longer one shows.
 const READ_LIMIT: usize = 1_048_577;
-
-/// The exit statuses of the program: done, refused, and a failed read or write or want of memory.
-const DONE: u8 = 0;
-
-const REFUSED: u8 = 1;
-
-const FAILED: u8 = 3;
 
 // Writes the line that a refusal prints.
 fn write_refusal<E: Sink>(fault: RelayFault, err: &mut E) -> Result<(), WriteFault>
@@ -37,13 +32,6 @@ fn tell_refusal<E: Sink>(fault: RelayFault, err: &mut E)
     ensures { Tells (E.contents err.old) (E.contents err.new) (E.failed err.new) (refusal fault) }
 {
     let _ = write_refusal(fault, err);
-}
-
-// Prints a line. Where the writer fails, the exit status alone tells.
-fn tell<E: Sink>(line: &[u8], err: &mut E)
-    ensures { Tells (E.contents err.old) (E.contents err.new) (E.failed err.new) line.now }
-{
-    let _ = write_bytes(line, err);
 }
 
 /// Reads an interchange, at most 1,048,577 bytes, and writes its mail texts to `out`. Answers the exit status: 0 where

@@ -1,7 +1,9 @@
 ghost use Rattle.std.specs.Prelude.{◌≤◌, IfSome};
 ghost use Rattle.hub_app.specs.Relay.{AreRelayWords};
 
-use crate::{RelayFault, RelayWords, relay_run, relay_text};
+use crate::{
+    RelayFault, RelayWords, TextFault, check_run, read_register_text, relay_run, relay_text,
+};
 use edi_envelope::{EnvelopeFault, Moment, open};
 use edi_tokens::{OfRead, OfWrite, Sink, Source, TokenFault, body_text, read_all};
 use std::alloc::Global;
@@ -210,5 +212,64 @@ fn a_refusal_that_cannot_be_told(rt: HostRuntime) -> Result<(), Fail> {
         1
     );
     assert_eq!(rt; err.taken.as_slice(), b"refused E".as_slice());
+    Ok(())
+}
+
+const REGISTER: &str =
+    "hub = \"5412345000006\"\nretailer = { gln = \"5412345000013\", key = \"retail-key\" }\n[[supplier]]\ngln = \"4012345500004\"\nprefix = \"40123455\"\nkey = \"alpha-key-1\"\n";
+
+#[test]
+fn a_register_is_checked(rt: HostRuntime) -> Result<(), Fail> {
+    let alloc = rt.alloc();
+    for (text, status, told) in [
+        (REGISTER, 0, b"ok 1 suppliers\n".as_slice()),
+        ("hub = 1", 1, b"fault text\n"),
+    ] {
+        let mut out = OfWrite::new(Vec::new(alloc));
+        let mut err = OfWrite::new(Vec::new(alloc));
+        assert_eq!(rt; check_run(alloc, text, &mut out, &mut err), status);
+        assert_eq!(rt; out.into_inner().as_slice(), told);
+        assert!(rt; err.into_inner().is_empty());
+    }
+    Ok(())
+}
+
+#[test]
+fn a_verdict_that_fails_midway(rt: HostRuntime) -> Result<(), Fail> {
+    let alloc = rt.alloc();
+    for (room, answers_error, status) in [(0usize, true, 3), (14, false, 3), (15, true, 0)] {
+        let mut out = Slow {
+            taken: Vec::new(alloc),
+            room,
+            answers_error,
+        };
+        let mut err = OfWrite::new(Vec::new(alloc));
+        assert_eq!(rt; check_run(alloc, REGISTER, &mut out, &mut err), status);
+        assert_eq!(rt; Some(out.taken.as_slice()), b"ok 1 suppliers\n".get(..room));
+        let told: &[u8] = if status == 0 { b"" } else { b"file\n" };
+        assert_eq!(rt; err.into_inner().as_slice(), told);
+    }
+    Ok(())
+}
+
+#[test]
+fn the_text_of_a_register_is_read(rt: HostRuntime) -> Result<(), Fail> {
+    let alloc = rt.alloc();
+    let text = read_register_text(alloc, &mut OfRead::new(REGISTER.as_bytes()))?;
+    assert_eq!(rt; text.as_str(), REGISTER);
+    let longest = Vec::from_elem(alloc, b'\n', 1_048_577)?;
+    let text = read_register_text(alloc, &mut OfRead::new(&longest[1..]))?;
+    assert_eq!(rt; text.len(), 1_048_576);
+    let too_long = read_register_text(alloc, &mut OfRead::new(longest.as_slice()));
+    assert_eq!(rt; too_long.err(), Some(TextFault::File));
+    let no_text = read_register_text(alloc, &mut OfRead::new(b"hub = \"\xff\"".as_slice()));
+    assert_eq!(rt; no_text.err(), Some(TextFault::File));
+    let mut broken = Broken {
+        left: &REGISTER.as_bytes()[..40],
+    };
+    assert_eq!(rt;
+        read_register_text(alloc, &mut broken).err(),
+        Some(TextFault::File)
+    );
     Ok(())
 }

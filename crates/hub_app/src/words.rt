@@ -11,9 +11,17 @@ use edi_envelope::Moment;
 use std::alloc::{AllocError, Global};
 use std::convert::AsStr;
 
+/// What `check` is asked for.
+#[derive(Debug, Drop)]
+pub struct CheckWords {
+    /// The path of the register's file.
+    pub register: String,
+}
+
 /// What the words ask for: a command with its options.
 #[derive(Drop)]
 pub enum Words {
+    Check(CheckWords),
     Relay(RelayWords),
 }
 
@@ -56,10 +64,45 @@ fn relay_command<'a>(alloc: Global) -> Result<Command<'a>, AllocError> {
         ))
 }
 
+const CHECK: &str =
+    "Checks a register, and prints ok with the number of suppliers, or the register's first fault";
+
+const CHECK_HELP: &str = "The register is a TOML file of at most 1048576 bytes:
+
+  hub = \"5412345000006\"
+
+  [retailer]
+  gln = \"5412345000013\"
+  key = \"retail-key\"
+
+  [[supplier]]
+  gln = \"4012345500004\"
+  prefix = \"40123455\"
+  key = \"alpha-key-1\"
+
+Faults, in the order in which they are looked for:
+  text         no TOML, or an entry is missing or no string
+  many         more than 1000 suppliers
+  gln          a GLN is not 13 digits, or its check digit is wrong
+  twice        two GLNs are equal
+  prefix       a prefix is not 4 to 12 digits
+  key          a key is not 8 to 64 visible characters
+  overlap I J  the prefix of supplier I begins that of supplier J, or the other way round
+
+Exit status: 0 a register; 1 a fault; 2 wrong words; 3 the file cannot be read, is not UTF-8 or too long, or want of memory";
+
+fn check_command<'a>(alloc: Global) -> Result<Command<'a>, AllocError> {
+    Command::new(alloc, "check")
+        .about(CHECK)
+        .after_help(CHECK_HELP)
+        .arg(option(alloc, "register", "FILE", "The register, a TOML file"))
+}
+
 fn program<'a>(alloc: Global) -> Result<Command<'a>, AllocError> {
     Command::new(alloc, "edihub")
         .about("The EDI hub of one retailer (GS1 EANCOM 2002, ISO 9735 syntax version 3)")
         .subcommand_required(true)
+        .subcommand(check_command(alloc)?)?
         .subcommand(relay_command(alloc)?)
 }
 
@@ -97,6 +140,12 @@ pub fn read_words<'a, S: AsStr>(alloc: Global, words: &'a [S]) -> Result<Words, 
     let mut program = program(alloc)?;
     let matches = program.try_get_matches_from_mut(words)?;
     match matches.subcommand() {
+        Some(("check", options)) => match options.get_str("register") {
+            Some(path) => Ok(Words::Check(CheckWords {
+                register: String::from_str(alloc, path)?,
+            })),
+            None => Err(program.error(ErrorKind::MissingRequiredArgument, "no register is named")?),
+        },
         Some(("relay", options)) => match relay_words(options) {
             Some(relay) => Ok(Words::Relay(relay)),
             None => Err(program.error(ErrorKind::ValueValidation, RELAY_LIMITS)?),

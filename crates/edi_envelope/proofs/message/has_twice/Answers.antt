@@ -1,40 +1,45 @@
-use Rattle.std.proofs.Common.{◌≡◌, ◌+◌, map, take, drop, true, false, sym, ap, ◌∙◌, [], ◌∷◌, ◌++◌, ◌||◌}
-use Rattle.std.specs.List.{list_any}
+use Rattle.std.proofs.Common.{◌≡◌, ℕ, ◌<◌, List, length, get_or, map, true, false, ◌||◌, sym, ap, ◌∙◌}
 use Rattle.std.specs.Str.{bytes_eq}
 use Rattle.std.proofs.lemmas.Bool.{not-true, not-false}
-use Rattle.std.proofs.lemmas.List.{map_more}
-use Rattle.edi_envelope.specs.Message.{reference_of, has_twice}
-use Rattle.edi_envelope.proofs.MessageLemmas.{is_seen, is_seen-insert, contains-seen, has_twice-push, has_twice-again, list_any-push, map_split}
+use Rattle.std.proofs.lemmas.List.{get_or-map, length-map}
+use Rattle.edi_base.specs.Seen.{is_among}
+use Rattle.edi_base.proofs.Twice.{comes_again, comes_first, among_more}
+use Rattle.edi_tokens.specs.declared.segment.Segment.{Segment}
+use Rattle.edi_envelope.specs.Message.{reference_of}
 use Rattle.edi_envelope.proofs.message.has_twice.Goals as goal
+
+-- the reference of the block at a place
+module _ (blocks : List (List Segment)) (i : ℕ) (block : List Segment) (within : i < length blocks) (at : block ≡ get_or blocks i block) where
+  inside : i < length (map reference_of blocks)
+  inside = rw (length-map blocks reference_of) within
+
+  there : reference_of block ≡ get_or (map reference_of blocks) i (reference_of block)
+  there = ap reference_of at ∙ sym (get_or-map reference_of blocks i block (reference_of block) within)
 
 pub returns-then-not-branch : goal.returns-then-not-branch
 returns-then-not-branch c =
+    let blocks = c.args.blocks.now in
     let block = c.block-item.result in
-    let key : c.reference_of.result.now ≡ reference_of block = c.reference_of.ensures ∙ ap reference_of c.as_slice.ensures in
     let i = c.loop-block.block-index in
-    let found = sym (contains-seen c.reference_of.result c.loop-block.seen.keys) ∙ not-false _ (sym c.in_ok-insert.ensures.added ∙ c.if-not-branch.true) in
-    let among : list_any (bytes_eq (reference_of block)) (map reference_of (take i c.args.blocks.now)) ≡ true =
-    rw (← key) (sym (c.loop-block.invariant.seen c.reference_of.result.now) ∙ found) in
-    let parts = map_split reference_of c.args.blocks.now i block c.loop-block-test.true in
-    sym (ap has_twice (parts ∙ ap (λ b. map reference_of (take i c.args.blocks.now) ++ reference_of b ∷ map reference_of (drop (i + 1) c.args.blocks.now)) (sym c.block-item.is))
-    ∙ has_twice-again (map reference_of (take i c.args.blocks.now)) (reference_of block) _ among)
+    let within = c.loop-block-test.true in
+    let key : c.reference_of.result.now ≡ reference_of block = c.reference_of.ensures ∙ ap reference_of c.as_slice.ensures in
+    let found : is_among c.reference_of.result.now c.loop-block.seen ≡ true = not-false _ (sym c.in_ok-is_new.ensures.new ∙ c.if-not-branch.true) in
+    sym (comes_again (map reference_of blocks) i (reference_of block) (inside blocks i block within c.block-item.is) (there blocks i block within c.block-item.is)
+    (sym (c.loop-block.invariant.seen (reference_of block)) ∙ rw (← key) found))
 
 pub loop-block-preserved : goal.loop-block-preserved
 loop-block-preserved c =
+    let blocks = c.args.blocks.now in
     let block = c.block-item.result in
-    let key : c.reference_of.result.now ≡ reference_of block = c.reference_of.ensures ∙ ap reference_of c.as_slice.ensures in
     let i = c.loop-block.block-index in
-    let before = map reference_of (take i c.args.blocks.now) in
-    let not_found = sym (contains-seen c.reference_of.result c.loop-block.seen.keys) ∙ not-true _ (sym c.in_ok-insert.ensures.added ∙ c.if-not-branch.false) in
-    let new : list_any (bytes_eq (reference_of block)) before ≡ false =
-    rw (← key) (sym (c.loop-block.invariant.seen c.reference_of.result.now) ∙ not_found) in
-    let more : map reference_of (take (i + 1) c.args.blocks.now) ≡ before ++ reference_of block ∷ [] =
-    map_more reference_of c.args.blocks.now i block c.loop-block-test.true ∙ ap (λ b. before ++ reference_of b ∷ []) (sym c.block-item.is) in
+    let within = c.loop-block-test.true in
+    let key : c.reference_of.result.now ≡ reference_of block = c.reference_of.ensures ∙ ap reference_of c.as_slice.ensures in
+    let new : is_among c.reference_of.result.now c.loop-block.seen ≡ false = not-true _ (sym c.in_ok-is_new.ensures.new ∙ c.if-not-branch.false) in
     record {
-      once = ap has_twice more ∙ has_twice-push before (reference_of block) c.loop-block.invariant.once new;
-      seen = λ q.
-          ap (is_seen q) c.in_ok-insert.ensures.keys ∙ is_seen-insert q c.loop-block.seen.keys c.reference_of.result
-          ∙ ap (λ rest. bytes_eq q c.reference_of.result.now || rest) (c.loop-block.invariant.seen q)
-          ∙ ap (λ r. bytes_eq q r || list_any (bytes_eq q) before) key
-          ∙ sym (ap (list_any (bytes_eq q)) more ∙ list_any-push (bytes_eq q) before (reference_of block));
+      once = comes_first (map reference_of blocks) i (reference_of block) (inside blocks i block within c.block-item.is) (there blocks i block within c.block-item.is) c.loop-block.invariant.once
+          (sym (c.loop-block.invariant.seen (reference_of block)) ∙ rw (← key) new);
+      seen = λ text.
+          c.in_ok-is_new.ensures.seen text ∙ ap (λ t. bytes_eq text t || is_among text c.loop-block.seen) key
+          ∙ ap (λ rest. bytes_eq text (reference_of block) || rest) (c.loop-block.invariant.seen text)
+          ∙ sym (among_more (map reference_of blocks) i (reference_of block) (inside blocks i block within c.block-item.is) (there blocks i block within c.block-item.is) text);
     }

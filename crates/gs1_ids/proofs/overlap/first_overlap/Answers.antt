@@ -1,7 +1,8 @@
-use Rattle.std.proofs.Common.{◌≡◌, ◌+◌, refl, sym, subst, ◌∙◌, ⊎_elim, arith}
+use Rattle.std.proofs.Common.{◌≡◌, ◌+◌, refl, sym, subst, ap, ◌∙◌, ⊎_elim, arith}
 use Rattle.std.proofs.lemmas.Bool.{cases_lt, true≢false}
-use Rattle.gs1_ids.specs.Overlap.{OverlapAt, IsFirstOverlap}
-use Rattle.gs1_ids.proofs.Overlaps.{search_behind, found_behind, none_behind, free_if_none, none_if_free}
+use Rattle.std.proofs.lemmas.List.{drop_all}
+use Rattle.gs1_ids.specs.Overlap.{OverlapAt, IsFirstOverlap, first_overlap_of}
+use Rattle.gs1_ids.proofs.Overlaps.{search_behind, found_behind, none_behind, free_if_none, none_if_free, moved_by, moved_by-0, found_next, found_later}
 use Rattle.gs1_ids.proofs.overlap.first_overlap.Goals as goal
 use Rattle.gs1_ids.proofs.overlap.first_overlap.Goals.{In-Some}
 
@@ -13,7 +14,7 @@ here c =
     let found = found_behind ps i c.in-Some.offset (sym e ∙ c.in-Some.is) in
     record {
       here = found.0;
-      least_first = λ k l o. ⊎_elim (λ passed. absurd (c.loop-first.invariant k l passed o)) (λ h. h) (cases_lt k i);
+      least_first = λ k l o. ⊎_elim (λ passed. absurd (c.loop-first.invariant.none k l passed o)) (λ h. h) (cases_lt k i);
       least_second = found.1;
     }
 
@@ -24,14 +25,32 @@ pub returns-in-Some-clause-free : goal.returns-in-Some-clause-free
 returns-in-Some-clause-free c =
     (λ e. absurd (true≢false e), λ free. absurd (none_if_free c.args.prefixes.now free _ _ (here c).here))
 
+pub returns-in-Some-clause-value : goal.returns-in-Some-clause-value
+returns-in-Some-clause-value c =
+    let ps = c.args.prefixes.now in
+    let i = c.loop-first.first in
+    let e = search_behind ps i _ _ c.loop-first-test.true c.index-prefixes-first.is c.overlapped.ensures in
+    sym (c.loop-first.invariant.left ∙ found_next ps i c.in-Some.offset c.loop-first-test.true (sym e ∙ c.in-Some.is))
+
+pub loop-first-init : goal.loop-first-init
+loop-first-init c = record { none = λ i j h o. absurd (omega arith); left = sym (moved_by-0 (first_overlap_of c.args.prefixes.now)) }
+
 pub loop-first-preserved : goal.loop-first-preserved
-loop-first-preserved c = λ i j h o.
+loop-first-preserved c =
     let ps = c.args.prefixes.now in
     let first = c.loop-first.first in
     let e = search_behind ps first _ _ c.loop-first-test.true c.index-prefixes-first.is c.overlapped.ensures in
-    ⊎_elim (λ passed. c.loop-first.invariant i j passed o) (λ past. let last : i ≡ first = omega arith in none_behind ps first (sym e ∙ c.in_default.is) j (subst (λ n. OverlapAt ps n j) last o)) (cases_lt i first)
+    record {
+      none = λ i j h o. ⊎_elim (λ passed. c.loop-first.invariant.none i j passed o) (λ past. let last : i ≡ first = omega arith in none_behind ps first (sym e ∙ c.in_default.is) j (subst (λ n. OverlapAt ps n j) last o)) (cases_lt i first);
+      left = c.loop-first.invariant.left ∙ found_later ps first c.loop-first-test.true (sym e ∙ c.in_default.is);
+    }
+
+pub returns-clause-value : goal.returns-clause-value
+returns-clause-value c =
+    let ps = c.args.prefixes.now in
+    sym (c.loop-first.invariant.left ∙ ap (λ rest. moved_by c.loop-first.first (first_overlap_of rest)) (drop_all c.loop-first.first ps (omega arith)))
 
 pub returns-clause-free : goal.returns-clause-free
 returns-clause-free c =
     let ps = c.args.prefixes.now in
-    (λ _. free_if_none ps (λ i j o. c.loop-first.invariant i j (omega arith) o), λ _. refl)
+    (λ _. free_if_none ps (λ i j o. c.loop-first.invariant.none i j (omega arith) o), λ _. refl)

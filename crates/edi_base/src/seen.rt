@@ -1,0 +1,42 @@
+ghost use Rattle.std.specs.Prelude.{◌≡◌, ◌||◌, ℕ, List, [], not, IfOk, OnOk, OnErr};
+ghost use Rattle.std.specs.Str.{bytes_eq};
+ghost use Rattle.edi_base.specs.Seen.{is_among};
+
+use std::alloc::{AllocError, Global};
+use std::collections::BTreeSet;
+use std::marker::Model;
+
+/// The texts that have come so far, so that one that comes twice shows.
+#[derive(Drop)]
+pub struct Seen<'a> {
+    texts: BTreeSet<&'a [u8]>,
+}
+
+impl<'a> Model for Seen<'a> {
+    ghost use Rattle.std.specs.Prelude.{ℕ, List, map};
+
+    ghost Value = { List (List ℕ) };
+
+    ghost view = { λ seen. map (λ text. text.now) seen.texts.keys };
+}
+
+impl<'a> Seen<'a> {
+    /// No text has come. Takes no memory.
+    pub fn new(alloc: Global) -> Self
+        ensures { result ≡ [] }
+    {
+        Seen {
+            texts: BTreeSet::new(alloc),
+        }
+    }
+
+    /// Whether the text comes for the first time.
+    pub fn is_new(&mut self, text: &'a [u8]) -> Result<bool, AllocError>
+        ensures new { IfOk result (λ new. new ≡ not (is_among text.now self.old)) }
+        ensures seen { OnOk result ((other : List ℕ) → is_among other self.new ≡ (bytes_eq other text.now || is_among other self.old)) }
+        ensures err { OnErr result (self.new ≡ self.old) }
+    {
+        let new = self.texts.insert(text)?;
+        Ok(new)
+    }
+}

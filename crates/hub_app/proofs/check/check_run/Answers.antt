@@ -1,0 +1,6 @@
+use Rattle.std.proofs.Common.{sym, ◌∙◌}
+use Rattle.hub_app.proofs.Texts.{never_failed}
+use Rattle.hub_app.proofs.check.check_run.Goals as goal
+
+pub returns-then-is_ok-clause-failed : goal.returns-then-is_ok-clause-failed
+returns-then-is_ok-clause-failed g c = λ failed. absurd (never_failed _ (sym c.in-Ok.ensures.status ∙ failed))

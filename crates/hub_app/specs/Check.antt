@@ -1,0 +1,39 @@
+-- What `check` tells of the text of a register.
+use Rattle.std.specs.Prelude.{ℕ, ◌≤◌, List, ◌++◌, length, codes, IsUtf8, Result, Ok, Err}
+use Rattle.std.specs.Fmt.{decimal}
+use Rattle.edi_base.specs.declared.source.ReadFault.{ReadFault}
+use Rattle.edi_base.specs.declared.source.ReadFault.TheVariants as read
+use Rattle.hub_app.specs.declared.check.TextFault.{TextFault}
+use Rattle.hub_app.specs.declared.check.TextFault.TheVariants.{File, Memory}
+use Rattle.hub_register.specs.Rows.{Rows}
+use Rattle.hub_register.specs.Text.{fault_text}
+use Rattle.hub_register.specs.declared.fault.RegisterFault.{RegisterFault}
+
+-- the line, by the register or the fault of the text
+abbrev pub verdict_line : Result Rows RegisterFault → List ℕ
+verdict_line (Ok rows) = codes "ok " ++ (decimal (length rows.suppliers) ++ codes " suppliers\n")
+verdict_line (Err fault) = codes "fault " ++ (fault_text fault ++ codes "\n")
+
+-- the exit status
+abbrev pub verdict_status : Result Rows RegisterFault → ℕ
+verdict_status (Ok rows) = 0
+verdict_status (Err fault) = 1
+
+-- the longest text of a register, in bytes
+abbrev pub text_limit : ℕ
+text_limit = 1_048_576
+
+-- bytes that are the text of a register
+pub record IsRegisterText (bytes : List ℕ) : Type 0 where
+  pub fits : length bytes ≤ text_limit
+  pub utf8 : IsUtf8 bytes
+
+-- what a failed read of a text is told as
+abbrev pub told_read_fault : ReadFault → TextFault
+told_read_fault read.Read = File
+told_read_fault read.Memory = Memory
+
+-- what is printed where a text was not read
+abbrev pub text_fault_line : TextFault → List ℕ
+text_fault_line File = codes "file"
+text_fault_line Memory = codes "memory"

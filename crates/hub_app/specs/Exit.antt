@@ -1,0 +1,9 @@
+-- Lines on standard error.
+use Rattle.std.specs.Prelude.{◌≡◌, ℕ, Bool, false, List, Option}
+use Rattle.std.specs.Io.KnownBytes.{Appends}
+use Rattle.edi_base.specs.Buffer.{AppendsFront}
+
+-- a line was written, or, where the writer failed, a front of it
+pub record Tells (old new : Option (List ℕ)) (failed : Bool) (line : List ℕ) : Type 0 where
+  pub front : AppendsFront old new line
+  pub whole : failed ≡ false → Appends old new line

@@ -1,0 +1,129 @@
+//! `edihub check`: what the text of a register is.
+
+ghost use Rattle.std.specs.Prelude.{◌≡◌, ◌≢◌, ◌⊎◌, ◌≤◌, true, codes, string_bytes, IfOk, IfErr, IfSome};
+ghost use Rattle.std.specs.Io.KnownBytes.{Appends, Keeps};
+ghost use Rattle.edi_base.specs.Buffer.{AppendsFront};
+ghost use Rattle.hub_app.specs.Check.{IsRegisterText, verdict_line, verdict_status};
+ghost use Rattle.hub_app.specs.Exit.{Tells};
+ghost use Rattle.hub_register.specs.Register.{register_of};
+
+use crate::exit::{DONE, FAILED, REFUSED, tell};
+use edi_tokens::{MemoryFault, ReadFault, Sink, Source, read_to_limit, write_bytes};
+use hub_register::{Register, RegisterFault};
+use std::alloc::{AllocError, Global};
+use std::error::Error;
+use std::fmt;
+
+/// The longest text of a register, in bytes.
+const TEXT_LIMIT: usize = 1_048_576;
+
+/// Why the text of a register was not read.
+#[derive(Clone, Copy, Debug, PartialEq, Eq)]
+pub enum TextFault {
+    /// The source failed, is longer than 1,048,576 bytes, or is no UTF-8.
+    File,
+    /// Want of memory.
+    Memory,
+}
+
+impl fmt::Display for TextFault {
+    ghost use Rattle.std.specs.Prelude.{Some};
+    ghost use Rattle.hub_app.specs.Check.{text_fault_line};
+
+    ghost output = { λ fault. Some (text_fault_line fault) };
+
+    fn fmt<W: fmt::Write>(&self, f: &mut fmt::Formatter<W>) -> fmt::Result {
+        match self {
+            TextFault::File => f.write_str("file"),
+            TextFault::Memory => f.write_str("memory"),
+        }
+    }
+}
+
+impl Error for TextFault {}
+
+impl From<ReadFault> for TextFault {
+    ghost use Rattle.std.specs.Prelude.{◌≡◌};
+    ghost use Rattle.hub_app.specs.Check.{told_read_fault};
+
+    ghost from_gives = { λ fault text. text ≡ told_read_fault fault };
+
+    fn from(fault: ReadFault) -> TextFault {
+        match fault {
+            ReadFault::Read => TextFault::File,
+            ReadFault::Memory => TextFault::Memory,
+        }
+    }
+}
+
+/// The text of a register: all that a source holds, where that is UTF-8 of at most 1,048,576 bytes. At most one byte
+/// more is read.
+pub fn read_register_text<R: Source>(alloc: Global, input: &mut R) -> Result<String, TextFault>
+    ensures text { IfOk result (λ text. IsRegisterText (string_bytes text)) }
+    ensures whole { IfOk result (λ text. IfSome (R.remaining input.old) (λ bytes. bytes ≡ string_bytes text)) }
+    ensures file { result ≡ Err TextFault.File → (R.failed input.new ≡ true) ⊎ IfSome (R.remaining input.old) (λ bytes. ¬ IsRegisterText bytes) }
+    ensures kept { result ≢ Err TextFault.File → R.failed input.new ≡ R.failed input.old }
+{
+    let bytes = read_to_limit(alloc, input, TEXT_LIMIT + 1)?;
+    if bytes.len() > TEXT_LIMIT {
+        return Err(TextFault::File);
+    }
+    match String::from_utf8(bytes) {
+        Ok(text) => Ok(text),
+        Err(_) => Err(TextFault::File),
+    }
+}
+
+// What a text is, as it is told.
+#[derive(Drop)]
+struct Verdict {
+    line: String,
+    status: u8,
+}
+
+// What the text of a register is.
+fn verdict_of(alloc: Global, text: &str) -> Result<Verdict, MemoryFault>
+    ensures line { IfOk result (λ verdict. string_bytes verdict.line ≡ verdict_line (register_of text.now)) }
+    ensures status { IfOk result (λ verdict. verdict.status ≡ verdict_status (register_of text.now)) }
+{
+    match Register::from_toml(alloc, text) {
+        Ok(register) => {
+            let count = register.supplier_count();
+            let line = format!(in alloc; "ok {count} suppliers\n")?;
+            Ok(Verdict { line, status: DONE })
+        }
+        Err(RegisterFault::Memory) => Err(AllocError),
+        Err(fault) => {
+            let line = format!(in alloc; "fault {fault}\n")?;
+            Ok(Verdict {
+                line,
+                status: REFUSED,
+            })
+        }
+    }
+}
+
+/// Judges the text of a register and writes one line to `out`: `ok N suppliers`, or `fault` and the fault. Answers the
+/// exit status: 0 for a register; 1 for a fault; 3 where the write failed, with the line `file` on `err`, or memory ran
+/// out, with the line `memory`.
+pub fn check_run<W: Sink, E: Sink>(alloc: Global, text: &str, out: &mut W, err: &mut E) -> u8
+    ensures judged { result ≢ 3 →
+        (result ≡ verdict_status (register_of text.now))
+        × Appends (W.contents out.old) (W.contents out.new) (verdict_line (register_of text.now))
+        × Keeps (E.contents err.old) (E.contents err.new) }
+    ensures failed { result ≡ 3 →
+        (Tells (E.contents err.old) (E.contents err.new) (E.failed err.new) (codes "file\n")
+        × (W.failed out.new ≡ true) × AppendsFront (W.contents out.old) (W.contents out.new) (verdict_line (register_of text.now)))
+        ⊎ (Tells (E.contents err.old) (E.contents err.new) (E.failed err.new) (codes "memory\n")
+        × Keeps (W.contents out.old) (W.contents out.new)) }
+{
+    let Ok(verdict) = verdict_of(alloc, text) else {
+        tell(b"memory\n", err);
+        return FAILED;
+    };
+    if write_bytes(verdict.line.as_bytes(), out).is_ok() {
+        return verdict.status;
+    }
+    tell(b"file\n", err);
+    FAILED
+}

@@ -1,0 +1,82 @@
+-- The definitions at small registers.
+use Rattle.std.proofs.Common.{◌≡◌, ℕ, List, [], ◌∷◌, Some, None, Ok, Err, codes, refl}
+use Rattle.toml.proofs.OnLiterals.{toml_on_literals}
+use Rattle.hub_register.specs.Document.{rows_of_text}
+use Rattle.hub_register.specs.Fault.{fault_of}
+use Rattle.hub_register.specs.Register.{register_of}
+use Rattle.hub_register.specs.Rows.{Rows, role_of}
+use Rattle.hub_register.specs.declared.fault.RegisterFault.TheVariants.{Text, Gln, Twice, Prefix, Overlap}
+use Rattle.hub_register.specs.declared.role.Role.TheVariants.{Retailer, Supplier}
+use Rattle.hub_register.specs.declared.row.SupplierRow.{SupplierRow}
+
+abbrev hub : List ℕ
+hub = codes "5412345000006"
+
+abbrev retailer : List ℕ
+retailer = codes "5412345000013"
+
+abbrev alpha : List ℕ
+alpha = codes "4012345500004"
+
+abbrev beta : List ℕ
+beta = codes "8712345000004"
+
+abbrev supplier : List ℕ → List ℕ → SupplierRow
+supplier gln prefix = record { gln = gln; prefix = prefix; key = codes "alpha-key-1" }
+
+abbrev of : List SupplierRow → Rows
+of suppliers = record { hub = hub; retailer = retailer; retailer_key = codes "retail-key"; suppliers = suppliers }
+
+overlap_of_neighbours : fault_of (of (supplier alpha (codes "4012345") ∷ supplier beta (codes "40123455") ∷ [])) ≡ Some (Overlap 1 2)
+overlap_of_neighbours = refl
+
+two_suppliers : fault_of (of (supplier alpha (codes "40123455") ∷ supplier beta (codes "8712345") ∷ [])) ≡ None
+two_suppliers = refl
+
+no_supplier : fault_of (of []) ≡ None
+no_supplier = refl
+
+first_and_last : fault_of (of (supplier (codes "3512345000005") (codes "8712345") ∷ supplier (codes "7612345000008") (codes "40123455") ∷ supplier alpha (codes "4012345") ∷ supplier beta (codes "8712") ∷ [])) ≡ Some (Overlap 1 4)
+first_and_last = refl
+
+equal_prefixes : fault_of (of (supplier alpha (codes "4012345") ∷ supplier beta (codes "4012345") ∷ [])) ≡ Some (Overlap 1 2)
+equal_prefixes = refl
+
+three_digits : fault_of (of (supplier alpha (codes "401") ∷ [])) ≡ Some Prefix
+three_digits = refl
+
+retailer_as_supplier : fault_of (of (supplier retailer (codes "4012345") ∷ [])) ≡ Some Twice
+retailer_as_supplier = refl
+
+wrong_gln_after_wrong_key : fault_of (of (record { gln = alpha; prefix = codes "4012345"; key = codes "short" } ∷ supplier (codes "8712345000005") (codes "8712345") ∷ [])) ≡ Some Gln
+wrong_gln_after_wrong_key = refl
+
+one_right_key : role_of (of (supplier alpha (codes "40123455") ∷ [])) alpha (codes "alpha-key-1") ≡ Some Supplier
+one_right_key = refl
+
+retailers_key_for_a_supplier : role_of (of (supplier alpha (codes "40123455") ∷ [])) alpha (codes "retail-key") ≡ None
+retailers_key_for_a_supplier = refl
+
+retailer_is_known : role_of (of []) retailer (codes "retail-key") ≡ Some Retailer
+retailer_is_known = refl
+
+a_text : rows_of_text (codes "hub = \"5412345000006\"\n[retailer]\ngln = \"5412345000013\"\nkey = \"retail-key\"\n[[supplier]]\nname = \"A\"\ngln = \"4012345500004\"\nprefix = \"40123455\"\nkey = \"alpha-key-1\"\n")
+    ≡ Some (of (supplier alpha (codes "40123455") ∷ []))
+unfolding toml_on_literals
+a_text = refl
+
+no_document : register_of (codes "hub = ") ≡ Err Text
+unfolding toml_on_literals
+no_document = refl
+
+a_number_for_a_key : register_of (codes "hub = \"5412345000006\"\nretailer = { gln = \"5412345000013\", key = 12345678 }\n") ≡ Err Text
+unfolding toml_on_literals
+a_number_for_a_key = refl
+
+one_supplier_as_a_table : register_of (codes "hub = \"5412345000006\"\nretailer = { gln = \"5412345000013\", key = \"retail-key\" }\n[supplier]\ngln = \"4012345500004\"\nprefix = \"40123455\"\nkey = \"alpha-key-1\"\n") ≡ Err Text
+unfolding toml_on_literals
+one_supplier_as_a_table = refl
+
+nobody : register_of (codes "hub = \"5412345000006\"\nretailer = { gln = \"5412345000013\", key = \"retail-key\" }\n") ≡ Ok (of [])
+unfolding toml_on_literals
+nobody = refl

@@ -1,0 +1,7 @@
+mod Examples
+pub mod Inserted
+pub mod Ordered
+pub mod Permuted
+pub mod Readings
+pub mod Rest
+pub mod Right

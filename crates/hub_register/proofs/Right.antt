@@ -1,0 +1,95 @@
+-- Rows that no fault stands against are those of a register, in the order of their GLNs too.
+use Rattle.std.proofs.Common.{◌≡◌, ℕ, suc, ◌≤◌, true, false, ◌&&◌, List, [], ◌∷◌, length, map, refl, ap₂, ◌∙◌, arith, All}
+use Rattle.std.specs.List.{list_all, AllByRecursion}
+use Rattle.std.specs.Str.{bytes_eq}
+use Rattle.std.proofs.lemmas.Bool.{and_parts, or_parts, or_from}
+use Rattle.std.proofs.lemmas.List.Elements.{All-cons, All-nil}
+use Rattle.std.proofs.lemmas.List.Kept.{AllPairs-cons}
+use Rattle.std.proofs.Math.Bool.{or_comm}
+use Rattle.gs1_ids.specs.Overlap.{AreApart, PrefixFree}
+use Rattle.gs1_ids.specs.Prefix.{overlap, begins, is_prefix}
+use Rattle.hub_register.specs.Key.{is_party_key}
+use Rattle.gs1_ids.specs.Gln.{is_gln}
+use Rattle.hub_register.specs.Rows.{Rows, IsRegister, put_all, in_gln_order, prefixes_of, prefixes, glns, keys}
+use Rattle.edi_base.specs.Seen.{is_among, has_twice}
+use Rattle.hub_register.specs.declared.row.SupplierRow.{SupplierRow}
+use Rattle.hub_register.proofs.Ordered.{length-put_all, all-put_all, every-put_all, Apart, apart_in_order}
+use Rattle.edi_base.proofs.Twice.{bytes_eq-sym}
+
+-- GLNs that differ
+abbrev pub Differ : SupplierRow → SupplierRow → Type 0
+Differ r s = bytes_eq r.gln s.gln ≡ false
+
+pub differ-turned : (r s : SupplierRow) → Differ r s → Differ s r
+differ-turned r s h = bytes_eq-sym s.gln r.gln ∙ h
+
+not_among : (text : List ℕ) (rows : List SupplierRow) → AllByRecursion (λ r. bytes_eq text r.gln ≡ false) rows → is_among text (map (λ r. r.gln) rows) ≡ false
+not_among text [] h = refl
+not_among text (r ∷ rs) h = or_from (bytes_eq text r.gln) _ h.0 (not_among text rs h.1)
+
+each_differs : (text : List ℕ) (rows : List SupplierRow) → is_among text (map (λ r. r.gln) rows) ≡ false → AllByRecursion (λ r. bytes_eq text r.gln ≡ false) rows
+each_differs text [] h = tt
+each_differs text (r ∷ rs) h = let parts = or_parts (bytes_eq text r.gln) _ h in (parts.0, each_differs text rs parts.1)
+
+once : (rows : List SupplierRow) → Apart Differ rows → has_twice (map (λ r. r.gln) rows) ≡ false
+once [] h = refl
+once (r ∷ rs) h = or_from (is_among r.gln (map (λ s. s.gln) rs)) _ (not_among r.gln rs h.0) (once rs h.1)
+
+pub differ : (rows : List SupplierRow) → has_twice (map (λ r. r.gln) rows) ≡ false → Apart Differ rows
+differ [] h = tt
+differ (r ∷ rs) h = let parts = or_parts (is_among r.gln (map (λ s. s.gln) rs)) _ h in (each_differs r.gln rs parts.0, differ rs parts.1)
+
+glns-apart : (hub retailer : List ℕ) (rows : List SupplierRow) → has_twice (hub ∷ retailer ∷ map (λ r. r.gln) rows) ≡ false → has_twice (hub ∷ retailer ∷ map (λ r. r.gln) (put_all rows [])) ≡ false
+glns-apart hub retailer rows h =
+    let first = or_parts (is_among hub (retailer ∷ map (λ r. r.gln) rows)) _ h in
+    let at_hub = or_parts (bytes_eq hub retailer) _ first.0 in
+    let second = or_parts (is_among retailer (map (λ r. r.gln) rows)) _ first.1 in
+    let other : (text : List ℕ) → is_among text (map (λ r. r.gln) rows) ≡ false → is_among text (map (λ r. r.gln) (put_all rows [])) ≡ false =
+    λ text none. not_among text (put_all rows []) (every-put_all (λ r. bytes_eq text r.gln ≡ false) rows [] (each_differs text rows none) tt) in
+    or_from _ _ (or_from (bytes_eq hub retailer) _ at_hub.0 (other hub at_hub.1))
+    (or_from _ _ (other retailer second.0) (once (put_all rows []) (apart_in_order Differ differ-turned rows (differ rows second.1))))
+
+-- prefixes that do not overlap
+abbrev Free : SupplierRow → SupplierRow → Type 0
+Free r s = overlap r.prefix s.prefix ≡ false
+
+free-turned : (r s : SupplierRow) → Free r s → Free s r
+free-turned r s h = or_comm (begins s.prefix r.prefix) (begins r.prefix s.prefix) ∙ h
+
+each_free : (r : SupplierRow) (rows : List SupplierRow) → All (AreApart (r.prefix ∷ [])) (map (λ p. p ∷ []) (map (λ s. s.prefix) rows)) → AllByRecursion (Free r) rows
+each_free r [] h = tt
+each_free r (s ∷ rows) h = (h 0 [] (omega arith) 0 [] (omega arith) 0 [] (omega arith), each_free r rows (λ k d within. h (suc k) d (omega (arith, within))))
+
+free : (rows : List SupplierRow) → PrefixFree (map (λ p. p ∷ []) (map (λ r. r.prefix) rows)) → Apart Free rows
+free [] h = tt
+free (r ∷ rows) h = (each_free r rows (λ k d within. h 0 (suc k) d (omega arith) (omega (arith, within))), free rows (λ i j d before within. h (suc i) (suc j) d (omega (arith, before)) (omega (arith, within))))
+
+alone : (p q : List ℕ) → overlap p q ≡ false → AreApart (p ∷ []) (q ∷ [])
+alone p q e = All-cons (λ p. All (λ q. overlap p q ≡ false) (q ∷ [])) p [] (All-cons (λ q. overlap p q ≡ false) q [] e (All-nil (λ q. overlap p q ≡ false))) (All-nil (λ p. All (λ q. overlap p q ≡ false) (q ∷ [])))
+
+all_apart : (r : SupplierRow) (rows : List SupplierRow) → AllByRecursion (Free r) rows → All (AreApart (prefixes_of r)) (map prefixes_of rows)
+all_apart r [] h = All-nil (AreApart (prefixes_of r))
+all_apart r (s ∷ rows) h = All-cons (AreApart (prefixes_of r)) (prefixes_of s) (map prefixes_of rows) (alone r.prefix s.prefix h.0) (all_apart r rows h.1)
+
+prefix_free : (rows : List SupplierRow) → Apart Free rows → PrefixFree (map prefixes_of rows)
+prefix_free [] h = λ i j d before within. absurd (omega arith)
+prefix_free (r ∷ rows) h = AllPairs-cons AreApart (prefixes_of r) (map prefixes_of rows) (all_apart r rows h.0) (prefix_free rows h.1)
+
+pub register_right : (rows : Rows) → length rows.suppliers ≤ 1000 → list_all is_gln (glns rows) ≡ true → has_twice (glns rows) ≡ false → list_all is_prefix (prefixes rows) ≡ true → list_all is_party_key (keys rows) ≡ true
+    → PrefixFree (map (λ p. p ∷ []) (prefixes rows)) → IsRegister (in_gln_order rows)
+register_right rows few right apart prefix key none =
+    let hub = and_parts (is_gln rows.hub) _ right in
+    let retailer = and_parts (is_gln rows.retailer) _ hub.1 in
+    let secret = and_parts (is_party_key rows.retailer_key) _ key in
+    record {
+      few = omega (arith, length-put_all rows.suppliers [], few);
+      glns_right = ap₂ (λ a b. a && b) hub.0 (ap₂ (λ a b. a && b) retailer.0 (all-put_all (λ r. r.gln) is_gln rows.suppliers [] retailer.1 refl));
+      glns_apart = glns-apart rows.hub rows.retailer rows.suppliers apart;
+      prefixes_right = all-put_all (λ r. r.prefix) is_prefix rows.suppliers [] prefix refl;
+      keys_right = ap₂ (λ a b. a && b) secret.0 (all-put_all (λ r. r.key) is_party_key rows.suppliers [] secret.1 refl);
+      prefixes_free = prefix_free (put_all rows.suppliers []) (apart_in_order Free free-turned rows.suppliers (free rows.suppliers none));
+    }
+
+pub same_rows : (hub retailer key : List ℕ) (suppliers : List SupplierRow) (rows : Rows) → hub ≡ rows.hub → retailer ≡ rows.retailer → key ≡ rows.retailer_key → suppliers ≡ put_all rows.suppliers []
+    → in_gln_order rows ≡ record { hub = hub; retailer = retailer; retailer_key = key; suppliers = suppliers }
+same_rows hub retailer key suppliers rows a b c d = rw (a, b, c, d)

@@ -1,0 +1,54 @@
+-- What the text of a register says (TOML 1.1): at the top a string `hub`; a table `retailer` with the strings `gln` and
+-- `key`; and `supplier`, an array of tables, each with the strings `gln`, `prefix` and `key`. Other keys are ignored.
+use Rattle.std.specs.Prelude.{ℕ, codes, List, [], ◌∷◌, Option, Some, None, option_map, option_and_then}
+use Rattle.toml.specs.Data.{Data, Items, no_items, item, Members, get_member, as_str, as_array, as_table}
+use Rattle.toml.specs.Parse.{parse_document}
+use Rattle.hub_register.specs.Rows.{Rows}
+use Rattle.hub_register.specs.declared.row.SupplierRow.{SupplierRow}
+
+infixl 10 ◌>>=◌
+abbrev ◌>>=◌ : {A B : Type 0} → Option A → (A → Option B) → Option B
+o >>= f = option_and_then f o
+
+-- the string at a key of a table
+abbrev pub string_at : List ℕ → Members → Option (List ℕ)
+string_at key table = get_member key table >>= as_str
+
+-- the table at a key of a table
+abbrev pub table_at : List ℕ → Members → Option Members
+table_at name table = get_member name table >>= as_table
+
+-- the row of a supplier, from its table
+abbrev pub supplier_in : Members → Option SupplierRow
+supplier_in table =
+    string_at (codes "gln") table >>= (λ gln.
+    string_at (codes "prefix") table >>= (λ prefix.
+    option_map (λ key. record { gln = gln; prefix = prefix; key = key }) (string_at (codes "key") table)))
+
+-- the rows of suppliers, from their tables in their order
+abbrev pub suppliers_in : Items → Option (List SupplierRow)
+suppliers_in no_items = Some []
+suppliers_in (item value values) =
+    as_table value >>= supplier_in >>= (λ row. option_map (λ rows. row ∷ rows) (suppliers_in values))
+
+-- the tables of the suppliers; where no key `supplier` stands there are none
+abbrev pub tables_in : Option Data → Option Items
+tables_in None = Some no_items
+tables_in (Some value) = as_array value
+
+abbrev pub suppliers_at : List ℕ → Members → Option (List SupplierRow)
+suppliers_at name table = tables_in (get_member name table) >>= suppliers_in
+
+-- the rows that a document says
+abbrev pub rows_in : Members → Option Rows
+rows_in document =
+    string_at (codes "hub") document >>= (λ hub.
+    table_at (codes "retailer") document >>= (λ retailer.
+    string_at (codes "gln") retailer >>= (λ gln.
+    string_at (codes "key") retailer >>= (λ key.
+    option_map (λ suppliers. record { hub = hub; retailer = gln; retailer_key = key; suppliers = suppliers })
+    (suppliers_at (codes "supplier") document)))))
+
+-- the rows that a text says
+abbrev pub rows_of_text : List ℕ → Option Rows
+rows_of_text text = parse_document text >>= rows_in

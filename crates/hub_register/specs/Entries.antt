@@ -1,0 +1,17 @@
+-- The rows that the borrowed strings of a document are.
+use Rattle.std.specs.Prelude.{map}
+use Rattle.hub_register.specs.Rows.{Rows}
+use Rattle.hub_register.specs.declared.document.Document.{Document}
+use Rattle.hub_register.specs.declared.document.Entry.{Entry}
+use Rattle.hub_register.specs.declared.row.SupplierRow.{SupplierRow}
+
+abbrev pub row_in : Entry → SupplierRow
+row_in entry = record { gln = entry.gln.now; prefix = entry.prefix.now; key = entry.key.now }
+
+abbrev pub rows_from : Document → Rows
+rows_from document = record {
+  hub = document.hub.now;
+  retailer = document.retailer.now;
+  retailer_key = document.retailer_key.now;
+  suppliers = map row_in document.suppliers.items;
+}

@@ -1,0 +1,31 @@
+-- The register that a text writes, or the fault of the text.
+use Rattle.std.specs.Prelude.{◌≡◌, ℕ, List, IsPermutation, Option, Some, None, Result, Ok, Err}
+use Rattle.hub_register.specs.Document.{rows_of_text}
+use Rattle.hub_register.specs.Fault.{fault_of}
+use Rattle.hub_register.specs.Rows.{Rows, in_gln_order}
+use Rattle.hub_register.specs.declared.fault.RegisterFault.{RegisterFault}
+use Rattle.hub_register.specs.declared.fault.RegisterFault.TheVariants.{Text}
+
+-- the register of rows, its suppliers in the order of their GLNs, or their fault
+abbrev pub judged : Rows → Option RegisterFault → Result Rows RegisterFault
+judged rows None = Ok (in_gln_order rows)
+judged rows (Some fault) = Err fault
+
+abbrev pub register_of_rows : Option Rows → Result Rows RegisterFault
+register_of_rows None = Err Text
+register_of_rows (Some rows) = judged rows (fault_of rows)
+
+-- the register that a text writes, or the fault of the text
+abbrev pub register_of : List ℕ → Result Rows RegisterFault
+register_of text = register_of_rows (rows_of_text text)
+
+-- a register has the rows of its text, each once, and nothing stands against them
+pub record HasRows (rows register : Rows) : Type 0 where
+  pub right : fault_of rows ≡ None
+  pub hub : register.hub ≡ rows.hub
+  pub retailer : register.retailer ≡ rows.retailer
+  pub retailer_key : register.retailer_key ≡ rows.retailer_key
+  pub suppliers : IsPermutation rows.suppliers register.suppliers
+
+abbrev pub RegisterHasItsRows : Type 0
+RegisterHasItsRows = (text : List ℕ) (register : Rows) → register_of text ≡ Ok register → (rows : Rows) × (rows_of_text text ≡ Some rows) × HasRows rows register

@@ -1,0 +1,106 @@
+//! The columns of a document's rows, each judged as a whole.
+
+ghost use Rattle.std.specs.Prelude.{◌≡◌, ◌≢◌, ◌+◌, true, false, [], IfOk, IfErr, map, length};
+ghost use Rattle.std.specs.BTreeMap.{keys, values};
+ghost use Rattle.std.specs.List.{list_all};
+ghost use Rattle.gs1_ids.specs.Gln.{is_gln};
+ghost use Rattle.gs1_ids.specs.Prefix.{is_prefix};
+ghost use Rattle.hub_register.specs.Entries.{row_in, rows_from};
+ghost use Rattle.hub_register.specs.Key.{is_party_key};
+ghost use Rattle.hub_register.specs.Rows as spec;
+ghost use Rattle.edi_base.specs.Seen as twice;
+
+use crate::document::{Document, Entry};
+use crate::fault::RegisterFault;
+use crate::key::Key;
+use crate::row::SupplierRow;
+use edi_base::Seen;
+use gs1_ids::{Gln, Prefix};
+use std::alloc::Global;
+use std::collections::BTreeMap;
+
+fn gln_of(text: &str) -> Result<Gln, RegisterFault>
+    ensures ok { IfOk result (λ gln. (gln ≡ text.now) × (is_gln text.now ≡ true)) }
+    ensures err { IfErr result (λ fault. (fault ≡ RegisterFault.Gln) × (is_gln text.now ≡ false)) }
+{
+    Gln::parse(text.as_bytes()).ok_or(RegisterFault::Gln)
+}
+
+fn prefix_of(text: &str) -> Result<Prefix, RegisterFault>
+    ensures ok { IfOk result (λ prefix. (prefix ≡ text.now) × (is_prefix text.now ≡ true)) }
+    ensures err { IfErr result (λ fault. (fault ≡ RegisterFault.Prefix) × (is_prefix text.now ≡ false)) }
+{
+    Prefix::parse(text.as_bytes()).ok_or(RegisterFault::Prefix)
+}
+
+/// The key that a text writes.
+pub(crate) fn key_of(text: &str) -> Result<Key, RegisterFault>
+    ensures ok { IfOk result (λ key. (key ≡ text.now) × (is_party_key text.now ≡ true)) }
+    ensures err { IfErr result (λ fault. (fault ≡ RegisterFault.Key) × (is_party_key text.now ≡ false)) }
+{
+    Key::parse(text.as_bytes()).ok_or(RegisterFault::Key)
+}
+
+/// Every GLN, the hub's and the retailer's first.
+pub(crate) fn glns(alloc: Global, document: &Document<'_>) -> Result<Vec<Gln>, RegisterFault>
+    ensures ok { IfOk result (λ glns. (glns.items ≡ spec.glns (rows_from document.now)) × (list_all is_gln (spec.glns (rows_from document.now)) ≡ true)) }
+    ensures err { IfErr result (λ fault. fault ≢ RegisterFault.Memory → (fault ≡ RegisterFault.Gln) × (list_all is_gln (spec.glns (rows_from document.now)) ≡ false)) }
+{
+    let mut glns = Vec::new(alloc);
+    glns.push(gln_of(document.hub)?)?;
+    glns.push(gln_of(document.retailer)?)?;
+    for entry in &document.suppliers {
+        glns.push(gln_of(entry.gln)?)?;
+    }
+    Ok(glns)
+}
+
+/// Whether one of the GLNs stands twice.
+pub(crate) fn has_twice(alloc: Global, glns: &[Gln]) -> Result<bool, RegisterFault>
+    ensures ok { IfOk result (λ found. found ≡ twice.has_twice glns.now) }
+    ensures err { IfErr result (λ fault. fault ≡ RegisterFault.Memory) }
+{
+    let mut seen = Seen::new(alloc);
+    for gln in glns {
+        if !seen.is_new(gln.digits())? {
+            return Ok(true);
+        }
+    }
+    Ok(false)
+}
+
+/// The prefixes of the suppliers.
+pub(crate) fn prefixes(alloc: Global, entries: &[Entry<'_>]) -> Result<Vec<Prefix>, RegisterFault>
+    ensures ok { IfOk result (λ prefixes. (prefixes.items ≡ map (λ row. row.prefix) (map row_in entries.now)) × (list_all is_prefix (map (λ row. row.prefix) (map row_in entries.now)) ≡ true)) }
+    ensures err { IfErr result (λ fault. fault ≢ RegisterFault.Memory → (fault ≡ RegisterFault.Prefix) × (list_all is_prefix (map (λ row. row.prefix) (map row_in entries.now)) ≡ false)) }
+{
+    let mut prefixes = Vec::new(alloc);
+    for entry in entries {
+        prefixes.push(prefix_of(entry.prefix)?)?;
+    }
+    Ok(prefixes)
+}
+
+/// The rows of the suppliers, each with its key judged, by their GLNs.
+pub(crate) fn suppliers(
+    alloc: Global,
+    entries: &[Entry<'_>],
+    glns: &[Gln],
+    prefixes: &[Prefix],
+) -> Result<BTreeMap<Gln, SupplierRow>, RegisterFault>
+    requires glns { glns.now ≡ map (λ row. row.gln) (map row_in entries.now) }
+    requires prefixes { prefixes.now ≡ map (λ row. row.prefix) (map row_in entries.now) }
+    ensures rows { IfOk result (λ suppliers. values suppliers ≡ spec.put_all (map row_in entries.now) []) }
+    ensures at_gln { IfOk result (λ suppliers. keys suppliers ≡ map (λ row. row.gln) (values suppliers)) }
+    ensures keys { IfOk result (λ suppliers. list_all is_party_key (map (λ row. row.key) (map row_in entries.now)) ≡ true) }
+    ensures err { IfErr result (λ fault. fault ≢ RegisterFault.Memory → (fault ≡ RegisterFault.Key) × (list_all is_party_key (map (λ row. row.key) (map row_in entries.now)) ≡ false)) }
+{
+    let mut suppliers = BTreeMap::new(alloc);
+    for (place, entry) in entries.iter().enumerate() {
+        let gln = glns[place];
+        let prefix = prefixes[place];
+        let key = key_of(entry.key)?;
+        suppliers.insert(gln, SupplierRow { gln, prefix, key })?;
+    }
+    Ok(suppliers)
+}

@@ -1,0 +1,22 @@
+//! The register: the hub's GLN, the retailer with its key, and the suppliers, each with a GLN, a company prefix and a key.
+//!
+//! A register comes from a TOML text by `Register::from_toml` alone. So its GLNs, prefixes and keys are always right,
+//! no GLN stands in it twice, and no supplier's prefix begins another's.
+#![tactic(auto)]
+
+mod columns;
+mod document;
+mod fault;
+mod key;
+mod register;
+mod role;
+mod row;
+
+pub use fault::RegisterFault;
+pub use key::Key;
+pub use register::{Register, register_has_its_rows};
+pub use role::Role;
+pub use row::SupplierRow;
+
+#[cfg(test)]
+mod tests;

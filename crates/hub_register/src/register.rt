@@ -1,0 +1,172 @@
+ghost use Rattle.std.specs.Prelude.{◌≡◌, ◌≢◌, IfOk, IfErr, Ok, Err, Some, None, length, map, option_copied};
+ghost use Rattle.toml.specs.Parse.{parse_document};
+ghost use Rattle.toml.specs.View.{table_view};
+ghost use Rattle.hub_register.specs.Entries.{rows_from};
+ghost use Rattle.hub_register.specs.Register.{register_of, register_of_rows, RegisterHasItsRows};
+ghost use Rattle.hub_register.specs.Rows.{IsRegister, rows_by, row_of, role_of};
+ghost use Rattle.std.specs.BTreeMap.{keys, values};
+
+use crate::columns;
+use crate::document::Document;
+use crate::fault::RegisterFault;
+use crate::key::Key;
+use crate::role::Role;
+use crate::row::SupplierRow;
+use gs1_ids::{Gln, first_overlap};
+use std::alloc::Global;
+use std::collections::BTreeMap;
+use std::marker::Model;
+use toml::Table;
+
+/// The register: who may ask the hub, and by which key.
+#[derive(Debug, Drop)]
+pub struct Register {
+    hub: Gln,
+    retailer: Gln,
+    retailer_key: Key,
+    suppliers: BTreeMap<Gln, SupplierRow>,
+}
+
+impl Model for Register {
+    ghost use Rattle.hub_register.specs.Rows.{Rows};
+
+    ghost Value = { Rows };
+
+    ghost use Rattle.hub_register.specs.Kept.{rows_of, IsKept};
+
+    ghost view = { rows_of };
+
+    ghost invariant = { IsKept };
+}
+
+/// How many suppliers there may be.
+const MOST_SUPPLIERS: usize = 1000;
+
+// The register of these parties, of which every register's facts hold.
+fn assembled(
+    hub: Gln,
+    retailer: Gln,
+    retailer_key: Key,
+    suppliers: BTreeMap<Gln, SupplierRow>,
+) -> Register
+    requires at_gln { keys suppliers ≡ map (λ row. row.gln) (values suppliers) }
+    requires right { IsRegister (rows_by hub retailer retailer_key (values suppliers)) }
+    ensures value { result ≡ rows_by hub retailer retailer_key (values suppliers) }
+    ensures register { IsRegister result }
+{
+    Register {
+        hub,
+        retailer,
+        retailer_key,
+        suppliers,
+    }
+}
+
+// The register of what a text says.
+fn judge(alloc: Global, document: &Document<'_>) -> Result<Register, RegisterFault>
+    ensures ok { IfOk result (λ register. register_of_rows (Some (rows_from document.now)) ≡ Ok register) }
+    ensures err { IfErr result (λ fault. fault ≢ RegisterFault.Memory → register_of_rows (Some (rows_from document.now)) ≡ Err fault) }
+    ensures register { IfOk result IsRegister }
+{
+    let entries = document.suppliers.as_slice();
+    if entries.len() > MOST_SUPPLIERS {
+        return Err(RegisterFault::Many);
+    }
+    let glns = columns::glns(alloc, document)?;
+    if columns::has_twice(alloc, glns.as_slice())? {
+        return Err(RegisterFault::Twice);
+    }
+    let prefixes = columns::prefixes(alloc, entries)?;
+    let retailer_key = columns::key_of(document.retailer_key)?;
+    let suppliers = columns::suppliers(alloc, entries, &glns[2..], prefixes.as_slice())?;
+    if let Some((first, second)) = first_overlap(prefixes.as_slice()) {
+        return Err(RegisterFault::Overlap(first + 1, second + 1));
+    }
+    Ok(assembled(glns[0], glns[1], retailer_key, suppliers))
+}
+
+// The table that a text is.
+fn table_of(alloc: Global, text: &str) -> Result<Table, RegisterFault>
+    ensures ok { IfOk result (λ table. parse_document text.now ≡ Some (table_view table)) }
+    ensures err { IfErr result (λ fault. fault ≢ RegisterFault.Memory → (fault ≡ RegisterFault.Text) × (parse_document text.now ≡ None)) }
+{
+    match toml::table_from_str(alloc, text) {
+        Ok(table) => Ok(table),
+        Err(error) => {
+            if error.is_memory() {
+                Err(RegisterFault::Memory)
+            } else {
+                Err(RegisterFault::Text)
+            }
+        }
+    }
+}
+
+impl Register {
+    /// The register that a TOML text writes: a string `hub`, a table `retailer` with the strings `gln` and `key`, and
+    /// any number of tables `supplier`, each with the strings `gln`, `prefix` and `key`. Else the first fault of the
+    /// text, in the order of `RegisterFault`, wherever in the list it stands.
+    pub fn from_toml(alloc: Global, text: &str) -> Result<Register, RegisterFault>
+        ensures ok { IfOk result (λ register. register_of text.now ≡ Ok register) }
+        ensures err { IfErr result (λ fault. fault ≢ RegisterFault.Memory → register_of text.now ≡ Err fault) }
+        ensures register { IfOk result IsRegister }
+    {
+        let table = table_of(alloc, text)?;
+        let document = Document::read(alloc, &table)?;
+        judge(alloc, &document)
+    }
+
+    /// The hub's GLN.
+    pub fn hub(&self) -> &Gln
+        ensures value { result.now ≡ self.now.hub }
+        ensures register { IsRegister self.now }
+    {
+        &self.hub
+    }
+
+    /// The retailer's GLN.
+    pub fn retailer(&self) -> &Gln
+        ensures value { result.now ≡ self.now.retailer }
+        ensures register { IsRegister self.now }
+    {
+        &self.retailer
+    }
+
+    /// How many suppliers there are, at most 1,000.
+    pub fn supplier_count(&self) -> usize
+        ensures value { result ≡ length self.now.suppliers }
+        ensures register { IsRegister self.now }
+    {
+        self.suppliers.len()
+    }
+
+    /// The row of the supplier with this GLN.
+    pub fn supplier(&self, gln: &Gln) -> Option<&SupplierRow>
+        ensures value { option_copied result ≡ row_of self.now gln.now }
+        ensures register { IsRegister self.now }
+    {
+        self.suppliers.get(gln)
+    }
+
+    /// The side of a caller: the retailer's or a supplier's GLN, with that party's own key. `None` where the two do
+    /// not stand together in the register.
+    pub fn may(&self, gln: &Gln, key: &[u8]) -> Option<Role>
+        ensures value { result ≡ role_of self.now gln.now key.now }
+        ensures register { IsRegister self.now }
+    {
+        if self.retailer == *gln && self.retailer_key.bytes() == key {
+            return Some(Role::Retailer);
+        }
+        let row = self.supplier(gln)?;
+        if row.key.bytes() == key {
+            Some(Role::Supplier)
+        } else {
+            None
+        }
+    }
+}
+
+/// The register of a text has the rows that the text says, each once, and nothing stands against them.
+pub fn register_has_its_rows()
+    ensures { RegisterHasItsRows }
+{}
