@@ -1,8 +1,8 @@
 -- Lines and mail texts on their way to writers.
-use Rattle.std.proofs.Common.{◌≡◌, ℕ, true, false, List, ◌++◌, take, Option, Some, None, Result, Ok, Err, sym, ap, ◌∙◌, append_assoc}
+use Rattle.std.proofs.Common.{subst, ◌≡◌, ℕ, true, false, List, ◌++◌, take, Option, Some, None, Result, Ok, Err, sym, ap, ◌∙◌, append_assoc}
 use Rattle.std.specs.Prelude.{IfSome, OnOk, OnErr, is_ok}
 use Rattle.std.proofs.lemmas.Bool.{true≢false, false≢true}
-use Rattle.std.specs.Io.KnownBytes.{Appends}
+use Rattle.std.specs.Io.KnownBytes.{Appends, Consumes}
 use Rattle.std.proofs.KnownBytes.{Appends-trans}
 use Rattle.edi_base.specs.Buffer.{AppendsFront}
 use Rattle.hub_app.specs.declared.relay.RelayWords.{RelayWords}
@@ -43,3 +43,8 @@ is_front_delivered (Some k) words old new read bytes mail whole same mailed writ
 pub is_refused : (known : Option (List ℕ)) (words : RelayWords) (fault : RelayFault) (read bytes : List ℕ) → IfSome known (λ k. read ≡ take read_limit k) → bytes ≡ read → relayed bytes words ≡ Err fault → IsRefused known words fault
 is_refused None words fault read bytes whole same refused = tt
 is_refused (Some k) words fault read bytes whole same refused = ap (λ (t : List ℕ). relayed t words) (sym whole ∙ sym same) ∙ refused
+
+-- where the reader stands
+pub stands : (old new : Option (List ℕ)) (read : List ℕ) → Consumes old new read → IfSome old (λ k. read ≡ take read_limit k) → IfSome old (λ k. Consumes old new (take read_limit k))
+stands None new read consumed whole = tt
+stands (Some k) new read consumed whole = subst (λ (t : List ℕ). Consumes (Some k) new t) whole consumed

@@ -111,6 +111,7 @@ pub fn check_run<W: Sink, E: Sink>(alloc: Global, text: &str, out: &mut W, err: 
         (result ≡ verdict_status (register_of text.now))
         × Appends (W.contents out.old) (W.contents out.new) (verdict_line (register_of text.now))
         × Keeps (E.contents err.old) (E.contents err.new) }
+    ensures written { (W.failed out.new ≡ W.failed out.old) ⊎ ((result ≡ 3) × Tells (E.contents err.old) (E.contents err.new) (E.failed err.new) (codes "file\n")) }
     ensures failed { result ≡ 3 →
         (Tells (E.contents err.old) (E.contents err.new) (E.failed err.new) (codes "file\n")
         × (W.failed out.new ≡ true) × AppendsFront (W.contents out.old) (W.contents out.new) (verdict_line (register_of text.now)))

@@ -1,7 +1,7 @@
 //! A run of `relay` between a reader and two writers.
 
 ghost use Rattle.std.specs.Prelude.{◌≡◌, ◌⊎◌, ◌≤◌, ◌++◌, true, false, take, List, codes, OnOk, OnErr, IsTrue, IfSome};
-ghost use Rattle.std.specs.Io.KnownBytes.{Appends, Keeps};
+ghost use Rattle.std.specs.Io.KnownBytes.{Appends, Consumes, Keeps};
 ghost use Rattle.edi_base.specs.Buffer.{AppendsFront};
 ghost use Rattle.hub_app.specs.declared.relay.RelayFault.{RelayFault};
 ghost use Rattle.hub_app.specs.Relay.{AreRelayWords};
@@ -46,6 +46,9 @@ pub fn relay_run<R: Source, W: Sink, E: Sink>(
 ) -> u8
     requires { AreRelayWords words.now }
     ensures status { (result ≡ 0) ⊎ ((result ≡ 1) ⊎ (result ≡ 3)) }
+    ensures read { (R.failed input.new ≡ R.failed input.old) ⊎ ((result ≡ 3) × Tells (E.contents err.old) (E.contents err.new) (E.failed err.new) (codes "file\n")) }
+    ensures written { (W.failed out.new ≡ W.failed out.old) ⊎ ((result ≡ 3) × Tells (E.contents err.old) (E.contents err.new) (E.failed err.new) (codes "file\n")) }
+    ensures stands { ((result ≡ 0) ⊎ (result ≡ 1)) → IfSome (R.remaining input.old) (λ known. Consumes (R.remaining input.old) (R.remaining input.new) (take 1_048_577 known)) }
     ensures done { result ≡ 0 →
         Delivers (R.remaining input.old) words.now (W.contents out.old) (W.contents out.new)
         × Keeps (E.contents err.old) (E.contents err.new) }

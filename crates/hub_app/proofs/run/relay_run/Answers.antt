@@ -3,7 +3,7 @@ use Rattle.std.specs.Io.KnownBytes.{Appends}
 use Rattle.std.proofs.KnownBytes.{Keeps-refl}
 use Rattle.edi_base.specs.Buffer.{AppendsFront}
 use Rattle.hub_app.specs.declared.relay.RelayFault.TheVariants.{Token, Envelope}
-use Rattle.hub_app.proofs.Lines.{at_ok, at_err, is_delivered, is_front_delivered, is_refused}
+use Rattle.hub_app.proofs.Lines.{stands, at_ok, at_err, is_delivered, is_front_delivered, is_refused}
 use Rattle.hub_app.proofs.run.relay_run.Goals as goal
 
 pub returns-then-is_ok-clause-done : goal.returns-then-is_ok-clause-done
@@ -54,3 +54,21 @@ returns-clause-refused g c = λ _. (
       c.in-Ok.ensures.whole c.as_slice.ensures.value (rw c.in-Err-Envelope.field-0-is at c.in-Err-Envelope.ensures),
   c.tell_refusal-in-Err-Envelope.ensures,
 )
+
+pub returns-in-Err-Memory-relay_text-clause-read : goal.returns-in-Err-Memory-relay_text-clause-read
+returns-in-Err-Memory-relay_text-clause-read g c = inl (c.in-Ok.ensures.kept (λ e. absurd cc))
+
+pub returns-in-Err-Token-clause-read : goal.returns-in-Err-Token-clause-read
+returns-in-Err-Token-clause-read g c = inl (c.in-Ok.ensures.kept (λ e. absurd cc))
+
+pub returns-clause-read : goal.returns-clause-read
+returns-clause-read g c = inl (c.in-Ok.ensures.kept (λ e. absurd cc))
+
+pub returns-then-is_ok-clause-stands : goal.returns-then-is_ok-clause-stands
+returns-then-is_ok-clause-stands g c = λ _. stands (g.R.Source.remaining c.args.input.now) _ c.in-Ok.text.items c.in-Ok.ensures.bytes c.in-Ok.ensures.whole
+
+pub returns-in-Err-Token-clause-stands : goal.returns-in-Err-Token-clause-stands
+returns-in-Err-Token-clause-stands g c = λ _. stands (g.R.Source.remaining c.args.input.now) _ c.in-Ok.text.items c.in-Ok.ensures.bytes c.in-Ok.ensures.whole
+
+pub returns-clause-stands : goal.returns-clause-stands
+returns-clause-stands g c = λ _. stands (g.R.Source.remaining c.args.input.now) _ c.in-Ok.text.items c.in-Ok.ensures.bytes c.in-Ok.ensures.whole
