@@ -1,0 +1,139 @@
+-- The definitions at small messages.
+use Rattle.std.proofs.Common.{◌≡◌, ℕ, List, [], ◌∷◌, Some, None, Ok, Err, codes, refl}
+use Rattle.edi_tokens.specs.declared.segment.Segment.{Segment}
+use Rattle.edi_envelope.specs.declared.interchange.RawMessage.{RawMessage}
+use Rattle.edi_orders.specs.Header.{supplier_of}
+use Rattle.edi_orders.specs.Order.{order_of}
+use Rattle.edi_orders.specs.Values.{is_date, is_quantity, quantity_of}
+use Rattle.edi_orders.specs.declared.fault.MessageFault.TheVariants.{Beginning, Date, Parties, Summary, Line, Quantity, Control, NoLine}
+use Rattle.std.specs.Prelude.{true, false}
+
+-- a segment whose elements have one component each, and one of more
+abbrev segment : List ℕ → List (List (List ℕ)) → Segment
+segment tag elements = record { tag = tag; elements = elements }
+
+abbrev one : List ℕ → List (List ℕ)
+one bytes = bytes ∷ []
+
+abbrev unh : Segment
+unh = segment (codes "UNH") (one (codes "1") ∷ (codes "ORDERS" ∷ codes "D" ∷ codes "01B" ∷ codes "UN" ∷ codes "EAN010" ∷ []) ∷ [])
+
+abbrev bgm : Segment
+bgm = segment (codes "BGM") (one (codes "220") ∷ one (codes "128576") ∷ one (codes "9") ∷ [])
+
+abbrev dtm : List ℕ → Segment
+dtm day = segment (codes "DTM") ((codes "137" ∷ day ∷ codes "102" ∷ []) ∷ [])
+
+abbrev nad : List ℕ → List ℕ → Segment
+nad role gln = segment (codes "NAD") (one role ∷ (gln ∷ [] ∷ codes "9" ∷ []) ∷ [])
+
+abbrev lin : List ℕ → Segment
+lin number = segment (codes "LIN") (one number ∷ [] ∷ (codes "4000862141404" ∷ codes "SRV" ∷ []) ∷ [])
+
+abbrev qty : List ℕ → Segment
+qty quantity = segment (codes "QTY") ((codes "21" ∷ quantity ∷ []) ∷ [])
+
+abbrev uns : Segment
+uns = segment (codes "UNS") (one (codes "S") ∷ [])
+
+abbrev cnt : List ℕ → Segment
+cnt number = segment (codes "CNT") ((codes "2" ∷ number ∷ []) ∷ [])
+
+abbrev unt : Segment
+unt = segment (codes "UNT") (one (codes "10") ∷ one (codes "1") ∷ [])
+
+abbrev message : List Segment → RawMessage
+message segments = record {
+  reference = codes "1";
+  kind = codes "ORDERS";
+  version = codes "D";
+  release = codes "01B";
+  agency = codes "UN";
+  association = codes "EAN010";
+  segments = segments;
+}
+
+abbrev buyer : Segment
+buyer = nad (codes "BY") (codes "5412345000013")
+
+abbrev supplier : Segment
+supplier = nad (codes "SU") (codes "4012345500004")
+
+-- the order with these in the places of its date, its line and its quantity
+abbrev order : Segment → Segment → Segment → RawMessage
+order date line quantity = message (unh ∷ bgm ∷ date ∷ buyer ∷ supplier ∷ line ∷ quantity ∷ uns ∷ cnt (codes "1") ∷ unt ∷ [])
+
+an_order : order_of (order (dtm (codes "20250603")) (lin (codes "1")) (qty (codes "48"))) ≡ Ok (record {
+  number = codes "128576";
+  buyer = codes "5412345000013";
+  supplier = codes "4012345500004";
+  lines = record { line = 1; gtin = codes "04000862141404"; quantity = 48 } ∷ [];
+})
+an_order = refl
+
+quantity_zero : order_of (order (dtm (codes "20250603")) (lin (codes "1")) (qty (codes "0"))) ≡ Err Quantity
+quantity_zero = refl
+
+no_leap_day : order_of (order (dtm (codes "20250229")) (lin (codes "1")) (qty (codes "48"))) ≡ Err Date
+no_leap_day = refl
+
+line_zero_before_quantity_zero : order_of (order (dtm (codes "20250603")) (lin (codes "0")) (qty (codes "0"))) ≡ Err Line
+line_zero_before_quantity_zero = refl
+
+-- two BGM, no DTM and quantity 0
+three_faults : order_of (message (unh ∷ bgm ∷ bgm ∷ buyer ∷ supplier ∷ lin (codes "1") ∷ qty (codes "0") ∷ uns ∷ cnt (codes "1") ∷ unt ∷ [])) ≡ Err Beginning
+three_faults = refl
+
+no_supplier : order_of (message (unh ∷ bgm ∷ dtm (codes "20250603") ∷ buyer ∷ lin (codes "1") ∷ supplier ∷ qty (codes "48") ∷ uns ∷ unt ∷ [])) ≡ Err Parties
+no_supplier = refl
+
+line_in_the_summary : order_of (message (unh ∷ bgm ∷ dtm (codes "20250603") ∷ buyer ∷ supplier ∷ uns ∷ lin (codes "1") ∷ qty (codes "48") ∷ unt ∷ [])) ≡ Err Summary
+line_in_the_summary = refl
+
+one_number_twice : order_of (message (unh ∷ bgm ∷ dtm (codes "20250603") ∷ buyer ∷ supplier ∷ lin (codes "1") ∷ qty (codes "48") ∷ lin (codes "01") ∷ qty (codes "0") ∷ uns ∷ unt ∷ [])) ≡ Err Line
+one_number_twice = refl
+
+wrong_control : order_of (message (unh ∷ bgm ∷ dtm (codes "20250603") ∷ buyer ∷ supplier ∷ uns ∷ cnt (codes "1") ∷ unt ∷ [])) ≡ Err Control
+wrong_control = refl
+
+no_line : order_of (message (unh ∷ bgm ∷ dtm (codes "20250603") ∷ buyer ∷ supplier ∷ uns ∷ cnt (codes "0") ∷ unt ∷ [])) ≡ Err NoLine
+no_line = refl
+
+its_supplier : supplier_of (unh ∷ bgm ∷ buyer ∷ supplier ∷ uns ∷ unt ∷ []) ≡ Some (codes "4012345500004")
+its_supplier = refl
+
+supplier_in_a_line : supplier_of (unh ∷ bgm ∷ buyer ∷ lin (codes "1") ∷ supplier ∷ uns ∷ unt ∷ []) ≡ None
+supplier_in_a_line = refl
+
+leap_year_0 : is_date (codes "102") (codes "00000229") ≡ true
+leap_year_0 = refl
+
+no_leap_year_1900 : is_date (codes "102") (codes "19000229") ≡ false
+no_leap_year_1900 = refl
+
+leap_year_2024 : is_date (codes "203") (codes "202402292359") ≡ true
+leap_year_2024 = refl
+
+hour_24 : is_date (codes "203") (codes "202402292400") ≡ false
+hour_24 = refl
+
+fraction_of_zeros : is_quantity (codes "12,000") ≡ true
+fraction_of_zeros = refl
+
+its_value : quantity_of (codes "12,000") ≡ 12
+its_value = refl
+
+fraction : is_quantity (codes "12.5") ≡ false
+fraction = refl
+
+mark_alone : is_quantity (codes "12.") ≡ false
+mark_alone = refl
+
+greatest : is_quantity (codes "999999999") ≡ true
+greatest = refl
+
+above : is_quantity (codes "1000000000") ≡ false
+above = refl
+
+nothing_before_the_mark : is_quantity (codes ".5") ≡ false
+nothing_before_the_mark = refl

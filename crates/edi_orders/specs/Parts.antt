@@ -1,0 +1,37 @@
+-- The parts of a message, UNH to UNT: its header and its line groups (EANCOM 2002, the segment tables of the messages).
+use Rattle.std.specs.Prelude.{Bool, not, ◌||◌, if◌then◌else◌, List, [], ◌∷◌, drop, codes}
+use Rattle.std.specs.List.{take_while}
+use Rattle.edi_tokens.specs.declared.segment.Segment.{Segment}
+use Rattle.edi_envelope.specs.Segments.{has_tag, is_unt}
+
+-- line item, and packing group
+abbrev pub is_lin : Segment → Bool
+is_lin = has_tag (codes "LIN")
+
+abbrev pub is_cps : Segment → Bool
+is_cps = has_tag (codes "CPS")
+
+-- section control
+abbrev pub is_uns : Segment → Bool
+is_uns = has_tag (codes "UNS")
+
+-- a segment before which a header or a line group ends
+abbrev pub ends_part : Segment → Bool
+ends_part segment = is_lin segment || is_cps segment || is_uns segment || is_unt segment
+
+abbrev pub up_to_end : List Segment → List Segment
+up_to_end segments = take_while (λ segment. not (ends_part segment)) segments
+
+-- the header: what stands after UNH and before the first such segment
+abbrev pub header : List Segment → List Segment
+header message = up_to_end (drop 1 message)
+
+-- the segment that they begin with, and what follows it up to the next such segment
+abbrev pub group_of : List Segment → List Segment
+group_of [] = []
+group_of (segment ∷ rest) = segment ∷ up_to_end rest
+
+-- the line groups: each LIN, with what follows up to the next such segment
+abbrev pub line_groups : List Segment → List (List Segment)
+line_groups [] = []
+line_groups (segment ∷ rest) = if is_lin segment then group_of (segment ∷ rest) ∷ line_groups rest else line_groups rest
