@@ -8,7 +8,6 @@ use Rattle.edi_orders.specs.Values.{is_date, is_quantity, quantity_of}
 use Rattle.edi_orders.specs.declared.fault.MessageFault.TheVariants.{Beginning, Date, Parties, Summary, Line, Quantity, Control, NoLine}
 use Rattle.std.specs.Prelude.{true, false}
 
--- a segment whose elements have one component each, and one of more
 abbrev segment : List ℕ → List (List (List ℕ)) → Segment
 segment tag elements = record { tag = tag; elements = elements }
 

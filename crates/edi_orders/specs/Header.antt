@@ -2,7 +2,7 @@
 use Rattle.std.specs.Prelude.{ℕ, ◌==◌, Bool, not, ◌&&◌, nat_le, if◌then◌else◌, List, [], ◌∷◌, length, filter, codes, slice_index_or, Option, Some, None, option_and_then}
 use Rattle.std.specs.List.{list_all, list_any}
 use Rattle.std.specs.Str.{bytes_eq}
-use Rattle.gs1_ids.specs.Digits.{is_key}
+use Rattle.gs1_ids.specs.Gln.{is_gln}
 use Rattle.edi_tokens.specs.declared.segment.Segment.{Segment}
 use Rattle.edi_envelope.specs.Limits.{counts}
 use Rattle.edi_envelope.specs.Segments.{has_tag, component, no_segment, first_segment}
@@ -61,7 +61,7 @@ parties role message = filter (is_of_role role) (header message)
 
 -- a party is named by a right GLN (3039), and 3055 says so by 9
 abbrev pub is_party : Segment → Bool
-is_party party = is_key 13 (component party 1 0) && bytes_eq (component party 1 2) (codes "9")
+is_party party = is_gln (component party 1 0) && bytes_eq (component party 1 2) (codes "9")
 
 -- one supplier and one buyer
 abbrev pub has_parties : List Segment → Bool

@@ -1,9 +1,8 @@
 -- What a line group says: LIN and QTY.
-use Rattle.std.specs.Prelude.{ℕ, ◌==◌, Bool, false, ◌&&◌, ◌||◌, nat_le, List, [], ◌∷◌, length, filter, codes}
+use Rattle.std.specs.Prelude.{ℕ, ◌==◌, Bool, false, ◌&&◌, ◌||◌, nat_le, List, [], ◌∷◌, length, filter, is_some, codes}
 use Rattle.std.specs.List.{list_all, list_any}
 use Rattle.std.specs.Str.{bytes_eq}
-use Rattle.gs1_ids.specs.Digits.{is_key}
-use Rattle.gs1_ids.specs.Gtin.{is_gtin_length, in_fourteen}
+use Rattle.gs1_ids.specs.Gtin.{gtin_of, in_fourteen}
 use Rattle.edi_tokens.specs.declared.segment.Segment.{Segment}
 use Rattle.edi_tokens.specs.Segment.{element_at}
 use Rattle.edi_envelope.specs.Limits.{number_of}
@@ -18,8 +17,7 @@ line group = first_segment group
 -- a right GTIN (7140) named as SRV (7143)
 abbrev pub has_gtin : Segment → Bool
 has_gtin lin =
-    is_gtin_length (length (component lin 2 0)) && is_key (length (component lin 2 0)) (component lin 2 0)
-    && bytes_eq (component lin 2 1) (codes "SRV")
+    is_some (gtin_of (component lin 2 0)) && bytes_eq (component lin 2 1) (codes "SRV")
 
 -- LIN with a line number (1082), a GTIN, and no sub-line (C829)
 abbrev pub is_line : List Segment → Bool
