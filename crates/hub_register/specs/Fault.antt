@@ -1,4 +1,4 @@
--- What stands against the rows of a text, and the register that they are where nothing does.
+-- What stands against the rows of a text.
 use Rattle.std.specs.Prelude.{◌+◌, not, nat_lt, if◌then◌else◌, length, Option, Some, option_map}
 use Rattle.std.specs.List.{list_all}
 use Rattle.gs1_ids.specs.Overlap.{first_overlap_of}
