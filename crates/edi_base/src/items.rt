@@ -1,5 +1,6 @@
-ghost use Rattle.std.specs.Prelude.{◌≡◌, ◌==◌, ◌++◌, ◌∷◌, [], length, OnOk, OnErr};
+ghost use Rattle.std.specs.Prelude.{◌≡◌, ◌==◌, ◌++◌, ◌∷◌, [], length, IfOk, OnOk, OnErr};
 
+use crate::memory::MemoryFault;
 use std::alloc::{AllocFailed, Global};
 use std::marker::Model;
 
@@ -70,4 +71,11 @@ impl<T> Items<T> {
     {
         self.vector.push(item)
     }
+}
+
+/// A copy of bytes.
+pub fn copied(alloc: Global, bytes: &[u8]) -> Result<Items<u8>, MemoryFault>
+    ensures { IfOk result (λ copy. copy ≡ bytes.now) }
+{
+    Ok(Items::from_vec(Vec::from_slice(alloc, bytes)?))
 }

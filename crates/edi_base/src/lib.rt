@@ -1,18 +1,20 @@
-//! What all layers share: vectors that contracts see as lists, readers and writers with known bytes, and the
-//! texts that have come so far.
+//! What all layers share: vectors that contracts see as lists, readers and writers with known bytes, the limits of data
+//! elements, and what comes twice.
 #![tactic(auto)]
 
 mod buffer;
 mod items;
+mod limits;
 mod memory;
 mod seen;
 mod sink;
 mod source;
 
 pub use buffer::Buffer;
-pub use items::Items;
+pub use items::{Items, copied};
+pub use limits::{all_printable, are_digits, count_of, counts, has_length, value_of};
 pub use memory::MemoryFault;
-pub use seen::Seen;
+pub use seen::{Seen, number_twice};
 pub use sink::{OfWrite, Sink, WriteFault, write_bytes};
 pub use source::{OfRead, ReadFault, Source, read_to_limit};
 

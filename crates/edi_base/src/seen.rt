@@ -1,6 +1,6 @@
 ghost use Rattle.std.specs.Prelude.{◌≡◌, ◌||◌, ℕ, List, [], not, IfOk, OnOk, OnErr};
 ghost use Rattle.std.specs.Str.{bytes_eq};
-ghost use Rattle.edi_base.specs.Seen.{is_among};
+ghost use Rattle.edi_base.specs.Seen.{is_among, has_number_twice};
 
 use std::alloc::{AllocError, Global};
 use std::collections::BTreeSet;
@@ -39,4 +39,18 @@ impl<'a> Seen<'a> {
         let new = self.texts.insert(text)?;
         Ok(new)
     }
+}
+
+/// Whether one of the numbers stands twice. The numbers are kept in an ordered set as they come, so that the time grows
+/// as n log n with n numbers.
+pub fn number_twice(alloc: Global, numbers: &[u32]) -> Result<bool, AllocError>
+    ensures { IfOk result (λ found. found ≡ has_number_twice numbers.now) }
+{
+    let mut seen = BTreeSet::new(alloc);
+    for number in numbers {
+        if !seen.insert(*number)? {
+            return Ok(true);
+        }
+    }
+    Ok(false)
 }

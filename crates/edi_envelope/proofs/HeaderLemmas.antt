@@ -3,7 +3,8 @@ use Rattle.std.proofs.Common.{◌≡◌, ℕ, zero, suc, ◌<◌, List, [], ◌�
 use Rattle.std.proofs.lemmas.Bool.{and_parts}
 use Rattle.edi_tokens.specs.declared.segment.Segment.{Segment}
 use Rattle.edi_envelope.specs.Segments.{component}
-use Rattle.edi_envelope.specs.Limits.{is_reference, are_digits}
+use Rattle.edi_base.specs.Limits.{are_digits}
+use Rattle.edi_envelope.specs.Limits.{is_reference}
 use Rattle.edi_envelope.specs.Header.{has_partner, is_header}
 use Rattle.edi_envelope.proofs.LimitLemmas.{has_length_bounds}
 

@@ -4,7 +4,8 @@ use Rattle.std.specs.Str.{bytes_eq}
 use Rattle.edi_tokens.specs.declared.segment.Segment.{Segment}
 use Rattle.edi_envelope.specs.declared.interchange.Head.{Head}
 use Rattle.edi_envelope.specs.Segments.{component}
-use Rattle.edi_envelope.specs.Limits.{has_length, is_reference, are_digits}
+use Rattle.edi_base.specs.Limits.{has_length, are_digits}
+use Rattle.edi_envelope.specs.Limits.{is_reference}
 
 -- the character sets without and with letters beyond ISO 646
 abbrev pub is_seven_bit_set : Segment → Bool

@@ -8,7 +8,7 @@ use Rattle.edi_envelope.specs.declared.fault.EnvelopeFault.{EnvelopeFault}
 use Rattle.edi_envelope.specs.declared.fault.EnvelopeFault.TheVariants.{InterchangeFrame, InterchangeHeader, MessageFrame, MessageHeader, SegmentCount, MessageReference, MessageCount, ControlReference, RepeatedReference, TestIndicator, TooManyMessages, CharacterSet, Memory}
 use Rattle.edi_envelope.specs.declared.interchange.Interchange.{Interchange}
 use Rattle.edi_envelope.specs.Segments.{is_unb, is_unz, component, first_segment, last_segment, between}
-use Rattle.edi_envelope.specs.Limits.{counts}
+use Rattle.edi_base.specs.Limits.{counts}
 use Rattle.edi_envelope.specs.Header.{is_header, is_test, is_seven_bit_set, head_of}
 use Rattle.edi_envelope.specs.Blocks.{before_message, blocks}
 use Rattle.edi_base.specs.Seen.{has_twice}

@@ -5,7 +5,8 @@ use Rattle.std.specs.Str.{bytes_eq}
 use Rattle.edi_tokens.specs.declared.segment.Segment.{Segment}
 use Rattle.edi_envelope.specs.declared.interchange.RawMessage.{RawMessage}
 use Rattle.edi_envelope.specs.Segments.{is_unh, is_unt, is_ung, is_une, component, first_segment, last_segment, between}
-use Rattle.edi_envelope.specs.Limits.{is_reference, is_identifier, is_count, counts}
+use Rattle.edi_base.specs.Limits.{is_count, counts}
+use Rattle.edi_envelope.specs.Limits.{is_reference, is_identifier}
 
 -- a segment that may not stand between UNH and UNT
 abbrev pub is_frame : Segment → Bool

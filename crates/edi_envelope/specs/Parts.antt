@@ -7,7 +7,7 @@ use Rattle.edi_envelope.specs.declared.opening.Parts.{Parts}
 use Rattle.edi_envelope.specs.Segments.{component, first_segment, last_segment, between}
 use Rattle.edi_envelope.specs.declared.fault.EnvelopeFault.{EnvelopeFault}
 use Rattle.edi_envelope.specs.declared.fault.EnvelopeFault.TheVariants.{MessageFrame, MessageHeader, SegmentCount, MessageReference, MessageCount, ControlReference, RepeatedReference, TestIndicator, TooManyMessages, CharacterSet}
-use Rattle.edi_envelope.specs.Limits.{counts}
+use Rattle.edi_base.specs.Limits.{counts}
 use Rattle.edi_envelope.specs.Header.{is_test}
 use Rattle.edi_base.specs.Seen.{has_twice}
 use Rattle.edi_envelope.specs.Message.{is_block, is_within_limits, is_counted, is_closed, reference_of}

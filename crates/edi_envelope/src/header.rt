@@ -3,7 +3,8 @@ ghost use Rattle.edi_tokens.specs.Segment.{component_at};
 ghost use Rattle.edi_envelope.specs.Header as spec;
 
 use crate::interchange::Head;
-use crate::limits::{are_digits, has_length, is_reference};
+use crate::limits::is_reference;
+use edi_base::{are_digits, has_length};
 use edi_tokens::{Items, Segment};
 
 /// Whether UNB names a character set of seven bits, UNOA or UNOB.

@@ -5,8 +5,8 @@ ghost use Rattle.edi_envelope.specs.Moment.{date_text, time_text};
 ghost use Rattle.edi_envelope.specs.Mail.{unb_from, unz_of, with_one, renumbered, mail_segments, mail_body};
 
 use crate::interchange::RawMessage;
-use crate::message::copied;
 use crate::moment::{Moment, date_digits, time_digits};
+use edi_base::copied;
 use edi_tokens::{Elements, Items, MemoryFault, Segment};
 use std::alloc::Global;
 

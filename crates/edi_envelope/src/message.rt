@@ -6,7 +6,7 @@ ghost use Rattle.edi_envelope.specs.Message as spec;
 
 use crate::interchange::RawMessage;
 use crate::limits;
-use edi_base::Seen;
+use edi_base::{Seen, are_digits, copied, counts};
 use edi_tokens::{Items, MemoryFault, Segment};
 use std::alloc::Global;
 
@@ -75,14 +75,14 @@ pub(crate) fn is_within_limits(block: &[Segment]) -> bool
         && limits::is_identifier(1, 3, first_component(block, 1, 2))
         && limits::is_identifier(1, 3, first_component(block, 1, 3))
         && limits::is_identifier(0, 6, first_component(block, 1, 4))
-        && limits::is_count(last_component(block, 0, 0))
+        && are_digits(1, 6, last_component(block, 0, 0))
 }
 
 /// Whether UNT's count is the number of segments.
 pub(crate) fn is_counted(block: &[Segment]) -> bool
     ensures { result ≡ spec.is_counted block.now }
 {
-    limits::counts(last_component(block, 0, 0), block.len())
+    counts(last_component(block, 0, 0), block.len())
 }
 
 /// Whether UNT's reference is UNH's.
@@ -103,13 +103,6 @@ pub(crate) fn has_twice(alloc: Global, blocks: &[Items<Segment>]) -> Result<bool
         }
     }
     Ok(false)
-}
-
-/// A copy of bytes.
-pub(crate) fn copied(alloc: Global, bytes: &[u8]) -> Result<Items<u8>, MemoryFault>
-    ensures { IfOk result (λ copy. copy ≡ bytes.now) }
-{
-    Ok(Items::from_vec(Vec::from_slice(alloc, bytes)?))
 }
 
 // The message of a block, whose segments it takes.

@@ -4,7 +4,7 @@ use Rattle.edi_tokens.specs.declared.segment.Segment.{Segment}
 use Rattle.edi_envelope.specs.declared.interchange.RawMessage.{RawMessage}
 use Rattle.edi_orders.specs.Header.{supplier_of}
 use Rattle.edi_orders.specs.Order.{order_of}
-use Rattle.edi_orders.specs.Values.{is_date, is_quantity, quantity_of}
+use Rattle.edi_orders.specs.Values.{is_date, quantity}
 use Rattle.edi_orders.specs.declared.fault.MessageFault.TheVariants.{Beginning, Date, Parties, Summary, Line, Quantity, Control, NoLine}
 use Rattle.std.specs.Prelude.{true, false}
 
@@ -116,23 +116,23 @@ leap_year_2024 = refl
 hour_24 : is_date (codes "203") (codes "202402292400") ≡ false
 hour_24 = refl
 
-fraction_of_zeros : is_quantity (codes "12,000") ≡ true
+fraction_of_zeros : quantity (codes "12,000") ≡ Some 12
 fraction_of_zeros = refl
 
-its_value : quantity_of (codes "12,000") ≡ 12
-its_value = refl
-
-fraction : is_quantity (codes "12.5") ≡ false
+fraction : quantity (codes "12.5") ≡ None
 fraction = refl
 
-mark_alone : is_quantity (codes "12.") ≡ false
+mark_alone : quantity (codes "12.") ≡ None
 mark_alone = refl
 
-greatest : is_quantity (codes "999999999") ≡ true
+greatest : quantity (codes "999999999") ≡ Some 999_999_999
 greatest = refl
 
-above : is_quantity (codes "1000000000") ≡ false
+above : quantity (codes "1000000000") ≡ None
 above = refl
 
-nothing_before_the_mark : is_quantity (codes ".5") ≡ false
+zeros_before : quantity (codes "00000000000000000000000000000000012") ≡ Some 12
+zeros_before = refl
+
+nothing_before_the_mark : quantity (codes ".5") ≡ None
 nothing_before_the_mark = refl

@@ -1,2 +1,2 @@
 mod Examples
-pub mod Parties
+pub mod Found

@@ -1,8 +1,10 @@
--- The parts of a message, UNH to UNT: its header and its line groups (EANCOM 2002, the segment tables of the messages).
-use Rattle.std.specs.Prelude.{Bool, not, ◌||◌, if◌then◌else◌, List, [], ◌∷◌, drop, codes}
-use Rattle.std.specs.List.{take_while}
+-- The parts of a message, UNH to UNT: its header and its line groups (EANCOM 2002, the segment tables of the messages),
+-- and the segments of a kind in a part.
+use Rattle.std.specs.Prelude.{ℕ, Bool, not, ◌||◌, ◌&&◌, if◌then◌else◌, List, [], ◌∷◌, drop, filter, codes, Option, Some, None}
+use Rattle.std.specs.List.{list_any, take_while}
+use Rattle.std.specs.Str.{bytes_eq}
 use Rattle.edi_tokens.specs.declared.segment.Segment.{Segment}
-use Rattle.edi_envelope.specs.Segments.{has_tag, is_unt}
+use Rattle.edi_envelope.specs.Segments.{has_tag, is_unt, component}
 
 -- line item, and packing group
 abbrev pub is_lin : Segment → Bool
@@ -35,3 +37,23 @@ group_of (segment ∷ rest) = segment ∷ up_to_end rest
 abbrev pub line_groups : List Segment → List (List Segment)
 line_groups [] = []
 line_groups (segment ∷ rest) = if is_lin segment then group_of (segment ∷ rest) ∷ line_groups rest else line_groups rest
+
+-- a segment with this tag whose first component of element 1 is this qualifier
+abbrev pub is_qualified : List ℕ → List ℕ → Segment → Bool
+is_qualified tag qualifier segment = has_tag tag segment && bytes_eq (component segment 0 0) qualifier
+
+-- the segments of a part with this tag and this qualifier
+abbrev pub qualified : List ℕ → List ℕ → List Segment → List Segment
+qualified tag qualifier part = filter (is_qualified tag qualifier) part
+
+-- there is one
+abbrev pub has_qualified : List ℕ → List ℕ → List Segment → Bool
+has_qualified tag qualifier part = list_any (is_qualified tag qualifier) part
+
+-- the one segment that there is
+abbrev pub only : List Segment → Option Segment
+only (segment ∷ []) = Some segment
+only _ = None
+
+abbrev pub only_qualified : List ℕ → List ℕ → List Segment → Option Segment
+only_qualified tag qualifier part = only (qualified tag qualifier part)

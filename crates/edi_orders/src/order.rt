@@ -1,5 +1,17 @@
+//! Orders (ORDERS).
+ghost use Rattle.std.specs.Prelude.{◌≡◌, ◌≢◌, IfOk, IfErr, Ok, Err, true, false, map, is_some};
+ghost use Rattle.std.specs.List.{list_all};
+ghost use Rattle.edi_orders.specs.Order as spec;
+
+use crate::fault::MessageFault;
+use crate::header::{begins_as, document_number, function, has_date, is_type, party};
+use crate::lines::{LineItem, has_number_twice, line_items, quantity_of};
+use crate::summary::{has_summary, is_controlled, line_count};
+use edi_base::copied;
+use edi_envelope::RawMessage;
 use edi_tokens::Items;
 use gs1_ids::{Gln, Gtin};
+use std::alloc::Global;
 
 /// An order (ORDERS).
 #[derive(Debug, Drop)]
@@ -23,4 +35,67 @@ pub struct OrderLine {
     pub gtin: Gtin,
     /// The quantity ordered, in pieces, 1 to 999,999,999.
     pub quantity: u32,
+}
+
+// The lines of groups, each with the quantity ordered.
+fn order_lines(alloc: Global, items: &[LineItem<'_>]) -> Result<Items<OrderLine>, MessageFault>
+    ensures ok { IfOk result (λ lines. (lines ≡ map spec.line_of items.now) × (list_all (λ group. is_some (spec.ordered group)) items.now ≡ true)) }
+    ensures err { IfErr result (λ fault. fault ≢ MessageFault.Memory → (fault ≡ MessageFault.Quantity) × (list_all (λ group. is_some (spec.ordered group)) items.now ≡ false)) }
+{
+    let mut lines = Items::new(alloc);
+    for item in items {
+        let quantity = quantity_of(b"21", 1, item.group()).ok_or(MessageFault::Quantity)?;
+        lines.push(OrderLine {
+            line: item.number(),
+            gtin: item.gtin(),
+            quantity,
+        })?;
+    }
+    Ok(lines)
+}
+
+impl Order {
+    /// The order that a message is: ORDERS of the directory D.01B with BGM 1001 220 and 1225 9, one document date, one
+    /// buyer and one supplier, lines each with its own number, an item and a quantity ordered, and one UNS. Else the
+    /// lowest fault of the message, wherever in it that stands.
+    pub fn read(alloc: Global, message: &RawMessage) -> Result<Order, MessageFault>
+        ensures ok { IfOk result (λ order. spec.order_of message.now ≡ Ok order) }
+        ensures err { IfErr result (λ fault. fault ≢ MessageFault.Memory → spec.order_of message.now ≡ Err fault) }
+    {
+        let segments = message.segments.as_slice();
+        if !is_type(b"ORDERS", message) {
+            return Err(MessageFault::MessageType);
+        }
+        if !begins_as(b"220", segments) {
+            return Err(MessageFault::Beginning);
+        }
+        if function(segments) != b"9".as_slice() {
+            return Err(MessageFault::Function);
+        }
+        if !has_date(segments) {
+            return Err(MessageFault::Date);
+        }
+        let buyer = party(b"BY", segments).ok_or(MessageFault::Parties)?;
+        let supplier = party(b"SU", segments).ok_or(MessageFault::Parties)?;
+        if !has_summary(segments) {
+            return Err(MessageFault::Summary);
+        }
+        let items = line_items(alloc, segments)?;
+        if has_number_twice(alloc, items.as_slice())? {
+            return Err(MessageFault::Line);
+        }
+        let lines = order_lines(alloc, items.as_slice())?;
+        if !is_controlled(segments) {
+            return Err(MessageFault::Control);
+        }
+        if line_count(segments) == 0 {
+            return Err(MessageFault::NoLine);
+        }
+        Ok(Order {
+            number: copied(alloc, document_number(segments))?,
+            buyer,
+            supplier,
+            lines,
+        })
+    }
 }

@@ -1,18 +1,19 @@
-ghost use Rattle.std.specs.Prelude.{◌≡◌, ◌≢◌, ◌≤◌, length, drop, map, not, IfOk, IfErr};
+//! The parts of a message, and the segments of a kind in a part.
+ghost use Rattle.std.specs.Prelude.{◌≡◌, ◌≢◌, ◌≤◌, length, drop, map, not, IfOk, IfErr, option_map};
 ghost use Rattle.std.specs.List.{prefix_len};
 ghost use Rattle.edi_orders.specs.Parts as spec;
 
 use edi_tokens::Segment;
 
 /// Whether a segment is a line item.
-pub(crate) fn is_lin(segment: &Segment) -> bool
+pub fn is_lin(segment: &Segment) -> bool
     ensures { result ≡ spec.is_lin segment.now }
 {
     segment.tag == *b"LIN"
 }
 
 /// Whether a segment is a section control.
-pub(crate) fn is_uns(segment: &Segment) -> bool
+pub fn is_uns(segment: &Segment) -> bool
     ensures { result ≡ spec.is_uns segment.now }
 {
     segment.tag == *b"UNS"
@@ -47,11 +48,63 @@ fn up_to_end(segments: &[Segment]) -> &[Segment]
 }
 
 /// The header of a message.
-pub(crate) fn header(message: &[Segment]) -> &[Segment]
+pub fn header(message: &[Segment]) -> &[Segment]
     ensures { result.now ≡ spec.header message.now }
 {
     match message.split_first() {
         Some((_, rest)) => up_to_end(rest),
         None => &[],
     }
+}
+
+/// The first segment, with what follows it up to the next that ends a group.
+pub fn group_of(segments: &[Segment]) -> &[Segment]
+    ensures { result.now ≡ spec.group_of segments.now }
+{
+    match segments.split_first() {
+        Some((_, rest)) => {
+            let (group, _) = segments.split_at(1 + part_len(rest));
+            group
+        }
+        None => &[],
+    }
+}
+
+/// Whether a segment has this tag, and this qualifier as the first component of element 1.
+pub fn is_qualified(tag: &[u8; 3], qualifier: &[u8], segment: &Segment) -> bool
+    ensures { result ≡ spec.is_qualified tag.now qualifier.now segment.now }
+{
+    segment.tag == *tag && segment.component(0, 0) == qualifier
+}
+
+/// Whether a part has a segment with this tag and this qualifier.
+pub fn has_qualified(tag: &[u8; 3], qualifier: &[u8], part: &[Segment]) -> bool
+    ensures { result ≡ spec.has_qualified tag.now qualifier.now part.now }
+{
+    for segment in part {
+        if is_qualified(tag, qualifier, segment) {
+            return true;
+        }
+    }
+    false
+}
+
+/// The segment of a part with this tag and this qualifier, where there is just one.
+pub fn only_qualified<'a>(
+    tag: &[u8; 3],
+    qualifier: &[u8],
+    part: &'a [Segment],
+) -> Option<&'a Segment>
+    ensures { option_map (λ segment. segment.now) result ≡ spec.only_qualified tag.now qualifier.now part.now }
+{
+    let mut found = None;
+    for segment in part {
+        if is_qualified(tag, qualifier, segment) {
+            if found.is_some() {
+                return None;
+            }
+            found = Some(segment);
+        }
+    }
+    found
 }

@@ -1,5 +1,6 @@
 -- The characters of a text (ISO 9735 section 5, character sets UNOA to UNOC).
 use Rattle.std.specs.Prelude.{ℕ, Bool, false, ◌==◌, nat_le, ◌&&◌, ◌||◌, Option, Some, None}
+use Rattle.edi_base.specs.Limits as limits
 use Rattle.edi_tokens.specs.declared.segment.Service.{Service}
 
 -- a byte of data: 0x20 to 0x7E, and 0xA0 to 0xFF
@@ -13,7 +14,7 @@ abbrev pub is_small : ℕ → Bool
 is_small b = nat_le 97 b && nat_le b 122
 
 abbrev pub is_digit : ℕ → Bool
-is_digit b = nat_le 48 b && nat_le b 57
+is_digit = limits.is_digit
 
 -- CR or LF, which may stand between segments
 abbrev pub is_line_end : ℕ → Bool

@@ -1,0 +1,127 @@
+-- The response that a message is (ORDRSP), or its message fault.
+use Rattle.std.specs.Prelude.{ℕ, ◌==◌, Bool, true, false, not, ◌&&◌, ◌||◌, if◌then◌else◌, List, [], map, is_some, codes, Option, Some, None, option_map, option_and_then, Result}
+use Rattle.std.specs.List.{list_all}
+use Rattle.std.specs.Option.{unwrap_or}
+use Rattle.std.specs.Str.{bytes_eq}
+use Rattle.edi_tokens.specs.declared.segment.Segment.{Segment}
+use Rattle.edi_envelope.specs.Segments.{component}
+use Rattle.edi_envelope.specs.declared.interchange.RawMessage.{RawMessage}
+use Rattle.edi_orders.specs.Parts.{line_groups, has_qualified}
+use Rattle.edi_orders.specs.Header.{is_type, begins_as, document_number, function, has_date, party}
+use Rattle.edi_orders.specs.Lines.{line, gtin, is_line, quantity_of}
+use Rattle.edi_orders.specs.References.{has_reference, reference, order_named, line_named, is_reference, order}
+use Rattle.edi_orders.specs.Summary.{has_summary, line_count, is_controlled}
+use Rattle.edi_orders.specs.declared.action.Action.{Action}
+use Rattle.edi_orders.specs.declared.action.Action.TheVariants as actions
+use Rattle.edi_orders.specs.declared.extent.Extent.{Extent}
+use Rattle.edi_orders.specs.declared.extent.Extent.TheVariants as extents
+use Rattle.edi_orders.specs.Fault.{judged}
+use Rattle.edi_orders.specs.declared.fault.MessageFault.{MessageFault}
+use Rattle.edi_orders.specs.declared.fault.MessageFault.TheVariants.{MessageType, Beginning, Function, Date, Parties, Summary, Line, Quantity, Reference, Unit, Control, NoLine, Memory}
+use Rattle.edi_orders.specs.declared.response.Response.{Response}
+use Rattle.edi_orders.specs.declared.response.Answer.{Answer}
+use Rattle.edi_orders.specs.declared.response.Answer.TheVariants as answers
+use Rattle.edi_orders.specs.declared.response.AnswerLine.{AnswerLine}
+use Rattle.edi_orders.specs.declared.response.LineAnswer.{LineAnswer}
+use Rattle.edi_orders.specs.declared.response.LineAnswer.TheVariants as line_answers
+
+-- what the message function (1225) says: 4 change and 9 original have lines, 27 is not accepted, 29 accepted without
+-- amendment
+abbrev pub extent_of : List ℕ → Option Extent
+extent_of function =
+    if bytes_eq function (codes "4") || bytes_eq function (codes "9") then Some extents.Lines
+    else if bytes_eq function (codes "27") then Some extents.AllRefused
+    else if bytes_eq function (codes "29") then Some extents.AllAccepted
+    else None
+
+abbrev pub extent : List Segment → Option Extent
+extent message = extent_of (function message)
+
+abbrev pub has_lines : Option Extent → Bool
+has_lines (Some extents.Lines) = true
+has_lines _ = false
+
+-- the line groups that are read
+abbrev pub read_groups : List Segment → List (List Segment)
+read_groups message = if has_lines (extent message) then line_groups message else []
+
+-- the action of a line (1229): 3 changed, 5 accepted without amendment, 6 accepted with amendment, 7 not accepted
+abbrev pub action_of : List ℕ → Option Action
+action_of code =
+    if bytes_eq code (codes "5") then Some actions.Accept
+    else if bytes_eq code (codes "7") then Some actions.Refuse
+    else if bytes_eq code (codes "3") || bytes_eq code (codes "6") then Some actions.Change
+    else None
+
+abbrev pub action : List Segment → Option Action
+action group = action_of (component (line group) 1 0)
+
+-- the quantity that is to be delivered (QTY with 6063 113), where there is none that is ordered (21)
+abbrev pub changed : List Segment → Option ℕ
+changed group = if has_qualified (codes "QTY") (codes "113") group then quantity_of (codes "113") 0 group else quantity_of (codes "21") 0 group
+
+-- the answer to a line; only a change has a quantity
+abbrev pub answer_by : Option Action → List Segment → Option LineAnswer
+answer_by (Some actions.Accept) group = Some line_answers.Accepted
+answer_by (Some actions.Refuse) group = Some line_answers.Refused
+answer_by (Some actions.Change) group = option_map line_answers.Changed (changed group)
+answer_by None group = Some line_answers.Accepted
+
+abbrev pub line_answer : List Segment → Option LineAnswer
+line_answer group = answer_by (action group) group
+
+-- the reference names the order of the header
+abbrev pub is_of_order : Option (List ℕ) → Option (List ℕ) → Bool
+is_of_order (Some one) (Some other) = bytes_eq one other
+is_of_order _ _ = false
+
+-- a right reference to the order of the header
+abbrev pub is_referred_by : Option (List ℕ) → Option Segment → Bool
+is_referred_by order None = false
+is_referred_by order (Some rff) = is_reference rff && is_of_order (order_named rff) order
+
+-- a group has no reference, or one
+abbrev pub is_referred : Option (List ℕ) → List Segment → Bool
+is_referred order group = not (has_reference group) || is_referred_by order (reference group)
+
+-- the order line that a group names
+abbrev pub order_line : List Segment → Option ℕ
+order_line group = option_and_then line_named (reference group)
+
+-- Each condition, of the whole message. Each is defined also where another one holds.
+abbrev pub holds : MessageFault → RawMessage → Bool
+holds MessageType m = not (is_type (codes "ORDRSP") m)
+holds Beginning m = not (begins_as (codes "231") m.segments)
+holds Function m = not (is_some (extent m.segments))
+holds Date m = not (has_date m.segments)
+holds Parties m = not (is_some (party (codes "BY") m.segments) && is_some (party (codes "SU") m.segments))
+holds Summary m = not (has_summary m.segments)
+holds Line m = not (list_all is_line (read_groups m.segments) && list_all (λ group. is_some (action group)) (read_groups m.segments))
+holds Quantity m = not (list_all (λ group. is_some (line_answer group)) (read_groups m.segments))
+holds Reference m = not (is_some (order m.segments) && list_all (is_referred (order m.segments)) (read_groups m.segments))
+holds Unit m = false
+holds Control m = not (is_controlled m.segments)
+holds NoLine m = has_lines (extent m.segments) && line_count m.segments == 0
+holds Memory m = false
+
+abbrev pub line_of : List Segment → AnswerLine
+line_of group = record { order_line = order_line group; gtin = unwrap_or (gtin group) []; answer = unwrap_or (line_answer group) line_answers.Accepted }
+
+abbrev pub answer_of : Option Extent → List AnswerLine → Answer
+answer_of (Some extents.AllAccepted) lines = answers.AllAccepted
+answer_of (Some extents.AllRefused) lines = answers.AllRefused
+answer_of _ lines = answers.Lines lines
+
+-- what the message says
+abbrev pub contents_of : List Segment → Response
+contents_of message = record {
+  number = document_number message;
+  buyer = unwrap_or (party (codes "BY") message) [];
+  supplier = unwrap_or (party (codes "SU") message) [];
+  order = unwrap_or (order message) [];
+  answer = answer_of (extent message) (map line_of (read_groups message));
+}
+
+-- the response of a message where no condition holds, else the lowest fault
+abbrev pub response_of : RawMessage → Result Response MessageFault
+response_of m = judged (λ fault. holds fault m) (contents_of m.segments)

@@ -1,0 +1,140 @@
+//! Responses to orders (ORDRSP).
+ghost use Rattle.std.specs.Prelude.{◌≡◌, ◌≢◌, IfOk, IfErr, Ok, Err, Some, true, false, map, is_some};
+ghost use Rattle.std.specs.List.{list_all};
+ghost use Rattle.std.specs.Option.{IfSome, IfNone};
+ghost use Rattle.edi_orders.specs.Lines.{is_line};
+ghost use Rattle.edi_orders.specs.Response as spec;
+
+use crate::answers::{action_items, answer_lines, answered_items};
+use crate::extent::{Extent, extent_of};
+use crate::fault::MessageFault;
+use crate::header::{begins_as, document_number, function, has_date, is_type, party};
+use crate::lines::{LineItem, line_items};
+use crate::references::order;
+use crate::summary::{has_summary, is_controlled, line_count};
+use edi_base::copied;
+use edi_envelope::RawMessage;
+use edi_tokens::{Items, Segment};
+use gs1_ids::{Gln, Gtin};
+use std::alloc::Global;
+
+/// A response to an order (ORDRSP).
+#[derive(Debug, Drop)]
+pub struct Response {
+    /// The response's own number (BGM 1004), 1 to 35 bytes.
+    pub number: Items<u8>,
+    /// The buyer (NAD BY).
+    pub buyer: Gln,
+    /// The supplier (NAD SU).
+    pub supplier: Gln,
+    /// The order that is answered (RFF ON 1154), 1 to 35 bytes.
+    pub order: Items<u8>,
+    /// The answer.
+    pub answer: Answer,
+}
+
+/// What a response answers.
+#[derive(Debug, Drop)]
+pub enum Answer {
+    /// All lines of the order are accepted without amendment.
+    AllAccepted,
+    /// No line of the order is accepted.
+    AllRefused,
+    /// The answers to lines, in their order.
+    Lines(Items<AnswerLine>),
+}
+
+/// The answer to a line of an order.
+#[derive(Clone, Copy, Debug, PartialEq, Eq)]
+pub struct AnswerLine {
+    /// The line of the order (RFF ON 1156), where it is named.
+    pub order_line: Option<u32>,
+    /// The item.
+    pub gtin: Gtin,
+    /// What becomes of the line.
+    pub answer: LineAnswer,
+}
+
+/// What becomes of a line of an order.
+#[derive(Clone, Copy, Debug, PartialEq, Eq)]
+pub enum LineAnswer {
+    /// It is accepted without amendment.
+    Accepted,
+    /// It is not accepted.
+    Refused,
+    /// This quantity is accepted, in pieces, at most 999,999,999.
+    Changed(u32),
+}
+
+// The items that a response answers by lines; none where it answers all lines alike.
+fn read_items(
+    alloc: Global,
+    extent: Extent,
+    message: &[Segment],
+) -> Result<Vec<LineItem<'_>>, MessageFault>
+    requires { spec.extent message.now ≡ Some extent }
+    ensures ok { IfOk result (λ items. (items.items ≡ spec.read_groups message.now) × (list_all is_line (spec.read_groups message.now) ≡ true)) }
+    ensures err { IfErr result (λ fault. fault ≢ MessageFault.Memory → (fault ≡ MessageFault.Line) × (list_all is_line (spec.read_groups message.now) ≡ false)) }
+{
+    match extent {
+        Extent::Lines => line_items(alloc, message),
+        Extent::AllAccepted | Extent::AllRefused => Ok(Vec::new(alloc)),
+    }
+}
+
+// The answer of a response with these lines.
+fn answer_of(extent: Extent, lines: Items<AnswerLine>) -> Answer
+    ensures { result ≡ spec.answer_of (Some extent) lines }
+{
+    match extent {
+        Extent::Lines => Answer::Lines(lines),
+        Extent::AllAccepted => Answer::AllAccepted,
+        Extent::AllRefused => Answer::AllRefused,
+    }
+}
+
+impl Response {
+    /// The response that a message is: ORDRSP of the directory D.01B with BGM 1001 231 and 1225 4, 9, 27 or 29, one
+    /// document date, one buyer and one supplier, one reference to an order, lines each with an item, an action, the
+    /// quantity of a change and at most one reference to that order, and one UNS. Lines are not read with 27 and 29.
+    /// Else the lowest fault of the message, wherever in it that stands.
+    pub fn read(alloc: Global, message: &RawMessage) -> Result<Response, MessageFault>
+        ensures ok { IfOk result (λ response. spec.response_of message.now ≡ Ok response) }
+        ensures err { IfErr result (λ fault. fault ≢ MessageFault.Memory → spec.response_of message.now ≡ Err fault) }
+    {
+        let segments = message.segments.as_slice();
+        if !is_type(b"ORDRSP", message) {
+            return Err(MessageFault::MessageType);
+        }
+        if !begins_as(b"231", segments) {
+            return Err(MessageFault::Beginning);
+        }
+        let extent = extent_of(function(segments)).ok_or(MessageFault::Function)?;
+        if !has_date(segments) {
+            return Err(MessageFault::Date);
+        }
+        let buyer = party(b"BY", segments).ok_or(MessageFault::Parties)?;
+        let supplier = party(b"SU", segments).ok_or(MessageFault::Parties)?;
+        if !has_summary(segments) {
+            return Err(MessageFault::Summary);
+        }
+        let items = read_items(alloc, extent, segments)?;
+        let actions = action_items(alloc, items.as_slice())?;
+        let answered = answered_items(alloc, actions.as_slice())?;
+        let order = order(segments).ok_or(MessageFault::Reference)?;
+        let lines = answer_lines(alloc, order, answered.as_slice())?;
+        if !is_controlled(segments) {
+            return Err(MessageFault::Control);
+        }
+        if extent == Extent::Lines && line_count(segments) == 0 {
+            return Err(MessageFault::NoLine);
+        }
+        Ok(Response {
+            number: copied(alloc, document_number(segments))?,
+            buyer,
+            supplier,
+            order: copied(alloc, order)?,
+            answer: answer_of(extent, lines),
+        })
+    }
+}
