@@ -25,6 +25,9 @@ order message = option_and_then order_named (reference (header message))
 abbrev pub line_named : Segment → Option ℕ
 line_named rff = line_number (component rff 0 2)
 
+abbrev pub has_line_or_none : Segment → Bool
+has_line_or_none rff = length (component rff 0 2) == 0 || is_some (line_named rff)
+
 -- an order number, and a line number or none
 abbrev pub is_reference : Segment → Bool
-is_reference rff = is_some (order_named rff) && (length (component rff 0 2) == 0 || is_some (line_named rff))
+is_reference rff = is_some (order_named rff) && has_line_or_none rff

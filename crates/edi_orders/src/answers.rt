@@ -7,7 +7,7 @@ use crate::action::{Action, action_of};
 use crate::fault::MessageFault;
 use crate::lines::{LineItem, quantity_of};
 use crate::parts::has_qualified;
-use crate::references::{has_reference, is_reference, line_named, reference};
+use crate::references::{has_reference, read_reference, reference};
 use crate::response::{AnswerLine, LineAnswer};
 use edi_tokens::{Items, Segment};
 use std::alloc::Global;
@@ -128,8 +128,9 @@ fn order_line(order: &[u8], group: &[Segment]) -> Result<Option<u32>, MessageFau
         return Ok(None);
     }
     let rff = reference(group).ok_or(MessageFault::Reference)?;
-    if is_reference(rff) && rff.component(0, 1) == order {
-        Ok(line_named(rff))
+    let said = read_reference(rff).ok_or(MessageFault::Reference)?;
+    if said.order == order {
+        Ok(said.line)
     } else {
         Err(MessageFault::Reference)
     }

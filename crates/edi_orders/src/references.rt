@@ -1,5 +1,6 @@
 //! References to an order and its lines (RFF with 1153 ON).
-ghost use Rattle.std.specs.Prelude.{◌≡◌, option_map};
+ghost use Rattle.std.specs.Prelude.{◌≡◌, true, false, Some, option_map};
+ghost use Rattle.std.specs.Option.{IfSome, IfNone};
 ghost use Rattle.edi_orders.specs.References as spec;
 
 use crate::parts::{has_qualified, header, only_qualified};
@@ -39,16 +40,34 @@ pub fn order(message: &[Segment]) -> Option<&[u8]>
     order_named(reference(header(message))?)
 }
 
-/// The line number of a reference (1156), where it has a right one.
-pub fn line_named(rff: &Segment) -> Option<u32>
-    ensures { result ≡ spec.line_named rff.now }
+// The line number of a reference (1156): an absent one is none; no answer where it is wrong.
+fn line_or_none(rff: &Segment) -> Option<Option<u32>>
+    ensures some { IfSome result (λ line. (line ≡ spec.line_named rff.now) × (spec.has_line_or_none rff.now ≡ true)) }
+    ensures none { IfNone result (spec.has_line_or_none rff.now ≡ false) }
 {
-    line_number(rff.component(0, 2))
+    let bytes = rff.component(0, 2);
+    if bytes.is_empty() {
+        return Some(None);
+    }
+    let line = line_number(bytes)?;
+    Some(Some(line))
 }
 
-/// Whether a reference has an order number, and a line number or none.
-pub fn is_reference(rff: &Segment) -> bool
-    ensures { result ≡ spec.is_reference rff.now }
+/// What a reference names: an order, and perhaps a line of it.
+#[derive(Clone, Copy)]
+pub struct NamedOrder<'a> {
+    /// The order number (1154), 1 to 35 bytes.
+    pub order: &'a [u8],
+    /// The line number (1156), where there is one.
+    pub line: Option<u32>,
+}
+
+/// What a reference names, where it has an order number, and a line number or none.
+pub fn read_reference(rff: &Segment) -> Option<NamedOrder<'_>>
+    ensures some { IfSome result (λ said. (spec.order_named rff.now ≡ Some said.order.now) × (said.line ≡ spec.line_named rff.now) × (spec.is_reference rff.now ≡ true)) }
+    ensures none { IfNone result (spec.is_reference rff.now ≡ false) }
 {
-    order_named(rff).is_some() && (rff.component(0, 2).is_empty() || line_named(rff).is_some())
+    let order = order_named(rff)?;
+    let line = line_or_none(rff)?;
+    Some(NamedOrder { order, line })
 }

@@ -1,0 +1,97 @@
+-- The despatch advice that a message is (DESADV), or its message fault.
+use Rattle.std.specs.Prelude.{ℕ, ◌==◌, Bool, false, not, ◌&&◌, ◌||◌, List, [], ◌∷◌, map, is_some, codes, Option, Some, None, option_and_then, Result}
+use Rattle.std.specs.List.{list_all}
+use Rattle.std.specs.Option.{unwrap_or}
+use Rattle.std.specs.Str.{bytes_eq}
+use Rattle.edi_tokens.specs.declared.segment.Segment.{Segment}
+use Rattle.edi_envelope.specs.declared.interchange.RawMessage.{RawMessage}
+use Rattle.edi_orders.specs.Fault.{judged}
+use Rattle.edi_orders.specs.Header.{is_type, begins_as, document_number, function, has_date, party}
+use Rattle.edi_orders.specs.Lines.{gtin, quantity_of}
+use Rattle.edi_orders.specs.Parts.{header, line_groups}
+use Rattle.edi_orders.specs.References.{has_reference, reference, order_named, line_named, is_reference, order}
+use Rattle.edi_orders.specs.Summary.{line_count, is_controlled}
+use Rattle.edi_orders.specs.declared.fault.MessageFault.{MessageFault}
+use Rattle.edi_orders.specs.declared.fault.MessageFault.TheVariants.{MessageType, Beginning, Function, Date, Parties, Summary, Line, Quantity, Reference, Unit, Control, NoLine, Memory}
+use Rattle.edi_goods.specs.Header.{has_parties, buyer}
+use Rattle.edi_goods.specs.Units.{read_units, has_lines, has_units, sscc_or_none}
+use Rattle.edi_goods.specs.declared.despatch.Despatch.{Despatch}
+use Rattle.edi_goods.specs.declared.despatch.DespatchLine.{DespatchLine}
+use Rattle.edi_goods.specs.declared.despatch.Unit.{Unit as DespatchUnit}
+
+-- the quantity despatched: QTY with 6063 12
+abbrev pub despatched : List Segment → Option ℕ
+despatched group = quantity_of (codes "12") 1 group
+
+abbrev pub has_quantities : List Segment → Bool
+has_quantities unit = list_all (λ group. is_some (despatched group)) (line_groups unit)
+
+-- the header has a reference to an order
+abbrev pub inherits : List Segment → Bool
+inherits message = has_reference (header message)
+
+-- at most one, with an order number
+abbrev pub has_header_reference : List Segment → Bool
+has_header_reference message = not (inherits message) || is_some (order message)
+
+-- the reference of a group is right; where it has none, the header has one
+abbrev pub is_referred_by : Bool → Bool → Option Segment → Bool
+is_referred_by several inherited (Some rff) = is_reference rff
+is_referred_by several inherited None = not several && inherited
+
+abbrev pub is_referred : Bool → List Segment → Bool
+is_referred inherited group = is_referred_by (has_reference group) inherited (reference group)
+
+abbrev pub has_references : Bool → List Segment → Bool
+has_references inherited unit = list_all (is_referred inherited) (line_groups unit)
+
+-- the order of a line: the one that its group names, or that of the header
+abbrev pub order_of_line : List ℕ → List Segment → List ℕ
+order_of_line header_order group = unwrap_or (option_and_then order_named (reference group)) header_order
+
+-- the order of the header, and nothing where it has none
+abbrev pub header_order : List Segment → List ℕ
+header_order message = unwrap_or (order message) []
+
+-- Each condition, of the whole message. Each is defined also where another one holds.
+abbrev pub holds : MessageFault → RawMessage → Bool
+holds MessageType m = not (is_type (codes "DESADV") m)
+holds Beginning m = not (begins_as (codes "351") m.segments)
+holds Function m = not (bytes_eq (function m.segments) (codes "9"))
+holds Date m = not (has_date m.segments)
+holds Parties m = not (has_parties m.segments)
+holds Summary m = false
+holds Line m = not (list_all has_lines (read_units m.segments))
+holds Quantity m = not (list_all has_quantities (read_units m.segments))
+holds Reference m = not (has_header_reference m.segments && list_all (has_references (inherits m.segments)) (read_units m.segments))
+holds Unit m = not (has_units m.segments)
+holds Control m = not (is_controlled m.segments)
+holds NoLine m = line_count m.segments == 0
+holds Memory m = false
+
+abbrev pub line_of : List ℕ → List Segment → DespatchLine
+line_of order group = record {
+  order = order_of_line order group;
+  order_line = option_and_then line_named (reference group);
+  gtin = unwrap_or (gtin group) [];
+  quantity = unwrap_or (despatched group) 0;
+}
+
+abbrev pub lines_of : List ℕ → List Segment → List DespatchLine
+lines_of order unit = map (line_of order) (line_groups unit)
+
+abbrev pub unit_from : List ℕ → List Segment → DespatchUnit
+unit_from order unit = record { sscc = sscc_or_none unit; lines = lines_of order unit }
+
+-- what the message says
+abbrev pub contents_of : List Segment → Despatch
+contents_of message = record {
+  number = document_number message;
+  buyer = buyer message;
+  supplier = unwrap_or (party (codes "SU") message) [];
+  units = map (unit_from (header_order message)) (read_units message);
+}
+
+-- the despatch advice of a message where no condition holds, else the lowest fault
+abbrev pub despatch_of : RawMessage → Result Despatch MessageFault
+despatch_of m = judged (λ fault. holds fault m) (contents_of m.segments)

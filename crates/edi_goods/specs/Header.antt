@@ -1,0 +1,16 @@
+-- The buyer, which the header of a despatch advice or a receiving advice may leave out.
+use Rattle.std.specs.Prelude.{ℕ, Bool, not, ◌||◌, ◌&&◌, List, is_some, codes, Option}
+use Rattle.edi_tokens.specs.declared.segment.Segment.{Segment}
+use Rattle.edi_orders.specs.Header.{party}
+use Rattle.edi_orders.specs.Parts.{header, has_qualified}
+
+-- there is no NAD with 3035 BY in the header, or one, which names the buyer
+abbrev pub has_buyer_or_none : List Segment → Bool
+has_buyer_or_none message = not (has_qualified (codes "NAD") (codes "BY") (header message)) || is_some (party (codes "BY") message)
+
+abbrev pub has_parties : List Segment → Bool
+has_parties message = has_buyer_or_none message && is_some (party (codes "SU") message)
+
+-- the buyer, where there is one
+abbrev pub buyer : List Segment → Option (List ℕ)
+buyer message = party (codes "BY") message

@@ -1,0 +1,4 @@
+pub mod Despatch
+pub mod Header
+pub mod Referred
+pub mod Units

@@ -1,0 +1,237 @@
+//! The units and lines of a despatch advice, read one condition after another.
+ghost use Rattle.std.specs.Prelude.{◌≡◌, ◌≢◌, IfOk, IfErr, true, false, map, is_some, option_map, option_and_then};
+ghost use Rattle.std.specs.List.{list_all};
+ghost use Rattle.edi_orders.specs.References as references;
+ghost use Rattle.edi_goods.specs.Despatch as spec;
+
+use crate::despatch::DespatchLine;
+use crate::units::ItemUnit;
+use edi_base::copied;
+use edi_orders::MessageFault;
+use edi_orders::lines::{LineItem, quantity_of};
+use edi_orders::references::{NamedOrder, has_reference, read_reference, reference};
+use edi_tokens::{Items, Segment};
+use std::alloc::Global;
+use std::marker::Model;
+
+/// A line with its quantity.
+#[derive(Drop)]
+pub(crate) struct DespatchItem<'a, 'b> {
+    quantity: u32,
+    item: &'b LineItem<'a>,
+}
+
+impl<'a, 'b> Model for DespatchItem<'a, 'b> {
+    ghost use Rattle.std.specs.Prelude.{◌≡◌, List, Some};
+    ghost use Rattle.edi_tokens.specs.declared.segment.Segment.{Segment};
+    ghost use Rattle.edi_goods.specs.Despatch.{despatched};
+
+    ghost Value = { List Segment };
+
+    ghost view = { λ line. line.item.now };
+
+    ghost invariant = { λ line. despatched line.item.now ≡ Some line.quantity };
+}
+
+/// A unit with the quantities of its lines.
+#[derive(Drop)]
+pub(crate) struct DespatchUnit<'a, 'b> {
+    unit: &'b ItemUnit<'a>,
+    items: Vec<DespatchItem<'a, 'b>>,
+}
+
+impl<'a, 'b> Model for DespatchUnit<'a, 'b> {
+    ghost use Rattle.std.specs.Prelude.{◌≡◌, List};
+    ghost use Rattle.edi_tokens.specs.declared.segment.Segment.{Segment};
+    ghost use Rattle.edi_orders.specs.Parts.{line_groups};
+
+    ghost Value = { List Segment };
+
+    ghost view = { λ lined. lined.unit.now };
+
+    ghost invariant = { λ lined. lined.items.items ≡ line_groups lined.unit.now };
+}
+
+// The lines, each with its quantity; the fault `Quantity` where one has none.
+fn despatch_items<'a, 'b>(
+    alloc: Global,
+    items: &'b [LineItem<'a>],
+) -> Result<Vec<DespatchItem<'a, 'b>>, MessageFault>
+    ensures ok { IfOk result (λ lines. (lines.items ≡ items.now) × (list_all (λ group. is_some (spec.despatched group)) items.now ≡ true)) }
+    ensures err { IfErr result (λ fault. fault ≢ MessageFault.Memory → (fault ≡ MessageFault.Quantity) × (list_all (λ group. is_some (spec.despatched group)) items.now ≡ false)) }
+{
+    let mut lines = Vec::new(alloc);
+    for item in items {
+        let quantity = quantity_of(b"12", 1, item.group()).ok_or(MessageFault::Quantity)?;
+        lines.push(DespatchItem { quantity, item })?;
+    }
+    Ok(lines)
+}
+
+/// The units, each with the quantities of its lines; the fault `Quantity` where a line has none.
+pub(crate) fn despatch_units<'a, 'b>(
+    alloc: Global,
+    units: &'b [ItemUnit<'a>],
+) -> Result<Vec<DespatchUnit<'a, 'b>>, MessageFault>
+    ensures ok { IfOk result (λ despatched. (despatched.items ≡ units.now) × (list_all spec.has_quantities units.now ≡ true)) }
+    ensures err { IfErr result (λ fault. fault ≢ MessageFault.Memory → (fault ≡ MessageFault.Quantity) × (list_all spec.has_quantities units.now ≡ false)) }
+{
+    let mut despatched = Vec::new(alloc);
+    for unit in units {
+        let items = despatch_items(alloc, unit.items())?;
+        despatched.push(DespatchUnit { unit, items })?;
+    }
+    Ok(despatched)
+}
+
+/// A line with its quantity, and with the order and its line that it names.
+#[derive(Drop)]
+pub(crate) struct ReferredItem<'a, 'b> {
+    order: Option<&'a [u8]>,
+    order_line: Option<u32>,
+    quantity: u32,
+    item: &'b LineItem<'a>,
+}
+
+impl<'a, 'b> Model for ReferredItem<'a, 'b> {
+    ghost use Rattle.std.specs.Prelude.{List, option_map};
+    ghost use Rattle.edi_tokens.specs.declared.segment.Segment.{Segment};
+    ghost use Rattle.edi_goods.specs.Referred.{IsReferred};
+
+    ghost Value = { List Segment };
+
+    ghost view = { λ line. line.item.now };
+
+    ghost invariant = { λ line. IsReferred line.item.now (option_map (λ number. number.now) line.order) line.order_line line.quantity };
+}
+
+/// A unit with the references of its lines.
+#[derive(Drop)]
+pub(crate) struct ReferredUnit<'a, 'b> {
+    unit: &'b ItemUnit<'a>,
+    items: Vec<ReferredItem<'a, 'b>>,
+}
+
+impl<'a, 'b> Model for ReferredUnit<'a, 'b> {
+    ghost use Rattle.std.specs.Prelude.{◌≡◌, List};
+    ghost use Rattle.edi_tokens.specs.declared.segment.Segment.{Segment};
+    ghost use Rattle.edi_orders.specs.Parts.{line_groups};
+
+    ghost Value = { List Segment };
+
+    ghost view = { λ lined. lined.unit.now };
+
+    ghost invariant = { λ lined. lined.items.items ≡ line_groups lined.unit.now };
+}
+
+// What the one reference of a group names; the fault `Reference` where it is not right, there are several, or there is
+// none and none is inherited.
+fn group_reference(inherited: bool, group: &[Segment]) -> Result<Option<NamedOrder<'_>>, MessageFault>
+    ensures order { IfOk result (λ named. option_map (λ one. one.order.now) named ≡ option_and_then references.order_named (references.reference group.now)) }
+    ensures line { IfOk result (λ named. option_and_then (λ one. one.line) named ≡ option_and_then references.line_named (references.reference group.now)) }
+    ensures ok { IfOk result (λ named. spec.is_referred inherited group.now ≡ true) }
+    ensures err { IfErr result (λ fault. (fault ≡ MessageFault.Reference) × (spec.is_referred inherited group.now ≡ false)) }
+{
+    match reference(group) {
+        Some(rff) => {
+            let named = read_reference(rff).ok_or(MessageFault::Reference)?;
+            Ok(Some(named))
+        }
+        None => {
+            if has_reference(group) || !inherited {
+                Err(MessageFault::Reference)
+            } else {
+                Ok(None)
+            }
+        }
+    }
+}
+
+// A line with what it names.
+fn referred_item<'a, 'b>(
+    inherited: bool,
+    line: &DespatchItem<'a, 'b>,
+) -> Result<ReferredItem<'a, 'b>, MessageFault>
+    ensures ok { IfOk result (λ referred. (referred ≡ line.now) × (spec.is_referred inherited line.now ≡ true)) }
+    ensures err { IfErr result (λ fault. (fault ≡ MessageFault.Reference) × (spec.is_referred inherited line.now ≡ false)) }
+{
+    let (order, order_line) = match group_reference(inherited, line.item.group())? {
+        Some(named) => (Some(named.order), named.line),
+        None => (None, None),
+    };
+    Ok(ReferredItem {
+        order,
+        order_line,
+        quantity: line.quantity,
+        item: line.item,
+    })
+}
+
+// The lines, each with what it names; the fault `Reference` where one of them names no order.
+fn referred_items<'a, 'b>(
+    alloc: Global,
+    inherited: bool,
+    items: &[DespatchItem<'a, 'b>],
+) -> Result<Vec<ReferredItem<'a, 'b>>, MessageFault>
+    ensures ok { IfOk result (λ lines. (lines.items ≡ items.now) × (list_all (spec.is_referred inherited) items.now ≡ true)) }
+    ensures err { IfErr result (λ fault. fault ≢ MessageFault.Memory → (fault ≡ MessageFault.Reference) × (list_all (spec.is_referred inherited) items.now ≡ false)) }
+{
+    let mut lines = Vec::new(alloc);
+    for item in items {
+        lines.push(referred_item(inherited, item)?)?;
+    }
+    Ok(lines)
+}
+
+/// The units, each with the references of its lines; the fault `Reference` where a line names no order.
+pub(crate) fn referred_units<'a, 'b>(
+    alloc: Global,
+    inherited: bool,
+    units: &[DespatchUnit<'a, 'b>],
+) -> Result<Vec<ReferredUnit<'a, 'b>>, MessageFault>
+    ensures ok { IfOk result (λ referred. (referred.items ≡ units.now) × (list_all (spec.has_references inherited) units.now ≡ true)) }
+    ensures err { IfErr result (λ fault. fault ≢ MessageFault.Memory → (fault ≡ MessageFault.Reference) × (list_all (spec.has_references inherited) units.now ≡ false)) }
+{
+    let mut referred = Vec::new(alloc);
+    for lined in units {
+        let items = referred_items(alloc, inherited, lined.items.as_slice())?;
+        referred.push(ReferredUnit {
+            unit: lined.unit,
+            items,
+        })?;
+    }
+    Ok(referred)
+}
+
+// A line of the record; what names no order is of the header's.
+fn line_of(alloc: Global, header_order: &[u8], line: &ReferredItem<'_, '_>) -> Result<DespatchLine, MessageFault>
+    ensures ok { IfOk result (λ read. read ≡ spec.line_of header_order.now line.now) }
+    ensures err { IfErr result (λ fault. fault ≡ MessageFault.Memory) }
+{
+    let order = match line.order {
+        Some(order) => order,
+        None => header_order,
+    };
+    Ok(DespatchLine {
+        order: copied(alloc, order)?,
+        order_line: line.order_line,
+        gtin: line.item.gtin(),
+        quantity: line.quantity,
+    })
+}
+
+/// The lines of a unit of the record.
+pub(crate) fn lines_of(
+    alloc: Global,
+    header_order: &[u8],
+    unit: &ReferredUnit<'_, '_>,
+) -> Result<Items<DespatchLine>, MessageFault>
+    ensures ok { IfOk result (λ lines. lines ≡ spec.lines_of header_order.now unit.now) }
+    ensures err { IfErr result (λ fault. fault ≡ MessageFault.Memory) }
+{
+    let mut lines = Items::new(alloc);
+    for line in unit.items.as_slice() {
+        lines.push(line_of(alloc, header_order, line)?)?;
+    }
+    Ok(lines)
+}

@@ -1,0 +1,134 @@
+//! Despatch advices (DESADV).
+ghost use Rattle.std.specs.Prelude.{◌≡◌, ◌≢◌, IfOk, IfErr, Ok, Err, true, false, map};
+ghost use Rattle.edi_goods.specs.Despatch as spec;
+ghost use Rattle.edi_goods.specs.Units.{sscc_or_none};
+
+use crate::announced::{ReferredUnit, despatch_units, lines_of, referred_units};
+use crate::parties::read_parties;
+use crate::units::{item_units, ssccs};
+use edi_base::copied;
+use edi_envelope::RawMessage;
+use edi_orders::MessageFault;
+use edi_orders::header::{begins_as, document_number, function, has_date, is_type};
+use edi_orders::parts::header;
+use edi_orders::references::{has_reference, order};
+use edi_orders::summary::{is_controlled, line_count};
+use edi_tokens::{Items, Segment};
+use gs1_ids::{Gln, Gtin, Sscc};
+use std::alloc::Global;
+
+/// A despatch advice (DESADV).
+#[derive(Debug, Drop)]
+pub struct Despatch {
+    /// The advice number (BGM 1004), 1 to 35 bytes.
+    pub number: Items<u8>,
+    /// The buyer (NAD BY), where it is named.
+    pub buyer: Option<Gln>,
+    /// The supplier (NAD SU).
+    pub supplier: Gln,
+    /// The units that have lines, in their order.
+    pub units: Items<Unit>,
+}
+
+/// A logistic unit.
+#[derive(Debug, Drop)]
+pub struct Unit {
+    /// The unit's SSCC (GIN BJ).
+    pub sscc: Sscc,
+    /// What is in it, in its order.
+    pub lines: Items<DespatchLine>,
+}
+
+/// A line of a unit.
+#[derive(Debug, Drop)]
+pub struct DespatchLine {
+    /// The order (RFF ON 1154), the line's own or else the header's, 1 to 35 bytes.
+    pub order: Items<u8>,
+    /// The line of the order (RFF ON 1156), where the line names one.
+    pub order_line: Option<u32>,
+    /// The item.
+    pub gtin: Gtin,
+    /// The quantity despatched, in pieces, 1 to 999,999,999.
+    pub quantity: u32,
+}
+
+// The order that the header names, or nothing; the fault `Reference` where it names several or none that is right.
+fn header_order(message: &[Segment]) -> Result<&[u8], MessageFault>
+    ensures ok { IfOk result (λ order. (order.now ≡ spec.header_order message.now) × (spec.has_header_reference message.now ≡ true)) }
+    ensures err { IfErr result (λ fault. (fault ≡ MessageFault.Reference) × (spec.has_header_reference message.now ≡ false)) }
+{
+    match order(message) {
+        Some(order) => Ok(order),
+        None => {
+            if has_reference(header(message)) {
+                Err(MessageFault::Reference)
+            } else {
+                Ok(&[])
+            }
+        }
+    }
+}
+
+// The units of the record, each with its SSCC.
+fn units_of(
+    alloc: Global,
+    header_order: &[u8],
+    units: &[ReferredUnit<'_, '_>],
+    ssccs: &[Sscc],
+) -> Result<Items<Unit>, MessageFault>
+    requires { ssccs.now ≡ map sscc_or_none units.now }
+    ensures ok { IfOk result (λ read. read ≡ map (spec.unit_from header_order.now) units.now) }
+    ensures err { IfErr result (λ fault. fault ≡ MessageFault.Memory) }
+{
+    let mut read = Items::new(alloc);
+    for (place, unit) in units.iter().enumerate() {
+        let sscc = ssccs[place];
+        let lines = lines_of(alloc, header_order, unit)?;
+        read.push(Unit { sscc, lines })?;
+    }
+    Ok(read)
+}
+
+impl Despatch {
+    /// The despatch advice that a message is: DESADV of the directory D.01B with BGM 1001 351 and 1225 9, one document
+    /// date, one supplier and at most one buyer, and units with lines, each unit with an identifier and an SSCC of its own,
+    /// each line with an item, a quantity despatched and an order. Else the lowest fault of the message, wherever in it
+    /// that stands.
+    pub fn read(alloc: Global, message: &RawMessage) -> Result<Despatch, MessageFault>
+        ensures ok { IfOk result (λ despatch. spec.despatch_of message.now ≡ Ok despatch) }
+        ensures err { IfErr result (λ fault. fault ≢ MessageFault.Memory → spec.despatch_of message.now ≡ Err fault) }
+    {
+        let segments = message.segments.as_slice();
+        if !is_type(b"DESADV", message) {
+            return Err(MessageFault::MessageType);
+        }
+        if !begins_as(b"351", segments) {
+            return Err(MessageFault::Beginning);
+        }
+        if function(segments) != b"9".as_slice() {
+            return Err(MessageFault::Function);
+        }
+        if !has_date(segments) {
+            return Err(MessageFault::Date);
+        }
+        let parties = read_parties(segments)?;
+        let items = item_units(alloc, segments)?;
+        let despatched = despatch_units(alloc, items.as_slice())?;
+        let order = header_order(segments)?;
+        let inherited = has_reference(header(segments));
+        let referred = referred_units(alloc, inherited, despatched.as_slice())?;
+        let ssccs = ssccs(alloc, items.as_slice(), segments)?;
+        if !is_controlled(segments) {
+            return Err(MessageFault::Control);
+        }
+        if line_count(segments) == 0 {
+            return Err(MessageFault::NoLine);
+        }
+        Ok(Despatch {
+            number: copied(alloc, document_number(segments))?,
+            buyer: parties.buyer,
+            supplier: parties.supplier,
+            units: units_of(alloc, order, referred.as_slice(), ssccs.as_slice())?,
+        })
+    }
+}

@@ -1,0 +1,10 @@
+//! Goods on their way: the records of DESADV and RECADV messages (EANCOM 2002 over UN/EDIFACT D.01B).
+#![tactic(auto)]
+
+mod announced;
+mod despatch;
+mod parties;
+mod units;
+
+pub use despatch::{Despatch, DespatchLine, Unit};
+pub use edi_orders::MessageFault;

@@ -1,0 +1,45 @@
+//! The parties of a message that may leave out the buyer.
+ghost use Rattle.std.specs.Prelude.{◌≡◌, true, false, Some, IfOk, IfErr, codes};
+ghost use Rattle.edi_orders.specs.Header.{party};
+ghost use Rattle.edi_goods.specs.Header as spec;
+
+use edi_orders::MessageFault;
+use edi_orders::header::party;
+use edi_orders::parts::{has_qualified, header};
+use edi_tokens::Segment;
+use gs1_ids::Gln;
+
+/// The buyer (NAD BY) and the supplier (NAD SU) that the header names.
+#[derive(Drop)]
+pub(crate) struct Parties {
+    /// The buyer, where there is one.
+    pub(crate) buyer: Option<Gln>,
+    pub(crate) supplier: Gln,
+}
+
+// The buyer, where there is one; the fault `Parties` where there are several or it is not right.
+fn buyer(message: &[Segment]) -> Result<Option<Gln>, MessageFault>
+    ensures ok { IfOk result (λ buyer. (buyer ≡ spec.buyer message.now) × (spec.has_buyer_or_none message.now ≡ true)) }
+    ensures err { IfErr result (λ fault. (fault ≡ MessageFault.Parties) × (spec.has_buyer_or_none message.now ≡ false)) }
+{
+    match party(b"BY", message) {
+        Some(buyer) => Ok(Some(buyer)),
+        None => {
+            if has_qualified(b"NAD", b"BY", header(message)) {
+                Err(MessageFault::Parties)
+            } else {
+                Ok(None)
+            }
+        }
+    }
+}
+
+/// The parties of a message; the fault `Parties` where one of them is not right.
+pub(crate) fn read_parties(message: &[Segment]) -> Result<Parties, MessageFault>
+    ensures ok { IfOk result (λ parties. (parties.buyer ≡ spec.buyer message.now) × (party (codes "SU") message.now ≡ Some parties.supplier) × (spec.has_parties message.now ≡ true)) }
+    ensures err { IfErr result (λ fault. (fault ≡ MessageFault.Parties) × (spec.has_parties message.now ≡ false)) }
+{
+    let buyer = buyer(message)?;
+    let supplier = party(b"SU", message).ok_or(MessageFault::Parties)?;
+    Ok(Parties { buyer, supplier })
+}
