@@ -1,6 +1,6 @@
 -- The units of a despatch advice or a receiving advice (EANCOM 2002, the segment tables of DESADV and RECADV): CPS and what
 -- follows it.
-use Rattle.std.specs.Prelude.{ℕ, ◌==◌, Bool, not, ◌&&◌, ◌||◌, if◌then◌else◌, List, [], ◌∷◌, length, map, filter, is_some, codes, Option, Some, None, option_and_then}
+use Rattle.std.specs.Prelude.{ℕ, ◌==◌, Bool, not, ◌&&◌, ◌||◌, if◌then◌else◌, List, [], ◌∷◌, length, map, filter, is_some, codes, Option, None, option_and_then}
 use Rattle.std.specs.List.{list_all, list_any, take_while}
 use Rattle.std.specs.Option.{unwrap_or}
 use Rattle.edi_base.specs.Seen.{has_twice}

@@ -126,7 +126,10 @@ impl<'a, 'b> Model for ReferredUnit<'a, 'b> {
 
 // What the one reference of a group names; the fault `Reference` where it is not right, there are several, or there is
 // none and none is inherited.
-fn group_reference(inherited: bool, group: &[Segment]) -> Result<Option<NamedOrder<'_>>, MessageFault>
+fn group_reference(
+    inherited: bool,
+    group: &[Segment],
+) -> Result<Option<NamedOrder<'_>>, MessageFault>
     ensures order { IfOk result (λ named. option_map (λ one. one.order.now) named ≡ option_and_then references.order_named (references.reference group.now)) }
     ensures line { IfOk result (λ named. option_and_then (λ one. one.line) named ≡ option_and_then references.line_named (references.reference group.now)) }
     ensures ok { IfOk result (λ named. spec.is_referred inherited group.now ≡ true) }
@@ -204,7 +207,11 @@ pub(crate) fn referred_units<'a, 'b>(
 }
 
 // A line of the record; what names no order is of the header's.
-fn line_of(alloc: Global, header_order: &[u8], line: &ReferredItem<'_, '_>) -> Result<DespatchLine, MessageFault>
+fn line_of(
+    alloc: Global,
+    header_order: &[u8],
+    line: &ReferredItem<'_, '_>,
+) -> Result<DespatchLine, MessageFault>
     ensures ok { IfOk result (λ read. read ≡ spec.line_of header_order.now line.now) }
     ensures err { IfErr result (λ fault. fault ≡ MessageFault.Memory) }
 {

@@ -4,7 +4,11 @@
 mod announced;
 mod despatch;
 mod parties;
+mod receipt;
+mod received;
+mod sums;
 mod units;
 
 pub use despatch::{Despatch, DespatchLine, Unit};
 pub use edi_orders::MessageFault;
+pub use receipt::{Receipt, ReceiptLine, ReceiptUnit};

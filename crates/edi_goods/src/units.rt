@@ -84,7 +84,10 @@ fn has_line(segments: &[Segment]) -> bool
 
 /// The units of a message that have lines, in their order, each with its items; the fault `Line` where one of its LIN has
 /// none.
-pub(crate) fn item_units(alloc: Global, message: &[Segment]) -> Result<Vec<ItemUnit<'_>>, MessageFault>
+pub(crate) fn item_units(
+    alloc: Global,
+    message: &[Segment],
+) -> Result<Vec<ItemUnit<'_>>, MessageFault>
     ensures ok { IfOk result (λ units. (units.items ≡ spec.read_units message.now) × (list_all spec.has_lines (spec.read_units message.now) ≡ true)) }
     ensures err { IfErr result (λ fault. fault ≢ MessageFault.Memory → (fault ≡ MessageFault.Line) × (list_all spec.has_lines (spec.read_units message.now) ≡ false)) }
 {

@@ -1,0 +1,102 @@
+-- The receiving advice that a message is (RECADV), or its message fault.
+use Rattle.std.specs.Prelude.{ℕ, ◌==◌, Bool, false, not, ◌&&◌, ◌||◌, List, [], map, is_some, codes, Option, Result}
+use Rattle.std.specs.List.{list_all}
+use Rattle.std.specs.Option.{unwrap_or}
+use Rattle.std.specs.Str.{bytes_eq}
+use Rattle.edi_tokens.specs.declared.segment.Segment.{Segment}
+use Rattle.edi_envelope.specs.declared.interchange.RawMessage.{RawMessage}
+use Rattle.edi_orders.specs.Fault.{judged}
+use Rattle.edi_orders.specs.Header.{is_type, begins_as, document_number, function, has_date, party}
+use Rattle.edi_orders.specs.Lines.{gtin, quantity_of}
+use Rattle.edi_orders.specs.Parts.{line_groups, has_qualified}
+use Rattle.edi_orders.specs.Summary.{line_count, is_controlled}
+use Rattle.edi_orders.specs.declared.fault.MessageFault.{MessageFault}
+use Rattle.edi_orders.specs.declared.fault.MessageFault.TheVariants.{MessageType, Beginning, Function, Date, Parties, Summary, Line, Quantity, Reference, Unit, Control, NoLine, Memory}
+use Rattle.edi_goods.specs.Header.{has_parties, buyer}
+use Rattle.edi_goods.specs.Units.{read_units, has_lines, has_units, sscc_or_none}
+use Rattle.edi_goods.specs.Sums.{sums_within}
+use Rattle.edi_goods.specs.declared.receipt.Receipt.{Receipt}
+use Rattle.edi_goods.specs.declared.receipt.ReceiptLine.{ReceiptLine}
+use Rattle.edi_goods.specs.declared.receipt.ReceiptUnit.{ReceiptUnit}
+use Rattle.edi_goods.specs.declared.sums.Amount.{Amount}
+
+-- the quantities of a line (6063): 194 received and accepted, 195 to be returned, 196 to be destroyed
+abbrev pub accepted : List Segment → Option ℕ
+accepted group = quantity_of (codes "194") 0 group
+
+abbrev pub returned : List Segment → Option ℕ
+returned group = quantity_of (codes "195") 0 group
+
+abbrev pub destroyed : List Segment → Option ℕ
+destroyed group = quantity_of (codes "196") 0 group
+
+-- a kind stands nowhere in a group, or once and right
+abbrev pub is_once : List ℕ → List Segment → Bool
+is_once kind group = not (has_qualified (codes "QTY") kind group) || is_some (quantity_of kind 0 group)
+
+-- each kind at most once, and one of them at least
+abbrev pub is_received : List Segment → Bool
+is_received group =
+    is_once (codes "194") group && is_once (codes "195") group && is_once (codes "196") group
+    && (is_some (accepted group) || is_some (returned group) || is_some (destroyed group))
+
+abbrev pub line_of : List Segment → ReceiptLine
+line_of group = record {
+  gtin = unwrap_or (gtin group) [];
+  accepted = unwrap_or (accepted group) 0;
+  returned = unwrap_or (returned group) 0;
+  destroyed = unwrap_or (destroyed group) 0;
+}
+
+abbrev pub lines_of : List Segment → List ReceiptLine
+lines_of unit = map line_of (line_groups unit)
+
+-- what is received of the items, of one kind
+abbrev pub accepted_amounts : List ReceiptLine → List Amount
+accepted_amounts lines = map (λ line. record { gtin = line.gtin; quantity = line.accepted }) lines
+
+abbrev pub returned_amounts : List ReceiptLine → List Amount
+returned_amounts lines = map (λ line. record { gtin = line.gtin; quantity = line.returned }) lines
+
+abbrev pub destroyed_amounts : List ReceiptLine → List Amount
+destroyed_amounts lines = map (λ line. record { gtin = line.gtin; quantity = line.destroyed }) lines
+
+-- no kind's sum over the lines of one item is above 999,999,999
+abbrev pub has_sums : List ReceiptLine → Bool
+has_sums lines = sums_within (accepted_amounts lines) && sums_within (returned_amounts lines) && sums_within (destroyed_amounts lines)
+
+-- the quantities of each line of a unit, and their sums by item
+abbrev pub has_quantities : List Segment → Bool
+has_quantities unit = list_all is_received (line_groups unit) && has_sums (lines_of unit)
+
+-- Each condition, of the whole message. Each is defined also where another one holds.
+abbrev pub holds : MessageFault → RawMessage → Bool
+holds MessageType m = not (is_type (codes "RECADV") m)
+holds Beginning m = not (begins_as (codes "632") m.segments)
+holds Function m = not (bytes_eq (function m.segments) (codes "9"))
+holds Date m = not (has_date m.segments)
+holds Parties m = not (has_parties m.segments)
+holds Summary m = false
+holds Line m = not (list_all has_lines (read_units m.segments))
+holds Quantity m = not (list_all has_quantities (read_units m.segments))
+holds Reference m = false
+holds Unit m = not (has_units m.segments)
+holds Control m = not (is_controlled m.segments)
+holds NoLine m = line_count m.segments == 0
+holds Memory m = false
+
+abbrev pub unit_from : List Segment → ReceiptUnit
+unit_from unit = record { sscc = sscc_or_none unit; lines = lines_of unit }
+
+-- what the message says
+abbrev pub contents_of : List Segment → Receipt
+contents_of message = record {
+  number = document_number message;
+  buyer = buyer message;
+  supplier = unwrap_or (party (codes "SU") message) [];
+  units = map unit_from (read_units message);
+}
+
+-- the receiving advice of a message where no condition holds, else the lowest fault
+abbrev pub receipt_of : RawMessage → Result Receipt MessageFault
+receipt_of m = judged (λ fault. holds fault m) (contents_of m.segments)

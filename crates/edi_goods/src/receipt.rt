@@ -1,0 +1,115 @@
+//! Receiving advices (RECADV).
+ghost use Rattle.std.specs.Prelude.{◌≡◌, ◌≢◌, IfOk, IfErr, Ok, Err, true, false, map};
+ghost use Rattle.edi_goods.specs.Receipt as spec;
+ghost use Rattle.edi_goods.specs.Units.{sscc_or_none};
+
+use crate::parties::read_parties;
+use crate::received::{ReceivedUnit, received_units};
+use crate::units::{item_units, ssccs};
+use edi_base::copied;
+use edi_envelope::RawMessage;
+use edi_orders::MessageFault;
+use edi_orders::header::{begins_as, document_number, function, has_date, is_type};
+use edi_orders::summary::{is_controlled, line_count};
+use edi_tokens::Items;
+use gs1_ids::{Gln, Gtin, Sscc};
+use std::alloc::Global;
+
+/// A receiving advice (RECADV).
+#[derive(Debug, Drop)]
+pub struct Receipt {
+    /// The advice number (BGM 1004), 1 to 35 bytes.
+    pub number: Items<u8>,
+    /// The buyer (NAD BY), where it is named.
+    pub buyer: Option<Gln>,
+    /// The supplier (NAD SU).
+    pub supplier: Gln,
+    /// The units that have lines, in their order.
+    pub units: Items<ReceiptUnit>,
+}
+
+/// A logistic unit that was received.
+#[derive(Debug, Drop)]
+pub struct ReceiptUnit {
+    /// The unit's SSCC (GIN BJ).
+    pub sscc: Sscc,
+    /// What was received in it, a line for each LIN, in its order.
+    pub lines: Items<ReceiptLine>,
+}
+
+/// What a line says of an item, in pieces, each 0 to 999,999,999; a kind that is not named is 0. In one unit no item's sum of
+/// a kind is above 999,999,999.
+#[derive(Clone, Copy, Debug, PartialEq, Eq)]
+pub struct ReceiptLine {
+    /// The item.
+    pub gtin: Gtin,
+    /// Received and accepted (QTY 194).
+    pub accepted: u32,
+    /// Received, not accepted, to be returned (QTY 195).
+    pub returned: u32,
+    /// Received, not accepted, to be destroyed (QTY 196).
+    pub destroyed: u32,
+}
+
+// The units of the record, each with its SSCC.
+fn units_of(
+    alloc: Global,
+    units: &[ReceivedUnit<'_, '_>],
+    ssccs: &[Sscc],
+) -> Result<Items<ReceiptUnit>, MessageFault>
+    requires { ssccs.now ≡ map sscc_or_none units.now }
+    ensures ok { IfOk result (λ read. read ≡ map spec.unit_from units.now) }
+    ensures err { IfErr result (λ fault. fault ≡ MessageFault.Memory) }
+{
+    let mut read = Items::new(alloc);
+    for (place, unit) in units.iter().enumerate() {
+        let sscc = ssccs[place];
+        let lines = Vec::from_slice(alloc, unit.lines())?;
+        read.push(ReceiptUnit {
+            sscc,
+            lines: Items::from_vec(lines),
+        })?;
+    }
+    Ok(read)
+}
+
+impl Receipt {
+    /// The receiving advice that a message is: RECADV of the directory D.01B with BGM 1001 632 and 1225 9, one document
+    /// date, one supplier and at most one buyer, and units with lines, each unit with an identifier and an SSCC of its own,
+    /// each line with an item and at least one of the quantities 194, 195 and 196, none twice. Else the lowest fault of the
+    /// message, wherever in it that stands.
+    pub fn read(alloc: Global, message: &RawMessage) -> Result<Receipt, MessageFault>
+        ensures ok { IfOk result (λ receipt. spec.receipt_of message.now ≡ Ok receipt) }
+        ensures err { IfErr result (λ fault. fault ≢ MessageFault.Memory → spec.receipt_of message.now ≡ Err fault) }
+    {
+        let segments = message.segments.as_slice();
+        if !is_type(b"RECADV", message) {
+            return Err(MessageFault::MessageType);
+        }
+        if !begins_as(b"632", segments) {
+            return Err(MessageFault::Beginning);
+        }
+        if function(segments) != b"9".as_slice() {
+            return Err(MessageFault::Function);
+        }
+        if !has_date(segments) {
+            return Err(MessageFault::Date);
+        }
+        let parties = read_parties(segments)?;
+        let items = item_units(alloc, segments)?;
+        let received = received_units(alloc, items.as_slice())?;
+        let ssccs = ssccs(alloc, items.as_slice(), segments)?;
+        if !is_controlled(segments) {
+            return Err(MessageFault::Control);
+        }
+        if line_count(segments) == 0 {
+            return Err(MessageFault::NoLine);
+        }
+        Ok(Receipt {
+            number: copied(alloc, document_number(segments))?,
+            buyer: parties.buyer,
+            supplier: parties.supplier,
+            units: units_of(alloc, received.as_slice(), ssccs.as_slice())?,
+        })
+    }
+}

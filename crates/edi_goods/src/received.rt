@@ -1,0 +1,189 @@
+//! The units and lines of a receiving advice, read one condition after another.
+ghost use Rattle.std.specs.Prelude.{◌≡◌, ◌≢◌, ◌||◌, IfOk, IfErr, true, false, map, is_some};
+ghost use Rattle.std.specs.List.{list_all};
+ghost use Rattle.edi_orders.specs.Lines.{quantity_of};
+ghost use Rattle.edi_goods.specs.Receipt as spec;
+
+use crate::receipt::ReceiptLine;
+use crate::sums::{Amount, sums_within};
+use crate::units::ItemUnit;
+use edi_orders::MessageFault;
+use edi_orders::lines::{LineItem, quantity_of};
+use edi_orders::parts::has_qualified;
+use edi_tokens::Segment;
+use std::alloc::Global;
+use std::marker::Model;
+
+/// A unit with what was received in it.
+#[derive(Drop)]
+pub(crate) struct ReceivedUnit<'a, 'b> {
+    unit: &'b ItemUnit<'a>,
+    lines: Vec<ReceiptLine>,
+}
+
+impl<'a, 'b> Model for ReceivedUnit<'a, 'b> {
+    ghost use Rattle.std.specs.Prelude.{◌≡◌, List};
+    ghost use Rattle.edi_tokens.specs.declared.segment.Segment.{Segment};
+    ghost use Rattle.edi_goods.specs.Receipt.{lines_of};
+
+    ghost Value = { List Segment };
+
+    ghost view = { λ lined. lined.unit.now };
+
+    ghost invariant = { λ lined. lined.lines.items ≡ lines_of lined.unit.now };
+}
+
+impl<'a, 'b> ReceivedUnit<'a, 'b> {
+    /// What was received in it.
+    pub(crate) fn lines(&self) -> &[ReceiptLine]
+        ensures { result.now ≡ spec.lines_of self.now }
+    {
+        self.lines.as_slice()
+    }
+}
+
+// The quantity of a kind, where there is one; the fault `Quantity` where it stands twice or is not right.
+fn received(kind: &[u8], group: &[Segment]) -> Result<Option<u32>, MessageFault>
+    ensures ok { IfOk result (λ quantity. (quantity ≡ quantity_of kind.now 0 group.now) × (spec.is_once kind.now group.now ≡ true)) }
+    ensures err { IfErr result (λ fault. (fault ≡ MessageFault.Quantity) × (spec.is_once kind.now group.now ≡ false)) }
+{
+    match quantity_of(kind, 0, group) {
+        Some(quantity) => Ok(Some(quantity)),
+        None => {
+            if has_qualified(b"QTY", kind, group) {
+                Err(MessageFault::Quantity)
+            } else {
+                Ok(None)
+            }
+        }
+    }
+}
+
+// Whether one of the quantities is there.
+fn is_any(accepted: Option<u32>, returned: Option<u32>, destroyed: Option<u32>) -> bool
+    ensures { result ≡ (is_some accepted || is_some returned || is_some destroyed) }
+{
+    accepted.is_some() || returned.is_some() || destroyed.is_some()
+}
+
+// A line of the record.
+fn receipt_line(item: &LineItem<'_>) -> Result<ReceiptLine, MessageFault>
+    ensures ok { IfOk result (λ line. (line ≡ spec.line_of item.now) × (spec.is_received item.now ≡ true)) }
+    ensures err { IfErr result (λ fault. (fault ≡ MessageFault.Quantity) × (spec.is_received item.now ≡ false)) }
+{
+    let accepted = received(b"194", item.group())?;
+    let returned = received(b"195", item.group())?;
+    let destroyed = received(b"196", item.group())?;
+    if !is_any(accepted, returned, destroyed) {
+        return Err(MessageFault::Quantity);
+    }
+    Ok(ReceiptLine {
+        gtin: item.gtin(),
+        accepted: accepted.unwrap_or(0),
+        returned: returned.unwrap_or(0),
+        destroyed: destroyed.unwrap_or(0),
+    })
+}
+
+// The lines of a unit; the fault `Quantity` where one has no quantities.
+fn receipt_lines(alloc: Global, items: &[LineItem<'_>]) -> Result<Vec<ReceiptLine>, MessageFault>
+    ensures ok { IfOk result (λ lines. (lines.items ≡ map spec.line_of items.now) × (list_all spec.is_received items.now ≡ true)) }
+    ensures err { IfErr result (λ fault. fault ≢ MessageFault.Memory → (fault ≡ MessageFault.Quantity) × (list_all spec.is_received items.now ≡ false)) }
+{
+    let mut lines = Vec::new(alloc);
+    for item in items {
+        lines.push(receipt_line(item)?)?;
+    }
+    Ok(lines)
+}
+
+// What was accepted of the items.
+fn accepted_amounts(alloc: Global, lines: &[ReceiptLine]) -> Result<Vec<Amount>, MessageFault>
+    ensures ok { IfOk result (λ amounts. amounts.items ≡ spec.accepted_amounts lines.now) }
+    ensures err { IfErr result (λ fault. fault ≡ MessageFault.Memory) }
+{
+    let mut amounts = Vec::new(alloc);
+    for line in lines {
+        amounts.push(Amount {
+            gtin: line.gtin,
+            quantity: line.accepted,
+        })?;
+    }
+    Ok(amounts)
+}
+
+// What is to be returned of the items.
+fn returned_amounts(alloc: Global, lines: &[ReceiptLine]) -> Result<Vec<Amount>, MessageFault>
+    ensures ok { IfOk result (λ amounts. amounts.items ≡ spec.returned_amounts lines.now) }
+    ensures err { IfErr result (λ fault. fault ≡ MessageFault.Memory) }
+{
+    let mut amounts = Vec::new(alloc);
+    for line in lines {
+        amounts.push(Amount {
+            gtin: line.gtin,
+            quantity: line.returned,
+        })?;
+    }
+    Ok(amounts)
+}
+
+// What is to be destroyed of the items.
+fn destroyed_amounts(alloc: Global, lines: &[ReceiptLine]) -> Result<Vec<Amount>, MessageFault>
+    ensures ok { IfOk result (λ amounts. amounts.items ≡ spec.destroyed_amounts lines.now) }
+    ensures err { IfErr result (λ fault. fault ≡ MessageFault.Memory) }
+{
+    let mut amounts = Vec::new(alloc);
+    for line in lines {
+        amounts.push(Amount {
+            gtin: line.gtin,
+            quantity: line.destroyed,
+        })?;
+    }
+    Ok(amounts)
+}
+
+// Whether no kind's sum over the lines of one item is too great.
+fn has_sums(alloc: Global, lines: &[ReceiptLine]) -> Result<bool, MessageFault>
+    ensures ok { IfOk result (λ within. within ≡ spec.has_sums lines.now) }
+    ensures err { IfErr result (λ fault. fault ≡ MessageFault.Memory) }
+{
+    let accepted = accepted_amounts(alloc, lines)?;
+    let returned = returned_amounts(alloc, lines)?;
+    let destroyed = destroyed_amounts(alloc, lines)?;
+    Ok(
+        sums_within(alloc, accepted.as_slice())?
+            && sums_within(alloc, returned.as_slice())?
+            && sums_within(alloc, destroyed.as_slice())?,
+    )
+}
+
+// A unit with what was received in it.
+fn received_unit<'a, 'b>(
+    alloc: Global,
+    unit: &'b ItemUnit<'a>,
+) -> Result<ReceivedUnit<'a, 'b>, MessageFault>
+    ensures ok { IfOk result (λ received. (received ≡ unit.now) × (spec.has_quantities unit.now ≡ true)) }
+    ensures err { IfErr result (λ fault. fault ≢ MessageFault.Memory → (fault ≡ MessageFault.Quantity) × (spec.has_quantities unit.now ≡ false)) }
+{
+    let lines = receipt_lines(alloc, unit.items())?;
+    if has_sums(alloc, lines.as_slice())? {
+        Ok(ReceivedUnit { unit, lines })
+    } else {
+        Err(MessageFault::Quantity)
+    }
+}
+
+/// The units, each with what was received in it; the fault `Quantity` where a line has no quantities, or a sum is too great.
+pub(crate) fn received_units<'a, 'b>(
+    alloc: Global,
+    units: &'b [ItemUnit<'a>],
+) -> Result<Vec<ReceivedUnit<'a, 'b>>, MessageFault>
+    ensures ok { IfOk result (λ received. (received.items ≡ units.now) × (list_all spec.has_quantities units.now ≡ true)) }
+    ensures err { IfErr result (λ fault. fault ≢ MessageFault.Memory → (fault ≡ MessageFault.Quantity) × (list_all spec.has_quantities units.now ≡ false)) }
+{
+    let mut received = Vec::new(alloc);
+    for unit in units {
+        received.push(received_unit(alloc, unit)?)?;
+    }
+    Ok(received)
+}
