@@ -4,8 +4,13 @@ use Rattle.edi_tokens.specs.declared.segment.Segment.{Segment}
 use Rattle.edi_envelope.specs.declared.interchange.RawMessage.{RawMessage}
 use Rattle.edi_orders.specs.Header.{supplier_of}
 use Rattle.edi_orders.specs.Order.{order_of}
+use Rattle.edi_orders.specs.Response.{response_of}
 use Rattle.edi_orders.specs.Values.{is_date, quantity}
-use Rattle.edi_orders.specs.declared.fault.MessageFault.TheVariants.{Beginning, Date, Parties, Summary, Line, Quantity, Control, NoLine}
+use Rattle.edi_orders.specs.declared.response.Answer.{Answer}
+use Rattle.edi_orders.specs.declared.response.Answer.TheVariants.{Lines, AllAccepted, AllRefused}
+use Rattle.edi_orders.specs.declared.response.LineAnswer.TheVariants.{Changed}
+use Rattle.edi_orders.specs.declared.response.Response.{Response}
+use Rattle.edi_orders.specs.declared.fault.MessageFault.TheVariants.{Beginning, Date, Parties, Summary, Line, Quantity, Reference, Control, NoLine}
 use Rattle.std.specs.Prelude.{true, false}
 
 abbrev segment : List ℕ → List (List (List ℕ)) → Segment
@@ -136,3 +141,42 @@ zeros_before = refl
 
 nothing_before_the_mark : quantity (codes ".5") ≡ None
 nothing_before_the_mark = refl
+
+-- a response with this function and these segments behind its header
+abbrev response : List ℕ → List Segment → RawMessage
+response function segments = record (message (unh ∷ segment (codes "BGM") (one (codes "231") ∷ one (codes "R1") ∷ one function ∷ []) ∷ dtm (codes "20250603") ∷ segment (codes "RFF") ((codes "ON" ∷ codes "128576" ∷ []) ∷ []) ∷ buyer ∷ supplier ∷ segments)) { kind = codes "ORDRSP" }
+
+abbrev answered : List ℕ → Segment
+answered action = segment (codes "LIN") (one (codes "1") ∷ one action ∷ (codes "4000862141404" ∷ codes "SRV" ∷ []) ∷ [])
+
+abbrev delivered : List ℕ → List ℕ → Segment
+delivered kind quantity = segment (codes "QTY") ((kind ∷ quantity ∷ []) ∷ [])
+
+-- a response that answers so
+abbrev responded : Answer → Response
+responded answer = record {
+  number = codes "R1";
+  buyer = codes "5412345000013";
+  supplier = codes "4012345500004";
+  order = codes "128576";
+  answer = answer;
+}
+
+a_change : response_of (response (codes "4") (answered (codes "3") ∷ delivered (codes "113") (codes "36") ∷ uns ∷ unt ∷ [])) ≡ Ok (responded (Lines (record { order_line = None; gtin = codes "04000862141404"; answer = Changed 36 } ∷ [])))
+a_change = refl
+
+delivered_goes_before_ordered : response_of (response (codes "9") (answered (codes "6") ∷ delivered (codes "113") (codes "0") ∷ delivered (codes "21") (codes "9") ∷ uns ∷ unt ∷ [])) ≡ Ok (responded (Lines (record { order_line = None; gtin = codes "04000862141404"; answer = Changed 0 } ∷ [])))
+delivered_goes_before_ordered = refl
+
+all_refused : response_of (response (codes "27") (uns ∷ unt ∷ [])) ≡ Ok (responded AllRefused)
+all_refused = refl
+
+-- the lines are counted, not read
+all_accepted : response_of (response (codes "29") (answered (codes "1") ∷ uns ∷ cnt (codes "1") ∷ unt ∷ [])) ≡ Ok (responded AllAccepted)
+all_accepted = refl
+
+another_order : response_of (response (codes "4") (answered (codes "5") ∷ segment (codes "RFF") ((codes "ON" ∷ codes "128577" ∷ []) ∷ []) ∷ uns ∷ unt ∷ [])) ≡ Err Reference
+another_order = refl
+
+no_answered_line : response_of (response (codes "9") (uns ∷ unt ∷ [])) ≡ Err NoLine
+no_answered_line = refl
