@@ -13,7 +13,7 @@ use Rattle.edi_orders.specs.References.{has_reference, reference, order_named, l
 use Rattle.edi_orders.specs.Summary.{line_count, is_controlled}
 use Rattle.edi_orders.specs.declared.fault.MessageFault.{MessageFault}
 use Rattle.edi_orders.specs.declared.fault.MessageFault.TheVariants.{MessageType, Beginning, Function, Date, Parties, Summary, Line, Quantity, Reference, Unit, Control, NoLine, Memory}
-use Rattle.edi_goods.specs.Header.{has_parties, buyer}
+use Rattle.edi_goods.specs.Parties.{has_parties, buyer}
 use Rattle.edi_goods.specs.Units.{read_units, has_lines, has_units, sscc_or_none}
 use Rattle.edi_goods.specs.declared.despatch.Despatch.{Despatch}
 use Rattle.edi_goods.specs.declared.despatch.DespatchLine.{DespatchLine}

@@ -1,5 +1,5 @@
 pub mod Despatch
-pub mod Header
+pub mod Parties
 pub mod Receipt
 pub mod Referred
 pub mod Sums

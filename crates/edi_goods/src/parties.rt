@@ -1,7 +1,7 @@
 //! The parties of a message that may leave out the buyer.
 ghost use Rattle.std.specs.Prelude.{◌≡◌, true, false, Some, IfOk, IfErr, codes};
 ghost use Rattle.edi_orders.specs.Header.{party};
-ghost use Rattle.edi_goods.specs.Header as spec;
+ghost use Rattle.edi_goods.specs.Parties as spec;
 
 use edi_orders::MessageFault;
 use edi_orders::header::party;

@@ -1,4 +1,4 @@
--- The buyer, which the header of a despatch advice or a receiving advice may leave out.
+-- The parties of a despatch advice or a receiving advice, whose header may leave out the buyer.
 use Rattle.std.specs.Prelude.{ℕ, Bool, not, ◌||◌, ◌&&◌, List, is_some, codes, Option}
 use Rattle.edi_tokens.specs.declared.segment.Segment.{Segment}
 use Rattle.edi_orders.specs.Header.{party}
