@@ -1,80 +1,87 @@
-use crate::{MessageFault, supplier_of};
-use edi_envelope::open;
+mod orders;
+mod pairs;
+mod parties;
+mod responses;
+
+use crate::{MessageFault, Order, Response};
+use edi_envelope::{RawMessage, open};
 use edi_tokens::read_all;
-use std::alloc::Global;
+use std::alloc::{AllocError, Global};
+use std::process::Abort;
 use std::test::Fail;
 
-const SUPPLIER: &str = "4012345500004";
+// A right order and a right response, from UNH up to where UNT stands.
+const ORDER: &str =
+    "UNH+1+ORDERS:D:01B:UN:EAN010'BGM+220+128576+9'DTM+137:20250603:102'NAD+BY+5412345000013::9'NAD+SU+4012345500004::9'LIN+1++4000862141404:SRV'QTY+21:48'UNS+S'CNT+2:1'";
 
-// The segments of a message behind UNH and before UNT, and whether its header names the supplier.
-const MESSAGES: [(&str, &str, bool); 12] = [
-    (
-        "ORDERS",
-        "BGM+220+128576+9'DTM+137:20250603:102'NAD+BY+5412345000013::9'NAD+SU+4012345500004::9'LIN+1++4000862141404:SRV'QTY+21:48'UNS+S'CNT+2:1'",
-        true,
-    ),
-    (
-        "ORDRSP",
-        "BGM+231+R1+4'DTM+137:20250603:102'RFF+ON:128576'NAD+BY+5412345000013::9'NAD+SU+4012345500004::9'LIN+1+3+4000862141404:SRV'QTY+113:36'UNS+S'",
-        true,
-    ),
-    (
-        "DESADV",
-        "BGM+351+DA1+9'DTM+137:20250604:102'RFF+ON:128576'NAD+BY+5412345000013::9'NAD+SU+4012345500004::9'CPS+1'PAC+1'PCI+33E'GIN+BJ+340123455000000012'LIN+1++4000862141404:SRV'QTY+12:12'",
-        true,
-    ),
-    (
-        "RECADV",
-        "BGM+632+G1+9'DTM+137:20250605:102'NAD+BY+5412345000013::9'NAD+SU+4012345500004::9'CPS+1'GIN+BJ+340123455000000012'LIN+1++4000862141404:SRV'QTY+194:10'",
-        true,
-    ),
-    ("ORDERS", "NAD+SU+4012345500004:x:9:y+z'", true),
-    (
-        "ORDERS",
-        "BGM+220+128576+9'NAD+BY+5412345000013::9'UNS+S'",
-        false,
-    ),
-    (
-        "ORDERS",
-        "NAD+SU+4012345500004::9'NAD+SU+4012345500004::9'UNS+S'",
-        false,
-    ),
-    ("ORDERS", "NAD+SU+4012345500005::9'UNS+S'", false),
-    ("ORDERS", "NAD+SU+4012345500004::92'UNS+S'", false),
-    ("ORDERS", "NAD+SU+4012345500004'UNS+S'", false),
-    (
-        "ORDERS",
-        "LIN+1++4000862141404:SRV'NAD+SU+4012345500004::9'UNS+S'",
-        false,
-    ),
-    ("ORDERS", "UNS+S'NAD+SU+4012345500004::9'", false),
-];
+const RESPONSE: &str =
+    "UNH+1+ORDRSP:D:01B:UN:EAN009'BGM+231+R1+4'DTM+137:20250603:102'RFF+ON:128576'NAD+BY+5412345000013::9'NAD+SU+4012345500004::9'LIN+1+3+4000862141404:SRV'QTY+113:36'UNS+S'";
 
-#[test]
-fn the_header_names_the_supplier(rt: HostRuntime) -> Result<(), Fail> {
-    let alloc = rt.alloc();
-    for (kind, segments, names) in MESSAGES {
-        let count = segments.split('\'').count().saturating_add(1);
-        let text = format!(in alloc;
-            "UNB+UNOC:3+5412345000013:14+5412345000006:14+250603:0915+1001'UNH+1+{kind}:D:01B:UN:EAN010'{segments}UNT+{count}+1'UNZ+1+1001'"
-        )?;
-        let interchange = open(alloc, read_all(alloc, text.as_bytes())?)?;
-        let messages = interchange.messages.as_slice();
-        let message = messages.first().ok_or("a message")?;
-        match supplier_of(message) {
-            Some(gln) => assert_eq!(rt;
-                (names, gln.digits().as_slice()),
-                (true, SUPPLIER.as_bytes()),
-                "{segments}"
-            ),
-            None => assert!(rt; !names, "{segments}"),
-        }
+const BUYER: &[u8; 13] = b"5412345000013";
+
+const SUPPLIER: &[u8; 13] = b"4012345500004";
+
+// As what a message is read.
+#[derive(Clone, Copy)]
+enum Reader {
+    Orders,
+    Responses,
+}
+
+// What is told of a text that is edited: `ok` or a code; the place that the edit replaces, and what then stands there.
+type Edit = (&'static str, &'static str, &'static str);
+
+// The message of these segments, in an interchange that begins with a service string or nothing.
+fn message_under(alloc: Global, service: &str, segments: &str) -> Result<RawMessage, Fail> {
+    let count = segments.matches("'").count().saturating_add(1);
+    let text = format!(in alloc;
+        "{service}UNB+UNOC:3+5412345000013:14+5412345000006:14+250603:0915+1001'{segments}UNT+{count}+1'UNZ+1+1001'"
+    )?;
+    let interchange = open(alloc, read_all(alloc, text.as_bytes())?)?;
+    Ok(interchange.messages.into_vec().pop().ok_or("a message")?)
+}
+
+fn message(alloc: Global, segments: &str) -> Result<RawMessage, Fail> {
+    message_under(alloc, "", segments)
+}
+
+// A text with other words in the place of its first ones like these.
+fn edited(alloc: Global, text: &str, place: &str, words: &str) -> Result<String, Fail> {
+    let (before, behind) = text.split_once(place).ok_or("the place of an edit")?;
+    Ok(format!(in alloc; "{before}{words}{behind}")?)
+}
+
+// What is told of a message: `ok`, or the code of its fault.
+fn told(alloc: Global, reader: Reader, segments: &str) -> Result<&'static str, Fail> {
+    let message = message(alloc, segments)?;
+    let fault = match reader {
+        Reader::Orders => Order::read(alloc, &message).err(),
+        Reader::Responses => Response::read(alloc, &message).err(),
+    };
+    Ok(match fault {
+        Some(fault) => fault.code(),
+        None => "ok",
+    })
+}
+
+// Each edit of the text, by itself, is told as it says.
+fn edits_are_told(
+    rt: &impl Abort,
+    alloc: Global,
+    reader: Reader,
+    text: &str,
+    edits: &[Edit],
+) -> Result<(), Fail> {
+    for (want, place, words) in edits {
+        let segments = edited(alloc, text, place, words)?;
+        let code = told(alloc, reader, segments.as_str())?;
+        assert_eq!(rt; code, *want, "{words} for {place}");
     }
     Ok(())
 }
 
 #[test]
-fn faults_have_their_codes(rt: HostRuntime) {
+fn faults_have_their_codes(rt: HostRuntime) -> Result<(), AllocError> {
     for (fault, code) in [
         (MessageFault::MessageType, "M01"),
         (MessageFault::Beginning, "M02"),
@@ -91,5 +98,7 @@ fn faults_have_their_codes(rt: HostRuntime) {
         (MessageFault::Memory, "memory"),
     ] {
         assert_eq!(rt; fault.code(), code);
+        assert_eq!(rt; fault.to_string(rt.alloc())?.as_str(), code);
     }
+    Ok(())
 }
