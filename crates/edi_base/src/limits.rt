@@ -31,8 +31,8 @@ pub fn are_digits(low: usize, high: usize, bytes: &[u8]) -> bool
     has_length(low, high, bytes) && all_digits(bytes)
 }
 
-/// The greatest number that is taken of any data element.
-const GREATEST: u64 = 999_999_999;
+/// The greatest number that is taken of any data element, and of sums of them.
+pub const GREATEST: u64 = 999_999_999;
 
 /// The number that digits write, where it is at most 999,999,999; the first of them may be zeros.
 pub fn value_of(digits: &[u8]) -> Option<u32>

@@ -80,25 +80,25 @@ a_despatch : despatch_of (despatch (cps ∷ pac ∷ gin first ∷ lin (codes "1"
   buyer = Some (codes "5412345000013");
   supplier = codes "4012345500004";
   units = record {
-      sscc = first;
-      lines = record { order = codes "128576"; order_line = None; gtin = codes "04000862141404"; quantity = 12 } ∷ [];
-    }
-    ∷ [];
+    sscc = first;
+    lines = record { order = codes "128576"; order_line = None; gtin = codes "04000862141404"; quantity = 12 } ∷ [];
+  }
+      ∷ [];
 })
 a_despatch = refl
 
 -- the line's own order goes before the header's, and a unit without lines is not read
 own_order : despatch_of (message (codes "DESADV") (unh ∷ bgm (codes "351") (codes "DA1") ∷ dtm ∷ rff (codes "128576") ∷ supplier ∷ cps ∷ gin (codes "1") ∷ cps ∷ gin first ∷ lin (codes "1") item ∷ qty (codes "12") (codes "12")
     ∷ segment (codes "RFF") ((codes "ON" ∷ codes "128577" ∷ codes "02" ∷ []) ∷ []) ∷ unt ∷ [])) ≡ Ok (record {
-  number = codes "DA1";
-  buyer = None;
-  supplier = codes "4012345500004";
-  units = record {
-      sscc = first;
-      lines = record { order = codes "128577"; order_line = Some 2; gtin = codes "04000862141404"; quantity = 12 } ∷ [];
-    }
-    ∷ [];
-})
+      number = codes "DA1";
+      buyer = None;
+      supplier = codes "4012345500004";
+      units = record {
+        sscc = first;
+        lines = record { order = codes "128577"; order_line = Some 2; gtin = codes "04000862141404"; quantity = 12 } ∷ [];
+      }
+          ∷ [];
+    })
 own_order = refl
 
 line_outside_of_units : despatch_of (despatch (lin (codes "0") item ∷ cps ∷ gin first ∷ lin (codes "1") item ∷ qty (codes "12") (codes "12") ∷ unt ∷ [])) ≡ Err Unit
@@ -128,12 +128,12 @@ a_receipt : receipt_of (receipt (lin (codes "1") item ∷ qty (codes "194") (cod
   buyer = Some (codes "5412345000013");
   supplier = codes "4012345500004";
   units = record {
-      sscc = first;
-      lines = record { gtin = codes "04000862141404"; accepted = 10; returned = 1; destroyed = 0 }
+    sscc = first;
+    lines = record { gtin = codes "04000862141404"; accepted = 10; returned = 1; destroyed = 0 }
         ∷ record { gtin = codes "04000862141411"; accepted = 3; returned = 0; destroyed = 0 }
         ∷ [];
-    }
-    ∷ [];
+  }
+      ∷ [];
 })
 a_receipt = refl
 

@@ -1,5 +1,5 @@
 -- The despatch advice that a message is (DESADV), or its message fault.
-use Rattle.std.specs.Prelude.{ℕ, ◌==◌, Bool, false, not, ◌&&◌, ◌||◌, List, [], map, is_some, codes, Option, Some, None, option_and_then, Result}
+use Rattle.std.specs.Prelude.{ℕ, ◌==◌, Bool, false, not, ◌&&◌, ◌||◌, List, [], map, is_some, codes, Option, Some, None, Result}
 use Rattle.std.specs.List.{list_all}
 use Rattle.std.specs.Option.{unwrap_or}
 use Rattle.std.specs.Str.{bytes_eq}
@@ -9,7 +9,7 @@ use Rattle.edi_orders.specs.Fault.{judged}
 use Rattle.edi_orders.specs.Header.{is_type, begins_as, document_number, function, has_date, party}
 use Rattle.edi_orders.specs.Lines.{gtin, quantity_of}
 use Rattle.edi_orders.specs.Parts.{header, line_groups}
-use Rattle.edi_orders.specs.References.{has_reference, reference, order_named, line_named, is_reference, order}
+use Rattle.edi_orders.specs.References.{has_reference, reference, is_reference, order, group_order, group_line}
 use Rattle.edi_orders.specs.Summary.{line_count, is_controlled}
 use Rattle.edi_orders.specs.declared.fault.MessageFault.{MessageFault}
 use Rattle.edi_orders.specs.declared.fault.MessageFault.TheVariants.{MessageType, Beginning, Function, Date, Parties, Summary, Line, Quantity, Reference, Unit, Control, NoLine, Memory}
@@ -30,14 +30,14 @@ has_quantities unit = list_all (λ group. is_some (despatched group)) (line_grou
 abbrev pub inherits : List Segment → Bool
 inherits message = has_reference (header message)
 
--- at most one, with an order number
-abbrev pub has_header_reference : List Segment → Bool
-has_header_reference message = not (inherits message) || is_some (order message)
+-- none, or one, with an order number
+abbrev pub has_header_reference_or_none : List Segment → Bool
+has_header_reference_or_none message = not (inherits message) || is_some (order message)
 
 -- the reference of a group is right; where it has none, the header has one
 abbrev pub is_referred_by : Bool → Bool → Option Segment → Bool
-is_referred_by several inherited (Some rff) = is_reference rff
-is_referred_by several inherited None = not several && inherited
+is_referred_by there inherited (Some rff) = is_reference rff
+is_referred_by there inherited None = not there && inherited
 
 abbrev pub is_referred : Bool → List Segment → Bool
 is_referred inherited group = is_referred_by (has_reference group) inherited (reference group)
@@ -47,7 +47,7 @@ has_references inherited unit = list_all (is_referred inherited) (line_groups un
 
 -- the order of a line: the one that its group names, or that of the header
 abbrev pub order_of_line : List ℕ → List Segment → List ℕ
-order_of_line header_order group = unwrap_or (option_and_then order_named (reference group)) header_order
+order_of_line header_order group = unwrap_or (group_order group) header_order
 
 -- the order of the header, and nothing where it has none
 abbrev pub header_order : List Segment → List ℕ
@@ -63,7 +63,7 @@ holds Parties m = not (has_parties m.segments)
 holds Summary m = false
 holds Line m = not (list_all has_lines (read_units m.segments))
 holds Quantity m = not (list_all has_quantities (read_units m.segments))
-holds Reference m = not (has_header_reference m.segments && list_all (has_references (inherits m.segments)) (read_units m.segments))
+holds Reference m = not (has_header_reference_or_none m.segments && list_all (has_references (inherits m.segments)) (read_units m.segments))
 holds Unit m = not (has_units m.segments)
 holds Control m = not (is_controlled m.segments)
 holds NoLine m = line_count m.segments == 0
@@ -72,7 +72,7 @@ holds Memory m = false
 abbrev pub line_of : List ℕ → List Segment → DespatchLine
 line_of order group = record {
   order = order_of_line order group;
-  order_line = option_and_then line_named (reference group);
+  order_line = group_line group;
   gtin = unwrap_or (gtin group) [];
   quantity = unwrap_or (despatched group) 0;
 }

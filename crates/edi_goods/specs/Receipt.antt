@@ -15,6 +15,8 @@ use Rattle.edi_orders.specs.declared.fault.MessageFault.TheVariants.{MessageType
 use Rattle.edi_goods.specs.Parties.{has_parties, buyer}
 use Rattle.edi_goods.specs.Units.{read_units, has_lines, has_units, sscc_or_none}
 use Rattle.edi_goods.specs.Sums.{sums_within}
+use Rattle.edi_goods.specs.declared.kind.Kind.{Kind}
+use Rattle.edi_goods.specs.declared.kind.Kind.TheVariants.{Accepted, Returned, Destroyed}
 use Rattle.edi_goods.specs.declared.receipt.Receipt.{Receipt}
 use Rattle.edi_goods.specs.declared.receipt.ReceiptLine.{ReceiptLine}
 use Rattle.edi_goods.specs.declared.receipt.ReceiptUnit.{ReceiptUnit}
@@ -31,13 +33,13 @@ abbrev pub destroyed : List Segment → Option ℕ
 destroyed group = quantity_of (codes "196") 0 group
 
 -- a kind stands nowhere in a group, or once and right
-abbrev pub is_once : List ℕ → List Segment → Bool
-is_once kind group = not (has_qualified (codes "QTY") kind group) || is_some (quantity_of kind 0 group)
+abbrev pub is_once_or_none : List ℕ → List Segment → Bool
+is_once_or_none kind group = not (has_qualified (codes "QTY") kind group) || is_some (quantity_of kind 0 group)
 
 -- each kind at most once, and one of them at least
 abbrev pub is_received : List Segment → Bool
 is_received group =
-    is_once (codes "194") group && is_once (codes "195") group && is_once (codes "196") group
+    is_once_or_none (codes "194") group && is_once_or_none (codes "195") group && is_once_or_none (codes "196") group
     && (is_some (accepted group) || is_some (returned group) || is_some (destroyed group))
 
 abbrev pub line_of : List Segment → ReceiptLine
@@ -51,19 +53,18 @@ line_of group = record {
 abbrev pub lines_of : List Segment → List ReceiptLine
 lines_of unit = map line_of (line_groups unit)
 
--- what is received of the items, of one kind
-abbrev pub accepted_amounts : List ReceiptLine → List Amount
-accepted_amounts lines = map (λ line. record { gtin = line.gtin; quantity = line.accepted }) lines
+-- what a line says of one kind
+abbrev pub of_kind : Kind → ReceiptLine → ℕ
+of_kind Accepted line = line.accepted
+of_kind Returned line = line.returned
+of_kind Destroyed line = line.destroyed
 
-abbrev pub returned_amounts : List ReceiptLine → List Amount
-returned_amounts lines = map (λ line. record { gtin = line.gtin; quantity = line.returned }) lines
-
-abbrev pub destroyed_amounts : List ReceiptLine → List Amount
-destroyed_amounts lines = map (λ line. record { gtin = line.gtin; quantity = line.destroyed }) lines
+abbrev pub amounts : Kind → List ReceiptLine → List Amount
+amounts kind lines = map (λ line. record { gtin = line.gtin; quantity = of_kind kind line }) lines
 
 -- no kind's sum over the lines of one item is above 999,999,999
 abbrev pub has_sums : List ReceiptLine → Bool
-has_sums lines = sums_within (accepted_amounts lines) && sums_within (returned_amounts lines) && sums_within (destroyed_amounts lines)
+has_sums lines = sums_within (amounts Accepted lines) && sums_within (amounts Returned lines) && sums_within (amounts Destroyed lines)
 
 -- the quantities of each line of a unit, and their sums by item
 abbrev pub has_quantities : List Segment → Bool

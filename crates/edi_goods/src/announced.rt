@@ -1,7 +1,7 @@
 //! The units and lines of a despatch advice, read one condition after another.
 ghost use Rattle.std.specs.Prelude.{◌≡◌, ◌≢◌, IfOk, IfErr, true, false, map, is_some, option_map, option_and_then};
 ghost use Rattle.std.specs.List.{list_all};
-ghost use Rattle.edi_orders.specs.References as references;
+ghost use Rattle.edi_orders.specs.References.{group_order, group_line};
 ghost use Rattle.edi_goods.specs.Despatch as spec;
 
 use crate::despatch::DespatchLine;
@@ -130,8 +130,8 @@ fn group_reference(
     inherited: bool,
     group: &[Segment],
 ) -> Result<Option<NamedOrder<'_>>, MessageFault>
-    ensures order { IfOk result (λ named. option_map (λ one. one.order.now) named ≡ option_and_then references.order_named (references.reference group.now)) }
-    ensures line { IfOk result (λ named. option_and_then (λ one. one.line) named ≡ option_and_then references.line_named (references.reference group.now)) }
+    ensures order { IfOk result (λ named. option_map (λ one. one.order.now) named ≡ group_order group.now) }
+    ensures line { IfOk result (λ named. option_and_then (λ one. one.line) named ≡ group_line group.now) }
     ensures ok { IfOk result (λ named. spec.is_referred inherited group.now ≡ true) }
     ensures err { IfErr result (λ fault. (fault ≡ MessageFault.Reference) × (spec.is_referred inherited group.now ≡ false)) }
 {

@@ -3,6 +3,7 @@
 
 mod announced;
 mod despatch;
+mod kind;
 mod parties;
 mod receipt;
 mod received;

@@ -4,6 +4,7 @@ ghost use Rattle.std.specs.List.{list_all};
 ghost use Rattle.edi_orders.specs.Lines.{quantity_of};
 ghost use Rattle.edi_goods.specs.Receipt as spec;
 
+use crate::kind::Kind;
 use crate::receipt::ReceiptLine;
 use crate::sums::{Amount, sums_within};
 use crate::units::ItemUnit;
@@ -44,8 +45,8 @@ impl<'a, 'b> ReceivedUnit<'a, 'b> {
 
 // The quantity of a kind, where there is one; the fault `Quantity` where it stands twice or is not right.
 fn received(kind: &[u8], group: &[Segment]) -> Result<Option<u32>, MessageFault>
-    ensures ok { IfOk result (λ quantity. (quantity ≡ quantity_of kind.now 0 group.now) × (spec.is_once kind.now group.now ≡ true)) }
-    ensures err { IfErr result (λ fault. (fault ≡ MessageFault.Quantity) × (spec.is_once kind.now group.now ≡ false)) }
+    ensures ok { IfOk result (λ quantity. (quantity ≡ quantity_of kind.now 0 group.now) × (spec.is_once_or_none kind.now group.now ≡ true)) }
+    ensures err { IfErr result (λ fault. (fault ≡ MessageFault.Quantity) × (spec.is_once_or_none kind.now group.now ≡ false)) }
 {
     match quantity_of(kind, 0, group) {
         Some(quantity) => Ok(Some(quantity)),
@@ -97,46 +98,27 @@ fn receipt_lines(alloc: Global, items: &[LineItem<'_>]) -> Result<Vec<ReceiptLin
     Ok(lines)
 }
 
-// What was accepted of the items.
-fn accepted_amounts(alloc: Global, lines: &[ReceiptLine]) -> Result<Vec<Amount>, MessageFault>
-    ensures ok { IfOk result (λ amounts. amounts.items ≡ spec.accepted_amounts lines.now) }
-    ensures err { IfErr result (λ fault. fault ≡ MessageFault.Memory) }
+// What a line says of one kind.
+fn of_kind(kind: Kind, line: &ReceiptLine) -> u32
+    ensures { result ≡ spec.of_kind kind line.now }
 {
-    let mut amounts = Vec::new(alloc);
-    for line in lines {
-        amounts.push(Amount {
-            gtin: line.gtin,
-            quantity: line.accepted,
-        })?;
+    match kind {
+        Kind::Accepted => line.accepted,
+        Kind::Returned => line.returned,
+        Kind::Destroyed => line.destroyed,
     }
-    Ok(amounts)
 }
 
-// What is to be returned of the items.
-fn returned_amounts(alloc: Global, lines: &[ReceiptLine]) -> Result<Vec<Amount>, MessageFault>
-    ensures ok { IfOk result (λ amounts. amounts.items ≡ spec.returned_amounts lines.now) }
+// What was received of the items, of one kind.
+fn amounts(alloc: Global, kind: Kind, lines: &[ReceiptLine]) -> Result<Vec<Amount>, MessageFault>
+    ensures ok { IfOk result (λ amounts. amounts.items ≡ spec.amounts kind lines.now) }
     ensures err { IfErr result (λ fault. fault ≡ MessageFault.Memory) }
 {
     let mut amounts = Vec::new(alloc);
     for line in lines {
         amounts.push(Amount {
             gtin: line.gtin,
-            quantity: line.returned,
-        })?;
-    }
-    Ok(amounts)
-}
-
-// What is to be destroyed of the items.
-fn destroyed_amounts(alloc: Global, lines: &[ReceiptLine]) -> Result<Vec<Amount>, MessageFault>
-    ensures ok { IfOk result (λ amounts. amounts.items ≡ spec.destroyed_amounts lines.now) }
-    ensures err { IfErr result (λ fault. fault ≡ MessageFault.Memory) }
-{
-    let mut amounts = Vec::new(alloc);
-    for line in lines {
-        amounts.push(Amount {
-            gtin: line.gtin,
-            quantity: line.destroyed,
+            quantity: of_kind(kind, line),
         })?;
     }
     Ok(amounts)
@@ -147,9 +129,9 @@ fn has_sums(alloc: Global, lines: &[ReceiptLine]) -> Result<bool, MessageFault>
     ensures ok { IfOk result (λ within. within ≡ spec.has_sums lines.now) }
     ensures err { IfErr result (λ fault. fault ≡ MessageFault.Memory) }
 {
-    let accepted = accepted_amounts(alloc, lines)?;
-    let returned = returned_amounts(alloc, lines)?;
-    let destroyed = destroyed_amounts(alloc, lines)?;
+    let accepted = amounts(alloc, Kind::Accepted, lines)?;
+    let returned = amounts(alloc, Kind::Returned, lines)?;
+    let destroyed = amounts(alloc, Kind::Destroyed, lines)?;
     Ok(
         sums_within(alloc, accepted.as_slice())?
             && sums_within(alloc, returned.as_slice())?

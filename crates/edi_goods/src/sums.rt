@@ -7,6 +7,7 @@ ghost use Rattle.std.specs.Ordering.{nat_cmp};
 ghost use Rattle.edi_base.specs.Limits.{greatest};
 ghost use Rattle.edi_goods.specs.Sums as spec;
 
+use edi_base::GREATEST;
 use edi_orders::MessageFault;
 use gs1_ids::Gtin;
 use std::alloc::Global;
@@ -18,9 +19,6 @@ pub(crate) struct Amount {
     pub(crate) gtin: Gtin,
     pub(crate) quantity: u32,
 }
-
-/// The greatest sum.
-const GREATEST: u64 = 999_999_999;
 
 // The sum of an item so far.
 fn sum_so_far(sums: &BTreeMap<Gtin, u64>, gtin: &Gtin) -> u64

@@ -8,7 +8,7 @@ ghost use Rattle.edi_goods.specs.Units as spec;
 use edi_base::Seen;
 use edi_orders::MessageFault;
 use edi_orders::lines::{LineItem, line_items};
-use edi_orders::parts::{is_lin, only_qualified};
+use edi_orders::parts::{has_lin, is_cps, is_lin, only_qualified};
 use edi_tokens::Segment;
 use gs1_ids::Sscc;
 use std::alloc::Global;
@@ -42,13 +42,6 @@ impl<'a> ItemUnit<'a> {
     }
 }
 
-// Whether a segment begins a unit.
-fn is_cps(segment: &Segment) -> bool
-    ensures { result ≡ is_cps segment.now }
-{
-    segment.tag == *b"CPS"
-}
-
 // How many segments stand before the first that ends a unit.
 fn rest_len(segments: &[Segment]) -> usize
     ensures within { result ≤ length segments.now }
@@ -75,13 +68,6 @@ fn unit_of(segments: &[Segment]) -> &[Segment]
     }
 }
 
-// Whether one of the segments is a line item.
-fn has_line(segments: &[Segment]) -> bool
-    ensures { result ≡ list_any is_lin segments.now }
-{
-    segments.iter().any(|segment| is_lin(segment))
-}
-
 /// The units of a message that have lines, in their order, each with its items; the fault `Line` where one of its LIN has
 /// none.
 pub(crate) fn item_units(
@@ -95,7 +81,7 @@ pub(crate) fn item_units(
     for (place, segment) in message.iter().enumerate() {
         if is_cps(segment) {
             let unit = unit_of(&message[place..]);
-            if has_line(unit) {
+            if has_lin(unit) {
                 let items = line_items(alloc, unit)?;
                 units.push(ItemUnit { unit, items })?;
             }
@@ -182,7 +168,7 @@ fn has_line_outside(message: &[Segment]) -> bool
     ensures { result ≡ spec.has_line_outside message.now }
 {
     let (outside, _) = message.split_at(outside_len(message));
-    has_line(outside)
+    has_lin(outside)
 }
 
 // The SSCC of each unit.

@@ -25,6 +25,13 @@ order message = option_and_then order_named (reference (header message))
 abbrev pub line_named : Segment → Option ℕ
 line_named rff = line_number (component rff 0 2)
 
+-- the order and its line that the one reference of a group names
+abbrev pub group_order : List Segment → Option (List ℕ)
+group_order group = option_and_then order_named (reference group)
+
+abbrev pub group_line : List Segment → Option ℕ
+group_line group = option_and_then line_named (reference group)
+
 abbrev pub has_line_or_none : Segment → Bool
 has_line_or_none rff = length (component rff 0 2) == 0 || is_some (line_named rff)
 

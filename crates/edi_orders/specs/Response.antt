@@ -1,5 +1,5 @@
 -- The response that a message is (ORDRSP), or its message fault.
-use Rattle.std.specs.Prelude.{ℕ, ◌==◌, Bool, true, false, not, ◌&&◌, ◌||◌, if◌then◌else◌, List, [], map, is_some, codes, Option, Some, None, option_map, option_and_then, Result}
+use Rattle.std.specs.Prelude.{ℕ, ◌==◌, Bool, true, false, not, ◌&&◌, ◌||◌, if◌then◌else◌, List, [], map, is_some, codes, Option, Some, None, option_map, Result}
 use Rattle.std.specs.List.{list_all}
 use Rattle.std.specs.Option.{unwrap_or}
 use Rattle.std.specs.Str.{bytes_eq}
@@ -9,7 +9,7 @@ use Rattle.edi_envelope.specs.declared.interchange.RawMessage.{RawMessage}
 use Rattle.edi_orders.specs.Parts.{line_groups, has_qualified}
 use Rattle.edi_orders.specs.Header.{is_type, begins_as, document_number, function, has_date, party}
 use Rattle.edi_orders.specs.Lines.{line, gtin, is_line, quantity_of}
-use Rattle.edi_orders.specs.References.{has_reference, reference, order_named, line_named, is_reference, order}
+use Rattle.edi_orders.specs.References.{has_reference, reference, order_named, is_reference, order, group_line}
 use Rattle.edi_orders.specs.Summary.{has_summary, line_count, is_controlled}
 use Rattle.edi_orders.specs.declared.action.Action.{Action}
 use Rattle.edi_orders.specs.declared.action.Action.TheVariants as actions
@@ -84,10 +84,6 @@ is_referred_by order (Some rff) = is_reference rff && is_of_order (order_named r
 abbrev pub is_referred : Option (List ℕ) → List Segment → Bool
 is_referred order group = not (has_reference group) || is_referred_by order (reference group)
 
--- the order line that a group names
-abbrev pub order_line : List Segment → Option ℕ
-order_line group = option_and_then line_named (reference group)
-
 -- Each condition, of the whole message. Each is defined also where another one holds.
 abbrev pub holds : MessageFault → RawMessage → Bool
 holds MessageType m = not (is_type (codes "ORDRSP") m)
@@ -105,7 +101,7 @@ holds NoLine m = has_lines (extent m.segments) && line_count m.segments == 0
 holds Memory m = false
 
 abbrev pub line_of : List Segment → AnswerLine
-line_of group = record { order_line = order_line group; gtin = unwrap_or (gtin group) []; answer = unwrap_or (line_answer group) line_answers.Accepted }
+line_of group = record { order_line = group_line group; gtin = unwrap_or (gtin group) []; answer = unwrap_or (line_answer group) line_answers.Accepted }
 
 abbrev pub answer_of : Option Extent → List AnswerLine → Answer
 answer_of (Some extents.AllAccepted) lines = answers.AllAccepted

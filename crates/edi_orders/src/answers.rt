@@ -1,6 +1,7 @@
 //! The line groups of a response, read one condition after another.
 ghost use Rattle.std.specs.Prelude.{◌≡◌, ◌≢◌, IfOk, IfErr, Some, true, false, map, is_some};
 ghost use Rattle.std.specs.List.{list_all};
+ghost use Rattle.edi_orders.specs.References.{group_line};
 ghost use Rattle.edi_orders.specs.Response as spec;
 
 use crate::action::{Action, action_of};
@@ -121,7 +122,7 @@ pub(crate) fn answered_items<'a, 'b>(
 // The order line that a group names, where the group has no reference or one to this order.
 #[tactic(auto, using(crate::proofs::Found::no_only))]
 fn order_line(order: &[u8], group: &[Segment]) -> Result<Option<u32>, MessageFault>
-    ensures ok { IfOk result (λ line. (line ≡ spec.order_line group.now) × (spec.is_referred (Some order.now) group.now ≡ true)) }
+    ensures ok { IfOk result (λ line. (line ≡ group_line group.now) × (spec.is_referred (Some order.now) group.now ≡ true)) }
     ensures err { IfErr result (λ fault. (fault ≡ MessageFault.Reference) × (spec.is_referred (Some order.now) group.now ≡ false)) }
 {
     if !has_reference(group) {

@@ -1,6 +1,6 @@
 //! The parts of a message, and the segments of a kind in a part.
 ghost use Rattle.std.specs.Prelude.{◌≡◌, ◌≢◌, ◌≤◌, length, drop, map, not, IfOk, IfErr, option_map};
-ghost use Rattle.std.specs.List.{prefix_len};
+ghost use Rattle.std.specs.List.{list_any, prefix_len};
 ghost use Rattle.edi_orders.specs.Parts as spec;
 
 use edi_tokens::Segment;
@@ -19,11 +19,25 @@ pub fn is_uns(segment: &Segment) -> bool
     segment.tag == *b"UNS"
 }
 
+/// Whether a segment begins a packing group.
+pub fn is_cps(segment: &Segment) -> bool
+    ensures { result ≡ spec.is_cps segment.now }
+{
+    segment.tag == *b"CPS"
+}
+
+/// Whether one of the segments is a line item.
+pub fn has_lin(segments: &[Segment]) -> bool
+    ensures { result ≡ list_any spec.is_lin segments.now }
+{
+    segments.iter().any(|segment| is_lin(segment))
+}
+
 // Whether a header or a line group ends before a segment.
 fn ends_part(segment: &Segment) -> bool
     ensures { result ≡ spec.ends_part segment.now }
 {
-    is_lin(segment) || segment.tag == *b"CPS" || is_uns(segment) || segment.tag == *b"UNT"
+    is_lin(segment) || is_cps(segment) || is_uns(segment) || segment.tag == *b"UNT"
 }
 
 // How many segments stand before the first that ends a part.

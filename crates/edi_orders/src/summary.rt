@@ -1,10 +1,9 @@
 //! What stands in the summary of a message.
 ghost use Rattle.std.specs.Prelude.{◌≡◌, length, filter, option_map};
-ghost use Rattle.std.specs.List.{list_any};
 ghost use Rattle.edi_orders.specs.Parts as parts;
 ghost use Rattle.edi_orders.specs.Summary as spec;
 
-use crate::parts::{has_qualified, is_lin, is_uns, only_qualified};
+use crate::parts::{has_lin, has_qualified, is_lin, is_uns, only_qualified};
 use edi_base::counts;
 use edi_tokens::Segment;
 
@@ -36,20 +35,13 @@ fn behind_uns(message: &[Segment]) -> &[Segment]
     &[]
 }
 
-// Whether one of the segments is a line item.
-fn has_line(segments: &[Segment]) -> bool
-    ensures { result ≡ list_any parts.is_lin segments.now }
-{
-    segments.iter().any(|segment| is_lin(segment))
-}
-
 /// Whether there is one UNS, whose element (0081) is S, and no LIN behind it.
 pub fn has_summary(message: &[Segment]) -> bool
     ensures { result ≡ spec.has_summary message.now }
 {
     match only_section(message) {
         Some(section) => section.component(0, 0) == b"S".as_slice()
-            && !has_line(behind_uns(message)),
+            && !has_lin(behind_uns(message)),
         None => false,
     }
 }

@@ -1,7 +1,0 @@
-use Rattle.std.proofs.Common.{◌≡◌, ◌++◌, drop}
-use Rattle.edi_goods.specs.Receipt.{accepted_amounts}
-use Rattle.edi_goods.proofs.received.accepted_amounts.Given as goal
-
--- the amounts are those so far and those of the rest
-abbrev pub invariant-loop-line : goal.invariant-loop-line
-invariant-loop-line l = accepted_amounts l.lines ≡ l.amounts.items ++ accepted_amounts (drop l.line-index l.lines)
