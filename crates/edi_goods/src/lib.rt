@@ -13,3 +13,6 @@ mod units;
 pub use despatch::{Despatch, DespatchLine, Unit};
 pub use edi_orders::MessageFault;
 pub use receipt::{Receipt, ReceiptLine, ReceiptUnit};
+
+#[cfg(test)]
+mod tests;
