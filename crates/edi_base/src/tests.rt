@@ -192,3 +192,53 @@ fn a_text_comes_again(rt: HostRuntime) -> Result<(), Fail> {
     }
     Ok(())
 }
+
+#[test]
+fn lengths_and_characters(rt: HostRuntime) {
+    for (low, high, is_right) in [(0, 3, true), (3, 3, true), (4, 9, false), (0, 2, false)] {
+        assert_eq!(rt; has_length(low, high, b"a 1"), is_right, "{low} to {high}");
+    }
+    assert!(rt; all_printable(b" ~"));
+    assert!(rt; !all_printable(b"a\x7f"));
+    assert!(rt; !all_printable(b"a\x1f"));
+    assert!(rt; are_digits(1, 2, b"09"));
+    assert!(rt; !are_digits(1, 2, b"0x"));
+    assert!(rt; !are_digits(1, 2, b"123"));
+}
+
+#[test]
+fn numbers_of_digits(rt: HostRuntime) {
+    for (digits, number, count) in [
+        ("0", Some(0), Some(0)),
+        ("000012", Some(12), Some(12)),
+        ("999999", Some(999_999), Some(999_999)),
+        ("1000000", Some(1_000_000), None),
+        ("000000999999999", Some(999_999_999), None),
+        ("1000000000", None, None),
+        ("99999999999999999999999999999999999", None, None),
+    ] {
+        assert_eq!(rt; value_of(digits.as_bytes()), number, "{digits}");
+        assert_eq!(rt; count_of(digits.as_bytes()), count, "{digits}");
+    }
+    assert_eq!(rt; count_of(b"1x"), None);
+    assert!(rt; counts(b"012", 12));
+    assert!(rt; !counts(b"012", 13));
+    assert!(rt; !counts(b"", 0));
+}
+
+#[test]
+fn numbers_that_come_twice(rt: HostRuntime) -> Result<(), Fail> {
+    let alloc = rt.alloc();
+    assert!(rt; !number_twice(alloc, &[])?);
+    assert!(rt; !number_twice(alloc, &[3, 1, 2])?);
+    assert!(rt; number_twice(alloc, &[3, 1, 2, 3])?);
+    assert!(rt; number_twice(alloc, &[0, 0])?);
+    Ok(())
+}
+
+#[test]
+fn a_copy_has_the_same_bytes(rt: HostRuntime) -> Result<(), Fail> {
+    let copy = copied(rt.alloc(), b"\x00\xff")?;
+    assert_eq!(rt; copy.as_slice(), b"\x00\xff".as_slice());
+    Ok(())
+}

@@ -31,14 +31,19 @@ enum Reader {
 // What is told of a text that is edited: `ok` or a code; the place that the edit replaces, and what then stands there.
 type Edit = (&'static str, &'static str, &'static str);
 
+// The message of an interchange.
+fn first_message(alloc: Global, text: &str) -> Result<RawMessage, Fail> {
+    let interchange = open(alloc, read_all(alloc, text.as_bytes())?)?;
+    Ok(interchange.messages.into_vec().pop().ok_or("a message")?)
+}
+
 // The message of these segments, in an interchange that begins with a service string or nothing.
 fn message_under(alloc: Global, service: &str, segments: &str) -> Result<RawMessage, Fail> {
     let count = segments.matches("'").count().saturating_add(1);
     let text = format!(in alloc;
         "{service}UNB+UNOC:3+5412345000013:14+5412345000006:14+250603:0915+1001'{segments}UNT+{count}+1'UNZ+1+1001'"
     )?;
-    let interchange = open(alloc, read_all(alloc, text.as_bytes())?)?;
-    Ok(interchange.messages.into_vec().pop().ok_or("a message")?)
+    first_message(alloc, text.as_str())
 }
 
 fn message(alloc: Global, segments: &str) -> Result<RawMessage, Fail> {

@@ -1,22 +1,69 @@
 use super::{
-    BUYER, Edit, ORDER, Reader, SUPPLIER, edited, edits_are_told, message, message_under, told,
+    BUYER, Edit, ORDER, Reader, SUPPLIER, edited, edits_are_told, first_message, message,
+    message_under, told,
 };
-use crate::{Order, OrderLine};
+use crate::Order;
+use edi_envelope::RawMessage;
+use std::alloc::Global;
+use std::process::Abort;
 use std::test::Fail;
+
+// Of an order with one line, whatever its spelling.
+fn order_is(
+    rt: &impl Abort,
+    message: &RawMessage,
+    alloc: Global,
+    number: &str,
+    supplier: &[u8; 13],
+    quantity: u32,
+) -> Result<(), Fail> {
+    let order = Order::read(alloc, message)?;
+    assert_eq!(rt; order.number.as_slice(), number.as_bytes());
+    assert_eq!(rt; *order.buyer.digits(), *BUYER);
+    assert_eq!(rt; *order.supplier.digits(), *supplier);
+    let lines = order.lines.as_slice();
+    assert_eq!(rt; lines.len(), 1, "in {number}");
+    let line = lines.first().ok_or("a line")?;
+    assert_eq!(rt; line.line, 1);
+    assert_eq!(rt; *line.gtin.digits(), *b"04000862141404");
+    assert_eq!(rt; line.quantity, quantity);
+    Ok(())
+}
 
 #[test]
 fn an_order_is_read(rt: HostRuntime) -> Result<(), Fail> {
     let alloc = rt.alloc();
-    let order = Order::read(alloc, &message(alloc, ORDER)?)?;
-    assert_eq!(rt; order.number.as_slice(), b"128576".as_slice());
-    assert_eq!(rt; *order.buyer.digits(), *BUYER);
-    assert_eq!(rt; *order.supplier.digits(), *SUPPLIER);
-    let lines = order.lines.as_slice();
-    assert_eq!(rt; lines.len(), 1);
-    assert_eq!(rt; lines[0].line, 1);
-    assert_eq!(rt; *lines[0].gtin.digits(), *b"04000862141404");
-    assert_eq!(rt; lines[0].quantity, 48);
+    for association in [":EAN010", ":EAN008", ""] {
+        let segments = edited(alloc, ORDER, ":EAN010", association)?;
+        let message = message(alloc, segments.as_str())?;
+        order_is(&rt, &message, alloc, "128576", SUPPLIER, 48)?;
+    }
     Ok(())
+}
+
+#[test]
+fn an_order_for_another_supplier_is_read(rt: HostRuntime) -> Result<(), Fail> {
+    let alloc = rt.alloc();
+    let segments = edited(alloc, ORDER, "4012345500004", "8712345000004")?;
+    let message = message(alloc, segments.as_str())?;
+    order_is(&rt, &message, alloc, "128576", b"8712345000004", 48)
+}
+
+// The order in other service characters, with an end of line behind each segment; and another order, with a free text
+// that has the usual ones as data.
+const RESPELLED: &str =
+    "UNA*|,! ~\r\nUNB|UNOC*3|5412345000013*14|5412345000006*14|250603*0915|1001~\r\nUNH|1|ORDERS*D*01B*UN*EAN010~\r\nBGM|220|128576|9~\r\nDTM|137*20250603*102~\r\nNAD|BY|5412345000013**9~\r\nNAD|SU|4012345500004**9~\r\nLIN|1||4000862141404*SRV~\r\nQTY|21*48~\r\nUNS|S~\r\nCNT|2*1~\r\nUNT|10|1~\r\nUNZ|1|1001~\r\n";
+
+const WITH_FREE_TEXT: &str =
+    "UNA*|,! ~UNB|UNOC*3|5412345000013*14|5412345000006*14|250603*0915|1002~UNH|1|ORDERS*D*01B*UN*EAN010~BGM|220|128577|9~DTM|137*20250603*102~FTX|AAI|||Dock 3+4, O'Neill?~NAD|BY|5412345000013**9~NAD|SU|4012345500004**9~LIN|1||4000862141404*SRV~QTY|21*30~UNS|S~CNT|2*1~UNT|11|1~UNZ|1|1002~";
+
+#[test]
+fn an_order_is_read_in_any_spelling(rt: HostRuntime) -> Result<(), Fail> {
+    let alloc = rt.alloc();
+    let same = first_message(alloc, RESPELLED)?;
+    order_is(&rt, &same, alloc, "128576", SUPPLIER, 48)?;
+    let other = first_message(alloc, WITH_FREE_TEXT)?;
+    order_is(&rt, &other, alloc, "128577", SUPPLIER, 30)
 }
 
 // Lines whose numbers do not rise.
