@@ -85,6 +85,7 @@ a_despatch : despatch_of (despatch (cps ∷ pac ∷ gin first ∷ lin (codes "1"
   }
       ∷ [];
 })
+unfolding despatch_of
 a_despatch = refl
 
 -- the line's own order goes before the header's, and a unit without lines is not read
@@ -99,24 +100,31 @@ own_order : despatch_of (message (codes "DESADV") (unh ∷ bgm (codes "351") (co
       }
           ∷ [];
     })
+unfolding despatch_of
 own_order = refl
 
 line_outside_of_units : despatch_of (despatch (lin (codes "0") item ∷ cps ∷ gin first ∷ lin (codes "1") item ∷ qty (codes "12") (codes "12") ∷ unt ∷ [])) ≡ Err Unit
+unfolding despatch_of
 line_outside_of_units = refl
 
 quantity_of_the_second_unit : despatch_of (despatch (cps ∷ lin (codes "1") item ∷ qty (codes "12") (codes "12") ∷ cps ∷ gin second ∷ lin (codes "1") item ∷ qty (codes "12") (codes "0") ∷ unt ∷ [])) ≡ Err Quantity
+unfolding despatch_of
 quantity_of_the_second_unit = refl
 
 no_order : despatch_of (message (codes "DESADV") (unh ∷ bgm (codes "351") (codes "DA1") ∷ dtm ∷ supplier ∷ cps ∷ lin (codes "1") item ∷ qty (codes "12") (codes "12") ∷ unt ∷ [])) ≡ Err Reference
+unfolding despatch_of
 no_order = refl
 
 wrong_check_digit : despatch_of (despatch (cps ∷ gin (codes "340123455000000013") ∷ lin (codes "1") item ∷ qty (codes "12") (codes "12") ∷ unt ∷ [])) ≡ Err Unit
+unfolding despatch_of
 wrong_check_digit = refl
 
 one_sscc_twice : despatch_of (despatch (cps ∷ gin first ∷ lin (codes "1") item ∷ qty (codes "12") (codes "12") ∷ cps ∷ gin first ∷ lin (codes "1") item ∷ qty (codes "12") (codes "12") ∷ unt ∷ [])) ≡ Err Unit
+unfolding despatch_of
 one_sscc_twice = refl
 
 no_line : despatch_of (despatch (cps ∷ unt ∷ [])) ≡ Err NoLine
+unfolding despatch_of
 no_line = refl
 
 -- a receiving advice of one unit with these lines
@@ -135,14 +143,18 @@ a_receipt : receipt_of (receipt (lin (codes "1") item ∷ qty (codes "194") (cod
   }
       ∷ [];
 })
+unfolding receipt_of
 a_receipt = refl
 
 great_sum : receipt_of (receipt (lin (codes "1") item ∷ qty (codes "194") (codes "500000000") ∷ lin (codes "2") item ∷ qty (codes "194") (codes "500000000") ∷ unt ∷ [])) ≡ Err Quantity
+unfolding receipt_of
 great_sum = refl
 
 no_quantity : receipt_of (receipt (lin (codes "1") item ∷ qty (codes "12") (codes "10") ∷ unt ∷ [])) ≡ Err Quantity
+unfolding receipt_of
 no_quantity = refl
 
 -- a UNS ends the line group, not the unit, and a LIN behind it is of the unit
 section_in_a_unit : receipt_of (receipt (lin (codes "1") item ∷ qty (codes "194") (codes "10") ∷ segment (codes "UNS") [] ∷ qty (codes "194") (codes "1") ∷ lin (codes "2") item ∷ unt ∷ [])) ≡ Err Quantity
+unfolding receipt_of
 section_in_a_unit = refl

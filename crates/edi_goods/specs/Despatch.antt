@@ -93,5 +93,5 @@ contents_of message = record {
 }
 
 -- the despatch advice of a message where no condition holds, else the lowest fault
-abbrev pub despatch_of : RawMessage → Result Despatch MessageFault
+unfoldable pub despatch_of : RawMessage → Result Despatch MessageFault
 despatch_of m = judged (λ fault. holds fault m) (contents_of m.segments)

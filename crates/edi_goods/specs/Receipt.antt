@@ -99,5 +99,5 @@ contents_of message = record {
 }
 
 -- the receiving advice of a message where no condition holds, else the lowest fault
-abbrev pub receipt_of : RawMessage → Result Receipt MessageFault
+unfoldable pub receipt_of : RawMessage → Result Receipt MessageFault
 receipt_of m = judged (λ fault. holds fault m) (contents_of m.segments)

@@ -94,6 +94,7 @@ impl Despatch {
     /// date, one supplier and at most one buyer, and units with lines, each unit with an identifier and an SSCC of its own,
     /// each line with an item, a quantity despatched and an order. Else the lowest fault of the message, wherever in it
     /// that stands.
+    #[tactic(auto, unfolding(crate::specs::Despatch::despatch_of))]
     pub fn read(alloc: Global, message: &RawMessage) -> Result<Despatch, MessageFault>
         ensures ok { IfOk result (λ despatch. spec.despatch_of message.now ≡ Ok despatch) }
         ensures err { IfErr result (λ fault. fault ≢ MessageFault.Memory → spec.despatch_of message.now ≡ Err fault) }

@@ -78,6 +78,7 @@ impl Receipt {
     /// date, one supplier and at most one buyer, and units with lines, each unit with an identifier and an SSCC of its own,
     /// each line with an item and at least one of the quantities 194, 195 and 196, none twice. Else the lowest fault of the
     /// message, wherever in it that stands.
+    #[tactic(auto, unfolding(crate::specs::Receipt::receipt_of))]
     pub fn read(alloc: Global, message: &RawMessage) -> Result<Receipt, MessageFault>
         ensures ok { IfOk result (λ receipt. spec.receipt_of message.now ≡ Ok receipt) }
         ensures err { IfErr result (λ fault. fault ≢ MessageFault.Memory → spec.receipt_of message.now ≡ Err fault) }

@@ -73,34 +73,44 @@ an_order : order_of (order (dtm (codes "20250603")) (lin (codes "1")) (qty (code
   supplier = codes "4012345500004";
   lines = record { line = 1; gtin = codes "04000862141404"; quantity = 48 } ∷ [];
 })
+unfolding order_of
 an_order = refl
 
 quantity_zero : order_of (order (dtm (codes "20250603")) (lin (codes "1")) (qty (codes "0"))) ≡ Err Quantity
+unfolding order_of
 quantity_zero = refl
 
 no_leap_day : order_of (order (dtm (codes "20250229")) (lin (codes "1")) (qty (codes "48"))) ≡ Err Date
+unfolding order_of
 no_leap_day = refl
 
 line_zero_before_quantity_zero : order_of (order (dtm (codes "20250603")) (lin (codes "0")) (qty (codes "0"))) ≡ Err Line
+unfolding order_of
 line_zero_before_quantity_zero = refl
 
 -- two BGM, no DTM and quantity 0
 three_faults : order_of (message (unh ∷ bgm ∷ bgm ∷ buyer ∷ supplier ∷ lin (codes "1") ∷ qty (codes "0") ∷ uns ∷ cnt (codes "1") ∷ unt ∷ [])) ≡ Err Beginning
+unfolding order_of
 three_faults = refl
 
 no_supplier : order_of (message (unh ∷ bgm ∷ dtm (codes "20250603") ∷ buyer ∷ lin (codes "1") ∷ supplier ∷ qty (codes "48") ∷ uns ∷ unt ∷ [])) ≡ Err Parties
+unfolding order_of
 no_supplier = refl
 
 line_in_the_summary : order_of (message (unh ∷ bgm ∷ dtm (codes "20250603") ∷ buyer ∷ supplier ∷ uns ∷ lin (codes "1") ∷ qty (codes "48") ∷ unt ∷ [])) ≡ Err Summary
+unfolding order_of
 line_in_the_summary = refl
 
 one_number_twice : order_of (message (unh ∷ bgm ∷ dtm (codes "20250603") ∷ buyer ∷ supplier ∷ lin (codes "1") ∷ qty (codes "48") ∷ lin (codes "01") ∷ qty (codes "0") ∷ uns ∷ unt ∷ [])) ≡ Err Line
+unfolding order_of
 one_number_twice = refl
 
 wrong_control : order_of (message (unh ∷ bgm ∷ dtm (codes "20250603") ∷ buyer ∷ supplier ∷ uns ∷ cnt (codes "1") ∷ unt ∷ [])) ≡ Err Control
+unfolding order_of
 wrong_control = refl
 
 no_line : order_of (message (unh ∷ bgm ∷ dtm (codes "20250603") ∷ buyer ∷ supplier ∷ uns ∷ cnt (codes "0") ∷ unt ∷ [])) ≡ Err NoLine
+unfolding order_of
 no_line = refl
 
 its_supplier : supplier_of (unh ∷ bgm ∷ buyer ∷ supplier ∷ uns ∷ unt ∷ []) ≡ Some (codes "4012345500004")
@@ -163,20 +173,26 @@ responded answer = record {
 }
 
 a_change : response_of (response (codes "4") (answered (codes "3") ∷ delivered (codes "113") (codes "36") ∷ uns ∷ unt ∷ [])) ≡ Ok (responded (Lines (record { order_line = None; gtin = codes "04000862141404"; answer = Changed 36 } ∷ [])))
+unfolding response_of
 a_change = refl
 
 delivered_goes_before_ordered : response_of (response (codes "9") (answered (codes "6") ∷ delivered (codes "113") (codes "0") ∷ delivered (codes "21") (codes "9") ∷ uns ∷ unt ∷ [])) ≡ Ok (responded (Lines (record { order_line = None; gtin = codes "04000862141404"; answer = Changed 0 } ∷ [])))
+unfolding response_of
 delivered_goes_before_ordered = refl
 
 all_refused : response_of (response (codes "27") (uns ∷ unt ∷ [])) ≡ Ok (responded AllRefused)
+unfolding response_of
 all_refused = refl
 
 -- the lines are counted, not read
 all_accepted : response_of (response (codes "29") (answered (codes "1") ∷ uns ∷ cnt (codes "1") ∷ unt ∷ [])) ≡ Ok (responded AllAccepted)
+unfolding response_of
 all_accepted = refl
 
 another_order : response_of (response (codes "4") (answered (codes "5") ∷ segment (codes "RFF") ((codes "ON" ∷ codes "128577" ∷ []) ∷ []) ∷ uns ∷ unt ∷ [])) ≡ Err Reference
+unfolding response_of
 another_order = refl
 
 no_answered_line : response_of (response (codes "9") (uns ∷ unt ∷ [])) ≡ Err NoLine
+unfolding response_of
 no_answered_line = refl

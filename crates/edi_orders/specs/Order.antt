@@ -49,5 +49,5 @@ contents_of message = record {
 }
 
 -- the order of a message where no condition holds, else the lowest fault
-abbrev pub order_of : RawMessage → Result Order MessageFault
+unfoldable pub order_of : RawMessage → Result Order MessageFault
 order_of m = judged (λ fault. holds fault m) (contents_of m.segments)

@@ -119,5 +119,5 @@ contents_of message = record {
 }
 
 -- the response of a message where no condition holds, else the lowest fault
-abbrev pub response_of : RawMessage → Result Response MessageFault
+unfoldable pub response_of : RawMessage → Result Response MessageFault
 response_of m = judged (λ fault. holds fault m) (contents_of m.segments)

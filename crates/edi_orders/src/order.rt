@@ -58,6 +58,7 @@ impl Order {
     /// The order that a message is: ORDERS of the directory D.01B with BGM 1001 220 and 1225 9, one document date, one
     /// buyer and one supplier, lines each with its own number, an item and a quantity ordered, and one UNS. Else the
     /// lowest fault of the message, wherever in it that stands.
+    #[tactic(auto, unfolding(crate::specs::Order::order_of))]
     pub fn read(alloc: Global, message: &RawMessage) -> Result<Order, MessageFault>
         ensures ok { IfOk result (λ order. spec.order_of message.now ≡ Ok order) }
         ensures err { IfErr result (λ fault. fault ≢ MessageFault.Memory → spec.order_of message.now ≡ Err fault) }

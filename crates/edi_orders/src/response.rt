@@ -98,6 +98,7 @@ impl Response {
     /// document date, one buyer and one supplier, one reference to an order, lines each with an item, an action, the
     /// quantity of a change and at most one reference to that order, and one UNS. Lines are not read with 27 and 29.
     /// Else the lowest fault of the message, wherever in it that stands.
+    #[tactic(auto, unfolding(crate::specs::Response::response_of))]
     pub fn read(alloc: Global, message: &RawMessage) -> Result<Response, MessageFault>
         ensures ok { IfOk result (λ response. spec.response_of message.now ≡ Ok response) }
         ensures err { IfErr result (λ fault. fault ≢ MessageFault.Memory → spec.response_of message.now ≡ Err fault) }
