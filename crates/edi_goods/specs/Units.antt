@@ -45,6 +45,7 @@ sscc_in gin = if length gin.elements == 2 && length (element_at gin.elements 1) 
 abbrev pub sscc : List Segment → Option (List ℕ)
 sscc unit = option_and_then sscc_in (only_qualified (codes "GIN") (codes "BJ") (head unit))
 
+-- the same, and no digits where there is none
 abbrev pub sscc_or_none : List Segment → List ℕ
 sscc_or_none unit = unwrap_or (sscc unit) []
 

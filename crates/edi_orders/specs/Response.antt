@@ -60,7 +60,8 @@ action group = action_of (component (line group) 1 0)
 abbrev pub changed : List Segment → Option ℕ
 changed group = if has_qualified (codes "QTY") (codes "113") group then quantity_of (codes "113") 0 group else quantity_of (codes "21") 0 group
 
--- the answer to a line; only a change has a quantity
+-- the answer to a line; only a change has a quantity. Where there is no action, that is a fault of the line and none of
+-- its quantity.
 abbrev pub answer_by : Option Action → List Segment → Option LineAnswer
 answer_by (Some actions.Accept) group = Some line_answers.Accepted
 answer_by (Some actions.Refuse) group = Some line_answers.Refused
