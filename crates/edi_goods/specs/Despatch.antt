@@ -5,14 +5,14 @@ use Rattle.std.specs.Option.{unwrap_or}
 use Rattle.std.specs.Str.{bytes_eq}
 use Rattle.edi_tokens.specs.declared.segment.Segment.{Segment}
 use Rattle.edi_envelope.specs.declared.interchange.RawMessage.{RawMessage}
-use Rattle.edi_orders.specs.Fault.{judged}
-use Rattle.edi_orders.specs.Header.{is_type, begins_as, document_number, function, has_date, party}
-use Rattle.edi_orders.specs.Lines.{gtin, quantity_of}
-use Rattle.edi_orders.specs.Parts.{header, line_groups}
-use Rattle.edi_orders.specs.References.{has_reference, reference, is_reference, order, group_order, group_line}
-use Rattle.edi_orders.specs.Summary.{line_count, is_controlled}
-use Rattle.edi_orders.specs.declared.fault.MessageFault.{MessageFault}
-use Rattle.edi_orders.specs.declared.fault.MessageFault.TheVariants.{MessageType, Beginning, Function, Date, Parties, Summary, Line, Quantity, Reference, Unit, Control, NoLine, Memory}
+use Rattle.edi_messages.specs.Fault.{judged}
+use Rattle.edi_messages.specs.Header.{is_type, begins_as, document_number, function, has_date, party}
+use Rattle.edi_messages.specs.Lines.{gtin, quantity_of}
+use Rattle.edi_messages.specs.Parts.{header, line_groups}
+use Rattle.edi_messages.specs.References.{has_reference, reference, is_reference, order, group_order, group_line}
+use Rattle.edi_messages.specs.Summary.{line_count, is_controlled}
+use Rattle.edi_messages.specs.declared.fault.MessageFault.{MessageFault}
+use Rattle.edi_messages.specs.declared.fault.MessageFault.TheVariants.{MessageType, Beginning, Function, Date, Parties, Summary, Line, Quantity, Reference, Unit, Control, NoLine, Memory}
 use Rattle.edi_goods.specs.Parties.{has_parties, buyer}
 use Rattle.edi_goods.specs.Units.{read_units, has_lines, has_units, sscc_or_none}
 use Rattle.edi_goods.specs.declared.despatch.Despatch.{Despatch}

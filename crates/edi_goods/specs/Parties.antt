@@ -1,8 +1,8 @@
 -- The parties of a despatch advice or a receiving advice, whose header may leave out the buyer.
 use Rattle.std.specs.Prelude.{ℕ, Bool, not, ◌||◌, ◌&&◌, List, is_some, codes, Option}
 use Rattle.edi_tokens.specs.declared.segment.Segment.{Segment}
-use Rattle.edi_orders.specs.Header.{party}
-use Rattle.edi_orders.specs.Parts.{header, has_qualified}
+use Rattle.edi_messages.specs.Header.{party}
+use Rattle.edi_messages.specs.Parts.{header, has_qualified}
 
 -- there is no NAD with 3035 BY in the header, or one, which names the buyer
 abbrev pub has_buyer_or_none : List Segment → Bool

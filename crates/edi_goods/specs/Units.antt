@@ -8,8 +8,8 @@ use Rattle.gs1_ids.specs.Sscc.{sscc_of}
 use Rattle.edi_tokens.specs.declared.segment.Segment.{Segment}
 use Rattle.edi_tokens.specs.Segment.{element_at}
 use Rattle.edi_envelope.specs.Segments.{component, first_segment, is_unt}
-use Rattle.edi_orders.specs.Lines.{is_line}
-use Rattle.edi_orders.specs.Parts.{is_lin, is_cps, line_groups, only_qualified}
+use Rattle.edi_messages.specs.Lines.{is_line}
+use Rattle.edi_messages.specs.Parts.{is_lin, is_cps, line_groups, only_qualified}
 
 -- a segment before which a unit ends
 abbrev pub ends_unit : Segment → Bool

@@ -1,15 +1,15 @@
 //! The units and lines of a despatch advice, read one condition after another.
 ghost use Rattle.std.specs.Prelude.{◌≡◌, ◌≢◌, IfOk, IfErr, true, false, map, is_some, option_map, option_and_then};
 ghost use Rattle.std.specs.List.{list_all};
-ghost use Rattle.edi_orders.specs.References.{group_order, group_line};
+ghost use Rattle.edi_messages.specs.References.{group_order, group_line};
 ghost use Rattle.edi_goods.specs.Despatch as spec;
 
 use crate::despatch::DespatchLine;
 use crate::units::ItemUnit;
 use edi_base::copied;
-use edi_orders::MessageFault;
-use edi_orders::lines::{LineItem, quantity_of};
-use edi_orders::references::{NamedOrder, has_reference, read_reference, reference};
+use edi_messages::MessageFault;
+use edi_messages::lines::{LineItem, quantity_of};
+use edi_messages::references::{NamedOrder, has_reference, read_reference, reference};
 use edi_tokens::{Items, Segment};
 use std::alloc::Global;
 use std::marker::Model;
@@ -43,7 +43,7 @@ pub(crate) struct DespatchUnit<'a, 'b> {
 impl<'a, 'b> Model for DespatchUnit<'a, 'b> {
     ghost use Rattle.std.specs.Prelude.{◌≡◌, List};
     ghost use Rattle.edi_tokens.specs.declared.segment.Segment.{Segment};
-    ghost use Rattle.edi_orders.specs.Parts.{line_groups};
+    ghost use Rattle.edi_messages.specs.Parts.{line_groups};
 
     ghost Value = { List Segment };
 
@@ -115,7 +115,7 @@ pub(crate) struct ReferredUnit<'a, 'b> {
 impl<'a, 'b> Model for ReferredUnit<'a, 'b> {
     ghost use Rattle.std.specs.Prelude.{◌≡◌, List};
     ghost use Rattle.edi_tokens.specs.declared.segment.Segment.{Segment};
-    ghost use Rattle.edi_orders.specs.Parts.{line_groups};
+    ghost use Rattle.edi_messages.specs.Parts.{line_groups};
 
     ghost Value = { List Segment };
 

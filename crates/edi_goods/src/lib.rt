@@ -11,7 +11,7 @@ mod sums;
 mod units;
 
 pub use despatch::{Despatch, DespatchLine, Unit};
-pub use edi_orders::MessageFault;
+pub use edi_messages::MessageFault;
 pub use receipt::{Receipt, ReceiptLine, ReceiptUnit};
 
 #[cfg(test)]

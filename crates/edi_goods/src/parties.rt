@@ -1,11 +1,11 @@
 //! The parties of a message that may leave out the buyer.
 ghost use Rattle.std.specs.Prelude.{◌≡◌, true, false, Some, IfOk, IfErr, codes};
-ghost use Rattle.edi_orders.specs.Header.{party};
+ghost use Rattle.edi_messages.specs.Header.{party};
 ghost use Rattle.edi_goods.specs.Parties as spec;
 
-use edi_orders::MessageFault;
-use edi_orders::header::party;
-use edi_orders::parts::{has_qualified, header};
+use edi_messages::MessageFault;
+use edi_messages::header::party;
+use edi_messages::parts::{has_qualified, header};
 use edi_tokens::Segment;
 use gs1_ids::Gln;
 

@@ -1,16 +1,16 @@
 //! The units and lines of a receiving advice, read one condition after another.
 ghost use Rattle.std.specs.Prelude.{◌≡◌, ◌≢◌, ◌||◌, IfOk, IfErr, true, false, map, is_some};
 ghost use Rattle.std.specs.List.{list_all};
-ghost use Rattle.edi_orders.specs.Lines.{quantity_of};
+ghost use Rattle.edi_messages.specs.Lines.{quantity_of};
 ghost use Rattle.edi_goods.specs.Receipt as spec;
 
 use crate::kind::Kind;
 use crate::receipt::ReceiptLine;
 use crate::sums::{Amount, sums_within};
 use crate::units::ItemUnit;
-use edi_orders::MessageFault;
-use edi_orders::lines::{LineItem, quantity_of};
-use edi_orders::parts::has_qualified;
+use edi_messages::MessageFault;
+use edi_messages::lines::{LineItem, quantity_of};
+use edi_messages::parts::has_qualified;
 use edi_tokens::Segment;
 use std::alloc::Global;
 use std::marker::Model;

@@ -8,7 +8,7 @@ ghost use Rattle.edi_base.specs.Limits.{greatest};
 ghost use Rattle.edi_goods.specs.Sums as spec;
 
 use edi_base::GREATEST;
-use edi_orders::MessageFault;
+use edi_messages::MessageFault;
 use gs1_ids::Gtin;
 use std::alloc::Global;
 use std::collections::BTreeMap;

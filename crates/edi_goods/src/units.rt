@@ -2,13 +2,13 @@
 ghost use Rattle.std.specs.Prelude.{◌≡◌, ◌≢◌, ◌≤◌, true, false, not, length, map, IfOk, IfErr};
 ghost use Rattle.std.specs.List.{list_all, list_any, prefix_len};
 ghost use Rattle.edi_base.specs.Seen as twice;
-ghost use Rattle.edi_orders.specs.Parts.{is_lin, is_cps, line_groups};
+ghost use Rattle.edi_messages.specs.Parts.{is_lin, is_cps, line_groups};
 ghost use Rattle.edi_goods.specs.Units as spec;
 
 use edi_base::Seen;
-use edi_orders::MessageFault;
-use edi_orders::lines::{LineItem, line_items};
-use edi_orders::parts::{has_lin, is_cps, is_lin, only_qualified};
+use edi_messages::MessageFault;
+use edi_messages::lines::{LineItem, line_items};
+use edi_messages::parts::{has_lin, is_cps, is_lin, only_qualified};
 use edi_tokens::Segment;
 use gs1_ids::Sscc;
 use std::alloc::Global;
@@ -24,7 +24,7 @@ pub(crate) struct ItemUnit<'a> {
 impl<'a> Model for ItemUnit<'a> {
     ghost use Rattle.std.specs.Prelude.{◌≡◌, List};
     ghost use Rattle.edi_tokens.specs.declared.segment.Segment.{Segment};
-    ghost use Rattle.edi_orders.specs.Parts.{line_groups};
+    ghost use Rattle.edi_messages.specs.Parts.{line_groups};
 
     ghost Value = { List Segment };
 

@@ -2,49 +2,24 @@
 use Rattle.std.proofs.Common.{◌≡◌, ℕ, List, [], ◌∷◌, Some, None, Ok, Err, codes, refl}
 use Rattle.edi_tokens.specs.declared.segment.Segment.{Segment}
 use Rattle.edi_envelope.specs.declared.interchange.RawMessage.{RawMessage}
-use Rattle.edi_orders.specs.Header.{supplier_of}
+use Rattle.edi_messages.proofs.Examples.{segment, one, unh, bgm, nad, lin, uns, unt, buyer, supplier}
 use Rattle.edi_orders.specs.Order.{order_of}
 use Rattle.edi_orders.specs.Response.{response_of}
-use Rattle.edi_orders.specs.Values.{is_date, quantity}
 use Rattle.edi_orders.specs.declared.response.Answer.{Answer}
 use Rattle.edi_orders.specs.declared.response.Answer.TheVariants.{Lines, AllAccepted, AllRefused}
 use Rattle.edi_orders.specs.declared.response.LineAnswer.TheVariants.{Changed}
 use Rattle.edi_orders.specs.declared.response.Response.{Response}
-use Rattle.edi_orders.specs.declared.fault.MessageFault.TheVariants.{Beginning, Date, Parties, Summary, Line, Quantity, Reference, Control, NoLine}
+use Rattle.edi_messages.specs.declared.fault.MessageFault.TheVariants.{Beginning, Date, Parties, Summary, Line, Quantity, Reference, Control, NoLine}
 use Rattle.std.specs.Prelude.{true, false}
-
-abbrev segment : List ℕ → List (List (List ℕ)) → Segment
-segment tag elements = record { tag = tag; elements = elements }
-
-abbrev one : List ℕ → List (List ℕ)
-one bytes = bytes ∷ []
-
-abbrev unh : Segment
-unh = segment (codes "UNH") (one (codes "1") ∷ (codes "ORDERS" ∷ codes "D" ∷ codes "01B" ∷ codes "UN" ∷ codes "EAN010" ∷ []) ∷ [])
-
-abbrev bgm : Segment
-bgm = segment (codes "BGM") (one (codes "220") ∷ one (codes "128576") ∷ one (codes "9") ∷ [])
 
 abbrev dtm : List ℕ → Segment
 dtm day = segment (codes "DTM") ((codes "137" ∷ day ∷ codes "102" ∷ []) ∷ [])
 
-abbrev nad : List ℕ → List ℕ → Segment
-nad role gln = segment (codes "NAD") (one role ∷ (gln ∷ [] ∷ codes "9" ∷ []) ∷ [])
-
-abbrev lin : List ℕ → Segment
-lin number = segment (codes "LIN") (one number ∷ [] ∷ (codes "4000862141404" ∷ codes "SRV" ∷ []) ∷ [])
-
 abbrev qty : List ℕ → Segment
 qty quantity = segment (codes "QTY") ((codes "21" ∷ quantity ∷ []) ∷ [])
 
-abbrev uns : Segment
-uns = segment (codes "UNS") (one (codes "S") ∷ [])
-
 abbrev cnt : List ℕ → Segment
 cnt number = segment (codes "CNT") ((codes "2" ∷ number ∷ []) ∷ [])
-
-abbrev unt : Segment
-unt = segment (codes "UNT") (one (codes "10") ∷ one (codes "1") ∷ [])
 
 abbrev message : List Segment → RawMessage
 message segments = record {
@@ -56,12 +31,6 @@ message segments = record {
   association = codes "EAN010";
   segments = segments;
 }
-
-abbrev buyer : Segment
-buyer = nad (codes "BY") (codes "5412345000013")
-
-abbrev supplier : Segment
-supplier = nad (codes "SU") (codes "4012345500004")
 
 -- the order with these in the places of its date, its line and its quantity
 abbrev order : Segment → Segment → Segment → RawMessage
@@ -112,45 +81,6 @@ wrong_control = refl
 no_line : order_of (message (unh ∷ bgm ∷ dtm (codes "20250603") ∷ buyer ∷ supplier ∷ uns ∷ cnt (codes "0") ∷ unt ∷ [])) ≡ Err NoLine
 unfolding order_of
 no_line = refl
-
-its_supplier : supplier_of (unh ∷ bgm ∷ buyer ∷ supplier ∷ uns ∷ unt ∷ []) ≡ Some (codes "4012345500004")
-its_supplier = refl
-
-supplier_in_a_line : supplier_of (unh ∷ bgm ∷ buyer ∷ lin (codes "1") ∷ supplier ∷ uns ∷ unt ∷ []) ≡ None
-supplier_in_a_line = refl
-
-leap_year_0 : is_date (codes "102") (codes "00000229") ≡ true
-leap_year_0 = refl
-
-no_leap_year_1900 : is_date (codes "102") (codes "19000229") ≡ false
-no_leap_year_1900 = refl
-
-leap_year_2024 : is_date (codes "203") (codes "202402292359") ≡ true
-leap_year_2024 = refl
-
-hour_24 : is_date (codes "203") (codes "202402292400") ≡ false
-hour_24 = refl
-
-fraction_of_zeros : quantity (codes "12,000") ≡ Some 12
-fraction_of_zeros = refl
-
-fraction : quantity (codes "12.5") ≡ None
-fraction = refl
-
-mark_alone : quantity (codes "12.") ≡ None
-mark_alone = refl
-
-greatest : quantity (codes "999999999") ≡ Some 999_999_999
-greatest = refl
-
-above : quantity (codes "1000000000") ≡ None
-above = refl
-
-zeros_before : quantity (codes "00000000000000000000000000000000012") ≡ Some 12
-zeros_before = refl
-
-nothing_before_the_mark : quantity (codes ".5") ≡ None
-nothing_before_the_mark = refl
 
 -- a response with this function and these segments behind its header
 abbrev response : List ℕ → List Segment → RawMessage

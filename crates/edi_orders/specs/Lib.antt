@@ -1,10 +1,2 @@
-pub mod Fault
-pub mod Header
-pub mod Items
-pub mod Lines
 pub mod Order
-pub mod Parts
-pub mod References
 pub mod Response
-pub mod Summary
-pub mod Values

@@ -6,13 +6,13 @@ use Rattle.std.specs.Str.{bytes_eq}
 use Rattle.edi_base.specs.Seen.{has_number_twice}
 use Rattle.edi_tokens.specs.declared.segment.Segment.{Segment}
 use Rattle.edi_envelope.specs.declared.interchange.RawMessage.{RawMessage}
-use Rattle.edi_orders.specs.Parts.{line_groups}
-use Rattle.edi_orders.specs.Header.{is_type, begins_as, document_number, function, has_date, party}
-use Rattle.edi_orders.specs.Lines.{number_or_zero, gtin, is_line, quantity_of}
-use Rattle.edi_orders.specs.Summary.{has_summary, line_count, is_controlled}
-use Rattle.edi_orders.specs.Fault.{judged}
-use Rattle.edi_orders.specs.declared.fault.MessageFault.{MessageFault}
-use Rattle.edi_orders.specs.declared.fault.MessageFault.TheVariants.{MessageType, Beginning, Function, Date, Parties, Summary, Line, Quantity, Reference, Unit, Control, NoLine, Memory}
+use Rattle.edi_messages.specs.Parts.{line_groups}
+use Rattle.edi_messages.specs.Header.{is_type, begins_as, document_number, function, has_date, party}
+use Rattle.edi_messages.specs.Lines.{number_or_zero, gtin, is_line, quantity_of}
+use Rattle.edi_messages.specs.Summary.{has_summary, line_count, is_controlled}
+use Rattle.edi_messages.specs.Fault.{judged}
+use Rattle.edi_messages.specs.declared.fault.MessageFault.{MessageFault}
+use Rattle.edi_messages.specs.declared.fault.MessageFault.TheVariants.{MessageType, Beginning, Function, Date, Parties, Summary, Line, Quantity, Reference, Unit, Control, NoLine, Memory}
 use Rattle.edi_orders.specs.declared.order.Order.{Order}
 use Rattle.edi_orders.specs.declared.order.OrderLine.{OrderLine}
 

@@ -6,18 +6,18 @@ use Rattle.std.specs.Str.{bytes_eq}
 use Rattle.edi_tokens.specs.declared.segment.Segment.{Segment}
 use Rattle.edi_envelope.specs.Segments.{component}
 use Rattle.edi_envelope.specs.declared.interchange.RawMessage.{RawMessage}
-use Rattle.edi_orders.specs.Parts.{line_groups, has_qualified}
-use Rattle.edi_orders.specs.Header.{is_type, begins_as, document_number, function, has_date, party}
-use Rattle.edi_orders.specs.Lines.{line, gtin, is_line, quantity_of}
-use Rattle.edi_orders.specs.References.{has_reference, reference, order_named, is_reference, order, group_line}
-use Rattle.edi_orders.specs.Summary.{has_summary, line_count, is_controlled}
+use Rattle.edi_messages.specs.Parts.{line_groups, has_qualified}
+use Rattle.edi_messages.specs.Header.{is_type, begins_as, document_number, function, has_date, party}
+use Rattle.edi_messages.specs.Lines.{line, gtin, is_line, quantity_of}
+use Rattle.edi_messages.specs.References.{has_reference, reference, order_named, is_reference, order, group_line}
+use Rattle.edi_messages.specs.Summary.{has_summary, line_count, is_controlled}
 use Rattle.edi_orders.specs.declared.action.Action.{Action}
 use Rattle.edi_orders.specs.declared.action.Action.TheVariants as actions
 use Rattle.edi_orders.specs.declared.extent.Extent.{Extent}
 use Rattle.edi_orders.specs.declared.extent.Extent.TheVariants as extents
-use Rattle.edi_orders.specs.Fault.{judged}
-use Rattle.edi_orders.specs.declared.fault.MessageFault.{MessageFault}
-use Rattle.edi_orders.specs.declared.fault.MessageFault.TheVariants.{MessageType, Beginning, Function, Date, Parties, Summary, Line, Quantity, Reference, Unit, Control, NoLine, Memory}
+use Rattle.edi_messages.specs.Fault.{judged}
+use Rattle.edi_messages.specs.declared.fault.MessageFault.{MessageFault}
+use Rattle.edi_messages.specs.declared.fault.MessageFault.TheVariants.{MessageType, Beginning, Function, Date, Parties, Summary, Line, Quantity, Reference, Unit, Control, NoLine, Memory}
 use Rattle.edi_orders.specs.declared.response.Response.{Response}
 use Rattle.edi_orders.specs.declared.response.Answer.{Answer}
 use Rattle.edi_orders.specs.declared.response.Answer.TheVariants as answers

@@ -1,15 +1,15 @@
 //! The line groups of a response, read one condition after another.
 ghost use Rattle.std.specs.Prelude.{◌≡◌, ◌≢◌, IfOk, IfErr, Some, true, false, map, is_some};
 ghost use Rattle.std.specs.List.{list_all};
-ghost use Rattle.edi_orders.specs.References.{group_line};
+ghost use Rattle.edi_messages.specs.References.{group_line};
 ghost use Rattle.edi_orders.specs.Response as spec;
 
 use crate::action::{Action, action_of};
-use crate::fault::MessageFault;
-use crate::lines::{LineItem, quantity_of};
-use crate::parts::has_qualified;
-use crate::references::{has_reference, read_reference, reference};
 use crate::response::{AnswerLine, LineAnswer};
+use edi_messages::MessageFault;
+use edi_messages::lines::{LineItem, quantity_of};
+use edi_messages::parts::has_qualified;
+use edi_messages::references::{has_reference, read_reference, reference};
 use edi_tokens::{Items, Segment};
 use std::alloc::Global;
 use std::marker::Model;
@@ -120,7 +120,7 @@ pub(crate) fn answered_items<'a, 'b>(
 }
 
 // The order line that a group names, where the group has no reference or one to this order.
-#[tactic(auto, using(crate::proofs::Found::no_only))]
+#[tactic(auto, using(edi_messages::proofs::Found::no_only))]
 fn order_line(order: &[u8], group: &[Segment]) -> Result<Option<u32>, MessageFault>
     ensures ok { IfOk result (λ line. (line ≡ group_line group.now) × (spec.is_referred (Some order.now) group.now ≡ true)) }
     ensures err { IfErr result (λ fault. (fault ≡ MessageFault.Reference) × (spec.is_referred (Some order.now) group.now ≡ false)) }

@@ -3,12 +3,12 @@ ghost use Rattle.std.specs.Prelude.{◌≡◌, ◌≢◌, IfOk, IfErr, Ok, Err, 
 ghost use Rattle.std.specs.List.{list_all};
 ghost use Rattle.edi_orders.specs.Order as spec;
 
-use crate::fault::MessageFault;
-use crate::header::{begins_as, document_number, function, has_date, is_type, party};
-use crate::lines::{LineItem, has_number_twice, line_items, quantity_of};
-use crate::summary::{has_summary, is_controlled, line_count};
 use edi_base::copied;
 use edi_envelope::RawMessage;
+use edi_messages::MessageFault;
+use edi_messages::header::{begins_as, document_number, function, has_date, is_type, party};
+use edi_messages::lines::{LineItem, has_number_twice, line_items, quantity_of};
+use edi_messages::summary::{has_summary, is_controlled, line_count};
 use edi_tokens::Items;
 use gs1_ids::{Gln, Gtin};
 use std::alloc::Global;

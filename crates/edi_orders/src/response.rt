@@ -2,18 +2,18 @@
 ghost use Rattle.std.specs.Prelude.{◌≡◌, ◌≢◌, IfOk, IfErr, Ok, Err, Some, true, false, map, is_some};
 ghost use Rattle.std.specs.List.{list_all};
 ghost use Rattle.std.specs.Option.{IfSome, IfNone};
-ghost use Rattle.edi_orders.specs.Lines.{is_line};
+ghost use Rattle.edi_messages.specs.Lines.{is_line};
 ghost use Rattle.edi_orders.specs.Response as spec;
 
 use crate::answers::{action_items, answer_lines, answered_items};
 use crate::extent::{Extent, extent_of};
-use crate::fault::MessageFault;
-use crate::header::{begins_as, document_number, function, has_date, is_type, party};
-use crate::lines::{LineItem, line_items};
-use crate::references::order;
-use crate::summary::{has_summary, is_controlled, line_count};
 use edi_base::copied;
 use edi_envelope::RawMessage;
+use edi_messages::MessageFault;
+use edi_messages::header::{begins_as, document_number, function, has_date, is_type, party};
+use edi_messages::lines::{LineItem, line_items};
+use edi_messages::references::order;
+use edi_messages::summary::{has_summary, is_controlled, line_count};
 use edi_tokens::{Items, Segment};
 use gs1_ids::{Gln, Gtin};
 use std::alloc::Global;

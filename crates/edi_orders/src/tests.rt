@@ -1,12 +1,11 @@
 mod orders;
 mod pairs;
-mod parties;
 mod responses;
 
-use crate::{MessageFault, Order, Response};
+use crate::{Order, Response};
 use edi_envelope::{RawMessage, open};
 use edi_tokens::read_all;
-use std::alloc::{AllocError, Global};
+use std::alloc::Global;
 use std::process::Abort;
 use std::test::Fail;
 
@@ -81,29 +80,6 @@ fn edits_are_told(
         let segments = edited(alloc, text, place, words)?;
         let code = told(alloc, reader, segments.as_str())?;
         assert_eq!(rt; code, *want, "{words} for {place}");
-    }
-    Ok(())
-}
-
-#[test]
-fn faults_have_their_codes(rt: HostRuntime) -> Result<(), AllocError> {
-    for (fault, code) in [
-        (MessageFault::MessageType, "M01"),
-        (MessageFault::Beginning, "M02"),
-        (MessageFault::Function, "M03"),
-        (MessageFault::Date, "M04"),
-        (MessageFault::Parties, "M05"),
-        (MessageFault::Summary, "M06"),
-        (MessageFault::Line, "M07"),
-        (MessageFault::Quantity, "M08"),
-        (MessageFault::Reference, "M09"),
-        (MessageFault::Unit, "M10"),
-        (MessageFault::Control, "M11"),
-        (MessageFault::NoLine, "M12"),
-        (MessageFault::Memory, "memory"),
-    ] {
-        assert_eq!(rt; fault.code(), code);
-        assert_eq!(rt; fault.to_string(rt.alloc())?.as_str(), code);
     }
     Ok(())
 }

@@ -1,5 +1,5 @@
 use Rattle.std.proofs.Common.{◌≡◌, ◌++◌, map, drop}
-use Rattle.edi_orders.specs.Parts.{line_groups}
+use Rattle.edi_messages.specs.Parts.{line_groups}
 use Rattle.edi_goods.specs.Despatch.{lines_of, line_of}
 use Rattle.edi_goods.proofs.announced.lines_of.Given as goal
 

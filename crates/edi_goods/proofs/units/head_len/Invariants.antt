@@ -1,6 +1,6 @@
 use Rattle.std.proofs.Common.{◌≡◌, ◌+◌, drop, not}
 use Rattle.std.specs.List.{prefix_len}
-use Rattle.edi_orders.specs.Parts.{is_lin}
+use Rattle.edi_messages.specs.Parts.{is_lin}
 use Rattle.edi_goods.proofs.units.head_len.Given as goal
 
 -- no LIN so far

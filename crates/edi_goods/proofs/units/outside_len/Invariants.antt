@@ -1,6 +1,6 @@
 use Rattle.std.proofs.Common.{◌≡◌, ◌+◌, drop, not}
 use Rattle.std.specs.List.{prefix_len}
-use Rattle.edi_orders.specs.Parts.{is_cps}
+use Rattle.edi_messages.specs.Parts.{is_cps}
 use Rattle.edi_goods.proofs.units.outside_len.Given as goal
 
 -- no CPS so far

@@ -1,0 +1,8 @@
+use Rattle.std.proofs.Common.{◌≡◌, ◌+◌, drop}
+use Rattle.std.specs.List.{prefix_len}
+use Rattle.edi_base.specs.Limits.{is_digit}
+use Rattle.edi_messages.proofs.values.digits_len.Given as goal
+
+-- only digits so far
+abbrev pub invariant-loop-place : goal.invariant-loop-place
+invariant-loop-place l = prefix_len is_digit l.bytes ≡ l.place + prefix_len is_digit (drop l.place l.bytes)

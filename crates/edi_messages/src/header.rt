@@ -1,0 +1,111 @@
+//! What the header of a message says.
+ghost use Rattle.std.specs.Prelude.{◌≡◌, length, filter};
+ghost use Rattle.edi_envelope.specs.Segments.{component};
+ghost use Rattle.edi_messages.specs.Header as spec;
+
+use crate::parts::{header, only_qualified};
+use crate::values::{is_date, is_document_number};
+use edi_envelope::RawMessage;
+use edi_tokens::Segment;
+use gs1_ids::Gln;
+
+/// Whether a message is of this type, of the directory D.01B of UN.
+pub fn is_type(kind: &[u8], message: &RawMessage) -> bool
+    ensures { result ≡ spec.is_type kind.now message.now }
+{
+    message.kind.as_slice() == kind
+        && message.version.as_slice() == b"D".as_slice()
+        && message.release.as_slice() == b"01B".as_slice()
+        && message.agency.as_slice() == b"UN".as_slice()
+}
+
+// Whether a segment is the beginning of message.
+fn is_bgm(segment: &Segment) -> bool
+    ensures { result ≡ spec.is_bgm segment.now }
+{
+    segment.tag == *b"BGM"
+}
+
+// How many segments are BGM.
+fn beginning_count(message: &[Segment]) -> usize
+    ensures { result ≡ length (filter spec.is_bgm message.now) }
+{
+    message.iter().filter(|segment| is_bgm(segment)).count()
+}
+
+// A component of the segment behind UNH.
+fn beginning_component(message: &[Segment], element: usize) -> &[u8]
+    ensures { result.now ≡ component (spec.beginning message.now) element 0 }
+{
+    match message.get(1) {
+        Some(beginning) => beginning.component(element, 0),
+        None => &[],
+    }
+}
+
+/// The document number (BGM 1004).
+pub fn document_number(message: &[Segment]) -> &[u8]
+    ensures { result.now ≡ spec.document_number message.now }
+{
+    beginning_component(message, 1)
+}
+
+/// The message function (BGM 1225).
+pub fn function(message: &[Segment]) -> &[u8]
+    ensures { result.now ≡ spec.function message.now }
+{
+    beginning_component(message, 2)
+}
+
+/// Whether BGM stands behind UNH and nowhere else, with this code (1001) and a document number (1004).
+pub fn begins_as(code: &[u8], message: &[Segment]) -> bool
+    ensures { result ≡ spec.begins_as code.now message.now }
+{
+    match message.get(1) {
+        Some(beginning) => {
+            is_bgm(beginning)
+                && beginning_count(message) == 1
+                && beginning.component(0, 0) == code
+                && is_document_number(beginning.component(1, 0))
+        }
+        None => false,
+    }
+}
+
+/// Whether the header has one document date (DTM with 2005 137), which exists in its format.
+pub fn has_date(message: &[Segment]) -> bool
+    ensures { result ≡ spec.has_date message.now }
+{
+    match only_qualified(b"DTM", b"137", header(message)) {
+        Some(date) => is_date(date.component(0, 2), date.component(0, 1)),
+        None => false,
+    }
+}
+
+// The GLN of a party, where it is right and said to be one.
+fn named_by(party: &Segment) -> Option<Gln>
+    ensures { result ≡ spec.named_by party.now }
+{
+    let gln = Gln::parse(party.component(1, 0))?;
+    if party.component(1, 2) == b"9".as_slice() {
+        Some(gln)
+    } else {
+        None
+    }
+}
+
+/// The party that the header names in a role (NAD with 3035): there is just one such NAD, and it has a right GLN (3039)
+/// with 3055 9. `BY` is the buyer, `SU` the supplier.
+pub fn party(role: &[u8], message: &[Segment]) -> Option<Gln>
+    ensures { result ≡ spec.party role.now message.now }
+{
+    named_by(only_qualified(b"NAD", role, header(message))?)
+}
+
+/// The supplier that the header of a message names: there is just one NAD with 3035 SU, and it has a right GLN (3039)
+/// with 3055 9. Works for each type of message, and takes no memory.
+pub fn supplier_of(message: &RawMessage) -> Option<Gln>
+    ensures { result ≡ spec.supplier_of message.now.segments }
+{
+    party(b"SU", message.segments.as_slice())
+}

@@ -1,0 +1,105 @@
+use crate::{MessageFault, supplier_of};
+use edi_envelope::{RawMessage, open};
+use edi_tokens::read_all;
+use std::alloc::{AllocError, Global};
+use std::test::Fail;
+
+const SUPPLIER: &[u8; 13] = b"4012345500004";
+
+// The type of a message and its segments behind UNH, and whether the header names the supplier.
+const MESSAGES: [(&str, &str, bool); 15] = [
+    (
+        "ORDERS",
+        "BGM+220+128576+9'DTM+137:20250603:102'NAD+BY+5412345000013::9'NAD+SU+4012345500004::9'LIN+1++4000862141404:SRV'QTY+21:48'UNS+S'CNT+2:1'",
+        true,
+    ),
+    (
+        "ORDRSP",
+        "BGM+231+R1+4'DTM+137:20250603:102'RFF+ON:128576'NAD+BY+5412345000013::9'NAD+SU+4012345500004::9'LIN+1+3+4000862141404:SRV'QTY+113:36'UNS+S'",
+        true,
+    ),
+    (
+        "DESADV",
+        "BGM+351+DA1+9'DTM+137:20250604:102'RFF+ON:128576'NAD+BY+5412345000013::9'NAD+SU+4012345500004::9'CPS+1'PAC+1'PCI+33E'GIN+BJ+340123455000000012'LIN+1++4000862141404:SRV'QTY+12:12'",
+        true,
+    ),
+    (
+        "RECADV",
+        "BGM+632+G1+9'DTM+137:20250605:102'NAD+BY+5412345000013::9'NAD+SU+4012345500004::9'CPS+1'GIN+BJ+340123455000000012'LIN+1++4000862141404:SRV'QTY+194:10'",
+        true,
+    ),
+    ("ORDERS", "NAD+SU+4012345500004:x:9:y+z'", true),
+    (
+        "ORDERS",
+        "NAD+SU+4012345500004::9'LIN+1'NAD+SU+8712345000004::9'UNS+S'",
+        true,
+    ),
+    (
+        "ORDERS",
+        "BGM+220+128576+9'NAD+BY+5412345000013::9'UNS+S'",
+        false,
+    ),
+    (
+        "ORDERS",
+        "NAD+SU+4012345500004::9'NAD+SU+4012345500004::9'UNS+S'",
+        false,
+    ),
+    ("ORDERS", "NAD+SU+4012345500004::9'NAD+SU+x'UNS+S'", false),
+    ("ORDERS", "NAD+SU+4012345500005::9'UNS+S'", false),
+    ("ORDERS", "NAD+SU+4012345500004::92'UNS+S'", false),
+    ("ORDERS", "NAD+SU+4012345500004'UNS+S'", false),
+    (
+        "ORDERS",
+        "LIN+1++4000862141404:SRV'NAD+SU+4012345500004::9'UNS+S'",
+        false,
+    ),
+    ("ORDERS", "UNS+S'NAD+SU+4012345500004::9'", false),
+    ("DESADV", "CPS+1'NAD+SU+4012345500004::9'", false),
+];
+
+// The message of these segments, in an interchange.
+fn message(alloc: Global, segments: &str) -> Result<RawMessage, Fail> {
+    let count = segments.matches("'").count().saturating_add(1);
+    let text = format!(in alloc;
+        "UNB+UNOC:3+5412345000013:14+5412345000006:14+250603:0915+1001'{segments}UNT+{count}+1'UNZ+1+1001'"
+    )?;
+    let interchange = open(alloc, read_all(alloc, text.as_bytes())?)?;
+    Ok(interchange.messages.into_vec().pop().ok_or("a message")?)
+}
+
+#[test]
+fn the_header_names_the_supplier(rt: HostRuntime) -> Result<(), Fail> {
+    let alloc = rt.alloc();
+    for (kind, behind, names) in MESSAGES {
+        let segments = format!(in alloc; "UNH+1+{kind}:D:01B:UN:EAN010'{behind}")?;
+        let message = message(alloc, segments.as_str())?;
+        match supplier_of(&message) {
+            Some(gln) => assert_eq!(rt; (names, *gln.digits()), (true, *SUPPLIER), "{behind}"),
+            None => assert!(rt; !names, "{behind}"),
+        }
+    }
+    Ok(())
+}
+
+#[test]
+fn faults_have_their_codes(rt: HostRuntime) -> Result<(), AllocError> {
+    for (fault, code) in [
+        (MessageFault::MessageType, "M01"),
+        (MessageFault::Beginning, "M02"),
+        (MessageFault::Function, "M03"),
+        (MessageFault::Date, "M04"),
+        (MessageFault::Parties, "M05"),
+        (MessageFault::Summary, "M06"),
+        (MessageFault::Line, "M07"),
+        (MessageFault::Quantity, "M08"),
+        (MessageFault::Reference, "M09"),
+        (MessageFault::Unit, "M10"),
+        (MessageFault::Control, "M11"),
+        (MessageFault::NoLine, "M12"),
+        (MessageFault::Memory, "memory"),
+    ] {
+        assert_eq!(rt; fault.code(), code);
+        assert_eq!(rt; fault.to_string(rt.alloc())?.as_str(), code);
+    }
+    Ok(())
+}

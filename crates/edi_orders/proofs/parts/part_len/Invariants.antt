@@ -1,8 +1,0 @@
-use Rattle.std.proofs.Common.{◌≡◌, ◌+◌, drop, not}
-use Rattle.std.specs.List.{prefix_len}
-use Rattle.edi_orders.specs.Parts.{ends_part}
-use Rattle.edi_orders.proofs.parts.part_len.Given as goal
-
--- no segment passed so far ends the part
-abbrev pub invariant-loop-place : goal.invariant-loop-place
-invariant-loop-place l = prefix_len (λ segment. not (ends_part segment)) l.segments ≡ l.place + prefix_len (λ segment. not (ends_part segment)) (drop l.place l.segments)

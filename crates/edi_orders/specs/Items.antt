@@ -1,9 +1,0 @@
--- What the LIN of a line group says, beside the group.
-use Rattle.std.specs.Prelude.{◌≡◌, ℕ, List, Some}
-use Rattle.edi_tokens.specs.declared.segment.Segment.{Segment}
-use Rattle.edi_orders.specs.Lines as lines
-
--- the number and the item are those of the group
-pub record HasItem (group : List Segment) (number : ℕ) (gtin : List ℕ) : Type 0 where
-  pub number_is : lines.number group ≡ Some number
-  pub gtin_is : lines.gtin group ≡ Some gtin
