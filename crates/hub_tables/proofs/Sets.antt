@@ -1,0 +1,55 @@
+-- A set of rows has one list that rises by its key.
+use Rattle.std.proofs.Common.{◌≡◌, inl, inr, List, [], ◌∷◌, refl, sym, ◌∙◌, ap, subst}
+use Rattle.std.specs.List.{AllByRecursion}
+use Rattle.std.specs.declared.cmp.Ordering.{Ordering}
+use Rattle.std.specs.declared.cmp.Ordering.TheVariants.{Less, Equal, Greater}
+use Rattle.std.specs.Ordering.{ordering_reverse}
+use Rattle.std.specs.Cmp.{IsTotalOrder}
+use Rattle.std.proofs.lemmas.Cmp.{tied_itself}
+use Rattle.hub_tables.specs.Tables.{Tables}
+use Rattle.hub_tables.specs.Sets.{Rises, Has, SameSet, Rising, SameRows}
+use Rattle.hub_tables.proofs.KindOrders.{order_total, line_total, advice_total, pallet_total, content_total, receipt_total, remembered_total, mail_total}
+
+all_has : {X : Type 0} (P : X → Type 0) (xs : List X) (x : X) → AllByRecursion P xs → Has xs x → P x
+all_has P [] x a h = absurd h
+all_has P (y ∷ ys) x a h = elim h [ inl e ↦ subst P (sym e) a.0 | inr g ↦ all_has P ys x a.1 g ]
+
+module _ {X : Type 0} {cmp : X → X → Ordering} (total : IsTotalOrder cmp) where
+  not_below_itself : (x : X) → cmp x x ≡ Less → ⊥
+  not_below_itself x h = let e = tied_itself total x in let both : Less ≡ Equal = sym h ∙ e in cc
+
+  not_both_below : (x y : X) → cmp x y ≡ Less → cmp y x ≡ Less → ⊥
+  not_both_below x y h g = let both : Less ≡ Greater = sym h ∙ total.antisymm x y ∙ ap ordering_reverse g in cc
+
+  -- rising lists with the same rows are equal
+  pub one_list : (xs ys : List X) → Rises cmp xs → Rises cmp ys → ((x : X) → Has xs x → Has ys x) → ((x : X) → Has ys x → Has xs x) → xs ≡ ys
+  one_list [] [] a b f g = refl
+  one_list [] (y ∷ ys) a b f g = absurd (g y (inl refl))
+  one_list (x ∷ xs) [] a b f g = absurd (f x (inl refl))
+  one_list (x ∷ xs) (y ∷ ys) a b f g =
+      let heads : x ≡ y = elim (f x (inl refl)) [
+        | inl e ↦ e
+        | inr h ↦ elim (g y (inl refl)) [
+          | inl e ↦ sym e
+          | inr k ↦ absurd (not_both_below x y (all_has (λ z. cmp x z ≡ Less) xs y a.0 k) (all_has (λ z. cmp y z ≡ Less) ys x b.0 h))
+        ]
+      ] in
+      let tails : xs ≡ ys = one_list xs ys a.1 b.1
+      (λ z h. elim (f z (inr h)) [ inl e ↦ absurd (not_below_itself x (subst (λ v. cmp x v ≡ Less) (e ∙ sym heads) (all_has (λ z. cmp x z ≡ Less) xs z a.0 h))) | inr k ↦ k ])
+      (λ z h. elim (g z (inr h)) [ inl e ↦ absurd (not_below_itself y (subst (λ v. cmp y v ≡ Less) (e ∙ heads) (all_has (λ z. cmp y z ≡ Less) ys z b.0 h))) | inr k ↦ k ]) in
+      λ i. heads i ∷ tails i
+
+  one_set : (xs ys : List X) → Rises cmp xs → Rises cmp ys → SameSet xs ys → xs ≡ ys
+  one_set xs ys a b s = one_list xs ys a b s.there s.back
+
+pub rows_are_one : (t u : Tables) → Rising t → Rising u → SameRows t u → t ≡ u
+rows_are_one t u a b s =
+    let orders = one_set order_total t.orders u.orders a.orders b.orders s.orders in
+    let lines = one_set line_total t.lines u.lines a.lines b.lines s.lines in
+    let advices = one_set advice_total t.advices u.advices a.advices b.advices s.advices in
+    let pallets = one_set pallet_total t.pallets u.pallets a.pallets b.pallets s.pallets in
+    let contents = one_set content_total t.contents u.contents a.contents b.contents s.contents in
+    let receipts = one_set receipt_total t.receipts u.receipts a.receipts b.receipts s.receipts in
+    let remembered = one_set remembered_total t.remembered u.remembered a.remembered b.remembered s.remembered in
+    let mail = one_set mail_total t.mail u.mail a.mail b.mail s.mail in
+    λ i. record { orders = orders i; lines = lines i; advices = advices i; pallets = pallets i; contents = contents i; receipts = receipts i; remembered = remembered i; mail = mail i }

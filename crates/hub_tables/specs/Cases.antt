@@ -1,0 +1,38 @@
+-- The numbers that stand in the columns of a row for the cases of an enum.
+use Rattle.std.specs.Prelude.{ℕ, Bool, true, false}
+use Rattle.hub_tables.specs.declared.cases.Answered.{Answered}
+use Rattle.hub_tables.specs.declared.cases.Answered.TheVariants as answers
+use Rattle.hub_tables.specs.declared.cases.Side.{Side}
+use Rattle.hub_tables.specs.declared.cases.Side.TheVariants as sides
+use Rattle.hub_tables.specs.declared.cases.MailKind.{MailKind}
+use Rattle.hub_tables.specs.declared.cases.MailKind.TheVariants as kinds
+use Rattle.hub_tables.specs.declared.cases.Arrival.{Arrival}
+use Rattle.hub_tables.specs.declared.cases.Arrival.TheVariants as arrivals
+
+-- the letter of an answer: W waiting, A accepted, N not accepted, C changed
+abbrev pub answer_letter : Answered → ℕ
+answer_letter answers.Waiting = 0x57
+answer_letter answers.Accepted = 0x41
+answer_letter answers.NotAccepted = 0x4E
+answer_letter answers.Changed = 0x43
+
+-- the letter of a side: R retailer, S supplier, C cancellation
+abbrev pub side_letter : Side → ℕ
+side_letter sides.Retailer = 0x52
+side_letter sides.Supplier = 0x53
+side_letter sides.Cancellation = 0x43
+
+-- the letter of a mail entry's type: O ORDERS, R RECADV
+abbrev pub kind_letter : MailKind → ℕ
+kind_letter kinds.Orders = 0x4F
+kind_letter kinds.Receipt = 0x52
+
+-- 0 announced, 1 received
+abbrev pub arrival_number : Arrival → ℕ
+arrival_number arrivals.Announced = 0
+arrival_number arrivals.Received = 1
+
+-- 0 no, 1 yes
+abbrev pub truth_number : Bool → ℕ
+truth_number false = 0
+truth_number true = 1

@@ -1,0 +1,25 @@
+-- What changes do to tables.
+use Rattle.std.specs.Prelude.{List, [], ◌∷◌}
+use Rattle.hub_tables.specs.Keys.{put, replace}
+use Rattle.hub_tables.specs.Rows.{order_cmp, line_cmp, advice_cmp, pallet_cmp, content_cmp, receipt_cmp, remembered_cmp, mail_cmp, same_line, same_pallet, same_mail}
+use Rattle.hub_tables.specs.Tables.{Tables}
+use Rattle.hub_tables.specs.declared.change.Change.{Change}
+use Rattle.hub_tables.specs.declared.change.Change.TheVariants.{AddOrder, AddLine, SetLine, AddAdvice, AddPallet, SetPallet, AddContent, AddReceipt, Remember, AddMail, SetMail}
+
+abbrev pub apply : Change → Tables → Tables
+apply (AddOrder row) t = record t { orders = put order_cmp row t.orders }
+apply (AddLine row) t = record t { lines = put line_cmp row t.lines }
+apply (SetLine row) t = record t { lines = replace (same_line row) row t.lines }
+apply (AddAdvice row) t = record t { advices = put advice_cmp row t.advices }
+apply (AddPallet row) t = record t { pallets = put pallet_cmp row t.pallets }
+apply (SetPallet row) t = record t { pallets = replace (same_pallet row) row t.pallets }
+apply (AddContent row) t = record t { contents = put content_cmp row t.contents }
+apply (AddReceipt row) t = record t { receipts = put receipt_cmp row t.receipts }
+apply (Remember row) t = record t { remembered = put remembered_cmp row t.remembered }
+apply (AddMail row) t = record t { mail = put mail_cmp row t.mail }
+apply (SetMail row) t = record t { mail = replace (same_mail row) row t.mail }
+
+-- one after another
+abbrev pub apply_all : List Change → Tables → Tables
+apply_all [] t = t
+apply_all (change ∷ changes) t = apply_all changes (apply change t)

@@ -1,0 +1,43 @@
+-- Tables as sets of rows.
+use Rattle.std.specs.Prelude.{◌≡◌, ◌⊎◌, List, [], ◌∷◌, ⊤}
+use Rattle.std.specs.List.{AllByRecursion}
+use Rattle.std.specs.declared.cmp.Ordering.{Ordering}
+use Rattle.std.specs.declared.cmp.Ordering.TheVariants.{Less}
+use Rattle.hub_tables.specs.Rows.{order_cmp, line_cmp, advice_cmp, pallet_cmp, content_cmp, receipt_cmp, remembered_cmp, mail_cmp}
+use Rattle.hub_tables.specs.Tables.{Tables}
+
+-- each key is below those after it
+abbrev pub Rises : {X : Type 0} → (X → X → Ordering) → List X → Type 0
+Rises cmp [] = ⊤
+Rises cmp (x ∷ xs) = AllByRecursion (λ y. cmp x y ≡ Less) xs × Rises cmp xs
+
+-- the row is one of the list
+abbrev pub Has : {X : Type 0} → List X → X → Type 0
+Has [] x = ⊥
+Has (y ∷ ys) x = (x ≡ y) ⊎ Has ys x
+
+pub record SameSet {X : Type 0} (xs ys : List X) : Type 0 where
+  pub there : (x : X) → Has xs x → Has ys x
+  pub back : (x : X) → Has ys x → Has xs x
+
+-- each kind rises strictly by its key
+pub record Rising (t : Tables) : Type 0 where
+  pub orders : Rises order_cmp t.orders
+  pub lines : Rises line_cmp t.lines
+  pub advices : Rises advice_cmp t.advices
+  pub pallets : Rises pallet_cmp t.pallets
+  pub contents : Rises content_cmp t.contents
+  pub receipts : Rises receipt_cmp t.receipts
+  pub remembered : Rises remembered_cmp t.remembered
+  pub mail : Rises mail_cmp t.mail
+
+-- both have the same rows of each kind
+pub record SameRows (t u : Tables) : Type 0 where
+  pub orders : SameSet t.orders u.orders
+  pub lines : SameSet t.lines u.lines
+  pub advices : SameSet t.advices u.advices
+  pub pallets : SameSet t.pallets u.pallets
+  pub contents : SameSet t.contents u.contents
+  pub receipts : SameSet t.receipts u.receipts
+  pub remembered : SameSet t.remembered u.remembered
+  pub mail : SameSet t.mail u.mail

@@ -1,0 +1,31 @@
+//! Changes of rows.
+use crate::rows::{
+    AdviceRow, ContentRow, LineRow, MailRow, OrderRow, PalletRow, ReceiptRow, RememberedRow,
+};
+
+/// A row that is added, or that is set in the place of the one that has its key.
+#[derive(Debug, Drop)]
+pub enum Change {
+    /// A new order.
+    AddOrder(OrderRow),
+    /// A new line of an order.
+    AddLine(LineRow),
+    /// A line that is answered, despatched or cancelled.
+    SetLine(LineRow),
+    /// A new despatch advice.
+    AddAdvice(AdviceRow),
+    /// A new pallet.
+    AddPallet(PalletRow),
+    /// A pallet that is received.
+    SetPallet(PalletRow),
+    /// A new content of a pallet.
+    AddContent(ContentRow),
+    /// A new receipt of an item.
+    AddReceipt(ReceiptRow),
+    /// A message or cancellation that is remembered.
+    Remember(RememberedRow),
+    /// A new entry of a mailbox.
+    AddMail(MailRow),
+    /// An entry that is taken.
+    SetMail(MailRow),
+}

@@ -1,0 +1,127 @@
+//! The rows of the eight kinds. Contracts see texts as lists of numbers and columns of cases as numbers, so that a row of a
+//! store can be spoken of that no row here is.
+use crate::cases::{Answered, Arrival, MailKind, Side};
+use crate::column::Column;
+use edi_base::Items;
+use edi_envelope::Moment;
+use gs1_ids::{Gln, Gtin, Sscc};
+
+/// An order. Key: supplier and number.
+#[derive(Debug, Drop)]
+pub struct OrderRow {
+    /// The supplier.
+    pub supplier: Gln,
+    /// The order number, 1 to 35 bytes.
+    pub number: Items<u8>,
+}
+
+/// A line of an order, in pieces. Key: supplier, number and line.
+#[derive(Debug, Drop)]
+pub struct LineRow {
+    /// The supplier.
+    pub supplier: Gln,
+    /// The order number.
+    pub number: Items<u8>,
+    /// The line number, 1 to 999,999.
+    pub line: u32,
+    /// The item.
+    pub gtin: Gtin,
+    /// The quantity ordered, 1 to 999,999,999.
+    pub ordered: u32,
+    /// What is still to be despatched.
+    pub open_qty: u32,
+    /// What the supplier refused.
+    pub refused: u32,
+    /// What the retailer cancelled.
+    pub cancelled: u32,
+    /// How the line was answered.
+    pub answer: Column<Answered>,
+}
+
+/// A despatch advice. Key: supplier and number.
+#[derive(Debug, Drop)]
+pub struct AdviceRow {
+    /// The supplier.
+    pub supplier: Gln,
+    /// The advice number, 1 to 35 bytes.
+    pub number: Items<u8>,
+}
+
+/// A pallet. Key: the SSCC alone, over all suppliers.
+#[derive(Debug, Drop)]
+pub struct PalletRow {
+    /// The pallet's SSCC.
+    pub sscc: Sscc,
+    /// The supplier.
+    pub supplier: Gln,
+    /// The number of the advice that announced it.
+    pub advice: Items<u8>,
+    /// How far it has come.
+    pub received: Column<Arrival>,
+}
+
+/// What an advice said of a line of an order to be on a pallet. Key: the pallet's SSCC and the place.
+#[derive(Debug, Drop)]
+pub struct ContentRow {
+    /// The pallet's SSCC.
+    pub sscc: Sscc,
+    /// The place on the pallet, from 1.
+    pub place: u32,
+    /// The order number.
+    pub number: Items<u8>,
+    /// The line number.
+    pub line: u32,
+    /// The quantity despatched, 1 to 999,999,999.
+    pub quantity: u32,
+}
+
+/// What was received of an item on a pallet, in pieces. Key: the pallet's SSCC and the GTIN.
+#[derive(Debug, Drop)]
+pub struct ReceiptRow {
+    /// The pallet's SSCC.
+    pub sscc: Sscc,
+    /// The item.
+    pub gtin: Gtin,
+    /// Received and accepted.
+    pub accepted: u32,
+    /// Received, not accepted, to be returned.
+    pub returned: u32,
+    /// Received, not accepted, to be destroyed.
+    pub destroyed: u32,
+}
+
+/// A message or cancellation that was accepted. Key: supplier, side and both references.
+#[derive(Debug, Drop)]
+pub struct RememberedRow {
+    /// The supplier.
+    pub supplier: Gln,
+    /// Whose message it was.
+    pub side: Column<Side>,
+    /// The control reference of its interchange, or the cancellation's reference, 1 to 14 bytes.
+    pub control: Items<u8>,
+    /// The message reference, 1 to 14 bytes; of a cancellation none.
+    pub message: Items<u8>,
+    /// What it said: the canonical text of the message from UNH to UNT, or the five lines of the cancellation.
+    pub content: Items<u8>,
+}
+
+/// An entry of a supplier's mailbox. Key: supplier and number.
+#[derive(Debug, Drop)]
+pub struct MailRow {
+    /// The supplier.
+    pub supplier: Gln,
+    /// The entry's number in the mailbox, from 1.
+    pub number: u64,
+    /// When the message came.
+    pub moment: Moment,
+    /// The decimal mark of its interchange.
+    pub decimal: u8,
+    /// The type of the message.
+    pub kind: Column<MailKind>,
+    /// The document number of the message (BGM 1004).
+    pub document: Items<u8>,
+    /// The canonical text of the message from UNH to UNT, with `1` as the reference in both.
+    pub body: Items<u8>,
+    /// Whether the supplier has taken it.
+    pub taken: Column<bool>,
+}
