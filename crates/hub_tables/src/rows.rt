@@ -66,7 +66,7 @@ pub struct ContentRow {
     /// The pallet's SSCC.
     pub sscc: Sscc,
     /// The place on the pallet, from 1.
-    pub place: u32,
+    pub place: u64,
     /// The order number.
     pub number: Items<u8>,
     /// The line number.

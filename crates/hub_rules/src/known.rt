@@ -1,0 +1,31 @@
+//! What is known of the tables when a message or a cancellation is judged.
+use edi_base::Items;
+use hub_tables::{LineRow, PalletRow};
+
+/// A line of an order, and what of it is despatched.
+#[derive(Debug, Drop)]
+pub struct LineFacts {
+    /// The row of the line.
+    pub row: LineRow,
+    /// What of the line is despatched, in pieces: the sum of the contents that name it.
+    pub despatched: u32,
+}
+
+/// What is known of one supplier's rows when a message or a cancellation is judged. A judge reads what its checks ask for.
+#[derive(Debug, Drop)]
+pub struct Known {
+    /// The content that is remembered under the references of the message or the cancellation.
+    pub remembered: Option<Items<u8>>,
+    /// Which of the order numbers that are named the supplier has.
+    pub orders: Items<Items<u8>>,
+    /// All lines of these orders, rising by order number and line number.
+    pub lines: Items<LineFacts>,
+    /// Whether the supplier has the order (ORDERS) or the advice (DESADV) of this number.
+    pub number_known: bool,
+    /// How many entries the supplier's mailbox has.
+    pub mails: u64,
+    /// For each unit of a DESADV whether its SSCC is used.
+    pub used: Items<bool>,
+    /// For each unit of a RECADV the supplier's pallet.
+    pub pallets: Items<Option<PalletRow>>,
+}

@@ -1,0 +1,29 @@
+//! The rules of the hub: what comes of a message or a cancellation, from what is known of its supplier's rows.
+#![tactic(auto)]
+
+mod answers;
+mod book;
+mod by_item;
+mod by_number;
+mod cancel;
+mod despatch;
+mod known;
+mod lines;
+mod mail;
+mod order;
+mod order_numbers;
+mod party;
+mod receipt;
+mod remembering;
+mod response;
+mod totals;
+
+pub use cancel::judge_cancel;
+pub use despatch::judge_despatch;
+pub use known::{Known, LineFacts};
+pub use order::judge_order;
+pub use receipt::judge_receipt;
+pub use response::judge_response;
+
+#[cfg(test)]
+mod tests;
