@@ -4,7 +4,7 @@ use Rattle.hub_tables.specs.Change.{apply}
 use Rattle.hub_tables.specs.Judging.{refuse_if, given, joined, goes_on, in_order}
 use Rattle.hub_tables.specs.Responses.{answered, is_out_of_range, is_none, judge_answer, judge_all, judge_answers, judge_new_response}
 use Rattle.hub_tables.specs.Rows.{same, same_line}
-use Rattle.hub_tables.specs.State.{waits, line_of, despatched}
+use Rattle.hub_tables.specs.State.{waits, despatched}
 use Rattle.hub_tables.specs.Tables.{Tables}
 use Rattle.std.specs.List.{AllByRecursion}
 use Rattle.std.proofs.lemmas.List.{append_assoc}

@@ -1,9 +1,8 @@
 -- A cancellation judged from what is known is judged as from a state of which that tells the truth.
-use Rattle.std.proofs.Common.{◌≡◌, ℕ, not, nat_lt, ◌+◌, ◌-◌, List, [], ◌∷◌, Option, Some, None, option_map, refl, ◌∙◌, ap, ap₂}
+use Rattle.std.proofs.Common.{◌≡◌, not, nat_lt, ◌+◌, ◌-◌, [], ◌∷◌, Option, Some, None, option_map, refl, ◌∙◌, ap, ap₂}
 use Rattle.edi_base.specs.Seen.{is_among}
 use Rattle.hub_tables.specs.Cancellations.{judge_new_cancel}
 use Rattle.hub_tables.specs.Judging.{refuse_if, given}
-use Rattle.hub_tables.specs.State.{line_of}
 use Rattle.hub_tables.specs.Tables.{Tables}
 use Rattle.hub_tables.specs.declared.change.Change.TheVariants.{SetLine}
 use Rattle.hub_tables.specs.declared.code.Code.TheVariants.{NoOrder, NoLine, CancelsMoreThanOpen}

@@ -1,5 +1,5 @@
 -- Despatches judged from facts are judged as from the state that the facts tell.
-use Rattle.std.proofs.Common.{◌≡◌, ℕ, ◌+◌, ◌-◌, nat_lt, Bool, true, false, not, ◌||◌, inl, inr, List, [], ◌∷◌, ◌++◌, map, Option, Some, None, option_map, refl, sym, subst, ◌∙◌, ap, ap₂}
+use Rattle.std.proofs.Common.{◌≡◌, ℕ, ◌+◌, ◌-◌, nat_lt, Bool, true, false, not, ◌||◌, List, [], ◌∷◌, ◌++◌, map, Option, Some, None, option_map, refl, sym, subst, ◌∙◌, ap, ap₂}
 use Rattle.std.specs.List.{AllByRecursion, list_any}
 use Rattle.std.specs.Str.{bytes_eq}
 use Rattle.std.proofs.lemmas.Bool.{or_parts}
@@ -8,10 +8,10 @@ use Rattle.gs1_ids.specs.Sscc.{under_some}
 use Rattle.edi_base.specs.Seen.{is_among, has_twice}
 use Rattle.hub_tables.specs.Change.{apply, apply_all}
 use Rattle.hub_tables.specs.Despatches.{placed, judge_despatched, judge_unit, judge_new_despatch}
-use Rattle.hub_tables.specs.Judging.{Judge, gives, refuse_if, given, joined, goes_on, in_turn, in_order}
+use Rattle.hub_tables.specs.Judging.{Judge, refuse_if, given, joined, goes_on, in_order}
 use Rattle.hub_tables.specs.Keys.{put}
 use Rattle.hub_tables.specs.Rows.{same, pallet_cmp}
-use Rattle.hub_tables.specs.State.{knows_order, knows_advice, line_of}
+use Rattle.hub_tables.specs.State.{knows_order, knows_advice}
 use Rattle.hub_tables.specs.Suppliers.{Supplier}
 use Rattle.hub_tables.specs.Tables.{Tables, has_pallet}
 use Rattle.hub_tables.specs.declared.change.Change.{Change}
@@ -23,7 +23,7 @@ use Rattle.hub_tables.specs.declared.rows.PalletRow.{PalletRow}
 use Rattle.hub_tables.specs.declared.verdict.Verdict.{Verdict}
 use Rattle.hub_tables.specs.declared.verdict.Verdict.TheVariants.{Accept, Refuse}
 use Rattle.hub_tables.proofs.KeyOrder.{any_put}
-use Rattle.hub_tables.proofs.Lists.{decide, all_weaker, all_itself, same_if}
+use Rattle.hub_tables.proofs.Lists.{all_weaker, all_itself, same_if}
 use Rattle.hub_rules.specs.Book.{facts_of, facts_among, with_row, answered_row}
 use Rattle.hub_rules.specs.FromFacts.{after_despatch, new_content, despatch_checks, lines_from, new_pallet, unit_checks, units_from, despatch_from}
 use Rattle.hub_rules.specs.Known.{TellsOrder, TellsLines, names_order}

@@ -1,17 +1,17 @@
 -- Facts that tell the lines of a state, under look-ups and changes.
-use Rattle.std.proofs.Common.{◌≡◌, ℕ, Bool, true, false, cond, ◌&&◌, ◌==◌, inl, inr, List, [], ◌∷◌, map, filter, find, sum_by, Option, Some, None, option_map, refl, sym, ◌∙◌, ap, ap₂, subst, arith}
+use Rattle.std.proofs.Common.{◌≡◌, ℕ, Bool, true, false, cond, ◌&&◌, ◌==◌, inl, inr, List, [], ◌∷◌, filter, find, sum_by, Option, Some, None, option_map, refl, sym, ◌∙◌, ap, ap₂, subst, arith}
 use Rattle.std.specs.List.{AllByRecursion}
 use Rattle.std.proofs.lemmas.Bool.{and_parts}
 use Rattle.std.proofs.lemmas.Bool.Decides.{nat_tests}
 use Rattle.hub_tables.specs.Change.{apply}
 use Rattle.hub_tables.specs.Keys.{replace}
 use Rattle.hub_tables.specs.Rows.{same, same_line}
-use Rattle.hub_tables.specs.State.{lines_of, line_among, line_of, despatched, names, the_only}
+use Rattle.hub_tables.specs.State.{lines_of, line_among, line_of, despatched, the_only}
 use Rattle.hub_tables.specs.Tables.{Tables}
 use Rattle.hub_tables.specs.declared.change.Change.TheVariants.{SetLine}
 use Rattle.hub_tables.specs.declared.rows.LineRow.{LineRow}
 use Rattle.hub_tables.specs.declared.rows.ContentRow.{ContentRow}
-use Rattle.hub_tables.proofs.Lists.{decide, same_is, same_if, filter_replace, filter_replace_out}
+use Rattle.hub_tables.proofs.Lists.{decide, same_is}
 use Rattle.hub_rules.specs.Book.{facts_of, facts_among, with_row, set_row}
 use Rattle.hub_rules.specs.Known.{rows, TellsLines, TellsDespatched}
 use Rattle.hub_rules.specs.declared.known.LineFacts.{LineFacts}
