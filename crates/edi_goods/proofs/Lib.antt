@@ -1,2 +1,3 @@
 mod Examples
+pub mod Read
 pub mod SumsSoFar

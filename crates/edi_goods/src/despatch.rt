@@ -1,5 +1,6 @@
 //! Despatch advices (DESADV).
 ghost use Rattle.std.specs.Prelude.{◌≡◌, ◌≢◌, IfOk, IfErr, Ok, Err, true, false, map};
+ghost use Rattle.edi_base.specs.Seen.{has_twice};
 ghost use Rattle.edi_goods.specs.Despatch as spec;
 ghost use Rattle.edi_goods.specs.Units.{sscc_or_none};
 
@@ -97,6 +98,7 @@ impl Despatch {
     #[tactic(auto, unfolding(crate::specs::Despatch::despatch_of))]
     pub fn read(alloc: Global, message: &RawMessage) -> Result<Despatch, MessageFault>
         ensures ok { IfOk result (λ despatch. spec.despatch_of message.now ≡ Ok despatch) }
+        ensures apart { IfOk result (λ despatch. has_twice (map (λ unit. unit.sscc) despatch.units) ≡ false) }
         ensures err { IfErr result (λ fault. fault ≢ MessageFault.Memory → spec.despatch_of message.now ≡ Err fault) }
     {
         let segments = message.segments.as_slice();

@@ -1,5 +1,7 @@
 //! Receiving advices (RECADV).
 ghost use Rattle.std.specs.Prelude.{◌≡◌, ◌≢◌, IfOk, IfErr, Ok, Err, true, false, map};
+ghost use Rattle.std.specs.List.{list_all};
+ghost use Rattle.edi_base.specs.Seen.{has_twice};
 ghost use Rattle.edi_goods.specs.Receipt as spec;
 ghost use Rattle.edi_goods.specs.Units.{sscc_or_none};
 
@@ -81,6 +83,8 @@ impl Receipt {
     #[tactic(auto, unfolding(crate::specs::Receipt::receipt_of))]
     pub fn read(alloc: Global, message: &RawMessage) -> Result<Receipt, MessageFault>
         ensures ok { IfOk result (λ receipt. spec.receipt_of message.now ≡ Ok receipt) }
+        ensures apart { IfOk result (λ receipt. has_twice (map (λ unit. unit.sscc) receipt.units) ≡ false) }
+        ensures sums { IfOk result (λ receipt. list_all (λ unit. spec.has_sums unit.lines) receipt.units ≡ true) }
         ensures err { IfErr result (λ fault. fault ≢ MessageFault.Memory → spec.receipt_of message.now ≡ Err fault) }
     {
         let segments = message.segments.as_slice();

@@ -1,6 +1,7 @@
 //! Orders (ORDERS).
 ghost use Rattle.std.specs.Prelude.{◌≡◌, ◌≢◌, IfOk, IfErr, Ok, Err, true, false, map, is_some};
 ghost use Rattle.std.specs.List.{list_all};
+ghost use Rattle.edi_base.specs.Seen.{has_number_twice};
 ghost use Rattle.edi_orders.specs.Order as spec;
 
 use edi_base::copied;
@@ -61,6 +62,7 @@ impl Order {
     #[tactic(auto, unfolding(crate::specs::Order::order_of))]
     pub fn read(alloc: Global, message: &RawMessage) -> Result<Order, MessageFault>
         ensures ok { IfOk result (λ order. spec.order_of message.now ≡ Ok order) }
+        ensures apart { IfOk result (λ order. has_number_twice (map (λ line. line.line) order.lines) ≡ false) }
         ensures err { IfErr result (λ fault. fault ≢ MessageFault.Memory → spec.order_of message.now ≡ Err fault) }
     {
         let segments = message.segments.as_slice();

@@ -14,10 +14,10 @@ use Rattle.hub_tables.specs.declared.code.Code.TheVariants.{NoOrder, NoLine, Not
 use Rattle.hub_tables.specs.declared.rows.LineRow.{LineRow}
 use Rattle.hub_tables.specs.declared.verdict.Verdict.{Verdict}
 use Rattle.hub_tables.specs.declared.verdict.Verdict.TheVariants.{Accept, Refuse}
-use Rattle.hub_rules.specs.Book.{facts_of, facts_among, with_row, answered_row}
+use Rattle.hub_lines.specs.Book.{facts_of, facts_among, with_row, answered_row, IsCovered}
 use Rattle.hub_rules.specs.FromFacts.{answer_checks, after_answer, answers_from, all_from, said_from, response_from}
-use Rattle.hub_rules.specs.declared.known.LineFacts.{LineFacts}
-use Rattle.hub_rules.specs.Known.{rows, IsCovered, TellsLines, TellsDespatched, TellsOrder}
+use Rattle.hub_lines.specs.declared.facts.LineFacts.{LineFacts}
+use Rattle.hub_rules.specs.Known.{rows, TellsLines, TellsDespatched, TellsOrder}
 use Rattle.hub_rules.specs.declared.known.Known.{Known}
 use Rattle.hub_rules.proofs.Facts.{line_told, looked_up, lines_told_after, despatched_told_after}
 use Rattle.edi_orders.specs.declared.response.Answer.{Answer}

@@ -10,11 +10,11 @@ use Rattle.hub_tables.specs.declared.delivery.Cancel.{Cancel}
 use Rattle.hub_tables.specs.declared.rows.LineRow.{LineRow}
 use Rattle.hub_tables.specs.declared.verdict.Verdict.{Verdict}
 use Rattle.hub_tables.specs.declared.verdict.Verdict.TheVariants.{Accept}
-use Rattle.hub_rules.specs.Book.{facts_of, facts_among}
+use Rattle.hub_lines.specs.Book.{facts_of, facts_among}
 use Rattle.hub_rules.specs.FromFacts.{cancelled_from}
 use Rattle.hub_rules.specs.Known.{TellsForCancel}
 use Rattle.hub_rules.specs.declared.known.Known.{Known}
-use Rattle.hub_rules.specs.declared.known.LineFacts.{LineFacts}
+use Rattle.hub_lines.specs.declared.facts.LineFacts.{LineFacts}
 use Rattle.hub_rules.proofs.Facts.{line_told}
 
 -- what is judged of a line

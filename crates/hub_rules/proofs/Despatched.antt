@@ -24,11 +24,11 @@ use Rattle.hub_tables.specs.declared.verdict.Verdict.{Verdict}
 use Rattle.hub_tables.specs.declared.verdict.Verdict.TheVariants.{Accept, Refuse}
 use Rattle.hub_tables.proofs.KeyOrder.{any_put}
 use Rattle.hub_tables.proofs.Lists.{all_weaker, all_itself, same_if}
-use Rattle.hub_rules.specs.Book.{facts_of, facts_among, with_row, answered_row}
+use Rattle.hub_lines.specs.Book.{facts_of, facts_among, with_row, answered_row}
 use Rattle.hub_rules.specs.FromFacts.{after_despatch, new_content, despatch_checks, lines_from, new_pallet, unit_checks, units_from, despatch_from}
 use Rattle.hub_rules.specs.Known.{TellsOrder, TellsLines, names_order}
 use Rattle.hub_rules.specs.declared.known.Known.{Known}
-use Rattle.hub_rules.specs.declared.known.LineFacts.{LineFacts}
+use Rattle.hub_lines.specs.declared.facts.LineFacts.{LineFacts}
 use Rattle.hub_rules.proofs.Facts.{line_told, lines_told_after}
 use Rattle.edi_goods.specs.declared.despatch.Despatch.{Despatch}
 use Rattle.edi_goods.specs.declared.despatch.DespatchLine.{DespatchLine}

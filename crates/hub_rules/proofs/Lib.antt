@@ -1,15 +1,8 @@
 pub mod Answered
-pub mod ByItem
-pub mod ByNumber
 pub mod Cancelled
 pub mod Despatched
 pub mod Facts
-pub mod FirstLine
-pub mod InOrder
-pub mod IndexItems
-pub mod ItemLines
 pub mod Messages
 pub mod Once
 pub mod Received
-pub mod SetLine
 pub mod Summed

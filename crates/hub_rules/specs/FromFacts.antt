@@ -23,9 +23,9 @@ use Rattle.hub_tables.specs.declared.delivery.Cancel.{Cancel}
 use Rattle.hub_tables.specs.declared.rows.LineRow.{LineRow}
 use Rattle.hub_tables.specs.declared.verdict.Verdict.{Verdict}
 use Rattle.hub_tables.specs.declared.verdict.Verdict.TheVariants.{Accept, Refuse}
-use Rattle.hub_rules.specs.Book.{facts_of, facts_among, with_row}
+use Rattle.hub_lines.specs.Book.{facts_of, facts_among, with_row}
 use Rattle.hub_rules.specs.declared.known.Known.{Known}
-use Rattle.hub_rules.specs.declared.known.LineFacts.{LineFacts}
+use Rattle.hub_lines.specs.declared.facts.LineFacts.{LineFacts}
 use Rattle.edi_orders.specs.declared.response.Answer.{Answer}
 use Rattle.edi_orders.specs.declared.response.Answer.TheVariants.{AllAccepted, AllRefused, Lines}
 use Rattle.edi_orders.specs.declared.response.AnswerLine.{AnswerLine}

@@ -10,9 +10,9 @@ use Rattle.hub_tables.specs.declared.cases.Side.TheVariants.{Retailer, Supplier,
 use Rattle.hub_tables.specs.declared.delivery.Cancel.{Cancel}
 use Rattle.hub_tables.specs.declared.delivery.Delivery.{Delivery}
 use Rattle.hub_tables.specs.declared.rows.LineRow.{LineRow}
-use Rattle.hub_rules.specs.Book.{facts_of}
+use Rattle.hub_lines.specs.Book.{facts_of}
 use Rattle.hub_rules.specs.declared.known.Known.{Known}
-use Rattle.hub_rules.specs.declared.known.LineFacts.{LineFacts}
+use Rattle.hub_lines.specs.declared.facts.LineFacts.{LineFacts}
 use Rattle.edi_orders.specs.declared.order.Order.{Order}
 use Rattle.edi_orders.specs.declared.response.Response.{Response}
 use Rattle.edi_goods.specs.declared.despatch.Despatch.{Despatch}
@@ -37,10 +37,6 @@ TellsLines state lines order = lines_of state order ≡ rows (facts_of lines ord
 -- what of each line is despatched
 abbrev pub TellsDespatched : Tables → List LineFacts → Type 0
 TellsDespatched state lines = AllByRecursion (λ line. despatched state line.row ≡ line.despatched) lines
-
--- what is open, refused and cancelled of a line is no more than what is ordered
-abbrev pub IsCovered : LineFacts → Type 0
-IsCovered line = line.row.open_qty + line.row.refused + line.row.cancelled ≤ line.row.ordered
 
 -- what is asked for an ORDERS
 pub record TellsForOrder (known : Known) (delivery : Delivery) (order : Order) (state : Tables) : Type 0 where

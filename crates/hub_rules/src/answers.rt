@@ -9,14 +9,12 @@ ghost use Rattle.hub_tables.specs.declared.change.Change.TheVariants.{SetLine};
 ghost use Rattle.hub_tables.specs.declared.rows.LineRow.{LineRow};
 ghost use Rattle.hub_tables.specs.declared.verdict.Verdict.{Verdict};
 ghost use Rattle.hub_tables.specs.declared.verdict.Verdict.TheVariants.{Refuse};
+ghost use Rattle.hub_lines.specs.Book.{IsCovered};
 ghost use Rattle.hub_rules.specs.FromFacts.{answer_checks, after_answer, answers_from, waiting_of};
-ghost use Rattle.hub_rules.specs.Known.{IsCovered};
 
-use crate::book::Book;
-use crate::known::LineFacts;
-use crate::lines::copied_row;
 use edi_base::{Items, MemoryFault};
 use edi_orders::{AnswerLine, LineAnswer};
+use hub_lines::{Book, LineFacts, copied_row};
 use hub_tables::{Answered, Change, Code, Column, LineRow, Verdict};
 use std::alloc::Global;
 

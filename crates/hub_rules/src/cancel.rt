@@ -3,15 +3,16 @@ ghost use Rattle.std.specs.Prelude.{◌≡◌, IfOk};
 ghost use Rattle.std.specs.List.{AllByRecursion};
 ghost use Rattle.hub_tables.specs.Rules as rules;
 ghost use Rattle.hub_tables.specs.Tables.{Tables};
+ghost use Rattle.hub_lines.specs.Book.{IsCovered};
 ghost use Rattle.hub_rules.specs.FromFacts.{of_line, cancelled_from};
-ghost use Rattle.hub_rules.specs.Known.{IsCovered, TellsForCancel};
+ghost use Rattle.hub_rules.specs.Known.{TellsForCancel};
 ghost use Rattle.hub_rules.specs.Party.{supplier_of};
 
 use crate::known::Known;
-use crate::lines::{copied_row, is_known, line_numbered};
 use crate::party::registered_supplier;
 use crate::remembering::repeats;
 use edi_base::{Items, MemoryFault, copied};
+use hub_lines::{copied_row, is_known, line_numbered};
 use hub_register::SupplierRow;
 use hub_tables::{Cancel, Change, Code, Column, LineRow, RememberedRow, Side, Verdict};
 use std::alloc::Global;

@@ -7,21 +7,19 @@ ghost use Rattle.hub_tables.specs.Rules as rules;
 ghost use Rattle.hub_tables.specs.Tables.{Tables};
 ghost use Rattle.hub_tables.specs.declared.verdict.Verdict.{Verdict};
 ghost use Rattle.hub_tables.specs.declared.verdict.Verdict.TheVariants.{Refuse};
-ghost use Rattle.hub_rules.specs.Book.{Rise};
+ghost use Rattle.hub_lines.specs.Book.{Rise};
 ghost use Rattle.hub_rules.specs.FromFacts.{despatch_checks, lines_from, new_pallet, unit_checks, units_from};
 ghost use Rattle.hub_rules.specs.Known.{TellsForDespatch};
 ghost use Rattle.hub_rules.specs.Party.{supplier_in, supplier_of};
-ghost use Rattle.hub_rules.specs.declared.known.LineFacts.{LineFacts};
+ghost use Rattle.hub_lines.specs.declared.facts.LineFacts.{LineFacts};
 
-use crate::book::Book;
-use crate::known::{Known, LineFacts};
-use crate::lines::copied_row;
-use crate::order_numbers::OrderNumbers;
+use crate::known::Known;
 use crate::party::admitted;
 use crate::remembering::{remember, repeats};
 use edi_base::{Items, MemoryFault, copied};
 use edi_goods::{Despatch, DespatchLine, Unit};
 use gs1_ids::{Gln, Sscc};
+use hub_lines::{Book, LineFacts, OrderNumbers, copied_row};
 use hub_register::SupplierRow;
 use hub_tables::{
     AdviceRow, Arrival, Change, Code, Column, ContentRow, Delivery, PalletRow, Side, Verdict,

@@ -1,15 +1,7 @@
 //! What is known of the tables when a message or a cancellation is judged.
 use edi_base::Items;
-use hub_tables::{LineRow, PalletRow};
-
-/// A line of an order, and what of it is despatched.
-#[derive(Debug, Drop)]
-pub struct LineFacts {
-    /// The row of the line.
-    pub row: LineRow,
-    /// What of the line is despatched, in pieces: the sum of the contents that name it.
-    pub despatched: u32,
-}
+use hub_lines::LineFacts;
+use hub_tables::PalletRow;
 
 /// What is known of one supplier's rows when a message or a cancellation is judged. A judge reads what its checks ask for.
 #[derive(Debug, Drop)]

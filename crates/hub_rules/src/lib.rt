@@ -2,16 +2,11 @@
 #![tactic(auto)]
 
 mod answers;
-mod book;
-mod by_item;
-mod by_number;
 mod cancel;
 mod despatch;
 mod known;
-mod lines;
 mod mail;
 mod order;
-mod order_numbers;
 mod party;
 mod receipt;
 mod remembering;
@@ -20,7 +15,8 @@ mod totals;
 
 pub use cancel::judge_cancel;
 pub use despatch::judge_despatch;
-pub use known::{Known, LineFacts};
+pub use hub_lines::LineFacts;
+pub use known::Known;
 pub use order::judge_order;
 pub use receipt::judge_receipt;
 pub use response::judge_response;

@@ -1,17 +1,18 @@
 ghost use Rattle.std.specs.Prelude.{◌≡◌, IfOk, IsTrue};
 ghost use Rattle.std.specs.List.{AllByRecursion};
 ghost use Rattle.std.specs.declared.cmp.Ordering.TheVariants.{Less};
-ghost use Rattle.hub_rules.specs.Book.{Rise, facts_cmp};
-ghost use Rattle.hub_rules.specs.Known.{IsCovered};
+ghost use Rattle.hub_lines.specs.Book.{Rise, facts_cmp, IsCovered};
 
 mod cancellations;
 mod despatches;
 mod orders;
+mod receipts;
 mod responses;
 
 use crate::{Known, LineFacts};
 use edi_base::{Items, copied};
-use edi_envelope::Moment;
+use edi_envelope::{Moment, RawMessage, open};
+use edi_tokens::read_all;
 use gs1_ids::{Gln, Gtin, Prefix};
 use hub_register::{Key, SupplierRow};
 use hub_tables::{Answered, Change, Column, Delivery, LineRow, Verdict};
@@ -155,6 +156,16 @@ fn known(alloc: Global, lines: [Line; 3], remembered: Option<&str>) -> Result<Kn
     })
 }
 
+// The message of these segments, UNT left out.
+fn message(alloc: Global, segments: &str) -> Result<RawMessage, Fail> {
+    let count = segments.matches("'").count().saturating_add(1);
+    let text = format!(in alloc;
+        "UNB+UNOC:3+5412345000013:14+5412345000006:14+250603:0915+1001'{segments}UNT+{count}+1'UNZ+1+1001'"
+    )?;
+    let interchange = open(alloc, read_all(alloc, text.as_bytes())?)?;
+    Ok(interchange.messages.into_vec().pop().ok_or("a message")?)
+}
+
 fn text(bytes: &Items<u8>) -> Result<&str, Fail> {
     Ok(str::from_utf8(bytes.as_slice())?)
 }
@@ -214,6 +225,17 @@ fn change_told(alloc: Global, change: &Change) -> Result<String, Fail> {
             row.supplier,
             text(&row.advice)?,
             row.received.case()
+        )?,
+        Change::SetPallet(row) => format!(in alloc;
+            "set {} {} {} {:?}",
+            row.sscc,
+            row.supplier,
+            text(&row.advice)?,
+            row.received.case()
+        )?,
+        Change::AddReceipt(row) => format!(in alloc;
+            "receipt {} {} {} {} {}",
+            row.sscc, row.gtin, row.accepted, row.returned, row.destroyed
         )?,
         Change::AddContent(row) => format!(in alloc;
             "content {} {} {} {} {}",

@@ -8,6 +8,8 @@ use gs1_ids::Sscc;
 
 const FIRST: &str = "340123455000000012";
 
+const SECOND: &str = "340123455000000029";
+
 const BETAS: &str = "387123450000000012";
 
 // A unit with lines of order 128576, or of another order, each of so many pieces of the item.
@@ -41,18 +43,44 @@ fn despatch(alloc: Global, unit: Unit) -> Result<Despatch, Fail>
     })
 }
 
-// What comes of a unit where a line has 24 open, and its SSCC is used or not.
-fn despatch_is(alloc: Global, unit: Unit, used: bool, words: &str, want: &str) -> Result<(), Fail> {
+// A despatch advice of two units, as it is read: each of one line, the first of order 128576 and the second of another one.
+fn two_units(alloc: Global, first: &str, second: &str) -> Result<Despatch, Fail>
+    ensures { IfOk result (λ despatch. has_twice (map (λ unit. unit.sscc) despatch.units) ≡ false) }
+{
+    let segments = format!(in alloc;
+        "UNH+1+DESADV:D:01B:UN:EAN007'BGM+351+DA2+9'DTM+137:20250604:102'RFF+ON:128576'NAD+SU+4012345500004::9'CPS+1'GIN+BJ+{first}'LIN+1++4000862141404:SRV'QTY+12:20'CPS+2'GIN+BJ+{second}'LIN+1++4000862141404:SRV'QTY+12:4'RFF+ON:128578'"
+    )?;
+    let message = message(alloc, segments.as_str())?;
+    Ok(Despatch::read(alloc, &message)?)
+}
+
+// What comes of an advice where a line has 24 open, and the SSCC of its units are used or not.
+fn advice_is(
+    alloc: Global,
+    despatch: &Despatch,
+    used: &[bool],
+    words: &str,
+    want: &str,
+) -> Result<(), Fail>
+    requires { has_twice (map (λ unit. unit.sscc) despatch.now.units) ≡ false }
+{
     let row = alpha()?;
     let retailer = gln(RETAILER)?;
     let line = ("128576", 1, [48, 24, 24, 0, 0], Answered::Changed);
     let mut known = known(alloc, [BEFORE, line, BEHIND], remembered(words))?;
-    known.used.push(used)?;
+    for used in used {
+        known.used.push(*used)?;
+    }
     known.number_known = words.contains("known advice");
     let delivery = delivery(alloc)?;
-    let despatch = despatch(alloc, unit)?;
-    let verdict = judge_despatch(alloc, &retailer, Some(&row), known, delivery, &despatch)?;
+    let verdict = judge_despatch(alloc, &retailer, Some(&row), known, delivery, despatch)?;
     is_told(alloc, &verdict, want)
+}
+
+// The same of an advice of one unit.
+fn despatch_is(alloc: Global, unit: Unit, used: bool, words: &str, want: &str) -> Result<(), Fail> {
+    let despatch = despatch(alloc, unit)?;
+    advice_is(alloc, &despatch, &[used], words, want)
 }
 
 #[test]
@@ -115,4 +143,21 @@ fn an_advice_that_comes_again_changes_nothing(rt: HostRuntime) -> Result<(), Fai
     let alloc = rt.alloc();
     let unit = unit(alloc, FIRST, "128576", [20, 4])?;
     despatch_is(alloc, unit, true, "known advice, same content", "accepted")
+}
+
+#[test]
+fn a_first_unit_of_another_prefix_goes_before_a_second_of_an_unknown_order(
+    rt: HostRuntime,
+) -> Result<(), Fail> {
+    let alloc = rt.alloc();
+    let despatch = two_units(alloc, BETAS, SECOND)?;
+    advice_is(alloc, &despatch, &[false, false], "", "B11")
+}
+
+#[test]
+fn a_second_units_sscc_goes_before_its_lines(rt: HostRuntime) -> Result<(), Fail> {
+    let alloc = rt.alloc();
+    let despatch = two_units(alloc, FIRST, SECOND)?;
+    advice_is(alloc, &despatch, &[false, false], "", "B05")?;
+    advice_is(alloc, &despatch, &[false, true], "", "B12")
 }

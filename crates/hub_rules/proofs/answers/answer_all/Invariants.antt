@@ -1,8 +1,8 @@
 use Rattle.std.proofs.Common.{◌≡◌, ◌++◌, map, drop}
 use Rattle.std.specs.List.{AllByRecursion}
 use Rattle.hub_tables.specs.declared.change.Change.TheVariants.{SetLine}
+use Rattle.hub_lines.specs.Book.{IsCovered}
 use Rattle.hub_rules.specs.FromFacts.{after_answer, waiting_of}
-use Rattle.hub_rules.specs.Known.{IsCovered}
 use Rattle.hub_rules.proofs.answers.answer_all.Given as goal
 
 -- the changes so far, and those of the lines that are left

@@ -2,10 +2,9 @@ use Rattle.std.proofs.Common.{◌≡◌, ◌+◌, ◌∷◌, List, drop, sym, su
 use Rattle.std.specs.List.{AllByRecursion}
 use Rattle.std.proofs.lemmas.List.{drop_more}
 use Rattle.hub_tables.specs.Judging.{joined}
-use Rattle.hub_rules.specs.Book.{with_row, answered_row}
+use Rattle.hub_lines.specs.Book.{with_row, answered_row, IsCovered}
 use Rattle.hub_rules.specs.FromFacts.{answers_from}
-use Rattle.hub_rules.specs.Known.{IsCovered}
-use Rattle.hub_rules.specs.declared.known.LineFacts.{LineFacts}
+use Rattle.hub_lines.specs.declared.facts.LineFacts.{LineFacts}
 use Rattle.hub_rules.proofs.Answered.{answered_next, row_is_set, covered_after}
 use Rattle.hub_rules.proofs.answers.answer_lines.Goals as goal
 

@@ -1,8 +1,8 @@
 use Rattle.std.proofs.Common.{◌≡◌, drop}
 use Rattle.std.specs.List.{AllByRecursion}
 use Rattle.hub_tables.specs.Judging.{joined}
+use Rattle.hub_lines.specs.Book.{IsCovered}
 use Rattle.hub_rules.specs.FromFacts.{answers_from}
-use Rattle.hub_rules.specs.Known.{IsCovered}
 use Rattle.hub_rules.proofs.answers.answer_lines.Given as goal
 
 -- the answers that are left, on what the earlier ones left

@@ -6,7 +6,7 @@ use Rattle.hub_tables.specs.declared.verdict.Verdict.{Verdict}
 use Rattle.hub_tables.specs.declared.verdict.Verdict.TheVariants.{Refuse}
 use Rattle.hub_rules.specs.FromFacts.{lines_from, new_pallet, units_from}
 use Rattle.hub_rules.specs.Party.{supplier_in}
-use Rattle.hub_rules.specs.declared.known.LineFacts.{LineFacts}
+use Rattle.hub_lines.specs.declared.facts.LineFacts.{LineFacts}
 use Rattle.hub_rules.proofs.Despatched.{unit_next}
 use Rattle.hub_rules.proofs.despatch.judge_units.Goals as goal
 

@@ -4,9 +4,9 @@ use Rattle.edi_base.specs.Seen.{is_among}
 use Rattle.hub_tables.specs.Judging.{joined}
 use Rattle.hub_tables.specs.declared.change.Change.{Change}
 use Rattle.hub_tables.specs.declared.change.Change.TheVariants.{AddContent}
-use Rattle.hub_rules.specs.Book.{facts_of, facts_among, with_row, answered_row}
+use Rattle.hub_lines.specs.Book.{facts_of, facts_among, with_row, answered_row}
 use Rattle.hub_rules.specs.FromFacts.{lines_from}
-use Rattle.hub_rules.specs.declared.known.LineFacts.{LineFacts}
+use Rattle.hub_lines.specs.declared.facts.LineFacts.{LineFacts}
 use Rattle.hub_rules.proofs.Despatched.{despatched_next}
 use Rattle.hub_rules.proofs.despatch.load.Goals as goal
 

@@ -2,7 +2,7 @@ use Rattle.std.proofs.Common.{◌≡◌, List, drop}
 use Rattle.hub_tables.specs.Judging.{joined}
 use Rattle.hub_tables.specs.declared.verdict.Verdict.{Verdict}
 use Rattle.hub_rules.specs.FromFacts.{lines_from}
-use Rattle.hub_rules.specs.declared.known.LineFacts.{LineFacts}
+use Rattle.hub_lines.specs.declared.facts.LineFacts.{LineFacts}
 use Rattle.hub_rules.proofs.despatch.load.Given as goal
 
 -- the lines that are left, on what the earlier ones left

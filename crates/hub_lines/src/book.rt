@@ -1,0 +1,84 @@
+//! The lines of the orders that a message names, while it is judged.
+ghost use Rattle.std.specs.Prelude.{◌≡◌, ◌<◌, length, slice_get, IfOk, Some, None};
+ghost use Rattle.std.specs.Option.{IfSome, IfNone};
+ghost use Rattle.hub_tables.specs.Cases.{answer_letter};
+ghost use Rattle.hub_lines.specs.Book.{Rise, facts_of, facts_among, with_row, answered_row};
+ghost use Rattle.hub_lines.specs.declared.facts.LineFacts.{LineFacts};
+
+use crate::by_item::{ItemIndex, index_items, place_by_item};
+use crate::by_number::place_by_number;
+use crate::facts::LineFacts;
+use edi_base::{Items, MemoryFault};
+use gs1_ids::Gtin;
+use hub_tables::{Answered, Column};
+use std::alloc::Global;
+use std::marker::Model;
+
+/// The lines of the orders that a message names, as the message has left them so far.
+#[derive(Debug, Drop)]
+pub struct Book {
+    lines: Vec<LineFacts>,
+    items: ItemIndex,
+}
+
+impl Model for Book {
+    ghost use Rattle.std.specs.Prelude.{List};
+    ghost use Rattle.hub_lines.specs.ItemIndex.{Indexed};
+    ghost use Rattle.hub_lines.specs.declared.facts.LineFacts.{LineFacts};
+
+    ghost Value = { List LineFacts };
+
+    ghost view = { λ book. book.lines.items };
+
+    ghost invariant = { λ book. Indexed book.lines.items book.items };
+}
+
+impl Book {
+    /// The book of lines.
+    pub fn new(alloc: Global, lines: Items<LineFacts>) -> Result<Book, MemoryFault>
+        requires { Rise lines }
+        ensures { IfOk result (λ book. book ≡ lines) }
+    {
+        let lines = lines.into_vec();
+        let items = index_items(alloc, lines.as_slice())?;
+        Ok(Book { lines, items })
+    }
+
+    /// The place of the line of an order: of the number, or where none is given of the only one with the item.
+    pub fn place_of(&self, order: &[u8], number: Option<u32>, gtin: &Gtin) -> Option<usize>
+        ensures some { IfSome result (λ place. (place < length self.now) × (facts_among (facts_of self.now order.now) number gtin.now ≡ slice_get self.now place)) }
+        ensures none { IfNone result (facts_among (facts_of self.now order.now) number gtin.now ≡ None) }
+    {
+        match number {
+            Some(number) => place_by_number(self.lines.as_slice(), order, number),
+            None => place_by_item(self.lines.as_slice(), &self.items, order, gtin),
+        }
+    }
+
+    /// The line at a place.
+    pub fn line(&self, place: usize) -> &LineFacts
+        requires { place < length self.now }
+        ensures { slice_get self.now place ≡ Some result.now }
+    {
+        &self.lines[place]
+    }
+
+    /// Sets what is open and refused of the line at a place, what is cancelled, and how it is answered.
+    pub fn set(
+        &mut self,
+        place: usize,
+        open_qty: u32,
+        refused: u32,
+        cancelled: u32,
+        answer: Answered,
+    )
+        requires { place < length self.old }
+        ensures { (line : LineFacts) → slice_get self.old place ≡ Some line → self.new ≡ with_row (answered_row line.row open_qty refused cancelled (answer_letter answer)) self.old }
+    {
+        let line = &mut self.lines[place];
+        line.row.open_qty = open_qty;
+        line.row.refused = refused;
+        line.row.cancelled = cancelled;
+        line.row.answer = Column::of(answer);
+    }
+}

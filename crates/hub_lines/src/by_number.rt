@@ -1,0 +1,49 @@
+//! Lines by order number and line number.
+ghost use Rattle.std.specs.Prelude.{◌≡◌, ◌<◌, ◌==◌, ◌&&◌, Some, None, length, slice_get, find};
+ghost use Rattle.std.specs.Option.{IfSome, IfNone};
+ghost use Rattle.hub_tables.specs.Rows.{same};
+ghost use Rattle.hub_lines.specs.Book.{Rise, facts_of};
+ghost use Rattle.hub_lines.specs.Key.{key_of, keys_of, is_below, place_from};
+ghost use Rattle.hub_lines.specs.declared.facts.LineFacts.{LineFacts};
+
+use crate::facts::LineFacts;
+
+// Whether a line is below a line number of an order.
+fn is_below(line: &LineFacts, order: &[u8], number: u32) -> bool
+    ensures { result ≡ is_below order.now number (key_of line.now) }
+{
+    line.row
+        .number
+        .as_slice()
+        .cmp(order)
+        .then(line.row.line.cmp(&number))
+        .is_lt()
+}
+
+/// How many lines are below a line number of an order: the place of the line itself, where it is one of the lines.
+pub(crate) fn place_from(lines: &[LineFacts], order: &[u8], number: u32) -> usize
+    requires { Rise lines.now }
+    ensures { result ≡ place_from order.now number (keys_of lines.now) }
+{
+    lines.partition_point(|line| is_below(line, order, number))
+}
+
+// Whether a line is that of an order with a number.
+fn is_numbered(line: &LineFacts, order: &[u8], number: u32) -> bool
+    ensures { result ≡ (same line.now.row.number order.now && (line.now.row.line == number)) }
+{
+    line.row.number.as_slice() == order && line.row.line == number
+}
+
+/// The place of the line of an order with a number.
+pub(crate) fn place_by_number(lines: &[LineFacts], order: &[u8], number: u32) -> Option<usize>
+    requires { Rise lines.now }
+    ensures some { IfSome result (λ place. (place < length lines.now) × (find (λ (line : LineFacts). line.row.line == number) (facts_of lines.now order.now) ≡ slice_get lines.now place)) }
+    ensures none { IfNone result (find (λ (line : LineFacts). line.row.line == number) (facts_of lines.now order.now) ≡ None) }
+{
+    let place = place_from(lines, order, number);
+    match lines.get(place) {
+        Some(line) if is_numbered(line, order, number) => Some(place),
+        _ => None,
+    }
+}

@@ -1,0 +1,15 @@
+//! The orders and lines that a message or a cancellation names, as they are known while it is judged: looked up by number
+//! and by item without a walk over all lines, and set one after another.
+#![tactic(auto)]
+
+mod book;
+mod by_item;
+mod by_number;
+mod facts;
+mod lines;
+mod order_numbers;
+
+pub use book::Book;
+pub use facts::LineFacts;
+pub use lines::{copied_row, is_known, line_numbered};
+pub use order_numbers::OrderNumbers;
