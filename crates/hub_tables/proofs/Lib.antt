@@ -1,3 +1,4 @@
+pub mod Alike
 pub mod Changes
 mod Examples
 pub mod GoodRows
@@ -9,6 +10,7 @@ pub mod KeptByOrders
 pub mod KeptByReceipts
 pub mod KeptByResponses
 pub mod KeptLists
+pub mod KeptMail
 pub mod KeyOrder
 pub mod KindOrders
 pub mod Lists
@@ -16,3 +18,4 @@ pub mod Owned
 pub mod Prefixes
 pub mod Sets
 pub mod Verdicts
+pub mod Views

@@ -1,0 +1,144 @@
+-- Messages, cancellations and taken marks of one supplier, in the tables of all and in its own rows alone.
+use Rattle.std.proofs.Common.{◌≡◌, ℕ, List, Bool, true, false, [], ◌∷◌, cond, ◌==◌, codes, Some, None, Result, Ok, Err, refl}
+use Rattle.edi_messages.specs.Fault as message_faults
+use Rattle.edi_messages.specs.declared.fault.MessageFault.{MessageFault}
+use Rattle.edi_messages.specs.declared.fault.MessageFault.TheVariants.{MessageType}
+use Rattle.edi_orders.specs.Order.{order_of}
+use Rattle.edi_orders.specs.Response.{response_of}
+use Rattle.edi_orders.proofs.Read.{order_apart}
+use Rattle.edi_goods.specs.Despatch.{despatch_of}
+use Rattle.edi_goods.specs.Receipt.{receipt_of}
+use Rattle.hub_tables.specs.Cases.{truth_number}
+use Rattle.hub_tables.specs.Change.{apply_all}
+use Rattle.hub_tables.specs.Judging.{refuse_if}
+use Rattle.hub_tables.specs.Rows.{same}
+use Rattle.hub_tables.specs.Rules.{is_other_buyer, judge_order, judge_receipt, judge_response, judge_despatch}
+use Rattle.hub_tables.specs.Suppliers.{Supplier, supplier_of, PrefixFree}
+use Rattle.hub_tables.specs.Tables.{Tables, has_pallet, view, empty}
+use Rattle.hub_tables.specs.declared.change.Change.TheVariants.{SetMail}
+use Rattle.hub_tables.specs.declared.code.Code.{Code}
+use Rattle.hub_tables.specs.declared.code.Code.TheVariants as rules
+use Rattle.hub_tables.specs.declared.delivery.Cancel.{Cancel}
+use Rattle.hub_tables.specs.declared.rows.MailRow.{MailRow}
+use Rattle.hub_tables.specs.declared.verdict.Verdict.{Verdict}
+use Rattle.hub_tables.specs.declared.verdict.Verdict.TheVariants.{Refuse}
+use Rattle.hub_tables.proofs.Alike.{despatch_alike}
+use Rattle.hub_tables.proofs.Changes.{used_seen}
+use Rattle.hub_tables.proofs.GoodRows.{keeps_from}
+use Rattle.hub_tables.proofs.KeptByCancels.{leads_cancel}
+use Rattle.hub_tables.proofs.KeptByDespatches.{leads_despatch}
+use Rattle.hub_tables.proofs.KeptByOrders.{leads_order}
+use Rattle.hub_tables.proofs.KeptByReceipts.{leads_receipt}
+use Rattle.hub_tables.proofs.KeptByResponses.{leads_response}
+use Rattle.hub_tables.proofs.KeptMail.{kept_set_mail}
+use Rattle.hub_tables.proofs.Lists.{all_found}
+use Rattle.hub_tables.proofs.Owned.{own_after}
+use Rattle.hub_law.specs.CancelText.{cancel_text}
+use Rattle.hub_law.specs.MailText.{entry_at, is_taken}
+use Rattle.hub_law.specs.Messages.{Sent, delivery_of, body_of, deliver_retailers, deliver_suppliers, cancel}
+use Rattle.hub_law.specs.Register.{Parties}
+use Rattle.hub_law.specs.Requests.{taking}
+use Rattle.hub_law.specs.Sound.{Sound}
+use Rattle.hub_law.specs.Told.{Told, Refused, changed, read_act}
+use Rattle.hub_law.proofs.Acting.{Apart, SameAct}
+use Rattle.hub_law.proofs.Judged.{good_view, unchanged, nothing_done, either, after_changes, same_verdict, same_reading}
+
+module _ (suppliers : List Supplier) (free : PrefixFree suppliers) (parties : Parties) (s : Supplier) (known : supplier_of suppliers s.gln ≡ Some s) where
+  response_act : (sent : Sent) (t : Tables) → Sound suppliers t →
+      SameAct suppliers s t (read_act (response_of sent.message) (λ response. judge_response parties.retailer (Some s) (delivery_of sent) response (view s.gln t)) t)
+      (read_act (response_of sent.message) (λ response. judge_response parties.retailer (Some s) (delivery_of sent) response (view s.gln t)) (view s.gln t))
+  response_act sent t sound =
+      same_reading suppliers free s known t sound (response_of sent.message) _ _ (λ response. refl)
+      (λ response read changes h. keeps_from s (view s.gln t) changes (leads_response s parties.retailer (delivery_of sent) response (view s.gln t) changes (good_view suppliers s t sound) h))
+
+  despatch_act : (sent : Sent) (t : Tables) → Sound suppliers t →
+      SameAct suppliers s t (read_act (despatch_of sent.message) (λ despatch. judge_despatch parties.retailer (Some s) (has_pallet t) (delivery_of sent) despatch (view s.gln t)) t)
+      (read_act (despatch_of sent.message) (λ despatch. judge_despatch parties.retailer (Some s) (has_pallet (view s.gln t)) (delivery_of sent) despatch (view s.gln t)) (view s.gln t))
+  despatch_act sent t sound =
+      same_reading suppliers free s known t sound (despatch_of sent.message) _ _
+      (λ despatch. despatch_alike s (has_pallet t) (has_pallet (view s.gln t)) (used_seen suppliers free s known t sound.rooted) parties.retailer (delivery_of sent) despatch (view s.gln t))
+      (λ despatch read changes h. keeps_from s (view s.gln t) changes (leads_despatch s parties.retailer (has_pallet (view s.gln t)) (delivery_of sent) despatch (view s.gln t) changes (good_view suppliers s t sound) h))
+
+  order_act : (sent : Sent) (t : Tables) → Sound suppliers t →
+      SameAct suppliers s t (read_act (order_of sent.message) (λ order. judge_order parties.retailer (Some s) (delivery_of sent) (body_of sent) order (view s.gln t)) t)
+      (read_act (order_of sent.message) (λ order. judge_order parties.retailer (Some s) (delivery_of sent) (body_of sent) order (view s.gln t)) (view s.gln t))
+  order_act sent t sound =
+      same_reading suppliers free s known t sound (order_of sent.message) _ _ (λ order. refl)
+      (λ order read changes h. keeps_from s (view s.gln t) changes (leads_order s parties.retailer (delivery_of sent) (body_of sent) order (order_apart sent.message order read) (view s.gln t) changes (good_view suppliers s t sound) h))
+
+  receipt_act : (sent : Sent) (t : Tables) → Sound suppliers t →
+      SameAct suppliers s t (read_act (receipt_of sent.message) (λ receipt. judge_receipt parties.retailer (Some s) (delivery_of sent) (body_of sent) receipt (view s.gln t)) t)
+      (read_act (receipt_of sent.message) (λ receipt. judge_receipt parties.retailer (Some s) (delivery_of sent) (body_of sent) receipt (view s.gln t)) (view s.gln t))
+  receipt_act sent t sound =
+      same_reading suppliers free s known t sound (receipt_of sent.message) _ _ (λ receipt. refl)
+      (λ receipt read changes h. keeps_from s (view s.gln t) changes (leads_receipt s parties.retailer (delivery_of sent) (body_of sent) receipt (view s.gln t) changes (good_view suppliers s t sound) h))
+
+  pub suppliers_act : (sent : Sent) (t : Tables) → Sound suppliers t → SameAct suppliers s t (deliver_suppliers (view s.gln) parties s sent t) (deliver_suppliers (λ rows. rows) parties s sent (view s.gln t))
+  suppliers_act sent t sound =
+      either suppliers s t sound (same sent.message.kind (codes "ORDRSP")) _ _ _ _ (response_act sent t sound)
+      (either suppliers s t sound (same sent.message.kind (codes "DESADV")) _ _ _ _ (despatch_act sent t sound)
+      (nothing_done suppliers s t sound (Refused (message_faults.code_text MessageType))))
+
+  pub retailers_act : (sent : Sent) (t : Tables) → Sound suppliers t → SameAct suppliers s t (deliver_retailers (view s.gln) parties (Some s) sent t) (deliver_retailers (λ rows. rows) parties (Some s) sent (view s.gln t))
+  retailers_act sent t sound =
+      either suppliers s t sound (same sent.message.kind (codes "ORDERS")) _ _ _ _ (order_act sent t sound)
+      (either suppliers s t sound (same sent.message.kind (codes "RECADV")) _ _ _ _ (receipt_act sent t sound)
+      (nothing_done suppliers s t sound (Refused (message_faults.code_text MessageType))))
+
+  pub cancel_act : (c : Cancel) (t : Tables) → Sound suppliers t → SameAct suppliers s t (cancel (view s.gln) (Some s) c t) (cancel (λ rows. rows) (Some s) c (view s.gln t))
+  cancel_act c t sound =
+      same_verdict suppliers free s known t sound _ _ refl
+      (λ changes h. keeps_from s (view s.gln t) changes (leads_cancel s (cancel_text c) c (view s.gln t) changes (good_view suppliers s t sound) h))
+
+  -- an entry that is taken stays so, and any other is marked
+  pub taking_act : (number : ℕ) (entry : MailRow) (t : Tables) → Sound suppliers t → entry_at (view s.gln t) number ≡ Some entry → Apart suppliers s t (apply_all (taking entry) t) (apply_all (taking entry) (view s.gln t))
+  taking_act number entry t sound found =
+      let good = good_view suppliers s t sound in
+      let whose = (all_found (λ m. m.supplier ≡ s.gln) (λ m. m.number == number) (view s.gln t).mail entry (good.own).mail found).0 in
+      let row : MailRow = record entry { taken = truth_number true } in
+      elim (is_taken entry) as (λ v. Apart suppliers s t (apply_all (cond v [] (SetMail row ∷ [])) t) (apply_all (cond v [] (SetMail row ∷ [])) (view s.gln t))) [
+        | true ↦ unchanged suppliers s t sound
+        | false ↦ after_changes suppliers free s known t sound (SetMail row ∷ []) (record { belong = (whose, tt); own = own_after s (view s.gln t) (SetMail row) whose good.own; kept = kept_set_mail (view s.gln t) row good.kept })
+      ]
+
+either_nothing : (test : Bool) (one other : Told × Tables) (t : Tables) → one.1 ≡ t → other.1 ≡ t → (cond test one other).1 ≡ t
+either_nothing true one other t first second = first
+either_nothing false one other t first second = second
+
+read_nothing : {X : Type 0} (read : Result X MessageFault) (judge : X → Verdict) (t : Tables) → ((x : X) → changed (judge x) t ≡ t) → (read_act read judge t).1 ≡ t
+read_nothing (Err fault) judge t f = refl
+read_nothing (Ok x) judge t f = f x
+
+refused_anyway : (test : Bool) (first second : Code) (t : Tables) → changed (refuse_if test first (Refuse second)) t ≡ t
+refused_anyway true first second t = refl
+refused_anyway false first second t = refl
+
+-- what names no registered supplier changes nothing
+pub nobodys_message : (look : Tables → Tables) (parties : Parties) (sent : Sent) (t : Tables) → (deliver_retailers look parties None sent t).1 ≡ t
+nobodys_message look parties sent t =
+    either_nothing (same sent.message.kind (codes "ORDERS")) _ _ t
+    (read_nothing (order_of sent.message) _ t (λ order. refused_anyway (is_other_buyer parties.retailer (Some order.buyer)) rules.Buyer rules.Supplier t))
+    (either_nothing (same sent.message.kind (codes "RECADV")) _ _ t
+    (read_nothing (receipt_of sent.message) _ t (λ receipt. refused_anyway (is_other_buyer parties.retailer receipt.buyer) rules.Buyer rules.Supplier t)) refl)
+
+pub nobodys_cancellation : (look : Tables → Tables) (c : Cancel) (t : Tables) → (cancel look None c t).1 ≡ t
+nobodys_cancellation look c t = refl
+
+pub empty_sound : (suppliers : List Supplier) → Sound suppliers empty
+empty_sound suppliers = record {
+  rooted = record { ordered = record { orders = tt; lines = tt; advices = tt; pallets = tt; contents = tt; receipts = tt; remembered = tt; mail = tt }; pallets = tt; contents = tt; receipts = tt };
+  kept = λ gln. record {
+    orders = tt;
+    lines = tt;
+    advices = tt;
+    pallets = tt;
+    receipts = λ sscc. tt;
+    remembered = tt;
+    places = λ sscc. tt;
+    mail = tt;
+    line_orders = tt;
+    content_lines = tt;
+    receipt_pallets = tt;
+    balanced = tt;
+  };
+}

@@ -1,0 +1,10 @@
+pub mod Acting
+pub mod Acts
+pub mod Agreeing
+pub mod Balance
+mod Examples
+pub mod Judged
+pub mod Overlapping
+pub mod Retailers
+pub mod Runs
+pub mod Steps

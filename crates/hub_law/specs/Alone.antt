@@ -1,0 +1,65 @@
+-- One supplier alone: the items of inputs that are for it, and its machine over them.
+use Rattle.std.specs.Prelude.{ℕ, List, [], ◌∷◌, ◌++◌, map, filter, if◌then◌else◌, Option, Some, None}
+use Rattle.hub_tables.specs.Rows.{same}
+use Rattle.hub_tables.specs.Suppliers.{Supplier, supplier_of}
+use Rattle.hub_tables.specs.Tables.{Tables}
+use Rattle.hub_tables.specs.declared.delivery.Cancel.{Cancel}
+use Rattle.hub_law.specs.Machine.{Inputs, supplier_step}
+use Rattle.hub_law.specs.Mark.{Mark, Whole, StoppedEmpty, StoppedBare, StoppedAfter}
+use Rattle.hub_law.specs.Messages.{Sent, named, deliver_retailers, cancel}
+use Rattle.hub_law.specs.Register.{Parties, Register, is_retailers}
+use Rattle.hub_law.specs.Requests.{looked_at, from_retailer}
+use Rattle.hub_law.specs.declared.reply.Reply.{Reply}
+use Rattle.hub_law.specs.declared.request.Input.{Input}
+use Rattle.hub_law.specs.declared.request.Request.{Request}
+use Rattle.hub_law.specs.declared.request.Request.TheVariants as requests
+
+-- an input of its own; a message of the retailer that names it; a cancellation of the retailer for it
+pub data Item : Type 0 where
+  Own : Input → Mark → Item
+  Message : Sent → Item
+  Cancellation : Cancel → Item
+
+-- what an item does to the supplier's rows, and what is replied to it
+abbrev pub own_step : Parties → Supplier → Item → Tables → List Reply × Tables
+own_step parties s (Own input mark) state =
+    ((supplier_step (λ rows. rows) parties s input mark state).0 ∷ [], (supplier_step (λ rows. rows) parties s input mark state).1)
+own_step parties s (Message sent) state = ([], (deliver_retailers (λ rows. rows) parties (Some s) sent state).1)
+own_step parties s (Cancellation c) state = ([], (cancel (λ rows. rows) (Some s) c state).1)
+
+-- items one after another
+abbrev pub fold : Parties → Supplier → List Item → Tables → List Reply × Tables
+fold parties s [] state = ([], state)
+fold parties s (item ∷ items) state = (
+  (own_step parties s item state).0 ++ (fold parties s items (own_step parties s item state).1).0,
+  (fold parties s items (own_step parties s item state).1).1,
+)
+
+-- What of an input is for the supplier with a GLN.
+abbrev pub cancel_items : Mark → Cancel → List Item
+cancel_items Whole c = Cancellation c ∷ []
+cancel_items StoppedEmpty c = []
+cancel_items StoppedBare c = []
+cancel_items (StoppedAfter k) c = []
+
+abbrev pub retailer_items : List ℕ → Register → ℕ → Mark → Request → List Item
+retailer_items gln register moment mark (requests.Upload bytes) =
+    map Message (filter (λ sent. same (named sent) gln) (looked_at moment mark (from_retailer register.parties bytes)))
+retailer_items gln register moment mark (requests.MailAfter number) = []
+retailer_items gln register moment mark (requests.MailItem number) = []
+retailer_items gln register moment mark (requests.MailTaken number) = []
+retailer_items gln register moment mark requests.Status = []
+retailer_items gln register moment mark (requests.StatusOf other) = []
+retailer_items gln register moment mark (requests.Cancel c) = if same c.supplier gln then cancel_items mark c else []
+
+abbrev pub items_as : List ℕ → Register → Option Supplier → Input → Mark → List Item
+items_as gln register (Some s) input mark = if same input.caller gln then Own input mark ∷ [] else []
+items_as gln register None input mark =
+    if is_retailers register input then retailer_items gln register input.moment mark input.request else []
+
+abbrev pub items : List ℕ → Register → Input → Mark → List Item
+items gln register input mark = items_as gln register (supplier_of register.suppliers input.caller) input mark
+
+abbrev pub items_of : List ℕ → Register → Inputs → List Item
+items_of gln register [] = []
+items_of gln register ((input, mark) ∷ inputs) = items gln register input mark ++ items_of gln register inputs

@@ -1,0 +1,16 @@
+pub mod Alone
+pub mod CancelText
+pub mod Laws
+pub mod Machine
+pub mod MailText
+pub mod Mark
+pub mod Messages
+pub mod Opening
+pub mod Overlap
+pub mod Register
+pub mod Replies
+pub mod Requests
+pub mod Sound
+pub mod StatusText
+pub mod Told
+pub mod Widths

@@ -1,0 +1,41 @@
+-- Mailbox entries: the interchange of one, and the list of those that are not taken.
+use Rattle.std.specs.Prelude.{ℕ, ◌==◌, nat_lt, Bool, true, not, ◌&&◌, List, [], ◌∷◌, ◌++◌, filter, find, length, take, if◌then◌else◌, codes, Option}
+use Rattle.std.specs.Fmt.{decimal}
+use Rattle.std.specs.List.{flat_map}
+use Rattle.edi_tokens.specs.Text.{segment_text, una}
+use Rattle.edi_envelope.specs.Mail.{unb_from, unz_of}
+use Rattle.edi_envelope.specs.Moment.{date_text, time_text}
+use Rattle.hub_tables.specs.Cases.{kind_letter, truth_number}
+use Rattle.hub_tables.specs.Tables.{Tables}
+use Rattle.hub_tables.specs.declared.cases.MailKind.TheVariants as kinds
+use Rattle.hub_tables.specs.declared.rows.MailRow.{MailRow}
+use Rattle.hub_law.specs.Widths.{right, line}
+
+-- an entry as the hub's interchange for its owner, with the decimal mark with which its message came
+unfoldable pub mail_text : List ℕ → MailRow → List ℕ
+mail_text hub entry =
+    una entry.decimal
+    ++ segment_text (unb_from hub entry.supplier (date_text entry.moment) (time_text entry.moment) (decimal entry.number))
+    ++ entry.body
+    ++ segment_text (unz_of (decimal entry.number))
+
+abbrev pub entry_at : Tables → ℕ → Option MailRow
+entry_at state number = find (λ entry. entry.number == number) state.mail
+
+abbrev pub is_taken : MailRow → Bool
+is_taken entry = entry.taken == truth_number true
+
+-- the entries above a number that are not taken
+abbrev pub untaken_after : Tables → ℕ → List MailRow
+untaken_after state number = filter (λ entry. nat_lt number entry.number && not (is_taken entry)) state.mail
+
+abbrev pub type_of : ℕ → List ℕ
+type_of kind = if kind == kind_letter kinds.Orders then codes "ORDERS" else codes "RECADV"
+
+-- number right in 14 places, type, document number
+abbrev pub entry_line : MailRow → List ℕ
+entry_line entry = line (right 14 (decimal entry.number) ∷ type_of entry.kind ∷ entry.document ∷ [])
+
+-- the first 100, then whether there are more
+unfoldable pub list_text : List MailRow → List ℕ
+list_text entries = flat_map entry_line (take 100 entries) ++ line ((if nat_lt 100 (length entries) then codes "more" else codes "end") ∷ [])

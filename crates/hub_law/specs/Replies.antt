@@ -1,0 +1,81 @@
+-- Replies.
+use Rattle.std.specs.Prelude.{ℕ, nat_lt, true, false, List, [], ◌∷◌, ◌++◌, length, if◌then◌else◌, codes, Option, Some, None, Ok, Err}
+use Rattle.std.specs.Fmt.{decimal}
+use Rattle.std.specs.List.{list_any}
+use Rattle.edi_envelope.specs.declared.interchange.Interchange.{Interchange}
+use Rattle.edi_envelope.specs.declared.interchange.RawMessage.{RawMessage}
+use Rattle.hub_tables.specs.declared.rows.MailRow.{MailRow}
+use Rattle.hub_law.specs.MailText.{mail_text}
+use Rattle.hub_law.specs.Mark.{Mark, Whole, StoppedEmpty, StoppedBare, StoppedAfter}
+use Rattle.hub_law.specs.Opening.{Opened}
+use Rattle.hub_law.specs.Told.{Told, Accepted, Repeated, Refused, is_refused}
+use Rattle.hub_law.specs.Widths.{line}
+use Rattle.hub_law.specs.declared.reply.Outcome.{Outcome}
+use Rattle.hub_law.specs.declared.reply.Outcome.TheVariants.{Done, Bad, Denied, Unknown, Stopped}
+use Rattle.hub_law.specs.declared.reply.Reply.{Reply}
+
+abbrev pub reply : Outcome → List ℕ → Reply
+reply outcome body = record { outcome = outcome; refused = false; body = body }
+
+abbrev pub done : List ℕ → Reply
+done = reply Done
+
+abbrev pub denied : Reply
+denied = reply Denied (line (codes "denied" ∷ []))
+
+abbrev pub unknown : Reply
+unknown = reply Unknown (line (codes "unknown" ∷ []))
+
+abbrev pub stopped_line : List ℕ
+stopped_line = line (codes "stopped" ∷ [])
+
+abbrev pub stopped : Reply
+stopped = reply Stopped stopped_line
+
+-- the reply, unless the input was stopped
+abbrev pub unless_stopped : Mark → Reply → Reply
+unless_stopped Whole whole = whole
+unless_stopped StoppedEmpty whole = reply Stopped []
+unless_stopped StoppedBare whole = stopped
+unless_stopped (StoppedAfter k) whole = stopped
+
+-- the words for what is told
+abbrev pub told_words : Told → List (List ℕ)
+told_words Accepted = codes "accepted" ∷ []
+told_words Repeated = codes "repeated" ∷ []
+told_words (Refused code) = codes "refused" ∷ code ∷ []
+
+-- a line for the interchange, and one for each message of which something is told
+abbrev pub interchange_line : Interchange → List ℕ
+interchange_line i = line (codes "interchange" ∷ i.head.reference ∷ codes "messages" ∷ decimal (length i.messages) ∷ [])
+
+abbrev pub message_lines : List RawMessage → List Told → List ℕ
+message_lines [] tolds = []
+message_lines (message ∷ messages) [] = []
+message_lines (message ∷ messages) (told ∷ tolds) = line (message.reference ∷ message.kind ∷ told_words told) ++ message_lines messages tolds
+
+abbrev pub lines_of : Interchange → List Told → List ℕ
+lines_of i tolds = interchange_line i ++ message_lines i.messages tolds
+
+-- the reply to an upload, by what is told of the messages that were looked at
+abbrev pub upload_reply : Mark → Opened → List Told → Reply
+upload_reply Whole (Err code) tolds = record { outcome = Bad; refused = true; body = line (codes "refused" ∷ code ∷ []) }
+upload_reply StoppedEmpty (Err code) tolds = reply Stopped []
+upload_reply StoppedBare (Err code) tolds = stopped
+upload_reply (StoppedAfter k) (Err code) tolds = stopped
+upload_reply Whole (Ok i) tolds = record { outcome = Done; refused = list_any is_refused tolds; body = lines_of i tolds }
+upload_reply StoppedEmpty (Ok i) tolds = reply Stopped []
+upload_reply StoppedBare (Ok i) tolds = stopped
+upload_reply (StoppedAfter k) (Ok i) tolds =
+    if nat_lt k (length i.messages)
+    then record { outcome = Stopped; refused = list_any is_refused tolds; body = lines_of i tolds ++ stopped_line }
+    else stopped
+
+-- the reply to a cancellation
+abbrev pub cancel_reply : Told → Reply
+cancel_reply told = record { outcome = Done; refused = is_refused told; body = line (told_words told) }
+
+-- the reply to a mailbox entry that is asked for
+abbrev pub entry_reply : List ℕ → Option MailRow → Reply
+entry_reply hub None = unknown
+entry_reply hub (Some entry) = done (mail_text hub entry)

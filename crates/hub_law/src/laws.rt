@@ -1,0 +1,66 @@
+//! Laws of the hub, each the contract of a function without a body.
+//!
+//! A supplier's items are what of the inputs is for it: its own inputs, the retailer's messages that name it, and the retailer's
+//! cancellations for it. What it would see alone is what comes of its own rows by its items, with nothing else in the tables.
+ghost use Rattle.std.specs.Prelude.{◌≡◌, true, false, List, [], ◌∷◌, codes};
+ghost use Rattle.std.specs.List.{AllByRecursion};
+ghost use Rattle.hub_tables.specs.Kept.{Balanced};
+ghost use Rattle.hub_tables.specs.Suppliers.{Supplier, PrefixFree};
+ghost use Rattle.hub_tables.specs.Tables.{Tables, view, empty};
+ghost use Rattle.hub_law.specs.Alone.{items_of, fold};
+ghost use Rattle.hub_law.specs.Laws.{Registered, StepIsOwn, RunIsOwn, AsksStatus, Agree, reply_after};
+ghost use Rattle.hub_law.specs.Machine.{Inputs, shared_step, shared_run, replies_to};
+ghost use Rattle.hub_law.specs.Mark.{Mark};
+ghost use Rattle.hub_law.specs.Overlap.{long_supplier, overlapping, both_announce, advice_reply};
+ghost use Rattle.hub_law.specs.Register.{Register};
+ghost use Rattle.hub_law.specs.Replies.{done};
+ghost use Rattle.hub_law.specs.Sound.{Sound};
+ghost use Rattle.hub_law.specs.StatusText.{status_text};
+ghost use Rattle.hub_law.specs.declared.request.Input.{Input};
+
+/// Whoever asks something of the hub, each supplier sees after it what it would see alone; and where the supplier asks, it is
+/// answered as it would be alone. This holds also of a request that was stopped.
+pub fn step_is_own()
+    ensures { (register : Register) (s : Supplier) (t : Tables) (input : Input) (mark : Mark) → Registered register s t → StepIsOwn register s t input mark }
+{}
+
+/// The same of all inputs of a run, one after another: what the supplier sees in the end, and all answers to it in their order.
+/// A status of the supplier for which the retailer asks after them is the text of what the supplier would see alone.
+pub fn run_is_own()
+    ensures run { (register : Register) (s : Supplier) (t : Tables) (inputs : Inputs) → Registered register s t → RunIsOwn register s t inputs }
+    ensures status { (register : Register) (s : Supplier) (t : Tables) (inputs : Inputs) (input : Input) → Registered register s t → AsksStatus register s input → reply_after register t inputs input ≡ done (status_text (fold register.parties s (items_of s.gln register inputs) (view s.gln t)).1) }
+{}
+
+/// Two runs that agree on a supplier are alike for it: it sees the same in the end and is told the same, and a status of it for
+/// which the retailer asks after them is the same. They agree on its GLN, prefixes and key, on the GLNs of hub and retailer, on
+/// what it sees at the start, and on its items. The other suppliers, the retailer's key, all other rows and all other inputs may
+/// differ.
+pub fn runs_alike()
+    ensures seen { (first second : Register) (s : Supplier) (t u : Tables) (xs ys : Inputs) → Registered first s t → Registered second s u → Agree s first second t u xs ys → view s.gln (shared_run first t xs).1 ≡ view s.gln (shared_run second u ys).1 }
+    ensures told { (first second : Register) (s : Supplier) (t u : Tables) (xs ys : Inputs) → Registered first s t → Registered second s u → Agree s first second t u xs ys → replies_to s.gln xs (shared_run first t xs).0 ≡ replies_to s.gln ys (shared_run second u ys).0 }
+    ensures status { (first second : Register) (s : Supplier) (t u : Tables) (xs ys : Inputs) (x y : Input) → Registered first s t → Registered second s u → Agree s first second t u xs ys → AsksStatus first s x → AsksStatus second s y → reply_after first t xs x ≡ reply_after second u ys y }
+{}
+
+/// Whatever is asked, and by whomever, tables that are sound are so after it, and empty tables are. That is: rows are in the order
+/// of their keys, and no key stands twice among a supplier's rows; each line has its order, each content its line and its pallet,
+/// and each receipt a pallet that was received; each pallet is a supplier's and under one of its prefixes; mailbox entries and the
+/// contents of a pallet are numbered from 1; and every line balances.
+pub fn hub_stays_sound()
+    ensures step { (register : Register) (t : Tables) (input : Input) (mark : Mark) → PrefixFree register.suppliers → Sound register.suppliers t → Sound register.suppliers (shared_step register t input mark).1 }
+    ensures run { (register : Register) (t : Tables) (inputs : Inputs) → PrefixFree register.suppliers → Sound register.suppliers t → Sound register.suppliers (shared_run register t inputs).1 }
+    ensures empty { (suppliers : List Supplier) → Sound suppliers empty }
+{}
+
+/// On every order line of sound tables ordered is open, refused, cancelled and despatched together. What is despatched is the
+/// sum of the contents on the supplier's pallets that name the line.
+pub fn each_line_balances()
+    ensures { (suppliers : List Supplier) (t : Tables) → Sound suppliers t → AllByRecursion (λ line. Balanced (view line.supplier t) line) t.lines }
+{}
+
+/// Where a prefix of one supplier begins a prefix of another, suppliers are not apart. Of two such suppliers each has an order and
+/// announces a pallet with the same SSCC: the second is refused with B12, and alone, over the same items, it is accepted.
+pub fn prefixes_matter()
+    ensures overlap { PrefixFree overlapping.suppliers → ⊥ }
+    ensures shared { replies_to long_supplier.gln both_announce (shared_run overlapping empty both_announce).0 ≡ advice_reply true (codes "refused" ∷ codes "B12" ∷ []) ∷ [] }
+    ensures alone { (fold overlapping.parties long_supplier (items_of long_supplier.gln overlapping both_announce) empty).0 ≡ advice_reply false (codes "accepted" ∷ []) ∷ [] }
+{}

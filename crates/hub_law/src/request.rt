@@ -1,0 +1,37 @@
+//! What is asked of a hub.
+use edi_base::Items;
+use edi_envelope::Moment;
+use gs1_ids::Gln;
+use hub_tables::Cancel;
+
+/// What a supplier or the retailer asks.
+#[derive(Debug, Drop)]
+pub enum Request {
+    /// To take the messages of an interchange, given by its bytes.
+    Upload(Items<u8>),
+    /// To list the entries of its mailbox above a number that are not taken. Of suppliers.
+    MailAfter(u64),
+    /// To give the mailbox entry of a number. Of suppliers.
+    MailItem(u64),
+    /// To mark the mailbox entry of a number as taken. Of suppliers.
+    MailTaken(u64),
+    /// To report its lines and pallets. Of suppliers.
+    Status,
+    /// To report the lines and pallets of a supplier. Of the retailer.
+    StatusOf(Gln),
+    /// To cancel a quantity of a line. Of the retailer.
+    Cancel(Cancel),
+}
+
+/// A request, with who asks it and when.
+#[derive(Debug, Drop)]
+pub struct Input {
+    /// When it is asked.
+    pub moment: Moment,
+    /// Who asks it.
+    pub caller: Gln,
+    /// The key with which it is asked.
+    pub key: Items<u8>,
+    /// What is asked.
+    pub request: Request,
+}
