@@ -40,19 +40,19 @@ use Rattle.hub_law.specs.Register.{Parties}
 use Rattle.hub_law.specs.Requests.{taking}
 use Rattle.hub_law.specs.Sound.{Sound}
 use Rattle.hub_law.specs.Told.{Told, Refused, changed, read_act}
-use Rattle.hub_law.proofs.Acting.{Apart, SameAct}
+use Rattle.hub_law.proofs.Acting.{Alike, Apart}
 use Rattle.hub_law.proofs.Judged.{good_view, unchanged, nothing_done, either, after_changes, same_verdict, same_reading}
 
 module _ (suppliers : List Supplier) (free : PrefixFree suppliers) (parties : Parties) (s : Supplier) (known : supplier_of suppliers s.gln ≡ Some s) where
   response_act : (sent : Sent) (t : Tables) → Sound suppliers t →
-      SameAct suppliers s t (read_act (response_of sent.message) (λ response. judge_response parties.retailer (Some s) (delivery_of sent) response (view s.gln t)) t)
+      Alike suppliers s t (read_act (response_of sent.message) (λ response. judge_response parties.retailer (Some s) (delivery_of sent) response (view s.gln t)) t)
       (read_act (response_of sent.message) (λ response. judge_response parties.retailer (Some s) (delivery_of sent) response (view s.gln t)) (view s.gln t))
   response_act sent t sound =
       same_reading suppliers free s known t sound (response_of sent.message) _ _ (λ response. refl)
       (λ response read changes h. keeps_from s (view s.gln t) changes (leads_response s parties.retailer (delivery_of sent) response (view s.gln t) changes (good_view suppliers s t sound) h))
 
   despatch_act : (sent : Sent) (t : Tables) → Sound suppliers t →
-      SameAct suppliers s t (read_act (despatch_of sent.message) (λ despatch. judge_despatch parties.retailer (Some s) (has_pallet t) (delivery_of sent) despatch (view s.gln t)) t)
+      Alike suppliers s t (read_act (despatch_of sent.message) (λ despatch. judge_despatch parties.retailer (Some s) (has_pallet t) (delivery_of sent) despatch (view s.gln t)) t)
       (read_act (despatch_of sent.message) (λ despatch. judge_despatch parties.retailer (Some s) (has_pallet (view s.gln t)) (delivery_of sent) despatch (view s.gln t)) (view s.gln t))
   despatch_act sent t sound =
       same_reading suppliers free s known t sound (despatch_of sent.message) _ _
@@ -60,32 +60,32 @@ module _ (suppliers : List Supplier) (free : PrefixFree suppliers) (parties : Pa
       (λ despatch read changes h. keeps_from s (view s.gln t) changes (leads_despatch s parties.retailer (has_pallet (view s.gln t)) (delivery_of sent) despatch (view s.gln t) changes (good_view suppliers s t sound) h))
 
   order_act : (sent : Sent) (t : Tables) → Sound suppliers t →
-      SameAct suppliers s t (read_act (order_of sent.message) (λ order. judge_order parties.retailer (Some s) (delivery_of sent) (body_of sent) order (view s.gln t)) t)
+      Alike suppliers s t (read_act (order_of sent.message) (λ order. judge_order parties.retailer (Some s) (delivery_of sent) (body_of sent) order (view s.gln t)) t)
       (read_act (order_of sent.message) (λ order. judge_order parties.retailer (Some s) (delivery_of sent) (body_of sent) order (view s.gln t)) (view s.gln t))
   order_act sent t sound =
       same_reading suppliers free s known t sound (order_of sent.message) _ _ (λ order. refl)
       (λ order read changes h. keeps_from s (view s.gln t) changes (leads_order s parties.retailer (delivery_of sent) (body_of sent) order (order_apart sent.message order read) (view s.gln t) changes (good_view suppliers s t sound) h))
 
   receipt_act : (sent : Sent) (t : Tables) → Sound suppliers t →
-      SameAct suppliers s t (read_act (receipt_of sent.message) (λ receipt. judge_receipt parties.retailer (Some s) (delivery_of sent) (body_of sent) receipt (view s.gln t)) t)
+      Alike suppliers s t (read_act (receipt_of sent.message) (λ receipt. judge_receipt parties.retailer (Some s) (delivery_of sent) (body_of sent) receipt (view s.gln t)) t)
       (read_act (receipt_of sent.message) (λ receipt. judge_receipt parties.retailer (Some s) (delivery_of sent) (body_of sent) receipt (view s.gln t)) (view s.gln t))
   receipt_act sent t sound =
       same_reading suppliers free s known t sound (receipt_of sent.message) _ _ (λ receipt. refl)
       (λ receipt read changes h. keeps_from s (view s.gln t) changes (leads_receipt s parties.retailer (delivery_of sent) (body_of sent) receipt (view s.gln t) changes (good_view suppliers s t sound) h))
 
-  pub suppliers_act : (sent : Sent) (t : Tables) → Sound suppliers t → SameAct suppliers s t (deliver_suppliers (view s.gln) parties s sent t) (deliver_suppliers (λ rows. rows) parties s sent (view s.gln t))
+  pub suppliers_act : (sent : Sent) (t : Tables) → Sound suppliers t → Alike suppliers s t (deliver_suppliers (view s.gln) parties s sent t) (deliver_suppliers (λ rows. rows) parties s sent (view s.gln t))
   suppliers_act sent t sound =
       either suppliers s t sound (same sent.message.kind (codes "ORDRSP")) _ _ _ _ (response_act sent t sound)
       (either suppliers s t sound (same sent.message.kind (codes "DESADV")) _ _ _ _ (despatch_act sent t sound)
       (nothing_done suppliers s t sound (Refused (message_faults.code_text MessageType))))
 
-  pub retailers_act : (sent : Sent) (t : Tables) → Sound suppliers t → SameAct suppliers s t (deliver_retailers (view s.gln) parties (Some s) sent t) (deliver_retailers (λ rows. rows) parties (Some s) sent (view s.gln t))
+  pub retailers_act : (sent : Sent) (t : Tables) → Sound suppliers t → Alike suppliers s t (deliver_retailers (view s.gln) parties (Some s) sent t) (deliver_retailers (λ rows. rows) parties (Some s) sent (view s.gln t))
   retailers_act sent t sound =
       either suppliers s t sound (same sent.message.kind (codes "ORDERS")) _ _ _ _ (order_act sent t sound)
       (either suppliers s t sound (same sent.message.kind (codes "RECADV")) _ _ _ _ (receipt_act sent t sound)
       (nothing_done suppliers s t sound (Refused (message_faults.code_text MessageType))))
 
-  pub cancel_act : (c : Cancel) (t : Tables) → Sound suppliers t → SameAct suppliers s t (cancel (view s.gln) (Some s) c t) (cancel (λ rows. rows) (Some s) c (view s.gln t))
+  pub cancel_act : (c : Cancel) (t : Tables) → Sound suppliers t → Alike suppliers s t (cancel (view s.gln) (Some s) c t) (cancel (λ rows. rows) (Some s) c (view s.gln t))
   cancel_act c t sound =
       same_verdict suppliers free s known t sound _ _ refl
       (λ changes h. keeps_from s (view s.gln t) changes (leads_cancel s (cancel_text c) c (view s.gln t) changes (good_view suppliers s t sound) h))

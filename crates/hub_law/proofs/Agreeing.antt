@@ -1,14 +1,20 @@
 -- What one supplier sees and is told in a run, and in two runs that agree on it.
-use Rattle.std.proofs.Common.{◌≡◌, if◌then◌else◌, Some, sym, ◌∙◌, ap}
+use Rattle.std.proofs.Common.{◌≡◌, ℕ, if◌then◌else◌, List, [], ◌∷◌, ◌++◌, length, take, Some, refl, sym, ◌∙◌, ap}
+use Rattle.std.proofs.Math.Seq.{take-append_seam}
+use Rattle.std.proofs.lemmas.List.{append_assoc}
+use Rattle.hub_tables.specs.Sets.{SameRows}
 use Rattle.hub_tables.specs.Suppliers.{Supplier, supplier_of}
 use Rattle.hub_tables.specs.Tables.{Tables, view}
-use Rattle.hub_law.specs.Alone.{items_of, fold}
+use Rattle.hub_tables.proofs.Rising.{view_rises}
+use Rattle.hub_tables.proofs.Sets.{rows_are_one}
+use Rattle.hub_law.specs.Alone.{items, items_of, fold}
 use Rattle.hub_law.specs.Laws.{Registered, RunIsOwn, AsksStatus, Agree, reply_after}
 use Rattle.hub_law.specs.Machine.{Inputs, step_as, shared_step, shared_run, replies_to}
 use Rattle.hub_law.specs.Mark.{Whole}
 use Rattle.hub_law.specs.Register.{Register}
 use Rattle.hub_law.specs.Replies.{denied, done}
 use Rattle.hub_law.specs.Requests.{report, retailer_request}
+use Rattle.hub_law.specs.Sound.{Sound}
 use Rattle.hub_law.specs.StatusText.{status_text}
 use Rattle.hub_law.specs.declared.request.Input.{Input}
 use Rattle.hub_law.proofs.Runs.{whole_run}
@@ -29,18 +35,45 @@ status_is_own register s t inputs input here asked =
     status_seen register s (shared_run register t inputs).1 input here.known asked
     ∙ ap (λ rows. done (status_text rows)) (own_run register s t inputs here).seen
 
-module _ (first second : Register) (s : Supplier) (t u : Tables) (xs ys : Inputs) (here : Registered first s t) (there : Registered second s u) (agree : Agree s first second t u xs ys) where
-  alone : fold first.parties s (items_of s.gln first xs) (view s.gln t) ≡ fold second.parties s (items_of s.gln second ys) (view s.gln u)
-  alone i = fold (agree.parties i) s (agree.items i) (agree.rows i)
+-- what a supplier sees of sound tables is its rows and nothing else
+pub views_alike : (first second : List Supplier) (gln : List ℕ) (t u : Tables) → Sound first t → Sound second u → SameRows (view gln t) (view gln u) → view gln t ≡ view gln u
+views_alike first second gln t u one other rows =
+    rows_are_one (view gln t) (view gln u) (view_rises gln t (one.rooted).ordered (one.kept gln)) (view_rises gln u (other.rooted).ordered (other.kept gln)) rows
 
-  pub both_see : view s.gln (shared_run first t xs).1 ≡ view s.gln (shared_run second u ys).1
-  both_see = (own_run first s t xs here).seen ∙ ap (λ end. end.1) alone ∙ sym (own_run second s u ys there).seen
+-- items come one after another as their inputs do
+items_after : (gln : List ℕ) (register : Register) (inputs later : Inputs) → items_of gln register (inputs ++ later) ≡ items_of gln register inputs ++ items_of gln register later
+items_after gln register [] later = refl
+items_after gln register ((input, mark) ∷ inputs) later =
+    ap (λ rest. items gln register input mark ++ rest) (items_after gln register inputs later)
+    ∙ sym (append_assoc (items gln register input mark) (items_of gln register inputs) (items_of gln register later))
 
-  pub both_told : replies_to s.gln xs (shared_run first t xs).0 ≡ replies_to s.gln ys (shared_run second u ys).0
-  both_told = (own_run first s t xs here).told ∙ ap (λ end. end.0) alone ∙ sym (own_run second s u ys there).told
+-- as many of the same are the same
+fronts_alike : {X : Type 0} (a b c d : List X) → a ++ b ≡ c ++ d → length a ≡ length c → a ≡ c
+fronts_alike a b c d joined counts = sym (take-append_seam a b) ∙ (λ i. take (counts i) (joined i)) ∙ take-append_seam c d
 
-  pub both_statuses : (x y : Input) → AsksStatus first s x → AsksStatus second s y → reply_after first t xs x ≡ reply_after second u ys y
-  both_statuses x y asked too =
+module _ (first second : Register) (s : Supplier) (t u : Tables) (here : Registered first s t) (there : Registered second s u) where
+  module _ (xs ys : Inputs) (parties : first.parties ≡ second.parties) (rows : SameRows (view s.gln t) (view s.gln u)) (same_items : items_of s.gln first xs ≡ items_of s.gln second ys) where
+    alone : fold first.parties s (items_of s.gln first xs) (view s.gln t) ≡ fold second.parties s (items_of s.gln second ys) (view s.gln u)
+    alone =
+        let views = views_alike first.suppliers second.suppliers s.gln t u here.sound there.sound rows in
+        λ i. fold (parties i) s (same_items i) (views i)
+
+    see_alike : view s.gln (shared_run first t xs).1 ≡ view s.gln (shared_run second u ys).1
+    see_alike = (own_run first s t xs here).seen ∙ ap (λ end. end.1) alone ∙ sym (own_run second s u ys there).seen
+
+    told_alike : replies_to s.gln xs (shared_run first t xs).0 ≡ replies_to s.gln ys (shared_run second u ys).0
+    told_alike = (own_run first s t xs here).told ∙ ap (λ end. end.0) alone ∙ sym (own_run second s u ys there).told
+
+  pub both_see : (xs ys : Inputs) → Agree s first second t u xs ys → view s.gln (shared_run first t xs).1 ≡ view s.gln (shared_run second u ys).1
+  both_see xs ys agree = see_alike xs ys agree.parties agree.rows agree.items
+
+  pub both_told : (xs ys : Inputs) → Agree s first second t u xs ys → replies_to s.gln xs (shared_run first t xs).0 ≡ replies_to s.gln ys (shared_run second u ys).0
+  both_told xs ys agree = told_alike xs ys agree.parties agree.rows agree.items
+
+  pub both_statuses : (xs xs_later ys ys_later : Inputs) → Agree s first second t u (xs ++ xs_later) (ys ++ ys_later) → length (items_of s.gln first xs) ≡ length (items_of s.gln second ys) → (x y : Input) → AsksStatus first s x → AsksStatus second s y → reply_after first t xs x ≡ reply_after second u ys y
+  both_statuses xs xs_later ys ys_later agree counts x y asked too =
+      let joined = sym (items_after s.gln first xs xs_later) ∙ agree.items ∙ items_after s.gln second ys ys_later in
+      let so_far = fronts_alike (items_of s.gln first xs) (items_of s.gln first xs_later) (items_of s.gln second ys) (items_of s.gln second ys_later) joined counts in
       status_seen first s (shared_run first t xs).1 x here.known asked
-      ∙ ap (λ rows. done (status_text rows)) both_see
+      ∙ ap (λ rows. done (status_text rows)) (see_alike xs ys agree.parties agree.rows so_far)
       ∙ sym (status_seen second s (shared_run second u ys).1 y there.known too)

@@ -16,7 +16,7 @@ use Rattle.hub_tables.proofs.Lists.{decide, same_is, same_if}
 use Rattle.hub_tables.proofs.Views.{view_own}
 use Rattle.hub_law.specs.Sound.{Sound}
 use Rattle.hub_law.specs.Told.{Told, Refused, told, act, read_act}
-use Rattle.hub_law.proofs.Acting.{Apart, SameAct}
+use Rattle.hub_law.proofs.Acting.{Alike, Apart}
 
 -- what a supplier sees of sound tables is its own, and as it is to be
 pub good_view : (suppliers : List Supplier) (s : Supplier) (t : Tables) → Sound suppliers t → Good s (view s.gln t)
@@ -26,11 +26,11 @@ module _ (suppliers : List Supplier) (s : Supplier) (t : Tables) (sound : Sound 
   pub unchanged : Apart suppliers s t t (view s.gln t)
   unchanged = record { seen = refl; unseen = λ other ne. refl; sound = sound }
 
-  pub nothing_done : (told : Told) → SameAct suppliers s t (told, t) (told, view s.gln t)
+  pub nothing_done : (told : Told) → Alike suppliers s t (told, t) (told, view s.gln t)
   nothing_done told = record { told = refl; apart = unchanged }
 
   -- one of two acts, by the same test
-  pub either : (test : Bool) (one other own_one own_other : Told × Tables) → SameAct suppliers s t one own_one → SameAct suppliers s t other own_other → SameAct suppliers s t (cond test one other) (cond test own_one own_other)
+  pub either : (test : Bool) (one other own_one own_other : Told × Tables) → Alike suppliers s t one own_one → Alike suppliers s t other own_other → Alike suppliers s t (cond test one other) (cond test own_one own_other)
   either true one other own_one own_other first second = first
   either false one other own_one own_other first second = second
 
@@ -51,12 +51,12 @@ module _ (suppliers : List Supplier) (free : PrefixFree suppliers) (s : Supplier
       }
 
   -- one verdict, in the tables and in the supplier's rows
-  pub same_verdict : (shared own : Verdict) → shared ≡ own → ((changes : List Change) → own ≡ Accept changes → Keeps s (view s.gln t) changes) → SameAct suppliers s t (act shared t) (act own (view s.gln t))
-  same_verdict (Refuse code) own e keeps = subst (λ v. SameAct suppliers s t (act (Refuse code) t) (act v (view s.gln t))) e (nothing_done suppliers s t sound (told (Refuse code)))
-  same_verdict (Accept changes) own e keeps = subst (λ v. SameAct suppliers s t (act (Accept changes) t) (act v (view s.gln t))) e (record { told = refl; apart = after_changes changes (keeps changes (sym e)) })
+  pub same_verdict : (shared own : Verdict) → shared ≡ own → ((changes : List Change) → own ≡ Accept changes → Keeps s (view s.gln t) changes) → Alike suppliers s t (act shared t) (act own (view s.gln t))
+  same_verdict (Refuse code) own e keeps = subst (λ v. Alike suppliers s t (act (Refuse code) t) (act v (view s.gln t))) e (nothing_done suppliers s t sound (told (Refuse code)))
+  same_verdict (Accept changes) own e keeps = subst (λ v. Alike suppliers s t (act (Accept changes) t) (act v (view s.gln t))) e (record { told = refl; apart = after_changes changes (keeps changes (sym e)) })
 
   -- what is read, and one verdict on it
   pub same_reading : {X : Type 0} (read : Result X MessageFault) (shared own : X → Verdict) → ((x : X) → shared x ≡ own x) → ((x : X) → read ≡ Ok x → (changes : List Change) → own x ≡ Accept changes → Keeps s (view s.gln t) changes) →
-      SameAct suppliers s t (read_act read shared t) (read_act read own (view s.gln t))
+      Alike suppliers s t (read_act read shared t) (read_act read own (view s.gln t))
   same_reading (Err fault) shared own agree keeps = nothing_done suppliers s t sound (Refused (message_faults.code_text fault))
   same_reading (Ok x) shared own agree keeps = same_verdict (shared x) (own x) (agree x) (keeps x refl)

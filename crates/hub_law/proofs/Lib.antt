@@ -5,6 +5,8 @@ pub mod Balance
 mod Examples
 pub mod Judged
 pub mod Overlapping
+pub mod Repeated
 pub mod Retailers
 pub mod Runs
+pub mod Staying
 pub mod Steps

@@ -14,7 +14,7 @@ use Rattle.hub_law.specs.Sound.{Sound}
 use Rattle.hub_law.specs.Told.{Act, in_row}
 use Rattle.hub_law.specs.declared.request.Request.{Request}
 use Rattle.hub_law.specs.declared.request.Request.TheVariants as requests
-use Rattle.hub_law.proofs.Acting.{SameAct}
+use Rattle.hub_law.proofs.Acting.{Alike}
 use Rattle.hub_law.proofs.Acts.{retailers_act, cancel_act, nobodys_message, nobodys_cancellation}
 use Rattle.hub_law.proofs.Steps.{gln_of, unlike}
 
@@ -24,7 +24,7 @@ ActFor = (Tables → Tables) → Option Supplier → Act
 
 -- it is the supplier's alone whose it is, and does nothing where it is nobody's
 pub record IsApart (suppliers : List Supplier) (t : Tables) (act : ActFor) : Type 0 where
-  pub ones : (w : Supplier) → supplier_of suppliers w.gln ≡ Some w → SameAct suppliers w t (act (view w.gln) (Some w) t) (act (λ rows. rows) (Some w) (view w.gln t))
+  pub ones : (w : Supplier) → supplier_of suppliers w.gln ≡ Some w → Alike suppliers w t (act (view w.gln) (Some w) t) (act (λ rows. rows) (Some w) (view w.gln t))
   pub nobodys : (look : Tables → Tables) → (act look None t).1 ≡ t
 
 -- the act for the one that has the GLN

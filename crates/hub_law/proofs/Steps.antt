@@ -19,13 +19,8 @@ use Rattle.hub_law.specs.declared.reply.Outcome.TheVariants.{Stopped}
 use Rattle.hub_law.specs.declared.request.Input.{Input}
 use Rattle.hub_law.specs.declared.request.Request.{Request}
 use Rattle.hub_law.specs.declared.request.Request.TheVariants as requests
-use Rattle.hub_law.proofs.Acting.{Apart, SameAct}
+use Rattle.hub_law.proofs.Acting.{Alike}
 use Rattle.hub_law.proofs.Acts.{suppliers_act, taking_act}
-
--- the same is told in the tables of all as in the supplier's own rows, and it is the supplier's alone
-pub record Alike {A : Type 0} (suppliers : List Supplier) (s : Supplier) (t : Tables) (shared own : A × Tables) : Type 0 where
-  pub told : shared.0 ≡ own.0
-  pub apart : Apart suppliers s t shared.1 own.1
 
 pub gln_of : (suppliers : List Supplier) (gln : List ℕ) (s : Supplier) → supplier_of suppliers gln ≡ Some s → s.gln ≡ gln
 gln_of suppliers gln s known =
@@ -41,7 +36,7 @@ module _ (suppliers : List Supplier) (s : Supplier) where
   idle t sound a = record { told = refl; apart = record { seen = refl; unseen = λ other ne. refl; sound = sound } }
 
   -- acts that are alike one by one are alike in a row
-  row_alike : {X : Type 0} (shared own : X → Act) → ((x : X) (t : Tables) → Sound suppliers t → SameAct suppliers s t (shared x t) (own x (view s.gln t))) →
+  row_alike : {X : Type 0} (shared own : X → Act) → ((x : X) (t : Tables) → Sound suppliers t → Alike suppliers s t (shared x t) (own x (view s.gln t))) →
       (xs : List X) (t : Tables) → Sound suppliers t → Alike suppliers s t (in_row shared xs t) (in_row own xs (view s.gln t))
   row_alike shared own each [] t sound = idle t sound []
   row_alike shared own each (x ∷ xs) t sound =

@@ -1,5 +1,6 @@
 -- What one supplier sees and is told, whatever the others do.
 use Rattle.std.specs.Prelude.{◌≡◌, true, [], ◌∷◌, Some, None}
+use Rattle.hub_tables.specs.Sets.{SameRows}
 use Rattle.hub_tables.specs.Suppliers.{Supplier, supplier_of, PrefixFree}
 use Rattle.hub_tables.specs.Tables.{Tables, view}
 use Rattle.hub_law.specs.Alone.{items, items_of, fold}
@@ -37,8 +38,8 @@ pub record AsksStatus (register : Register) (s : Supplier) (input : Input) : Typ
 abbrev pub reply_after : Register → Tables → Inputs → Input → Reply
 reply_after register t inputs input = (shared_step register (shared_run register t inputs).1 input Whole).0
 
--- two runs agree on a supplier: on the GLNs of hub and retailer, on what it sees at the start, and on its items
+-- two runs agree on a supplier: on the GLNs of hub and retailer, on its rows at the start, and on its items
 pub record Agree (s : Supplier) (first second : Register) (t u : Tables) (xs ys : Inputs) : Type 0 where
   pub parties : first.parties ≡ second.parties
-  pub rows : view s.gln t ≡ view s.gln u
+  pub rows : SameRows (view s.gln t) (view s.gln u)
   pub items : items_of s.gln first xs ≡ items_of s.gln second ys

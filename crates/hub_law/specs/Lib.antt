@@ -8,6 +8,7 @@ pub mod Messages
 pub mod Opening
 pub mod Overlap
 pub mod Register
+pub mod Remembered
 pub mod Replies
 pub mod Requests
 pub mod Sound

@@ -2,7 +2,7 @@
 //!
 //! A supplier's items are what of the inputs is for it: its own inputs, the retailer's messages that name it, and the retailer's
 //! cancellations for it. What it would see alone is what comes of its own rows by its items, with nothing else in the tables.
-ghost use Rattle.std.specs.Prelude.{◌≡◌, true, false, List, [], ◌∷◌, codes};
+ghost use Rattle.std.specs.Prelude.{◌≡◌, true, false, List, [], ◌∷◌, ◌++◌, length, codes};
 ghost use Rattle.std.specs.List.{AllByRecursion};
 ghost use Rattle.hub_tables.specs.Kept.{Balanced};
 ghost use Rattle.hub_tables.specs.Suppliers.{Supplier, PrefixFree};
@@ -32,13 +32,13 @@ pub fn run_is_own()
 {}
 
 /// Two runs that agree on a supplier are alike for it: it sees the same in the end and is told the same, and a status of it for
-/// which the retailer asks after them is the same. They agree on its GLN, prefixes and key, on the GLNs of hub and retailer, on
-/// what it sees at the start, and on its items. The other suppliers, the retailer's key, all other rows and all other inputs may
-/// differ.
+/// which the retailer asks after as many of its items in the one as in the other is the same. They agree on its GLN, prefixes and
+/// key, on the GLNs of hub and retailer, on its rows at the start, and on its items. The other suppliers, the retailer's key, all
+/// other rows and all other inputs may differ.
 pub fn runs_alike()
     ensures seen { (first second : Register) (s : Supplier) (t u : Tables) (xs ys : Inputs) → Registered first s t → Registered second s u → Agree s first second t u xs ys → view s.gln (shared_run first t xs).1 ≡ view s.gln (shared_run second u ys).1 }
     ensures told { (first second : Register) (s : Supplier) (t u : Tables) (xs ys : Inputs) → Registered first s t → Registered second s u → Agree s first second t u xs ys → replies_to s.gln xs (shared_run first t xs).0 ≡ replies_to s.gln ys (shared_run second u ys).0 }
-    ensures status { (first second : Register) (s : Supplier) (t u : Tables) (xs ys : Inputs) (x y : Input) → Registered first s t → Registered second s u → Agree s first second t u xs ys → AsksStatus first s x → AsksStatus second s y → reply_after first t xs x ≡ reply_after second u ys y }
+    ensures status { (first second : Register) (s : Supplier) (t u : Tables) (xs xs_later ys ys_later : Inputs) (x y : Input) → Registered first s t → Registered second s u → Agree s first second t u (xs ++ xs_later) (ys ++ ys_later) → length (items_of s.gln first xs) ≡ length (items_of s.gln second ys) → AsksStatus first s x → AsksStatus second s y → reply_after first t xs x ≡ reply_after second u ys y }
 {}
 
 /// Whatever is asked, and by whomever, tables that are sound are so after it, and empty tables are. That is: rows are in the order

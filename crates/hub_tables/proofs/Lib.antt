@@ -16,6 +16,8 @@ pub mod KindOrders
 pub mod Lists
 pub mod Owned
 pub mod Prefixes
+pub mod Repeating
+pub mod Rising
 pub mod Sets
 pub mod Verdicts
 pub mod Views

@@ -2,10 +2,10 @@ use Rattle.hub_law.proofs.Agreeing.{both_see, both_told, both_statuses}
 use Rattle.hub_law.proofs.laws.runs_alike.Goals as goal
 
 pub returns-clause-seen : goal.returns-clause-seen
-returns-clause-seen c = both_see
+returns-clause-seen c first second s t u xs ys here there = both_see first second s t u here there xs ys
 
 pub returns-clause-told : goal.returns-clause-told
-returns-clause-told c = both_told
+returns-clause-told c first second s t u xs ys here there = both_told first second s t u here there xs ys
 
 pub returns-clause-status : goal.returns-clause-status
-returns-clause-status c first second s t u xs ys x y here there agree asked too = both_statuses first second s t u xs ys here there agree x y asked too
+returns-clause-status c first second s t u xs xs_later ys ys_later x y here there agree counts = both_statuses first second s t u here there xs xs_later ys ys_later agree counts x y

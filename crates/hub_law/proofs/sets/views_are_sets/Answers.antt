@@ -1,0 +1,9 @@
+use Rattle.hub_tables.proofs.Rising.{all_rise}
+use Rattle.hub_law.proofs.Agreeing.{views_alike}
+use Rattle.hub_law.proofs.sets.views_are_sets.Goals as goal
+
+pub returns-clause-views : goal.returns-clause-views
+returns-clause-views c = views_alike
+
+pub returns-clause-rise : goal.returns-clause-rise
+returns-clause-rise c suppliers t free sound = all_rise suppliers t free sound.rooted sound.kept
