@@ -1,5 +1,5 @@
 -- What one supplier sees and is told in a run, and in two runs that agree on it.
-use Rattle.std.proofs.Common.{◌≡◌, ℕ, if◌then◌else◌, List, [], ◌∷◌, ◌++◌, length, take, Some, refl, sym, ◌∙◌, ap}
+use Rattle.std.proofs.Common.{◌≡◌, ℕ, if◌then◌else◌, List, [], ◌∷◌, ◌++◌, length, slice_get, take, Some, refl, sym, ◌∙◌, ap}
 use Rattle.std.proofs.Math.Seq.{take-append_seam}
 use Rattle.std.proofs.lemmas.List.{append_assoc}
 use Rattle.hub_tables.specs.Sets.{SameRows}
@@ -8,9 +8,9 @@ use Rattle.hub_tables.specs.Tables.{Tables, view}
 use Rattle.hub_tables.proofs.Rising.{view_rises}
 use Rattle.hub_tables.proofs.Sets.{rows_are_one}
 use Rattle.hub_law.specs.Alone.{items, items_of, fold}
-use Rattle.hub_law.specs.Laws.{Registered, RunIsOwn, AsksStatus, Agree, reply_after}
+use Rattle.hub_law.specs.Laws.{Registered, RunIsOwn, AsksStatus, Agree, reply_between}
 use Rattle.hub_law.specs.Machine.{Inputs, step_as, shared_step, shared_run, replies_to}
-use Rattle.hub_law.specs.Mark.{Whole}
+use Rattle.hub_law.specs.Mark.{Mark, Whole}
 use Rattle.hub_law.specs.Register.{Register}
 use Rattle.hub_law.specs.Replies.{denied, done}
 use Rattle.hub_law.specs.Requests.{report, retailer_request}
@@ -30,10 +30,20 @@ status_seen register s t input known asked =
     ∙ ap (λ request. (retailer_request register input.moment Whole request t).0) asked.asks
     ∙ ap (λ o. report o (view s.gln t)) known
 
-pub status_is_own : (register : Register) (s : Supplier) (t : Tables) (inputs : Inputs) (input : Input) → Registered register s t → AsksStatus register s input → reply_after register t inputs input ≡ done (status_text (fold register.parties s (items_of s.gln register inputs) (view s.gln t)).1)
-status_is_own register s t inputs input here asked =
-    status_seen register s (shared_run register t inputs).1 input here.known asked
-    ∙ ap (λ rows. done (status_text rows)) (own_run register s t inputs here).seen
+-- the replies of a run are those of its inputs, in their order
+reply_at : (register : Register) (t : Tables) (before : Inputs) (input : Input) (mark : Mark) (later : Inputs) →
+    slice_get (shared_run register t (before ++ (input, mark) ∷ later)).0 (length before) ≡ Some (shared_step register (shared_run register t before).1 input mark).0
+reply_at register t [] input mark later = refl
+reply_at register t ((first, first_mark) ∷ before) input mark later = reply_at register (shared_step register t first first_mark).1 before input mark later
+
+status_between : (register : Register) (s : Supplier) (t : Tables) (before : Inputs) (input : Input) (later : Inputs) → supplier_of register.suppliers s.gln ≡ Some s → AsksStatus register s input →
+    reply_between register t before input later ≡ Some (done (status_text (view s.gln (shared_run register t before).1)))
+status_between register s t before input later known asked = reply_at register t before input Whole later ∙ ap (λ reply. Some reply) (status_seen register s (shared_run register t before).1 input known asked)
+
+pub status_is_own : (register : Register) (s : Supplier) (t : Tables) (before later : Inputs) (input : Input) → Registered register s t → AsksStatus register s input → reply_between register t before input later ≡ Some (done (status_text (fold register.parties s (items_of s.gln register before) (view s.gln t)).1))
+status_is_own register s t before later input here asked =
+    status_between register s t before input later here.known asked
+    ∙ ap (λ rows. Some (done (status_text rows))) (own_run register s t before here).seen
 
 -- what a supplier sees of sound tables is its rows and nothing else
 pub views_alike : (first second : List Supplier) (gln : List ℕ) (t u : Tables) → Sound first t → Sound second u → SameRows (view gln t) (view gln u) → view gln t ≡ view gln u
@@ -70,10 +80,10 @@ module _ (first second : Register) (s : Supplier) (t u : Tables) (here : Registe
   pub both_told : (xs ys : Inputs) → Agree s first second t u xs ys → replies_to s.gln xs (shared_run first t xs).0 ≡ replies_to s.gln ys (shared_run second u ys).0
   both_told xs ys agree = told_alike xs ys agree.parties agree.rows agree.items
 
-  pub both_statuses : (xs xs_later ys ys_later : Inputs) → Agree s first second t u (xs ++ xs_later) (ys ++ ys_later) → length (items_of s.gln first xs) ≡ length (items_of s.gln second ys) → (x y : Input) → AsksStatus first s x → AsksStatus second s y → reply_after first t xs x ≡ reply_after second u ys y
-  both_statuses xs xs_later ys ys_later agree counts x y asked too =
-      let joined = sym (items_after s.gln first xs xs_later) ∙ agree.items ∙ items_after s.gln second ys ys_later in
-      let so_far = fronts_alike (items_of s.gln first xs) (items_of s.gln first xs_later) (items_of s.gln second ys) (items_of s.gln second ys_later) joined counts in
-      status_seen first s (shared_run first t xs).1 x here.known asked
-      ∙ ap (λ rows. done (status_text rows)) (see_alike xs ys agree.parties agree.rows so_far)
-      ∙ sym (status_seen second s (shared_run second u ys).1 y there.known too)
+  pub both_statuses : (xs xs_later ys ys_later : Inputs) (x y : Input) → Agree s first second t u (xs ++ (x, Whole) ∷ xs_later) (ys ++ (y, Whole) ∷ ys_later) → length (items_of s.gln first xs) ≡ length (items_of s.gln second ys) → AsksStatus first s x → AsksStatus second s y → reply_between first t xs x xs_later ≡ reply_between second u ys y ys_later
+  both_statuses xs xs_later ys ys_later x y agree counts asked too =
+      let joined = sym (items_after s.gln first xs ((x, Whole) ∷ xs_later)) ∙ agree.items ∙ items_after s.gln second ys ((y, Whole) ∷ ys_later) in
+      let so_far = fronts_alike (items_of s.gln first xs) (items_of s.gln first ((x, Whole) ∷ xs_later)) (items_of s.gln second ys) (items_of s.gln second ((y, Whole) ∷ ys_later)) joined counts in
+      status_between first s t xs x xs_later here.known asked
+      ∙ ap (λ rows. Some (done (status_text rows))) (see_alike xs ys agree.parties agree.rows so_far)
+      ∙ sym (status_between second s u ys y ys_later there.known too)

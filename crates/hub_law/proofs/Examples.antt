@@ -1,4 +1,4 @@
--- The hub's machine at the messages of two suppliers: what is replied to each input, byte by byte, and what is left.
+-- The hub's machine at the messages of two suppliers: what is replied to each input, byte by byte.
 use Rattle.std.proofs.Common.{◌≡◌, ℕ, true, List, [], ◌∷◌, ◌++◌, codes, refl}
 use Rattle.std.specs.Fmt.{digits}
 use Rattle.std.specs.List.{flat_map}
@@ -12,12 +12,12 @@ use Rattle.hub_tables.specs.Suppliers.{Supplier}
 use Rattle.hub_tables.specs.Tables.{empty}
 use Rattle.hub_law.specs.Machine.{Inputs, shared_run}
 use Rattle.hub_law.specs.MailText.{mail_text, list_text}
-use Rattle.hub_law.specs.Mark.{Mark, Whole}
+use Rattle.hub_law.specs.Mark.{Mark, Whole, StoppedEmpty, StoppedBare, StoppedAfter}
 use Rattle.hub_law.specs.Opening.{opened}
 use Rattle.hub_law.specs.Register.{Register}
 use Rattle.hub_law.specs.Replies.{reply, done}
 use Rattle.hub_law.specs.StatusText.{status_text}
-use Rattle.hub_law.specs.declared.reply.Outcome.TheVariants.{Done, Bad, Denied, Unknown}
+use Rattle.hub_law.specs.declared.reply.Outcome.TheVariants.{Done, Bad, Denied, Unknown, Stopped}
 use Rattle.hub_law.specs.declared.reply.Reply.{Reply}
 use Rattle.hub_law.specs.declared.request.Input.{Input}
 use Rattle.hub_law.specs.declared.request.Request.{Request}
@@ -86,6 +86,9 @@ refusal = codes "UNB+UNOC:3+4012345500004:14+5412345000006:14+250603:1000+S7'UNH
 abbrev receipt : List ℕ
 receipt = codes "UNB+UNOC:3+5412345000013:14+5412345000006:14+250605:0900+1005'UNH+1+RECADV:D:01B:UN:EAN005'BGM+632+G1+9'DTM+137:20250605:102'NAD+BY+5412345000013::9'NAD+SU+4012345500004::9'CPS+1'PAC+1'PCI+33E'GIN+BJ+340123455000000012'LIN+1++4000862141404:SRV'QTY+194:10'QTY+195:1'LIN+2++4000862141411:SRV'QTY+194:3'UNT+15+1'UNZ+1+1005'"
 
+abbrev two_orders : List ℕ
+two_orders = codes "UNA:+.? 'UNB+UNOC:3+5412345000013:14+5412345000006:14+250603:0915+1001'UNH+1+ORDERS:D:01B:UN:EAN010'BGM+220+128576+9'DTM+137:20250603:102'NAD+BY+5412345000013::9'NAD+SU+8712345000004::9'LIN+1++4000862141404:SRV'QTY+21:0'UNS+S'CNT+2:1'UNT+10+1'UNH+2+ORDERS:D:01B:UN:EAN010'BGM+220+128576+9'DTM+137:20250603:102'NAD+BY+5412345000013::9'NAD+SU+4012345500004::9'LIN+1++4000862141404:SRV'QTY+21:48'UNS+S'CNT+2:1'UNT+10+2'UNZ+2+1001'"
+
 -- an order, the same in other characters, with another quantity, and a second one; then faults of envelopes and texts
 orders_come : replies (
     by_retailer (requests.Upload (first_order))
@@ -138,7 +141,9 @@ goods_come : replies (
     ∷ by_retailer (requests.Cancel (record { supplier = alpha.gln; reference = codes "C1"; order = codes "128576"; line = 1; quantity = 10 }))
     ∷ by_retailer (requests.Cancel (record { supplier = alpha.gln; reference = codes "C2"; order = codes "128576"; line = 1; quantity = 15 }))
     ∷ by_retailer (requests.Cancel (record { supplier = alpha.gln; reference = codes "C1"; order = codes "128576"; line = 1; quantity = 11 }))
-    ∷ by alpha requests.Status ∷ []) ≡ (
+    ∷ by_retailer (requests.Cancel (record { supplier = codes "4006381000000"; reference = codes "C3"; order = codes "128576"; line = 1; quantity = 1 }))
+    ∷ by alpha requests.Status
+    ∷ by alpha (requests.MailAfter 0) ∷ []) ≡ (
     done (lines (codes "interchange 1001 messages 1" ∷ codes "1 ORDERS accepted" ∷ []))
     ∷ done (lines (codes "interchange 1002 messages 1" ∷ codes "1 ORDERS accepted" ∷ []))
     ∷ done (lines (codes "interchange S1 messages 1" ∷ codes "1 ORDRSP accepted" ∷ []))
@@ -156,9 +161,32 @@ goods_come : replies (
     ∷ done (lines (codes "repeated" ∷ []))
     ∷ refused (codes "refused B17" ∷ [])
     ∷ refused (codes "refused B03" ∷ [])
-    ∷ done (lines (codes "L 128576                                   1 04000862141404 C        48        14        12        10        12" ∷ codes "L 128577                                   1 04000862141404 N        30         0        18         0        12" ∷ codes "P 340123455000000012 04000862141404 R             12             10              1              0              -1" ∷ codes "P 340123455000000012 04000862141411 R              0              3              0              0              +3" ∷ codes "P 340123455000000029 04000862141404 A             12              0              0              0              +0" ∷ codes "end" ∷ [])) ∷ [])
+    ∷ refused (codes "refused B02" ∷ [])
+    ∷ done (lines (codes "L 128576                                   1 04000862141404 C        48        14        12        10        12" ∷ codes "L 128577                                   1 04000862141404 N        30         0        18         0        12" ∷ codes "P 340123455000000012 04000862141404 R             12             10              1              0              -1" ∷ codes "P 340123455000000012 04000862141411 R              0              3              0              0              +3" ∷ codes "P 340123455000000029 04000862141404 A             12              0              0              0              +0" ∷ codes "end" ∷ []))
+    ∷ done (lines (codes "             1 ORDERS 128576" ∷ codes "             2 ORDERS 128577" ∷ codes "             3 RECADV G1" ∷ codes "end" ∷ [])) ∷ [])
 unfolding opened interchange_of fault_of contents_of is_framed is_row_of_messages is_outside_set order_of response_of despatch_of receipt_of mail_text list_text status_text digits
 goods_come = refl
+
+-- each kind of message once more
+what_was_accepted_is_repeated : replies (
+    by_retailer (requests.Upload (first_order))
+    ∷ by alpha (requests.Upload (answer))
+    ∷ by alpha (requests.Upload (answer))
+    ∷ by alpha (requests.Upload (advice))
+    ∷ by alpha (requests.Upload (advice))
+    ∷ by_retailer (requests.Upload (receipt))
+    ∷ by_retailer (requests.Upload (receipt))
+    ∷ by_retailer (requests.Upload (first_order)) ∷ []) ≡ (
+    done (lines (codes "interchange 1001 messages 1" ∷ codes "1 ORDERS accepted" ∷ []))
+    ∷ done (lines (codes "interchange S1 messages 1" ∷ codes "1 ORDRSP accepted" ∷ []))
+    ∷ done (lines (codes "interchange S1 messages 1" ∷ codes "1 ORDRSP repeated" ∷ []))
+    ∷ done (lines (codes "interchange S2 messages 1" ∷ codes "1 DESADV accepted" ∷ []))
+    ∷ done (lines (codes "interchange S2 messages 1" ∷ codes "1 DESADV repeated" ∷ []))
+    ∷ done (lines (codes "interchange 1005 messages 1" ∷ codes "1 RECADV accepted" ∷ []))
+    ∷ done (lines (codes "interchange 1005 messages 1" ∷ codes "1 RECADV repeated" ∷ []))
+    ∷ done (lines (codes "interchange 1001 messages 1" ∷ codes "1 ORDERS repeated" ∷ [])) ∷ [])
+unfolding opened interchange_of fault_of contents_of is_framed is_row_of_messages is_outside_set order_of response_of despatch_of receipt_of mail_text list_text status_text digits
+what_was_accepted_is_repeated = refl
 
 -- two suppliers' orders with one number, references and all; each mailbox begins at 1
 suppliers_have_their_own_orders : replies (
@@ -177,14 +205,32 @@ suppliers_have_their_own_orders = refl
 each_message_is_by_itself : replies (
     by_retailer (requests.Upload (codes "UNA:+.? 'UNB+UNOC:3+5412345000013:14+5412345000006:14+250603:0915+1001'UNH+1+ORDERS:D:01B:UN:EAN010'BGM+220+128576+9'DTM+137:20250603:102'NAD+BY+5412345000013::9'NAD+SU+8712345000004::9'LIN+1++4000862141404:SRV'QTY+21:0'UNS+S'CNT+2:1'UNT+9+1'UNH+2+ORDERS:D:01B:UN:EAN010'BGM+220+128576+9'DTM+137:20250603:102'NAD+BY+5412345000013::9'NAD+SU+4012345500004::9'LIN+1++4000862141404:SRV'QTY+21:48'UNS+S'CNT+2:1'UNT+10+2'UNZ+2+1001'"))
     ∷ by alpha requests.Status
-    ∷ by_retailer (requests.Upload (codes "UNA:+.? 'UNB+UNOC:3+5412345000013:14+5412345000006:14+250603:0915+1001'UNH+1+ORDERS:D:01B:UN:EAN010'BGM+220+128576+9'DTM+137:20250603:102'NAD+BY+5412345000013::9'NAD+SU+8712345000004::9'LIN+1++4000862141404:SRV'QTY+21:0'UNS+S'CNT+2:1'UNT+10+1'UNH+2+ORDERS:D:01B:UN:EAN010'BGM+220+128576+9'DTM+137:20250603:102'NAD+BY+5412345000013::9'NAD+SU+4012345500004::9'LIN+1++4000862141404:SRV'QTY+21:48'UNS+S'CNT+2:1'UNT+10+2'UNZ+2+1001'")) ∷ []) ≡ (
+    ∷ by_retailer (requests.Upload (two_orders)) ∷ []) ≡ (
     bad (codes "E12")
     ∷ done (lines (codes "end" ∷ []))
     ∷ refused (codes "interchange 1001 messages 2" ∷ codes "1 ORDERS refused M08" ∷ codes "2 ORDERS accepted" ∷ []) ∷ [])
 unfolding opened interchange_of fault_of contents_of is_framed is_row_of_messages is_outside_set order_of response_of despatch_of receipt_of mail_text list_text status_text digits
 each_message_is_by_itself = refl
 
-quantities : replies (
+-- before anything, behind its first message, behind as many as it has, and not
+an_upload_is_stopped : replies (
+    ((record { moment = 1_748_942_400; caller = retailer; key = codes "retail-key"; request = requests.Upload two_orders }), StoppedEmpty)
+    ∷ ((record { moment = 1_748_942_400; caller = retailer; key = codes "retail-key"; request = requests.Upload two_orders }), StoppedBare)
+    ∷ ((record { moment = 1_748_942_400; caller = retailer; key = codes "retail-key"; request = requests.Upload two_orders }), StoppedAfter 2)
+    ∷ ((record { moment = 1_748_942_400; caller = retailer; key = codes "retail-key"; request = requests.Upload two_orders }), StoppedAfter 1)
+    ∷ by alpha (requests.MailAfter 0)
+    ∷ ((record { moment = 1_748_942_400; caller = retailer; key = codes "retail-key"; request = requests.Upload two_orders }), Whole) ∷ []) ≡ (
+    reply Stopped []
+    ∷ reply Stopped (lines (codes "stopped" ∷ []))
+    ∷ reply Stopped (lines (codes "stopped" ∷ []))
+    ∷ record { outcome = Stopped; refused = true; body = lines (codes "interchange 1001 messages 2" ∷ codes "1 ORDERS refused M08" ∷ codes "stopped" ∷ []) }
+    ∷ done (lines (codes "end" ∷ []))
+    ∷ refused (codes "interchange 1001 messages 2" ∷ codes "1 ORDERS refused M08" ∷ codes "2 ORDERS accepted" ∷ []) ∷ [])
+unfolding opened interchange_of fault_of contents_of is_framed is_row_of_messages is_outside_set order_of response_of despatch_of receipt_of mail_text list_text status_text digits
+an_upload_is_stopped = refl
+
+-- the greatest, one more, one with a decimal mark and zeros, and one with a fraction
+quantities_are_read : replies (
     by_retailer (requests.Upload (codes "UNA:+.? 'UNB+UNOC:3+5412345000013:14+5412345000006:14+250603:0915+2001'UNH+1+ORDERS:D:01B:UN:EAN010'BGM+220+1+9'DTM+137:20250603:102'NAD+BY+5412345000013::9'NAD+SU+4012345500004::9'LIN+1++4000862141404:SRV'QTY+21:999999999'UNS+S'CNT+2:1'UNT+10+1'UNZ+1+2001'"))
     ∷ by_retailer (requests.Upload (codes "UNA:+.? 'UNB+UNOC:3+5412345000013:14+5412345000006:14+250603:0915+2002'UNH+1+ORDERS:D:01B:UN:EAN010'BGM+220+2+9'DTM+137:20250603:102'NAD+BY+5412345000013::9'NAD+SU+4012345500004::9'LIN+1++4000862141404:SRV'QTY+21:1000000000'UNS+S'CNT+2:1'UNT+10+1'UNZ+1+2002'"))
     ∷ by_retailer (requests.Upload (codes "UNA:+.? 'UNB+UNOC:3+5412345000013:14+5412345000006:14+250603:0915+2003'UNH+1+ORDERS:D:01B:UN:EAN010'BGM+220+3+9'DTM+137:20250603:102'NAD+BY+5412345000013::9'NAD+SU+4012345500004::9'LIN+1++4000862141404:SRV'QTY+21:12,000'UNS+S'CNT+2:1'UNT+10+1'UNZ+1+2003'"))
@@ -196,7 +242,7 @@ quantities : replies (
     ∷ refused (codes "interchange 2004 messages 1" ∷ codes "1 ORDERS refused M08" ∷ [])
     ∷ done (lines (codes "L 1                                        1 04000862141404 W 999999999 999999999         0         0         0" ∷ codes "L 3                                        1 04000862141404 W        12        12         0         0         0" ∷ codes "end" ∷ [])) ∷ [])
 unfolding opened interchange_of fault_of contents_of is_framed is_row_of_messages is_outside_set order_of response_of despatch_of receipt_of mail_text list_text status_text digits
-quantities = refl
+quantities_are_read = refl
 
 -- a wrong key, nobody, and requests of the other side; a mailbox entry and a supplier that are not there; a sender that is not the caller and a recipient that is not the hub
 who_may_ask_what : replies (
@@ -231,11 +277,15 @@ who_may_ask_what : replies (
 unfolding opened interchange_of fault_of contents_of is_framed is_row_of_messages is_outside_set order_of response_of despatch_of receipt_of mail_text list_text status_text digits
 who_may_ask_what = refl
 
--- the mailbox entry of the first order, to the byte
-the_mailbox_has_the_order : replies (
+-- the mailbox entries of both orders
+the_mailbox_has_the_orders : replies (
     by_retailer (requests.Upload (first_order))
-    ∷ by alpha (requests.MailItem 1) ∷ []) ≡ (
+    ∷ by alpha (requests.MailItem 1)
+    ∷ by_retailer (requests.Upload (second_order))
+    ∷ by alpha (requests.MailItem 2) ∷ []) ≡ (
     done (lines (codes "interchange 1001 messages 1" ∷ codes "1 ORDERS accepted" ∷ []))
-    ∷ done (codes "UNA:+.? 'UNB+UNOC:3+5412345000006:14+4012345500004:14+250603:0920+1'UNH+1+ORDERS:D:01B:UN:EAN010'BGM+220+128576+9'DTM+137:20250603:102'NAD+BY+5412345000013::9'NAD+SU+4012345500004::9'LIN+1++4000862141404:SRV'QTY+21:48'UNS+S'CNT+2:1'UNT+10+1'UNZ+1+1'") ∷ [])
+    ∷ done (codes "UNA:+.? 'UNB+UNOC:3+5412345000006:14+4012345500004:14+250603:0920+1'UNH+1+ORDERS:D:01B:UN:EAN010'BGM+220+128576+9'DTM+137:20250603:102'NAD+BY+5412345000013::9'NAD+SU+4012345500004::9'LIN+1++4000862141404:SRV'QTY+21:48'UNS+S'CNT+2:1'UNT+10+1'UNZ+1+1'")
+    ∷ done (lines (codes "interchange 1002 messages 1" ∷ codes "1 ORDERS accepted" ∷ []))
+    ∷ done (codes "UNA:+,? 'UNB+UNOC:3+5412345000006:14+4012345500004:14+250603:0920+2'UNH+1+ORDERS:D:01B:UN:EAN010'BGM+220+128577+9'DTM+137:20250603:102'FTX+AAI+++Dock 3?+4, O?'Neill??'NAD+BY+5412345000013::9'NAD+SU+4012345500004::9'LIN+1++4000862141404:SRV'QTY+21:30'UNS+S'CNT+2:1'UNT+11+1'UNZ+1+2'") ∷ [])
 unfolding opened interchange_of fault_of contents_of is_framed is_row_of_messages is_outside_set order_of response_of despatch_of receipt_of mail_text list_text status_text digits day_at
-the_mailbox_has_the_order = refl
+the_mailbox_has_the_orders = refl

@@ -10,3 +10,4 @@ pub mod Retailers
 pub mod Runs
 pub mod Staying
 pub mod Steps
+pub mod Stopping

@@ -10,7 +10,7 @@ use Rattle.hub_tables.proofs.Lists.{same_if}
 use Rattle.hub_law.specs.Alone.{items_of, fold}
 use Rattle.hub_law.specs.Machine.{shared_run, replies_to}
 use Rattle.hub_law.specs.Opening.{opened}
-use Rattle.hub_law.specs.Overlap.{long_supplier, short_supplier, overlapping, both_announce, advice_reply}
+use Rattle.hub_law.specs.Overlap.{long_supplier, short_supplier, overlapping, both_announce, one_announces, advice_reply}
 
 pub overlap : PrefixFree overlapping.suppliers → ⊥
 overlap free =
@@ -23,9 +23,17 @@ overlap free =
     differ : short_supplier.gln ≢ long_supplier.gln
     differ e = true_not_false (sym (same_if short_supplier.gln long_supplier.gln e))
 
-pub shared : replies_to long_supplier.gln both_announce (shared_run overlapping empty both_announce).0 ≡ advice_reply true (codes "refused" ∷ codes "B12" ∷ []) ∷ []
+pub same_items : items_of long_supplier.gln overlapping both_announce ≡ items_of long_supplier.gln overlapping one_announces
 unfolding opened interchange_of fault_of contents_of is_framed is_row_of_messages is_outside_set order_of despatch_of digits
-shared = refl
+same_items = refl
+
+pub both : replies_to long_supplier.gln both_announce (shared_run overlapping empty both_announce).0 ≡ advice_reply true (codes "refused" ∷ codes "B12" ∷ []) ∷ []
+unfolding opened interchange_of fault_of contents_of is_framed is_row_of_messages is_outside_set order_of despatch_of digits
+both = refl
+
+pub one : replies_to long_supplier.gln one_announces (shared_run overlapping empty one_announces).0 ≡ advice_reply false (codes "accepted" ∷ []) ∷ []
+unfolding opened interchange_of fault_of contents_of is_framed is_row_of_messages is_outside_set order_of despatch_of digits
+one = refl
 
 pub alone : (fold overlapping.parties long_supplier (items_of long_supplier.gln overlapping both_announce) empty).0 ≡ advice_reply false (codes "accepted" ∷ []) ∷ []
 unfolding opened interchange_of fault_of contents_of is_framed is_row_of_messages is_outside_set order_of despatch_of digits

@@ -126,16 +126,16 @@ module _ (register : Register) (free : PrefixFree register.suppliers) where
     stopped_moves : (c : Cancel) (t : Tables) → Moves register.parties s (view s.gln t) t (if same c.supplier s.gln then [] else [])
     stopped_moves c t = elim (same c.supplier s.gln) as (λ v. Moves register.parties s (view s.gln t) t (if v then [] else [])) [ true ↦ still t | false ↦ still t ]
 
-    cancelled_moves : (mark : Mark) (c : Cancel) (t : Tables) → Sound register.suppliers t →
-        Moves register.parties s (view s.gln t) (cancelled mark (cancel_named c t) t).1 (if same c.supplier s.gln then cancel_items mark c else [])
-    cancelled_moves Whole c t sound =
-        elim (same c.supplier s.gln) as (λ v. same c.supplier s.gln ≡ v → Moves register.parties s (view s.gln t) (cancel_named c t).1 (if v then Cancellation c ∷ [] else [])) [
+    cancelled_moves : (moment : ℕ) (mark : Mark) (c : Cancel) (t : Tables) → Sound register.suppliers t →
+        Moves register.parties s (view s.gln t) (cancelled mark (cancel_named c t) t).1 (if same c.supplier s.gln then cancel_items moment mark c else [])
+    cancelled_moves moment Whole c t sound =
+        elim (same c.supplier s.gln) as (λ v. same c.supplier s.gln ≡ v → Moves register.parties s (view s.gln t) (cancel_named c t).1 (if v then Cancellation moment c ∷ [] else [])) [
           | true ↦ λ e. record { seen = named_sees register.suppliers t sound _ (cancel_apart c t sound) c.supplier s known e; silent = refl }
           | false ↦ λ e. record { seen = another_sees register.suppliers t sound _ (cancel_apart c t sound) c.supplier s known e; silent = refl }
         ] refl
-    cancelled_moves StoppedEmpty c t sound = stopped_moves c t
-    cancelled_moves StoppedBare c t sound = stopped_moves c t
-    cancelled_moves (StoppedAfter k) c t sound = stopped_moves c t
+    cancelled_moves moment StoppedEmpty c t sound = stopped_moves c t
+    cancelled_moves moment StoppedBare c t sound = stopped_moves c t
+    cancelled_moves moment (StoppedAfter k) c t sound = stopped_moves c t
 
     pub retailer_moves : (moment : ℕ) (mark : Mark) (request : Request) (t : Tables) → Sound register.suppliers t →
         Moves register.parties s (view s.gln t) (retailer_request register moment mark request t).1 (retailer_items s.gln register moment mark request)
@@ -145,4 +145,4 @@ module _ (register : Register) (free : PrefixFree register.suppliers) where
     retailer_moves moment mark (requests.MailTaken number) t sound = still t
     retailer_moves moment mark requests.Status t sound = still t
     retailer_moves moment mark (requests.StatusOf gln) t sound = still t
-    retailer_moves moment mark (requests.Cancel c) t sound = cancelled_moves mark c t sound
+    retailer_moves moment mark (requests.Cancel c) t sound = cancelled_moves moment mark c t sound

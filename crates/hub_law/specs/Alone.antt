@@ -14,18 +14,18 @@ use Rattle.hub_law.specs.declared.request.Input.{Input}
 use Rattle.hub_law.specs.declared.request.Request.{Request}
 use Rattle.hub_law.specs.declared.request.Request.TheVariants as requests
 
--- an input of its own; a message of the retailer that names it; a cancellation of the retailer for it
+-- an input of its own; a message of the retailer that names it; a cancellation of the retailer for it, with its moment
 pub data Item : Type 0 where
   Own : Input → Mark → Item
   Message : Sent → Item
-  Cancellation : Cancel → Item
+  Cancellation : ℕ → Cancel → Item
 
 -- what an item does to the supplier's rows, and what is replied to it
 abbrev pub own_step : Parties → Supplier → Item → Tables → List Reply × Tables
 own_step parties s (Own input mark) state =
     ((supplier_step (λ rows. rows) parties s input mark state).0 ∷ [], (supplier_step (λ rows. rows) parties s input mark state).1)
 own_step parties s (Message sent) state = ([], (deliver_retailers (λ rows. rows) parties (Some s) sent state).1)
-own_step parties s (Cancellation c) state = ([], (cancel (λ rows. rows) (Some s) c state).1)
+own_step parties s (Cancellation moment c) state = ([], (cancel (λ rows. rows) (Some s) c state).1)
 
 -- items one after another
 abbrev pub fold : Parties → Supplier → List Item → Tables → List Reply × Tables
@@ -36,11 +36,11 @@ fold parties s (item ∷ items) state = (
 )
 
 -- What of an input is for the supplier with a GLN.
-abbrev pub cancel_items : Mark → Cancel → List Item
-cancel_items Whole c = Cancellation c ∷ []
-cancel_items StoppedEmpty c = []
-cancel_items StoppedBare c = []
-cancel_items (StoppedAfter k) c = []
+abbrev pub cancel_items : ℕ → Mark → Cancel → List Item
+cancel_items moment Whole c = Cancellation moment c ∷ []
+cancel_items moment StoppedEmpty c = []
+cancel_items moment StoppedBare c = []
+cancel_items moment (StoppedAfter k) c = []
 
 abbrev pub retailer_items : List ℕ → Register → ℕ → Mark → Request → List Item
 retailer_items gln register moment mark (requests.Upload bytes) =
@@ -50,7 +50,7 @@ retailer_items gln register moment mark (requests.MailItem number) = []
 retailer_items gln register moment mark (requests.MailTaken number) = []
 retailer_items gln register moment mark requests.Status = []
 retailer_items gln register moment mark (requests.StatusOf other) = []
-retailer_items gln register moment mark (requests.Cancel c) = if same c.supplier gln then cancel_items mark c else []
+retailer_items gln register moment mark (requests.Cancel c) = if same c.supplier gln then cancel_items moment mark c else []
 
 abbrev pub items_as : List ℕ → Register → Option Supplier → Input → Mark → List Item
 items_as gln register (Some s) input mark = if same input.caller gln then Own input mark ∷ [] else []

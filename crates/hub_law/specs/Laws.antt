@@ -1,5 +1,5 @@
 -- What one supplier sees and is told, whatever the others do.
-use Rattle.std.specs.Prelude.{◌≡◌, true, [], ◌∷◌, Some, None}
+use Rattle.std.specs.Prelude.{◌≡◌, true, [], ◌∷◌, ◌++◌, length, slice_get, Option, Some, None}
 use Rattle.hub_tables.specs.Sets.{SameRows}
 use Rattle.hub_tables.specs.Suppliers.{Supplier, supplier_of, PrefixFree}
 use Rattle.hub_tables.specs.Tables.{Tables, view}
@@ -12,13 +12,13 @@ use Rattle.hub_law.specs.declared.reply.Reply.{Reply}
 use Rattle.hub_law.specs.declared.request.Input.{Input}
 use Rattle.hub_law.specs.declared.request.Request.TheVariants.{StatusOf}
 
--- a supplier of a hub in which no prefix of one supplier begins a prefix of another, and whose tables are sound
+-- the supplier is registered in a hub in which no prefix of one supplier begins a prefix of another, and whose tables are sound
 pub record Registered (register : Register) (s : Supplier) (t : Tables) : Type 0 where
   pub free : PrefixFree register.suppliers
   pub known : supplier_of register.suppliers s.gln ≡ Some s
   pub sound : Sound register.suppliers t
 
--- what the supplier sees after a step is its items alone, and where it is the caller it is told what it is told alone
+-- what the supplier sees after a step is what comes of its items alone, and where it is the caller it is told what it is told alone
 pub record StepIsOwn (register : Register) (s : Supplier) (t : Tables) (input : Input) (mark : Mark) : Type 0 where
   pub seen : view s.gln (shared_step register t input mark).1 ≡ (fold register.parties s (items s.gln register input mark) (view s.gln t)).1
   pub told : input.caller ≡ s.gln → (fold register.parties s (items s.gln register input mark) (view s.gln t)).0 ≡ (shared_step register t input mark).0 ∷ []
@@ -34,9 +34,9 @@ pub record AsksStatus (register : Register) (s : Supplier) (input : Input) : Typ
   pub retailers : is_retailers register input ≡ true
   pub asks : input.request ≡ StatusOf s.gln
 
--- the reply to an input that comes after others and is not stopped
-abbrev pub reply_after : Register → Tables → Inputs → Input → Reply
-reply_after register t inputs input = (shared_step register (shared_run register t inputs).1 input Whole).0
+-- the reply to an input that is not stopped, at its place in a run: behind some inputs and before others
+abbrev pub reply_between : Register → Tables → Inputs → Input → Inputs → Option Reply
+reply_between register t before input later = slice_get (shared_run register t (before ++ (input, Whole) ∷ later)).0 (length before)
 
 -- two runs agree on a supplier: on the GLNs of hub and retailer, on its rows at the start, and on its items
 pub record Agree (s : Supplier) (first second : Register) (t u : Tables) (xs ys : Inputs) : Type 0 where

@@ -1,8 +1,8 @@
 -- Whether want of memory or a fault of the store stopped an input, and where.
 use Rattle.std.specs.Prelude.{ℕ}
 
--- not; before anything, when not even a word can be said; before anything, with a word; or after so many messages. What the
--- last one says of anything but an upload with more messages is the third one.
+-- Whole: it was not stopped. StoppedEmpty: nothing was done, and the reply is empty. StoppedBare: nothing was done, and the reply
+-- says so. StoppedAfter k: an upload of more than k messages was stopped behind its first k; of any other input it is StoppedBare.
 pub data Mark : Type 0 where
   Whole : Mark
   StoppedEmpty : Mark

@@ -41,13 +41,19 @@ advice_of s = uploads s.gln s.key (
     codes "UNB+UNOC:3+" ++ s.gln ++ codes ":14+5412345000006:14+250604:0800+S2'UNH+1+DESADV:D:01B:UN'BGM+351+DA1+9'DTM+137:20250604:102'RFF+ON:128576'NAD+SU+"
     ++ s.gln ++ codes "::9'CPS+1'GIN+BJ+340123455000000012'LIN+1++4000862141404:SRV'QTY+12:12'UNT+10+1'UNZ+1+S2'")
 
--- each has an order, and each sends its advice, first the one with the short prefix
-abbrev pub both_announce : Inputs
-both_announce =
-    (order_for short_supplier.gln (codes "1001"), Whole) ∷ (order_for long_supplier.gln (codes "1002"), Whole)
-    ∷ (advice_of short_supplier, Whole) ∷ (advice_of long_supplier, Whole) ∷ []
+-- each has an order
+abbrev pub orders : Inputs
+orders = (order_for short_supplier.gln (codes "1001"), Whole) ∷ (order_for long_supplier.gln (codes "1002"), Whole) ∷ []
 
--- the reply to an advice
+-- then each sends its advice, first the one with the short prefix
+abbrev pub both_announce : Inputs
+both_announce = orders ++ (advice_of short_supplier, Whole) ∷ (advice_of long_supplier, Whole) ∷ []
+
+-- or the one with the long prefix alone
+abbrev pub one_announces : Inputs
+one_announces = orders ++ (advice_of long_supplier, Whole) ∷ []
+
+-- the reply to the advice of the supplier with the long prefix
 abbrev pub advice_reply : Bool → List (List ℕ) → Reply
 advice_reply refused words = record {
   outcome = Done;

@@ -1,4 +1,4 @@
--- The parties of a hub, and which inputs are stopped.
+-- The parties of a hub, and which inputs are the retailer's.
 use Rattle.std.specs.Prelude.{ℕ, Bool, ◌&&◌, List}
 use Rattle.hub_tables.specs.Rows.{same}
 use Rattle.hub_tables.specs.Suppliers.{Supplier}

@@ -45,30 +45,32 @@ told_words Accepted = codes "accepted" ∷ []
 told_words Repeated = codes "repeated" ∷ []
 told_words (Refused code) = codes "refused" ∷ code ∷ []
 
--- a line for the interchange, and one for each message of which something is told
+-- the line of the interchange: its reference, and how many messages it has
 abbrev pub interchange_line : Interchange → List ℕ
 interchange_line i = line (codes "interchange" ∷ i.head.reference ∷ codes "messages" ∷ decimal (length i.messages) ∷ [])
 
+-- its reference, its type, and what is told of it
 abbrev pub message_lines : List RawMessage → List Told → List ℕ
-message_lines [] tolds = []
+message_lines [] told = []
 message_lines (message ∷ messages) [] = []
-message_lines (message ∷ messages) (told ∷ tolds) = line (message.reference ∷ message.kind ∷ told_words told) ++ message_lines messages tolds
+message_lines (message ∷ messages) (told ∷ others) = line (message.reference ∷ message.kind ∷ told_words told) ++ message_lines messages others
 
+-- and then one for each message of which something is told
 abbrev pub lines_of : Interchange → List Told → List ℕ
-lines_of i tolds = interchange_line i ++ message_lines i.messages tolds
+lines_of i told = interchange_line i ++ message_lines i.messages told
 
 -- the reply to an upload, by what is told of the messages that were looked at
 abbrev pub upload_reply : Mark → Opened → List Told → Reply
-upload_reply Whole (Err code) tolds = record { outcome = Bad; refused = true; body = line (codes "refused" ∷ code ∷ []) }
-upload_reply StoppedEmpty (Err code) tolds = reply Stopped []
-upload_reply StoppedBare (Err code) tolds = stopped
-upload_reply (StoppedAfter k) (Err code) tolds = stopped
-upload_reply Whole (Ok i) tolds = record { outcome = Done; refused = list_any is_refused tolds; body = lines_of i tolds }
-upload_reply StoppedEmpty (Ok i) tolds = reply Stopped []
-upload_reply StoppedBare (Ok i) tolds = stopped
-upload_reply (StoppedAfter k) (Ok i) tolds =
+upload_reply Whole (Err code) told = record { outcome = Bad; refused = true; body = line (codes "refused" ∷ code ∷ []) }
+upload_reply StoppedEmpty (Err code) told = reply Stopped []
+upload_reply StoppedBare (Err code) told = stopped
+upload_reply (StoppedAfter k) (Err code) told = stopped
+upload_reply Whole (Ok i) told = record { outcome = Done; refused = list_any is_refused told; body = lines_of i told }
+upload_reply StoppedEmpty (Ok i) told = reply Stopped []
+upload_reply StoppedBare (Ok i) told = stopped
+upload_reply (StoppedAfter k) (Ok i) told =
     if nat_lt k (length i.messages)
-    then record { outcome = Stopped; refused = list_any is_refused tolds; body = lines_of i tolds ++ stopped_line }
+    then record { outcome = Stopped; refused = list_any is_refused told; body = lines_of i told ++ stopped_line }
     else stopped
 
 -- the reply to a cancellation

@@ -52,24 +52,24 @@ despatched_on state pallet gtin = sum_by (λ content. content.quantity) (filter 
 abbrev pub received_on : (ReceiptRow → ℕ) → Tables → PalletRow → List ℕ → ℕ
 received_on kind state pallet gtin = sum_by kind (filter (λ receipt. same receipt.gtin gtin) (receipts_of state pallet))
 
--- so much more than that, with its sign
+-- one number less another, with its sign
 abbrev pub signed : ℕ → ℕ → List ℕ
-signed much than = if nat_le than much then codes "+" ++ decimal (much - than) else codes "-" ++ decimal (than - much)
+signed number less = if nat_le less number then codes "+" ++ decimal (number - less) else codes "-" ++ decimal (less - number)
 
 abbrev pub is_announced : PalletRow → Bool
 is_announced pallet = pallet.received == arrival_number Announced
 
 -- received in all minus despatched, and `+0` while the pallet is announced
 abbrev pub difference : PalletRow → ℕ → ℕ → List ℕ
-difference pallet received sent = if is_announced pallet then signed 0 0 else signed received sent
+difference pallet received despatched = if is_announced pallet then signed 0 0 else signed received despatched
 
 -- `P`, SSCC, GTIN, `A` announced or `R` received; then despatched, accepted, returned and destroyed, right in 14 places each, and
 -- the difference right in 15
 abbrev pub item_text : PalletRow → List ℕ → ℕ → ℕ → ℕ → ℕ → List ℕ
-item_text pallet gtin sent accepted returned destroyed = line (
+item_text pallet gtin despatched accepted returned destroyed = line (
     codes "P" ∷ pallet.sscc ∷ gtin ∷ (if is_announced pallet then codes "A" else codes "R")
-    ∷ map (λ quantity. right 14 (decimal quantity)) (sent ∷ accepted ∷ returned ∷ destroyed ∷ [])
-    ++ right 15 (difference pallet (accepted + returned + destroyed) sent) ∷ [])
+    ∷ map (λ quantity. right 14 (decimal quantity)) (despatched ∷ accepted ∷ returned ∷ destroyed ∷ [])
+    ++ right 15 (difference pallet (accepted + returned + destroyed) despatched) ∷ [])
 
 abbrev pub pallet_text : Tables → PalletRow → List ℕ
 pallet_text state pallet = flat_map (λ gtin.

@@ -7,6 +7,7 @@ mod repeats;
 mod reply;
 mod request;
 mod sets;
+mod stops;
 
 pub use laws::{
     each_line_balances, hub_stays_sound, prefixes_matter, run_is_own, runs_alike, step_is_own,
@@ -15,3 +16,4 @@ pub use repeats::{accepted_is_repeated, remembered_stays};
 pub use reply::{Outcome, Reply};
 pub use request::{Input, Request};
 pub use sets::views_are_sets;
+pub use stops::stops_are_told;

@@ -7,19 +7,19 @@ use hub_tables::Cancel;
 /// What a supplier or the retailer asks.
 #[derive(Debug, Drop)]
 pub enum Request {
-    /// To take the messages of an interchange, given by its bytes.
+    /// To take the messages of an interchange, given by its bytes. Either asks it.
     Upload(Items<u8>),
-    /// To list the entries of its mailbox above a number that are not taken. Of suppliers.
+    /// To list the entries of its mailbox above a number that are not taken. A supplier asks it.
     MailAfter(u64),
-    /// To give the mailbox entry of a number. Of suppliers.
+    /// To give the mailbox entry of a number. A supplier asks it.
     MailItem(u64),
-    /// To mark the mailbox entry of a number as taken. Of suppliers.
+    /// To mark the mailbox entry of a number as taken. A supplier asks it.
     MailTaken(u64),
-    /// To report its lines and pallets. Of suppliers.
+    /// To report its lines and pallets. A supplier asks it.
     Status,
-    /// To report the lines and pallets of a supplier. Of the retailer.
+    /// To report the lines and pallets of a supplier. The retailer asks it.
     StatusOf(Gln),
-    /// To cancel a quantity of a line. Of the retailer.
+    /// To cancel a quantity of a line. The retailer asks it.
     Cancel(Cancel),
 }
 

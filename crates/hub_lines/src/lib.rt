@@ -1,5 +1,5 @@
-//! The orders and lines that a message or a cancellation names, as they are known while it is judged: looked up by number
-//! and by item without a walk over all lines, and set one after another.
+//! The orders and lines that a message or a cancellation names, as they are known while it is judged. Those of a message are
+//! looked up by number and by item without a walk over all lines, and set one after another.
 #![tactic(auto)]
 
 mod book;

@@ -1,4 +1,4 @@
-pub mod Answered
+pub mod Answering
 pub mod Cancelled
 pub mod Despatched
 pub mod Facts

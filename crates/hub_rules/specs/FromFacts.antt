@@ -4,7 +4,7 @@ use Rattle.edi_base.specs.Seen.{is_among}
 use Rattle.hub_tables.specs.Cases.{arrival_number}
 use Rattle.hub_tables.specs.Judging.{refuse_if, given, joined}
 use Rattle.hub_tables.specs.Receipts.{items, new_receipt}
-use Rattle.hub_tables.specs.Responses.{answered, is_out_of_range, is_none}
+use Rattle.hub_tables.specs.Responses.{answered, is_out_of_range, is_empty}
 use Rattle.hub_tables.specs.Rows.{same}
 use Rattle.hub_tables.specs.State.{waits}
 use Rattle.hub_tables.specs.declared.change.Change.TheVariants.{SetLine, SetPallet, AddAdvice, AddPallet, AddContent}
@@ -59,7 +59,7 @@ waiting_of lines order = filter (λ line. waits line.row) (facts_of lines order)
 -- the same answer to each of them
 abbrev pub all_from : LineAnswer → List ℕ → List LineFacts → Verdict
 all_from answer order lines =
-    refuse_if (is_none (waiting_of lines order)) NotWaiting (
+    refuse_if (is_empty (waiting_of lines order)) NotWaiting (
     Accept (map (λ line. SetLine (after_answer answer line)) (waiting_of lines order)))
 
 abbrev pub said_from : Answer → List ℕ → List LineFacts → Verdict

@@ -3,7 +3,7 @@ ghost use Rattle.std.specs.Prelude.{◌≡◌, ◌+◌, ◌≤◌, ◌++◌, ℕ
 ghost use Rattle.std.specs.List.{AllByRecursion};
 ghost use Rattle.std.specs.Option.{IfSome, IfNone};
 ghost use Rattle.hub_tables.specs.Judging.{joined};
-ghost use Rattle.hub_tables.specs.Responses.{is_none, is_out_of_range};
+ghost use Rattle.hub_tables.specs.Responses.{is_empty, is_out_of_range};
 ghost use Rattle.hub_tables.specs.State.{waits};
 ghost use Rattle.hub_tables.specs.declared.change.Change.TheVariants.{SetLine};
 ghost use Rattle.hub_tables.specs.declared.rows.LineRow.{LineRow};
@@ -27,7 +27,7 @@ fn is_waiting(line: &LineFacts) -> bool
 
 /// Whether a line of an order waits for an answer.
 pub(crate) fn any_waits(lines: &[LineFacts], order: &[u8]) -> bool
-    ensures { result ≡ not (is_none (waiting_of lines.now order.now)) }
+    ensures { result ≡ not (is_empty (waiting_of lines.now order.now)) }
 {
     for line in lines {
         if line.row.number.as_slice() == order && is_waiting(line) {

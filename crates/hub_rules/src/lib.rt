@@ -16,6 +16,10 @@ mod totals;
 pub use cancel::judge_cancel;
 pub use despatch::judge_despatch;
 pub use hub_lines::LineFacts;
+pub use hub_tables::{
+    AdviceRow, Answered, Arrival, Cancel, Case, Change, Code, Column, ContentRow, Delivery,
+    LineRow, MailKind, MailRow, OrderRow, PalletRow, ReceiptRow, RememberedRow, Side, Verdict,
+};
 pub use known::Known;
 pub use order::judge_order;
 pub use receipt::judge_receipt;

@@ -91,7 +91,8 @@ fn judge_units(
     Ok(Verdict::Accept(changes))
 }
 
-/// What comes of a RECADV: B01, B02, B03 and B16 are asked in this order, and then of each unit B14 and B15.
+/// What comes of a RECADV: B01, B02, B03 and B16 are asked in this order, and then of each unit B14 and B15. Asks that no SSCC
+/// stands in two units, and that no sum of an item in a unit is past its limit, as `Receipt::read` promises.
 pub fn judge_receipt(
     alloc: Global,
     retailer: &Gln,

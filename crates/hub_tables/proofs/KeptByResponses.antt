@@ -4,7 +4,7 @@ use Rattle.std.specs.List.{AllByRecursion}
 use Rattle.std.proofs.lemmas.Bool.{or_parts}
 use Rattle.std.proofs.lemmas.Bool.Decides.{nat_tests}
 use Rattle.hub_tables.specs.Change.{apply}
-use Rattle.hub_tables.specs.Responses.{answered, is_out_of_range, judge_answer, waiting, is_none, judge_all, judge_answers, judge_new_response}
+use Rattle.hub_tables.specs.Responses.{answered, is_out_of_range, judge_answer, waiting, is_empty, judge_all, judge_answers, judge_new_response}
 use Rattle.hub_tables.specs.Rows.{same}
 use Rattle.hub_tables.specs.Rules.{judge_response}
 use Rattle.hub_tables.specs.State.{knows_order, lines_of, line_of, despatched, waits}
@@ -76,7 +76,7 @@ module _ (s : Supplier) where
 
   leads_all : (answer : LineAnswer) (order : List ℕ) → ((state : Tables) (line : LineRow) → GoodLine s state line → GoodLine s state (answered answer 0 line)) → Leads s (Good s) (Good s) (judge_all answer order)
   leads_all answer order f state changes good h =
-      let a = not_refused (is_none (waiting state order)) codes.NotWaiting _ changes h in
+      let a = not_refused (is_empty (waiting state order)) codes.NotWaiting _ changes h in
       let some = all_filter (GoodLine s state) waits (lines_of state order) (all_filter (GoodLine s state) (λ line. same line.number order) state.lines (good_lines s state good)) in
       leaves_given s (Good s) state (map (λ line. SetLine (answered answer 0 line)) (waiting state order)) changes a.1
       (leaves_set_lines (answered answer 0) (waiting state order) state good (all_weaker (GoodLine s state) (λ line. GoodLine s state (answered answer 0 line)) (f state) (waiting state order) some))

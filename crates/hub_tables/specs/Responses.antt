@@ -47,14 +47,14 @@ judge_answer order said state =
 abbrev pub waiting : Tables → List ℕ → List LineRow
 waiting state order = filter waits (lines_of state order)
 
-abbrev pub is_none : {X : Type 0} → List X → Bool
-is_none [] = true
-is_none (x ∷ xs) = false
+abbrev pub is_empty : {X : Type 0} → List X → Bool
+is_empty [] = true
+is_empty (x ∷ xs) = false
 
 -- B07; then the same answer to every line that waits
 abbrev pub judge_all : LineAnswer → List ℕ → Judge
 judge_all answer order state =
-    refuse_if (is_none (waiting state order)) NotWaiting (
+    refuse_if (is_empty (waiting state order)) NotWaiting (
     Accept (map (λ line. SetLine (answered answer 0 line)) (waiting state order)))
 
 abbrev pub judge_answers : Answer → List ℕ → Judge

@@ -45,7 +45,7 @@ pub enum Code {
 
 impl Code {
     /// The code that is printed, as `B02`.
-    pub fn text(self) -> &'static str
+    pub fn code(self) -> &'static str
         ensures { result.now ≡ code_text self }
     {
         match self {
@@ -77,6 +77,6 @@ impl fmt::Display for Code {
     ghost output = { λ code. Some (code_text code) };
 
     fn fmt<W: fmt::Write>(&self, f: &mut fmt::Formatter<W>) -> fmt::Result {
-        f.write_str(self.text())
+        f.write_str(self.code())
     }
 }

@@ -3,7 +3,7 @@ ghost use Rattle.std.specs.Prelude.{◌≡◌};
 
 use std::marker::Model;
 
-/// The cases that may stand in a column, each with a number of its own.
+/// The cases that may stand in a column, each with its number.
 pub trait Case {
     ghost use Rattle.std.specs.Prelude.{ℕ};
 

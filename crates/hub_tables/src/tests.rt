@@ -22,7 +22,7 @@ fn rules_have_their_codes(rt: HostRuntime) -> Result<(), AllocError> {
         (Code::MailboxFull, "B16"),
         (Code::CancelsMoreThanOpen, "B17"),
     ] {
-        assert_eq!(rt; code.text(), text);
+        assert_eq!(rt; code.code(), text);
         assert_eq!(rt; code.to_string(rt.alloc())?.as_str(), text);
     }
     Ok(())

@@ -8,4 +8,4 @@ pub returns-clause-told : goal.returns-clause-told
 returns-clause-told c first second s t u xs ys here there = both_told first second s t u here there xs ys
 
 pub returns-clause-status : goal.returns-clause-status
-returns-clause-status c first second s t u xs xs_later ys ys_later x y here there agree counts = both_statuses first second s t u here there xs xs_later ys ys_later agree counts x y
+returns-clause-status c first second s t u xs xs_later ys ys_later x y here there = both_statuses first second s t u here there xs xs_later ys ys_later x y

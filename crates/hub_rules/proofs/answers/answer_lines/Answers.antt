@@ -5,7 +5,7 @@ use Rattle.hub_tables.specs.Judging.{joined}
 use Rattle.hub_lines.specs.Book.{with_row, answered_row, IsCovered}
 use Rattle.hub_rules.specs.FromFacts.{answers_from}
 use Rattle.hub_lines.specs.declared.facts.LineFacts.{LineFacts}
-use Rattle.hub_rules.proofs.Answered.{answered_next, row_is_set, covered_after}
+use Rattle.hub_rules.proofs.Answering.{answered_next, row_is_set, covered_after}
 use Rattle.hub_rules.proofs.answers.answer_lines.Goals as goal
 
 pub loop-answer-preserved : goal.loop-answer-preserved

@@ -6,7 +6,7 @@ use Rattle.hub_tables.specs.State.{remembered_of}
 use Rattle.hub_tables.specs.declared.cases.Side.TheVariants as sides
 use Rattle.hub_rules.specs.FromFacts.{response_from}
 use Rattle.hub_rules.specs.Party.{supplier_in, supplier_of}
-use Rattle.hub_rules.proofs.Answered.{response_alike}
+use Rattle.hub_rules.proofs.Answering.{response_alike}
 use Rattle.hub_rules.proofs.Messages.{first_of, judged_message}
 use Rattle.hub_rules.proofs.response.judge_response.Goals as goal
 

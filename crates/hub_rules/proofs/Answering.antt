@@ -2,7 +2,7 @@
 use Rattle.std.proofs.Common.{◌≡◌, ◌+◌, ◌≤◌, ℕ, Bool, true, false, cond, not, List, [], ◌∷◌, ◌++◌, map, filter, Option, Some, None, option_map, refl, sym, ◌∙◌, ap, ap₂}
 use Rattle.hub_tables.specs.Change.{apply}
 use Rattle.hub_tables.specs.Judging.{refuse_if, given, joined, goes_on, in_order}
-use Rattle.hub_tables.specs.Responses.{answered, is_out_of_range, is_none, judge_answer, judge_all, judge_answers, judge_new_response}
+use Rattle.hub_tables.specs.Responses.{answered, is_out_of_range, is_empty, judge_answer, judge_all, judge_answers, judge_new_response}
 use Rattle.hub_tables.specs.Rows.{same, same_line}
 use Rattle.hub_tables.specs.State.{waits, despatched}
 use Rattle.hub_tables.specs.Tables.{Tables}
@@ -76,17 +76,17 @@ module _ (answer : LineAnswer) (whatever : (sent : ℕ) (line : LineRow) → ans
         | false ↦ all_changes lines
       ]
 
-  none_alike : (lines : List LineFacts) → is_none (filter waits (rows lines)) ≡ is_none (filter (λ line. waits line.row) lines)
+  none_alike : (lines : List LineFacts) → is_empty (filter waits (rows lines)) ≡ is_empty (filter (λ line. waits line.row) lines)
   none_alike [] = refl
   none_alike (line ∷ lines) =
-      elim (waits line.row) as (λ v. is_none (cond v (line.row ∷ filter waits (rows lines)) (filter waits (rows lines))) ≡ is_none (cond v (line ∷ filter (λ line. waits line.row) lines) (filter (λ line. waits line.row) lines))) [
+      elim (waits line.row) as (λ v. is_empty (cond v (line.row ∷ filter waits (rows lines)) (filter waits (rows lines))) ≡ is_empty (cond v (line ∷ filter (λ line. waits line.row) lines) (filter (λ line. waits line.row) lines))) [
         | true ↦ refl
         | false ↦ none_alike lines
       ]
 
   all_alike : (order : List ℕ) (state : Tables) (lines : List LineFacts) → TellsLines state lines order → judge_all answer order state ≡ all_from answer order lines
   all_alike order state lines told =
-      ap (λ ls. refuse_if (is_none (filter waits ls)) NotWaiting (Accept (map (λ line. SetLine (answered answer 0 line)) (filter waits ls)))) told
+      ap (λ ls. refuse_if (is_empty (filter waits ls)) NotWaiting (Accept (map (λ line. SetLine (answered answer 0 line)) (filter waits ls)))) told
       ∙ ap₂ (λ v changes. refuse_if v NotWaiting (Accept changes)) (none_alike (facts_of lines order)) (all_changes (facts_of lines order))
 
 said_alike : (answer : Answer) (order : List ℕ) (state : Tables) (lines : List LineFacts) → TellsLines state lines order → TellsDespatched state lines → judge_answers answer order state ≡ said_from answer order lines

@@ -1,0 +1,125 @@
+-- Inputs that are stopped, and what is said of them.
+use Rattle.std.proofs.Common.{◌≡◌, ◌≢◌, ◌↔◌, ℕ, List, Bool, true, false, cond, nat_lt, [], length, Option, Some, None, Ok, Err, refl, ap}
+use Rattle.hub_tables.specs.Rows.{same}
+use Rattle.hub_tables.specs.Suppliers.{Supplier, supplier_of}
+use Rattle.hub_tables.specs.Tables.{Tables, view}
+use Rattle.hub_tables.specs.declared.rows.MailRow.{MailRow}
+use Rattle.hub_law.specs.MailText.{entry_at}
+use Rattle.hub_law.specs.Machine.{step_as, shared_step}
+use Rattle.hub_law.specs.Mark.{Mark, Whole, StoppedEmpty, StoppedBare, StoppedAfter}
+use Rattle.hub_law.specs.Messages.{Sent, deliver_suppliers, cancel}
+use Rattle.hub_law.specs.Opening.{Opened}
+use Rattle.hub_law.specs.Register.{Parties, Register, is_retailers}
+use Rattle.hub_law.specs.Replies.{reply, denied, stopped, unless_stopped, entry_reply}
+use Rattle.hub_law.specs.Requests.{uploaded, from_supplier, from_retailer, taken, supplier_request, deliver_named, cancelled, report, retailer_request}
+use Rattle.hub_law.specs.Told.{Told, Act}
+use Rattle.hub_law.specs.declared.reply.Outcome.TheVariants.{Stopped}
+use Rattle.hub_law.specs.declared.reply.Reply.{Reply}
+use Rattle.hub_law.specs.declared.request.Input.{Input}
+use Rattle.hub_law.specs.declared.request.Request.{Request}
+use Rattle.hub_law.specs.declared.request.Request.TheVariants as requests
+
+-- one of two, by a test
+either : {X : Type 0} (P : X → Type 0) (test : Bool) (one other : X) → P one → P other → P (cond test one other)
+either P true one other first second = first
+either P false one other first second = second
+
+-- the reply is not that of an input that was stopped
+abbrev IsWhole : Reply → Type 0
+IsWhole whole = whole.outcome ≢ Stopped
+
+entry_is_whole : (hub : List ℕ) (found : Option MailRow) → IsWhole (entry_reply hub found)
+entry_is_whole hub None = λ e. cc
+entry_is_whole hub (Some entry) = λ e. cc
+
+report_is_whole : (found : Option Supplier) (state : Tables) → IsWhole (report found state)
+report_is_whole None state = λ e. cc
+report_is_whole (Some s) state = λ e. cc
+
+-- A property of what is replied and left, whatever is asked.
+module _ (mark : Mark) (P : Tables → Reply × Tables → Type 0)
+    (unless : (t : Tables) (whole : Reply) → IsWhole whole → P t (unless_stopped mark whole, t))
+    (upload : (deliver : Sent → Act) (moment : ℕ) (opened : Opened) (t : Tables) → P t (uploaded deliver moment mark opened t))
+    (entry : (found : Option MailRow) (t : Tables) → P t (taken mark found t))
+    (cut : (after : Told × Tables) (t : Tables) → P t (cancelled mark after t)) where
+  of_supplier : (look : Tables → Tables) (parties : Parties) (s : Supplier) (moment : ℕ) (request : Request) (t : Tables) → P t (supplier_request look parties s moment mark request t)
+  of_supplier look parties s moment (requests.Upload bytes) t = upload (deliver_suppliers look parties s) moment (from_supplier parties s bytes) t
+  of_supplier look parties s moment (requests.MailAfter number) t = unless t _ (λ e. cc)
+  of_supplier look parties s moment (requests.MailItem number) t = unless t _ (entry_is_whole parties.hub (entry_at (look t) number))
+  of_supplier look parties s moment (requests.MailTaken number) t = entry (entry_at (look t) number) t
+  of_supplier look parties s moment requests.Status t = unless t _ (λ e. cc)
+  of_supplier look parties s moment (requests.StatusOf gln) t = unless t _ (λ e. cc)
+  of_supplier look parties s moment (requests.Cancel c) t = unless t _ (λ e. cc)
+
+  of_retailer : (register : Register) (moment : ℕ) (request : Request) (t : Tables) → P t (retailer_request register moment mark request t)
+  of_retailer register moment (requests.Upload bytes) t = upload (deliver_named register) moment (from_retailer register.parties bytes) t
+  of_retailer register moment (requests.MailAfter number) t = unless t _ (λ e. cc)
+  of_retailer register moment (requests.MailItem number) t = unless t _ (λ e. cc)
+  of_retailer register moment (requests.MailTaken number) t = unless t _ (λ e. cc)
+  of_retailer register moment requests.Status t = unless t _ (λ e. cc)
+  of_retailer register moment (requests.StatusOf gln) t = unless t _ (report_is_whole (supplier_of register.suppliers gln) (view gln t))
+  of_retailer register moment (requests.Cancel c) t = cut (cancel (view c.supplier) (supplier_of register.suppliers c.supplier) c t) t
+
+  of_anybody : (register : Register) (o : Option Supplier) (input : Input) (t : Tables) → P t (step_as register o input mark t)
+  of_anybody register (Some s) input t =
+      either (P t) (same input.key s.key) _ _ (of_supplier (view s.gln) register.parties s input.moment input.request t) (unless t denied (λ e. cc))
+  of_anybody register None input t =
+      either (P t) (is_retailers register input) _ _ (of_retailer register input.moment input.request t) (unless t denied (λ e. cc))
+
+module _ (register : Register) (t : Tables) (input : Input) where
+  anybody : (mark : Mark) (P : Tables → Reply × Tables → Type 0) →
+      ((t : Tables) (whole : Reply) → IsWhole whole → P t (unless_stopped mark whole, t)) →
+      ((deliver : Sent → Act) (moment : ℕ) (opened : Opened) (t : Tables) → P t (uploaded deliver moment mark opened t)) →
+      ((found : Option MailRow) (t : Tables) → P t (taken mark found t)) →
+      ((after : Told × Tables) (t : Tables) → P t (cancelled mark after t)) → P t (shared_step register t input mark)
+  anybody mark P unless upload entry cut = of_anybody mark P unless upload entry cut register (supplier_of register.suppliers input.caller) input t
+
+  whole : IsWhole (shared_step register t input Whole).0
+  whole = anybody Whole (λ t after. IsWhole after.0) (λ t reply is_whole. is_whole) upload entry (λ after t e. cc)
+    where
+      upload : (deliver : Sent → Act) (moment : ℕ) (opened : Opened) (t : Tables) → IsWhole (uploaded deliver moment Whole opened t).0
+      upload deliver moment (Err code) t = λ e. cc
+      upload deliver moment (Ok i) t = λ e. cc
+
+      entry : (found : Option MailRow) (t : Tables) → IsWhole (taken Whole found t).0
+      entry None t = λ e. cc
+      entry (Some row) t = λ e. cc
+
+  pub empty_stop : shared_step register t input StoppedEmpty ≡ (reply Stopped [], t)
+  empty_stop = anybody StoppedEmpty (λ t after. after ≡ (reply Stopped [], t)) (λ t whole is_whole. refl) upload entry (λ after t. refl)
+    where
+      upload : (deliver : Sent → Act) (moment : ℕ) (opened : Opened) (t : Tables) → uploaded deliver moment StoppedEmpty opened t ≡ (reply Stopped [], t)
+      upload deliver moment (Err code) t = refl
+      upload deliver moment (Ok i) t = refl
+
+      entry : (found : Option MailRow) (t : Tables) → taken StoppedEmpty found t ≡ (reply Stopped [], t)
+      entry None t = refl
+      entry (Some row) t = refl
+
+  pub bare_stop : shared_step register t input StoppedBare ≡ (stopped, t)
+  bare_stop = anybody StoppedBare (λ t after. after ≡ (stopped, t)) (λ t whole is_whole. refl) upload entry (λ after t. refl)
+    where
+      upload : (deliver : Sent → Act) (moment : ℕ) (opened : Opened) (t : Tables) → uploaded deliver moment StoppedBare opened t ≡ (stopped, t)
+      upload deliver moment (Err code) t = refl
+      upload deliver moment (Ok i) t = refl
+
+      entry : (found : Option MailRow) (t : Tables) → taken StoppedBare found t ≡ (stopped, t)
+      entry None t = refl
+      entry (Some row) t = refl
+
+  stop_after : (k : ℕ) → (shared_step register t input (StoppedAfter k)).0.outcome ≡ Stopped
+  stop_after k = anybody (StoppedAfter k) (λ t after. after.0.outcome ≡ Stopped) (λ t whole is_whole. refl) upload entry (λ after t. refl)
+    where
+      upload : (deliver : Sent → Act) (moment : ℕ) (opened : Opened) (t : Tables) → (uploaded deliver moment (StoppedAfter k) opened t).0.outcome ≡ Stopped
+      upload deliver moment (Err code) t = refl
+      upload deliver moment (Ok i) t = either (λ (told : Reply). told.outcome ≡ Stopped) (nat_lt k (length i.messages)) _ _ refl refl
+
+      entry : (found : Option MailRow) (t : Tables) → (taken (StoppedAfter k) found t).0.outcome ≡ Stopped
+      entry None t = refl
+      entry (Some row) t = refl
+
+  pub stop_is_told : (mark : Mark) → ((shared_step register t input mark).0.outcome ≡ Stopped) ↔ (mark ≢ Whole)
+  stop_is_told Whole = (λ e. absurd (whole e), λ differs. absurd (differs refl))
+  stop_is_told StoppedEmpty = (λ e same. cc, λ differs. ap (λ (after : Reply × Tables). after.0.outcome) empty_stop)
+  stop_is_told StoppedBare = (λ e same. cc, λ differs. ap (λ (after : Reply × Tables). after.0.outcome) bare_stop)
+  stop_is_told (StoppedAfter k) = (λ e same. cc, λ differs. stop_after k)
