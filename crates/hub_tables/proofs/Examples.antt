@@ -1,17 +1,21 @@
 -- The rules at small states.
-use Rattle.std.proofs.Common.{◌≡◌, ℕ, Bool, true, false, List, [], ◌∷◌, Option, Some, None, codes, refl}
+use Rattle.std.proofs.Common.{◌≡◌, ℕ, ◌+◌, nat_lt, Bool, true, false, List, [], ◌∷◌, length, Option, Some, None, codes, refl, ◌∙◌}
 use Rattle.hub_tables.specs.Cancellations.{judge_new_cancel}
 use Rattle.hub_tables.specs.Cases.{answer_letter, arrival_number}
 use Rattle.hub_tables.specs.Despatches.{judge_new_despatch}
+use Rattle.hub_tables.specs.Judging.{refuse_if}
+use Rattle.hub_tables.specs.Orders.{judge_new_order}
 use Rattle.hub_tables.specs.Receipts.{judge_new_receipt}
 use Rattle.hub_tables.specs.Responses.{judge_answer, judge_answers, judge_new_response}
-use Rattle.hub_tables.specs.Rules.{judge_order, judge_response, judge_despatch, judge_cancel}
+use Rattle.hub_tables.specs.Rules.{judge_order, judge_response, judge_despatch, judge_receipt, judge_cancel}
+use Rattle.hub_tables.specs.State.{knows_order}
 use Rattle.hub_tables.specs.Suppliers.{Supplier}
 use Rattle.hub_tables.specs.Tables.{Tables, empty}
 use Rattle.hub_tables.specs.declared.cases.Answered.{Answered}
 use Rattle.hub_tables.specs.declared.cases.Answered.TheVariants.{Waiting, Accepted, NotAccepted, Changed}
 use Rattle.hub_tables.specs.declared.cases.Arrival.TheVariants.{Announced, Received}
 use Rattle.hub_tables.specs.declared.change.Change.TheVariants.{AddOrder, AddLine, SetLine, AddAdvice, AddPallet, SetPallet, AddContent, AddReceipt, Remember, AddMail}
+use Rattle.hub_tables.specs.declared.code.Code.{Code}
 use Rattle.hub_tables.specs.declared.code.Code.TheVariants as codes_of
 use Rattle.hub_tables.specs.declared.delivery.Cancel.{Cancel}
 use Rattle.hub_tables.specs.declared.delivery.Delivery.{Delivery}
@@ -21,7 +25,9 @@ use Rattle.hub_tables.specs.declared.verdict.Verdict.{Verdict}
 use Rattle.hub_tables.specs.declared.verdict.Verdict.TheVariants.{Accept, Refuse}
 use Rattle.edi_orders.specs.declared.order.Order.{Order}
 use Rattle.edi_orders.specs.declared.response.Answer.TheVariants as answers
+use Rattle.edi_orders.specs.declared.response.LineAnswer.{LineAnswer}
 use Rattle.edi_orders.specs.declared.response.LineAnswer.TheVariants as says
+use Rattle.edi_orders.specs.declared.response.Response.{Response}
 use Rattle.edi_goods.specs.declared.despatch.DespatchLine.{DespatchLine}
 use Rattle.edi_goods.specs.declared.despatch.Unit.{Unit}
 use Rattle.edi_goods.specs.declared.receipt.ReceiptLine.{ReceiptLine}
@@ -258,3 +264,69 @@ advice_before_units = refl
 -- another supplier's response
 not_the_caller : judge_response buyer (Some alpha) (delivery (codes "S1") []) (record { number = codes "R1"; buyer = buyer; supplier = codes "8712345000004"; order = number; answer = answers.AllAccepted }) (with_lines []) ≡ Refuse codes_of.Supplier
 not_the_caller = refl
+
+-- the letters of lines: one that waits is accepted, refused, and changed
+abbrev answered_so : LineAnswer → Verdict
+answered_so answer = judge_answer number (record { order_line = Some 1; gtin = item; answer = answer }) (with_lines (record (line 1 48 48 0 0 Waiting) { answer = 0x57 } ∷ []))
+
+abbrev lettered : ℕ → ℕ → ℕ → Verdict
+lettered letter open_qty refused = Accept (SetLine (record (line 1 48 open_qty refused 0 Waiting) { answer = letter }) ∷ [])
+
+accepted_letter : answered_so says.Accepted ≡ lettered 0x41 48 0
+accepted_letter = refl
+
+refused_letter : answered_so says.Refused ≡ lettered 0x4E 0 48
+refused_letter = refl
+
+changed_letter : answered_so (says.Changed 40) ≡ lettered 0x43 40 8
+changed_letter = refl
+
+answer_before_range : judge_answer number (record { order_line = Some 1; gtin = item; answer = says.Changed 99 }) (with_lines (line 1 48 48 0 0 Accepted ∷ [])) ≡ Refuse codes_of.NotWaiting
+answer_before_range = refl
+
+range_before_item : answered (Some 1) other_item 49 ≡ Refuse codes_of.OutOfRange
+range_before_item = refl
+
+-- what is remembered of a supplier's message, and of the retailer's
+abbrev response : Response
+response = record { number = codes "R1"; buyer = buyer; supplier = gln; order = number; answer = answers.AllAccepted }
+
+response_remembered : judge_response buyer (Some alpha) (delivery (codes "1001") (codes "content")) response (with_lines (line 1 48 48 0 0 Waiting ∷ [])) ≡ Accept (
+    Remember (record { supplier = gln; side = 0x53; control = codes "1001"; message = codes "1"; content = codes "content" })
+    ∷ SetLine (record (line 1 48 48 0 0 Waiting) { answer = 0x41 })
+    ∷ [])
+response_remembered = refl
+
+receipt_remembered : judge_receipt buyer (Some alpha) (record (delivery (codes "1005") (codes "content")) { decimal = 44 }) (codes "body") (record { number = codes "G1"; buyer = None; supplier = gln; units = [] }) empty ≡ Accept (
+    Remember (record { supplier = gln; side = 0x52; control = codes "1005"; message = codes "1"; content = codes "content" })
+    ∷ AddMail (record { supplier = gln; number = 1; moment = 1748942400; decimal = 44; kind = 0x52; document = codes "G1"; body = codes "body"; taken = 0 })
+    ∷ [])
+receipt_remembered = refl
+
+-- another message of the same interchange, and one of the other side under the same references, are new
+abbrev remembering : ℕ → List ℕ → Tables
+remembering side message = record empty { remembered = record { supplier = gln; side = side; control = codes "1001"; message = message; content = codes "other" } ∷ [] }
+
+another_message_is_new : judge_order buyer (Some alpha) (delivery (codes "1001") (codes "content")) (codes "body") order (remembering 0x52 (codes "2")) ≡ judge_order buyer (Some alpha) (delivery (codes "1001") (codes "content")) (codes "body") order empty
+another_message_is_new = refl
+
+other_side_is_new : judge_order buyer (Some alpha) (delivery (codes "1001") (codes "content")) (codes "body") order (remembering 0x53 (codes "1")) ≡ judge_order buyer (Some alpha) (delivery (codes "1001") (codes "content")) (codes "body") order empty
+other_side_is_new = refl
+
+-- the checks of a mailbox that is full, whatever else is there
+refused_at : (test : Bool) (code : Code) (rest : Verdict) → test ≡ true → refuse_if test code rest ≡ Refuse code
+refused_at true code rest h = refl
+refused_at false code rest h = cc
+
+passed_at : (test : Bool) (code : Code) (rest : Verdict) → test ≡ false → refuse_if test code rest ≡ rest
+passed_at true code rest h = cc
+passed_at false code rest h = refl
+
+known_before_full : (state : Tables) → knows_order state number ≡ true → judge_new_order gln (delivery [] []) [] order state ≡ Refuse codes_of.OrderKnown
+known_before_full state known = refused_at (knows_order state number) codes_of.OrderKnown _ known
+
+full_for_an_order : (state : Tables) → knows_order state number ≡ false → nat_lt 99_999_999_999_999 (length state.mail + 1) ≡ true → judge_new_order gln (delivery [] []) [] order state ≡ Refuse codes_of.MailboxFull
+full_for_an_order state new full = passed_at (knows_order state number) codes_of.OrderKnown _ new ∙ refused_at (nat_lt 99_999_999_999_999 (length state.mail + 1)) codes_of.MailboxFull _ full
+
+full_for_a_receipt : (state : Tables) (units : List ReceiptUnit) → nat_lt 99_999_999_999_999 (length state.mail + 1) ≡ true → judge_new_receipt gln (delivery [] []) [] (record { number = codes "G1"; buyer = None; supplier = gln; units = units }) state ≡ Refuse codes_of.MailboxFull
+full_for_a_receipt state units full = refused_at (nat_lt 99_999_999_999_999 (length state.mail + 1)) codes_of.MailboxFull _ full

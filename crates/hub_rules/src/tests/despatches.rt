@@ -67,10 +67,9 @@ fn advice_is(
     let row = alpha()?;
     let retailer = gln(RETAILER)?;
     let line = ("128576", 1, [48, 24, 24, 0, 0], Answered::Changed);
+    let used = Items::from_vec(Vec::from_slice(alloc, used)?);
     let mut known = known(alloc, [BEFORE, line, BEHIND], remembered(words))?;
-    for used in used {
-        known.used.push(*used)?;
-    }
+    known.used = used;
     known.number_known = words.contains("known advice");
     let delivery = delivery(alloc)?;
     let verdict = judge_despatch(alloc, &retailer, Some(&row), known, delivery, despatch)?;
