@@ -1,7 +1,7 @@
 RELAY = relay --hub 5412345000006 --owner 4012345500004 --moment 1748942400 --number 1
 PROVED = crates/edihub/out/edihub
 
-.PHONY: run try test bench edihub clean
+.PHONY: run try test wrong bench edihub clean
 
 # The main job, with the proved program: the example's ORDERS interchange becomes the supplier's mailbox interchange.
 run: edihub
@@ -21,6 +21,10 @@ try:
 # The gate, and then the end-to-end tests of the program that the gate built.
 test:
 	python3 tests/test.py
+
+# The library of wrong bodies and wrong definitions, of all crates or of one: make wrong CRATE=edi_goods
+wrong:
+	python3 tests/wrong.py $(CRATE)
 
 bench: edihub
 	rustc --edition 2021 -O -o crates/edihub/out/plain bench/plain.rs

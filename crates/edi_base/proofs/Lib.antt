@@ -1,3 +1,4 @@
 pub mod Going
 pub mod Numbers
+pub mod Taken
 pub mod Twice

@@ -1,4 +1,4 @@
--- What a piece that is read does to the bytes of a source and to those that were read.
+-- What reading does to the bytes of a source and to those that were read.
 use Rattle.std.specs.Prelude.{◌≡◌, ℕ, ◌<◌, ◌≤◌, List, ◌++◌, length, Option}
 use Rattle.std.specs.Io.KnownBytes.{Consumes, IsAtEnd}
 
@@ -10,3 +10,9 @@ pub record TakesPiece (old new : Option (List ℕ)) (before after : List ℕ) (r
   pub count_is : length bytes ≡ count
   pub within : count ≤ room
   pub ends : count ≡ 0 → 0 < room → IsAtEnd new
+
+-- a front of the bytes of a source was taken, and no more than so many
+pub record TakesAtMost (old new : Option (List ℕ)) (limit : ℕ) : Type 0 where
+  pub front : List ℕ
+  pub taken : Consumes old new front
+  pub within : length front ≤ limit

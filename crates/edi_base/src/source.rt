@@ -3,7 +3,7 @@
 ghost use Rattle.std.specs.Prelude.{◌≡◌, ◌≢◌, ◌≤◌, ◌||◌, ℕ, Bool, true, List, take, Option, None, Err, is_err, IfOk, IfSome, length, vec_len};
 ghost use Rattle.std.specs.Io.{ReadsAtMost};
 ghost use Rattle.std.specs.Io.KnownBytes.{ReadConsumes, Consumes};
-ghost use Rattle.edi_base.specs.Source.{TakesPiece};
+ghost use Rattle.edi_base.specs.Source.{TakesPiece, TakesAtMost};
 ghost use Rattle.edi_base.specs.declared.source.ReadFault.TheVariants.{Memory};
 
 use std::alloc::{AllocError, Global};
@@ -122,6 +122,7 @@ fn read_piece<R: Source>(
     piece: &mut [u8],
     read: &mut Vec<u8>,
 ) -> Result<usize, ReadFault>
+    ensures front { TakesAtMost (R.remaining source.old) (R.remaining source.new) (length piece.old) }
     ensures taken { IfOk result (TakesPiece (R.remaining source.old) (R.remaining source.new) read.old.items read.new.items (length piece.old)) }
     ensures read { result ≡ Err ReadFault.Read → R.failed source.new ≡ true }
     ensures kept { result ≢ Err ReadFault.Read → R.failed source.new ≡ R.failed source.old }
@@ -143,6 +144,9 @@ pub fn read_to_limit<R: Source>(
     ensures bytes { IfOk result (λ read. Consumes (R.remaining source.old) (R.remaining source.new) read.items) }
     ensures whole { IfOk result (λ read. IfSome (R.remaining source.old) (λ known. read.items ≡ take limit known)) }
     ensures limit { IfOk result (λ read. vec_len read ≤ limit) }
+
+    // Whatever is answered, no more than the limit was taken from the source.
+    ensures front { TakesAtMost (R.remaining source.old) (R.remaining source.new) limit }
 
     // A read fault comes only from the source, and else the source's flag stays.
     ensures read { result ≡ Err ReadFault.Read → R.failed source.new ≡ true }

@@ -1,0 +1,195 @@
+"""`make wrong`: tries the library of wrong bodies and wrong definitions, crates/NAME/wrong/*.edit, on copies of the tree.
+
+    python3 tests/wrong.py [CRATE ..]
+
+An edit is written as those of must-fail/ are: lines `file:`, `old:` and `new:`. It is a wrong body, which its own crate has to
+refuse, or, where its first line is `refused by: CRATE`, a wrong definition, which that crate has to refuse: the crates between
+are built with it, each of them proved, and that one is checked. Prints each edit that is not refused and each that is refused
+by names alone (a proof that names what the edit took away, which says little of the contract). The last line is
+`N refused, M not`, and the status is 1 where M is not 0."""
+import os
+import re
+import shutil
+import subprocess
+import sys
+import tempfile
+from concurrent.futures import ThreadPoolExecutor
+from dataclasses import dataclass
+
+ROOT = os.path.dirname(os.path.dirname(os.path.abspath(__file__)))
+SOURCES = ("src", "specs", "proofs")
+# the most memory that a check is taken to need, in bytes
+CHECK_MEMORY = 5 << 30
+REFUSED, NAMES_ALONE, NOT_REFUSED = "refused", "refused by names alone", "not refused"
+
+
+@dataclass
+class Wrong:
+    crate: str
+    name: str
+    text: str
+    # the crate that has to refuse a wrong definition; nothing for a wrong body
+    refused_by: str = ""
+
+
+def crates():
+    """The crates and all crates of the repository below each, lowest first."""
+    below = {}
+    with open(os.path.join(ROOT, "crates.txt"), encoding="utf-8") as lines:
+        for line in lines:
+            name, colon, needs = line.partition("#")[0].partition(":")
+            if colon:
+                direct = [it for it in needs.split() if it in below]
+                below[name.split()[0]] = {it for crate in direct for it in below[crate] | {crate}}
+    return below
+
+
+def library(crate):
+    """The wrong bodies and definitions of a crate, by name."""
+    folder = os.path.join(ROOT, "crates", crate, "wrong")
+    found = []
+    for name in sorted(os.listdir(folder)) if os.path.isdir(folder) else []:
+        if name.endswith(".edit"):
+            with open(os.path.join(folder, name), encoding="utf-8") as file:
+                text = file.read()
+            first, _, rest = text.partition("\n")
+            if first.startswith("refused by: "):
+                found.append(Wrong(crate, name, rest, first.removeprefix("refused by: ").strip()))
+            else:
+                found.append(Wrong(crate, name, text))
+    return found
+
+
+def room_beside():
+    """A folder on the file system of the tree, so that kept work can be shared by links."""
+    return tempfile.TemporaryDirectory(prefix="wrong-", dir=os.path.dirname(ROOT))
+
+
+def copied(room, anew):
+    """A copy of the tree, with what its checks kept. Of the crates in `anew` the kept work may be written to; that of the others is shared."""
+    listed = subprocess.run(["git", "ls-files", "-z", "--cached", "--others", "--exclude-standard"], cwd=ROOT, stdout=subprocess.PIPE, text=True, check=True)
+    for path in filter(None, listed.stdout.split("\0")):
+        if os.path.isfile(os.path.join(ROOT, path)):
+            os.makedirs(os.path.dirname(os.path.join(room, path)), exist_ok=True)
+            shutil.copy2(os.path.join(ROOT, path), os.path.join(room, path))
+    for crate in sorted(os.listdir(os.path.join(ROOT, "crates"))):
+        kept = os.path.join(ROOT, "crates", crate, "out")
+        if os.path.isdir(kept):
+            shutil.copytree(kept, os.path.join(room, "crates", crate, "out"), symlinks=True, copy_function=shutil.copy2 if crate in anew else os.link)
+
+
+def run(words, folder):
+    ran = subprocess.run(["rt", *words], cwd=folder, stdin=subprocess.DEVNULL, stdout=subprocess.PIPE, stderr=subprocess.STDOUT, text=True, errors="replace")
+    return ran.returncode, ran.stdout.rstrip("\n").split("\n")
+
+
+def bodies_tried(room, crate, bodies):
+    """What becomes of a crate's wrong bodies: pairs of the verdict and a line that says why."""
+    folder = os.path.join(room, "crates", crate, "must-fail")
+    shutil.rmtree(folder, ignore_errors=True)
+    os.makedirs(folder)
+    for it in bodies:
+        with open(os.path.join(folder, it.name), "w", encoding="utf-8") as file:
+            file.write(it.text)
+    told = {}
+    for line in run(["must-fail", crate], room)[1]:
+        found = re.search(r"must-fail \S+/(\S+\.edit): (.*)", line)
+        if found:
+            told[found[1]] = found[2]
+    return [(it, verdict(told.get(it.name, "")), told.get(it.name, "it was not tried")) for it in bodies]
+
+
+def verdict(said):
+    if not said.startswith("refused, as it must be"):
+        return NOT_REFUSED
+    return NAMES_ALONE if said.startswith("refused, as it must be (only because") else REFUSED
+
+
+def applied(text, folder):
+    """Applies an edit to a crate's files. Says why it cannot be."""
+    path, old = "", ""
+    for line in text.split("\n"):
+        if line.startswith("file: "):
+            path = line.removeprefix("file: ").strip()
+        elif line.startswith("old: "):
+            old = line.removeprefix("old: ")
+        elif line.startswith("new:"):
+            new = line.removeprefix("new:").removeprefix(" ")
+            if not path.startswith(tuple(f"{it}/" for it in SOURCES)) or not os.path.isfile(os.path.join(folder, path)):
+                return f"there is no file {path or '(none is named)'}"
+            with open(os.path.join(folder, path), encoding="utf-8") as file:
+                source = file.read()
+            if not old or source.count(old) != 1:
+                return f"an 'old:' text is in {path} {source.count(old) if old else 0} times, and not once"
+            with open(os.path.join(folder, path), "w", encoding="utf-8") as file:
+                file.write(source.replace(old, new))
+    return ""
+
+
+def check_told(lines):
+    """What a check that does not pass says of an edited definition."""
+    errors = [it for it in lines if re.match(r"(\./)?\S+:\d+:\d+: error", it)]
+    unread = next((it for it in errors if re.match(r"(\./)?(src|specs)/", it) and re.search(r"is not in scope|has no field|is no name|operand is missing|expected|cannot continue", it)), "")
+    if unread or not lines[-1].startswith("logic=not-proved"):
+        return NOT_REFUSED, f"it cannot be read: {unread or lines[-1]}"
+    names = r"(\./)?proofs/.*(has no field|is not in scope|has no `|was not admitted)"
+    first = next((it for it in errors if not re.match(names, it)), "")
+    return (REFUSED, first) if first else (NAMES_ALONE, (errors or [""])[0])
+
+
+def definition_tried(wrong, below):
+    """What becomes of a wrong definition, in a copy of its own."""
+    between = [it for it in below if it == wrong.crate or wrong.crate in below[it] and it in below[wrong.refused_by]]
+    with room_beside() as room:
+        copied(room, {*between, wrong.refused_by})
+        why = applied(wrong.text, os.path.join(room, "crates", wrong.crate))
+        if why:
+            return [(wrong, NOT_REFUSED, why)]
+        for crate in between:
+            if crate != wrong.refused_by:
+                status, lines = run(["check"], os.path.join(room, "crates", crate))
+                if status:
+                    return [(wrong, NOT_REFUSED, f"{crate} refuses it, and not {wrong.refused_by}: {check_told(lines)[1]}")]
+        status, lines = run(["check"], os.path.join(room, "crates", wrong.refused_by))
+        if not status:
+            return [(wrong, NOT_REFUSED, f"{wrong.refused_by} is still proved")]
+        return [(wrong, *check_told(lines))]
+
+
+def lanes():
+    with open("/proc/meminfo", encoding="ascii") as lines:
+        free = next(int(it.split()[1]) for it in lines if it.startswith("MemAvailable:")) << 10
+    return max(1, min(os.cpu_count() or 1, free // CHECK_MEMORY))
+
+
+def main(names):
+    below = crates()
+    unknown = [it for it in names if it not in below]
+    if unknown:
+        print(f"no crate is called {' or '.join(unknown)}")
+        return 2
+    wrong = [it for crate in below if not names or crate in names for it in library(crate)]
+    # what no check kept yet is proved first, so that each edit is tried over it
+    for crate in below:
+        if any(it.crate == crate or crate in below[it.refused_by or it.crate] for it in wrong):
+            status, lines = run(["check"], os.path.join(ROOT, "crates", crate))
+            if status:
+                print(f"{crate} is not proved as it stands: {lines[-1]}")
+                return 1
+    count = {REFUSED: 0, NAMES_ALONE: 0, NOT_REFUSED: 0}
+    with room_beside() as room, ThreadPoolExecutor(lanes()) as pool:
+        bodies = {crate: [it for it in wrong if it.crate == crate and not it.refused_by] for crate in below}
+        copied(room, {it for it in bodies if bodies[it]})
+        waiting = [pool.submit(bodies_tried, room, crate, its) for crate, its in sorted(bodies.items(), key=lambda it: -len(it[1])) if its]
+        waiting += [pool.submit(definition_tried, it, below) for it in wrong if it.refused_by]
+        for done in waiting:
+            for it, told, why in done.result():
+                count[told] += 1
+                if told != REFUSED:
+                    print(f"{it.crate}/wrong/{it.name}: {told}: {why[:200]}", flush=True)
+    print(f"{count[REFUSED] + count[NAMES_ALONE]} refused, {count[NOT_REFUSED]} not")
+    return 1 if count[NOT_REFUSED] else 0
+
+
+if __name__ == "__main__":
+    sys.exit(main(sys.argv[1:]))
