@@ -10,38 +10,41 @@ use Rattle.edi_goods.specs.Despatch.{despatch_of}
 use Rattle.edi_goods.specs.Receipt.{receipt_of}
 use Rattle.hub_tables.specs.Cases.{truth_number}
 use Rattle.hub_tables.specs.Change.{apply_all}
-use Rattle.hub_tables.specs.Judging.{refuse_if}
 use Rattle.hub_tables.specs.Rows.{same}
-use Rattle.hub_tables.specs.Rules.{is_other_buyer, judge_order, judge_receipt, judge_response, judge_despatch}
-use Rattle.hub_tables.specs.Suppliers.{Supplier, supplier_of, PrefixFree}
 use Rattle.hub_tables.specs.Tables.{Tables, has_pallet, view, empty}
 use Rattle.hub_tables.specs.declared.change.Change.TheVariants.{SetMail}
-use Rattle.hub_tables.specs.declared.code.Code.{Code}
-use Rattle.hub_tables.specs.declared.code.Code.TheVariants as rules
-use Rattle.hub_tables.specs.declared.delivery.Cancel.{Cancel}
 use Rattle.hub_tables.specs.declared.rows.MailRow.{MailRow}
-use Rattle.hub_tables.specs.declared.verdict.Verdict.{Verdict}
-use Rattle.hub_tables.specs.declared.verdict.Verdict.TheVariants.{Refuse}
-use Rattle.hub_tables.proofs.Alike.{despatch_alike}
-use Rattle.hub_tables.proofs.Changes.{used_seen}
-use Rattle.hub_tables.proofs.GoodRows.{keeps_from}
-use Rattle.hub_tables.proofs.KeptByCancels.{leads_cancel}
-use Rattle.hub_tables.proofs.KeptByDespatches.{leads_despatch}
-use Rattle.hub_tables.proofs.KeptByOrders.{leads_order}
-use Rattle.hub_tables.proofs.KeptByReceipts.{leads_receipt}
-use Rattle.hub_tables.proofs.KeptByResponses.{leads_response}
-use Rattle.hub_tables.proofs.KeptMail.{kept_set_mail}
 use Rattle.hub_tables.proofs.Lists.{all_found}
-use Rattle.hub_tables.proofs.Owned.{own_after}
+use Rattle.hub_rules.specs.Judging.{refuse_if}
+use Rattle.hub_rules.specs.PartyRules.{is_other_buyer}
+use Rattle.hub_rules.specs.Rules.{judge_order, judge_receipt, judge_response, judge_despatch}
+use Rattle.hub_rules.specs.Suppliers.{Supplier, supplier_of, PrefixFree}
+use Rattle.hub_rules.specs.declared.code.Code.{Code}
+use Rattle.hub_rules.specs.declared.code.Code.TheVariants as rules
+use Rattle.hub_rules.specs.declared.delivery.Cancel.{Cancel}
+use Rattle.hub_rules.specs.declared.verdict.Verdict.{Verdict}
+use Rattle.hub_rules.specs.declared.verdict.Verdict.TheVariants.{Refuse}
+use Rattle.hub_rules.specs.Sound.{Sound}
+use Rattle.hub_rules.specs.Laws.{Apart}
+use Rattle.hub_rules.proofs.Alike.{despatch_alike}
+use Rattle.hub_rules.proofs.Changes.{used_seen}
+use Rattle.hub_rules.proofs.GoodRows.{keeps_from}
+use Rattle.hub_rules.proofs.KeptByCancels.{leads_cancel}
+use Rattle.hub_rules.proofs.KeptByDespatches.{leads_despatch}
+use Rattle.hub_rules.proofs.KeptByOrders.{leads_order}
+use Rattle.hub_rules.proofs.KeptByReceipts.{leads_receipt}
+use Rattle.hub_rules.proofs.KeptByResponses.{leads_response}
+use Rattle.hub_rules.proofs.KeptMail.{kept_set_mail}
+use Rattle.hub_rules.proofs.Owned.{own_after}
+use Rattle.hub_rules.proofs.OwnChanges.{good_view, after_changes}
 use Rattle.hub_law.specs.CancelText.{cancel_text}
 use Rattle.hub_law.specs.MailText.{entry_at, is_taken}
 use Rattle.hub_law.specs.Messages.{Sent, delivery_of, body_of, deliver_retailers, deliver_suppliers, cancel}
 use Rattle.hub_law.specs.Register.{Parties}
 use Rattle.hub_law.specs.Requests.{taking}
-use Rattle.hub_law.specs.Sound.{Sound}
 use Rattle.hub_law.specs.Told.{Told, Refused, changed, read_act}
-use Rattle.hub_law.proofs.Acting.{Alike, Apart}
-use Rattle.hub_law.proofs.Judged.{good_view, unchanged, nothing_done, either, after_changes, same_verdict, same_reading}
+use Rattle.hub_law.proofs.Acting.{Alike}
+use Rattle.hub_law.proofs.Judged.{unchanged, nothing_done, either, same_verdict, same_reading}
 
 module _ (suppliers : List Supplier) (free : PrefixFree suppliers) (parties : Parties) (s : Supplier) (known : supplier_of suppliers s.gln ≡ Some s) where
   response_act : (sent : Sent) (t : Tables) → Sound suppliers t →

@@ -3,10 +3,11 @@ use Rattle.std.proofs.Common.{◌≡◌, ℕ, if◌then◌else◌, List, [], ◌
 use Rattle.std.proofs.Math.Seq.{take-append_seam}
 use Rattle.std.proofs.lemmas.List.{append_assoc}
 use Rattle.hub_tables.specs.Sets.{SameRows}
-use Rattle.hub_tables.specs.Suppliers.{Supplier, supplier_of}
 use Rattle.hub_tables.specs.Tables.{Tables, view}
-use Rattle.hub_tables.proofs.Rising.{view_rises}
 use Rattle.hub_tables.proofs.Sets.{rows_are_one}
+use Rattle.hub_rules.specs.Suppliers.{Supplier, supplier_of}
+use Rattle.hub_rules.specs.Sound.{Sound}
+use Rattle.hub_rules.proofs.Rising.{view_rises}
 use Rattle.hub_law.specs.Alone.{items, items_of, fold}
 use Rattle.hub_law.specs.Laws.{Registered, RunIsOwn, AsksStatus, Agree, reply_between}
 use Rattle.hub_law.specs.Machine.{Inputs, step_as, shared_step, shared_run, replies_to}
@@ -14,7 +15,6 @@ use Rattle.hub_law.specs.Mark.{Mark, Whole}
 use Rattle.hub_law.specs.Register.{Register}
 use Rattle.hub_law.specs.Replies.{denied, done}
 use Rattle.hub_law.specs.Requests.{report, retailer_request}
-use Rattle.hub_law.specs.Sound.{Sound}
 use Rattle.hub_law.specs.StatusText.{status_text}
 use Rattle.hub_law.specs.declared.request.Input.{Input}
 use Rattle.hub_law.proofs.Runs.{whole_run}

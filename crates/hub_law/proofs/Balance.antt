@@ -1,12 +1,11 @@
 -- Every order line balances.
 use Rattle.std.proofs.Common.{ℕ, Bool, true, false, cond, List, [], ◌∷◌, filter, refl, subst}
 use Rattle.std.specs.List.{AllByRecursion}
-use Rattle.hub_tables.specs.Kept.{Balanced}
 use Rattle.hub_tables.specs.Rows.{same}
-use Rattle.hub_tables.specs.Suppliers.{Supplier}
 use Rattle.hub_tables.specs.Tables.{Tables, view}
 use Rattle.hub_tables.proofs.Lists.{same_if}
-use Rattle.hub_law.specs.Sound.{Sound}
+use Rattle.hub_rules.specs.Sound.{Balanced, Sound}
+use Rattle.hub_rules.specs.Suppliers.{Supplier}
 
 -- what holds of each supplier's rows holds of all rows
 of_each : {X : Type 0} (owner : X → List ℕ) (P : List ℕ → X → Type 0) (rows : List X) → ((gln : List ℕ) → AllByRecursion (P gln) (filter (λ row. same (owner row) gln) rows)) → AllByRecursion (λ row. P (owner row) row) rows

@@ -1,26 +1,18 @@
 -- Changes that keep a supplier's rows, and verdicts that give such changes, in the tables of all and in its own rows alone.
-use Rattle.std.proofs.Common.{◌≡◌, Bool, true, false, cond, inl, inr, List, Some, Result, Ok, Err, refl, sym, subst}
+use Rattle.std.proofs.Common.{◌≡◌, Bool, true, false, cond, List, Some, Result, Ok, Err, refl, sym, subst}
 use Rattle.edi_messages.specs.Fault as message_faults
 use Rattle.edi_messages.specs.declared.fault.MessageFault.{MessageFault}
-use Rattle.hub_tables.specs.Change.{apply_all}
-use Rattle.hub_tables.specs.Kept.{Kept, Keeps}
-use Rattle.hub_tables.specs.Rows.{same}
-use Rattle.hub_tables.specs.Suppliers.{Supplier, supplier_of, PrefixFree}
 use Rattle.hub_tables.specs.Tables.{Tables, view}
 use Rattle.hub_tables.specs.declared.change.Change.{Change}
-use Rattle.hub_tables.specs.declared.verdict.Verdict.{Verdict}
-use Rattle.hub_tables.specs.declared.verdict.Verdict.TheVariants.{Accept, Refuse}
-use Rattle.hub_tables.proofs.Changes.{follows}
-use Rattle.hub_tables.proofs.GoodRows.{Good}
-use Rattle.hub_tables.proofs.Lists.{decide, same_is, same_if}
-use Rattle.hub_tables.proofs.Views.{view_own}
-use Rattle.hub_law.specs.Sound.{Sound}
+use Rattle.hub_rules.specs.Sound.{Sound}
+use Rattle.hub_rules.specs.Suppliers.{Supplier, supplier_of, PrefixFree}
+use Rattle.hub_rules.specs.declared.verdict.Verdict.{Verdict}
+use Rattle.hub_rules.specs.declared.verdict.Verdict.TheVariants.{Accept, Refuse}
+use Rattle.hub_rules.specs.Laws.{Apart}
+use Rattle.hub_rules.proofs.Belonging.{Keeps}
+use Rattle.hub_rules.proofs.OwnChanges.{after_changes}
 use Rattle.hub_law.specs.Told.{Told, Refused, told, act, read_act}
-use Rattle.hub_law.proofs.Acting.{Alike, Apart}
-
--- what a supplier sees of sound tables is its own, and as it is to be
-pub good_view : (suppliers : List Supplier) (s : Supplier) (t : Tables) → Sound suppliers t → Good s (view s.gln t)
-good_view suppliers s t sound = record { own = view_own s t (sound.rooted).ordered; kept = sound.kept s.gln }
+use Rattle.hub_law.proofs.Acting.{Alike}
 
 module _ (suppliers : List Supplier) (s : Supplier) (t : Tables) (sound : Sound suppliers t) where
   pub unchanged : Apart suppliers s t t (view s.gln t)
@@ -35,25 +27,10 @@ module _ (suppliers : List Supplier) (s : Supplier) (t : Tables) (sound : Sound 
   either false one other own_one own_other first second = second
 
 module _ (suppliers : List Supplier) (free : PrefixFree suppliers) (s : Supplier) (known : supplier_of suppliers s.gln ≡ Some s) (t : Tables) (sound : Sound suppliers t) where
-  pub after_changes : (changes : List Change) → Keeps s (view s.gln t) changes → Apart suppliers s t (apply_all changes t) (apply_all changes (view s.gln t))
-  after_changes changes keeps =
-      let all = follows suppliers free s known changes t sound.rooted keeps.belong in
-      record {
-        seen = all.seen;
-        unseen = all.unseen;
-        sound = record {
-          rooted = all.rooted;
-          kept = λ gln. elim (decide (same gln s.gln)) [
-            | inl e ↦ subst (λ who. Kept (view who (apply_all changes t))) (sym (same_is gln s.gln e)) (subst Kept (sym all.seen) keeps.kept)
-            | inr e ↦ subst Kept (sym (all.unseen gln (λ h. let yes = same_if gln s.gln h in (cc)))) (sound.kept gln)
-          ];
-        };
-      }
-
   -- one verdict, in the tables and in the supplier's rows
   pub same_verdict : (shared own : Verdict) → shared ≡ own → ((changes : List Change) → own ≡ Accept changes → Keeps s (view s.gln t) changes) → Alike suppliers s t (act shared t) (act own (view s.gln t))
   same_verdict (Refuse code) own e keeps = subst (λ v. Alike suppliers s t (act (Refuse code) t) (act v (view s.gln t))) e (nothing_done suppliers s t sound (told (Refuse code)))
-  same_verdict (Accept changes) own e keeps = subst (λ v. Alike suppliers s t (act (Accept changes) t) (act v (view s.gln t))) e (record { told = refl; apart = after_changes changes (keeps changes (sym e)) })
+  same_verdict (Accept changes) own e keeps = subst (λ v. Alike suppliers s t (act (Accept changes) t) (act v (view s.gln t))) e (record { told = refl; apart = after_changes suppliers free s known t sound changes (keeps changes (sym e)) })
 
   -- what is read, and one verdict on it
   pub same_reading : {X : Type 0} (read : Result X MessageFault) (shared own : X → Verdict) → ((x : X) → shared x ≡ own x) → ((x : X) → read ≡ Ok x → (changes : List Change) → own x ≡ Accept changes → Keeps s (view s.gln t) changes) →

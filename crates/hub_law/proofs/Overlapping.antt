@@ -4,9 +4,9 @@ use Rattle.std.specs.Fmt.{digits}
 use Rattle.edi_envelope.specs.Interchange.{interchange_of, fault_of, contents_of, is_framed, is_row_of_messages, is_outside_set}
 use Rattle.edi_orders.specs.Order.{order_of}
 use Rattle.edi_goods.specs.Despatch.{despatch_of}
-use Rattle.hub_tables.specs.Suppliers.{PrefixFree}
 use Rattle.hub_tables.specs.Tables.{empty}
 use Rattle.hub_tables.proofs.Lists.{same_if}
+use Rattle.hub_rules.specs.Suppliers.{PrefixFree}
 use Rattle.hub_law.specs.Alone.{items_of, fold}
 use Rattle.hub_law.specs.Machine.{shared_run, replies_to}
 use Rattle.hub_law.specs.Opening.{opened}

@@ -5,34 +5,35 @@ use Rattle.edi_orders.specs.Order.{order_of}
 use Rattle.edi_orders.specs.Response.{response_of}
 use Rattle.edi_goods.specs.Despatch.{despatch_of}
 use Rattle.edi_goods.specs.Receipt.{receipt_of}
-use Rattle.hub_tables.specs.Cancellations.{judge_new_cancel}
 use Rattle.hub_tables.specs.Change.{apply_all}
-use Rattle.hub_tables.specs.Despatches.{judge_new_despatch}
-use Rattle.hub_tables.specs.Judging.{Judge, refuse_if}
-use Rattle.hub_tables.specs.Orders.{judge_new_order}
-use Rattle.hub_tables.specs.Receipts.{judge_new_receipt}
-use Rattle.hub_tables.specs.Remembering.{Reference, judge_once}
-use Rattle.hub_tables.specs.Responses.{judge_new_response}
 use Rattle.hub_tables.specs.Rows.{same}
-use Rattle.hub_tables.specs.Rules.{is_other_buyer, registered, referred_by, judge_message, judge_order, judge_response, judge_despatch, judge_receipt, judge_cancel}
-use Rattle.hub_tables.specs.Suppliers.{Supplier, supplier_of}
 use Rattle.hub_tables.specs.Tables.{Tables, has_pallet, view}
 use Rattle.hub_tables.specs.declared.cases.Side.{Side}
 use Rattle.hub_tables.specs.declared.cases.Side.TheVariants as sides
 use Rattle.hub_tables.specs.declared.change.Change.{Change}
-use Rattle.hub_tables.specs.declared.code.Code.TheVariants as rules
-use Rattle.hub_tables.specs.declared.delivery.Cancel.{Cancel}
-use Rattle.hub_tables.specs.declared.delivery.Delivery.{Delivery}
-use Rattle.hub_tables.specs.declared.verdict.Verdict.{Verdict}
-use Rattle.hub_tables.specs.declared.verdict.Verdict.TheVariants.{Accept, Refuse}
-use Rattle.hub_tables.proofs.Repeating.{found_again, accepted_has, once_again}
-use Rattle.hub_tables.proofs.Verdicts.{not_refused}
+use Rattle.hub_rules.specs.CancellationRules.{judge_new_cancel}
+use Rattle.hub_rules.specs.DespatchRules.{judge_new_despatch}
+use Rattle.hub_rules.specs.Judging.{Judge, refuse_if}
+use Rattle.hub_rules.specs.OrderRules.{judge_new_order}
+use Rattle.hub_rules.specs.ReceiptRules.{judge_new_receipt}
+use Rattle.hub_rules.specs.RepeatRules.{Reference, judge_once}
+use Rattle.hub_rules.specs.ResponseRules.{judge_new_response}
+use Rattle.hub_rules.specs.PartyRules.{is_other_buyer, registered}
+use Rattle.hub_rules.specs.Rules.{referred_by, judge_message, judge_order, judge_response, judge_despatch, judge_receipt, judge_cancel}
+use Rattle.hub_rules.specs.Suppliers.{Supplier, supplier_of}
+use Rattle.hub_rules.specs.declared.code.Code.TheVariants as rules
+use Rattle.hub_rules.specs.declared.delivery.Cancel.{Cancel}
+use Rattle.hub_rules.specs.declared.delivery.Delivery.{Delivery}
+use Rattle.hub_rules.specs.declared.verdict.Verdict.{Verdict}
+use Rattle.hub_rules.specs.declared.verdict.Verdict.TheVariants.{Accept, Refuse}
+use Rattle.hub_rules.specs.Sound.{Sound}
+use Rattle.hub_rules.proofs.Repeating.{found_again, accepted_has, once_again}
+use Rattle.hub_rules.proofs.Verdicts.{not_refused}
 use Rattle.hub_law.specs.CancelText.{cancel_text}
 use Rattle.hub_law.specs.Messages.{Sent, named, delivery_of, body_of, deliver_retailers, deliver_suppliers, cancel}
 use Rattle.hub_law.specs.Register.{Parties, Register}
 use Rattle.hub_law.specs.Remembered.{StaysRemembered}
 use Rattle.hub_law.specs.Requests.{deliver_named}
-use Rattle.hub_law.specs.Sound.{Sound}
 use Rattle.hub_law.specs.Told.{Told, Accepted, Repeated, Refused, Act, act, read_act}
 use Rattle.hub_law.proofs.Steps.{gln_of}
 

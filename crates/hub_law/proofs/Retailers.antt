@@ -1,16 +1,16 @@
 -- An input of the retailer, in the tables of all and as one supplier sees it.
 use Rattle.std.proofs.Common.{◌≡◌, ℕ, true, false, cond, if◌then◌else◌, List, [], ◌∷◌, map, filter, Option, Some, None, refl, sym, ◌∙◌, ap, subst}
 use Rattle.hub_tables.specs.Rows.{same}
-use Rattle.hub_tables.specs.Suppliers.{Supplier, supplier_of, PrefixFree}
 use Rattle.hub_tables.specs.Tables.{Tables, view}
-use Rattle.hub_tables.specs.declared.delivery.Cancel.{Cancel}
 use Rattle.hub_tables.proofs.Lists.{same_is}
+use Rattle.hub_rules.specs.Suppliers.{Supplier, supplier_of, PrefixFree}
+use Rattle.hub_rules.specs.declared.delivery.Cancel.{Cancel}
+use Rattle.hub_rules.specs.Sound.{Sound}
 use Rattle.hub_law.specs.Alone.{Item, Message, Cancellation, fold, cancel_items, retailer_items}
 use Rattle.hub_law.specs.Mark.{Mark, Whole, StoppedEmpty, StoppedBare, StoppedAfter}
 use Rattle.hub_law.specs.Messages.{Sent, named, deliver_retailers, cancel}
 use Rattle.hub_law.specs.Register.{Parties, Register}
 use Rattle.hub_law.specs.Requests.{looked_at, from_retailer, deliver_named, cancelled, retailer_request}
-use Rattle.hub_law.specs.Sound.{Sound}
 use Rattle.hub_law.specs.Told.{Act, in_row}
 use Rattle.hub_law.specs.declared.request.Request.{Request}
 use Rattle.hub_law.specs.declared.request.Request.TheVariants as requests

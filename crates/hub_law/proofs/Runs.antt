@@ -1,9 +1,10 @@
 -- Each step and each run, as one supplier sees it.
 use Rattle.std.proofs.Common.{◌≡◌, true, false, if◌then◌else◌, inl, inr, List, [], ◌∷◌, ◌++◌, Option, Some, None, refl, sym, ◌∙◌, ap, subst, append_assoc}
 use Rattle.hub_tables.specs.Rows.{same}
-use Rattle.hub_tables.specs.Suppliers.{Supplier, supplier_of, PrefixFree}
 use Rattle.hub_tables.specs.Tables.{Tables, view}
 use Rattle.hub_tables.proofs.Lists.{decide, same_is}
+use Rattle.hub_rules.specs.Suppliers.{Supplier, supplier_of, PrefixFree}
+use Rattle.hub_rules.specs.Sound.{Sound}
 use Rattle.hub_law.specs.Alone.{Item, Own, own_step, fold, retailer_items, items_as, items, items_of}
 use Rattle.hub_law.specs.Laws.{RunIsOwn}
 use Rattle.hub_law.specs.Machine.{Inputs, step_as, shared_step, shared_run, replies_to}
@@ -11,7 +12,6 @@ use Rattle.hub_law.specs.Mark.{Mark}
 use Rattle.hub_law.specs.Register.{Parties, Register, is_retailers}
 use Rattle.hub_law.specs.Replies.{denied, unless_stopped}
 use Rattle.hub_law.specs.Requests.{retailer_request}
-use Rattle.hub_law.specs.Sound.{Sound}
 use Rattle.hub_law.specs.declared.reply.Reply.{Reply}
 use Rattle.hub_law.specs.declared.request.Input.{Input}
 use Rattle.hub_law.proofs.Retailers.{Moves, still, retailer_sound, retailer_moves}

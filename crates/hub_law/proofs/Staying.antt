@@ -6,13 +6,13 @@ use Rattle.edi_orders.specs.Response.{response_of}
 use Rattle.edi_goods.specs.Despatch.{despatch_of}
 use Rattle.edi_goods.specs.Receipt.{receipt_of}
 use Rattle.hub_tables.specs.Rows.{same}
-use Rattle.hub_tables.specs.Rules.{judge_cancel}
-use Rattle.hub_tables.specs.Suppliers.{Supplier, supplier_of}
 use Rattle.hub_tables.specs.Tables.{Tables, view}
 use Rattle.hub_tables.specs.declared.rows.MailRow.{MailRow}
-use Rattle.hub_tables.specs.declared.verdict.Verdict.{Verdict}
-use Rattle.hub_tables.specs.declared.verdict.Verdict.TheVariants.{Accept, Refuse}
-use Rattle.hub_tables.proofs.Repeating.{has_after_all}
+use Rattle.hub_rules.specs.Rules.{judge_cancel}
+use Rattle.hub_rules.specs.Suppliers.{Supplier, supplier_of}
+use Rattle.hub_rules.specs.declared.verdict.Verdict.{Verdict}
+use Rattle.hub_rules.specs.declared.verdict.Verdict.TheVariants.{Accept, Refuse}
+use Rattle.hub_rules.proofs.Repeating.{has_after_all}
 use Rattle.hub_law.specs.CancelText.{cancel_text}
 use Rattle.hub_law.specs.Machine.{Inputs, step_as, shared_step, shared_run}
 use Rattle.hub_law.specs.MailText.{entry_at}

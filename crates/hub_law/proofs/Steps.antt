@@ -1,10 +1,11 @@
 -- An input of a supplier, in the tables of all and in its own rows alone.
 use Rattle.std.proofs.Common.{◌≡◌, ◌≢◌, ℕ, true, false, if◌then◌else◌, List, [], ◌∷◌, Option, Some, None, refl, sym, ◌∙◌, ap}
 use Rattle.hub_tables.specs.Rows.{same}
-use Rattle.hub_tables.specs.Suppliers.{Supplier, supplier_of, PrefixFree}
 use Rattle.hub_tables.specs.Tables.{Tables, view}
 use Rattle.hub_tables.specs.declared.rows.MailRow.{MailRow}
 use Rattle.hub_tables.proofs.Lists.{same_is, same_if, all_always, all_found}
+use Rattle.hub_rules.specs.Suppliers.{Supplier, supplier_of, PrefixFree}
+use Rattle.hub_rules.specs.Sound.{Sound}
 use Rattle.hub_law.specs.Machine.{supplier_step}
 use Rattle.hub_law.specs.MailText.{entry_at}
 use Rattle.hub_law.specs.Mark.{Mark, Whole, StoppedEmpty, StoppedBare, StoppedAfter}
@@ -13,7 +14,6 @@ use Rattle.hub_law.specs.Opening.{Opened}
 use Rattle.hub_law.specs.Register.{Parties}
 use Rattle.hub_law.specs.Replies.{denied, unknown, stopped, unless_stopped, upload_reply, reply}
 use Rattle.hub_law.specs.Requests.{looked_at, uploaded, from_supplier, taken, supplier_request}
-use Rattle.hub_law.specs.Sound.{Sound}
 use Rattle.hub_law.specs.Told.{Act, in_row}
 use Rattle.hub_law.specs.declared.reply.Outcome.TheVariants.{Stopped}
 use Rattle.hub_law.specs.declared.request.Input.{Input}

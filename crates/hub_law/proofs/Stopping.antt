@@ -1,9 +1,9 @@
 -- Inputs that are stopped, and what is said of them.
 use Rattle.std.proofs.Common.{◌≡◌, ◌≢◌, ◌↔◌, ℕ, List, Bool, true, false, cond, nat_lt, [], length, Option, Some, None, Ok, Err, refl, ap}
 use Rattle.hub_tables.specs.Rows.{same}
-use Rattle.hub_tables.specs.Suppliers.{Supplier, supplier_of}
 use Rattle.hub_tables.specs.Tables.{Tables, view}
 use Rattle.hub_tables.specs.declared.rows.MailRow.{MailRow}
+use Rattle.hub_rules.specs.Suppliers.{Supplier, supplier_of}
 use Rattle.hub_law.specs.MailText.{entry_at}
 use Rattle.hub_law.specs.Machine.{step_as, shared_step}
 use Rattle.hub_law.specs.Mark.{Mark, Whole, StoppedEmpty, StoppedBare, StoppedAfter}

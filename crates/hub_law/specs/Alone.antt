@@ -1,9 +1,9 @@
 -- One supplier alone: the items of inputs that are for it, and its machine over them.
 use Rattle.std.specs.Prelude.{ℕ, List, [], ◌∷◌, ◌++◌, map, filter, if◌then◌else◌, Option, Some, None}
 use Rattle.hub_tables.specs.Rows.{same}
-use Rattle.hub_tables.specs.Suppliers.{Supplier, supplier_of}
 use Rattle.hub_tables.specs.Tables.{Tables}
-use Rattle.hub_tables.specs.declared.delivery.Cancel.{Cancel}
+use Rattle.hub_rules.specs.Suppliers.{Supplier, supplier_of}
+use Rattle.hub_rules.specs.declared.delivery.Cancel.{Cancel}
 use Rattle.hub_law.specs.Machine.{Inputs, supplier_step}
 use Rattle.hub_law.specs.Mark.{Mark, Whole, StoppedEmpty, StoppedBare, StoppedAfter}
 use Rattle.hub_law.specs.Messages.{Sent, named, deliver_retailers, cancel}

@@ -1,13 +1,13 @@
 -- What one supplier sees and is told, whatever the others do.
 use Rattle.std.specs.Prelude.{◌≡◌, true, [], ◌∷◌, ◌++◌, length, slice_get, Option, Some, None}
 use Rattle.hub_tables.specs.Sets.{SameRows}
-use Rattle.hub_tables.specs.Suppliers.{Supplier, supplier_of, PrefixFree}
 use Rattle.hub_tables.specs.Tables.{Tables, view}
+use Rattle.hub_rules.specs.Suppliers.{Supplier, supplier_of, PrefixFree}
+use Rattle.hub_rules.specs.Sound.{Sound}
 use Rattle.hub_law.specs.Alone.{items, items_of, fold}
 use Rattle.hub_law.specs.Machine.{Inputs, shared_step, shared_run, replies_to}
 use Rattle.hub_law.specs.Mark.{Mark, Whole}
 use Rattle.hub_law.specs.Register.{Register, is_retailers}
-use Rattle.hub_law.specs.Sound.{Sound}
 use Rattle.hub_law.specs.declared.reply.Reply.{Reply}
 use Rattle.hub_law.specs.declared.request.Input.{Input}
 use Rattle.hub_law.specs.declared.request.Request.TheVariants.{StatusOf}

@@ -11,7 +11,6 @@ pub mod Register
 pub mod Remembered
 pub mod Replies
 pub mod Requests
-pub mod Sound
 pub mod StatusText
 pub mod Told
 pub mod Widths

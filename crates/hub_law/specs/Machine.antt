@@ -1,8 +1,8 @@
 -- The machine that all suppliers share.
 use Rattle.std.specs.Prelude.{ℕ, List, [], ◌∷◌, if◌then◌else◌, Option, Some, None}
 use Rattle.hub_tables.specs.Rows.{same}
-use Rattle.hub_tables.specs.Suppliers.{Supplier, supplier_of}
 use Rattle.hub_tables.specs.Tables.{Tables, view}
+use Rattle.hub_rules.specs.Suppliers.{Supplier, supplier_of}
 use Rattle.hub_law.specs.Mark.{Mark}
 use Rattle.hub_law.specs.Register.{Parties, Register, is_retailers}
 use Rattle.hub_law.specs.Replies.{denied, unless_stopped}

@@ -14,11 +14,11 @@ use Rattle.edi_orders.specs.Response.{response_of}
 use Rattle.edi_goods.specs.Despatch.{despatch_of}
 use Rattle.edi_goods.specs.Receipt.{receipt_of}
 use Rattle.hub_tables.specs.Rows.{same}
-use Rattle.hub_tables.specs.Rules.{judge_order, judge_response, judge_despatch, judge_receipt, judge_cancel}
-use Rattle.hub_tables.specs.Suppliers.{Supplier}
 use Rattle.hub_tables.specs.Tables.{Tables, has_pallet}
-use Rattle.hub_tables.specs.declared.delivery.Cancel.{Cancel}
-use Rattle.hub_tables.specs.declared.delivery.Delivery.{Delivery}
+use Rattle.hub_rules.specs.Rules.{judge_order, judge_response, judge_despatch, judge_receipt, judge_cancel}
+use Rattle.hub_rules.specs.Suppliers.{Supplier}
+use Rattle.hub_rules.specs.declared.delivery.Cancel.{Cancel}
+use Rattle.hub_rules.specs.declared.delivery.Delivery.{Delivery}
 use Rattle.hub_law.specs.CancelText.{cancel_text}
 use Rattle.hub_law.specs.Register.{Parties}
 use Rattle.hub_law.specs.Told.{Refused, Act, act, read_act}

@@ -1,6 +1,6 @@
 -- Two suppliers, one of whose prefixes begins the other's, announce pallets with the same SSCC.
 use Rattle.std.specs.Prelude.{ℕ, Bool, List, [], ◌∷◌, ◌++◌, codes}
-use Rattle.hub_tables.specs.Suppliers.{Supplier}
+use Rattle.hub_rules.specs.Suppliers.{Supplier}
 use Rattle.hub_law.specs.Machine.{Inputs}
 use Rattle.hub_law.specs.Mark.{Whole}
 use Rattle.hub_law.specs.Register.{Register}

@@ -1,7 +1,7 @@
 -- The parties of a hub, and which inputs are the retailer's.
 use Rattle.std.specs.Prelude.{ℕ, Bool, ◌&&◌, List}
 use Rattle.hub_tables.specs.Rows.{same}
-use Rattle.hub_tables.specs.Suppliers.{Supplier}
+use Rattle.hub_rules.specs.Suppliers.{Supplier}
 use Rattle.hub_law.specs.declared.request.Input.{Input}
 
 -- the GLNs of the hub and of the retailer

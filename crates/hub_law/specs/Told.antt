@@ -3,10 +3,10 @@ use Rattle.std.specs.Prelude.{ℕ, Bool, true, false, List, [], ◌∷◌, Resul
 use Rattle.edi_messages.specs.Fault as message_faults
 use Rattle.edi_messages.specs.declared.fault.MessageFault.{MessageFault}
 use Rattle.hub_tables.specs.Change.{apply_all}
-use Rattle.hub_tables.specs.Code as rules
 use Rattle.hub_tables.specs.Tables.{Tables}
-use Rattle.hub_tables.specs.declared.verdict.Verdict.{Verdict}
-use Rattle.hub_tables.specs.declared.verdict.Verdict.TheVariants.{Accept, Refuse}
+use Rattle.hub_rules.specs.Code as rules
+use Rattle.hub_rules.specs.declared.verdict.Verdict.{Verdict}
+use Rattle.hub_rules.specs.declared.verdict.Verdict.TheVariants.{Accept, Refuse}
 
 -- accepted, repeated, or refused with a code
 pub data Told : Type 0 where

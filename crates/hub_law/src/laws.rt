@@ -7,9 +7,9 @@
 //! sound; empty ones are, and each step leaves them so.
 ghost use Rattle.std.specs.Prelude.{◌≡◌, ◌≢◌, ◌↔◌, true, false, List, [], ◌∷◌, ◌++◌, length, codes, Some};
 ghost use Rattle.std.specs.List.{AllByRecursion};
-ghost use Rattle.hub_tables.specs.Kept.{Balanced};
-ghost use Rattle.hub_tables.specs.Suppliers.{Supplier, PrefixFree};
 ghost use Rattle.hub_tables.specs.Tables.{Tables, view, empty};
+ghost use Rattle.hub_rules.specs.Sound.{Balanced, Sound};
+ghost use Rattle.hub_rules.specs.Suppliers.{Supplier, PrefixFree};
 ghost use Rattle.hub_law.specs.Alone.{items_of, fold};
 ghost use Rattle.hub_law.specs.Laws.{Registered, StepIsOwn, RunIsOwn, AsksStatus, Agree, reply_between};
 ghost use Rattle.hub_law.specs.Machine.{Inputs, shared_step, shared_run, replies_to};
@@ -17,7 +17,6 @@ ghost use Rattle.hub_law.specs.Mark.{Mark, Whole, StoppedEmpty, StoppedBare};
 ghost use Rattle.hub_law.specs.Overlap.{long_supplier, overlapping, both_announce, one_announces, advice_reply};
 ghost use Rattle.hub_law.specs.Register.{Register};
 ghost use Rattle.hub_law.specs.Replies.{done};
-ghost use Rattle.hub_law.specs.Sound.{Sound};
 ghost use Rattle.hub_law.specs.StatusText.{status_text};
 ghost use Rattle.hub_law.specs.declared.request.Input.{Input};
 

@@ -1,14 +1,14 @@
 //! What was accepted and comes again: laws, each the contract of a function without a body.
 ghost use Rattle.std.specs.Prelude.{◌≡◌, ℕ, List};
-ghost use Rattle.hub_tables.specs.Suppliers.{Supplier, supplier_of};
 ghost use Rattle.hub_tables.specs.Tables.{Tables, view};
-ghost use Rattle.hub_tables.specs.declared.delivery.Cancel.{Cancel};
+ghost use Rattle.hub_rules.specs.Suppliers.{Supplier, supplier_of};
+ghost use Rattle.hub_rules.specs.declared.delivery.Cancel.{Cancel};
+ghost use Rattle.hub_rules.specs.Sound.{Sound};
 ghost use Rattle.hub_law.specs.Machine.{Inputs, shared_run};
 ghost use Rattle.hub_law.specs.Messages.{Sent, deliver_suppliers, cancel};
 ghost use Rattle.hub_law.specs.Register.{Parties, Register};
 ghost use Rattle.hub_law.specs.Remembered.{StaysRemembered};
 ghost use Rattle.hub_law.specs.Requests.{deliver_named};
-ghost use Rattle.hub_law.specs.Sound.{Sound};
 ghost use Rattle.hub_law.specs.Told.{Accepted, Repeated, in_row};
 
 /// What was accepted and comes again is answered `repeated`, and changes nothing: a message of the retailer or of a supplier

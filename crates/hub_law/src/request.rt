@@ -2,7 +2,7 @@
 use edi_base::Items;
 use edi_envelope::Moment;
 use gs1_ids::Gln;
-use hub_tables::Cancel;
+use hub_rules::Cancel;
 
 /// What a supplier or the retailer asks.
 #[derive(Debug, Drop)]

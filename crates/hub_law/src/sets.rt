@@ -1,9 +1,9 @@
 //! Sound tables as sets of rows: laws, each the contract of a function without a body.
 ghost use Rattle.std.specs.Prelude.{◌≡◌, ℕ, List};
 ghost use Rattle.hub_tables.specs.Sets.{Rising, SameRows};
-ghost use Rattle.hub_tables.specs.Suppliers.{Supplier, PrefixFree};
 ghost use Rattle.hub_tables.specs.Tables.{Tables, view};
-ghost use Rattle.hub_law.specs.Sound.{Sound};
+ghost use Rattle.hub_rules.specs.Suppliers.{Supplier, PrefixFree};
+ghost use Rattle.hub_rules.specs.Sound.{Sound};
 
 /// What a supplier sees of sound tables is its rows and nothing else: where two hubs have the same rows of it, it sees the same
 /// in both, in whatever order the rows came and whoever else has rows. And all rows of sound tables stand in the order of their

@@ -1,29 +1,19 @@
-//! The rules of the hub: what comes of a message or a cancellation, from what is known of its supplier's rows.
+//! The rules of a hub, as definitions with their laws: by which code a message or a cancellation is refused, which changes of
+//! its supplier's rows come of it else, and what the rows stay.
 #![tactic(auto)]
 
-mod answers;
-mod cancel;
-mod despatch;
-mod known;
-mod mail;
-mod order;
-mod party;
-mod receipt;
-mod remembering;
-mod response;
-mod totals;
+mod code;
+mod delivery;
+mod laws;
+mod verdict;
 
-pub use cancel::judge_cancel;
-pub use despatch::judge_despatch;
-pub use hub_lines::LineFacts;
-pub use hub_tables::{
-    AdviceRow, Answered, Arrival, Cancel, Case, Change, Code, Column, ContentRow, Delivery,
-    LineRow, MailKind, MailRow, OrderRow, PalletRow, ReceiptRow, RememberedRow, Side, Verdict,
+pub use code::Code;
+pub use delivery::{Cancel, Delivery};
+pub use laws::{
+    empty_tables_are_rooted, pallet_is_its_prefixes_suppliers, rules_keep_rows,
+    rules_keep_suppliers_apart,
 };
-pub use known::Known;
-pub use order::judge_order;
-pub use receipt::judge_receipt;
-pub use response::judge_response;
+pub use verdict::Verdict;
 
 #[cfg(test)]
 mod tests;

@@ -1,14 +1,12 @@
 -- Lists in the order of a key, under a put, a filter and a replacing.
-use Rattle.std.proofs.Common.{◌≡◌, ℕ, ◌+◌, Bool, true, false, cond, ◌||◌, inl, inr, List, [], ◌∷◌, ◌++◌, filter, map, sum_by, refl, sym, ◌∙◌, ap, ap₂, arith}
+use Rattle.std.proofs.Common.{◌≡◌, ℕ, ◌+◌, Bool, true, false, cond, ◌||◌, inl, inr, List, [], ◌∷◌, ◌++◌, filter, map, sum_by, refl, sym, ◌∙◌, ap, arith}
 use Rattle.std.specs.List.{AllByRecursion, list_any}
 use Rattle.std.specs.declared.cmp.Ordering.{Ordering}
 use Rattle.std.specs.declared.cmp.Ordering.TheVariants.{Less, Equal, Greater}
 use Rattle.std.specs.Ordering.{is_gt, ordering_reverse}
 use Rattle.std.specs.Cmp.{IsTotalOrder}
-use Rattle.std.proofs.lemmas.Bool.{or_parts}
 use Rattle.std.proofs.lemmas.Cmp.{upto}
 use Rattle.std.proofs.lemmas.List.Sums.{sum_by-cons}
-use Rattle.hub_tables.specs.Kept.{Single}
 use Rattle.hub_tables.specs.Keys.{InOrder, put}
 use Rattle.hub_tables.proofs.Lists.{decide, all_filter, all_weaker}
 
@@ -65,20 +63,6 @@ module _ {X : Type 0} (cmp : X → X → Ordering) where
   pub put_last : (xs : List X) (x : X) → AllByRecursion (λ y. is_gt (cmp y x) ≡ false) xs → put cmp x xs ≡ xs ++ x ∷ []
   put_last [] x all = refl
   put_last (y ∷ ys) x all = ap (λ v. cond v (x ∷ y ∷ ys) (y ∷ put cmp x ys)) all.0 ∙ ap (λ zs. y ∷ zs) (put_last ys x all.1)
-
-  -- one that is like none of them
-  pub single_put : (alike : X → X → Bool) → ((x y : X) → alike x y ≡ alike y x) → (xs : List X) (x : X) → Single alike xs → list_any (λ y. alike y x) xs ≡ false → Single alike (put cmp x xs)
-  single_put alike turn [] x a h = (refl, tt)
-  single_put alike turn (y ∷ ys) x a h =
-      let parts = or_parts (alike y x) (list_any (λ y. alike y x) ys) h in
-      elim (is_gt (cmp y x)) as (λ v. Single alike (cond v (x ∷ y ∷ ys) (y ∷ put cmp x ys))) [
-        | true ↦ (turned (y ∷ ys) h, a)
-        | false ↦ (any_put (alike y) ys x ∙ ap₂ (λ v w. v || (w || false)) a.0 parts.0, single_put alike turn ys x a.1 parts.1)
-      ]
-    where
-      turned : (zs : List X) → list_any (λ y. alike y x) zs ≡ false → list_any (alike x) zs ≡ false
-      turned [] g = refl
-      turned (z ∷ zs) g = let parts = or_parts (alike z x) (list_any (λ y. alike y x) zs) g in ap₂ (λ v w. v || w) (turn x z ∙ parts.0) (turned zs parts.1)
 
   pub put_first : (xs : List X) (x : X) → AllByRecursion (λ y. is_gt (cmp y x) ≡ true) xs → put cmp x xs ≡ x ∷ xs
   put_first [] x all = refl

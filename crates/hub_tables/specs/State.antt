@@ -1,4 +1,4 @@
--- What rules ask of a supplier's state.
+-- What is looked up in a supplier's rows.
 use Rattle.std.specs.Prelude.{ℕ, ◌+◌, ◌==◌, Bool, ◌&&◌, List, [], ◌∷◌, filter, find, sum_by, length, Option, Some, None}
 use Rattle.std.specs.List.{list_any}
 use Rattle.hub_tables.specs.Cases.{answer_letter, side_letter}

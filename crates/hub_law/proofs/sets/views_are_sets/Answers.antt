@@ -1,4 +1,4 @@
-use Rattle.hub_tables.proofs.Rising.{all_rise}
+use Rattle.hub_rules.proofs.Rising.{all_rise}
 use Rattle.hub_law.proofs.Agreeing.{views_alike}
 use Rattle.hub_law.proofs.sets.views_are_sets.Goals as goal
 

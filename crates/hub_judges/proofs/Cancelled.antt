@@ -1,0 +1,31 @@
+-- A cancellation judged from what is known is judged as from a state of which that tells the truth.
+use Rattle.std.proofs.Common.{◌≡◌, not, nat_lt, ◌+◌, ◌-◌, [], ◌∷◌, Option, Some, None, option_map, refl, ◌∙◌, ap, ap₂}
+use Rattle.edi_base.specs.Seen.{is_among}
+use Rattle.hub_tables.specs.Tables.{Tables}
+use Rattle.hub_tables.specs.declared.change.Change.TheVariants.{SetLine}
+use Rattle.hub_tables.specs.declared.rows.LineRow.{LineRow}
+use Rattle.hub_lines.specs.Book.{facts_of, facts_among}
+use Rattle.hub_lines.specs.declared.facts.LineFacts.{LineFacts}
+use Rattle.hub_rules.specs.CancellationRules.{judge_new_cancel}
+use Rattle.hub_rules.specs.Judging.{refuse_if, given}
+use Rattle.hub_rules.specs.declared.code.Code.TheVariants.{NoOrder, NoLine, CancelsMoreThanOpen}
+use Rattle.hub_rules.specs.declared.delivery.Cancel.{Cancel}
+use Rattle.hub_rules.specs.declared.verdict.Verdict.{Verdict}
+use Rattle.hub_rules.specs.declared.verdict.Verdict.TheVariants.{Accept}
+use Rattle.hub_judges.specs.FromFacts.{cancelled_from}
+use Rattle.hub_judges.specs.Known.{TellsForCancel}
+use Rattle.hub_judges.specs.declared.known.Known.{Known}
+use Rattle.hub_judges.proofs.Facts.{line_told}
+
+-- what is judged of a line
+abbrev of_line : Cancel → LineRow → Verdict
+of_line cancel line = refuse_if (nat_lt line.open_qty cancel.quantity) CancelsMoreThanOpen (Accept (SetLine (record line { open_qty = line.open_qty - cancel.quantity; cancelled = line.cancelled + cancel.quantity }) ∷ []))
+
+found : (cancel : Cancel) (line : Option LineFacts) → given (option_map (λ line. line.row) line) NoLine (of_line cancel) ≡ given line NoLine (λ line. of_line cancel line.row)
+found cancel None = refl
+found cancel (Some line) = refl
+
+pub cancel_alike : (known : Known) (cancel : Cancel) (state : Tables) → TellsForCancel known cancel state → judge_new_cancel cancel state ≡ cancelled_from cancel known
+cancel_alike known cancel state told =
+    ap₂ (λ v line. refuse_if (not v) NoOrder (given line NoLine (of_line cancel))) told.order (line_told state known.lines cancel.order (Some cancel.line) [] told.lines)
+    ∙ ap (refuse_if (not (is_among cancel.order known.orders)) NoOrder) (found cancel (facts_among (facts_of known.lines cancel.order) (Some cancel.line) []))

@@ -1,0 +1,148 @@
+-- The rules of lines and units once more, without a state: what comes of what is known. The loops of the judges meet these by their
+-- invariants, and a lemma for each says that they are the rules' cases. They are steps of those proofs; no public clause rests
+-- on them.
+use Rattle.std.specs.Prelude.{ℕ, Bool, ◌+◌, ◌-◌, ◌==◌, nat_lt, not, List, [], ◌∷◌, map, filter, Option, Some, Result, Ok, Err}
+use Rattle.edi_base.specs.Seen.{is_among}
+use Rattle.gs1_ids.specs.Sscc.{under_some}
+use Rattle.edi_orders.specs.declared.response.Answer.{Answer}
+use Rattle.edi_orders.specs.declared.response.Answer.TheVariants.{AllAccepted, AllRefused, Lines}
+use Rattle.edi_orders.specs.declared.response.AnswerLine.{AnswerLine}
+use Rattle.edi_orders.specs.declared.response.LineAnswer.{LineAnswer}
+use Rattle.edi_orders.specs.declared.response.LineAnswer.TheVariants.{Accepted, Refused}
+use Rattle.edi_orders.specs.declared.response.Response.{Response}
+use Rattle.edi_goods.specs.declared.despatch.Despatch.{Despatch}
+use Rattle.edi_goods.specs.declared.despatch.DespatchLine.{DespatchLine}
+use Rattle.edi_goods.specs.declared.despatch.Unit.{Unit}
+use Rattle.edi_goods.specs.declared.receipt.ReceiptUnit.{ReceiptUnit}
+use Rattle.hub_tables.specs.Cases.{arrival_number}
+use Rattle.hub_tables.specs.Rows.{same}
+use Rattle.hub_tables.specs.State.{waits}
+use Rattle.hub_tables.specs.declared.change.Change.TheVariants.{SetLine, SetPallet, AddAdvice, AddPallet, AddContent}
+use Rattle.hub_tables.specs.declared.change.Change.{Change}
+use Rattle.hub_tables.specs.declared.cases.Arrival.TheVariants.{Announced, Received}
+use Rattle.hub_tables.specs.declared.rows.PalletRow.{PalletRow}
+use Rattle.hub_tables.specs.declared.rows.LineRow.{LineRow}
+use Rattle.hub_lines.specs.Book.{facts_of, facts_among, with_row}
+use Rattle.hub_lines.specs.declared.facts.LineFacts.{LineFacts}
+use Rattle.hub_rules.specs.Judging.{refuse_if, given, joined}
+use Rattle.hub_rules.specs.ReceiptRules.{items, new_receipt}
+use Rattle.hub_rules.specs.ResponseRules.{answered, is_out_of_range, is_empty}
+use Rattle.hub_rules.specs.Suppliers.{Supplier}
+use Rattle.hub_rules.specs.declared.code.Code.TheVariants.{NoOrder, NoLine, NotWaiting, OutOfRange, OtherItem, MoreThanOpen, OtherPrefix, SsccUsed, AdviceKnown, NoPallet, PalletReceived, CancelsMoreThanOpen}
+use Rattle.hub_rules.specs.declared.code.Code.{Code}
+use Rattle.hub_rules.specs.declared.delivery.Cancel.{Cancel}
+use Rattle.hub_rules.specs.declared.verdict.Verdict.{Verdict}
+use Rattle.hub_rules.specs.declared.verdict.Verdict.TheVariants.{Accept, Refuse}
+use Rattle.hub_judges.specs.declared.known.Known.{Known}
+
+-- B07, B08, B09 at a line that is answered, and what follows
+abbrev pub answer_checks : AnswerLine → LineFacts → Verdict → Verdict
+answer_checks said line rest =
+    refuse_if (not (waits line.row)) NotWaiting (
+    refuse_if (is_out_of_range said.answer line.despatched line.row) OutOfRange (
+    refuse_if (not (same line.row.gtin said.gtin)) OtherItem rest))
+
+-- a line after its answer
+abbrev pub after_answer : LineAnswer → LineFacts → LineRow
+after_answer answer line = answered answer line.despatched line.row
+
+-- answers to lines, each on what the earlier ones left
+abbrev pub answers_from : List ℕ → List AnswerLine → List LineFacts → Verdict
+answers_from order [] lines = Accept []
+answers_from order (said ∷ rest) lines =
+    given (facts_among (facts_of lines order) said.order_line said.gtin) NoLine (λ line.
+    answer_checks said line (
+    joined (SetLine (after_answer said.answer line) ∷ []) (answers_from order rest (with_row (after_answer said.answer line) lines))))
+
+-- the lines of an order that wait
+abbrev pub waiting_of : List LineFacts → List ℕ → List LineFacts
+waiting_of lines order = filter (λ line. waits line.row) (facts_of lines order)
+
+-- the same answer to each of them
+abbrev pub all_from : LineAnswer → List ℕ → List LineFacts → Verdict
+all_from answer order lines =
+    refuse_if (is_empty (waiting_of lines order)) NotWaiting (
+    Accept (map (λ line. SetLine (after_answer answer line)) (waiting_of lines order)))
+
+abbrev pub said_from : Answer → List ℕ → List LineFacts → Verdict
+said_from AllAccepted order lines = all_from Accepted order lines
+said_from AllRefused order lines = all_from Refused order lines
+said_from (Lines said) order lines = answers_from order said lines
+
+-- what an ORDRSP changes of what is known, or the first of B05 to B09 that it is against
+abbrev pub response_from : Response → Known → Verdict
+response_from response known =
+    refuse_if (not (is_among response.order known.orders)) NoOrder (said_from response.answer response.order known.lines)
+
+-- a line that is set, or why not
+abbrev pub of_line : Result LineRow Code → Verdict
+of_line (Ok row) = Accept (SetLine row ∷ [])
+of_line (Err code) = Refuse code
+
+-- the line that a cancellation names, after it
+abbrev pub cancelled_from : Cancel → Known → Verdict
+cancelled_from cancel known =
+    refuse_if (not (is_among cancel.order known.orders)) NoOrder (
+    given (facts_among (facts_of known.lines cancel.order) (Some cancel.line) []) NoLine (λ line.
+    refuse_if (nat_lt line.row.open_qty cancel.quantity) CancelsMoreThanOpen (
+    Accept (SetLine (record line.row { open_qty = line.row.open_qty - cancel.quantity; cancelled = line.row.cancelled + cancel.quantity }) ∷ []))))
+
+-- what comes of a unit on a pallet: the pallet is received, with the sums of each item
+abbrev pub received : PalletRow → ReceiptUnit → List Change
+received pallet unit = SetPallet (record pallet { received = arrival_number Received }) ∷ map (new_receipt unit.sscc unit.lines) (items unit.lines)
+
+-- the units of a RECADV, each with its pallet; both lists have one length
+abbrev pub receipts_from : List ReceiptUnit → List (Option PalletRow) → Verdict
+receipts_from [] pallets = Accept []
+receipts_from (unit ∷ units) [] = Accept []
+receipts_from (unit ∷ units) (pallet ∷ pallets) =
+    given pallet NoPallet (λ row.
+    refuse_if (not (row.received == arrival_number Announced)) PalletReceived (
+    joined (received row unit) (receipts_from units pallets)))
+
+-- a line after so much of it is despatched
+abbrev pub after_despatch : DespatchLine → LineFacts → LineRow
+after_despatch said line = record line.row { open_qty = line.row.open_qty - said.quantity }
+
+abbrev pub new_content : List ℕ → ℕ → DespatchLine → LineFacts → Change
+new_content sscc place said line = AddContent (record { sscc = sscc; place = place; number = line.row.number; line = line.row.line; quantity = said.quantity })
+
+-- B09, B10 at a line that is despatched, and what follows
+abbrev pub despatch_checks : DespatchLine → LineFacts → Verdict → Verdict
+despatch_checks said line rest =
+    refuse_if (not (same line.row.gtin said.gtin)) OtherItem (
+    refuse_if (nat_lt line.row.open_qty said.quantity) MoreThanOpen rest)
+
+-- the lines of a unit, whose places go on from a number, each on what the earlier ones left; and what follows on what all left
+abbrev pub lines_from : List ℕ → List (List ℕ) → ℕ → List DespatchLine → List LineFacts → (List LineFacts → Verdict) → Verdict
+lines_from sscc orders n [] lines next = next lines
+lines_from sscc orders n (said ∷ rest) lines next =
+    refuse_if (not (is_among said.order orders)) NoOrder (
+    given (facts_among (facts_of lines said.order) said.order_line said.gtin) NoLine (λ line.
+    despatch_checks said line (
+    joined (SetLine (after_despatch said line) ∷ new_content sscc (n + 1) said line ∷ [])
+    (lines_from sscc orders (n + 1) rest (with_row (after_despatch said line) lines) next))))
+
+abbrev pub new_pallet : Supplier → List ℕ → List ℕ → Change
+new_pallet s advice sscc = AddPallet (record { sscc = sscc; supplier = s.gln; advice = advice; received = arrival_number Announced })
+
+-- B11, B12 at a unit, and what follows
+abbrev pub unit_checks : Supplier → List ℕ → Bool → Verdict → Verdict
+unit_checks s sscc used rest =
+    refuse_if (not (under_some sscc s.prefixes)) OtherPrefix (
+    refuse_if used SsccUsed rest)
+
+-- the units of a DESADV, each with whether its SSCC is used; both lists have one length
+abbrev pub units_from : Supplier → List ℕ → List (List ℕ) → List Unit → List Bool → List LineFacts → Verdict
+units_from s advice orders [] used lines = Accept []
+units_from s advice orders (unit ∷ units) [] lines = Accept []
+units_from s advice orders (unit ∷ units) (used ∷ rest) lines =
+    unit_checks s unit.sscc used (
+    joined (new_pallet s advice unit.sscc ∷ []) (lines_from unit.sscc orders 0 unit.lines lines (λ left. units_from s advice orders units rest left)))
+
+-- what a DESADV changes of what is known, or the first of B13, B11, B12, B05, B06, B09 and B10 that it is against
+abbrev pub despatch_from : Supplier → Despatch → Known → Verdict
+despatch_from s despatch known =
+    refuse_if known.number_known AdviceKnown (
+    joined (AddAdvice (record { supplier = s.gln; number = despatch.number }) ∷ [])
+    (units_from s despatch.number known.orders despatch.units known.used known.lines))

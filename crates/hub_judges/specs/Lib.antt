@@ -1,0 +1,4 @@
+pub mod FromFacts
+pub mod Known
+pub mod Party
+pub mod Totals

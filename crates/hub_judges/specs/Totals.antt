@@ -1,0 +1,22 @@
+-- What is received of an item, line by line.
+use Rattle.std.specs.Prelude.{ℕ, ◌+◌, List, [], ◌∷◌, if◌then◌else◌, Option, Some}
+use Rattle.std.specs.Option.{unwrap_or}
+use Rattle.edi_goods.specs.declared.receipt.ReceiptLine.{ReceiptLine}
+use Rattle.hub_tables.specs.Rows.{same}
+use Rattle.hub_judges.specs.declared.totals.Total.{Total}
+
+abbrev pub nothing : Total
+nothing = record { accepted = 0; returned = 0; destroyed = 0 }
+
+-- with what one more line says
+abbrev pub with_line : Total → ReceiptLine → Total
+with_line total line = record {
+  accepted = total.accepted + line.accepted;
+  returned = total.returned + line.returned;
+  destroyed = total.destroyed + line.destroyed;
+}
+
+-- the total of an item, from what it is before these lines
+abbrev pub total_from : Option Total → List ℕ → List ReceiptLine → Option Total
+total_from before item [] = before
+total_from before item (line ∷ lines) = total_from (if same line.gtin item then Some (with_line (unwrap_or before nothing) line) else before) item lines

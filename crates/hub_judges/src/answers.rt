@@ -1,0 +1,153 @@
+//! Answers to lines of an order.
+ghost use Rattle.std.specs.Prelude.{◌≡◌, ◌+◌, ◌≤◌, ◌++◌, ℕ, false, not, map, IfOk};
+ghost use Rattle.std.specs.List.{AllByRecursion};
+ghost use Rattle.std.specs.Option.{IfSome, IfNone};
+ghost use Rattle.hub_tables.specs.State.{waits};
+ghost use Rattle.hub_tables.specs.declared.change.Change.TheVariants.{SetLine};
+ghost use Rattle.hub_tables.specs.declared.rows.LineRow.{LineRow};
+ghost use Rattle.hub_lines.specs.Book.{IsCovered};
+ghost use Rattle.hub_rules.specs.Judging.{joined};
+ghost use Rattle.hub_rules.specs.ResponseRules.{is_empty, is_out_of_range};
+ghost use Rattle.hub_rules.specs.declared.verdict.Verdict.{Verdict};
+ghost use Rattle.hub_rules.specs.declared.verdict.Verdict.TheVariants.{Refuse};
+ghost use Rattle.hub_judges.specs.FromFacts.{answer_checks, after_answer, answers_from, waiting_of};
+
+use edi_base::{Items, MemoryFault};
+use edi_orders::{AnswerLine, LineAnswer};
+use hub_lines::{Book, LineFacts, copied_row};
+use hub_rules::{Code, Verdict};
+use hub_tables::{Answered, Change, Column, LineRow};
+use std::alloc::Global;
+
+// Whether a line waits for an answer.
+fn is_waiting(line: &LineFacts) -> bool
+    ensures { result ≡ waits line.now.row }
+{
+    line.row.answer.case() == Answered::Waiting
+}
+
+/// Whether a line of an order waits for an answer.
+pub(crate) fn any_waits(lines: &[LineFacts], order: &[u8]) -> bool
+    ensures { result ≡ not (is_empty (waiting_of lines.now order.now)) }
+{
+    for line in lines {
+        if line.row.number.as_slice() == order && is_waiting(line) {
+            return true;
+        }
+    }
+    false
+}
+
+// Whether a changed quantity is out of the range of a line.
+fn is_past_range(answer: LineAnswer, line: &LineFacts) -> bool
+    ensures { result ≡ is_out_of_range answer line.now.despatched line.now.row }
+{
+    match answer {
+        LineAnswer::Accepted | LineAnswer::Refused => false,
+        LineAnswer::Changed(quantity) => {
+            quantity < line.despatched || line.row.open_qty < quantity - line.despatched
+        }
+    }
+}
+
+// The rule that an answer to a line is against: B07, B08 or B09.
+fn answer_fault(said: &AnswerLine, line: &LineFacts) -> Option<Code>
+    ensures some { IfSome result (λ code. (rest : Verdict) → answer_checks said.now line.now rest ≡ Refuse code) }
+    ensures none { IfNone result ((rest : Verdict) → answer_checks said.now line.now rest ≡ rest) }
+    ensures range { IfNone result (is_out_of_range said.now.answer line.now.despatched line.now.row ≡ false) }
+{
+    if !is_waiting(line) {
+        return Some(Code::NotWaiting);
+    }
+    if is_past_range(said.answer, line) {
+        return Some(Code::OutOfRange);
+    }
+    if line.row.gtin != said.gtin {
+        return Some(Code::OtherItem);
+    }
+    None
+}
+
+// A line after its answer.
+fn answered_line(
+    alloc: Global,
+    answer: LineAnswer,
+    line: &LineFacts,
+) -> Result<LineRow, MemoryFault>
+    requires covered { IsCovered line.now }
+    requires range { is_out_of_range answer line.now.despatched line.now.row ≡ false }
+    ensures row { IfOk result (λ row. row ≡ after_answer answer line.now) }
+    ensures covered { IfOk result (λ row. row.open_qty + row.refused + row.cancelled ≤ row.ordered) }
+{
+    let mut row = copied_row(alloc, &line.row)?;
+    match answer {
+        LineAnswer::Accepted => row.answer = Column::of(Answered::Accepted),
+        LineAnswer::Refused => {
+            row.refused += row.open_qty;
+            row.open_qty = 0;
+            row.answer = Column::of(Answered::NotAccepted);
+        }
+        LineAnswer::Changed(quantity) => {
+            let open_qty = quantity - line.despatched;
+            row.refused += row.open_qty - open_qty;
+            row.open_qty = open_qty;
+            row.answer = Column::of(Answered::Changed);
+        }
+    }
+    Ok(row)
+}
+
+/// Puts the same answer to every line of an order that waits behind the changes.
+pub(crate) fn answer_all(
+    alloc: Global,
+    lines: &[LineFacts],
+    order: &[u8],
+    answer: LineAnswer,
+    changes: &mut Items<Change>,
+) -> Result<(), MemoryFault>
+    requires covered { AllByRecursion IsCovered lines.now }
+    requires range { (sent : ℕ) (row : LineRow) → is_out_of_range answer sent row ≡ false }
+    ensures { IfOk result (λ _. changes.new ≡ changes.old ++ map (λ line. SetLine (after_answer answer line)) (waiting_of lines.now order.now)) }
+{
+    for line in lines {
+        if line.row.number.as_slice() == order && is_waiting(line) {
+            changes.push(Change::SetLine(answered_line(alloc, answer, line)?))?;
+        }
+    }
+    Ok(())
+}
+
+/// What comes of answers to lines of an order, behind the changes: B06 to B09 are asked of each, on what the earlier ones left.
+pub(crate) fn answer_lines(
+    alloc: Global,
+    book: Book,
+    order: &[u8],
+    said: &[AnswerLine],
+    changes: Items<Change>,
+) -> Result<Verdict, MemoryFault>
+    requires { AllByRecursion IsCovered book }
+    ensures { IfOk result (λ verdict. verdict ≡ joined changes (answers_from order.now said.now book)) }
+{
+    let mut book = book;
+    let mut changes = changes;
+    for answer in said {
+        let place = match book.place_of(order, answer.order_line, &answer.gtin) {
+            Some(place) => place,
+            None => return Ok(Verdict::Refuse(Code::NoLine)),
+        };
+        let line = book.line(place);
+        if let Some(code) = answer_fault(answer, line) {
+            return Ok(Verdict::Refuse(code));
+        }
+        let row = answered_line(alloc, answer.answer, line)?;
+        book.set(
+            place,
+            row.open_qty,
+            row.refused,
+            row.cancelled,
+            row.answer.case(),
+        );
+        changes.push(Change::SetLine(row))?;
+    }
+    Ok(Verdict::Accept(changes))
+}

@@ -1,0 +1,81 @@
+//! The rules of cancellations.
+ghost use Rattle.std.specs.Prelude.{◌≡◌, IfOk};
+ghost use Rattle.std.specs.List.{AllByRecursion};
+ghost use Rattle.hub_tables.specs.Tables.{Tables};
+ghost use Rattle.hub_lines.specs.Book.{IsCovered};
+ghost use Rattle.hub_rules.specs.Rules as rules;
+ghost use Rattle.hub_judges.specs.FromFacts.{of_line, cancelled_from};
+ghost use Rattle.hub_judges.specs.Known.{TellsForCancel};
+ghost use Rattle.hub_judges.specs.Party.{supplier_of};
+
+use crate::known::Known;
+use crate::party::registered_supplier;
+use crate::remembering::repeats;
+use edi_base::{Items, MemoryFault, copied};
+use hub_lines::{copied_row, is_known, line_numbered};
+use hub_register::SupplierRow;
+use hub_rules::{Cancel, Code, Verdict};
+use hub_tables::{Change, Column, LineRow, RememberedRow, Side};
+use std::alloc::Global;
+
+// The line that a cancellation names, after it; or the rule that it is against: B05, B06, B17.
+fn cancelled_line(
+    alloc: Global,
+    known: &Known,
+    cancel: &Cancel,
+) -> Result<Result<LineRow, Code>, MemoryFault>
+    requires { AllByRecursion IsCovered known.now.lines }
+    ensures { IfOk result (λ line. of_line line ≡ cancelled_from cancel.now known.now) }
+{
+    let order = cancel.order.as_slice();
+    if !is_known(known.orders.as_slice(), order) {
+        return Ok(Err(Code::NoOrder));
+    }
+    let line = match line_numbered(known.lines.as_slice(), order, cancel.line) {
+        Some(line) => line,
+        None => return Ok(Err(Code::NoLine)),
+    };
+    if line.row.open_qty < cancel.quantity {
+        return Ok(Err(Code::CancelsMoreThanOpen));
+    }
+    let mut after = copied_row(alloc, &line.row)?;
+    after.open_qty -= cancel.quantity;
+    after.cancelled += cancel.quantity;
+    Ok(Ok(after))
+}
+
+/// What comes of a cancellation: B02, B03, B05, B06 and B17 are asked in this order. Asks that of each line no more is open,
+/// refused and cancelled than is ordered.
+#[tactic(auto, using(crate::proofs::Cancelled::cancel_alike))]
+pub fn judge_cancel(
+    alloc: Global,
+    supplier: Option<&SupplierRow>,
+    known: &Known,
+    content: Items<u8>,
+    cancel: &Cancel,
+) -> Result<Verdict, MemoryFault>
+    requires { AllByRecursion IsCovered known.now.lines }
+    ensures { IfOk result (λ verdict. (state : Tables) → TellsForCancel known.now cancel.now state → verdict ≡ rules.judge_cancel (supplier_of supplier.entry) content cancel.now state) }
+{
+    let row = match registered_supplier(supplier, &cancel.supplier) {
+        Ok(row) => row,
+        Err(code) => return Ok(Verdict::Refuse(code)),
+    };
+    if let Some(verdict) = repeats(alloc, &known.remembered, content.as_slice()) {
+        return Ok(verdict);
+    }
+    let after = match cancelled_line(alloc, known, cancel)? {
+        Ok(after) => after,
+        Err(code) => return Ok(Verdict::Refuse(code)),
+    };
+    let mut changes = Items::new(alloc);
+    changes.push(Change::Remember(RememberedRow {
+        supplier: row.gln,
+        side: Column::of(Side::Cancellation),
+        control: copied(alloc, cancel.reference.as_slice())?,
+        message: Items::new(alloc),
+        content,
+    }))?;
+    changes.push(Change::SetLine(after))?;
+    Ok(Verdict::Accept(changes))
+}

@@ -1,0 +1,199 @@
+//! The rules of DESADV.
+ghost use Rattle.std.specs.Prelude.{◌≡◌, ◌≤◌, ℕ, Bool, List, false, length, map, IfOk};
+ghost use Rattle.std.specs.Option.{IfSome, IfNone};
+ghost use Rattle.edi_base.specs.Seen.{is_among, has_twice};
+ghost use Rattle.hub_tables.specs.Tables.{Tables};
+ghost use Rattle.hub_lines.specs.Book.{Rise};
+ghost use Rattle.hub_lines.specs.declared.facts.LineFacts.{LineFacts};
+ghost use Rattle.hub_rules.specs.Judging.{joined};
+ghost use Rattle.hub_rules.specs.Rules as rules;
+ghost use Rattle.hub_rules.specs.declared.verdict.Verdict.{Verdict};
+ghost use Rattle.hub_rules.specs.declared.verdict.Verdict.TheVariants.{Refuse};
+ghost use Rattle.hub_judges.specs.FromFacts.{despatch_checks, lines_from, new_pallet, unit_checks, units_from};
+ghost use Rattle.hub_judges.specs.Known.{TellsForDespatch};
+ghost use Rattle.hub_judges.specs.Party.{supplier_in, supplier_of};
+
+use crate::known::Known;
+use crate::party::admitted;
+use crate::remembering::{remember, repeats};
+use edi_base::{Items, MemoryFault, copied};
+use edi_goods::{Despatch, DespatchLine, Unit};
+use gs1_ids::{Gln, Sscc};
+use hub_lines::{Book, LineFacts, OrderNumbers, copied_row};
+use hub_register::SupplierRow;
+use hub_rules::{Code, Delivery, Verdict};
+use hub_tables::{AdviceRow, Arrival, Change, Column, ContentRow, PalletRow, Side};
+use std::alloc::Global;
+
+// The rule that a line is against: B09 or B10.
+fn line_fault(said: &DespatchLine, line: &LineFacts) -> Option<Code>
+    ensures some { IfSome result (λ code. (rest : Verdict) → despatch_checks said.now line.now rest ≡ Refuse code) }
+    ensures none { IfNone result ((rest : Verdict) → despatch_checks said.now line.now rest ≡ rest) }
+    ensures open { IfNone result (said.now.quantity ≤ line.now.row.open_qty) }
+{
+    if line.row.gtin != said.gtin {
+        return Some(Code::OtherItem);
+    }
+    if line.row.open_qty < said.quantity {
+        return Some(Code::MoreThanOpen);
+    }
+    None
+}
+
+// Puts the lines of a unit behind the changes, and into the book; or the rule that one of them is against: B05, B06, B09, B10.
+fn load<'a>(
+    alloc: Global,
+    unit: &'a Unit,
+    orders: &OrderNumbers<'a>,
+    book: &mut Book,
+    changes: &mut Items<Change>,
+) -> Result<Option<Code>, MemoryFault>
+    ensures refused { IfOk result (λ fault. IfSome fault (λ code. (next : List LineFacts → Verdict) → joined changes.old (lines_from unit.now.sscc orders.now 0 unit.now.lines book.old next) ≡ Refuse code)) }
+    ensures loaded { IfOk result (λ fault. IfNone fault ((next : List LineFacts → Verdict) → joined changes.old (lines_from unit.now.sscc orders.now 0 unit.now.lines book.old next) ≡ joined changes.new (next book.new))) }
+{
+    let lines = unit.lines.as_slice();
+    for (index, said) in lines.iter().enumerate() {
+        let order = said.order.as_slice();
+        if !orders.has(order) {
+            return Ok(Some(Code::NoOrder));
+        }
+        let place = match book.place_of(order, said.order_line, &said.gtin) {
+            Some(place) => place,
+            None => return Ok(Some(Code::NoLine)),
+        };
+        let line = book.line(place);
+        if let Some(code) = line_fault(said, line) {
+            return Ok(Some(code));
+        }
+        let mut row = copied_row(alloc, &line.row)?;
+        row.open_qty -= said.quantity;
+        let content = ContentRow {
+            sscc: unit.sscc,
+            place: index as u64 + 1,
+            number: copied(alloc, row.number.as_slice())?,
+            line: row.line,
+            quantity: said.quantity,
+        };
+        book.set(
+            place,
+            row.open_qty,
+            row.refused,
+            row.cancelled,
+            row.answer.case(),
+        );
+        changes.push(Change::SetLine(row))?;
+        changes.push(Change::AddContent(content))?;
+    }
+    Ok(None)
+}
+
+// The rule that a unit is against: B11 or B12.
+fn unit_fault(row: &SupplierRow, sscc: &Sscc, used: bool) -> Option<Code>
+    ensures some { IfSome result (λ code. (rest : Verdict) → unit_checks (supplier_in row.now) sscc.now used rest ≡ Refuse code) }
+    ensures none { IfNone result ((rest : Verdict) → unit_checks (supplier_in row.now) sscc.now used rest ≡ rest) }
+{
+    if !sscc.under(&row.prefix) {
+        return Some(Code::OtherPrefix);
+    }
+    if used {
+        return Some(Code::SsccUsed);
+    }
+    None
+}
+
+// A pallet that an advice announces.
+fn announced_pallet(
+    alloc: Global,
+    row: &SupplierRow,
+    advice: &[u8],
+    sscc: Sscc,
+) -> Result<Change, MemoryFault>
+    ensures { IfOk result (λ change. change ≡ new_pallet (supplier_in row.now) advice.now sscc) }
+{
+    Ok(Change::AddPallet(PalletRow {
+        sscc,
+        supplier: row.gln,
+        advice: copied(alloc, advice)?,
+        received: Column::of(Arrival::Announced),
+    }))
+}
+
+// What comes of the units behind these changes: of each B11 and B12 are asked, and then its lines, on what the earlier ones
+// left.
+fn judge_units<'a>(
+    alloc: Global,
+    row: &SupplierRow,
+    despatch: &'a Despatch,
+    orders: &OrderNumbers<'a>,
+    used: &[bool],
+    book: Book,
+    changes: Items<Change>,
+) -> Result<Verdict, MemoryFault>
+    requires { length used.now ≡ length despatch.now.units }
+    ensures { IfOk result (λ verdict. verdict ≡ joined changes (units_from (supplier_in row.now) despatch.now.number orders.now despatch.now.units used.now book)) }
+{
+    let mut book = book;
+    let mut changes = changes;
+    let number = despatch.number.as_slice();
+    for (index, unit) in despatch.units.as_slice().iter().enumerate() {
+        let is_used = used[index];
+        if let Some(code) = unit_fault(row, &unit.sscc, is_used) {
+            return Ok(Verdict::Refuse(code));
+        }
+        let pallet = announced_pallet(alloc, row, number, unit.sscc)?;
+        changes.push(pallet)?;
+        if let Some(code) = load(alloc, unit, orders, &mut book, &mut changes)? {
+            return Ok(Verdict::Refuse(code));
+        }
+    }
+    Ok(Verdict::Accept(changes))
+}
+
+/// What comes of a DESADV: B01, B02, B03 and B13 are asked in this order; then of each unit B11 and B12, and of each of its
+/// lines B05, B06, B09 and B10, on what the earlier lines left. Asks that it is known of each unit whether its SSCC is used, that
+/// the lines that are known rise by order number and line number, and that no SSCC stands in two units.
+pub fn judge_despatch(
+    alloc: Global,
+    retailer: &Gln,
+    supplier: Option<&SupplierRow>,
+    known: Known,
+    delivery: Delivery,
+    despatch: &Despatch,
+) -> Result<Verdict, MemoryFault>
+    requires told { length known.used ≡ length despatch.now.units }
+    requires rise { Rise known.lines }
+    requires apart { has_twice (map (λ unit. unit.sscc) despatch.now.units) ≡ false }
+    ensures { IfOk result (λ verdict. (used : List ℕ → Bool) (state : Tables) → TellsForDespatch known used delivery despatch.now state → verdict ≡ rules.judge_despatch retailer.now (supplier_of supplier.entry) used delivery despatch.now state) }
+{
+    let Known {
+        remembered,
+        orders,
+        lines,
+        number_known,
+        used,
+        ..
+    } = known;
+    let row = match admitted(retailer, supplier, despatch.buyer, &despatch.supplier) {
+        Ok(row) => row,
+        Err(code) => return Ok(Verdict::Refuse(code)),
+    };
+    if let Some(verdict) = repeats(alloc, &remembered, delivery.content.as_slice()) {
+        return Ok(verdict);
+    }
+    if number_known {
+        return Ok(Verdict::Refuse(Code::AdviceKnown));
+    }
+    let orders = orders.as_slice();
+    let numbers = OrderNumbers::new(alloc, orders)?;
+    let book = Book::new(alloc, lines)?;
+    let advice = AdviceRow {
+        supplier: row.gln,
+        number: copied(alloc, despatch.number.as_slice())?,
+    };
+    let mut changes = Items::new(alloc);
+    changes.push(remember(row.gln, Side::Supplier, delivery))?;
+    changes.push(Change::AddAdvice(advice))?;
+    let used = used.as_slice();
+    let verdict = judge_units(alloc, row, despatch, &numbers, used, book, changes)?;
+    Ok(verdict)
+}

@@ -1,0 +1,30 @@
+//! The judges of the hub: by its rules, what comes of a message or a cancellation, from what is known of its supplier's rows.
+#![tactic(auto)]
+
+mod answers;
+mod cancel;
+mod despatch;
+mod known;
+mod mail;
+mod order;
+mod party;
+mod receipt;
+mod remembering;
+mod response;
+mod totals;
+
+pub use cancel::judge_cancel;
+pub use despatch::judge_despatch;
+pub use hub_lines::LineFacts;
+pub use hub_rules::{Cancel, Code, Delivery, Verdict};
+pub use hub_tables::{
+    AdviceRow, Answered, Arrival, Case, Change, Column, ContentRow, LineRow, MailKind, MailRow,
+    OrderRow, PalletRow, ReceiptRow, RememberedRow, Side,
+};
+pub use known::Known;
+pub use order::judge_order;
+pub use receipt::judge_receipt;
+pub use response::judge_response;
+
+#[cfg(test)]
+mod tests;

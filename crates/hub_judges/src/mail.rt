@@ -1,0 +1,37 @@
+//! Mailbox entries (B16).
+ghost use Rattle.std.specs.Prelude.{◌≡◌, ◌+◌, ◌<◌, IfOk};
+ghost use Rattle.hub_rules.specs.MailboxRules.{mail_entry};
+
+use edi_base::{Items, MemoryFault, copied};
+use gs1_ids::Gln;
+use hub_rules::Delivery;
+use hub_tables::{Change, Column, MailKind, MailRow};
+use std::alloc::Global;
+
+/// The greatest number of an entry.
+pub(crate) const MAIL_LIMIT: u64 = 99_999_999_999_999;
+
+/// The next entry of a mailbox that has so many.
+pub(crate) fn new_mail(
+    alloc: Global,
+    supplier: Gln,
+    mails: u64,
+    delivery: &Delivery,
+    kind: MailKind,
+    document: &[u8],
+    body: Items<u8>,
+) -> Result<Change, MemoryFault>
+    requires { mails < 99_999_999_999_999 }
+    ensures { IfOk result (λ change. change ≡ mail_entry supplier (mails + 1) delivery.now kind document.now body) }
+{
+    Ok(Change::AddMail(MailRow {
+        supplier,
+        number: mails + 1,
+        moment: delivery.moment,
+        decimal: delivery.decimal,
+        kind: Column::of(kind),
+        document: copied(alloc, document)?,
+        body,
+        taken: Column::of(false),
+    }))
+}

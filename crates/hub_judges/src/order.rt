@@ -1,0 +1,89 @@
+//! The rules of ORDERS.
+ghost use Rattle.std.specs.Prelude.{◌≡◌, ◌++◌, ◌∷◌, [], map, IfOk};
+ghost use Rattle.hub_tables.specs.Tables.{Tables};
+ghost use Rattle.hub_rules.specs.OrderRules.{new_line};
+ghost use Rattle.hub_rules.specs.Rules as rules;
+ghost use Rattle.hub_judges.specs.Known.{TellsForOrder};
+ghost use Rattle.hub_judges.specs.Party.{supplier_of};
+
+use crate::known::Known;
+use crate::mail::{MAIL_LIMIT, new_mail};
+use crate::party::admitted;
+use crate::remembering::{remember, repeats};
+use edi_base::{Items, MemoryFault, copied};
+use edi_orders::Order;
+use gs1_ids::Gln;
+use hub_register::SupplierRow;
+use hub_rules::{Code, Delivery, Verdict};
+use hub_tables::{Answered, Change, Column, LineRow, MailKind, OrderRow, Side};
+use std::alloc::Global;
+
+// Puts the lines of a new order behind the changes.
+fn add_lines(
+    alloc: Global,
+    supplier: Gln,
+    order: &Order,
+    changes: &mut Items<Change>,
+) -> Result<(), MemoryFault>
+    ensures { IfOk result (λ _. changes.new ≡ changes.old ++ map (new_line supplier order.now.number) order.now.lines) }
+{
+    for line in order.lines.as_slice() {
+        changes.push(Change::AddLine(LineRow {
+            supplier,
+            number: copied(alloc, order.number.as_slice())?,
+            line: line.line,
+            gtin: line.gtin,
+            ordered: line.quantity,
+            open_qty: line.quantity,
+            refused: 0,
+            cancelled: 0,
+            answer: Column::of(Answered::Waiting),
+        }))?;
+    }
+    Ok(())
+}
+
+/// What comes of an ORDERS: B01, B02, B03, B04 and B16 are asked in this order.
+pub fn judge_order(
+    alloc: Global,
+    retailer: &Gln,
+    supplier: Option<&SupplierRow>,
+    known: &Known,
+    delivery: Delivery,
+    body: Items<u8>,
+    order: &Order,
+) -> Result<Verdict, MemoryFault>
+    ensures { IfOk result (λ verdict. (state : Tables) → TellsForOrder known.now delivery order.now state → verdict ≡ rules.judge_order retailer.now (supplier_of supplier.entry) delivery body order.now state) }
+{
+    let row = match admitted(retailer, supplier, Some(order.buyer), &order.supplier) {
+        Ok(row) => row,
+        Err(code) => return Ok(Verdict::Refuse(code)),
+    };
+    if let Some(verdict) = repeats(alloc, &known.remembered, delivery.content.as_slice()) {
+        return Ok(verdict);
+    }
+    if known.number_known {
+        return Ok(Verdict::Refuse(Code::OrderKnown));
+    }
+    if known.mails >= MAIL_LIMIT {
+        return Ok(Verdict::Refuse(Code::MailboxFull));
+    }
+    let mail = new_mail(
+        alloc,
+        row.gln,
+        known.mails,
+        &delivery,
+        MailKind::Orders,
+        order.number.as_slice(),
+        body,
+    )?;
+    let mut changes = Items::new(alloc);
+    changes.push(remember(row.gln, Side::Retailer, delivery))?;
+    changes.push(mail)?;
+    changes.push(Change::AddOrder(OrderRow {
+        supplier: row.gln,
+        number: copied(alloc, order.number.as_slice())?,
+    }))?;
+    add_lines(alloc, row.gln, order, &mut changes)?;
+    Ok(Verdict::Accept(changes))
+}

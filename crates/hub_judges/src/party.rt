@@ -1,0 +1,51 @@
+//! The parties of a message (B01, B02).
+ghost use Rattle.std.specs.Prelude.{◌≡◌, IfOk, IfErr};
+ghost use Rattle.hub_rules.specs.Judging.{refuse_if};
+ghost use Rattle.hub_rules.specs.PartyRules.{is_other_buyer, registered};
+ghost use Rattle.hub_rules.specs.Suppliers.{Supplier};
+ghost use Rattle.hub_rules.specs.declared.code.Code.TheVariants.{Buyer};
+ghost use Rattle.hub_rules.specs.declared.verdict.Verdict.{Verdict};
+ghost use Rattle.hub_rules.specs.declared.verdict.Verdict.TheVariants.{Refuse};
+ghost use Rattle.hub_judges.specs.Party.{supplier_in, supplier_of};
+
+use gs1_ids::Gln;
+use hub_register::SupplierRow;
+use hub_rules::Code;
+
+/// The supplier that is registered and named.
+pub(crate) fn registered_supplier<'a>(
+    supplier: Option<&'a SupplierRow>,
+    named: &Gln,
+) -> Result<&'a SupplierRow, Code>
+    ensures ok { IfOk result (λ row. (rest : Supplier → Verdict) → registered (supplier_of supplier.entry) named.now rest ≡ rest (supplier_in row.now)) }
+    ensures err { IfErr result (λ code. (rest : Supplier → Verdict) → registered (supplier_of supplier.entry) named.now rest ≡ Refuse code) }
+{
+    match supplier {
+        Some(row) => {
+            if row.gln == *named {
+                Ok(row)
+            } else {
+                Err(Code::Supplier)
+            }
+        }
+        None => Err(Code::Supplier),
+    }
+}
+
+/// The supplier of a message, where no other buyer than the retailer is named and the supplier is registered and named.
+pub(crate) fn admitted<'a>(
+    retailer: &Gln,
+    supplier: Option<&'a SupplierRow>,
+    buyer: Option<Gln>,
+    named: &Gln,
+) -> Result<&'a SupplierRow, Code>
+    ensures ok { IfOk result (λ row. (rest : Supplier → Verdict) → refuse_if (is_other_buyer retailer.now buyer) Buyer (registered (supplier_of supplier.entry) named.now rest) ≡ rest (supplier_in row.now)) }
+    ensures err { IfErr result (λ code. (rest : Supplier → Verdict) → refuse_if (is_other_buyer retailer.now buyer) Buyer (registered (supplier_of supplier.entry) named.now rest) ≡ Refuse code) }
+{
+    if let Some(buyer) = buyer
+        && buyer != *retailer
+    {
+        return Err(Code::Buyer);
+    }
+    registered_supplier(supplier, named)
+}

@@ -1,0 +1,137 @@
+//! The rules of RECADV.
+ghost use Rattle.std.specs.Prelude.{◌≡◌, ◌++◌, true, false, length, map, IfOk};
+ghost use Rattle.std.specs.List.{list_all};
+ghost use Rattle.edi_base.specs.Seen.{has_twice};
+ghost use Rattle.edi_goods.specs.Receipt.{has_sums};
+ghost use Rattle.hub_tables.specs.Tables.{Tables};
+ghost use Rattle.hub_rules.specs.Judging.{joined};
+ghost use Rattle.hub_rules.specs.ReceiptRules.{items, new_receipt};
+ghost use Rattle.hub_rules.specs.Rules as rules;
+ghost use Rattle.hub_judges.specs.FromFacts.{received, receipts_from};
+ghost use Rattle.hub_judges.specs.Known.{TellsForReceipt};
+ghost use Rattle.hub_judges.specs.Party.{supplier_of};
+
+use crate::known::Known;
+use crate::mail::{MAIL_LIMIT, new_mail};
+use crate::party::admitted;
+use crate::remembering::{remember, repeats};
+use crate::totals::totals_of;
+use edi_base::{Items, MemoryFault, copied};
+use edi_goods::{Receipt, ReceiptUnit};
+use gs1_ids::Gln;
+use hub_register::SupplierRow;
+use hub_rules::{Code, Delivery, Verdict};
+use hub_tables::{Arrival, Change, Column, MailKind, PalletRow, ReceiptRow, Side};
+use std::alloc::Global;
+
+// Puts what is received of the items of a unit behind the changes, each item once, in the order in which they first come.
+fn add_receipts(
+    alloc: Global,
+    unit: &ReceiptUnit,
+    changes: &mut Items<Change>,
+) -> Result<(), MemoryFault>
+    requires { has_sums unit.now.lines ≡ true }
+    ensures { IfOk result (λ _. changes.new ≡ changes.old ++ map (new_receipt unit.now.sscc unit.now.lines) (items unit.now.lines)) }
+{
+    let lines = unit.lines.as_slice();
+    let mut totals = totals_of(alloc, lines)?;
+    for line in lines {
+        if let Some(total) = totals.remove(&line.gtin) {
+            changes.push(Change::AddReceipt(ReceiptRow {
+                sscc: unit.sscc,
+                gtin: line.gtin,
+                accepted: total.accepted,
+                returned: total.returned,
+                destroyed: total.destroyed,
+            }))?;
+        }
+    }
+    Ok(())
+}
+
+// Puts what comes of a unit on a pallet behind the changes.
+fn receive(
+    alloc: Global,
+    pallet: &PalletRow,
+    unit: &ReceiptUnit,
+    changes: &mut Items<Change>,
+) -> Result<(), MemoryFault>
+    requires { has_sums unit.now.lines ≡ true }
+    ensures { IfOk result (λ _. changes.new ≡ changes.old ++ received pallet.now unit.now) }
+{
+    changes.push(Change::SetPallet(PalletRow {
+        sscc: pallet.sscc,
+        supplier: pallet.supplier,
+        advice: copied(alloc, pallet.advice.as_slice())?,
+        received: Column::of(Arrival::Received),
+    }))?;
+    add_receipts(alloc, unit, changes)
+}
+
+// What comes of the units behind these changes: of each B14 and B15 are asked.
+fn judge_units(
+    alloc: Global,
+    units: &[ReceiptUnit],
+    pallets: &[Option<PalletRow>],
+    mut changes: Items<Change>,
+) -> Result<Verdict, MemoryFault>
+    requires told { length pallets.now ≡ length units.now }
+    requires sums { list_all (λ unit. has_sums unit.lines) units.now ≡ true }
+    ensures { IfOk result (λ verdict. verdict ≡ joined changes (receipts_from units.now pallets.now)) }
+{
+    for (place, unit) in units.iter().enumerate() {
+        let Some(pallet) = &pallets[place] else {
+            return Ok(Verdict::Refuse(Code::NoPallet));
+        };
+        match pallet.received.case() {
+            Arrival::Announced => receive(alloc, pallet, unit, &mut changes)?,
+            Arrival::Received => return Ok(Verdict::Refuse(Code::PalletReceived)),
+        }
+    }
+    Ok(Verdict::Accept(changes))
+}
+
+/// What comes of a RECADV: B01, B02, B03 and B16 are asked in this order, and then of each unit B14 and B15. Asks that the pallet
+/// of each unit is known, or that there is none; and that no SSCC stands in two units, and no sum of an item in a unit is past its
+/// limit, as `Receipt::read` promises.
+pub fn judge_receipt(
+    alloc: Global,
+    retailer: &Gln,
+    supplier: Option<&SupplierRow>,
+    known: &Known,
+    delivery: Delivery,
+    body: Items<u8>,
+    receipt: &Receipt,
+) -> Result<Verdict, MemoryFault>
+    requires told { length known.now.pallets ≡ length receipt.now.units }
+    requires apart { has_twice (map (λ unit. unit.sscc) receipt.now.units) ≡ false }
+    requires sums { list_all (λ unit. has_sums unit.lines) receipt.now.units ≡ true }
+    ensures { IfOk result (λ verdict. (state : Tables) → TellsForReceipt known.now delivery receipt.now state → verdict ≡ rules.judge_receipt retailer.now (supplier_of supplier.entry) delivery body receipt.now state) }
+{
+    let row = match admitted(retailer, supplier, receipt.buyer, &receipt.supplier) {
+        Ok(row) => row,
+        Err(code) => return Ok(Verdict::Refuse(code)),
+    };
+    if let Some(verdict) = repeats(alloc, &known.remembered, delivery.content.as_slice()) {
+        return Ok(verdict);
+    }
+    if known.mails >= MAIL_LIMIT {
+        return Ok(Verdict::Refuse(Code::MailboxFull));
+    }
+    let number = receipt.number.as_slice();
+    let mail = new_mail(
+        alloc,
+        row.gln,
+        known.mails,
+        &delivery,
+        MailKind::Receipt,
+        number,
+        body,
+    )?;
+    let mut changes = Items::new(alloc);
+    changes.push(remember(row.gln, Side::Retailer, delivery))?;
+    changes.push(mail)?;
+    let units = receipt.units.as_slice();
+    let pallets = known.pallets.as_slice();
+    judge_units(alloc, units, pallets, changes)
+}

@@ -1,0 +1,47 @@
+//! Remembering (B03).
+ghost use Rattle.std.specs.Prelude.{◌≡◌, List, Option, option_map};
+ghost use Rattle.std.specs.Option.{IfSome, IfNone};
+ghost use Rattle.hub_tables.specs.declared.change.Change.TheVariants.{Remember};
+ghost use Rattle.hub_tables.specs.declared.rows.RememberedRow.{RememberedRow};
+ghost use Rattle.hub_rules.specs.RepeatRules.{once, remembered};
+ghost use Rattle.hub_rules.specs.declared.verdict.Verdict.{Verdict};
+
+use edi_base::Items;
+use gs1_ids::Gln;
+use hub_rules::{Code, Delivery, Verdict};
+use hub_tables::{Change, Column, RememberedRow, Side};
+use std::alloc::Global;
+
+/// The verdict on what comes once more, or other content under the same references; none on what is new.
+pub(crate) fn repeats(
+    alloc: Global,
+    remembered: &Option<Items<u8>>,
+    content: &[u8],
+) -> Option<Verdict>
+    ensures some { IfSome result (λ verdict. (row : Option RememberedRow) (fresh : Verdict) → option_map (λ row. row.content) row ≡ remembered.now → once row content.now fresh ≡ verdict) }
+    ensures none { IfNone result ((row : Option RememberedRow) (fresh : Verdict) → option_map (λ row. row.content) row ≡ remembered.now → once row content.now fresh ≡ fresh) }
+{
+    match remembered {
+        Some(there) => {
+            if there.as_slice() == content {
+                Some(Verdict::Accept(Items::new(alloc)))
+            } else {
+                Some(Verdict::Refuse(Code::OtherContent))
+            }
+        }
+        None => None,
+    }
+}
+
+/// Remembers a message.
+pub(crate) fn remember(supplier: Gln, side: Side, delivery: Delivery) -> Change
+    ensures { result ≡ Remember (remembered (record { supplier = supplier; side = side; control = delivery.control; message = delivery.message }) delivery.content) }
+{
+    Change::Remember(RememberedRow {
+        supplier,
+        side: Column::of(side),
+        control: delivery.control,
+        message: delivery.message,
+        content: delivery.content,
+    })
+}

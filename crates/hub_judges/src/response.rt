@@ -1,0 +1,110 @@
+//! The rules of ORDRSP.
+ghost use Rattle.std.specs.Prelude.{◌≡◌, ℕ, false, IfOk};
+ghost use Rattle.std.specs.List.{AllByRecursion};
+ghost use Rattle.hub_tables.specs.Tables.{Tables};
+ghost use Rattle.hub_tables.specs.declared.rows.LineRow.{LineRow};
+ghost use Rattle.hub_lines.specs.Book.{Rise, IsCovered};
+ghost use Rattle.hub_rules.specs.Judging.{joined};
+ghost use Rattle.hub_rules.specs.ResponseRules.{is_out_of_range};
+ghost use Rattle.hub_rules.specs.Rules as rules;
+ghost use Rattle.hub_judges.specs.FromFacts.{all_from, response_from};
+ghost use Rattle.hub_judges.specs.Known.{TellsForResponse};
+ghost use Rattle.hub_judges.specs.Party.{supplier_of};
+
+use crate::answers::{answer_all, answer_lines, any_waits};
+use crate::known::Known;
+use crate::party::admitted;
+use crate::remembering::{remember, repeats};
+use edi_base::{Items, MemoryFault};
+use edi_orders::{Answer, LineAnswer, Response};
+use gs1_ids::Gln;
+use hub_lines::{Book, LineFacts, is_known};
+use hub_register::SupplierRow;
+use hub_rules::{Code, Delivery, Verdict};
+use hub_tables::{Change, Side};
+use std::alloc::Global;
+
+// The same answer to every line of an order that waits, behind the changes; B07 where none does.
+fn respond_to_all(
+    alloc: Global,
+    lines: &[LineFacts],
+    order: &[u8],
+    answer: LineAnswer,
+    changes: Items<Change>,
+) -> Result<Verdict, MemoryFault>
+    requires covered { AllByRecursion IsCovered lines.now }
+    requires range { (sent : ℕ) (row : LineRow) → is_out_of_range answer sent row ≡ false }
+    ensures { IfOk result (λ verdict. verdict ≡ joined changes (all_from answer order.now lines.now)) }
+{
+    if !any_waits(lines, order) {
+        return Ok(Verdict::Refuse(Code::NotWaiting));
+    }
+    let mut changes = changes;
+    answer_all(alloc, lines, order, answer, &mut changes)?;
+    Ok(Verdict::Accept(changes))
+}
+
+// What an answer changes of what is known, behind the changes; or the first of B05 to B09 that it is against.
+fn respond(
+    alloc: Global,
+    known: Known,
+    response: &Response,
+    changes: Items<Change>,
+) -> Result<Verdict, MemoryFault>
+    requires rise { Rise known.lines }
+    requires covered { AllByRecursion IsCovered known.lines }
+    ensures { IfOk result (λ verdict. verdict ≡ joined changes (response_from response.now known)) }
+{
+    let order = response.order.as_slice();
+    if !is_known(known.orders.as_slice(), order) {
+        return Ok(Verdict::Refuse(Code::NoOrder));
+    }
+    match &response.answer {
+        Answer::AllAccepted => respond_to_all(
+            alloc,
+            known.lines.as_slice(),
+            order,
+            LineAnswer::Accepted,
+            changes,
+        ),
+        Answer::AllRefused => respond_to_all(
+            alloc,
+            known.lines.as_slice(),
+            order,
+            LineAnswer::Refused,
+            changes,
+        ),
+        Answer::Lines(said) => {
+            let book = Book::new(alloc, known.lines)?;
+            answer_lines(alloc, book, order, said.as_slice(), changes)
+        }
+    }
+}
+
+/// What comes of an ORDRSP: B01, B02, B03 and B05 are asked in this order; then for 27 and 29 B07, and else of each line B06,
+/// B07, B08 and B09, on what the earlier lines left. Asks that the lines that are known rise by order number and line
+/// number, and that of each no more is open, refused and cancelled than is ordered.
+pub fn judge_response(
+    alloc: Global,
+    retailer: &Gln,
+    supplier: Option<&SupplierRow>,
+    known: Known,
+    delivery: Delivery,
+    response: &Response,
+) -> Result<Verdict, MemoryFault>
+    requires rise { Rise known.lines }
+    requires covered { AllByRecursion IsCovered known.lines }
+    ensures { IfOk result (λ verdict. (state : Tables) → TellsForResponse known delivery response.now state → verdict ≡ rules.judge_response retailer.now (supplier_of supplier.entry) delivery response.now state) }
+{
+    let row = match admitted(retailer, supplier, Some(response.buyer), &response.supplier) {
+        Ok(row) => row,
+        Err(code) => return Ok(Verdict::Refuse(code)),
+    };
+    if let Some(verdict) = repeats(alloc, &known.remembered, delivery.content.as_slice()) {
+        return Ok(verdict);
+    }
+    let mut changes = Items::new(alloc);
+    changes.push(remember(row.gln, Side::Supplier, delivery))?;
+    let verdict = respond(alloc, known, response, changes)?;
+    Ok(verdict)
+}

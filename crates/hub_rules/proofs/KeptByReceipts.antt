@@ -1,0 +1,127 @@
+-- What receipts leave of a supplier's rows.
+use Rattle.std.proofs.Common.{◌≡◌, ℕ, nat_lt, Bool, true, false, cond, not, ◌||◌, inl, inr, List, [], ◌∷◌, map, filter, Some, refl, sym, ◌∙◌, ap, ap₂, arith}
+use Rattle.std.specs.List.{AllByRecursion, list_any}
+use Rattle.std.proofs.lemmas.Bool.{or_parts, or_from}
+use Rattle.edi_base.proofs.Twice.{bytes_eq-sym}
+use Rattle.edi_goods.specs.declared.receipt.Receipt.{Receipt}
+use Rattle.edi_goods.specs.declared.receipt.ReceiptLine.{ReceiptLine}
+use Rattle.edi_goods.specs.declared.receipt.ReceiptUnit.{ReceiptUnit}
+use Rattle.hub_tables.specs.Cases.{arrival_number}
+use Rattle.hub_tables.specs.Change.{apply}
+use Rattle.hub_tables.specs.Rows.{same, receipt_cmp}
+use Rattle.hub_tables.specs.State.{pallet_of, next_mail}
+use Rattle.hub_tables.specs.Tables.{Tables, has_pallet}
+use Rattle.hub_tables.specs.declared.cases.Arrival.TheVariants.{Received}
+use Rattle.hub_tables.specs.declared.cases.MailKind.TheVariants as kinds
+use Rattle.hub_tables.specs.declared.cases.Side.TheVariants as sides
+use Rattle.hub_tables.specs.declared.change.Change.{Change}
+use Rattle.hub_tables.specs.declared.change.Change.TheVariants.{SetPallet, AddReceipt}
+use Rattle.hub_tables.specs.declared.rows.PalletRow.{PalletRow}
+use Rattle.hub_tables.specs.declared.rows.ReceiptRow.{ReceiptRow}
+use Rattle.hub_tables.proofs.KeyOrder.{any_put, filter_put_in}
+use Rattle.hub_tables.proofs.KindOrders.{receipt_total}
+use Rattle.hub_tables.proofs.Lists.{decide, same_is, same_if, differ, all_weaker, all_always, all_found, any_if_found, filter_none}
+use Rattle.hub_rules.specs.Judging.{in_order}
+use Rattle.hub_rules.specs.Sound.{Single, was_received}
+use Rattle.hub_rules.specs.MailboxRules.{mail_limit, new_mail}
+use Rattle.hub_rules.specs.ReceiptRules.{items, total, new_receipt, judge_received, judge_new_receipt}
+use Rattle.hub_rules.specs.Rules.{judge_receipt}
+use Rattle.hub_rules.specs.Suppliers.{Supplier}
+use Rattle.hub_rules.specs.declared.code.Code.TheVariants as codes
+use Rattle.hub_rules.specs.declared.delivery.Delivery.{Delivery}
+use Rattle.hub_rules.proofs.GoodRows.{Good, good_after, leaves_good}
+use Rattle.hub_rules.proofs.Keeping.{kept_received, kept_receipt, kept_mail}
+use Rattle.hub_rules.proofs.KeptByMessages.{leads_message}
+use Rattle.hub_rules.proofs.KeptLists.{is_received, received_now, found_unreceived}
+use Rattle.hub_rules.proofs.Owned.{pallet_stays}
+use Rattle.hub_rules.proofs.Verdicts.{not_refused, was_given, Leaves, Leads, leaves_given, leaves_nothing, leaves_next, leads_in_order, leaves_in_turn}
+
+-- what does not come in a list does not come in a part of it
+any_less : {X : Type 0} (q p : X → Bool) (xs : List X) → list_any q xs ≡ false → list_any q (filter p xs) ≡ false
+any_less q p [] h = refl
+any_less q p (x ∷ xs) h =
+    let parts = or_parts (q x) (list_any q xs) h in
+    elim (p x) as (λ v. list_any q (cond v (x ∷ filter p xs) (filter p xs)) ≡ false) [
+      | true ↦ or_from (q x) (list_any q (filter p xs)) parts.0 (any_less q p xs parts.1)
+      | false ↦ any_less q p xs parts.1
+    ]
+
+single_filter : {X : Type 0} (alike : X → X → Bool) (p : X → Bool) (xs : List X) → Single alike xs → Single alike (filter p xs)
+single_filter alike p [] a = tt
+single_filter alike p (x ∷ xs) a = elim (p x) as (λ v. Single alike (cond v (x ∷ filter p xs) (filter p xs))) [ true ↦ (any_less (alike x) p xs a.0, single_filter alike p xs a.1) | false ↦ single_filter alike p xs a.1 ]
+
+gone : (gtin : List ℕ) (gtins : List (List ℕ)) → list_any (same gtin) (filter (λ other. not (same other gtin)) gtins) ≡ false
+gone gtin [] = refl
+gone gtin (other ∷ others) =
+    let ih = gone gtin others in
+    let turn = bytes_eq-sym gtin other in
+    elim (decide (same other gtin)) [ inl e ↦ grind (arith, e, ih) | inr e ↦ grind (arith, e, turn, ih) ]
+
+-- each item comes once
+items_single : (lines : List ReceiptLine) → Single same (items lines)
+items_single [] = tt
+items_single (line ∷ lines) = (gone line.gtin (items lines), single_filter same (λ gtin. not (same gtin line.gtin)) (items lines) (items_single lines))
+
+abbrev receipt_of : List ℕ → List ReceiptLine → List ℕ → ReceiptRow
+receipt_of sscc lines gtin = record {
+  sscc = sscc;
+  gtin = gtin;
+  accepted = total (λ line. line.accepted) gtin lines;
+  returned = total (λ line. line.returned) gtin lines;
+  destroyed = total (λ line. line.destroyed) gtin lines;
+}
+
+-- no receipt on the pallet has the item
+abbrev Lacks : List ℕ → Tables → List ℕ → Type 0
+Lacks sscc state gtin = list_any (λ y. same y.gtin gtin) (filter (λ y. same y.sscc sscc) state.receipts) ≡ false
+
+module _ (s : Supplier) where
+  still_lacking : (sscc : List ℕ) (lines : List ReceiptLine) (gtin : List ℕ) (state : Tables) → Good s state → (others : List (List ℕ)) → list_any (same gtin) others ≡ false → AllByRecursion (Lacks sscc state) others → AllByRecursion (Lacks sscc (apply (AddReceipt (receipt_of sscc lines gtin)) state)) others
+  still_lacking sscc lines gtin state good [] apart lacking = tt
+  still_lacking sscc lines gtin state good (other ∷ others) apart lacking =
+      let parts = or_parts (same gtin other) (list_any (same gtin) others) apart in (
+        ap (list_any (λ y. same y.gtin other)) (filter_put_in receipt_total (λ y. same y.sscc sscc) state.receipts (receipt_of sscc lines gtin) good.own.ordered.receipts (same_if sscc sscc refl))
+            ∙ any_put receipt_cmp (λ y. same y.gtin other) (filter (λ y. same y.sscc sscc) state.receipts) (receipt_of sscc lines gtin)
+            ∙ ap₂ (λ v w. v || (w || false)) lacking.0 parts.0,
+        still_lacking sscc lines gtin state good others parts.1 lacking.1,
+      )
+
+  -- receipts of items that are all different, on a received pallet that has none of them
+  leaves_receipts : (sscc : List ℕ) (lines : List ReceiptLine) (gtins : List (List ℕ)) (state : Tables) → Good s state → has_pallet state sscc ≡ true → was_received state sscc ≡ true → Single same gtins → AllByRecursion (Lacks sscc state) gtins →
+      Leaves s (Good s) state (map (new_receipt sscc lines) gtins)
+  leaves_receipts sscc lines [] state good there received single lacking = leaves_nothing s (Good s) state good
+  leaves_receipts sscc lines (gtin ∷ gtins) state good there received single lacking =
+      let row = receipt_of sscc lines gtin in
+      leaves_next s (Good s) state (AddReceipt row) (map (new_receipt sscc lines) gtins) there
+      (leaves_receipts sscc lines gtins (apply (AddReceipt row) state) (good_after s state (AddReceipt row) there good.own (kept_receipt state good.kept row good.own.ordered.receipts received lacking.0)) there received single.1 (still_lacking sscc lines gtin state good gtins single.0 lacking.1))
+
+  leads_received : (unit : ReceiptUnit) → Leads s (Good s) (Good s) (judge_received unit)
+  leads_received unit state changes good h =
+      let p = was_given (pallet_of state unit.sscc) codes.NoPallet _ changes h in
+      let a = not_refused (is_received p.0) codes.PalletReceived _ changes p.2 in
+      let found = all_found (λ p. p.supplier ≡ s.gln) (λ p. same p.sscc unit.sscc) state.pallets p.0 good.own.pallets p.1 in
+      let which : p.0.sscc ≡ unit.sscc = same_is p.0.sscc unit.sscc found.1 in
+      let there : has_pallet state unit.sscc ≡ true = any_if_found (λ p. same p.sscc unit.sscc) state.pallets p.0 p.1 in
+      let here : has_pallet state p.0.sscc ≡ true = ap (has_pallet state) which ∙ there in
+      let row : PalletRow = record p.0 { received = arrival_number Received } in
+      let after : Tables = apply (SetPallet row) state in
+      let received : was_received after unit.sscc ≡ true = ap (was_received after) (sym which) ∙ received_now row state.pallets refl here in
+      let not_yet = found_unreceived unit.sscc state.pallets p.0 good.kept.pallets p.1 a.0 in
+      let none : filter (λ y. same y.sscc unit.sscc) state.receipts ≡ [] =
+      filter_none (λ y. same y.sscc unit.sscc) state.receipts (all_weaker (λ r. was_received state r.sscc ≡ true) (λ r. same r.sscc unit.sscc ≡ false) (λ r was. differ r.sscc unit.sscc (λ e. let both = ap (was_received state) e in (cc))) state.receipts good.kept.receipt_pallets) in
+      let lacking : AllByRecursion (Lacks unit.sscc after) (items unit.lines) = all_always (Lacks unit.sscc after) (λ gtin. ap (list_any (λ (y : ReceiptRow). same y.gtin gtin)) none) (items unit.lines) in
+      let belongs : (row.supplier ≡ s.gln) × (has_pallet state row.sscc ≡ true) = (found.0, here) in
+      leaves_given s (Good s) state (SetPallet row ∷ map (new_receipt unit.sscc unit.lines) (items unit.lines)) changes a.1
+      (leaves_next s (Good s) state (SetPallet row) (map (new_receipt unit.sscc unit.lines) (items unit.lines)) belongs
+      (leaves_receipts unit.sscc unit.lines (items unit.lines) after (good_after s state (SetPallet row) belongs good.own (kept_received state good.kept row refl)) (pallet_stays unit.sscc state (SetPallet row) there) received (items_single unit.lines) lacking))
+
+  leads_new_receipt : (delivery : Delivery) (body : List ℕ) (receipt : Receipt) → Leads s (Good s) (Good s) (judge_new_receipt s.gln delivery body receipt)
+  leads_new_receipt delivery body receipt state changes good h =
+      let a = not_refused (nat_lt mail_limit (next_mail state)) codes.MailboxFull _ changes h in
+      let mail : Change = new_mail s.gln state delivery kinds.Receipt receipt.number body in
+      leaves_in_turn s (Good s) (Good s) (mail ∷ []) (in_order judge_received receipt.units) state changes
+      (leaves_good s state mail refl good.own (kept_mail state good.kept s.gln _ good.own.mail refl refl))
+      (leads_in_order s (Good s) judge_received leads_received receipt.units) a.1
+
+  pub leads_receipt : (retailer : List ℕ) (delivery : Delivery) (body : List ℕ) (receipt : Receipt) → Leads s (Good s) (Good s) (judge_receipt retailer (Some s) delivery body receipt)
+  leads_receipt retailer delivery body receipt = leads_message s retailer sides.Retailer delivery receipt.buyer receipt.supplier (λ s. judge_new_receipt s.gln delivery body receipt) (leads_new_receipt delivery body receipt)

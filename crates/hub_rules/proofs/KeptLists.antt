@@ -1,0 +1,173 @@
+-- Lists of rows that are numbered, or in which no two are alike, with one more row or one in place of another.
+use Rattle.std.proofs.Common.{◌≡◌, ℕ, ◌+◌, ◌<◌, Bool, true, false, cond, not, ◌&&◌, ◌||◌, ◌==◌, inl, inr, List, [], ◌∷◌, ◌++◌, filter, find, Some, length, sum_by, refl, sym, ◌∙◌, ap, ap₂, subst, arith}
+use Rattle.std.specs.List.{AllByRecursion, list_any}
+use Rattle.std.specs.Ordering.{is_gt, ordering_then, nat_cmp}
+use Rattle.std.specs.declared.cmp.Ordering.{Ordering}
+use Rattle.std.specs.declared.cmp.Ordering.TheVariants.{Equal}
+use Rattle.std.proofs.lemmas.Bool.{and_parts, or_parts, or_cases, or_left, or_right}
+use Rattle.std.proofs.lemmas.Bool.Decides.{nat_tests}
+use Rattle.std.proofs.lemmas.Cmp.{tied_itself, nat_list_cmp_total}
+use Rattle.edi_base.proofs.Twice.{bytes_eq-sym}
+use Rattle.hub_tables.specs.Cases.{arrival_number}
+use Rattle.hub_tables.specs.Keys.{InOrder, put, replace, bytes_cmp}
+use Rattle.hub_tables.specs.Rows.{same, content_cmp, receipt_cmp, mail_cmp, same_pallet}
+use Rattle.hub_tables.specs.declared.cases.Arrival.TheVariants.{Announced}
+use Rattle.hub_tables.specs.declared.rows.ContentRow.{ContentRow}
+use Rattle.hub_tables.specs.declared.rows.MailRow.{MailRow}
+use Rattle.hub_tables.specs.declared.rows.PalletRow.{PalletRow}
+use Rattle.hub_tables.specs.declared.rows.ReceiptRow.{ReceiptRow}
+use Rattle.hub_tables.proofs.KeyOrder.{any_put, filter_put_in, filter_put_out, sum_put, put_last}
+use Rattle.hub_tables.proofs.KindOrders.{content_total, receipt_total}
+use Rattle.hub_tables.proofs.Lists.{decide, same_is, same_if, all_passes}
+use Rattle.hub_rules.specs.Sound.{Numbered, Placed, Single, same_gtin, same_sscc}
+
+-- A list with one more.
+module _ {X : Type 0} (cmp : X → X → Ordering) where
+  -- one that is like none of them
+  pub single_put : (alike : X → X → Bool) → ((x y : X) → alike x y ≡ alike y x) → (xs : List X) (x : X) → Single alike xs → list_any (λ y. alike y x) xs ≡ false → Single alike (put cmp x xs)
+  single_put alike turn [] x a h = (refl, tt)
+  single_put alike turn (y ∷ ys) x a h =
+      let parts = or_parts (alike y x) (list_any (λ y. alike y x) ys) h in
+      elim (is_gt (cmp y x)) as (λ v. Single alike (cond v (x ∷ y ∷ ys) (y ∷ put cmp x ys))) [
+        | true ↦ (turned (y ∷ ys) h, a)
+        | false ↦ (any_put cmp (alike y) ys x ∙ ap₂ (λ v w. v || (w || false)) a.0 parts.0, single_put alike turn ys x a.1 parts.1)
+      ]
+    where
+      turned : (zs : List X) → list_any (λ y. alike y x) zs ≡ false → list_any (alike x) zs ≡ false
+      turned [] g = refl
+      turned (z ∷ zs) g = let parts = or_parts (alike z x) (list_any (λ y. alike y x) zs) g in ap₂ (λ v w. v || w) (turn x z ∙ parts.0) (turned zs parts.1)
+
+-- a row with the same key is found alike
+pub any_replaced : {X : Type 0} (p at : X → Bool) (r : X) (xs : List X) → ((y : X) → at y ≡ true → p y ≡ p r) → list_any p (replace at r xs) ≡ list_any p xs
+any_replaced p at r [] f = refl
+any_replaced p at r (y ∷ ys) f =
+    let ih = any_replaced p at r ys f in
+    elim (decide (at y)) [
+      | inl e ↦ let alike : p y ≡ p r = f y e in grind (arith, e, alike, ih)
+      | inr e ↦ grind (arith, e, ih)
+    ]
+
+any_alike : {X : Type 0} (p q : X → Bool) (xs : List X) → ((x : X) → p x ≡ q x) → list_any p xs ≡ list_any q xs
+any_alike p q [] f = refl
+any_alike p q (x ∷ xs) f = ap₂ (λ v w. v || w) (f x) (any_alike p q xs f)
+
+pub single_replace : {X : Type 0} (alike : X → X → Bool) (at : X → Bool) (r : X) (xs : List X) → ((y z : X) → at y ≡ true → alike r z ≡ alike y z) → ((y z : X) → at y ≡ true → alike z y ≡ alike z r) → Single alike xs → Single alike (replace at r xs)
+single_replace alike at r [] left right a = tt
+single_replace alike at r (x ∷ xs) left right a = (
+  head ∙ any_replaced (alike x) at r xs (λ y e. right y x e) ∙ a.0,
+  single_replace alike at r xs left right a.1,
+)
+  where
+    head : list_any (alike (cond (at x) r x)) (replace at r xs) ≡ list_any (alike x) (replace at r xs)
+    head = elim (at x) as (λ v. at x ≡ v → list_any (alike (cond v r x)) (replace at r xs) ≡ list_any (alike x) (replace at r xs)) [ true ↦ λ e. any_alike (alike r) (alike x) (replace at r xs) (λ z. left x z e) | false ↦ λ e. refl ] refl
+
+-- a greater number after the same first part of a key
+after_number : (o : Ordering) (a b : ℕ) → o ≡ Equal → a < b → is_gt (ordering_then o (nat_cmp a b)) ≡ false
+after_number o a b e h = ap (λ v. is_gt (ordering_then v (nat_cmp a b))) e ∙ grind (arith, nat_tests)
+
+same_tied : (a b : List ℕ) → a ≡ b → bytes_cmp a b ≡ Equal
+same_tied a b e = ap (bytes_cmp a) (sym e) ∙ tied_itself nat_list_cmp_total a
+
+numbered_push : (n : ℕ) (ms : List MailRow) (m : MailRow) → Numbered n ms → m.number ≡ n + length ms + 1 → Numbered n (ms ++ m ∷ [])
+numbered_push n [] m a h = (omega arith, tt)
+numbered_push n (x ∷ xs) m a h = (a.0, numbered_push (n + 1) xs m a.1 (omega arith))
+
+mail_before : (s : List ℕ) (n : ℕ) (ms : List MailRow) (m : MailRow) → Numbered n ms → AllByRecursion (λ x. x.supplier ≡ s) ms → m.supplier ≡ s → m.number ≡ n + length ms + 1 → AllByRecursion (λ x. is_gt (mail_cmp x m) ≡ false) ms
+mail_before s n [] m a own whose h = tt
+mail_before s n (x ∷ xs) m a own whose h = (
+  after_number (bytes_cmp x.supplier m.supplier) x.number m.number (same_tied x.supplier m.supplier (own.0 ∙ sym whose)) (omega (arith, a.0, h)),
+  mail_before s (n + 1) xs m a.1 own.1 whose (omega arith),
+)
+
+-- the next number of a supplier stands last
+pub numbered_put : (s : List ℕ) (ms : List MailRow) (m : MailRow) → Numbered 0 ms → AllByRecursion (λ x. x.supplier ≡ s) ms → m.supplier ≡ s → m.number ≡ length ms + 1 → Numbered 0 (put mail_cmp m ms)
+numbered_put s ms m a own whose h = subst (Numbered 0) (sym (put_last mail_cmp ms m (mail_before s 0 ms m a own whose (omega arith)))) (numbered_push 0 ms m a (omega arith))
+
+placed_push : (n : ℕ) (cs : List ContentRow) (c : ContentRow) → Placed n cs → c.place ≡ n + length cs + 1 → Placed n (cs ++ c ∷ [])
+placed_push n [] c a h = (omega arith, tt)
+placed_push n (x ∷ xs) c a h = (a.0, placed_push (n + 1) xs c a.1 (omega arith))
+
+place_before : (sscc : List ℕ) (n : ℕ) (cs : List ContentRow) (c : ContentRow) → Placed n cs → AllByRecursion (λ d. same d.sscc sscc ≡ true) cs → c.sscc ≡ sscc → c.place ≡ n + length cs + 1 → AllByRecursion (λ d. is_gt (content_cmp d c) ≡ false) cs
+place_before sscc n [] c a all of h = tt
+place_before sscc n (x ∷ xs) c a all of h = (
+  after_number (bytes_cmp x.sscc c.sscc) x.place c.place (same_tied x.sscc c.sscc (same_is x.sscc sscc all.0 ∙ sym of)) (omega (arith, a.0, h)),
+  place_before sscc (n + 1) xs c a.1 all.1 of (omega arith),
+)
+
+-- the next place on a pallet stands last
+pub last_place : (sscc : List ℕ) (cs : List ContentRow) (c : ContentRow) → InOrder content_cmp cs → Placed 0 (filter (λ d. same d.sscc sscc) cs) → c.sscc ≡ sscc → c.place ≡ length (filter (λ d. same d.sscc sscc) cs) + 1 → filter (λ d. same d.sscc sscc) (put content_cmp c cs) ≡ filter (λ d. same d.sscc sscc) cs ++ c ∷ []
+last_place sscc cs c ordered placed of next =
+    filter_put_in content_total (λ d. same d.sscc sscc) cs c ordered (same_if c.sscc sscc of)
+    ∙ put_last content_cmp (filter (λ d. same d.sscc sscc) cs) c (place_before sscc 0 (filter (λ d. same d.sscc sscc) cs) c placed (all_passes (λ d. same d.sscc sscc) cs) of (omega arith))
+
+pub placed_put : (of sscc : List ℕ) (cs : List ContentRow) (c : ContentRow) → InOrder content_cmp cs → ((x : List ℕ) → Placed 0 (filter (λ d. same d.sscc x) cs)) → c.sscc ≡ of → c.place ≡ length (filter (λ d. same d.sscc of) cs) + 1 → Placed 0 (filter (λ d. same d.sscc sscc) (put content_cmp c cs))
+placed_put of sscc cs c ordered placed whose next =
+    elim (decide (same c.sscc sscc)) [
+      | inl e ↦
+          let here : of ≡ sscc = sym whose ∙ same_is c.sscc sscc e in
+          subst (λ x. Placed 0 (filter (λ d. same d.sscc x) (put content_cmp c cs))) here (subst (Placed 0) (sym (last_place of cs c ordered (placed of) whose next)) (placed_push 0 (filter (λ d. same d.sscc of) cs) c (placed of) (omega arith)))
+      | inr e ↦ subst (Placed 0) (sym (filter_put_out content_cmp (λ d. same d.sscc sscc) cs c e)) (placed sscc)
+    ]
+
+-- what the contents of one test amount to, with one more
+pub sent_more : (p : ContentRow → Bool) (cs : List ContentRow) (c : ContentRow) → InOrder content_cmp cs → p c ≡ true → sum_by (λ c. c.quantity) (filter p (put content_cmp c cs)) ≡ sum_by (λ c. c.quantity) (filter p cs) + c.quantity
+sent_more p cs c ordered h = ap (sum_by (λ c. c.quantity)) (filter_put_in content_total p cs c ordered h) ∙ sum_put content_cmp (λ c. c.quantity) (filter p cs) c
+
+pub sent_same : (p : ContentRow → Bool) (cs : List ContentRow) (c : ContentRow) → p c ≡ false → sum_by (λ c. c.quantity) (filter p (put content_cmp c cs)) ≡ sum_by (λ c. c.quantity) (filter p cs)
+sent_same p cs c h = ap (sum_by (λ c. c.quantity)) (filter_put_out content_cmp p cs c h)
+
+pub receipts_put : (sscc : List ℕ) (rs : List ReceiptRow) (r : ReceiptRow) → InOrder receipt_cmp rs → Single same_gtin (filter (λ y. same y.sscc sscc) rs) → list_any (λ y. same_gtin y r) (filter (λ y. same y.sscc r.sscc) rs) ≡ false → Single same_gtin (filter (λ y. same y.sscc sscc) (put receipt_cmp r rs))
+receipts_put sscc rs r ordered single fresh =
+    elim (decide (same r.sscc sscc)) [
+      | inl e ↦
+          let here : list_any (λ y. same_gtin y r) (filter (λ y. same y.sscc sscc) rs) ≡ false = subst (λ x. list_any (λ y. same_gtin y r) (filter (λ y. same y.sscc x) rs) ≡ false) (same_is r.sscc sscc e) fresh in
+          subst (Single same_gtin) (sym (filter_put_in receipt_total (λ y. same y.sscc sscc) rs r ordered e)) (single_put receipt_cmp same_gtin (λ x y. bytes_eq-sym x.gtin y.gtin) (filter (λ y. same y.sscc sscc) rs) r single here)
+      | inr e ↦ subst (Single same_gtin) (sym (filter_put_out receipt_cmp (λ y. same y.sscc sscc) rs r e)) single
+    ]
+
+-- the pallet was received
+abbrev pub is_received : PalletRow → Bool
+is_received pallet = not (pallet.received == arrival_number Announced)
+
+pub received_more : (r : PalletRow) (ps : List PalletRow) (x : List ℕ) → is_received r ≡ true → list_any (λ p. same p.sscc x && is_received p) ps ≡ true → list_any (λ p. same p.sscc x && is_received p) (replace (same_pallet r) r ps) ≡ true
+received_more r [] x now h = h
+received_more r (p ∷ ps) x now h =
+    elim (or_cases (same p.sscc x && is_received p) (list_any (λ p. same p.sscc x && is_received p) ps) h) [
+      | inl e ↦
+          or_left (kept (cond (same p.sscc r.sscc) r p)) (list_any kept (replace (same_pallet r) r ps)) (elim (decide (same p.sscc r.sscc)) [
+            | inl k ↦
+                let here : same r.sscc x ≡ true = ap (λ v. same v x) (sym (same_is p.sscc r.sscc k)) ∙ (and_parts (same p.sscc x) (is_received p) e).0 in
+                ap (λ v. kept (cond v r p)) k ∙ ap₂ (λ a b. a && b) here now
+            | inr k ↦ ap (λ v. kept (cond v r p)) k ∙ e
+          ])
+      | inr e ↦ or_right (kept (cond (same p.sscc r.sscc) r p)) (list_any kept (replace (same_pallet r) r ps)) (received_more r ps x now e)
+    ]
+  where
+    kept : PalletRow → Bool
+    kept p = same p.sscc x && is_received p
+
+pub received_now : (r : PalletRow) (ps : List PalletRow) → is_received r ≡ true → list_any (λ p. same p.sscc r.sscc) ps ≡ true → list_any (λ p. same p.sscc r.sscc && is_received p) (replace (same_pallet r) r ps) ≡ true
+received_now r [] now h = h
+received_now r (p ∷ ps) now h =
+    elim (decide (same p.sscc r.sscc)) [
+      | inl e ↦ let itself = same_if r.sscc r.sscc refl in grind (arith, e, itself, now)
+      | inr e ↦ let ih = received_now r ps now (ap (λ v. v || list_any (λ p. same p.sscc r.sscc) ps) (sym e) ∙ h) in grind (arith, e, ih)
+    ]
+
+none_received : (x : List ℕ) (ps : List PalletRow) → list_any (λ q. same x q.sscc) ps ≡ false → list_any (λ q. same q.sscc x && is_received q) ps ≡ false
+none_received x [] h = refl
+none_received x (q ∷ qs) h =
+    let apart = or_parts (same x q.sscc) (list_any (λ q. same x q.sscc) qs) h in
+    ap₂ (λ v w. (v && is_received q) || w) (bytes_eq-sym q.sscc x ∙ apart.0) (none_received x qs apart.1)
+
+-- the one pallet of the SSCC was not received, so none was
+pub found_unreceived : (x : List ℕ) (ps : List PalletRow) (p : PalletRow) → Single same_sscc ps → find (λ p. same p.sscc x) ps ≡ Some p → is_received p ≡ false → list_any (λ q. same q.sscc x && is_received q) ps ≡ false
+found_unreceived x [] p single h new = refl
+found_unreceived x (q ∷ qs) p single h new =
+    elim (same q.sscc x) as (λ v. same q.sscc x ≡ v → cond v (Some q) (find (λ p. same p.sscc x) qs) ≡ Some p → ((v && is_received q) || list_any (λ q. same q.sscc x && is_received q) qs) ≡ false) [
+      | true ↦ λ e f.
+          let one : q ≡ p = cc in
+          let rest = none_received x qs (subst (λ n. list_any (λ r. same n r.sscc) qs ≡ false) (same_is q.sscc x e) single.0) in
+          ap₂ (λ v w. v || w) (ap is_received one ∙ new) rest
+      | false ↦ λ e f. found_unreceived x qs p single.1 f new
+    ] refl h

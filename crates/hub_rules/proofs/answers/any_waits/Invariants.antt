@@ -1,7 +1,0 @@
-use Rattle.std.proofs.Common.{◌≡◌, drop}
-use Rattle.hub_tables.specs.Responses.{is_empty}
-use Rattle.hub_rules.specs.FromFacts.{waiting_of}
-use Rattle.hub_rules.proofs.answers.any_waits.Given as goal
-
-abbrev pub invariant-loop-line : goal.invariant-loop-line
-invariant-loop-line l = is_empty (waiting_of l.lines l.order) ≡ is_empty (waiting_of (drop l.line-index l.lines) l.order)

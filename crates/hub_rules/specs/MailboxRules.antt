@@ -1,0 +1,30 @@
+-- Entries of a mailbox, and the rule on their number (B16).
+use Rattle.std.specs.Prelude.{ℕ, false, List}
+use Rattle.hub_tables.specs.Cases.{kind_letter, truth_number}
+use Rattle.hub_tables.specs.State.{next_mail}
+use Rattle.hub_tables.specs.Tables.{Tables}
+use Rattle.hub_tables.specs.declared.cases.MailKind.{MailKind}
+use Rattle.hub_tables.specs.declared.change.Change.{Change}
+use Rattle.hub_tables.specs.declared.change.Change.TheVariants.{AddMail}
+use Rattle.hub_rules.specs.declared.delivery.Delivery.{Delivery}
+
+-- the greatest number of an entry
+abbrev pub mail_limit : ℕ
+mail_limit = 99_999_999_999_999
+
+-- an entry with a number
+abbrev pub mail_entry : List ℕ → ℕ → Delivery → MailKind → List ℕ → List ℕ → Change
+mail_entry supplier number delivery kind document body = AddMail (record {
+  supplier = supplier;
+  number = number;
+  moment = delivery.moment;
+  decimal = delivery.decimal;
+  kind = kind_letter kind;
+  document = document;
+  body = body;
+  taken = truth_number false;
+})
+
+-- the next entry of the supplier's mailbox
+abbrev pub new_mail : List ℕ → Tables → Delivery → MailKind → List ℕ → List ℕ → Change
+new_mail supplier state delivery kind document body = mail_entry supplier (next_mail state) delivery kind document body

@@ -1,0 +1,39 @@
+-- The rules of ORDERS (B04, and B16 of MailboxRules).
+use Rattle.std.specs.Prelude.{ℕ, nat_lt, List, ◌∷◌, map}
+use Rattle.edi_orders.specs.declared.order.Order.{Order}
+use Rattle.edi_orders.specs.declared.order.OrderLine.{OrderLine}
+use Rattle.hub_tables.specs.Cases.{answer_letter}
+use Rattle.hub_tables.specs.State.{knows_order, next_mail}
+use Rattle.hub_tables.specs.declared.cases.Answered.TheVariants.{Waiting}
+use Rattle.hub_tables.specs.declared.cases.MailKind.TheVariants as kinds
+use Rattle.hub_tables.specs.declared.change.Change.{Change}
+use Rattle.hub_tables.specs.declared.change.Change.TheVariants.{AddOrder, AddLine}
+use Rattle.hub_rules.specs.Judging.{Judge, refuse_if}
+use Rattle.hub_rules.specs.MailboxRules.{mail_limit, new_mail}
+use Rattle.hub_rules.specs.declared.code.Code.TheVariants.{OrderKnown, MailboxFull}
+use Rattle.hub_rules.specs.declared.delivery.Delivery.{Delivery}
+use Rattle.hub_rules.specs.declared.verdict.Verdict.TheVariants.{Accept}
+
+-- a line of an order: all of it is open, and it waits
+abbrev pub new_line : List ℕ → List ℕ → OrderLine → Change
+new_line supplier number line = AddLine (record {
+  supplier = supplier;
+  number = number;
+  line = line.line;
+  gtin = line.gtin;
+  ordered = line.quantity;
+  open_qty = line.quantity;
+  refused = 0;
+  cancelled = 0;
+  answer = answer_letter Waiting;
+})
+
+-- B04, B16; then the mailbox entry, the order and its lines
+abbrev pub judge_new_order : List ℕ → Delivery → List ℕ → Order → Judge
+judge_new_order supplier delivery body order state =
+    refuse_if (knows_order state order.number) OrderKnown (
+    refuse_if (nat_lt mail_limit (next_mail state)) MailboxFull (
+    Accept (
+    new_mail supplier state delivery kinds.Orders order.number body
+    ∷ AddOrder (record { supplier = supplier; number = order.number })
+    ∷ map (new_line supplier order.number) order.lines)))

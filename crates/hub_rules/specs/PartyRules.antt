@@ -1,0 +1,16 @@
+-- The rules on the parties of a message (B01, B02).
+use Rattle.std.specs.Prelude.{ℕ, Bool, false, not, List, Option, Some, None}
+use Rattle.hub_tables.specs.Rows.{same}
+use Rattle.hub_rules.specs.Judging.{refuse_if, given}
+use Rattle.hub_rules.specs.Suppliers.{Supplier}
+use Rattle.hub_rules.specs.declared.code.Code.TheVariants as codes
+use Rattle.hub_rules.specs.declared.verdict.Verdict.{Verdict}
+
+-- a buyer is named that is not the retailer
+abbrev pub is_other_buyer : List ℕ → Option (List ℕ) → Bool
+is_other_buyer retailer None = false
+is_other_buyer retailer (Some buyer) = not (same buyer retailer)
+
+-- B02: the supplier is not registered, or the message names another
+abbrev pub registered : Option Supplier → List ℕ → (Supplier → Verdict) → Verdict
+registered supplier named rest = given supplier codes.Supplier (λ s. refuse_if (not (same named s.gln)) codes.Supplier (rest s))

@@ -1,0 +1,50 @@
+-- The rules of RECADV (B14, B15, and B16 of MailboxRules).
+use Rattle.std.specs.Prelude.{ℕ, ◌==◌, nat_lt, not, List, [], ◌∷◌, map, filter, sum_by}
+use Rattle.edi_goods.specs.declared.receipt.Receipt.{Receipt}
+use Rattle.edi_goods.specs.declared.receipt.ReceiptLine.{ReceiptLine}
+use Rattle.edi_goods.specs.declared.receipt.ReceiptUnit.{ReceiptUnit}
+use Rattle.hub_tables.specs.Cases.{arrival_number}
+use Rattle.hub_tables.specs.Rows.{same}
+use Rattle.hub_tables.specs.State.{pallet_of, next_mail}
+use Rattle.hub_tables.specs.declared.cases.Arrival.TheVariants.{Announced, Received}
+use Rattle.hub_tables.specs.declared.cases.MailKind.TheVariants as kinds
+use Rattle.hub_tables.specs.declared.change.Change.{Change}
+use Rattle.hub_tables.specs.declared.change.Change.TheVariants.{SetPallet, AddReceipt}
+use Rattle.hub_rules.specs.Judging.{Judge, gives, refuse_if, given, in_turn, in_order}
+use Rattle.hub_rules.specs.MailboxRules.{mail_limit, new_mail}
+use Rattle.hub_rules.specs.declared.code.Code.TheVariants.{NoPallet, PalletReceived, MailboxFull}
+use Rattle.hub_rules.specs.declared.delivery.Delivery.{Delivery}
+use Rattle.hub_rules.specs.declared.verdict.Verdict.TheVariants.{Accept}
+
+-- the items of lines, each once, in the order in which they first come
+abbrev pub items : List ReceiptLine → List (List ℕ)
+items [] = []
+items (line ∷ lines) = line.gtin ∷ filter (λ gtin. not (same gtin line.gtin)) (items lines)
+
+-- the sum of one kind of quantity over the lines of an item
+abbrev pub total : (ReceiptLine → ℕ) → List ℕ → List ReceiptLine → ℕ
+total kind gtin lines = sum_by kind (filter (λ line. same line.gtin gtin) lines)
+
+-- what is received of an item on a pallet
+abbrev pub new_receipt : List ℕ → List ReceiptLine → List ℕ → Change
+new_receipt sscc lines gtin = AddReceipt (record {
+  sscc = sscc;
+  gtin = gtin;
+  accepted = total (λ line. line.accepted) gtin lines;
+  returned = total (λ line. line.returned) gtin lines;
+  destroyed = total (λ line. line.destroyed) gtin lines;
+})
+
+-- B14, B15 at a unit; then the pallet is received, with the sums of each item
+abbrev pub judge_received : ReceiptUnit → Judge
+judge_received unit state =
+    given (pallet_of state unit.sscc) NoPallet (λ pallet.
+    refuse_if (not (pallet.received == arrival_number Announced)) PalletReceived (
+    Accept (SetPallet (record pallet { received = arrival_number Received }) ∷ map (new_receipt unit.sscc unit.lines) (items unit.lines))))
+
+-- B16; then the mailbox entry, and the units
+abbrev pub judge_new_receipt : List ℕ → Delivery → List ℕ → Receipt → Judge
+judge_new_receipt supplier delivery body receipt state =
+    refuse_if (nat_lt mail_limit (next_mail state)) MailboxFull (
+    in_turn (gives (new_mail supplier state delivery kinds.Receipt receipt.number body ∷ []))
+    (in_order judge_received receipt.units) state)

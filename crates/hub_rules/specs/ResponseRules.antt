@@ -1,0 +1,67 @@
+-- The rules of ORDRSP (B05 to B09).
+use Rattle.std.specs.Prelude.{ℕ, ◌+◌, ◌-◌, nat_lt, Bool, true, false, ◌||◌, not, List, [], ◌∷◌, map, filter}
+use Rattle.edi_orders.specs.declared.response.Answer.{Answer}
+use Rattle.edi_orders.specs.declared.response.Answer.TheVariants.{AllAccepted, AllRefused, Lines}
+use Rattle.edi_orders.specs.declared.response.AnswerLine.{AnswerLine}
+use Rattle.edi_orders.specs.declared.response.LineAnswer.{LineAnswer}
+use Rattle.edi_orders.specs.declared.response.LineAnswer.TheVariants.{Accepted, Refused, Changed}
+use Rattle.edi_orders.specs.declared.response.Response.{Response}
+use Rattle.hub_tables.specs.Cases.{answer_letter}
+use Rattle.hub_tables.specs.Rows.{same}
+use Rattle.hub_tables.specs.State.{knows_order, lines_of, line_of, despatched, waits}
+use Rattle.hub_tables.specs.Tables.{Tables}
+use Rattle.hub_tables.specs.declared.cases.Answered.TheVariants as answers
+use Rattle.hub_tables.specs.declared.change.Change.TheVariants.{SetLine}
+use Rattle.hub_tables.specs.declared.rows.LineRow.{LineRow}
+use Rattle.hub_rules.specs.Judging.{Judge, refuse_if, given, in_order}
+use Rattle.hub_rules.specs.declared.code.Code.TheVariants.{NoOrder, NoLine, NotWaiting, OutOfRange, OtherItem}
+use Rattle.hub_rules.specs.declared.verdict.Verdict.TheVariants.{Accept}
+
+-- a line of which so much is despatched, after its answer. Refused: what was open. Changed to a quantity: open is that less
+-- what is despatched, and what open lost is refused.
+abbrev pub answered : LineAnswer → ℕ → LineRow → LineRow
+answered Accepted sent line = record line { answer = answer_letter answers.Accepted }
+answered Refused sent line = record line { open_qty = 0; refused = line.refused + line.open_qty; answer = answer_letter answers.NotAccepted }
+answered (Changed quantity) sent line = record line {
+  open_qty = quantity - sent;
+  refused = line.refused + (line.open_qty - (quantity - sent));
+  answer = answer_letter answers.Changed;
+}
+
+-- a changed quantity is below what is despatched, or above that and what is open
+abbrev pub is_out_of_range : LineAnswer → ℕ → LineRow → Bool
+is_out_of_range Accepted sent line = false
+is_out_of_range Refused sent line = false
+is_out_of_range (Changed quantity) sent line = nat_lt quantity sent || nat_lt (sent + line.open_qty) quantity
+
+-- B06, B07, B08, B09 at a line
+abbrev pub judge_answer : List ℕ → AnswerLine → Judge
+judge_answer order said state =
+    given (line_of state order said.order_line said.gtin) NoLine (λ line.
+    refuse_if (not (waits line)) NotWaiting (
+    refuse_if (is_out_of_range said.answer (despatched state line) line) OutOfRange (
+    refuse_if (not (same line.gtin said.gtin)) OtherItem (
+    Accept (SetLine (answered said.answer (despatched state line) line) ∷ [])))))
+
+-- the lines of an order that wait
+abbrev pub waiting : Tables → List ℕ → List LineRow
+waiting state order = filter waits (lines_of state order)
+
+abbrev pub is_empty : {X : Type 0} → List X → Bool
+is_empty [] = true
+is_empty (x ∷ xs) = false
+
+-- B07; then the same answer to every line that waits
+abbrev pub judge_all : LineAnswer → List ℕ → Judge
+judge_all answer order state =
+    refuse_if (is_empty (waiting state order)) NotWaiting (
+    Accept (map (λ line. SetLine (answered answer 0 line)) (waiting state order)))
+
+abbrev pub judge_answers : Answer → List ℕ → Judge
+judge_answers AllAccepted order = judge_all Accepted order
+judge_answers AllRefused order = judge_all Refused order
+judge_answers (Lines lines) order = in_order (judge_answer order) lines
+
+-- B05; then the answers
+abbrev pub judge_new_response : Response → Judge
+judge_new_response response state = refuse_if (not (knows_order state response.order)) NoOrder (judge_answers response.answer response.order state)

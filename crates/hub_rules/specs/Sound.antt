@@ -1,0 +1,110 @@
+-- What the tables of a hub are, and stay. First the rows of one supplier, then those of all.
+use Rattle.std.specs.Prelude.{◌≡◌, ℕ, ◌+◌, ◌==◌, Bool, true, false, not, ◌&&◌, List, [], ◌∷◌, filter, Some, ⊤}
+use Rattle.std.specs.List.{AllByRecursion, list_any}
+use Rattle.gs1_ids.specs.Sscc.{under_some}
+use Rattle.hub_tables.specs.Cases.{arrival_number}
+use Rattle.hub_tables.specs.Rows.{same}
+use Rattle.hub_tables.specs.State.{knows_order, despatched}
+use Rattle.hub_tables.specs.Tables.{Tables, Ordered, has_pallet, view}
+use Rattle.hub_tables.specs.declared.cases.Arrival.TheVariants.{Announced}
+use Rattle.hub_tables.specs.declared.rows.OrderRow.{OrderRow}
+use Rattle.hub_tables.specs.declared.rows.LineRow.{LineRow}
+use Rattle.hub_tables.specs.declared.rows.AdviceRow.{AdviceRow}
+use Rattle.hub_tables.specs.declared.rows.PalletRow.{PalletRow}
+use Rattle.hub_tables.specs.declared.rows.ContentRow.{ContentRow}
+use Rattle.hub_tables.specs.declared.rows.ReceiptRow.{ReceiptRow}
+use Rattle.hub_tables.specs.declared.rows.RememberedRow.{RememberedRow}
+use Rattle.hub_tables.specs.declared.rows.MailRow.{MailRow}
+use Rattle.hub_rules.specs.Suppliers.{Supplier, supplier_of}
+
+-- the line sum: ordered is open, refused, cancelled and despatched together
+abbrev pub Balanced : Tables → LineRow → Type 0
+Balanced state line = line.ordered ≡ line.open_qty + line.refused + line.cancelled + despatched state line
+
+-- no two rows are alike
+abbrev pub Single : {X : Type 0} → (X → X → Bool) → List X → Type 0
+Single alike [] = ⊤
+Single alike (x ∷ xs) = (list_any (alike x) xs ≡ false) × Single alike xs
+
+-- Rows of one supplier have one key.
+abbrev pub same_order : OrderRow → OrderRow → Bool
+same_order a b = same a.number b.number
+
+abbrev pub same_place : LineRow → LineRow → Bool
+same_place a b = same a.number b.number && (a.line == b.line)
+
+abbrev pub same_advice : AdviceRow → AdviceRow → Bool
+same_advice a b = same a.number b.number
+
+abbrev pub same_sscc : PalletRow → PalletRow → Bool
+same_sscc a b = same a.sscc b.sscc
+
+abbrev pub same_gtin : ReceiptRow → ReceiptRow → Bool
+same_gtin a b = same a.gtin b.gtin
+
+abbrev pub same_reference : RememberedRow → RememberedRow → Bool
+same_reference a b = (a.side == b.side) && (same a.control b.control && same a.message b.message)
+
+abbrev pub knows_line : Tables → List ℕ → ℕ → Bool
+knows_line state number n = list_any (λ line. same line.number number && (line.line == n)) state.lines
+
+-- a pallet with the SSCC was received
+abbrev pub was_received : Tables → List ℕ → Bool
+was_received state sscc = list_any (λ pallet. same pallet.sscc sscc && not (pallet.received == arrival_number Announced)) state.pallets
+
+-- the numbers of mailbox entries go on from n
+abbrev pub Numbered : ℕ → List MailRow → Type 0
+Numbered n [] = ⊤
+Numbered n (entry ∷ entries) = (entry.number ≡ n + 1) × Numbered (n + 1) entries
+
+-- the places of contents go on from n
+abbrev pub Placed : ℕ → List ContentRow → Type 0
+Placed n [] = ⊤
+Placed n (content ∷ contents) = (content.place ≡ n + 1) × Placed (n + 1) contents
+
+-- each row is the supplier's, and each content and receipt is on a pallet that is
+pub record IsOwn (s : Supplier) (state : Tables) : Type 0 where
+  pub ordered : Ordered state
+  pub orders : AllByRecursion (λ order. order.supplier ≡ s.gln) state.orders
+  pub lines : AllByRecursion (λ line. line.supplier ≡ s.gln) state.lines
+  pub advices : AllByRecursion (λ advice. advice.supplier ≡ s.gln) state.advices
+  pub pallets : AllByRecursion (λ pallet. pallet.supplier ≡ s.gln) state.pallets
+  pub contents : AllByRecursion (λ content. has_pallet state content.sscc ≡ true) state.contents
+  pub receipts : AllByRecursion (λ receipt. has_pallet state receipt.sscc ≡ true) state.receipts
+  pub remembered : AllByRecursion (λ row. row.supplier ≡ s.gln) state.remembered
+  pub mail : AllByRecursion (λ entry. entry.supplier ≡ s.gln) state.mail
+
+-- keys are single; lines have their order, contents their line, receipts a pallet that was received; entries and places are
+-- numbered from 1; and every line is balanced
+pub record Kept (state : Tables) : Type 0 where
+  pub orders : Single same_order state.orders
+  pub lines : Single same_place state.lines
+  pub advices : Single same_advice state.advices
+  pub pallets : Single same_sscc state.pallets
+  pub receipts : (sscc : List ℕ) → Single same_gtin (filter (λ receipt. same receipt.sscc sscc) state.receipts)
+  pub remembered : Single same_reference state.remembered
+  pub places : (sscc : List ℕ) → Placed 0 (filter (λ content. same content.sscc sscc) state.contents)
+  pub mail : Numbered 0 state.mail
+  pub line_orders : AllByRecursion (λ line. knows_order state line.number ≡ true) state.lines
+  pub content_lines : AllByRecursion (λ content. knows_line state content.number content.line ≡ true) state.contents
+  pub receipt_pallets : AllByRecursion (λ receipt. was_received state receipt.sscc ≡ true) state.receipts
+  pub balanced : AllByRecursion (Balanced state) state.lines
+
+-- a pallet's supplier is known, and its SSCC is under a prefix of that supplier
+pub record IsRooted (suppliers : List Supplier) (pallet : PalletRow) : Type 0 where
+  pub supplier : Supplier
+  pub known : supplier_of suppliers pallet.supplier ≡ Some supplier
+  pub is_under : under_some pallet.sscc supplier.prefixes ≡ true
+
+-- rows are in key order, each pallet is its supplier's, and each content and receipt has its pallet
+pub record Rooted (suppliers : List Supplier) (t : Tables) : Type 0 where
+  pub ordered : Ordered t
+  pub pallets : AllByRecursion (IsRooted suppliers) t.pallets
+  pub contents : AllByRecursion (λ content. has_pallet t content.sscc ≡ true) t.contents
+  pub receipts : AllByRecursion (λ receipt. has_pallet t receipt.sscc ≡ true) t.receipts
+
+-- rows are in key order, each pallet is a registered supplier's and its SSCC under that supplier's prefixes, contents and
+-- receipts have their pallet; and what each supplier sees is sound by itself
+pub record Sound (suppliers : List Supplier) (t : Tables) : Type 0 where
+  pub rooted : Rooted suppliers t
+  pub kept : (gln : List ℕ) → Kept (view gln t)

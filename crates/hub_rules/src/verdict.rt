@@ -1,0 +1,13 @@
+//! What comes of a message or a cancellation.
+use crate::code::Code;
+use edi_base::Items;
+use hub_tables::Change;
+
+/// What comes of a message or a cancellation.
+#[derive(Debug, Drop)]
+pub enum Verdict {
+    /// It is accepted, with these changes in their order; without any it repeats one that is remembered.
+    Accept(Items<Change>),
+    /// It is refused, and changes nothing.
+    Refuse(Code),
+}
