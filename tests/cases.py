@@ -5,6 +5,9 @@ from dataclasses import dataclass, field
 
 sys.path.insert(0, os.path.join(os.path.dirname(os.path.abspath(__file__)), "..", "bench"))
 import loads
+from envelopes import ENVELOPES, HEAD, MESSAGE, ORDERS
+from registers import ALPHA, BETA, HUB, REGISTERS, RETAILER, of_prefixes, register
+from texts import TEXT_LIMIT, TEXTS
 
 
 @dataclass
@@ -25,21 +28,11 @@ class Case:
     files: dict = field(default_factory=dict)
 
 
-HUB, OWNER = "5412345000006", "4012345500004"
-TEXT_LIMIT = 1_048_576
+OWNER = ALPHA
 
 
 def relay(hub=HUB, owner=OWNER, moment="1748942400", number="1"):
     return ["relay", "--hub", hub, "--owner", owner, "--moment", moment, "--number", number]
-
-
-MESSAGE = (
-    "UNH+1+ORDERS:D:01B:UN:EAN010'BGM+220+128576+9'DTM+137:20250603:102'"
-    "NAD+BY+5412345000013::9'NAD+SU+4012345500004::9'"
-    "LIN+1++4000862141404:SRV'QTY+21:48'UNS+S'CNT+2:1'UNT+10+1'"
-)
-HEAD = "UNB+UNOC:3+5412345000013:14+5412345000006:14+250603:0915+1001'"
-ORDERS = "UNA:+.? '" + HEAD + MESSAGE + "UNZ+1+1001'"
 
 
 def mail(number=1, message=MESSAGE, mark="."):
@@ -176,6 +169,7 @@ def cut(length):
     return "E06" if whole else "E02" if 3 <= length <= 8 else "E04"
 
 
+assert [sum(cut(length) == code for length in range(255)) for code in ("E06", "E02", "E04")] == [13, 6, 236]
 CUTS = [refused(f"the order cut to {length} bytes", ORDERS[:length], cut(length)) for length in range(255)]
 
 # so little memory in all that the interchange of 1 MiB cannot be held
@@ -200,21 +194,6 @@ EXAMPLES = [
     ),
     relayed("the example other_separators.edi", example("other_separators.edi"), mail(message=with_note("Dock 3?+4, O?'Neill??'", MESSAGE), mark=",")),
 ]
-
-RETAILER = "5412345000013"
-ALPHA, BETA, GAMMA, DELTA = OWNER, "8712345000004", "7612345000008", "3512345000005"
-
-
-def register(*suppliers, hub=HUB, retailer=RETAILER, key="retail-key"):
-    """The text of a register. A supplier is its GLN, its prefix and its key."""
-    entries = (f'\n[[supplier]]\ngln = "{gln}"\nprefix = "{prefix}"\nkey = "{secret}"\n' for gln, prefix, secret in suppliers)
-    return f'hub = "{hub}"\n\n[retailer]\ngln = "{retailer}"\nkey = "{key}"\n' + "".join(entries)
-
-
-def of_prefixes(*prefixes):
-    """A register of suppliers with these prefixes."""
-    return register(*((gln, prefix, f"key-of-{gln}") for gln, prefix in zip((ALPHA, BETA, GAMMA, DELTA), prefixes)))
-
 
 CHECK_WORDS = ["check", "--register", "register.toml"]
 
@@ -281,4 +260,13 @@ CHECK = [
     ),
 ]
 
-CASES = RELAY + CUTS + MEMORY + EXAMPLES + CHECK
+REGISTER_CASES = [checked(name, source, f"{verdict} suppliers") if verdict.startswith("ok") else faulty(name, source, verdict) for name, source, verdict in REGISTERS]
+
+ENVELOPE_CASES = [
+    refused(name, source, told) if isinstance(told, str) else relayed(name, source, "".join(mail(place, message) for place, message in enumerate(told, 1)))
+    for name, source, told in ENVELOPES
+]
+
+TEXT_CASES = [refused(name, source, code) for name, source, code in TEXTS]
+
+CASES = RELAY + CUTS + MEMORY + EXAMPLES + CHECK + REGISTER_CASES + ENVELOPE_CASES + TEXT_CASES

@@ -16,14 +16,15 @@ fn bytes_of(alloc: Global, size: usize) -> Result<Vec<u8>, Fail> {
 #[test]
 fn items_are_those_of_a_vector(rt: HostRuntime) -> Result<(), Fail> {
     let mut items = Items::new(rt.alloc());
-    assert!(rt; items.is_empty());
+    let is_empty = items.is_empty();
     items.push(7u8)?;
     items.push(5)?;
-    assert!(rt; !items.is_empty());
-    assert_eq!(rt; items.len(), 2);
-    assert_eq!(rt; items.as_slice(), b"\x07\x05".as_slice());
+    let found = (is_empty, items.is_empty(), items.len(), items.as_slice());
+    assert_eq!(rt; found, (true, false, 2, b"\x07\x05".as_slice()));
     let again = Items::from_vec(items.into_vec());
-    assert_eq!(rt; again.as_slice(), b"\x07\x05".as_slice());
+    let copy = copied(rt.alloc(), b"\x00\xff")?;
+    let found = (again.as_slice(), copy.as_slice());
+    assert_eq!(rt; found, (b"\x07\x05".as_slice(), b"\x00\xff".as_slice()));
     Ok(())
 }
 
@@ -65,6 +66,13 @@ fn sink_with_room(alloc: Global, room: usize, fails: bool) -> OfWrite<Dribble> {
     })
 }
 
+/// What came of a write: whether it succeeded, whether the sink has failed, and what was taken.
+fn outcome(wrote: Result<(), WriteFault>, sink: OfWrite<Dribble>) -> (bool, bool, Vec<u8>) {
+    let failed = sink.failed();
+    let Dribble { written, .. } = sink.into_inner();
+    (wrote.is_ok(), failed, written)
+}
+
 #[test]
 fn a_failed_write_leaves_a_front_of_the_bytes(rt: HostRuntime) -> Result<(), Fail> {
     let bytes = bytes_of(rt.alloc(), 255)?;
@@ -72,12 +80,12 @@ fn a_failed_write_leaves_a_front_of_the_bytes(rt: HostRuntime) -> Result<(), Fai
         for fails in [true, false] {
             let mut sink = sink_with_room(rt.alloc(), room, fails);
             let result = write_bytes(&bytes, &mut sink);
-            assert_eq!(rt; result.is_ok(), room >= 255, "room {room}");
-            assert_eq!(rt; sink.failed(), result.is_err());
-            let Dribble { written, .. } = sink.into_inner();
+            let (is_ok, failed, written) = outcome(result, sink);
+            let front = bytes.as_slice().get(..room.min(255));
             assert_eq!(rt;
-                Some(written.as_slice()),
-                bytes.as_slice().get(..room.min(255))
+                (is_ok, failed, Some(written.as_slice())),
+                (room >= 255, room < 255, front),
+                "room {room}"
             );
         }
     }
@@ -105,12 +113,12 @@ fn bytes_that_wait_are_written_in_their_order(rt: HostRuntime) -> Result<(), Fai
         for fails in [true, false] {
             let mut sink = sink_with_room(rt.alloc(), room, fails);
             let result = put_pieces(&bytes, &sizes, &mut sink);
-            assert_eq!(rt; result.is_ok(), room >= 5000, "room {room}");
-            assert_eq!(rt; sink.failed(), result.is_err());
-            let Dribble { written, .. } = sink.into_inner();
+            let (is_ok, failed, written) = outcome(result, sink);
+            let front = bytes.as_slice().get(..room.min(5000));
             assert_eq!(rt;
-                Some(written.as_slice()),
-                bytes.as_slice().get(..room.min(5000))
+                (is_ok, failed, Some(written.as_slice())),
+                (room >= 5000, room < 5000, front),
+                "room {room}"
             );
         }
     }
@@ -139,41 +147,40 @@ impl Read for Drip {
 
 #[test]
 fn a_source_is_read_to_its_end_or_the_limit(rt: HostRuntime) -> Result<(), Fail> {
-    let known = bytes_of(rt.alloc(), 255)?;
-    for (limit, size) in [
-        (0, 0),
-        (1, 1),
-        (254, 254),
-        (255, 255),
-        (256, 255),
-        (1_048_577, 255),
-    ] {
-        let mut source = OfRead::new(known.as_slice());
-        let read = read_to_limit(rt.alloc(), &mut source, limit)?;
-        assert_eq!(rt; Some(read.as_slice()), known.as_slice().get(..size));
-        assert!(rt; !source.failed());
-    }
     let long = bytes_of(rt.alloc(), 200_000)?;
-    let mut source = OfRead::new(long.as_slice());
-    let read = read_to_limit(rt.alloc(), &mut source, 150_000)?;
-    assert_eq!(rt; Some(read.as_slice()), long.as_slice().get(..150_000));
-    assert_eq!(rt; Some(source.into_inner()), long.as_slice().get(150_000..));
+    for (given, limit, size) in [
+        (255, 0, 0),
+        (255, 1, 1),
+        (255, 254, 254),
+        (255, 255, 255),
+        (255, 256, 255),
+        (255, 1_048_577, 255),
+        (200_000, 150_000, 150_000),
+    ] {
+        let known = long.as_slice().get(..given).ok_or("a front")?;
+        let mut source = OfRead::new(known);
+        let read = read_to_limit(rt.alloc(), &mut source, limit)?;
+        let failed = source.failed();
+        assert_eq!(rt;
+            (Some(read.as_slice()), Some(source.into_inner()), failed),
+            (known.get(..size), known.get(size..), false),
+            "{given} bytes to the limit {limit}"
+        );
+    }
     Ok(())
 }
 
 #[test]
 fn a_failed_read_is_answered(rt: HostRuntime) -> Result<(), Fail> {
     let mut source = OfRead::new(Drip { left: 3 });
-    assert_eq!(rt;
-        read_to_limit(rt.alloc(), &mut source, 2)?.as_slice(),
-        b"aa".as_slice()
-    );
-    assert!(rt; !source.failed());
-    assert_eq!(rt;
-        read_to_limit(rt.alloc(), &mut source, 2).err(),
-        Some(ReadFault::Read)
-    );
-    assert!(rt; source.failed());
+    for (want, has_failed) in [(Ok(b"aa".as_slice()), false), (Err(ReadFault::Read), true)] {
+        let read = read_to_limit(rt.alloc(), &mut source, 2);
+        let found = match &read {
+            Ok(bytes) => Ok(bytes.as_slice()),
+            Err(fault) => Err(*fault),
+        };
+        assert_eq!(rt; (found, source.failed()), (want, has_failed));
+    }
     Ok(())
 }
 
@@ -194,16 +201,41 @@ fn a_text_comes_again(rt: HostRuntime) -> Result<(), Fail> {
 }
 
 #[test]
-fn lengths_and_characters(rt: HostRuntime) {
-    for (low, high, is_right) in [(0, 3, true), (3, 3, true), (4, 9, false), (0, 2, false)] {
-        assert_eq!(rt; has_length(low, high, b"a 1"), is_right, "{low} to {high}");
+fn numbers_that_come_twice(rt: HostRuntime) -> Result<(), Fail> {
+    for (numbers, come_twice) in [
+        ([].as_slice(), false),
+        (&[3, 1, 2], false),
+        (&[3, 1, 2, 3], true),
+        (&[0, 0], true),
+    ] {
+        assert_eq!(rt;
+            number_twice(rt.alloc(), numbers)?,
+            come_twice,
+            "{numbers:?}"
+        );
     }
-    assert!(rt; all_printable(b" ~"));
-    assert!(rt; !all_printable(b"a\x7f"));
-    assert!(rt; !all_printable(b"a\x1f"));
-    assert!(rt; are_digits(1, 2, b"09"));
-    assert!(rt; !are_digits(1, 2, b"0x"));
-    assert!(rt; !are_digits(1, 2, b"123"));
+    Ok(())
+}
+
+#[test]
+fn lengths_and_characters(rt: HostRuntime) {
+    for (what, found, want) in [
+        ("a length of 0 to 3", has_length(0, 3, b"a 1"), true),
+        ("a length of 3", has_length(3, 3, b"a 1"), true),
+        ("a length of 4 to 9", has_length(4, 9, b"a 1"), false),
+        ("a length of 0 to 2", has_length(0, 2, b"a 1"), false),
+        ("a blank and a tilde", all_printable(b" ~"), true),
+        ("0x7F", all_printable(b"a\x7f"), false),
+        ("0x1F", all_printable(b"a\x1f"), false),
+        ("two digits", are_digits(1, 2, b"09"), true),
+        ("a letter", are_digits(1, 2, b"0x"), false),
+        ("three digits", are_digits(1, 2, b"123"), false),
+        ("12 counts 12", counts(b"012", 12), true),
+        ("12 counts 13", counts(b"012", 13), false),
+        ("nothing counts 0", counts(b"", 0), false),
+    ] {
+        assert_eq!(rt; found, want, "{what}");
+    }
 }
 
 #[test]
@@ -217,28 +249,8 @@ fn numbers_of_digits(rt: HostRuntime) {
         ("1000000000", None, None),
         ("99999999999999999999999999999999999", None, None),
     ] {
-        assert_eq!(rt; value_of(digits.as_bytes()), number, "{digits}");
-        assert_eq!(rt; count_of(digits.as_bytes()), count, "{digits}");
+        let found = (value_of(digits.as_bytes()), count_of(digits.as_bytes()));
+        assert_eq!(rt; found, (number, count), "{digits}");
     }
     assert_eq!(rt; count_of(b"1x"), None);
-    assert!(rt; counts(b"012", 12));
-    assert!(rt; !counts(b"012", 13));
-    assert!(rt; !counts(b"", 0));
-}
-
-#[test]
-fn numbers_that_come_twice(rt: HostRuntime) -> Result<(), Fail> {
-    let alloc = rt.alloc();
-    assert!(rt; !number_twice(alloc, &[])?);
-    assert!(rt; !number_twice(alloc, &[3, 1, 2])?);
-    assert!(rt; number_twice(alloc, &[3, 1, 2, 3])?);
-    assert!(rt; number_twice(alloc, &[0, 0])?);
-    Ok(())
-}
-
-#[test]
-fn a_copy_has_the_same_bytes(rt: HostRuntime) -> Result<(), Fail> {
-    let copy = copied(rt.alloc(), b"\x00\xff")?;
-    assert_eq!(rt; copy.as_slice(), b"\x00\xff".as_slice());
-    Ok(())
 }

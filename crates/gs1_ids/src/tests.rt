@@ -53,25 +53,21 @@ fn glns(rt: HostRuntime) -> Result<(), Fail> {
     for (text, right) in cases {
         assert_eq!(rt; Gln::parse(text.as_bytes()).is_some(), right, "{text}");
     }
-    let gln = Gln::parse(b"5412345000006").ok_or("a GLN")?;
-    assert_eq!(rt; gln.digits(), b"5412345000006");
-    let shown = format!(in rt.alloc(); "{gln} {:>15}", gln)?;
-    assert_eq!(rt; shown.as_str(), "5412345000006   5412345000006");
     Ok(())
 }
 
 #[test]
-fn gtins(rt: HostRuntime) -> Result<(), Fail> {
+fn gtins(rt: HostRuntime) {
     let cases = [
-        ("96385074", Some("00000096385074")),
+        ("96385074", Some(b"00000096385074")),
         ("96385075", None),
-        ("73513537", Some("00000073513537")),
-        ("614141999996", Some("00614141999996")),
-        ("036000291452", Some("00036000291452")),
-        ("0036000291452", Some("00036000291452")),
-        ("6291041500213", Some("06291041500213")),
-        ("09501101530003", Some("09501101530003")),
-        ("80614141123458", Some("80614141123458")),
+        ("73513537", Some(b"00000073513537")),
+        ("614141999996", Some(b"00614141999996")),
+        ("036000291452", Some(b"00036000291452")),
+        ("0036000291452", Some(b"00036000291452")),
+        ("6291041500213", Some(b"06291041500213")),
+        ("09501101530003", Some(b"09501101530003")),
+        ("80614141123458", Some(b"80614141123458")),
         ("80614141123459", None),
         ("36000291452", None),
         ("000036000291452", None),
@@ -79,22 +75,14 @@ fn gtins(rt: HostRuntime) -> Result<(), Fail> {
         ("", None),
     ];
     for (text, want) in cases {
-        match (Gtin::parse(text.as_bytes()), want) {
-            (Some(gtin), Some(digits)) => assert_eq!(rt; &gtin.digits()[..], digits.as_bytes()),
-            (gtin, _) => assert_eq!(rt; gtin.is_some(), want.is_some(), "{text}"),
-        }
+        let gtin = Gtin::parse(text.as_bytes());
+        let digits = gtin.as_ref().map(|gtin| gtin.digits());
+        assert_eq!(rt; digits, want, "{text}");
     }
-    let short = Gtin::parse(b"036000291452").ok_or("a GTIN-12")?;
-    let long = Gtin::parse(b"0036000291452").ok_or("a GTIN-13")?;
-    assert_eq!(rt; order_of(&short, &long), (Ordering::Equal, true));
-    assert_eq!(rt; hash_of(&short), hash_of(&long));
-    let shown = format!(in rt.alloc(); "{short}")?;
-    assert_eq!(rt; shown.as_str(), "00036000291452");
-    Ok(())
 }
 
 #[test]
-fn ssccs(rt: HostRuntime) -> Result<(), Fail> {
+fn ssccs(rt: HostRuntime) {
     let cases = [
         ("340123455000000012", true),
         ("340123455000000013", false),
@@ -106,19 +94,50 @@ fn ssccs(rt: HostRuntime) -> Result<(), Fail> {
     for (text, right) in cases {
         assert_eq!(rt; Sscc::parse(text.as_bytes()).is_some(), right, "{text}");
     }
+}
+
+#[test]
+fn an_sscc_is_under_its_prefixes(rt: HostRuntime) -> Result<(), Fail> {
     let sscc = Sscc::parse(b"340123455000000012").ok_or("an SSCC")?;
-    assert_eq!(rt; sscc.digits(), b"340123455000000012");
-    assert!(rt; sscc.under(&prefix("4012345")?));
-    assert!(rt; sscc.under(&prefix("401234550000")?));
-    assert!(rt; !sscc.under(&prefix("3401234")?));
-    assert!(rt; !sscc.under(&prefix("4012346")?));
-    let shown = format!(in rt.alloc(); "{sscc}")?;
-    assert_eq!(rt; shown.as_str(), "340123455000000012");
+    for (digits, want) in [
+        ("4012345", true),
+        ("401234550000", true),
+        ("3401234", false),
+        ("4012346", false),
+    ] {
+        assert_eq!(rt; sscc.under(&prefix(digits)?), want, "{digits}");
+    }
     Ok(())
 }
 
 #[test]
-fn prefixes(rt: HostRuntime) -> Result<(), Fail> {
+fn identifiers_show_their_digits(rt: HostRuntime) -> Result<(), Fail> {
+    let gln = Gln::parse(b"5412345000006").ok_or("a GLN")?;
+    let gtin = Gtin::parse(b"036000291452").ok_or("a GTIN-12")?;
+    let sscc = Sscc::parse(b"340123455000000012").ok_or("an SSCC")?;
+    let prefix = prefix("40123")?;
+    let shown = format!(in rt.alloc(); "{gln} {:>15} {gtin} {sscc} {prefix}", gln)?;
+    let digits = (gln.digits(), sscc.digits(), shown.as_str());
+    let want = (
+        b"5412345000006",
+        b"340123455000000012",
+        "5412345000006   5412345000006 00036000291452 340123455000000012 40123",
+    );
+    assert_eq!(rt; digits, want);
+    Ok(())
+}
+
+#[test]
+fn equal_numbers_are_one_gtin(rt: HostRuntime) -> Result<(), Fail> {
+    let short = Gtin::parse(b"036000291452").ok_or("a GTIN-12")?;
+    let long = Gtin::parse(b"0036000291452").ok_or("a GTIN-13")?;
+    let found = (order_of(&short, &long), hash_of(&short) == hash_of(&long));
+    assert_eq!(rt; found, ((Ordering::Equal, true), true));
+    Ok(())
+}
+
+#[test]
+fn prefixes(rt: HostRuntime) {
     let cases = [
         ("0614", true),
         ("4012345", true),
@@ -130,20 +149,31 @@ fn prefixes(rt: HostRuntime) -> Result<(), Fail> {
     for (text, right) in cases {
         assert_eq!(rt; Prefix::parse(text.as_bytes()).is_some(), right, "{text}");
     }
-    let (short, long, other) = (prefix("40123")?, prefix("4012345")?, prefix("40130")?);
-    assert!(rt; short.begins(&long));
-    assert!(rt; !long.begins(&short));
-    assert!(rt; short.begins(&short));
-    assert!(rt; !short.begins(&other));
-    assert_eq!(rt; order_of(&short, &long), (Ordering::Less, false));
-    assert_eq!(rt; order_of(&long, &other), (Ordering::Less, false));
-    assert_eq!(rt;
-        order_of(&short, &prefix("40123")?),
-        (Ordering::Equal, true)
-    );
-    assert_eq!(rt; hash_of(&short), hash_of(&prefix("40123")?));
-    let shown = format!(in rt.alloc(); "{short}")?;
-    assert_eq!(rt; shown.as_str(), "40123");
+}
+
+#[test]
+fn prefixes_are_compared_by_their_digits(rt: HostRuntime) -> Result<(), Fail> {
+    // two prefixes: whether the first begins the second, their order, and whether they are equal
+    for (first, second, begins, order, is_equal) in [
+        ("40123", "4012345", true, Ordering::Less, false),
+        ("4012345", "40123", false, Ordering::Greater, false),
+        ("40123", "40123", true, Ordering::Equal, true),
+        ("40123", "40130", false, Ordering::Less, false),
+        ("4012345", "40130", false, Ordering::Less, false),
+    ] {
+        let (one, other) = (prefix(first)?, prefix(second)?);
+        let is_one_hash = hash_of(&one) == hash_of(&other);
+        let found = (
+            one.begins(&other),
+            order_of(&one, &other),
+            is_one_hash || !is_equal,
+        );
+        assert_eq!(rt;
+            found,
+            (begins, (order, is_equal), true),
+            "{first} and {second}"
+        );
+    }
     Ok(())
 }
 

@@ -1,11 +1,9 @@
-ghost use Rattle.std.specs.Prelude.{◌≤◌, IfSome};
+ghost use Rattle.std.specs.Prelude.{IfSome};
 ghost use Rattle.hub_app.specs.Relay.{AreRelayWords};
 
-use crate::{
-    RelayFault, RelayWords, TextFault, check_run, read_register_text, relay_run, relay_text,
-};
-use edi_envelope::{EnvelopeFault, Moment, open};
-use edi_tokens::{OfRead, OfWrite, Sink, Source, TokenFault, body_text, read_all};
+use crate::{RelayWords, TextFault, check_run, read_register_text, relay_run, relay_text};
+use edi_envelope::Moment;
+use edi_tokens::{Sink, Source};
 use std::alloc::Global;
 use std::io;
 use std::test::Fail;
@@ -15,9 +13,6 @@ const ORDERS: &[u8] =
 
 const MAIL: &[u8] =
     b"UNA:+.? 'UNB+UNOC:3+5412345000006:14+4012345500004:14+250603:0920+1'UNH+1+ORDERS:D:01B:UN:EAN010'BGM+220+128576+9'DTM+137:20250603:102'NAD+BY+5412345000013::9'NAD+SU+4012345500004::9'LIN+1++4000862141404:SRV'QTY+21:48'UNS+S'CNT+2:1'UNT+10+1'UNZ+1+1'";
-
-const BODY: &[u8] =
-    b"UNH+1+ORDERS:D:01B:UN:EAN010'BGM+220+128576+9'DTM+137:20250603:102'NAD+BY+5412345000013::9'NAD+SU+4012345500004::9'LIN+1++4000862141404:SRV'QTY+21:48'UNS+S'CNT+2:1'UNT+10+1'";
 
 fn words() -> Option<RelayWords>
     ensures { IfSome result AreRelayWords }
@@ -32,69 +27,26 @@ fn words() -> Option<RelayWords>
 
 #[test]
 fn an_order_becomes_its_mail(rt: HostRuntime) -> Result<(), Fail> {
-    assert_eq!(rt; (ORDERS.len(), MAIL.len(), BODY.len()), (255, 249, 173));
     let words = words().ok_or("words")?;
     let mail = relay_text(rt.alloc(), ORDERS, &words)?;
     assert_eq!(rt; mail.as_slice(), MAIL);
     Ok(())
 }
 
-#[test]
-fn the_body_of_an_order(rt: HostRuntime) -> Result<(), Fail> {
-    let alloc = rt.alloc();
-    let interchange = open(alloc, read_all(alloc, ORDERS)?)?;
-    let messages = interchange.messages.as_slice();
-    assert_eq!(rt; messages.len(), 1);
-    let body = body_text(alloc, messages[0].segments.as_slice())?;
-    assert_eq!(rt; body.as_slice(), BODY);
-    Ok(())
-}
-
-// The fault of the order that is cut to a length.
-fn cut_fault(alloc: Global, words: &RelayWords, length: usize) -> Option<RelayFault>
-    requires words { AreRelayWords words.now }
-    requires length { length ≤ 255 }
-{
-    relay_text(alloc, &ORDERS[..length], words).err()
-}
-
-#[test]
-fn an_order_cut_to_each_length(rt: HostRuntime) -> Result<(), Fail> {
-    let words = words().ok_or("words")?;
-    let mut counts = [0usize; 3];
-    for length in 0..255usize {
-        let whole = length == 0 || length == 9 || length > 9 && ORDERS[length - 1] == b'\'';
-        let (place, fault) = if whole {
-            (0, RelayFault::Envelope(EnvelopeFault::InterchangeFrame))
-        } else if length < 9 && length > 2 {
-            (1, RelayFault::Token(TokenFault::ServiceString))
-        } else {
-            (2, RelayFault::Token(TokenFault::Cut))
-        };
-        assert_eq!(rt;
-            cut_fault(rt.alloc(), &words, length),
-            Some(fault),
-            "at {length}"
-        );
-        counts[place] = counts[place].saturating_add(1);
-    }
-    assert_eq!(rt; counts, [13, 6, 236]);
-    Ok(())
-}
-
-// A reader that gives what it has, and then answers an error.
+// A reader that gives what it has, and then has nothing more, or answers an error.
 #[derive(Drop)]
-struct Broken<'a> {
+struct Brittle<'a> {
     left: &'a [u8],
+    fails: bool,
 }
 
-impl Source for Broken<'_> {
+impl Source for Brittle<'_> {
     ghost use Rattle.std.specs.Prelude.{true};
 
     ghost failed = { λ _. true };
 
     fn read(&mut self, buffer: &mut [u8]) -> io::Result<usize> {
-        if self.left.is_empty() {
+        if self.fails && self.left.is_empty() {
             return Err(io::Error::from(io::ErrorKind::Other));
         }
         io::Read::read(&mut self.left, buffer)
@@ -130,88 +82,133 @@ impl Sink for Slow {
     }
 }
 
+// A writer with so much room.
+fn room_for(alloc: Global, room: usize, answers_error: bool) -> Slow {
+    Slow {
+        taken: Vec::new(alloc),
+        room,
+        answers_error,
+    }
+}
+
+// A run of `relay`: how much of the order is read, and whether the next read fails; how many bytes the writers take, and
+// whether the next write to the output fails or takes nothing; and the status, how much of the mail is printed, and what is
+// told of a fault.
+#[derive(Drop)]
+struct Run {
+    name: &'static str,
+    length: usize,
+    read_fails: bool,
+    room: usize,
+    write_fails: bool,
+    error_room: usize,
+    status: u8,
+    printed: usize,
+    told: &'static str,
+}
+
+const WHOLE: Run = Run {
+    name: "an order",
+    length: 255,
+    read_fails: false,
+    room: usize::MAX,
+    write_fails: false,
+    error_room: usize::MAX,
+    status: 0,
+    printed: 249,
+    told: "",
+};
+
+const CUT: Run = Run {
+    name: "a cut order",
+    length: 200,
+    status: 1,
+    printed: 0,
+    told: "refused E04\n",
+    ..WHOLE
+};
+
+const FAILED: Run = Run {
+    name: "a read that fails at once",
+    length: 0,
+    read_fails: true,
+    status: 3,
+    printed: 0,
+    told: "file\n",
+    ..WHOLE
+};
+
+const RUNS: [Run; 10] = [
+    WHOLE,
+    CUT,
+    FAILED,
+    Run {
+        name: "a read that fails midway",
+        length: 100,
+        ..FAILED
+    },
+    Run {
+        name: "a read that fails behind the order",
+        length: 255,
+        ..FAILED
+    },
+    Run {
+        name: "a write that fails at once",
+        room: 0,
+        write_fails: true,
+        status: 3,
+        printed: 0,
+        told: "file\n",
+        ..WHOLE
+    },
+    Run {
+        name: "a write that fails midway",
+        room: 100,
+        write_fails: true,
+        status: 3,
+        printed: 100,
+        told: "file\n",
+        ..WHOLE
+    },
+    Run {
+        name: "room for all but a byte",
+        room: 248,
+        status: 3,
+        printed: 248,
+        told: "file\n",
+        ..WHOLE
+    },
+    Run {
+        name: "room for all",
+        room: 249,
+        write_fails: true,
+        ..WHOLE
+    },
+    Run {
+        name: "a refusal that cannot be told",
+        error_room: 9,
+        told: "refused E",
+        ..CUT
+    },
+];
+
 #[test]
 fn a_run_reads_writes_and_answers_its_status(rt: HostRuntime) -> Result<(), Fail> {
     let alloc = rt.alloc();
     let words = words().ok_or("words")?;
-    let refused: &[u8] = b"refused E04\n";
-    for (input, status, printed, told) in [
-        (ORDERS, 0, MAIL, b"".as_slice()),
-        (&ORDERS[..200], 1, b"".as_slice(), refused),
-    ] {
-        let mut out = OfWrite::new(Vec::new(alloc));
-        let mut err = OfWrite::new(Vec::new(alloc));
-        let answered = relay_run(alloc, &words, &mut OfRead::new(input), &mut out, &mut err);
-        assert_eq!(rt; answered, status);
-        assert_eq!(rt; out.into_inner().as_slice(), printed);
-        assert_eq!(rt; err.into_inner().as_slice(), told);
-    }
-    Ok(())
-}
-
-#[test]
-fn a_read_that_fails_midway(rt: HostRuntime) -> Result<(), Fail> {
-    let alloc = rt.alloc();
-    let words = words().ok_or("words")?;
-    for length in [0usize, 100, 255] {
-        let mut out = OfWrite::new(Vec::new(alloc));
-        let mut err = OfWrite::new(Vec::new(alloc));
-        let mut input = Broken {
-            left: ORDERS.get(..length).ok_or("a front")?,
+    for run in &RUNS {
+        let mut input = Brittle {
+            left: ORDERS.get(..run.length).ok_or("a front")?,
+            fails: run.read_fails,
         };
-        assert_eq!(rt; relay_run(alloc, &words, &mut input, &mut out, &mut err), 3);
-        assert_eq!(rt; out.into_inner().as_slice(), b"".as_slice());
-        assert_eq!(rt; err.into_inner().as_slice(), b"file\n".as_slice());
+        let mut out = room_for(alloc, run.room, run.write_fails);
+        let mut err = room_for(alloc, run.error_room, false);
+        let status = relay_run(alloc, &words, &mut input, &mut out, &mut err);
+        let found = (status, out.taken.as_slice(), err.taken.as_slice());
+        let printed = MAIL.get(..run.printed).ok_or("a front")?;
+        let want = (run.status, printed, run.told.as_bytes());
+        assert_eq!(rt; found, want, "{}", run.name);
     }
-    Ok(())
-}
-
-#[test]
-fn a_write_that_fails_midway(rt: HostRuntime) -> Result<(), Fail> {
-    let alloc = rt.alloc();
-    let words = words().ok_or("words")?;
-    for (room, answers_error, status) in [
-        (0usize, true, 3),
-        (100, true, 3),
-        (248, false, 3),
-        (249, true, 0),
-    ] {
-        let mut out = Slow {
-            taken: Vec::new(alloc),
-            room,
-            answers_error,
-        };
-        let mut err = OfWrite::new(Vec::new(alloc));
-        let answered = relay_run(alloc, &words, &mut OfRead::new(ORDERS), &mut out, &mut err);
-        assert_eq!(rt; answered, status, "with room for {room}");
-        assert_eq!(rt; Some(out.taken.as_slice()), MAIL.get(..room));
-        let told: &[u8] = if status == 0 { b"" } else { b"file\n" };
-        assert_eq!(rt; err.into_inner().as_slice(), told);
-    }
-    Ok(())
-}
-
-#[test]
-fn a_refusal_that_cannot_be_told(rt: HostRuntime) -> Result<(), Fail> {
-    let alloc = rt.alloc();
-    let words = words().ok_or("words")?;
-    let mut out = OfWrite::new(Vec::new(alloc));
-    let mut err = Slow {
-        taken: Vec::new(alloc),
-        room: 9,
-        answers_error: false,
-    };
-    assert_eq!(rt;
-        relay_run(
-            alloc,
-            &words,
-            &mut OfRead::new(&ORDERS[..200]),
-            &mut out,
-            &mut err
-        ),
-        1
-    );
-    assert_eq!(rt; err.taken.as_slice(), b"refused E".as_slice());
     Ok(())
 }
 
@@ -219,57 +216,44 @@ const REGISTER: &str =
     "hub = \"5412345000006\"\nretailer = { gln = \"5412345000013\", key = \"retail-key\" }\n[[supplier]]\ngln = \"4012345500004\"\nprefix = \"40123455\"\nkey = \"alpha-key-1\"\n";
 
 #[test]
-fn a_register_is_checked(rt: HostRuntime) -> Result<(), Fail> {
+fn a_register_is_checked(rt: HostRuntime) {
     let alloc = rt.alloc();
-    for (text, status, told) in [
-        (REGISTER, 0, b"ok 1 suppliers\n".as_slice()),
-        ("hub = 1", 1, b"fault text\n"),
+    for (text, room, write_fails, status, printed, told) in [
+        (REGISTER, usize::MAX, false, 0, "ok 1 suppliers\n", ""),
+        ("hub = 1", usize::MAX, false, 1, "fault text\n", ""),
+        (REGISTER, 0, true, 3, "", "file\n"),
+        (REGISTER, 14, false, 3, "ok 1 suppliers", "file\n"),
+        (REGISTER, 15, true, 0, "ok 1 suppliers\n", ""),
     ] {
-        let mut out = OfWrite::new(Vec::new(alloc));
-        let mut err = OfWrite::new(Vec::new(alloc));
-        assert_eq!(rt; check_run(alloc, text, &mut out, &mut err), status);
-        assert_eq!(rt; out.into_inner().as_slice(), told);
-        assert!(rt; err.into_inner().is_empty());
+        let mut out = room_for(alloc, room, write_fails);
+        let mut err = room_for(alloc, usize::MAX, false);
+        let answered = check_run(alloc, text, &mut out, &mut err);
+        let found = (answered, out.taken.as_slice(), err.taken.as_slice());
+        let want = (status, printed.as_bytes(), told.as_bytes());
+        assert_eq!(rt; found, want, "with room for {room}");
     }
-    Ok(())
-}
-
-#[test]
-fn a_verdict_that_fails_midway(rt: HostRuntime) -> Result<(), Fail> {
-    let alloc = rt.alloc();
-    for (room, answers_error, status) in [(0usize, true, 3), (14, false, 3), (15, true, 0)] {
-        let mut out = Slow {
-            taken: Vec::new(alloc),
-            room,
-            answers_error,
-        };
-        let mut err = OfWrite::new(Vec::new(alloc));
-        assert_eq!(rt; check_run(alloc, REGISTER, &mut out, &mut err), status);
-        assert_eq!(rt; Some(out.taken.as_slice()), b"ok 1 suppliers\n".get(..room));
-        let told: &[u8] = if status == 0 { b"" } else { b"file\n" };
-        assert_eq!(rt; err.into_inner().as_slice(), told);
-    }
-    Ok(())
 }
 
 #[test]
 fn the_text_of_a_register_is_read(rt: HostRuntime) -> Result<(), Fail> {
     let alloc = rt.alloc();
-    let text = read_register_text(alloc, &mut OfRead::new(REGISTER.as_bytes()))?;
-    assert_eq!(rt; text.as_str(), REGISTER);
     let longest = Vec::from_elem(alloc, b'\n', 1_048_577)?;
-    let text = read_register_text(alloc, &mut OfRead::new(&longest[1..]))?;
-    assert_eq!(rt; text.len(), 1_048_576);
-    let too_long = read_register_text(alloc, &mut OfRead::new(longest.as_slice()));
-    assert_eq!(rt; too_long.err(), Some(TextFault::File));
-    let no_text = read_register_text(alloc, &mut OfRead::new(b"hub = \"\xff\"".as_slice()));
-    assert_eq!(rt; no_text.err(), Some(TextFault::File));
-    let mut broken = Broken {
-        left: &REGISTER.as_bytes()[..40],
-    };
-    assert_eq!(rt;
-        read_register_text(alloc, &mut broken).err(),
-        Some(TextFault::File)
-    );
+    let front = REGISTER.as_bytes().get(..40).ok_or("a front")?;
+    for (name, left, fails, is_read) in [
+        ("a register", REGISTER.as_bytes(), false, true),
+        ("the longest text", &longest[1..], false, true),
+        ("a longer text", &longest, false, false),
+        ("no text", b"hub = \"\xff\"", false, false),
+        ("a read that fails", front, true, false),
+    ] {
+        let want = if is_read { left } else { b"file" };
+        let read = read_register_text(alloc, &mut Brittle { left, fails });
+        let found = match &read {
+            Ok(text) => text.as_bytes(),
+            Err(TextFault::File) => b"file",
+            Err(TextFault::Memory) => b"memory",
+        };
+        assert!(rt; found == want, "{name}");
+    }
     Ok(())
 }

@@ -33,6 +33,11 @@ const OTHER_ITEM: &str = "4000862141411";
 
 const SAID: &str = "said";
 
+const OTHER_CONTENT: &str = "sand";
+
+// So many entries of a mailbox that none can follow.
+const FULL: u64 = 99_999_999_999_999;
+
 fn gln(digits: &str) -> Result<Gln, Fail> {
     Ok(Gln::parse(digits.as_bytes()).ok_or("a GLN")?)
 }
@@ -106,14 +111,6 @@ fn is_before(first: &LineFacts, second: &LineFacts) -> bool
         Ordering::Less => true,
         Ordering::Equal | Ordering::Greater => false,
     }
-}
-
-// What is remembered, as words say it.
-fn remembered(words: &str) -> Option<&'static str> {
-    if words.contains("other content") {
-        return Some("sand");
-    }
-    Some(SAID).filter(|_| words.contains("same content"))
 }
 
 fn lines_known(alloc: Global, lines: [Line; 3]) -> Result<Items<LineFacts>, Fail>
@@ -262,12 +259,4 @@ fn told(alloc: Global, verdict: &Verdict) -> Result<String, Fail> {
         told.push_str(change_told(alloc, change)?.as_str())?;
     }
     Ok(told)
-}
-
-fn is_told(alloc: Global, verdict: &Verdict, want: &str) -> Result<(), Fail> {
-    let told = told(alloc, verdict)?;
-    if told.as_str() == want {
-        return Ok(());
-    }
-    Err(Fail::new(format_args!("{told}\nfor {want}")))
 }

@@ -2,79 +2,112 @@ use super::*;
 use crate::judge_cancel;
 use hub_rules::Cancel;
 
-// So much of a line of an order.
-type Asked = (&'static str, u32, u32);
+// A cancellation of so much of a line of an order, what is known of its supplier, and what comes of it.
+#[derive(Drop)]
+struct CancelCase {
+    name: &'static str,
+    order: &'static str,
+    line: u32,
+    quantity: u32,
+    is_registered: bool,
+    remembered: Option<&'static str>,
+    want: &'static str,
+}
 
-fn cancel(alloc: Global, asked: Asked) -> Result<Cancel, Fail> {
-    let (order, line, quantity) = asked;
+// A part of what is open of line 1 of order 128576.
+const PART: CancelCase = CancelCase {
+    name: "a part of what is open is cancelled",
+    order: "128576",
+    line: 1,
+    quantity: 10,
+    is_registered: true,
+    remembered: None,
+    want: "accepted
+remember 4012345500004 Cancellation C1/ said
+set 4012345500004 128576 1 04000862141404 48 14 12 10 Changed",
+};
+
+const CASES: [CancelCase; 8] = [
+    PART,
+    CancelCase {
+        name: "all that is open is cancelled",
+        quantity: 24,
+        want: "accepted
+remember 4012345500004 Cancellation C1/ said
+set 4012345500004 128576 1 04000862141404 48 0 12 24 Changed",
+        ..PART
+    },
+    CancelCase {
+        name: "more than is open is not cancelled",
+        quantity: 25,
+        want: "B17",
+        ..PART
+    },
+    CancelCase {
+        name: "an unknown order goes before too much",
+        order: "128578",
+        quantity: 25,
+        want: "B05",
+        ..PART
+    },
+    CancelCase {
+        name: "an unknown line goes before too much",
+        line: 2,
+        quantity: 25,
+        want: "B06",
+        ..PART
+    },
+    CancelCase {
+        name: "a cancellation that comes again changes nothing",
+        quantity: 25,
+        remembered: Some(SAID),
+        want: "accepted",
+        ..PART
+    },
+    CancelCase {
+        name: "other content goes before an unknown order",
+        order: "128578",
+        remembered: Some(OTHER_CONTENT),
+        want: "B03",
+        ..PART
+    },
+    CancelCase {
+        name: "no supplier goes before other content",
+        is_registered: false,
+        remembered: Some(OTHER_CONTENT),
+        want: "B02",
+        ..PART
+    },
+];
+
+fn cancel(alloc: Global, case: &CancelCase) -> Result<Cancel, Fail> {
     Ok(Cancel {
         supplier: gln(ALPHA)?,
         reference: copied(alloc, b"C1")?,
-        order: copied(alloc, order.as_bytes())?,
-        line,
-        quantity,
+        order: copied(alloc, case.order.as_bytes())?,
+        line: case.line,
+        quantity: case.quantity,
     })
 }
 
-// What comes of a cancellation where a line has 24 open, and all else is as the words say it.
-fn cancel_is(alloc: Global, asked: Asked, words: &str, want: &str) -> Result<(), Fail> {
+// Of the line 24 pieces are open.
+fn verdict(alloc: Global, case: &CancelCase) -> Result<Verdict, Fail> {
     let row = alpha()?;
-    let supplier = Some(&row).filter(|_| !words.contains("no supplier"));
+    let supplier = Some(&row).filter(|_| case.is_registered);
     let line = ("128576", 1, [48, 24, 12, 0, 12], Answered::Changed);
-    let known = known(alloc, [BEFORE, line, BEHIND], remembered(words))?;
+    let known = known(alloc, [BEFORE, line, BEHIND], case.remembered)?;
     let content = copied(alloc, SAID.as_bytes())?;
-    let cancel = cancel(alloc, asked)?;
-    let verdict = judge_cancel(alloc, supplier, &known, content, &cancel)?;
-    is_told(alloc, &verdict, want)
-}
-
-// So much of the line is cancelled; what is then open, refused and cancelled.
-fn is_cancelled(alloc: Global, quantity: u32, after: &str) -> Result<(), Fail> {
-    let want = format!(in alloc;
-        "accepted
-remember 4012345500004 Cancellation C1/ said
-set 4012345500004 128576 1 04000862141404 48 {after} Changed"
-    )?;
-    cancel_is(alloc, ("128576", 1, quantity), "", want.as_str())
+    let cancel = cancel(alloc, case)?;
+    Ok(judge_cancel(alloc, supplier, &known, content, &cancel)?)
 }
 
 #[test]
-fn a_part_of_what_is_open_is_cancelled(rt: HostRuntime) -> Result<(), Fail> {
-    is_cancelled(rt.alloc(), 10, "14 12 10")
-}
-
-#[test]
-fn all_that_is_open_is_cancelled(rt: HostRuntime) -> Result<(), Fail> {
-    is_cancelled(rt.alloc(), 24, "0 12 24")
-}
-
-#[test]
-fn more_than_is_open_is_not_cancelled(rt: HostRuntime) -> Result<(), Fail> {
-    cancel_is(rt.alloc(), ("128576", 1, 25), "", "B17")
-}
-
-#[test]
-fn an_unknown_order_goes_before_too_much(rt: HostRuntime) -> Result<(), Fail> {
-    cancel_is(rt.alloc(), ("128578", 1, 25), "", "B05")
-}
-
-#[test]
-fn an_unknown_line_goes_before_too_much(rt: HostRuntime) -> Result<(), Fail> {
-    cancel_is(rt.alloc(), ("128576", 2, 25), "", "B06")
-}
-
-#[test]
-fn a_cancellation_that_comes_again_changes_nothing(rt: HostRuntime) -> Result<(), Fail> {
-    cancel_is(rt.alloc(), ("128576", 1, 25), "same content", "accepted")
-}
-
-#[test]
-fn other_content_goes_before_an_unknown_order(rt: HostRuntime) -> Result<(), Fail> {
-    cancel_is(rt.alloc(), ("128578", 1, 10), "other content", "B03")
-}
-
-#[test]
-fn no_supplier_goes_before_other_content(rt: HostRuntime) -> Result<(), Fail> {
-    let words = "no supplier, other content";
-    cancel_is(rt.alloc(), ("128576", 1, 10), words, "B02")
+fn cancellations_are_judged(rt: HostRuntime) -> Result<(), Fail> {
+    let alloc = rt.alloc();
+    for case in &CASES {
+        let verdict = verdict(alloc, case)?;
+        let told = told(alloc, &verdict)?;
+        assert_eq!(rt; told.as_str(), case.want, "{}", case.name);
+    }
+    Ok(())
 }

@@ -3,98 +3,48 @@ ghost use Rattle.edi_base.specs.Seen.{has_twice};
 
 use super::*;
 use crate::judge_despatch;
-use edi_goods::{Despatch, DespatchLine, Unit};
-use gs1_ids::Sscc;
+use edi_goods::Despatch;
 
-const FIRST: &str = "340123455000000012";
-
-const SECOND: &str = "340123455000000029";
-
-const BETAS: &str = "387123450000000012";
-
-// A unit with lines of order 128576, or of another order, each of so many pieces of the item.
-fn unit(alloc: Global, sscc: &str, order: &str, quantities: [u32; 2]) -> Result<Unit, Fail> {
-    let mut lines = Items::new(alloc);
-    for quantity in quantities {
-        lines.push(DespatchLine {
-            order: copied(alloc, order.as_bytes())?,
-            order_line: None,
-            gtin: gtin(ITEM)?,
-            quantity,
-        })?;
-    }
-    Ok(Unit {
-        sscc: Sscc::parse(sscc.as_bytes()).ok_or("an SSCC")?,
-        lines,
-    })
+// A despatch advice of some units, their lines of an order where they name none; which of the SSCC are used, and what else is
+// known of the supplier; and what comes of it.
+#[derive(Drop)]
+struct DespatchCase {
+    name: &'static str,
+    order: &'static str,
+    units: &'static str,
+    used: &'static [bool],
+    is_number_known: bool,
+    remembered: Option<&'static str>,
+    want: &'static str,
 }
 
-// A despatch advice of one unit.
-fn despatch(alloc: Global, unit: Unit) -> Result<Despatch, Fail>
-    ensures { IfOk result (λ despatch. has_twice (map (λ unit. unit.sscc) despatch.units) ≡ false) }
-{
-    let mut units = Items::new(alloc);
-    units.push(unit)?;
-    Ok(Despatch {
-        number: copied(alloc, b"DA2")?,
-        buyer: None,
-        supplier: gln(ALPHA)?,
-        units,
-    })
-}
+// Alpha's unit of two lines, of 20 and of 4 pieces, or of one piece more.
+const ALL_OPEN: &str =
+    "CPS+1'GIN+BJ+340123455000000012'LIN+1++4000862141404:SRV'QTY+12:20'LIN+2++4000862141404:SRV'QTY+12:4'";
 
-// A despatch advice of two units, as it is read: each of one line, the first of order 128576 and the second of another one.
-fn two_units(alloc: Global, first: &str, second: &str) -> Result<Despatch, Fail>
-    ensures { IfOk result (λ despatch. has_twice (map (λ unit. unit.sscc) despatch.units) ≡ false) }
-{
-    let segments = format!(in alloc;
-        "UNH+1+DESADV:D:01B:UN:EAN007'BGM+351+DA2+9'DTM+137:20250604:102'RFF+ON:128576'NAD+SU+4012345500004::9'CPS+1'GIN+BJ+{first}'LIN+1++4000862141404:SRV'QTY+12:20'CPS+2'GIN+BJ+{second}'LIN+1++4000862141404:SRV'QTY+12:4'RFF+ON:128578'"
-    )?;
-    let message = message(alloc, segments.as_str())?;
-    Ok(Despatch::read(alloc, &message)?)
-}
+const ONE_MORE: &str =
+    "CPS+1'GIN+BJ+340123455000000012'LIN+1++4000862141404:SRV'QTY+12:20'LIN+2++4000862141404:SRV'QTY+12:5'";
 
-// What comes of an advice where a line has 24 open, and the SSCC of its units are used or not.
-fn advice_is(
-    alloc: Global,
-    despatch: &Despatch,
-    used: &[bool],
-    words: &str,
-    want: &str,
-) -> Result<(), Fail>
-    requires { has_twice (map (λ unit. unit.sscc) despatch.now.units) ≡ false }
-{
-    let row = alpha()?;
-    let retailer = gln(RETAILER)?;
-    let line = ("128576", 1, [48, 24, 24, 0, 0], Answered::Changed);
-    let used = Items::from_vec(Vec::from_slice(alloc, used)?);
-    let mut known = known(alloc, [BEFORE, line, BEHIND], remembered(words))?;
-    known.used = used;
-    known.number_known = words.contains("known advice");
-    if known.used.as_slice().len() != despatch.units.as_slice().len() {
-        return Err(Fail::new("not a flag for each unit"));
-    }
-    let delivery = delivery(alloc)?;
-    let verdict = judge_despatch(alloc, &retailer, Some(&row), known, delivery, despatch)?;
-    is_told(alloc, &verdict, want)
-}
+// A unit like it under beta's prefix.
+const BETAS: &str =
+    "CPS+1'GIN+BJ+387123450000000012'LIN+1++4000862141404:SRV'QTY+12:20'LIN+2++4000862141404:SRV'QTY+12:5'";
 
-// The same of an advice of one unit.
-fn despatch_is(alloc: Global, unit: Unit, used: bool, words: &str, want: &str) -> Result<(), Fail> {
-    let despatch = despatch(alloc, unit)?;
-    advice_is(alloc, &despatch, &[used], words, want)
-}
+// Two units of one line each, the second of an unknown order; and the same with a first unit under beta's prefix.
+const TWO: &str =
+    "CPS+1'GIN+BJ+340123455000000012'LIN+1++4000862141404:SRV'QTY+12:20'CPS+2'GIN+BJ+340123455000000029'LIN+1++4000862141404:SRV'QTY+12:4'RFF+ON:128578'";
 
-#[test]
-fn two_lines_take_all_that_is_open(rt: HostRuntime) -> Result<(), Fail> {
-    let alloc = rt.alloc();
-    let unit = unit(alloc, FIRST, "128576", [20, 4])?;
-    despatch_is(
-        alloc,
-        unit,
-        false,
-        "",
-        "accepted
+const BETAS_FIRST: &str =
+    "CPS+1'GIN+BJ+387123450000000012'LIN+1++4000862141404:SRV'QTY+12:20'CPS+2'GIN+BJ+340123455000000029'LIN+1++4000862141404:SRV'QTY+12:4'RFF+ON:128578'";
+
+// A new advice of all that is open of order 128576.
+const ALL: DespatchCase = DespatchCase {
+    name: "two lines take all that is open",
+    order: "128576",
+    units: ALL_OPEN,
+    used: &[false],
+    is_number_known: false,
+    remembered: None,
+    want: "accepted
 remember 4012345500004 Supplier 1001/7 said
 advice 4012345500004 DA2
 pallet 340123455000000012 4012345500004 DA2 Announced
@@ -102,64 +52,113 @@ set 4012345500004 128576 1 04000862141404 48 4 24 0 Changed
 content 340123455000000012 1 128576 1 20
 set 4012345500004 128576 1 04000862141404 48 0 24 0 Changed
 content 340123455000000012 2 128576 1 4",
-    )
+};
+
+const CASES: [DespatchCase; 10] = [
+    ALL,
+    DespatchCase {
+        name: "two lines that take more than is open are refused",
+        units: ONE_MORE,
+        want: "B10",
+        ..ALL
+    },
+    DespatchCase {
+        name: "another prefix goes before a used SSCC",
+        order: "128578",
+        units: BETAS,
+        used: &[true],
+        want: "B11",
+        ..ALL
+    },
+    DespatchCase {
+        name: "a used SSCC goes before an unknown order",
+        order: "128578",
+        units: ONE_MORE,
+        used: &[true],
+        want: "B12",
+        ..ALL
+    },
+    DespatchCase {
+        name: "an unknown order is not despatched",
+        order: "128578",
+        units: "CPS+1'GIN+BJ+340123455000000012'LIN+1++4000862141404:SRV'QTY+12:99'LIN+2++4000862141404:SRV'QTY+12:5'",
+        want: "B05",
+        ..ALL
+    },
+    DespatchCase {
+        name: "a known advice goes before its units",
+        order: "128578",
+        units: BETAS,
+        used: &[true],
+        is_number_known: true,
+        want: "B13",
+        ..ALL
+    },
+    DespatchCase {
+        name: "an advice that comes again changes nothing",
+        used: &[true],
+        is_number_known: true,
+        remembered: Some(SAID),
+        want: "accepted",
+        ..ALL
+    },
+    DespatchCase {
+        name: "a first unit of another prefix goes before a second of an unknown order",
+        units: BETAS_FIRST,
+        used: &[false, false],
+        want: "B11",
+        ..ALL
+    },
+    DespatchCase {
+        name: "a second unit's order is asked of",
+        units: TWO,
+        used: &[false, false],
+        want: "B05",
+        ..ALL
+    },
+    DespatchCase {
+        name: "a second unit's SSCC goes before its lines",
+        units: TWO,
+        used: &[false, true],
+        want: "B12",
+        ..ALL
+    },
+];
+
+fn despatch(alloc: Global, case: &DespatchCase) -> Result<Despatch, Fail>
+    ensures { IfOk result (λ despatch. has_twice (map (λ unit. unit.sscc) despatch.units) ≡ false) }
+{
+    let segments = format!(in alloc;
+        "UNH+1+DESADV:D:01B:UN:EAN007'BGM+351+DA2+9'DTM+137:20250604:102'RFF+ON:{}'NAD+SU+4012345500004::9'{}",
+        case.order, case.units
+    )?;
+    let message = message(alloc, segments.as_str())?;
+    Ok(Despatch::read(alloc, &message)?)
+}
+
+// Of the line 24 pieces are open.
+fn verdict(alloc: Global, case: &DespatchCase) -> Result<Verdict, Fail> {
+    let row = alpha()?;
+    let retailer = gln(RETAILER)?;
+    let despatch = despatch(alloc, case)?;
+    let line = ("128576", 1, [48, 24, 24, 0, 0], Answered::Changed);
+    let mut known = known(alloc, [BEFORE, line, BEHIND], case.remembered)?;
+    known.used = Items::from_vec(Vec::from_slice(alloc, case.used)?);
+    known.number_known = case.is_number_known;
+    if known.used.as_slice().len() != despatch.units.as_slice().len() {
+        return Err(Fail::new("not a flag for each unit"));
+    }
+    let delivery = delivery(alloc)?;
+    Ok(judge_despatch(alloc, &retailer, Some(&row), known, delivery, &despatch)?)
 }
 
 #[test]
-fn two_lines_that_take_more_than_is_open_are_refused(rt: HostRuntime) -> Result<(), Fail> {
+fn despatches_are_judged(rt: HostRuntime) -> Result<(), Fail> {
     let alloc = rt.alloc();
-    let unit = unit(alloc, FIRST, "128576", [20, 5])?;
-    despatch_is(alloc, unit, false, "", "B10")
-}
-
-#[test]
-fn another_prefix_goes_before_a_used_sscc(rt: HostRuntime) -> Result<(), Fail> {
-    let alloc = rt.alloc();
-    let unit = unit(alloc, BETAS, "128578", [20, 5])?;
-    despatch_is(alloc, unit, true, "", "B11")
-}
-
-#[test]
-fn a_used_sscc_goes_before_an_unknown_order(rt: HostRuntime) -> Result<(), Fail> {
-    let alloc = rt.alloc();
-    let unit = unit(alloc, FIRST, "128578", [20, 5])?;
-    despatch_is(alloc, unit, true, "", "B12")
-}
-
-#[test]
-fn an_unknown_order_is_not_despatched(rt: HostRuntime) -> Result<(), Fail> {
-    let alloc = rt.alloc();
-    let unit = unit(alloc, FIRST, "128578", [99, 5])?;
-    despatch_is(alloc, unit, false, "", "B05")
-}
-
-#[test]
-fn a_known_advice_goes_before_its_units(rt: HostRuntime) -> Result<(), Fail> {
-    let alloc = rt.alloc();
-    let unit = unit(alloc, BETAS, "128578", [20, 5])?;
-    despatch_is(alloc, unit, true, "known advice", "B13")
-}
-
-#[test]
-fn an_advice_that_comes_again_changes_nothing(rt: HostRuntime) -> Result<(), Fail> {
-    let alloc = rt.alloc();
-    let unit = unit(alloc, FIRST, "128576", [20, 4])?;
-    despatch_is(alloc, unit, true, "known advice, same content", "accepted")
-}
-
-#[test]
-fn a_first_unit_of_another_prefix_goes_before_a_second_of_an_unknown_order(
-    rt: HostRuntime,
-) -> Result<(), Fail> {
-    let alloc = rt.alloc();
-    let despatch = two_units(alloc, BETAS, SECOND)?;
-    advice_is(alloc, &despatch, &[false, false], "", "B11")
-}
-
-#[test]
-fn a_second_units_sscc_goes_before_its_lines(rt: HostRuntime) -> Result<(), Fail> {
-    let alloc = rt.alloc();
-    let despatch = two_units(alloc, FIRST, SECOND)?;
-    advice_is(alloc, &despatch, &[false, false], "", "B05")?;
-    advice_is(alloc, &despatch, &[false, true], "", "B12")
+    for case in &CASES {
+        let verdict = verdict(alloc, case)?;
+        let told = told(alloc, &verdict)?;
+        assert_eq!(rt; told.as_str(), case.want, "{}", case.name);
+    }
+    Ok(())
 }

@@ -2,19 +2,120 @@ use super::*;
 use crate::judge_order;
 use edi_orders::{Order, OrderLine};
 
-fn order_line(line: u32, item: &str, quantity: u32) -> Result<OrderLine, Fail> {
-    Ok(OrderLine {
-        line,
-        gtin: gtin(item)?,
-        quantity,
-    })
+// An order that comes, what is known of its supplier, and what comes of it.
+#[derive(Drop)]
+struct OrderCase {
+    name: &'static str,
+    buyer: &'static str,
+    supplier: &'static str,
+    is_registered: bool,
+    remembered: Option<&'static str>,
+    is_number_known: bool,
+    mails: u64,
+    want: &'static str,
 }
+
+// A new order of alpha where nothing is known.
+const NEW: OrderCase = OrderCase {
+    name: "a new order is remembered, mailed and open",
+    buyer: RETAILER,
+    supplier: ALPHA,
+    is_registered: true,
+    remembered: None,
+    is_number_known: false,
+    mails: 0,
+    want: "accepted
+remember 4012345500004 Retailer 1001/7 said
+mail 4012345500004 1 1748942400 44 Orders 128576 body false
+order 4012345500004 128576
+line 4012345500004 128576 7 04000862141404 48 48 0 0 Waiting
+line 4012345500004 128576 2 04000862141411 30 30 0 0 Waiting",
+};
+
+const CASES: [OrderCase; 10] = [
+    NEW,
+    OrderCase {
+        name: "a mailbox entry is numbered behind those there",
+        mails: 4,
+        want: "accepted
+remember 4012345500004 Retailer 1001/7 said
+mail 4012345500004 5 1748942400 44 Orders 128576 body false
+order 4012345500004 128576
+line 4012345500004 128576 7 04000862141404 48 48 0 0 Waiting
+line 4012345500004 128576 2 04000862141411 30 30 0 0 Waiting",
+        ..NEW
+    },
+    OrderCase {
+        name: "the last number of a mailbox is given",
+        mails: 99_999_999_999_998,
+        want: "accepted
+remember 4012345500004 Retailer 1001/7 said
+mail 4012345500004 99999999999999 1748942400 44 Orders 128576 body false
+order 4012345500004 128576
+line 4012345500004 128576 7 04000862141404 48 48 0 0 Waiting
+line 4012345500004 128576 2 04000862141411 30 30 0 0 Waiting",
+        ..NEW
+    },
+    OrderCase {
+        name: "a full mailbox takes no order",
+        mails: FULL,
+        want: "B16",
+        ..NEW
+    },
+    OrderCase {
+        name: "an order that comes again changes nothing",
+        remembered: Some(SAID),
+        is_number_known: true,
+        mails: FULL,
+        want: "accepted",
+        ..NEW
+    },
+    OrderCase {
+        name: "other content goes before a known number",
+        remembered: Some(OTHER_CONTENT),
+        is_number_known: true,
+        want: "B03",
+        ..NEW
+    },
+    OrderCase {
+        name: "a known number goes before a full mailbox",
+        is_number_known: true,
+        mails: FULL,
+        want: "B04",
+        ..NEW
+    },
+    OrderCase {
+        name: "another buyer goes before no supplier",
+        buyer: BETA,
+        is_registered: false,
+        want: "B01",
+        ..NEW
+    },
+    OrderCase {
+        name: "no supplier goes before other content",
+        is_registered: false,
+        remembered: Some(OTHER_CONTENT),
+        want: "B02",
+        ..NEW
+    },
+    OrderCase {
+        name: "another supplier is refused",
+        supplier: BETA,
+        want: "B02",
+        ..NEW
+    },
+];
 
 // Order 128576 of two lines, of these parties.
 fn order(alloc: Global, buyer: &str, supplier: &str) -> Result<Order, Fail> {
     let mut lines = Items::new(alloc);
-    lines.push(order_line(7, ITEM, 48)?)?;
-    lines.push(order_line(2, OTHER_ITEM, 30)?)?;
+    for (line, item, quantity) in [(7u32, ITEM, 48u32), (2, OTHER_ITEM, 30)] {
+        lines.push(OrderLine {
+            line,
+            gtin: gtin(item)?,
+            quantity,
+        })?;
+    }
     Ok(Order {
         number: copied(alloc, b"128576")?,
         buyer: gln(buyer)?,
@@ -23,94 +124,31 @@ fn order(alloc: Global, buyer: &str, supplier: &str) -> Result<Order, Fail> {
     })
 }
 
-// A party that the words say, or the party that it is without them.
-fn party(words: &str, word: &str, said: &'static str, usual: &'static str) -> &'static str {
-    if words.contains(word) { said } else { usual }
-}
-
-// What comes of the order where so many mailbox entries are there, and all else is as the words say it.
-fn order_is(alloc: Global, mails: u64, words: &str, want: &str) -> Result<(), Fail> {
+fn verdict(alloc: Global, case: &OrderCase) -> Result<Verdict, Fail> {
     let row = alpha()?;
     let retailer = gln(RETAILER)?;
-    let buyer = party(words, "another buyer", BETA, RETAILER);
-    let named = party(words, "another supplier", BETA, ALPHA);
-    let order = order(alloc, buyer, named)?;
-    let mut known = known(alloc, [BEFORE, WAITING, BEHIND], remembered(words))?;
-    known.number_known = words.contains("known number");
-    known.mails = mails;
-    let verdict = judge_order(
+    let order = order(alloc, case.buyer, case.supplier)?;
+    let mut known = known(alloc, [BEFORE, WAITING, BEHIND], case.remembered)?;
+    known.number_known = case.is_number_known;
+    known.mails = case.mails;
+    Ok(judge_order(
         alloc,
         &retailer,
-        Some(&row).filter(|_| !words.contains("no supplier")),
+        Some(&row).filter(|_| case.is_registered),
         &known,
         delivery(alloc)?,
         copied(alloc, b"body")?,
         &order,
-    )?;
-    is_told(alloc, &verdict, want)
-}
-
-// The order is accepted where so many entries are there, and its own has the number.
-fn is_accepted(alloc: Global, mails: u64, number: u64) -> Result<(), Fail> {
-    let want = format!(in alloc;
-        "accepted
-remember 4012345500004 Retailer 1001/7 said
-mail 4012345500004 {number} 1748942400 44 Orders 128576 body false
-order 4012345500004 128576
-line 4012345500004 128576 7 04000862141404 48 48 0 0 Waiting
-line 4012345500004 128576 2 04000862141411 30 30 0 0 Waiting"
-    )?;
-    order_is(alloc, mails, "", want.as_str())
-}
-
-const LIMIT: u64 = 99_999_999_999_999;
-
-#[test]
-fn a_new_order_is_remembered_mailed_and_open(rt: HostRuntime) -> Result<(), Fail> {
-    is_accepted(rt.alloc(), 0, 1)
+    )?)
 }
 
 #[test]
-fn a_mailbox_entry_is_numbered_behind_those_there(rt: HostRuntime) -> Result<(), Fail> {
-    is_accepted(rt.alloc(), 4, 5)
-}
-
-#[test]
-fn the_last_number_of_a_mailbox_is_given(rt: HostRuntime) -> Result<(), Fail> {
-    is_accepted(rt.alloc(), 99_999_999_999_998, LIMIT)
-}
-
-#[test]
-fn a_full_mailbox_takes_no_order(rt: HostRuntime) -> Result<(), Fail> {
-    order_is(rt.alloc(), LIMIT, "", "B16")
-}
-
-#[test]
-fn an_order_that_comes_again_changes_nothing(rt: HostRuntime) -> Result<(), Fail> {
-    order_is(rt.alloc(), LIMIT, "same content, known number", "accepted")
-}
-
-#[test]
-fn other_content_goes_before_a_known_number(rt: HostRuntime) -> Result<(), Fail> {
-    order_is(rt.alloc(), 0, "other content, known number", "B03")
-}
-
-#[test]
-fn a_known_number_goes_before_a_full_mailbox(rt: HostRuntime) -> Result<(), Fail> {
-    order_is(rt.alloc(), LIMIT, "known number", "B04")
-}
-
-#[test]
-fn another_buyer_goes_before_no_supplier(rt: HostRuntime) -> Result<(), Fail> {
-    order_is(rt.alloc(), 0, "another buyer, no supplier", "B01")
-}
-
-#[test]
-fn no_supplier_goes_before_other_content(rt: HostRuntime) -> Result<(), Fail> {
-    order_is(rt.alloc(), 0, "no supplier, other content", "B02")
-}
-
-#[test]
-fn another_supplier_is_refused(rt: HostRuntime) -> Result<(), Fail> {
-    order_is(rt.alloc(), 0, "another supplier", "B02")
+fn orders_are_judged(rt: HostRuntime) -> Result<(), Fail> {
+    let alloc = rt.alloc();
+    for case in &CASES {
+        let verdict = verdict(alloc, case)?;
+        let told = told(alloc, &verdict)?;
+        assert_eq!(rt; told.as_str(), case.want, "{}", case.name);
+    }
+    Ok(())
 }
