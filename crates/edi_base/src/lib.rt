@@ -17,6 +17,3 @@ pub use memory::MemoryFault;
 pub use seen::{Seen, number_twice};
 pub use sink::{OfWrite, Sink, WriteFault, write_bytes};
 pub use source::{OfRead, ReadFault, Source, read_to_limit};
-
-#[cfg(test)]
-mod tests;

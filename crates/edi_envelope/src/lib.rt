@@ -18,6 +18,3 @@ pub use law::lowest_condition;
 pub use mail::wrap;
 pub use moment::Moment;
 pub use opening::open;
-
-#[cfg(test)]
-mod tests;

@@ -12,6 +12,3 @@ pub mod values;
 
 pub use fault::MessageFault;
 pub use header::supplier_of;
-
-#[cfg(test)]
-mod tests;

@@ -23,6 +23,3 @@ pub use laws::{
 pub use reading::read_all;
 pub use segment::{Elements, Segment, Service, Tokens};
 pub use text::{append_text, body_text, write_text};
-
-#[cfg(test)]
-mod tests;

@@ -17,6 +17,3 @@ pub use gtin::Gtin;
 pub use overlap::{first_overlap, prefixes_of_one_overlap, sscc_has_one_supplier};
 pub use prefix::Prefix;
 pub use sscc::Sscc;
-
-#[cfg(test)]
-mod tests;

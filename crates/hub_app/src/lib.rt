@@ -11,6 +11,3 @@ pub use check::{TextFault, check_run, read_register_text};
 pub use relay::{RelayFault, RelayWords, relay_text};
 pub use run::relay_run;
 pub use words::{CheckWords, Words, read_words};
-
-#[cfg(test)]
-mod tests;

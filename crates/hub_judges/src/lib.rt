@@ -25,6 +25,3 @@ pub use known::Known;
 pub use order::judge_order;
 pub use receipt::judge_receipt;
 pub use response::judge_response;
-
-#[cfg(test)]
-mod tests;

@@ -13,6 +13,3 @@ pub use book::Book;
 pub use facts::LineFacts;
 pub use lines::{copied_row, is_known, line_numbered};
 pub use order_numbers::OrderNumbers;
-
-#[cfg(test)]
-mod tests;

@@ -17,6 +17,3 @@ pub use key::Key;
 pub use register::{Register, register_has_its_rows};
 pub use role::Role;
 pub use row::SupplierRow;
-
-#[cfg(test)]
-mod tests;

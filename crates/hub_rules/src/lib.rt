@@ -14,6 +14,3 @@ pub use laws::{
     rules_keep_suppliers_apart,
 };
 pub use verdict::Verdict;
-
-#[cfg(test)]
-mod tests;

@@ -15,6 +15,3 @@ pub use laws::rows_are_a_set;
 pub use rows::{
     AdviceRow, ContentRow, LineRow, MailRow, OrderRow, PalletRow, ReceiptRow, RememberedRow,
 };
-
-#[cfg(test)]
-mod tests;

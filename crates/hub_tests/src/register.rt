@@ -1,5 +1,5 @@
-use crate::{Key, Register, RegisterFault, Role};
 use gs1_ids::Gln;
+use hub_register::{Key, Register, RegisterFault, Role};
 use std::alloc::{AllocError, Global};
 use std::test::Fail;
 

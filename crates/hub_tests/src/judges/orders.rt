@@ -1,6 +1,6 @@
 use super::*;
-use crate::judge_order;
 use edi_orders::{Order, OrderLine};
+use hub_judges::judge_order;
 
 // An order that comes, what is known of its supplier, and what comes of it.
 #[derive(Drop)]

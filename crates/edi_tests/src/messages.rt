@@ -1,5 +1,5 @@
-use crate::{MessageFault, supplier_of};
 use edi_envelope::{RawMessage, open};
+use edi_messages::{MessageFault, supplier_of};
 use edi_tokens::read_all;
 use std::alloc::{AllocError, Global};
 use std::test::Fail;

@@ -9,11 +9,11 @@ mod orders;
 mod receipts;
 mod responses;
 
-use crate::{Known, LineFacts};
 use edi_base::{Items, copied};
 use edi_envelope::{Moment, RawMessage, open};
 use edi_tokens::read_all;
 use gs1_ids::{Gln, Gtin, Prefix};
+use hub_judges::{Known, LineFacts};
 use hub_register::{Key, SupplierRow};
 use hub_rules::{Delivery, Verdict};
 use hub_tables::{Answered, Change, Column, LineRow};

@@ -1,4 +1,4 @@
-use crate::Code;
+use hub_rules::Code;
 use std::alloc::AllocError;
 
 #[test]

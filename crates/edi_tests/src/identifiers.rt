@@ -1,4 +1,4 @@
-use super::*;
+use gs1_ids::*;
 use std::cmp::Ordering;
 use std::hash::{DefaultHasher, Hash, Hasher};
 use std::process::Abort;

@@ -4,9 +4,9 @@ ghost use Rattle.edi_base.specs.Seen.{has_twice};
 ghost use Rattle.edi_goods.specs.Receipt.{has_sums};
 
 use super::*;
-use crate::judge_receipt;
 use edi_goods::Receipt;
 use gs1_ids::Sscc;
+use hub_judges::judge_receipt;
 use hub_tables::{Arrival, PalletRow};
 
 // A receiving advice of two units; how far their pallets have come, where they are there, and what else is known of the
@@ -165,6 +165,9 @@ fn verdict(alloc: Global, case: &ReceiptCase) -> Result<Verdict, Fail> {
     let mut known = known(alloc, [BEFORE, WAITING, BEHIND], case.remembered)?;
     known.mails = case.mails;
     known.pallets = pallets(alloc, case.pallets)?;
+    if known.pallets.as_slice().len() != receipt.units.as_slice().len() {
+        return Err(Fail::new("not a pallet for each unit"));
+    }
     Ok(judge_receipt(
         alloc,
         &retailer,

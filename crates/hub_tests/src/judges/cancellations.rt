@@ -1,5 +1,5 @@
 use super::*;
-use crate::judge_cancel;
+use hub_judges::judge_cancel;
 use hub_rules::Cancel;
 
 // A cancellation of so much of a line of an order, what is known of its supplier, and what comes of it.

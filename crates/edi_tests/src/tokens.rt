@@ -1,4 +1,4 @@
-use super::*;
+use edi_tokens::*;
 use std::alloc::Global;
 use std::io;
 use std::io::{Error, ErrorKind, Write};

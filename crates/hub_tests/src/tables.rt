@@ -1,4 +1,4 @@
-use crate::{Answered, Arrival, Column, MailKind, Side};
+use hub_tables::{Answered, Arrival, Column, MailKind, Side};
 
 #[test]
 fn columns_keep_their_cases(rt: HostRuntime) {

@@ -2,8 +2,8 @@ ghost use Rattle.std.specs.Prelude.{◌≡◌, false, map, IfOk};
 ghost use Rattle.edi_base.specs.Seen.{has_twice};
 
 use super::*;
-use crate::judge_despatch;
 use edi_goods::Despatch;
+use hub_judges::judge_despatch;
 
 // A despatch advice of some units, their lines of an order where they name none; which of the SSCC are used, and what else is
 // known of the supplier; and what comes of it.

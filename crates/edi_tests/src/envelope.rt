@@ -1,5 +1,4 @@
-use crate::moment::{date_digits, time_digits};
-use crate::{Head, Interchange, Moment, RawMessage, open, wrap};
+use edi_envelope::{Head, Interchange, Moment, RawMessage, open, wrap};
 use edi_tokens::{body_text, read_all};
 use std::alloc::{AllocError, Global};
 use std::test::Fail;
@@ -94,25 +93,43 @@ fn wraps_a_message_for_the_mailbox(rt: HostRuntime) -> Result<(), Fail> {
     Ok(())
 }
 
+// Date and time of the mail that a message becomes.
+fn mail_date(alloc: Global, message: &RawMessage, moment: Moment) -> Result<Vec<u8>, Fail> {
+    let mail = wrap(
+        alloc,
+        b"5412345000006",
+        b"4012345500004",
+        moment,
+        1,
+        message,
+    )?;
+    let unb = mail.as_slice().first().ok_or("UNB")?;
+    Ok(joined(alloc, &[unb.component(3, 0), unb.component(3, 1)])?)
+}
+
+static MOMENTS: [(u64, &[u8]); 11] = [
+    (0, b"700101 0000 "),
+    (946_684_799, b"991231 2359 "),
+    (946_684_800, b"000101 0000 "),
+    (951_782_399, b"000228 2359 "),
+    (951_782_400, b"000229 0000 "),
+    (951_868_799, b"000229 2359 "),
+    (951_868_800, b"000301 0000 "),
+    (1_709_164_800, b"240229 0000 "),
+    (1_740_787_200, b"250301 0000 "),
+    (1_748_942_400, b"250603 0920 "),
+    (4_102_444_799, b"991231 2359 "),
+];
+
 #[test]
 fn shows_dates_and_times_at_utc(rt: HostRuntime) -> Result<(), Fail> {
-    let rows = [
-        (0, *b"700101", *b"0000"),
-        (946_684_799, *b"991231", *b"2359"),
-        (946_684_800, *b"000101", *b"0000"),
-        (951_782_399, *b"000228", *b"2359"),
-        (951_782_400, *b"000229", *b"0000"),
-        (951_868_799, *b"000229", *b"2359"),
-        (951_868_800, *b"000301", *b"0000"),
-        (1_709_164_800, *b"240229", *b"0000"),
-        (1_740_787_200, *b"250301", *b"0000"),
-        (1_748_942_400, *b"250603", *b"0920"),
-        (4_102_444_799, *b"991231", *b"2359"),
-    ];
-    for row in rows {
-        let moment = Moment::new(row.0).ok_or("a moment")?;
-        let shown = (moment.seconds(), date_digits(moment), time_digits(moment));
-        assert_eq!(rt; shown, row);
+    let alloc = rt.alloc();
+    let message = only_message(alloc, RELAYED)?;
+    for (seconds, want) in &MOMENTS {
+        let moment = Moment::new(*seconds).ok_or("a moment")?;
+        assert_eq!(rt; moment.seconds(), *seconds);
+        let date = mail_date(alloc, &message, moment)?;
+        assert_eq!(rt; date.as_slice(), *want);
     }
     assert_eq!(rt; Moment::new(4_102_444_800), None);
     Ok(())

@@ -1,9 +1,9 @@
 ghost use Rattle.std.specs.Prelude.{IfSome};
 ghost use Rattle.hub_app.specs.Relay.{AreRelayWords};
 
-use crate::{RelayWords, TextFault, check_run, read_register_text, relay_run, relay_text};
 use edi_envelope::Moment;
 use edi_tokens::{Sink, Source};
+use hub_app::{RelayWords, TextFault, check_run, read_register_text, relay_run, relay_text};
 use std::alloc::Global;
 use std::io;
 use std::test::Fail;

@@ -1,6 +1,6 @@
 use super::*;
-use crate::judge_response;
 use edi_orders::{Answer, AnswerLine, LineAnswer, Response};
+use hub_judges::judge_response;
 
 // An answer to an order where these lines are known, and what comes of it.
 #[derive(Drop)]

@@ -2,9 +2,9 @@ ghost use Rattle.std.specs.Prelude.{◌≡◌, IfOk, IsTrue};
 ghost use Rattle.std.specs.declared.cmp.Ordering.TheVariants.{Less};
 ghost use Rattle.hub_lines.specs.Book.{Rise, facts_cmp};
 
-use crate::{Book, LineFacts, OrderNumbers, copied_row};
 use edi_base::{Items, copied};
 use gs1_ids::{Gln, Gtin};
+use hub_lines::{Book, LineFacts, OrderNumbers, copied_row};
 use hub_tables::{Answered, Column, LineRow};
 use std::alloc::Global;
 use std::test::Fail;

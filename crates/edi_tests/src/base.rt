@@ -1,4 +1,4 @@
-use super::*;
+use edi_base::*;
 use std::alloc::Global;
 use std::io;
 use std::io::{Error, ErrorKind, Read, Write};

@@ -1,0 +1,13 @@
+//! Tests of the public calls of the layers that read and write interchanges, in one crate, so that no crate below is proved twice.
+#![tactic(auto)]
+
+#[cfg(test)]
+mod base;
+#[cfg(test)]
+mod envelope;
+#[cfg(test)]
+mod identifiers;
+#[cfg(test)]
+mod messages;
+#[cfg(test)]
+mod tokens;

@@ -1,0 +1,15 @@
+//! Tests of the public calls of the hub's layers, in one crate, so that no crate below is proved twice.
+#![tactic(auto)]
+
+#[cfg(test)]
+mod app;
+#[cfg(test)]
+mod judges;
+#[cfg(test)]
+mod lines;
+#[cfg(test)]
+mod register;
+#[cfg(test)]
+mod rules;
+#[cfg(test)]
+mod tables;
