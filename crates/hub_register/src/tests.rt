@@ -1,4 +1,4 @@
-use crate::{Key, Register, RegisterFault, Role};
+use crate::{Register, RegisterFault, Role};
 use gs1_ids::{Gln, check_digit};
 use std::alloc::{AllocError, Global};
 use std::test::Fail;
@@ -278,7 +278,9 @@ fn parties_are_found(rt: HostRuntime) -> Result<(), Fail> {
     let gamma = Gln::parse(GAMMA.as_bytes()).ok_or("a GLN")?;
     let row = register.supplier(&alpha).ok_or("a row")?;
     assert_eq!(rt; row.gln.digits().as_slice(), ALPHA.as_bytes());
-    assert_eq!(rt; row.prefix.digits(), b"40123455".as_slice());
+    let prefix = row.prefixes.as_slice().first().ok_or("a prefix")?;
+    assert_eq!(rt; prefix.digits(), b"40123455".as_slice());
+    assert_eq!(rt; row.prefixes.len(), 1);
     assert_eq!(rt; row.key.bytes(), b"alpha-key-1".as_slice());
     assert!(rt; register.supplier(&gamma).is_none());
     assert!(rt; register.supplier(register.retailer()).is_none());
@@ -316,25 +318,7 @@ fn parties_are_known_by_their_keys(rt: HostRuntime) -> Result<(), Fail> {
 }
 
 #[test]
-fn keys_of_8_to_64_visible_bytes(rt: HostRuntime) {
-    let longest = [b'~'; 65];
-    for (is_party_key, text) in [
-        (false, b"1234567".as_slice()),
-        (true, b"!2345678"),
-        (false, b"12345 78"),
-        (false, b"1234567\x7f"),
-        (false, b"1234567\xa0"),
-        (true, &longest[..64]),
-        (false, &longest),
-    ] {
-        assert_eq!(rt; Key::parse(text).is_some(), is_party_key);
-    }
-}
-
-#[test]
-fn a_key_is_not_shown(rt: HostRuntime) -> Result<(), Fail> {
-    let key = Key::parse(b"alpha-key-1").ok_or("a key")?;
-    assert_eq!(rt; format!(in rt.alloc(); "{key:?}")?.as_str(), "Key(..)");
+fn an_overlap_tells_its_places(rt: HostRuntime) -> Result<(), Fail> {
     assert_eq!(rt;
         RegisterFault::Overlap(12, 345)
             .to_string(rt.alloc())?

@@ -6,6 +6,7 @@ use Rattle.gs1_ids.specs.Sscc.{under_some}
 use Rattle.edi_goods.specs.declared.despatch.Despatch.{Despatch}
 use Rattle.edi_goods.specs.declared.despatch.DespatchLine.{DespatchLine}
 use Rattle.edi_goods.specs.declared.despatch.Unit.{Unit as PalletUnit}
+use Rattle.hub_parties.specs.declared.row.SupplierRow.{SupplierRow}
 use Rattle.hub_tables.specs.Cases.{arrival_number}
 use Rattle.hub_tables.specs.Change.{apply}
 use Rattle.hub_tables.specs.Rows.{same, pallet_cmp}
@@ -24,7 +25,6 @@ use Rattle.hub_rules.specs.DespatchRules.{placed, judge_despatched, judge_unit, 
 use Rattle.hub_rules.specs.Judging.{in_order}
 use Rattle.hub_rules.specs.Sound.{knows_line, same_place}
 use Rattle.hub_rules.specs.Rules.{judge_despatch}
-use Rattle.hub_rules.specs.Suppliers.{Supplier}
 use Rattle.hub_rules.specs.declared.code.Code.TheVariants as codes
 use Rattle.hub_rules.specs.declared.delivery.Delivery.{Delivery}
 use Rattle.hub_rules.proofs.Belonging.{Belongs}
@@ -39,12 +39,12 @@ balanced_despatched : (ordered open_qty refused cancelled sent quantity : ℕ) �
 balanced_despatched ordered open_qty refused cancelled sent quantity h enough = grind (arith, nat_tests)
 
 -- while a pallet is filled: it is there, with so many contents
-record Filled (s : Supplier) (sscc : List ℕ) (n : ℕ) (state : Tables) : Type 0 where
+record Filled (s : SupplierRow) (sscc : List ℕ) (n : ℕ) (state : Tables) : Type 0 where
   pub good : Good s state
   pub there : has_pallet state sscc ≡ true
   pub count : length (filter (λ content. same content.sscc sscc) state.contents) ≡ n
 
-module _ (s : Supplier) where
+module _ (s : SupplierRow) where
   leads_despatched : (sscc : List ℕ) (n : ℕ) (said : DespatchLine) → Leads s (Filled s sscc n) (Filled s sscc (n + 1)) (judge_despatched sscc (n + 1, said))
   leads_despatched sscc n said state changes filled h =
       let a = not_refused (not (knows_order state said.order)) codes.NoOrder _ changes h in

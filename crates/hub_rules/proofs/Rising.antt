@@ -9,6 +9,9 @@ use Rattle.std.proofs.lemmas.Bool.{and_from, or_parts}
 use Rattle.std.proofs.lemmas.Bool.Decides.{nat_tests}
 use Rattle.std.proofs.lemmas.Map.Text.{is_eq-slice_cmp}
 use Rattle.gs1_ids.specs.Sscc.{under_some}
+use Rattle.gs1_ids.specs.Overlap.{PrefixFree}
+use Rattle.hub_parties.specs.Rows.{company_prefixes}
+use Rattle.hub_parties.specs.declared.row.SupplierRow.{SupplierRow}
 use Rattle.hub_tables.specs.Keys.{bytes_cmp, InOrder}
 use Rattle.hub_tables.specs.Rows.{same, order_cmp, line_cmp, advice_cmp, pallet_cmp, content_cmp, receipt_cmp, remembered_cmp, mail_cmp}
 use Rattle.hub_tables.specs.Sets.{Rises, Rising}
@@ -18,7 +21,6 @@ use Rattle.hub_tables.specs.declared.rows.MailRow.{MailRow}
 use Rattle.hub_tables.proofs.KeyOrder.{in_order_filter}
 use Rattle.hub_tables.proofs.Lists.{decide, same_is, same_if, filter_none, all_filter, all_weaker, all_always}
 use Rattle.hub_rules.specs.Sound.{Numbered, Placed, Single, same_order, same_place, same_advice, same_sscc, same_gtin, same_reference, Kept, IsRooted, Rooted}
-use Rattle.hub_rules.specs.Suppliers.{Supplier, PrefixFree}
 use Rattle.hub_rules.proofs.Prefixes.{any_found, owner}
 use Rattle.hub_rules.proofs.Views.{view_own}
 
@@ -164,7 +166,7 @@ module _ {X : Type 0} (cmp : X → X → Ordering) (sscc : X → List ℕ) (t : 
       ]
 
 -- the rows of all suppliers rise, where those that each sees are as they are to be
-pub all_rise : (suppliers : List Supplier) (t : Tables) → PrefixFree suppliers → Rooted suppliers t → ((gln : List ℕ) → Kept (view gln t)) → Rising t
+pub all_rise : (suppliers : List SupplierRow) (t : Tables) → PrefixFree (company_prefixes suppliers) → Rooted suppliers t → ((gln : List ℕ) → Kept (view gln t)) → Rising t
 all_rise suppliers t free rooted kept =
     let ordered = rooted.ordered in
     let seen : (gln : List ℕ) → Rising (view gln t) = λ gln. view_rises gln t ordered (kept gln) in

@@ -2,6 +2,8 @@
 use Rattle.std.specs.Prelude.{◌≡◌, ℕ, ◌+◌, ◌==◌, Bool, true, false, not, ◌&&◌, List, [], ◌∷◌, filter, Some, ⊤}
 use Rattle.std.specs.List.{AllByRecursion, list_any}
 use Rattle.gs1_ids.specs.Sscc.{under_some}
+use Rattle.hub_parties.specs.Rows.{supplier_of}
+use Rattle.hub_parties.specs.declared.row.SupplierRow.{SupplierRow}
 use Rattle.hub_tables.specs.Cases.{arrival_number}
 use Rattle.hub_tables.specs.Rows.{same}
 use Rattle.hub_tables.specs.State.{knows_order, despatched}
@@ -15,7 +17,6 @@ use Rattle.hub_tables.specs.declared.rows.ContentRow.{ContentRow}
 use Rattle.hub_tables.specs.declared.rows.ReceiptRow.{ReceiptRow}
 use Rattle.hub_tables.specs.declared.rows.RememberedRow.{RememberedRow}
 use Rattle.hub_tables.specs.declared.rows.MailRow.{MailRow}
-use Rattle.hub_rules.specs.Suppliers.{Supplier, supplier_of}
 
 -- the line sum: ordered is open, refused, cancelled and despatched together
 abbrev pub Balanced : Tables → LineRow → Type 0
@@ -63,7 +64,7 @@ Placed n [] = ⊤
 Placed n (content ∷ contents) = (content.place ≡ n + 1) × Placed (n + 1) contents
 
 -- each row is the supplier's, and each content and receipt is on a pallet that is
-pub record IsOwn (s : Supplier) (state : Tables) : Type 0 where
+pub record IsOwn (s : SupplierRow) (state : Tables) : Type 0 where
   pub ordered : Ordered state
   pub orders : AllByRecursion (λ order. order.supplier ≡ s.gln) state.orders
   pub lines : AllByRecursion (λ line. line.supplier ≡ s.gln) state.lines
@@ -91,13 +92,13 @@ pub record Kept (state : Tables) : Type 0 where
   pub balanced : AllByRecursion (Balanced state) state.lines
 
 -- a pallet's supplier is known, and its SSCC is under a prefix of that supplier
-pub record IsRooted (suppliers : List Supplier) (pallet : PalletRow) : Type 0 where
-  pub supplier : Supplier
+pub record IsRooted (suppliers : List SupplierRow) (pallet : PalletRow) : Type 0 where
+  pub supplier : SupplierRow
   pub known : supplier_of suppliers pallet.supplier ≡ Some supplier
   pub is_under : under_some pallet.sscc supplier.prefixes ≡ true
 
 -- rows are in key order, each pallet is its supplier's, and each content and receipt has its pallet
-pub record Rooted (suppliers : List Supplier) (t : Tables) : Type 0 where
+pub record Rooted (suppliers : List SupplierRow) (t : Tables) : Type 0 where
   pub ordered : Ordered t
   pub pallets : AllByRecursion (IsRooted suppliers) t.pallets
   pub contents : AllByRecursion (λ content. has_pallet t content.sscc ≡ true) t.contents
@@ -105,6 +106,6 @@ pub record Rooted (suppliers : List Supplier) (t : Tables) : Type 0 where
 
 -- rows are in key order, each pallet is a registered supplier's and its SSCC under that supplier's prefixes, contents and
 -- receipts have their pallet; and what each supplier sees is sound by itself
-pub record Sound (suppliers : List Supplier) (t : Tables) : Type 0 where
+pub record Sound (suppliers : List SupplierRow) (t : Tables) : Type 0 where
   pub rooted : Rooted suppliers t
   pub kept : (gln : List ℕ) → Kept (view gln t)

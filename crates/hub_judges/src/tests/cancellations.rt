@@ -18,7 +18,7 @@ fn cancel(alloc: Global, asked: Asked) -> Result<Cancel, Fail> {
 
 // What comes of a cancellation where a line has 24 open, and all else is as the words say it.
 fn cancel_is(alloc: Global, asked: Asked, words: &str, want: &str) -> Result<(), Fail> {
-    let row = alpha()?;
+    let row = alpha(alloc)?;
     let supplier = Some(&row).filter(|_| !words.contains("no supplier"));
     let line = ("128576", 1, [48, 24, 12, 0, 12], Answered::Changed);
     let known = known(alloc, [BEFORE, line, BEHIND], remembered(words))?;

@@ -64,7 +64,7 @@ fn advice_is(
 ) -> Result<(), Fail>
     requires { has_twice (map (λ unit. unit.sscc) despatch.now.units) ≡ false }
 {
-    let row = alpha()?;
+    let row = alpha(alloc)?;
     let retailer = gln(RETAILER)?;
     let line = ("128576", 1, [48, 24, 24, 0, 0], Answered::Changed);
     let used = Items::from_vec(Vec::from_slice(alloc, used)?);

@@ -30,7 +30,7 @@ fn party(words: &str, word: &str, said: &'static str, usual: &'static str) -> &'
 
 // What comes of the order where so many mailbox entries are there, and all else is as the words say it.
 fn order_is(alloc: Global, mails: u64, words: &str, want: &str) -> Result<(), Fail> {
-    let row = alpha()?;
+    let row = alpha(alloc)?;
     let retailer = gln(RETAILER)?;
     let buyer = party(words, "another buyer", BETA, RETAILER);
     let named = party(words, "another supplier", BETA, ALPHA);

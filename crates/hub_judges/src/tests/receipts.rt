@@ -57,7 +57,7 @@ fn receipt_is(
     requires apart { has_twice (map (λ unit. unit.sscc) receipt.now.units) ≡ false }
     requires sums { list_all (λ unit. has_sums unit.lines) receipt.now.units ≡ true }
 {
-    let row = alpha()?;
+    let row = alpha(alloc)?;
     let retailer = gln(RETAILER)?;
     let mut known = known(alloc, [BEFORE, WAITING, BEHIND], remembered(words))?;
     known.mails = mails;

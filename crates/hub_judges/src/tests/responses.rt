@@ -29,7 +29,7 @@ fn response(alloc: Global, order: &str, answer: Answer) -> Result<Response, Fail
 
 // What comes of an answer where these lines are known: a code, or the lines that are set after it is remembered.
 fn is_told_of(alloc: Global, lines: [Line; 3], said: &Response, want: &str) -> Result<(), Fail> {
-    let row = alpha()?;
+    let row = alpha(alloc)?;
     let retailer = gln(RETAILER)?;
     let known = known(alloc, lines, None)?;
     let delivery = delivery(alloc)?;
