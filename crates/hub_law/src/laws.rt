@@ -46,8 +46,8 @@ pub fn runs_alike()
 
 /// Whatever is asked, and by whomever, tables that are sound are so after it, and empty tables are. That is: rows are in the order
 /// of their keys, and no key stands twice among a supplier's rows; each line has its order, each content its line and its pallet,
-/// and each receipt a pallet that was received; each pallet is a supplier's and under one of its prefixes; mailbox entries and the
-/// contents of a pallet are numbered from 1; and every line balances.
+/// and each receipt a pallet that was received; each pallet is a supplier's and under one of its prefixes; mailbox entries are
+/// numbered from 1; and every line balances.
 pub fn hub_stays_sound()
     ensures step { (register : Rows) (t : Tables) (input : Input) (mark : Mark) → PrefixFree (company_prefixes register.suppliers) → Sound register.suppliers t → Sound register.suppliers (shared_step register t input mark).1 }
     ensures run { (register : Rows) (t : Tables) (inputs : Inputs) → PrefixFree (company_prefixes register.suppliers) → Sound register.suppliers t → Sound register.suppliers (shared_run register t inputs).1 }

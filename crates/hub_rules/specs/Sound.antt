@@ -27,7 +27,7 @@ abbrev pub Single : {X : Type 0} → (X → X → Bool) → List X → Type 0
 Single alike [] = ⊤
 Single alike (x ∷ xs) = (list_any (alike x) xs ≡ false) × Single alike xs
 
--- Rows of one supplier have one key.
+-- Rows of one supplier have one key, and contents and receipts of one pallet.
 abbrev pub same_order : OrderRow → OrderRow → Bool
 same_order a b = same a.number b.number
 
@@ -39,6 +39,9 @@ same_advice a b = same a.number b.number
 
 abbrev pub same_sscc : PalletRow → PalletRow → Bool
 same_sscc a b = same a.sscc b.sscc
+
+abbrev pub same_spot : ContentRow → ContentRow → Bool
+same_spot a b = a.place == b.place
 
 abbrev pub same_gtin : ReceiptRow → ReceiptRow → Bool
 same_gtin a b = same a.gtin b.gtin
@@ -58,11 +61,6 @@ abbrev pub Numbered : ℕ → List MailRow → Type 0
 Numbered n [] = ⊤
 Numbered n (entry ∷ entries) = (entry.number ≡ n + 1) × Numbered (n + 1) entries
 
--- the places of contents go on from n
-abbrev pub Placed : ℕ → List ContentRow → Type 0
-Placed n [] = ⊤
-Placed n (content ∷ contents) = (content.place ≡ n + 1) × Placed (n + 1) contents
-
 -- each row is the supplier's, and each content and receipt is on a pallet that is
 pub record IsOwn (s : SupplierRow) (state : Tables) : Type 0 where
   pub ordered : Ordered state
@@ -75,16 +73,16 @@ pub record IsOwn (s : SupplierRow) (state : Tables) : Type 0 where
   pub remembered : AllByRecursion (λ row. row.supplier ≡ s.gln) state.remembered
   pub mail : AllByRecursion (λ entry. entry.supplier ≡ s.gln) state.mail
 
--- keys are single; lines have their order, contents their line, receipts a pallet that was received; entries and places are
--- numbered from 1; and every line is balanced
+-- keys are single; lines have their order, contents their line, receipts a pallet that was received; entries are numbered from
+-- 1; and every line is balanced
 pub record Kept (state : Tables) : Type 0 where
   pub orders : Single same_order state.orders
   pub lines : Single same_place state.lines
   pub advices : Single same_advice state.advices
   pub pallets : Single same_sscc state.pallets
+  pub contents : (sscc : List ℕ) → Single same_spot (filter (λ content. same content.sscc sscc) state.contents)
   pub receipts : (sscc : List ℕ) → Single same_gtin (filter (λ receipt. same receipt.sscc sscc) state.receipts)
   pub remembered : Single same_reference state.remembered
-  pub places : (sscc : List ℕ) → Placed 0 (filter (λ content. same content.sscc sscc) state.contents)
   pub mail : Numbered 0 state.mail
   pub line_orders : AllByRecursion (λ line. knows_order state line.number ≡ true) state.lines
   pub content_lines : AllByRecursion (λ content. knows_line state content.number content.line ≡ true) state.contents
