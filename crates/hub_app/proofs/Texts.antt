@@ -2,7 +2,7 @@
 use Rattle.std.proofs.Common.{◌≡◌, ℕ, ◌+◌, ◌<◌, ◌≤◌, List, length, take, Option, Some, None, Result, Ok, Err, IsUtf8, sym, ap, ◌∙◌, subst, arith}
 use Rattle.std.specs.Prelude.{IfSome}
 use Rattle.std.proofs.lemmas.List.{length-take, take_all}
-use Rattle.hub_register.specs.Rows.{Rows}
+use Rattle.hub_parties.specs.Rows.{Rows}
 use Rattle.hub_register.specs.declared.fault.RegisterFault.{RegisterFault}
 use Rattle.hub_app.specs.Check.{IsRegisterText, verdict_status}
 

@@ -5,7 +5,7 @@ use Rattle.edi_base.specs.declared.source.ReadFault.{ReadFault}
 use Rattle.edi_base.specs.declared.source.ReadFault.TheVariants as read
 use Rattle.hub_app.specs.declared.check.TextFault.{TextFault}
 use Rattle.hub_app.specs.declared.check.TextFault.TheVariants.{File, Memory}
-use Rattle.hub_register.specs.Rows.{Rows}
+use Rattle.hub_parties.specs.Rows.{Rows}
 use Rattle.hub_register.specs.Text.{fault_text}
 use Rattle.hub_register.specs.declared.fault.RegisterFault.{RegisterFault}
 

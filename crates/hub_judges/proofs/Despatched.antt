@@ -9,6 +9,7 @@ use Rattle.gs1_ids.specs.Sscc.{under_some}
 use Rattle.edi_goods.specs.declared.despatch.Despatch.{Despatch}
 use Rattle.edi_goods.specs.declared.despatch.DespatchLine.{DespatchLine}
 use Rattle.edi_goods.specs.declared.despatch.Unit.{Unit}
+use Rattle.hub_parties.specs.declared.row.SupplierRow.{SupplierRow}
 use Rattle.hub_tables.specs.Change.{apply, apply_all}
 use Rattle.hub_tables.specs.Keys.{put}
 use Rattle.hub_tables.specs.Rows.{same, pallet_cmp}
@@ -25,7 +26,6 @@ use Rattle.hub_lines.specs.Book.{facts_of, facts_among, with_row, answered_row}
 use Rattle.hub_lines.specs.declared.facts.LineFacts.{LineFacts}
 use Rattle.hub_rules.specs.DespatchRules.{placed, judge_despatched, judge_unit, judge_new_despatch}
 use Rattle.hub_rules.specs.Judging.{Judge, refuse_if, given, joined, goes_on, in_order}
-use Rattle.hub_rules.specs.Suppliers.{Supplier}
 use Rattle.hub_rules.specs.declared.code.Code.TheVariants.{NoOrder, NoLine, OtherItem, MoreThanOpen, OtherPrefix, SsccUsed, AdviceKnown}
 use Rattle.hub_rules.specs.declared.verdict.Verdict.{Verdict}
 use Rattle.hub_rules.specs.declared.verdict.Verdict.TheVariants.{Accept, Refuse}
@@ -134,7 +134,7 @@ module _ (named : List ℕ → Bool) (orders : List (List ℕ)) where
       or_nothing true = refl
       or_nothing false = refl
 
-  module _ (s : Supplier) (used : List ℕ → Bool) (advice : List ℕ) where
+  module _ (s : SupplierRow) (used : List ℕ → Bool) (advice : List ℕ) where
     abbrev pallet_of : Unit → PalletRow
     pallet_of unit = record { sscc = unit.sscc; supplier = s.gln; advice = advice; received = 0 }
 
@@ -187,7 +187,7 @@ used_all used state there (unit ∷ units) = (one, used_all used state there uni
     one : (used unit.sscc || has_pallet state unit.sscc) ≡ used unit.sscc
     one = by_case (used unit.sscc) (has_pallet state unit.sscc) (there unit.sscc)
 
-pub despatch_alike : (s : Supplier) (used : List ℕ → Bool) (known : Known) (despatch : Despatch) (state : Tables) → knows_advice state despatch.number ≡ known.number_known →
+pub despatch_alike : (s : SupplierRow) (used : List ℕ → Bool) (known : Known) (despatch : Despatch) (state : Tables) → knows_advice state despatch.number ≡ known.number_known →
     map (λ unit. used unit.sscc) despatch.units ≡ known.used → ((sscc : List ℕ) → has_pallet state sscc ≡ true → used sscc ≡ true) →
     ((order : List ℕ) → names_order despatch.units order ≡ true → TellsOrder known state order) → ((order : List ℕ) → names_order despatch.units order ≡ true → TellsLines state known.lines order) →
     has_twice (map (λ unit. unit.sscc) despatch.units) ≡ false → judge_new_despatch s used despatch state ≡ despatch_from s despatch known
@@ -217,7 +217,7 @@ despatched_next sscc orders n said rest before lines after line row number next 
     ∙ ap₂ (λ (r : LineRow) (name : List ℕ). joined ((before ++ SetLine (record r { open_qty = r.open_qty - said.quantity }) ∷ []) ++ AddContent (record { sscc = sscc; place = n + 1; number = name; line = r.line; quantity = said.quantity }) ∷ []) tail) (sym is) (sym named)
 
 -- one unit judged by the code, up to its lines
-pub unit_next : (s : Supplier) (advice : List ℕ) (orders : List (List ℕ)) (unit : Unit) (units : List Unit) (used : Bool) (rest : List Bool) (before : List Change) (lines : List LineFacts) → ((verdict : Verdict) → unit_checks s unit.sscc used verdict ≡ verdict) →
+pub unit_next : (s : SupplierRow) (advice : List ℕ) (orders : List (List ℕ)) (unit : Unit) (units : List Unit) (used : Bool) (rest : List Bool) (before : List Change) (lines : List LineFacts) → ((verdict : Verdict) → unit_checks s unit.sscc used verdict ≡ verdict) →
     joined before (units_from s advice orders (unit ∷ units) (used ∷ rest) lines) ≡ joined (before ++ new_pallet s advice unit.sscc ∷ []) (lines_from unit.sscc orders 0 unit.lines lines (λ left. units_from s advice orders units rest left))
 unit_next s advice orders unit units used rest before lines pass =
     ap (joined before) (pass (joined (new_pallet s advice unit.sscc ∷ []) (lines_from unit.sscc orders 0 unit.lines lines (λ left. units_from s advice orders units rest left))))
@@ -234,7 +234,7 @@ module _ (a b : List (List ℕ)) (same_orders : (order : List ℕ) → is_among 
         | Some line ↦ ap (λ rest. despatch_checks x line (joined (SetLine (after_despatch x line) ∷ new_content sscc (n + 1) x line ∷ []) rest)) (lines_by_orders sscc f g alike (n + 1) said (with_row (after_despatch x line) lines))
       ])
 
-  pub units_by_orders : (s : Supplier) (advice : List ℕ) (units : List Unit) (used : List Bool) (lines : List LineFacts) → units_from s advice a units used lines ≡ units_from s advice b units used lines
+  pub units_by_orders : (s : SupplierRow) (advice : List ℕ) (units : List Unit) (used : List Bool) (lines : List LineFacts) → units_from s advice a units used lines ≡ units_from s advice b units used lines
   units_by_orders s advice [] used lines = refl
   units_by_orders s advice (unit ∷ units) [] lines = refl
   units_by_orders s advice (unit ∷ units) (flag ∷ used) lines =

@@ -1,5 +1,6 @@
 -- A message that is admitted and new is judged as the rest of its checks say, and is remembered first.
 use Rattle.std.proofs.Common.{◌≡◌, ℕ, List, [], ◌∷◌, Option, sym, ◌∙◌, ap}
+use Rattle.hub_parties.specs.declared.row.SupplierRow.{SupplierRow}
 use Rattle.hub_tables.specs.Change.{apply_all}
 use Rattle.hub_tables.specs.State.{remembered_of}
 use Rattle.hub_tables.specs.Tables.{Tables}
@@ -10,17 +11,16 @@ use Rattle.hub_rules.specs.Judging.{Judge, gives, in_turn, joined, refuse_if}
 use Rattle.hub_rules.specs.RepeatRules.{remembered, once, judge_once}
 use Rattle.hub_rules.specs.PartyRules.{is_other_buyer, registered}
 use Rattle.hub_rules.specs.Rules.{referred_by, judge_message}
-use Rattle.hub_rules.specs.Suppliers.{Supplier}
 use Rattle.hub_rules.specs.declared.code.Code.TheVariants.{Buyer}
 use Rattle.hub_rules.specs.declared.delivery.Delivery.{Delivery}
 use Rattle.hub_rules.specs.declared.verdict.Verdict.{Verdict}
 
 -- what is remembered of it
-abbrev pub first_of : Supplier → Side → Delivery → List Change
+abbrev pub first_of : SupplierRow → Side → Delivery → List Change
 first_of s side delivery = Remember (remembered (referred_by s side delivery) delivery.content) ∷ []
 
-pub judged_message : (retailer : List ℕ) (supplier : Option Supplier) (side : Side) (delivery : Delivery) (buyer : Option (List ℕ)) (named : List ℕ) (rest : Supplier → Judge) (s : Supplier) (state : Tables) (content : List ℕ) (verdict : Verdict) →
-    ((next : Supplier → Verdict) → refuse_if (is_other_buyer retailer buyer) Buyer (registered supplier named next) ≡ next s) → content ≡ delivery.content →
+pub judged_message : (retailer : List ℕ) (supplier : Option SupplierRow) (side : Side) (delivery : Delivery) (buyer : Option (List ℕ)) (named : List ℕ) (rest : SupplierRow → Judge) (s : SupplierRow) (state : Tables) (content : List ℕ) (verdict : Verdict) →
+    ((next : SupplierRow → Verdict) → refuse_if (is_other_buyer retailer buyer) Buyer (registered supplier named next) ≡ next s) → content ≡ delivery.content →
     ((fresh : Verdict) → once (remembered_of state side delivery.control delivery.message) content fresh ≡ fresh) → rest s (apply_all (first_of s side delivery) state) ≡ verdict →
     judge_message retailer supplier side delivery buyer named rest state ≡ joined (first_of s side delivery) verdict
 judged_message retailer supplier side delivery buyer named rest s state content verdict admitted is new judged =

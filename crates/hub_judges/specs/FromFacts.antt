@@ -14,6 +14,7 @@ use Rattle.edi_goods.specs.declared.despatch.Despatch.{Despatch}
 use Rattle.edi_goods.specs.declared.despatch.DespatchLine.{DespatchLine}
 use Rattle.edi_goods.specs.declared.despatch.Unit.{Unit}
 use Rattle.edi_goods.specs.declared.receipt.ReceiptUnit.{ReceiptUnit}
+use Rattle.hub_parties.specs.declared.row.SupplierRow.{SupplierRow}
 use Rattle.hub_tables.specs.Cases.{arrival_number}
 use Rattle.hub_tables.specs.Rows.{same}
 use Rattle.hub_tables.specs.State.{waits}
@@ -27,7 +28,6 @@ use Rattle.hub_lines.specs.declared.facts.LineFacts.{LineFacts}
 use Rattle.hub_rules.specs.Judging.{refuse_if, given, joined}
 use Rattle.hub_rules.specs.ReceiptRules.{items, new_receipt}
 use Rattle.hub_rules.specs.ResponseRules.{answered, is_out_of_range, is_empty}
-use Rattle.hub_rules.specs.Suppliers.{Supplier}
 use Rattle.hub_rules.specs.declared.code.Code.TheVariants.{NoOrder, NoLine, NotWaiting, OutOfRange, OtherItem, MoreThanOpen, OtherPrefix, SsccUsed, AdviceKnown, NoPallet, PalletReceived, CancelsMoreThanOpen}
 use Rattle.hub_rules.specs.declared.code.Code.{Code}
 use Rattle.hub_rules.specs.declared.delivery.Cancel.{Cancel}
@@ -123,17 +123,17 @@ lines_from sscc orders n (said ∷ rest) lines next =
     joined (SetLine (after_despatch said line) ∷ new_content sscc (n + 1) said line ∷ [])
     (lines_from sscc orders (n + 1) rest (with_row (after_despatch said line) lines) next))))
 
-abbrev pub new_pallet : Supplier → List ℕ → List ℕ → Change
+abbrev pub new_pallet : SupplierRow → List ℕ → List ℕ → Change
 new_pallet s advice sscc = AddPallet (record { sscc = sscc; supplier = s.gln; advice = advice; received = arrival_number Announced })
 
 -- B11, B12 at a unit, and what follows
-abbrev pub unit_checks : Supplier → List ℕ → Bool → Verdict → Verdict
+abbrev pub unit_checks : SupplierRow → List ℕ → Bool → Verdict → Verdict
 unit_checks s sscc used rest =
     refuse_if (not (under_some sscc s.prefixes)) OtherPrefix (
     refuse_if used SsccUsed rest)
 
 -- the units of a DESADV, each with whether its SSCC is used; both lists have one length
-abbrev pub units_from : Supplier → List ℕ → List (List ℕ) → List Unit → List Bool → List LineFacts → Verdict
+abbrev pub units_from : SupplierRow → List ℕ → List (List ℕ) → List Unit → List Bool → List LineFacts → Verdict
 units_from s advice orders [] used lines = Accept []
 units_from s advice orders (unit ∷ units) [] lines = Accept []
 units_from s advice orders (unit ∷ units) (used ∷ rest) lines =
@@ -141,7 +141,7 @@ units_from s advice orders (unit ∷ units) (used ∷ rest) lines =
     joined (new_pallet s advice unit.sscc ∷ []) (lines_from unit.sscc orders 0 unit.lines lines (λ left. units_from s advice orders units rest left)))
 
 -- what a DESADV changes of what is known, or the first of B13, B11, B12, B05, B06, B09 and B10 that it is against
-abbrev pub despatch_from : Supplier → Despatch → Known → Verdict
+abbrev pub despatch_from : SupplierRow → Despatch → Known → Verdict
 despatch_from s despatch known =
     refuse_if known.number_known AdviceKnown (
     joined (AddAdvice (record { supplier = s.gln; number = despatch.number }) ∷ [])

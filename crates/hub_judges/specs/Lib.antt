@@ -1,4 +1,3 @@
 pub mod FromFacts
 pub mod Known
-pub mod Party
 pub mod Totals

@@ -1,19 +1,18 @@
 //! The rules of cancellations.
-ghost use Rattle.std.specs.Prelude.{◌≡◌, IfOk};
+ghost use Rattle.std.specs.Prelude.{◌≡◌, IfOk, option_copied};
 ghost use Rattle.std.specs.List.{AllByRecursion};
 ghost use Rattle.hub_tables.specs.Tables.{Tables};
 ghost use Rattle.hub_lines.specs.Book.{IsCovered};
 ghost use Rattle.hub_rules.specs.Rules as rules;
 ghost use Rattle.hub_judges.specs.FromFacts.{of_line, cancelled_from};
 ghost use Rattle.hub_judges.specs.Known.{TellsForCancel};
-ghost use Rattle.hub_judges.specs.Party.{supplier_of};
 
 use crate::known::Known;
 use crate::party::registered_supplier;
 use crate::remembering::repeats;
 use edi_base::{Items, MemoryFault, copied};
 use hub_lines::{copied_row, is_known, line_numbered};
-use hub_register::SupplierRow;
+use hub_parties::SupplierRow;
 use hub_rules::{Cancel, Code, Verdict};
 use hub_tables::{Change, Column, LineRow, RememberedRow, Side};
 use std::alloc::Global;
@@ -55,7 +54,7 @@ pub fn judge_cancel(
     cancel: &Cancel,
 ) -> Result<Verdict, MemoryFault>
     requires { AllByRecursion IsCovered known.now.lines }
-    ensures { IfOk result (λ verdict. (state : Tables) → TellsForCancel known.now cancel.now state → verdict ≡ rules.judge_cancel (supplier_of supplier.entry) content cancel.now state) }
+    ensures { IfOk result (λ verdict. (state : Tables) → TellsForCancel known.now cancel.now state → verdict ≡ rules.judge_cancel (option_copied supplier.entry) content cancel.now state) }
 {
     let row = match registered_supplier(supplier, &cancel.supplier) {
         Ok(row) => row,

@@ -1,7 +1,8 @@
 //! The rules of DESADV.
-ghost use Rattle.std.specs.Prelude.{◌≡◌, ◌≤◌, ℕ, Bool, List, false, length, map, IfOk};
+ghost use Rattle.std.specs.Prelude.{◌≡◌, ◌≤◌, ℕ, Bool, List, false, length, map, IfOk, option_copied};
 ghost use Rattle.std.specs.Option.{IfSome, IfNone};
 ghost use Rattle.edi_base.specs.Seen.{is_among, has_twice};
+ghost use Rattle.gs1_ids.specs.Sscc.{under_some};
 ghost use Rattle.hub_tables.specs.Tables.{Tables};
 ghost use Rattle.hub_lines.specs.Book.{Rise};
 ghost use Rattle.hub_lines.specs.declared.facts.LineFacts.{LineFacts};
@@ -11,7 +12,6 @@ ghost use Rattle.hub_rules.specs.declared.verdict.Verdict.{Verdict};
 ghost use Rattle.hub_rules.specs.declared.verdict.Verdict.TheVariants.{Refuse};
 ghost use Rattle.hub_judges.specs.FromFacts.{despatch_checks, lines_from, new_pallet, unit_checks, units_from};
 ghost use Rattle.hub_judges.specs.Known.{TellsForDespatch};
-ghost use Rattle.hub_judges.specs.Party.{supplier_in, supplier_of};
 
 use crate::known::Known;
 use crate::party::admitted;
@@ -20,7 +20,7 @@ use edi_base::{Items, MemoryFault, copied};
 use edi_goods::{Despatch, DespatchLine, Unit};
 use gs1_ids::{Gln, Sscc};
 use hub_lines::{Book, LineFacts, OrderNumbers, copied_row};
-use hub_register::SupplierRow;
+use hub_parties::SupplierRow;
 use hub_rules::{Code, Delivery, Verdict};
 use hub_tables::{AdviceRow, Arrival, Change, Column, ContentRow, PalletRow, Side};
 use std::alloc::Global;
@@ -87,12 +87,22 @@ fn load<'a>(
     Ok(None)
 }
 
+// Whether an SSCC is under a prefix of a supplier.
+fn is_under(row: &SupplierRow, sscc: &Sscc) -> bool
+    ensures { result ≡ under_some sscc.now row.now.prefixes }
+{
+    row.prefixes
+        .as_slice()
+        .iter()
+        .any(|prefix| sscc.under(prefix))
+}
+
 // The rule that a unit is against: B11 or B12.
 fn unit_fault(row: &SupplierRow, sscc: &Sscc, used: bool) -> Option<Code>
-    ensures some { IfSome result (λ code. (rest : Verdict) → unit_checks (supplier_in row.now) sscc.now used rest ≡ Refuse code) }
-    ensures none { IfNone result ((rest : Verdict) → unit_checks (supplier_in row.now) sscc.now used rest ≡ rest) }
+    ensures some { IfSome result (λ code. (rest : Verdict) → unit_checks row.now sscc.now used rest ≡ Refuse code) }
+    ensures none { IfNone result ((rest : Verdict) → unit_checks row.now sscc.now used rest ≡ rest) }
 {
-    if !sscc.under(&row.prefix) {
+    if !is_under(row, sscc) {
         return Some(Code::OtherPrefix);
     }
     if used {
@@ -108,7 +118,7 @@ fn announced_pallet(
     advice: &[u8],
     sscc: Sscc,
 ) -> Result<Change, MemoryFault>
-    ensures { IfOk result (λ change. change ≡ new_pallet (supplier_in row.now) advice.now sscc) }
+    ensures { IfOk result (λ change. change ≡ new_pallet row.now advice.now sscc) }
 {
     Ok(Change::AddPallet(PalletRow {
         sscc,
@@ -130,7 +140,7 @@ fn judge_units<'a>(
     changes: Items<Change>,
 ) -> Result<Verdict, MemoryFault>
     requires { length used.now ≡ length despatch.now.units }
-    ensures { IfOk result (λ verdict. verdict ≡ joined changes (units_from (supplier_in row.now) despatch.now.number orders.now despatch.now.units used.now book)) }
+    ensures { IfOk result (λ verdict. verdict ≡ joined changes (units_from row.now despatch.now.number orders.now despatch.now.units used.now book)) }
 {
     let mut book = book;
     let mut changes = changes;
@@ -163,7 +173,7 @@ pub fn judge_despatch(
     requires told { length known.used ≡ length despatch.now.units }
     requires rise { Rise known.lines }
     requires apart { has_twice (map (λ unit. unit.sscc) despatch.now.units) ≡ false }
-    ensures { IfOk result (λ verdict. (used : List ℕ → Bool) (state : Tables) → TellsForDespatch known used delivery despatch.now state → verdict ≡ rules.judge_despatch retailer.now (supplier_of supplier.entry) used delivery despatch.now state) }
+    ensures { IfOk result (λ verdict. (used : List ℕ → Bool) (state : Tables) → TellsForDespatch known used delivery despatch.now state → verdict ≡ rules.judge_despatch retailer.now (option_copied supplier.entry) used delivery despatch.now state) }
 {
     let Known {
         remembered,

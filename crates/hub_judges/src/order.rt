@@ -1,10 +1,9 @@
 //! The rules of ORDERS.
-ghost use Rattle.std.specs.Prelude.{◌≡◌, ◌++◌, ◌∷◌, [], map, IfOk};
+ghost use Rattle.std.specs.Prelude.{◌≡◌, ◌++◌, ◌∷◌, [], map, IfOk, option_copied};
 ghost use Rattle.hub_tables.specs.Tables.{Tables};
 ghost use Rattle.hub_rules.specs.OrderRules.{new_line};
 ghost use Rattle.hub_rules.specs.Rules as rules;
 ghost use Rattle.hub_judges.specs.Known.{TellsForOrder};
-ghost use Rattle.hub_judges.specs.Party.{supplier_of};
 
 use crate::known::Known;
 use crate::mail::{MAIL_LIMIT, new_mail};
@@ -13,7 +12,7 @@ use crate::remembering::{remember, repeats};
 use edi_base::{Items, MemoryFault, copied};
 use edi_orders::Order;
 use gs1_ids::Gln;
-use hub_register::SupplierRow;
+use hub_parties::SupplierRow;
 use hub_rules::{Code, Delivery, Verdict};
 use hub_tables::{Answered, Change, Column, LineRow, MailKind, OrderRow, Side};
 use std::alloc::Global;
@@ -53,7 +52,7 @@ pub fn judge_order(
     body: Items<u8>,
     order: &Order,
 ) -> Result<Verdict, MemoryFault>
-    ensures { IfOk result (λ verdict. (state : Tables) → TellsForOrder known.now delivery order.now state → verdict ≡ rules.judge_order retailer.now (supplier_of supplier.entry) delivery body order.now state) }
+    ensures { IfOk result (λ verdict. (state : Tables) → TellsForOrder known.now delivery order.now state → verdict ≡ rules.judge_order retailer.now (option_copied supplier.entry) delivery body order.now state) }
 {
     let row = match admitted(retailer, supplier, Some(order.buyer), &order.supplier) {
         Ok(row) => row,

@@ -1,15 +1,14 @@
 //! The parties of a message (B01, B02).
-ghost use Rattle.std.specs.Prelude.{◌≡◌, IfOk, IfErr};
+ghost use Rattle.std.specs.Prelude.{◌≡◌, IfOk, IfErr, option_copied};
+ghost use Rattle.hub_parties.specs.declared.row.SupplierRow.{SupplierRow};
 ghost use Rattle.hub_rules.specs.Judging.{refuse_if};
 ghost use Rattle.hub_rules.specs.PartyRules.{is_other_buyer, registered};
-ghost use Rattle.hub_rules.specs.Suppliers.{Supplier};
 ghost use Rattle.hub_rules.specs.declared.code.Code.TheVariants.{Buyer};
 ghost use Rattle.hub_rules.specs.declared.verdict.Verdict.{Verdict};
 ghost use Rattle.hub_rules.specs.declared.verdict.Verdict.TheVariants.{Refuse};
-ghost use Rattle.hub_judges.specs.Party.{supplier_in, supplier_of};
 
 use gs1_ids::Gln;
-use hub_register::SupplierRow;
+use hub_parties::SupplierRow;
 use hub_rules::Code;
 
 /// The supplier that is registered and named.
@@ -17,8 +16,8 @@ pub(crate) fn registered_supplier<'a>(
     supplier: Option<&'a SupplierRow>,
     named: &Gln,
 ) -> Result<&'a SupplierRow, Code>
-    ensures ok { IfOk result (λ row. (rest : Supplier → Verdict) → registered (supplier_of supplier.entry) named.now rest ≡ rest (supplier_in row.now)) }
-    ensures err { IfErr result (λ code. (rest : Supplier → Verdict) → registered (supplier_of supplier.entry) named.now rest ≡ Refuse code) }
+    ensures ok { IfOk result (λ row. (rest : SupplierRow → Verdict) → registered (option_copied supplier.entry) named.now rest ≡ rest row.now) }
+    ensures err { IfErr result (λ code. (rest : SupplierRow → Verdict) → registered (option_copied supplier.entry) named.now rest ≡ Refuse code) }
 {
     match supplier {
         Some(row) => {
@@ -39,8 +38,8 @@ pub(crate) fn admitted<'a>(
     buyer: Option<Gln>,
     named: &Gln,
 ) -> Result<&'a SupplierRow, Code>
-    ensures ok { IfOk result (λ row. (rest : Supplier → Verdict) → refuse_if (is_other_buyer retailer.now buyer) Buyer (registered (supplier_of supplier.entry) named.now rest) ≡ rest (supplier_in row.now)) }
-    ensures err { IfErr result (λ code. (rest : Supplier → Verdict) → refuse_if (is_other_buyer retailer.now buyer) Buyer (registered (supplier_of supplier.entry) named.now rest) ≡ Refuse code) }
+    ensures ok { IfOk result (λ row. (rest : SupplierRow → Verdict) → refuse_if (is_other_buyer retailer.now buyer) Buyer (registered (option_copied supplier.entry) named.now rest) ≡ rest row.now) }
+    ensures err { IfErr result (λ code. (rest : SupplierRow → Verdict) → refuse_if (is_other_buyer retailer.now buyer) Buyer (registered (option_copied supplier.entry) named.now rest) ≡ Refuse code) }
 {
     if let Some(buyer) = buyer
         && buyer != *retailer

@@ -1,5 +1,5 @@
 //! The rules of RECADV.
-ghost use Rattle.std.specs.Prelude.{◌≡◌, ◌++◌, true, false, length, map, IfOk};
+ghost use Rattle.std.specs.Prelude.{◌≡◌, ◌++◌, true, false, length, map, IfOk, option_copied};
 ghost use Rattle.std.specs.List.{list_all};
 ghost use Rattle.edi_base.specs.Seen.{has_twice};
 ghost use Rattle.edi_goods.specs.Receipt.{has_sums};
@@ -9,7 +9,6 @@ ghost use Rattle.hub_rules.specs.ReceiptRules.{items, new_receipt};
 ghost use Rattle.hub_rules.specs.Rules as rules;
 ghost use Rattle.hub_judges.specs.FromFacts.{received, receipts_from};
 ghost use Rattle.hub_judges.specs.Known.{TellsForReceipt};
-ghost use Rattle.hub_judges.specs.Party.{supplier_of};
 
 use crate::known::Known;
 use crate::mail::{MAIL_LIMIT, new_mail};
@@ -19,7 +18,7 @@ use crate::totals::totals_of;
 use edi_base::{Items, MemoryFault, copied};
 use edi_goods::{Receipt, ReceiptUnit};
 use gs1_ids::Gln;
-use hub_register::SupplierRow;
+use hub_parties::SupplierRow;
 use hub_rules::{Code, Delivery, Verdict};
 use hub_tables::{Arrival, Change, Column, MailKind, PalletRow, ReceiptRow, Side};
 use std::alloc::Global;
@@ -106,7 +105,7 @@ pub fn judge_receipt(
     requires told { length known.now.pallets ≡ length receipt.now.units }
     requires apart { has_twice (map (λ unit. unit.sscc) receipt.now.units) ≡ false }
     requires sums { list_all (λ unit. has_sums unit.lines) receipt.now.units ≡ true }
-    ensures { IfOk result (λ verdict. (state : Tables) → TellsForReceipt known.now delivery receipt.now state → verdict ≡ rules.judge_receipt retailer.now (supplier_of supplier.entry) delivery body receipt.now state) }
+    ensures { IfOk result (λ verdict. (state : Tables) → TellsForReceipt known.now delivery receipt.now state → verdict ≡ rules.judge_receipt retailer.now (option_copied supplier.entry) delivery body receipt.now state) }
 {
     let row = match admitted(retailer, supplier, receipt.buyer, &receipt.supplier) {
         Ok(row) => row,

@@ -1,5 +1,5 @@
 //! The rules of ORDRSP.
-ghost use Rattle.std.specs.Prelude.{◌≡◌, ℕ, false, IfOk};
+ghost use Rattle.std.specs.Prelude.{◌≡◌, ℕ, false, IfOk, option_copied};
 ghost use Rattle.std.specs.List.{AllByRecursion};
 ghost use Rattle.hub_tables.specs.Tables.{Tables};
 ghost use Rattle.hub_tables.specs.declared.rows.LineRow.{LineRow};
@@ -9,7 +9,6 @@ ghost use Rattle.hub_rules.specs.ResponseRules.{is_out_of_range};
 ghost use Rattle.hub_rules.specs.Rules as rules;
 ghost use Rattle.hub_judges.specs.FromFacts.{all_from, response_from};
 ghost use Rattle.hub_judges.specs.Known.{TellsForResponse};
-ghost use Rattle.hub_judges.specs.Party.{supplier_of};
 
 use crate::answers::{answer_all, answer_lines, any_waits};
 use crate::known::Known;
@@ -19,7 +18,7 @@ use edi_base::{Items, MemoryFault};
 use edi_orders::{Answer, LineAnswer, Response};
 use gs1_ids::Gln;
 use hub_lines::{Book, LineFacts, is_known};
-use hub_register::SupplierRow;
+use hub_parties::SupplierRow;
 use hub_rules::{Code, Delivery, Verdict};
 use hub_tables::{Change, Side};
 use std::alloc::Global;
@@ -94,7 +93,7 @@ pub fn judge_response(
 ) -> Result<Verdict, MemoryFault>
     requires rise { Rise known.lines }
     requires covered { AllByRecursion IsCovered known.lines }
-    ensures { IfOk result (λ verdict. (state : Tables) → TellsForResponse known delivery response.now state → verdict ≡ rules.judge_response retailer.now (supplier_of supplier.entry) delivery response.now state) }
+    ensures { IfOk result (λ verdict. (state : Tables) → TellsForResponse known delivery response.now state → verdict ≡ rules.judge_response retailer.now (option_copied supplier.entry) delivery response.now state) }
 {
     let row = match admitted(retailer, supplier, Some(response.buyer), &response.supplier) {
         Ok(row) => row,

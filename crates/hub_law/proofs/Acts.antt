@@ -1,5 +1,6 @@
 -- Messages, cancellations and taken marks of one supplier, in the tables of all and in its own rows alone.
 use Rattle.std.proofs.Common.{◌≡◌, ℕ, List, Bool, true, false, [], ◌∷◌, cond, ◌==◌, codes, Some, None, Result, Ok, Err, refl}
+use Rattle.gs1_ids.specs.Overlap.{PrefixFree}
 use Rattle.edi_messages.specs.Fault as message_faults
 use Rattle.edi_messages.specs.declared.fault.MessageFault.{MessageFault}
 use Rattle.edi_messages.specs.declared.fault.MessageFault.TheVariants.{MessageType}
@@ -8,6 +9,8 @@ use Rattle.edi_orders.specs.Response.{response_of}
 use Rattle.edi_orders.proofs.Read.{order_apart}
 use Rattle.edi_goods.specs.Despatch.{despatch_of}
 use Rattle.edi_goods.specs.Receipt.{receipt_of}
+use Rattle.hub_parties.specs.Rows.{Parties, company_prefixes, supplier_of}
+use Rattle.hub_parties.specs.declared.row.SupplierRow.{SupplierRow}
 use Rattle.hub_tables.specs.Cases.{truth_number}
 use Rattle.hub_tables.specs.Change.{apply_all}
 use Rattle.hub_tables.specs.Rows.{same}
@@ -18,7 +21,6 @@ use Rattle.hub_tables.proofs.Lists.{all_found}
 use Rattle.hub_rules.specs.Judging.{refuse_if}
 use Rattle.hub_rules.specs.PartyRules.{is_other_buyer}
 use Rattle.hub_rules.specs.Rules.{judge_order, judge_receipt, judge_response, judge_despatch}
-use Rattle.hub_rules.specs.Suppliers.{Supplier, supplier_of, PrefixFree}
 use Rattle.hub_rules.specs.declared.code.Code.{Code}
 use Rattle.hub_rules.specs.declared.code.Code.TheVariants as rules
 use Rattle.hub_rules.specs.declared.delivery.Cancel.{Cancel}
@@ -40,13 +42,12 @@ use Rattle.hub_rules.proofs.OwnChanges.{good_view, after_changes}
 use Rattle.hub_law.specs.CancelText.{cancel_text}
 use Rattle.hub_law.specs.MailText.{entry_at, is_taken}
 use Rattle.hub_law.specs.Messages.{Sent, delivery_of, body_of, deliver_retailers, deliver_suppliers, cancel}
-use Rattle.hub_law.specs.Register.{Parties}
 use Rattle.hub_law.specs.Requests.{taking}
 use Rattle.hub_law.specs.Told.{Told, Refused, changed, read_act}
 use Rattle.hub_law.proofs.Acting.{Alike}
 use Rattle.hub_law.proofs.Judged.{unchanged, nothing_done, either, same_verdict, same_reading}
 
-module _ (suppliers : List Supplier) (free : PrefixFree suppliers) (parties : Parties) (s : Supplier) (known : supplier_of suppliers s.gln ≡ Some s) where
+module _ (suppliers : List SupplierRow) (free : PrefixFree (company_prefixes suppliers)) (parties : Parties) (s : SupplierRow) (known : supplier_of suppliers s.gln ≡ Some s) where
   response_act : (sent : Sent) (t : Tables) → Sound suppliers t →
       Alike suppliers s t (read_act (response_of sent.message) (λ response. judge_response parties.retailer (Some s) (delivery_of sent) response (view s.gln t)) t)
       (read_act (response_of sent.message) (λ response. judge_response parties.retailer (Some s) (delivery_of sent) response (view s.gln t)) (view s.gln t))
@@ -127,7 +128,7 @@ nobodys_message look parties sent t =
 pub nobodys_cancellation : (look : Tables → Tables) (c : Cancel) (t : Tables) → (cancel look None c t).1 ≡ t
 nobodys_cancellation look c t = refl
 
-pub empty_sound : (suppliers : List Supplier) → Sound suppliers empty
+pub empty_sound : (suppliers : List SupplierRow) → Sound suppliers empty
 empty_sound suppliers = record {
   rooted = record { ordered = record { orders = tt; lines = tt; advices = tt; pallets = tt; contents = tt; receipts = tt; remembered = tt; mail = tt }; pallets = tt; contents = tt; receipts = tt };
   kept = λ gln. record {
@@ -137,7 +138,7 @@ empty_sound suppliers = record {
     pallets = tt;
     receipts = λ sscc. tt;
     remembered = tt;
-    places = λ sscc. tt;
+    contents = λ sscc. tt;
     mail = tt;
     line_orders = tt;
     content_lines = tt;

@@ -1,11 +1,11 @@
 -- Every order line balances.
 use Rattle.std.proofs.Common.{ℕ, Bool, true, false, cond, List, [], ◌∷◌, filter, refl, subst}
 use Rattle.std.specs.List.{AllByRecursion}
+use Rattle.hub_parties.specs.declared.row.SupplierRow.{SupplierRow}
 use Rattle.hub_tables.specs.Rows.{same}
 use Rattle.hub_tables.specs.Tables.{Tables, view}
 use Rattle.hub_tables.proofs.Lists.{same_if}
 use Rattle.hub_rules.specs.Sound.{Balanced, Sound}
-use Rattle.hub_rules.specs.Suppliers.{Supplier}
 
 -- what holds of each supplier's rows holds of all rows
 of_each : {X : Type 0} (owner : X → List ℕ) (P : List ℕ → X → Type 0) (rows : List X) → ((gln : List ℕ) → AllByRecursion (P gln) (filter (λ row. same (owner row) gln) rows)) → AllByRecursion (λ row. P (owner row) row) rows
@@ -19,5 +19,5 @@ of_each owner P (row ∷ rows) each = (
     later gln true all = all.1
     later gln false all = all
 
-pub lines_balance : (suppliers : List Supplier) (t : Tables) → Sound suppliers t → AllByRecursion (λ line. Balanced (view line.supplier t) line) t.lines
+pub lines_balance : (suppliers : List SupplierRow) (t : Tables) → Sound suppliers t → AllByRecursion (λ line. Balanced (view line.supplier t) line) t.lines
 lines_balance suppliers t sound = of_each (λ line. line.supplier) (λ gln. Balanced (view gln t)) t.lines (λ gln. (sound.kept gln).balanced)

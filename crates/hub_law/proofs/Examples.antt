@@ -8,13 +8,13 @@ use Rattle.edi_orders.specs.Order.{order_of}
 use Rattle.edi_orders.specs.Response.{response_of}
 use Rattle.edi_goods.specs.Despatch.{despatch_of}
 use Rattle.edi_goods.specs.Receipt.{receipt_of}
+use Rattle.hub_parties.specs.declared.row.SupplierRow.{SupplierRow}
+use Rattle.hub_parties.specs.Rows.{Rows}
 use Rattle.hub_tables.specs.Tables.{empty}
-use Rattle.hub_rules.specs.Suppliers.{Supplier}
 use Rattle.hub_law.specs.Machine.{Inputs, shared_run}
 use Rattle.hub_law.specs.MailText.{mail_text, list_text}
 use Rattle.hub_law.specs.Mark.{Mark, Whole, StoppedEmpty, StoppedBare, StoppedAfter}
 use Rattle.hub_law.specs.Opening.{opened}
-use Rattle.hub_law.specs.Register.{Register}
 use Rattle.hub_law.specs.Replies.{reply, done}
 use Rattle.hub_law.specs.StatusText.{status_text}
 use Rattle.hub_law.specs.declared.reply.Outcome.TheVariants.{Done, Bad, Denied, Unknown, Stopped}
@@ -26,15 +26,16 @@ use Rattle.hub_law.specs.declared.request.Request.TheVariants as requests
 abbrev retailer : List ℕ
 retailer = codes "5412345000013"
 
-abbrev alpha : Supplier
+abbrev alpha : SupplierRow
 alpha = record { gln = codes "4012345500004"; prefixes = codes "40123455" ∷ []; key = codes "alpha-key-1" }
 
-abbrev beta : Supplier
+abbrev beta : SupplierRow
 beta = record { gln = codes "8712345000004"; prefixes = codes "8712345" ∷ []; key = codes "beta-key-1" }
 
-abbrev register : Register
+abbrev register : Rows
 register = record {
-  parties = record { hub = codes "5412345000006"; retailer = retailer };
+  hub = codes "5412345000006";
+  retailer = retailer;
   retailer_key = codes "retail-key";
   suppliers = alpha ∷ beta ∷ [];
 }
@@ -43,7 +44,7 @@ register = record {
 abbrev by_retailer : Request → Input × Mark
 by_retailer request = (record { moment = 1_748_942_400; caller = retailer; key = codes "retail-key"; request = request }, Whole)
 
-abbrev by : Supplier → Request → Input × Mark
+abbrev by : SupplierRow → Request → Input × Mark
 by s request = (record { moment = 1_748_942_400; caller = s.gln; key = s.key; request = request }, Whole)
 
 -- lines, each ended by LF, and by CR LF

@@ -1,11 +1,13 @@
 -- Changes that keep a supplier's rows, and verdicts that give such changes, in the tables of all and in its own rows alone.
 use Rattle.std.proofs.Common.{◌≡◌, Bool, true, false, cond, List, Some, Result, Ok, Err, refl, sym, subst}
+use Rattle.gs1_ids.specs.Overlap.{PrefixFree}
 use Rattle.edi_messages.specs.Fault as message_faults
 use Rattle.edi_messages.specs.declared.fault.MessageFault.{MessageFault}
+use Rattle.hub_parties.specs.Rows.{company_prefixes, supplier_of}
+use Rattle.hub_parties.specs.declared.row.SupplierRow.{SupplierRow}
 use Rattle.hub_tables.specs.Tables.{Tables, view}
 use Rattle.hub_tables.specs.declared.change.Change.{Change}
 use Rattle.hub_rules.specs.Sound.{Sound}
-use Rattle.hub_rules.specs.Suppliers.{Supplier, supplier_of, PrefixFree}
 use Rattle.hub_rules.specs.declared.verdict.Verdict.{Verdict}
 use Rattle.hub_rules.specs.declared.verdict.Verdict.TheVariants.{Accept, Refuse}
 use Rattle.hub_rules.specs.Laws.{Apart}
@@ -14,7 +16,7 @@ use Rattle.hub_rules.proofs.OwnChanges.{after_changes}
 use Rattle.hub_law.specs.Told.{Told, Refused, told, act, read_act}
 use Rattle.hub_law.proofs.Acting.{Alike}
 
-module _ (suppliers : List Supplier) (s : Supplier) (t : Tables) (sound : Sound suppliers t) where
+module _ (suppliers : List SupplierRow) (s : SupplierRow) (t : Tables) (sound : Sound suppliers t) where
   pub unchanged : Apart suppliers s t t (view s.gln t)
   unchanged = record { seen = refl; unseen = λ other ne. refl; sound = sound }
 
@@ -26,7 +28,7 @@ module _ (suppliers : List Supplier) (s : Supplier) (t : Tables) (sound : Sound 
   either true one other own_one own_other first second = first
   either false one other own_one own_other first second = second
 
-module _ (suppliers : List Supplier) (free : PrefixFree suppliers) (s : Supplier) (known : supplier_of suppliers s.gln ≡ Some s) (t : Tables) (sound : Sound suppliers t) where
+module _ (suppliers : List SupplierRow) (free : PrefixFree (company_prefixes suppliers)) (s : SupplierRow) (known : supplier_of suppliers s.gln ≡ Some s) (t : Tables) (sound : Sound suppliers t) where
   -- one verdict, in the tables and in the supplier's rows
   pub same_verdict : (shared own : Verdict) → shared ≡ own → ((changes : List Change) → own ≡ Accept changes → Keeps s (view s.gln t) changes) → Alike suppliers s t (act shared t) (act own (view s.gln t))
   same_verdict (Refuse code) own e keeps = subst (λ v. Alike suppliers s t (act (Refuse code) t) (act v (view s.gln t))) e (nothing_done suppliers s t sound (told (Refuse code)))

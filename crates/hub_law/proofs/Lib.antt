@@ -2,6 +2,7 @@ pub mod Acting
 pub mod Acts
 pub mod Agreeing
 pub mod Balance
+pub mod Callers
 mod Examples
 pub mod Judged
 pub mod Overlapping

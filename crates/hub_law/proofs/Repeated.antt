@@ -5,6 +5,8 @@ use Rattle.edi_orders.specs.Order.{order_of}
 use Rattle.edi_orders.specs.Response.{response_of}
 use Rattle.edi_goods.specs.Despatch.{despatch_of}
 use Rattle.edi_goods.specs.Receipt.{receipt_of}
+use Rattle.hub_parties.specs.Rows.{Parties, Rows, parties_of, supplier_of}
+use Rattle.hub_parties.specs.declared.row.SupplierRow.{SupplierRow}
 use Rattle.hub_tables.specs.Change.{apply_all}
 use Rattle.hub_tables.specs.Rows.{same}
 use Rattle.hub_tables.specs.Tables.{Tables, has_pallet, view}
@@ -20,7 +22,6 @@ use Rattle.hub_rules.specs.RepeatRules.{Reference, judge_once}
 use Rattle.hub_rules.specs.ResponseRules.{judge_new_response}
 use Rattle.hub_rules.specs.PartyRules.{is_other_buyer, registered}
 use Rattle.hub_rules.specs.Rules.{referred_by, judge_message, judge_order, judge_response, judge_despatch, judge_receipt, judge_cancel}
-use Rattle.hub_rules.specs.Suppliers.{Supplier, supplier_of}
 use Rattle.hub_rules.specs.declared.code.Code.TheVariants as rules
 use Rattle.hub_rules.specs.declared.delivery.Cancel.{Cancel}
 use Rattle.hub_rules.specs.declared.delivery.Delivery.{Delivery}
@@ -31,13 +32,12 @@ use Rattle.hub_rules.proofs.Repeating.{found_again, accepted_has, once_again}
 use Rattle.hub_rules.proofs.Verdicts.{not_refused}
 use Rattle.hub_law.specs.CancelText.{cancel_text}
 use Rattle.hub_law.specs.Messages.{Sent, named, delivery_of, body_of, deliver_retailers, deliver_suppliers, cancel}
-use Rattle.hub_law.specs.Register.{Parties, Register}
 use Rattle.hub_law.specs.Remembered.{StaysRemembered}
 use Rattle.hub_law.specs.Requests.{deliver_named}
 use Rattle.hub_law.specs.Told.{Told, Accepted, Repeated, Refused, Act, act, read_act}
 use Rattle.hub_law.proofs.Steps.{gln_of}
 
-module _ (suppliers : List Supplier) where
+module _ (suppliers : List SupplierRow) where
   -- where a verdict accepts what is new, another accepts it as known in all tables that still remember it
   abbrev Recurs : Tables → Verdict → (Tables → Verdict) → Type 0
   Recurs t first again = (change : Change) (changes : List Change) → first ≡ Accept (change ∷ changes) → (u : Tables) → StaysRemembered (apply_all (change ∷ changes) t) u → Sound suppliers u → again u ≡ Accept []
@@ -64,7 +64,7 @@ module _ (suppliers : List Supplier) where
 
   -- judged on what the rows of a GLN are, for a supplier that has it
   module _ (gln : List ℕ) (t : Tables) where
-    registered_recurs : (supplier : Option Supplier) → ((s : Supplier) → supplier ≡ Some s → s.gln ≡ gln) → (of : List ℕ) (r : Supplier → Reference) → ((s : Supplier) → (r s).supplier ≡ s.gln) → (content : List ℕ) (fresh : Supplier → Judge) (other : Tables → Supplier → Judge) →
+    registered_recurs : (supplier : Option SupplierRow) → ((s : SupplierRow) → supplier ≡ Some s → s.gln ≡ gln) → (of : List ℕ) (r : SupplierRow → Reference) → ((s : SupplierRow) → (r s).supplier ≡ s.gln) → (content : List ℕ) (fresh : SupplierRow → Judge) (other : Tables → SupplierRow → Judge) →
         Recurs t (registered supplier of (λ s. judge_once (r s) content (fresh s) (view gln t))) (λ u. registered supplier of (λ s. judge_once (r s) content (other u s) (view gln u)))
     registered_recurs None whose of r own content fresh other change changes h u stays sound = cc
     registered_recurs (Some s) whose of r own content fresh other change changes h u stays sound =
@@ -74,14 +74,14 @@ module _ (suppliers : List Supplier) where
         ap (λ v. refuse_if v rules.Supplier (judge_once (r s) content (other u s) (view gln u))) passed.0 ∙ once_again (r s) content (other u s) (view gln u) found
 
     -- the same content under the same references, at any moment and with any decimal mark
-    message_recurs : (retailer : List ℕ) (supplier : Option Supplier) → ((s : Supplier) → supplier ≡ Some s → s.gln ≡ gln) → (side : Side) (delivery : Delivery) (moment decimal : ℕ) (buyer : Option (List ℕ)) (of : List ℕ) (fresh : Supplier → Judge) (other : Tables → Supplier → Judge) →
+    message_recurs : (retailer : List ℕ) (supplier : Option SupplierRow) → ((s : SupplierRow) → supplier ≡ Some s → s.gln ≡ gln) → (side : Side) (delivery : Delivery) (moment decimal : ℕ) (buyer : Option (List ℕ)) (of : List ℕ) (fresh : SupplierRow → Judge) (other : Tables → SupplierRow → Judge) →
         Recurs t (judge_message retailer supplier side delivery buyer of fresh (view gln t)) (λ u. judge_message retailer supplier side (record delivery { moment = moment; decimal = decimal }) buyer of (other u) (view gln u))
     message_recurs retailer supplier whose side delivery moment decimal buyer of fresh other change changes h u stays sound =
         let passed = not_refused (is_other_buyer retailer buyer) rules.Buyer (registered supplier of (λ s. judge_once (referred_by s side delivery) delivery.content (fresh s) (view gln t))) (change ∷ changes) h in
         let rest = registered_recurs supplier whose of (λ s. referred_by s side delivery) (λ s. refl) delivery.content fresh other change changes passed.1 u stays sound in
         ap (λ v. refuse_if v rules.Buyer (registered supplier of (λ s. judge_once (referred_by s side delivery) delivery.content (other u s) (view gln u)))) passed.0 ∙ rest
 
-    retailers_repeats : (parties : Parties) (supplier : Option Supplier) → ((s : Supplier) → supplier ≡ Some s → s.gln ≡ gln) → (sent : Sent) (moment decimal : ℕ) →
+    retailers_repeats : (parties : Parties) (supplier : Option SupplierRow) → ((s : SupplierRow) → supplier ≡ Some s → s.gln ≡ gln) → (sent : Sent) (moment decimal : ℕ) →
         Repeats (deliver_retailers (view gln) parties supplier sent t) (deliver_retailers (view gln) parties supplier (record sent { moment = moment; decimal = decimal }))
     retailers_repeats parties supplier whose sent moment decimal =
         let again : Sent = record sent { moment = moment; decimal = decimal } in
@@ -93,11 +93,11 @@ module _ (suppliers : List Supplier) where
         (λ receipt. message_recurs parties.retailer supplier whose sides.Retailer (delivery_of sent) moment decimal receipt.buyer receipt.supplier (λ s. judge_new_receipt s.gln (delivery_of sent) (body_of sent) receipt) (λ u s. judge_new_receipt s.gln (delivery_of again) (body_of again) receipt)))
         (refused_never _ t _))
 
-    suppliers_repeats : (parties : Parties) (s : Supplier) → s.gln ≡ gln → (sent : Sent) (moment decimal : ℕ) →
+    suppliers_repeats : (parties : Parties) (s : SupplierRow) → s.gln ≡ gln → (sent : Sent) (moment decimal : ℕ) →
         Repeats (deliver_suppliers (view gln) parties s sent t) (deliver_suppliers (view gln) parties s (record sent { moment = moment; decimal = decimal }))
     suppliers_repeats parties s whose sent moment decimal =
         let again : Sent = record sent { moment = moment; decimal = decimal } in
-        let one : (other : Supplier) → ◌≡◌ {A = Option Supplier} (Some s) (Some other) → other.gln ≡ gln = λ other e. cc in
+        let one : (other : SupplierRow) → ◌≡◌ {A = Option SupplierRow} (Some s) (Some other) → other.gln ≡ gln = λ other e. cc in
         either_repeats (same sent.message.kind (codes "ORDRSP")) _ _ _ _
         (read_repeats t (response_of sent.message) (λ response. judge_response parties.retailer (Some s) (delivery_of sent) response (view gln t)) (λ u response. judge_response parties.retailer (Some s) (delivery_of again) response (view gln u))
         (λ response. message_recurs parties.retailer (Some s) one sides.Supplier (delivery_of sent) moment decimal (Some response.buyer) response.supplier (λ s. judge_new_response response) (λ u s. judge_new_response response)))
@@ -106,19 +106,19 @@ module _ (suppliers : List Supplier) where
         (λ despatch. message_recurs parties.retailer (Some s) one sides.Supplier (delivery_of sent) moment decimal despatch.buyer despatch.supplier (λ s. judge_new_despatch s (has_pallet t) despatch) (λ u s. judge_new_despatch s (has_pallet u) despatch)))
         (refused_never _ t _))
 
-    cancel_repeats : (supplier : Option Supplier) → ((s : Supplier) → supplier ≡ Some s → s.gln ≡ gln) → (c : Cancel) → Repeats (cancel (view gln) supplier c t) (cancel (view gln) supplier c)
+    cancel_repeats : (supplier : Option SupplierRow) → ((s : SupplierRow) → supplier ≡ Some s → s.gln ≡ gln) → (c : Cancel) → Repeats (cancel (view gln) supplier c t) (cancel (view gln) supplier c)
     cancel_repeats supplier whose c =
         act_repeats t (judge_cancel supplier (cancel_text c) c (view gln t)) (λ u. judge_cancel supplier (cancel_text c) c (view gln u))
         (registered_recurs supplier whose c.supplier (λ s. record { supplier = s.gln; side = sides.Cancellation; control = c.reference; message = [] }) (λ s. refl) (cancel_text c) (λ s. judge_new_cancel c) (λ u s. judge_new_cancel c))
 
-pub named_repeated : (register : Register) (sent : Sent) (moment decimal : ℕ) (t u : Tables) → (deliver_named register sent t).0 ≡ Accepted → StaysRemembered (deliver_named register sent t).1 u → Sound register.suppliers u → deliver_named register (record sent { moment = moment; decimal = decimal }) u ≡ (Repeated, u)
+pub named_repeated : (register : Rows) (sent : Sent) (moment decimal : ℕ) (t u : Tables) → (deliver_named register sent t).0 ≡ Accepted → StaysRemembered (deliver_named register sent t).1 u → Sound register.suppliers u → deliver_named register (record sent { moment = moment; decimal = decimal }) u ≡ (Repeated, u)
 named_repeated register sent moment decimal t u told stays sound =
-    retailers_repeats register.suppliers (named sent) t register.parties (supplier_of register.suppliers (named sent)) (gln_of register.suppliers (named sent)) sent moment decimal told u stays sound
+    retailers_repeats register.suppliers (named sent) t (parties_of register) (supplier_of register.suppliers (named sent)) (gln_of register.suppliers (named sent)) sent moment decimal told u stays sound
 
-pub suppliers_repeated : (suppliers : List Supplier) (parties : Parties) (s : Supplier) (sent : Sent) (moment decimal : ℕ) (t u : Tables) → (deliver_suppliers (view s.gln) parties s sent t).0 ≡ Accepted → StaysRemembered (deliver_suppliers (view s.gln) parties s sent t).1 u → Sound suppliers u → deliver_suppliers (view s.gln) parties s (record sent { moment = moment; decimal = decimal }) u ≡ (Repeated, u)
+pub suppliers_repeated : (suppliers : List SupplierRow) (parties : Parties) (s : SupplierRow) (sent : Sent) (moment decimal : ℕ) (t u : Tables) → (deliver_suppliers (view s.gln) parties s sent t).0 ≡ Accepted → StaysRemembered (deliver_suppliers (view s.gln) parties s sent t).1 u → Sound suppliers u → deliver_suppliers (view s.gln) parties s (record sent { moment = moment; decimal = decimal }) u ≡ (Repeated, u)
 suppliers_repeated suppliers parties s sent moment decimal t u told stays sound =
     suppliers_repeats suppliers s.gln t parties s refl sent moment decimal told u stays sound
 
-pub cancellation_repeated : (register : Register) (c : Cancel) (t u : Tables) → (cancel (view c.supplier) (supplier_of register.suppliers c.supplier) c t).0 ≡ Accepted → StaysRemembered (cancel (view c.supplier) (supplier_of register.suppliers c.supplier) c t).1 u → Sound register.suppliers u → cancel (view c.supplier) (supplier_of register.suppliers c.supplier) c u ≡ (Repeated, u)
+pub cancellation_repeated : (register : Rows) (c : Cancel) (t u : Tables) → (cancel (view c.supplier) (supplier_of register.suppliers c.supplier) c t).0 ≡ Accepted → StaysRemembered (cancel (view c.supplier) (supplier_of register.suppliers c.supplier) c t).1 u → Sound register.suppliers u → cancel (view c.supplier) (supplier_of register.suppliers c.supplier) c u ≡ (Repeated, u)
 cancellation_repeated register c t u told stays sound =
     cancel_repeats register.suppliers c.supplier t (supplier_of register.suppliers c.supplier) (gln_of register.suppliers c.supplier) c told u stays sound

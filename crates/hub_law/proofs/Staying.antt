@@ -1,30 +1,33 @@
 -- What is remembered stays so, whatever comes.
-use Rattle.std.proofs.Common.{ℕ, Bool, true, false, cond, List, [], ◌∷◌, codes, Option, Some, None, Result, Ok, Err}
+use Rattle.std.proofs.Common.{ℕ, Bool, true, false, cond, List, [], ◌∷◌, codes, Option, Some, None, Result, Ok, Err, sym, subst}
 use Rattle.edi_messages.specs.declared.fault.MessageFault.{MessageFault}
 use Rattle.edi_orders.specs.Order.{order_of}
 use Rattle.edi_orders.specs.Response.{response_of}
 use Rattle.edi_goods.specs.Despatch.{despatch_of}
 use Rattle.edi_goods.specs.Receipt.{receipt_of}
+use Rattle.hub_parties.specs.Rows.{Parties, Rows, parties_of, supplier_of}
+use Rattle.hub_parties.specs.declared.row.SupplierRow.{SupplierRow}
 use Rattle.hub_tables.specs.Rows.{same}
 use Rattle.hub_tables.specs.Tables.{Tables, view}
 use Rattle.hub_tables.specs.declared.rows.MailRow.{MailRow}
+use Rattle.hub_tables.specs.Sets.{Has}
 use Rattle.hub_rules.specs.Rules.{judge_cancel}
-use Rattle.hub_rules.specs.Suppliers.{Supplier, supplier_of}
 use Rattle.hub_rules.specs.declared.verdict.Verdict.{Verdict}
 use Rattle.hub_rules.specs.declared.verdict.Verdict.TheVariants.{Accept, Refuse}
 use Rattle.hub_rules.proofs.Repeating.{has_after_all}
 use Rattle.hub_law.specs.CancelText.{cancel_text}
-use Rattle.hub_law.specs.Machine.{Inputs, step_as, shared_step, shared_run}
+use Rattle.hub_law.specs.declared.reply.Reply.{Reply}
+use Rattle.hub_law.specs.Machine.{Inputs, shared_step, shared_run}
 use Rattle.hub_law.specs.MailText.{entry_at}
 use Rattle.hub_law.specs.Mark.{Mark, Whole, StoppedEmpty, StoppedBare, StoppedAfter}
 use Rattle.hub_law.specs.Messages.{Sent, named, deliver_retailers, deliver_suppliers, cancel}
-use Rattle.hub_law.specs.Register.{Parties, Register, is_retailers}
 use Rattle.hub_law.specs.Remembered.{StaysRemembered}
 use Rattle.hub_law.specs.Requests.{looked_at, from_supplier, from_retailer, taking, taken, supplier_request, deliver_named, cancelled, retailer_request}
 use Rattle.hub_law.specs.Told.{Told, Act, changed, read_act, in_row}
 use Rattle.hub_law.specs.declared.request.Input.{Input}
 use Rattle.hub_law.specs.declared.request.Request.{Request}
 use Rattle.hub_law.specs.declared.request.Request.TheVariants as requests
+use Rattle.hub_law.proofs.Callers.{step_by, is_retailers, step_is}
 
 nothing_lost : (t : Tables) → StaysRemembered t t
 nothing_lost t row there = there
@@ -45,21 +48,21 @@ in_row_stays : {X : Type 0} (step : X → Act) → ((x : X) (t : Tables) → Sta
 in_row_stays step f [] t = nothing_lost t
 in_row_stays step f (x ∷ xs) t = λ row there. in_row_stays step f xs (step x t).1 row (f x t row there)
 
-retailers_stays : (look : Tables → Tables) (parties : Parties) (supplier : Option Supplier) (sent : Sent) (t : Tables) → StaysRemembered t (deliver_retailers look parties supplier sent t).1
+retailers_stays : (look : Tables → Tables) (parties : Parties) (supplier : Option SupplierRow) (sent : Sent) (t : Tables) → StaysRemembered t (deliver_retailers look parties supplier sent t).1
 retailers_stays look parties supplier sent t =
     either_stays (same sent.message.kind (codes "ORDERS")) _ _ t (read_stays (order_of sent.message) _ t)
     (either_stays (same sent.message.kind (codes "RECADV")) _ _ t (read_stays (receipt_of sent.message) _ t) (nothing_lost t))
 
-suppliers_stays : (look : Tables → Tables) (parties : Parties) (s : Supplier) (sent : Sent) (t : Tables) → StaysRemembered t (deliver_suppliers look parties s sent t).1
+suppliers_stays : (look : Tables → Tables) (parties : Parties) (s : SupplierRow) (sent : Sent) (t : Tables) → StaysRemembered t (deliver_suppliers look parties s sent t).1
 suppliers_stays look parties s sent t =
     either_stays (same sent.message.kind (codes "ORDRSP")) _ _ t (read_stays (response_of sent.message) _ t)
     (either_stays (same sent.message.kind (codes "DESADV")) _ _ t (read_stays (despatch_of sent.message) _ t) (nothing_lost t))
 
 -- the messages of an upload
-pub all_retailers_stay : (register : Register) (sents : List Sent) (t : Tables) → StaysRemembered t (in_row (deliver_named register) sents t).1
-all_retailers_stay register = in_row_stays (deliver_named register) (λ sent. retailers_stays (view (named sent)) register.parties (supplier_of register.suppliers (named sent)) sent)
+pub all_retailers_stay : (register : Rows) (sents : List Sent) (t : Tables) → StaysRemembered t (in_row (deliver_named register) sents t).1
+all_retailers_stay register = in_row_stays (deliver_named register) (λ sent. retailers_stays (view (named sent)) (parties_of register) (supplier_of register.suppliers (named sent)) sent)
 
-pub all_suppliers_stay : (look : Tables → Tables) (parties : Parties) (s : Supplier) (sents : List Sent) (t : Tables) → StaysRemembered t (in_row (deliver_suppliers look parties s) sents t).1
+pub all_suppliers_stay : (look : Tables → Tables) (parties : Parties) (s : SupplierRow) (sents : List Sent) (t : Tables) → StaysRemembered t (in_row (deliver_suppliers look parties s) sents t).1
 all_suppliers_stay look parties s = in_row_stays (deliver_suppliers look parties s) (suppliers_stays look parties s)
 
 taken_stays : (mark : Mark) (entry : Option MailRow) (t : Tables) → StaysRemembered t (taken mark entry t).1
@@ -75,7 +78,7 @@ cancelled_stays StoppedEmpty after t stays = nothing_lost t
 cancelled_stays StoppedBare after t stays = nothing_lost t
 cancelled_stays (StoppedAfter k) after t stays = nothing_lost t
 
-supplier_request_stays : (look : Tables → Tables) (parties : Parties) (s : Supplier) (moment : ℕ) (mark : Mark) (request : Request) (t : Tables) → StaysRemembered t (supplier_request look parties s moment mark request t).1
+supplier_request_stays : (look : Tables → Tables) (parties : Parties) (s : SupplierRow) (moment : ℕ) (mark : Mark) (request : Request) (t : Tables) → StaysRemembered t (supplier_request look parties s moment mark request t).1
 supplier_request_stays look parties s moment mark (requests.Upload bytes) t = all_suppliers_stay look parties s (looked_at moment mark (from_supplier parties s bytes)) t
 supplier_request_stays look parties s moment mark (requests.MailAfter number) t = nothing_lost t
 supplier_request_stays look parties s moment mark (requests.MailItem number) t = nothing_lost t
@@ -84,8 +87,8 @@ supplier_request_stays look parties s moment mark requests.Status t = nothing_lo
 supplier_request_stays look parties s moment mark (requests.StatusOf gln) t = nothing_lost t
 supplier_request_stays look parties s moment mark (requests.Cancel c) t = nothing_lost t
 
-retailer_request_stays : (register : Register) (moment : ℕ) (mark : Mark) (request : Request) (t : Tables) → StaysRemembered t (retailer_request register moment mark request t).1
-retailer_request_stays register moment mark (requests.Upload bytes) t = all_retailers_stay register (looked_at moment mark (from_retailer register.parties bytes)) t
+retailer_request_stays : (register : Rows) (moment : ℕ) (mark : Mark) (request : Request) (t : Tables) → StaysRemembered t (retailer_request register moment mark request t).1
+retailer_request_stays register moment mark (requests.Upload bytes) t = all_retailers_stay register (looked_at moment mark (from_retailer (parties_of register) bytes)) t
 retailer_request_stays register moment mark (requests.MailAfter number) t = nothing_lost t
 retailer_request_stays register moment mark (requests.MailItem number) t = nothing_lost t
 retailer_request_stays register moment mark (requests.MailTaken number) t = nothing_lost t
@@ -93,10 +96,10 @@ retailer_request_stays register moment mark requests.Status t = nothing_lost t
 retailer_request_stays register moment mark (requests.StatusOf gln) t = nothing_lost t
 retailer_request_stays register moment mark (requests.Cancel c) t = cancelled_stays mark (cancel (view c.supplier) (supplier_of register.suppliers c.supplier) c t) t (verdict_stays (judge_cancel (supplier_of register.suppliers c.supplier) (cancel_text c) c (view c.supplier t)) t)
 
-step_stays : (register : Register) (s : Option Supplier) (input : Input) (mark : Mark) (t : Tables) → StaysRemembered t (step_as register s input mark t).1
-step_stays register (Some s) input mark t = either_stays (same input.key s.key) _ _ t (supplier_request_stays (view s.gln) register.parties s input.moment mark input.request t) (nothing_lost t)
+step_stays : (register : Rows) (s : Option SupplierRow) (input : Input) (mark : Mark) (t : Tables) → StaysRemembered t (step_by register s input mark t).1
+step_stays register (Some s) input mark t = either_stays (same s.key input.key) _ _ t (supplier_request_stays (view s.gln) (parties_of register) s input.moment mark input.request t) (nothing_lost t)
 step_stays register None input mark t = either_stays (is_retailers register input) _ _ t (retailer_request_stays register input.moment mark input.request t) (nothing_lost t)
 
-pub run_stays : (register : Register) (t : Tables) (inputs : Inputs) → StaysRemembered t (shared_run register t inputs).1
+pub run_stays : (register : Rows) (t : Tables) (inputs : Inputs) → StaysRemembered t (shared_run register t inputs).1
 run_stays register t [] = nothing_lost t
-run_stays register t ((input, mark) ∷ inputs) = λ row there. run_stays register (shared_step register t input mark).1 inputs row (step_stays register (supplier_of register.suppliers input.caller) input mark t row there)
+run_stays register t ((input, mark) ∷ inputs) = λ row there. run_stays register (shared_step register t input mark).1 inputs row (subst (λ (after : Reply × Tables). Has after.1.remembered row) (sym (step_is register input mark t)) (step_stays register (supplier_of register.suppliers input.caller) input mark t row there))

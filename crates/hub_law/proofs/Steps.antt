@@ -1,17 +1,17 @@
 -- An input of a supplier, in the tables of all and in its own rows alone.
 use Rattle.std.proofs.Common.{◌≡◌, ◌≢◌, ℕ, true, false, if◌then◌else◌, List, [], ◌∷◌, Option, Some, None, refl, sym, ◌∙◌, ap}
+use Rattle.gs1_ids.specs.Overlap.{PrefixFree}
+use Rattle.hub_parties.specs.Rows.{Parties, company_prefixes, supplier_of}
+use Rattle.hub_parties.specs.declared.row.SupplierRow.{SupplierRow}
 use Rattle.hub_tables.specs.Rows.{same}
 use Rattle.hub_tables.specs.Tables.{Tables, view}
 use Rattle.hub_tables.specs.declared.rows.MailRow.{MailRow}
 use Rattle.hub_tables.proofs.Lists.{same_is, same_if, all_always, all_found}
-use Rattle.hub_rules.specs.Suppliers.{Supplier, supplier_of, PrefixFree}
 use Rattle.hub_rules.specs.Sound.{Sound}
-use Rattle.hub_law.specs.Machine.{supplier_step}
 use Rattle.hub_law.specs.MailText.{entry_at}
 use Rattle.hub_law.specs.Mark.{Mark, Whole, StoppedEmpty, StoppedBare, StoppedAfter}
 use Rattle.hub_law.specs.Messages.{deliver_suppliers}
 use Rattle.hub_law.specs.Opening.{Opened}
-use Rattle.hub_law.specs.Register.{Parties}
 use Rattle.hub_law.specs.Replies.{denied, unknown, stopped, unless_stopped, upload_reply, reply}
 use Rattle.hub_law.specs.Requests.{looked_at, uploaded, from_supplier, taken, supplier_request}
 use Rattle.hub_law.specs.Told.{Act, in_row}
@@ -19,18 +19,19 @@ use Rattle.hub_law.specs.declared.reply.Outcome.TheVariants.{Stopped}
 use Rattle.hub_law.specs.declared.request.Input.{Input}
 use Rattle.hub_law.specs.declared.request.Request.{Request}
 use Rattle.hub_law.specs.declared.request.Request.TheVariants as requests
+use Rattle.hub_law.specs.Alone.{supplier_step}
 use Rattle.hub_law.proofs.Acting.{Alike}
 use Rattle.hub_law.proofs.Acts.{suppliers_act, taking_act}
 
-pub gln_of : (suppliers : List Supplier) (gln : List ℕ) (s : Supplier) → supplier_of suppliers gln ≡ Some s → s.gln ≡ gln
+pub gln_of : (suppliers : List SupplierRow) (gln : List ℕ) (s : SupplierRow) → supplier_of suppliers gln ≡ Some s → s.gln ≡ gln
 gln_of suppliers gln s known =
     same_is s.gln gln (all_found (λ _. Unit {0}) (λ supplier. same supplier.gln gln) suppliers s (all_always (λ _. Unit {0}) (λ _. tt) suppliers) known).1
 
 -- who has another GLN than is named is another supplier
-pub unlike : (suppliers : List Supplier) (gln : List ℕ) (w : Supplier) (other : List ℕ) → supplier_of suppliers gln ≡ Some w → same gln other ≡ false → other ≢ w.gln
+pub unlike : (suppliers : List SupplierRow) (gln : List ℕ) (w : SupplierRow) (other : List ℕ) → supplier_of suppliers gln ≡ Some w → same gln other ≡ false → other ≢ w.gln
 unlike suppliers gln w other known e i = let matches = same_if gln other (sym (i ∙ gln_of suppliers gln w known)) in (cc)
 
-module _ (suppliers : List Supplier) (s : Supplier) where
+module _ (suppliers : List SupplierRow) (s : SupplierRow) where
   -- nothing is done
   idle : {A : Type 0} (t : Tables) → Sound suppliers t → (a : A) → Alike suppliers s t (a, t) (a, view s.gln t)
   idle t sound a = record { told = refl; apart = record { seen = refl; unseen = λ other ne. refl; sound = sound } }
@@ -51,7 +52,7 @@ module _ (suppliers : List Supplier) (s : Supplier) where
         };
       }
 
-module _ (suppliers : List Supplier) (free : PrefixFree suppliers) (parties : Parties) (s : Supplier) (known : supplier_of suppliers s.gln ≡ Some s) where
+module _ (suppliers : List SupplierRow) (free : PrefixFree (company_prefixes suppliers)) (parties : Parties) (s : SupplierRow) (known : supplier_of suppliers s.gln ≡ Some s) where
   uploaded_alike : (moment : ℕ) (mark : Mark) (upload : Opened) (t : Tables) → Sound suppliers t →
       Alike suppliers s t (uploaded (deliver_suppliers (view s.gln) parties s) moment mark upload t) (uploaded (deliver_suppliers (λ rows. rows) parties s) moment mark upload (view s.gln t))
   uploaded_alike moment mark upload t sound =
@@ -79,7 +80,7 @@ module _ (suppliers : List Supplier) (free : PrefixFree suppliers) (parties : Pa
   pub supplier_alike : (input : Input) (mark : Mark) (t : Tables) → Sound suppliers t →
       Alike suppliers s t (supplier_step (view s.gln) parties s input mark t) (supplier_step (λ rows. rows) parties s input mark (view s.gln t))
   supplier_alike input mark t sound =
-      elim (same input.key s.key) as (λ v. Alike suppliers s t
+      elim (same s.key input.key) as (λ v. Alike suppliers s t
       (if v then supplier_request (view s.gln) parties s input.moment mark input.request t else (unless_stopped mark denied, t))
       (if v then supplier_request (λ rows. rows) parties s input.moment mark input.request (view s.gln t) else (unless_stopped mark denied, view s.gln t))) [
         | true ↦ request_alike input.moment mark input.request t sound

@@ -1,15 +1,15 @@
 -- Inputs that are stopped, and what is said of them.
-use Rattle.std.proofs.Common.{◌≡◌, ◌≢◌, ◌↔◌, ℕ, List, Bool, true, false, cond, nat_lt, [], length, Option, Some, None, Ok, Err, refl, ap}
+use Rattle.std.proofs.Common.{◌≡◌, ◌≢◌, ◌↔◌, ℕ, List, Bool, true, false, cond, nat_lt, [], length, Option, Some, None, Ok, Err, refl, sym, subst, ap}
+use Rattle.hub_parties.specs.Rows.{Parties, Rows, parties_of, supplier_of}
+use Rattle.hub_parties.specs.declared.row.SupplierRow.{SupplierRow}
 use Rattle.hub_tables.specs.Rows.{same}
 use Rattle.hub_tables.specs.Tables.{Tables, view}
 use Rattle.hub_tables.specs.declared.rows.MailRow.{MailRow}
-use Rattle.hub_rules.specs.Suppliers.{Supplier, supplier_of}
 use Rattle.hub_law.specs.MailText.{entry_at}
-use Rattle.hub_law.specs.Machine.{step_as, shared_step}
+use Rattle.hub_law.specs.Machine.{shared_step}
 use Rattle.hub_law.specs.Mark.{Mark, Whole, StoppedEmpty, StoppedBare, StoppedAfter}
 use Rattle.hub_law.specs.Messages.{Sent, deliver_suppliers, cancel}
 use Rattle.hub_law.specs.Opening.{Opened}
-use Rattle.hub_law.specs.Register.{Parties, Register, is_retailers}
 use Rattle.hub_law.specs.Replies.{reply, denied, stopped, unless_stopped, entry_reply}
 use Rattle.hub_law.specs.Requests.{uploaded, from_supplier, from_retailer, taken, supplier_request, deliver_named, cancelled, report, retailer_request}
 use Rattle.hub_law.specs.Told.{Told, Act}
@@ -18,6 +18,7 @@ use Rattle.hub_law.specs.declared.reply.Reply.{Reply}
 use Rattle.hub_law.specs.declared.request.Input.{Input}
 use Rattle.hub_law.specs.declared.request.Request.{Request}
 use Rattle.hub_law.specs.declared.request.Request.TheVariants as requests
+use Rattle.hub_law.proofs.Callers.{step_by, is_retailers, step_is}
 
 -- one of two, by a test
 either : {X : Type 0} (P : X → Type 0) (test : Bool) (one other : X) → P one → P other → P (cond test one other)
@@ -32,7 +33,7 @@ entry_is_whole : (hub : List ℕ) (found : Option MailRow) → IsWhole (entry_re
 entry_is_whole hub None = λ e. cc
 entry_is_whole hub (Some entry) = λ e. cc
 
-report_is_whole : (found : Option Supplier) (state : Tables) → IsWhole (report found state)
+report_is_whole : (found : Option SupplierRow) (state : Tables) → IsWhole (report found state)
 report_is_whole None state = λ e. cc
 report_is_whole (Some s) state = λ e. cc
 
@@ -42,7 +43,7 @@ module _ (mark : Mark) (P : Tables → Reply × Tables → Type 0)
     (upload : (deliver : Sent → Act) (moment : ℕ) (opened : Opened) (t : Tables) → P t (uploaded deliver moment mark opened t))
     (entry : (found : Option MailRow) (t : Tables) → P t (taken mark found t))
     (cut : (after : Told × Tables) (t : Tables) → P t (cancelled mark after t)) where
-  of_supplier : (look : Tables → Tables) (parties : Parties) (s : Supplier) (moment : ℕ) (request : Request) (t : Tables) → P t (supplier_request look parties s moment mark request t)
+  of_supplier : (look : Tables → Tables) (parties : Parties) (s : SupplierRow) (moment : ℕ) (request : Request) (t : Tables) → P t (supplier_request look parties s moment mark request t)
   of_supplier look parties s moment (requests.Upload bytes) t = upload (deliver_suppliers look parties s) moment (from_supplier parties s bytes) t
   of_supplier look parties s moment (requests.MailAfter number) t = unless t _ (λ e. cc)
   of_supplier look parties s moment (requests.MailItem number) t = unless t _ (entry_is_whole parties.hub (entry_at (look t) number))
@@ -51,8 +52,8 @@ module _ (mark : Mark) (P : Tables → Reply × Tables → Type 0)
   of_supplier look parties s moment (requests.StatusOf gln) t = unless t _ (λ e. cc)
   of_supplier look parties s moment (requests.Cancel c) t = unless t _ (λ e. cc)
 
-  of_retailer : (register : Register) (moment : ℕ) (request : Request) (t : Tables) → P t (retailer_request register moment mark request t)
-  of_retailer register moment (requests.Upload bytes) t = upload (deliver_named register) moment (from_retailer register.parties bytes) t
+  of_retailer : (register : Rows) (moment : ℕ) (request : Request) (t : Tables) → P t (retailer_request register moment mark request t)
+  of_retailer register moment (requests.Upload bytes) t = upload (deliver_named register) moment (from_retailer (parties_of register) bytes) t
   of_retailer register moment (requests.MailAfter number) t = unless t _ (λ e. cc)
   of_retailer register moment (requests.MailItem number) t = unless t _ (λ e. cc)
   of_retailer register moment (requests.MailTaken number) t = unless t _ (λ e. cc)
@@ -60,19 +61,19 @@ module _ (mark : Mark) (P : Tables → Reply × Tables → Type 0)
   of_retailer register moment (requests.StatusOf gln) t = unless t _ (report_is_whole (supplier_of register.suppliers gln) (view gln t))
   of_retailer register moment (requests.Cancel c) t = cut (cancel (view c.supplier) (supplier_of register.suppliers c.supplier) c t) t
 
-  of_anybody : (register : Register) (o : Option Supplier) (input : Input) (t : Tables) → P t (step_as register o input mark t)
+  of_anybody : (register : Rows) (o : Option SupplierRow) (input : Input) (t : Tables) → P t (step_by register o input mark t)
   of_anybody register (Some s) input t =
-      either (P t) (same input.key s.key) _ _ (of_supplier (view s.gln) register.parties s input.moment input.request t) (unless t denied (λ e. cc))
+      either (P t) (same s.key input.key) _ _ (of_supplier (view s.gln) (parties_of register) s input.moment input.request t) (unless t denied (λ e. cc))
   of_anybody register None input t =
       either (P t) (is_retailers register input) _ _ (of_retailer register input.moment input.request t) (unless t denied (λ e. cc))
 
-module _ (register : Register) (t : Tables) (input : Input) where
+module _ (register : Rows) (t : Tables) (input : Input) where
   anybody : (mark : Mark) (P : Tables → Reply × Tables → Type 0) →
       ((t : Tables) (whole : Reply) → IsWhole whole → P t (unless_stopped mark whole, t)) →
       ((deliver : Sent → Act) (moment : ℕ) (opened : Opened) (t : Tables) → P t (uploaded deliver moment mark opened t)) →
       ((found : Option MailRow) (t : Tables) → P t (taken mark found t)) →
       ((after : Told × Tables) (t : Tables) → P t (cancelled mark after t)) → P t (shared_step register t input mark)
-  anybody mark P unless upload entry cut = of_anybody mark P unless upload entry cut register (supplier_of register.suppliers input.caller) input t
+  anybody mark P unless upload entry cut = subst (P t) (sym (step_is register input mark t)) (of_anybody mark P unless upload entry cut register (supplier_of register.suppliers input.caller) input t)
 
   whole : IsWhole (shared_step register t input Whole).0
   whole = anybody Whole (λ t after. IsWhole after.0) (λ t reply is_whole. is_whole) upload entry (λ after t e. cc)

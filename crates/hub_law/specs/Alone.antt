@@ -1,14 +1,17 @@
 -- One supplier alone: the items of inputs that are for it, and its machine over them.
 use Rattle.std.specs.Prelude.{ℕ, List, [], ◌∷◌, ◌++◌, map, filter, if◌then◌else◌, Option, Some, None}
+use Rattle.hub_parties.specs.Rows.{Rows, Parties, parties_of, role_of}
+use Rattle.hub_parties.specs.declared.role.Role.{Role}
+use Rattle.hub_parties.specs.declared.role.Role.TheVariants.{Retailer, Supplier}
+use Rattle.hub_parties.specs.declared.row.SupplierRow.{SupplierRow}
 use Rattle.hub_tables.specs.Rows.{same}
 use Rattle.hub_tables.specs.Tables.{Tables}
-use Rattle.hub_rules.specs.Suppliers.{Supplier, supplier_of}
 use Rattle.hub_rules.specs.declared.delivery.Cancel.{Cancel}
-use Rattle.hub_law.specs.Machine.{Inputs, supplier_step}
+use Rattle.hub_law.specs.Machine.{Inputs}
 use Rattle.hub_law.specs.Mark.{Mark, Whole, StoppedEmpty, StoppedBare, StoppedAfter}
 use Rattle.hub_law.specs.Messages.{Sent, named, deliver_retailers, cancel}
-use Rattle.hub_law.specs.Register.{Parties, Register, is_retailers}
-use Rattle.hub_law.specs.Requests.{looked_at, from_retailer}
+use Rattle.hub_law.specs.Replies.{denied, unless_stopped}
+use Rattle.hub_law.specs.Requests.{looked_at, from_retailer, supplier_request}
 use Rattle.hub_law.specs.declared.reply.Reply.{Reply}
 use Rattle.hub_law.specs.declared.request.Input.{Input}
 use Rattle.hub_law.specs.declared.request.Request.{Request}
@@ -20,15 +23,21 @@ pub data Item : Type 0 where
   Message : Sent → Item
   Cancellation : ℕ → Cancel → Item
 
+-- an input of the supplier: denied without its key
+abbrev pub supplier_step : (Tables → Tables) → Parties → SupplierRow → Input → Mark → Tables → Reply × Tables
+supplier_step look parties s input mark t =
+    if same s.key input.key then supplier_request look parties s input.moment mark input.request t
+    else (unless_stopped mark denied, t)
+
 -- what an item does to the supplier's rows, and what is replied to it
-abbrev pub own_step : Parties → Supplier → Item → Tables → List Reply × Tables
+abbrev pub own_step : Parties → SupplierRow → Item → Tables → List Reply × Tables
 own_step parties s (Own input mark) state =
     ((supplier_step (λ rows. rows) parties s input mark state).0 ∷ [], (supplier_step (λ rows. rows) parties s input mark state).1)
 own_step parties s (Message sent) state = ([], (deliver_retailers (λ rows. rows) parties (Some s) sent state).1)
 own_step parties s (Cancellation moment c) state = ([], (cancel (λ rows. rows) (Some s) c state).1)
 
 -- items one after another
-abbrev pub fold : Parties → Supplier → List Item → Tables → List Reply × Tables
+abbrev pub fold : Parties → SupplierRow → List Item → Tables → List Reply × Tables
 fold parties s [] state = ([], state)
 fold parties s (item ∷ items) state = (
   (own_step parties s item state).0 ++ (fold parties s items (own_step parties s item state).1).0,
@@ -42,9 +51,9 @@ cancel_items moment StoppedEmpty c = []
 cancel_items moment StoppedBare c = []
 cancel_items moment (StoppedAfter k) c = []
 
-abbrev pub retailer_items : List ℕ → Register → ℕ → Mark → Request → List Item
+abbrev pub retailer_items : List ℕ → Rows → ℕ → Mark → Request → List Item
 retailer_items gln register moment mark (requests.Upload bytes) =
-    map Message (filter (λ sent. same (named sent) gln) (looked_at moment mark (from_retailer register.parties bytes)))
+    map Message (filter (λ sent. same (named sent) gln) (looked_at moment mark (from_retailer (parties_of register) bytes)))
 retailer_items gln register moment mark (requests.MailAfter number) = []
 retailer_items gln register moment mark (requests.MailItem number) = []
 retailer_items gln register moment mark (requests.MailTaken number) = []
@@ -52,14 +61,17 @@ retailer_items gln register moment mark requests.Status = []
 retailer_items gln register moment mark (requests.StatusOf other) = []
 retailer_items gln register moment mark (requests.Cancel c) = if same c.supplier gln then cancel_items moment mark c else []
 
-abbrev pub items_as : List ℕ → Register → Option Supplier → Input → Mark → List Item
-items_as gln register (Some s) input mark = if same input.caller gln then Own input mark ∷ [] else []
-items_as gln register None input mark =
-    if is_retailers register input then retailer_items gln register input.moment mark input.request else []
+abbrev pub own_items : List ℕ → Input → Mark → List Item
+own_items gln input mark = if same input.caller gln then Own input mark ∷ [] else []
 
-abbrev pub items : List ℕ → Register → Input → Mark → List Item
-items gln register input mark = items_as gln register (supplier_of register.suppliers input.caller) input mark
+abbrev pub items_as : List ℕ → Rows → Option Role → Input → Mark → List Item
+items_as gln register (Some Retailer) input mark = retailer_items gln register input.moment mark input.request
+items_as gln register (Some Supplier) input mark = own_items gln input mark
+items_as gln register None input mark = own_items gln input mark
 
-abbrev pub items_of : List ℕ → Register → Inputs → List Item
+abbrev pub items : List ℕ → Rows → Input → Mark → List Item
+items gln register input mark = items_as gln register (role_of register input.caller input.key) input mark
+
+abbrev pub items_of : List ℕ → Rows → Inputs → List Item
 items_of gln register [] = []
 items_of gln register ((input, mark) ∷ inputs) = items gln register input mark ++ items_of gln register inputs

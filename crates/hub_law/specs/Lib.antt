@@ -7,7 +7,6 @@ pub mod Mark
 pub mod Messages
 pub mod Opening
 pub mod Overlap
-pub mod Register
 pub mod Remembered
 pub mod Replies
 pub mod Requests

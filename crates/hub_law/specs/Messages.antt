@@ -13,14 +13,14 @@ use Rattle.edi_orders.specs.Order.{order_of}
 use Rattle.edi_orders.specs.Response.{response_of}
 use Rattle.edi_goods.specs.Despatch.{despatch_of}
 use Rattle.edi_goods.specs.Receipt.{receipt_of}
+use Rattle.hub_parties.specs.declared.row.SupplierRow.{SupplierRow}
+use Rattle.hub_parties.specs.Rows.{Parties}
 use Rattle.hub_tables.specs.Rows.{same}
 use Rattle.hub_tables.specs.Tables.{Tables, has_pallet}
 use Rattle.hub_rules.specs.Rules.{judge_order, judge_response, judge_despatch, judge_receipt, judge_cancel}
-use Rattle.hub_rules.specs.Suppliers.{Supplier}
 use Rattle.hub_rules.specs.declared.delivery.Cancel.{Cancel}
 use Rattle.hub_rules.specs.declared.delivery.Delivery.{Delivery}
 use Rattle.hub_law.specs.CancelText.{cancel_text}
-use Rattle.hub_law.specs.Register.{Parties}
 use Rattle.hub_law.specs.Told.{Refused, Act, act, read_act}
 
 -- a message, with what its interchange says of it
@@ -58,7 +58,7 @@ abbrev pub other_type : Act
 other_type t = (Refused (message_faults.code_text MessageType), t)
 
 -- a message of the retailer for a supplier: ORDERS, RECADV
-abbrev pub deliver_retailers : (Tables → Tables) → Parties → Option Supplier → Sent → Act
+abbrev pub deliver_retailers : (Tables → Tables) → Parties → Option SupplierRow → Sent → Act
 deliver_retailers look parties supplier sent t =
     if same sent.message.kind (codes "ORDERS")
     then read_act (order_of sent.message) (λ order. judge_order parties.retailer supplier (delivery_of sent) (body_of sent) order (look t)) t
@@ -67,7 +67,7 @@ deliver_retailers look parties supplier sent t =
     else other_type t)
 
 -- a message of a supplier: ORDRSP, DESADV
-abbrev pub deliver_suppliers : (Tables → Tables) → Parties → Supplier → Sent → Act
+abbrev pub deliver_suppliers : (Tables → Tables) → Parties → SupplierRow → Sent → Act
 deliver_suppliers look parties s sent t =
     if same sent.message.kind (codes "ORDRSP")
     then read_act (response_of sent.message) (λ response. judge_response parties.retailer (Some s) (delivery_of sent) response (look t)) t
@@ -76,5 +76,5 @@ deliver_suppliers look parties s sent t =
     else other_type t)
 
 -- a cancellation of the retailer for a supplier
-abbrev pub cancel : (Tables → Tables) → Option Supplier → Cancel → Act
+abbrev pub cancel : (Tables → Tables) → Option SupplierRow → Cancel → Act
 cancel look supplier cancellation t = act (judge_cancel supplier (cancel_text cancellation) cancellation (look t)) t

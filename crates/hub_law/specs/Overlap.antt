@@ -1,27 +1,28 @@
 -- Two suppliers, one of whose prefixes begins the other's, announce pallets with the same SSCC.
 use Rattle.std.specs.Prelude.{ℕ, Bool, List, [], ◌∷◌, ◌++◌, codes}
-use Rattle.hub_rules.specs.Suppliers.{Supplier}
+use Rattle.hub_parties.specs.declared.row.SupplierRow.{SupplierRow}
+use Rattle.hub_parties.specs.Rows.{Rows}
 use Rattle.hub_law.specs.Machine.{Inputs}
 use Rattle.hub_law.specs.Mark.{Whole}
-use Rattle.hub_law.specs.Register.{Register}
 use Rattle.hub_law.specs.Widths.{line}
 use Rattle.hub_law.specs.declared.reply.Outcome.TheVariants.{Done}
 use Rattle.hub_law.specs.declared.reply.Reply.{Reply}
 use Rattle.hub_law.specs.declared.request.Input.{Input}
 use Rattle.hub_law.specs.declared.request.Request.TheVariants as requests
 
-abbrev pub long_supplier : Supplier
+abbrev pub long_supplier : SupplierRow
 long_supplier = record { gln = codes "4012345500004"; prefixes = codes "40123455" ∷ []; key = codes "alpha-key-1" }
 
-abbrev pub short_supplier : Supplier
+abbrev pub short_supplier : SupplierRow
 short_supplier = record { gln = codes "8712345000004"; prefixes = codes "4012345" ∷ []; key = codes "beta-key-1" }
 
 abbrev pub retailer : List ℕ
 retailer = codes "5412345000013"
 
-abbrev pub overlapping : Register
+abbrev pub overlapping : Rows
 overlapping = record {
-  parties = record { hub = codes "5412345000006"; retailer = retailer };
+  hub = codes "5412345000006";
+  retailer = retailer;
   retailer_key = codes "retail-key";
   suppliers = short_supplier ∷ long_supplier ∷ [];
 }
@@ -36,7 +37,7 @@ order_for supplier reference = uploads retailer (codes "retail-key") (
     ++ supplier ++ codes "::9'LIN+1++4000862141404:SRV'QTY+21:48'UNS+S'UNT+9+1'UNZ+1+" ++ reference ++ codes "'")
 
 -- a supplier's advice of a pallet
-abbrev pub advice_of : Supplier → Input
+abbrev pub advice_of : SupplierRow → Input
 advice_of s = uploads s.gln s.key (
     codes "UNB+UNOC:3+" ++ s.gln ++ codes ":14+5412345000006:14+250604:0800+S2'UNH+1+DESADV:D:01B:UN'BGM+351+DA1+9'DTM+137:20250604:102'RFF+ON:128576'NAD+SU+"
     ++ s.gln ++ codes "::9'CPS+1'GIN+BJ+340123455000000012'LIN+1++4000862141404:SRV'QTY+12:12'UNT+10+1'UNZ+1+S2'")

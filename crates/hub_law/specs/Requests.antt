@@ -1,17 +1,17 @@
 -- Requests: what is answered, and what is done. Each looks at the tables through `look`, and changes the tables themselves.
 use Rattle.std.specs.Prelude.{ℕ, nat_lt, true, List, [], ◌∷◌, length, take, if◌then◌else◌, Option, Some, None, Ok, Err, codes}
+use Rattle.hub_parties.specs.Rows.{Parties, Rows, parties_of, supplier_of}
+use Rattle.hub_parties.specs.declared.row.SupplierRow.{SupplierRow}
 use Rattle.hub_tables.specs.Cases.{truth_number}
 use Rattle.hub_tables.specs.Change.{apply_all}
 use Rattle.hub_tables.specs.Tables.{Tables, view}
 use Rattle.hub_tables.specs.declared.change.Change.{Change}
 use Rattle.hub_tables.specs.declared.change.Change.TheVariants.{SetMail}
 use Rattle.hub_tables.specs.declared.rows.MailRow.{MailRow}
-use Rattle.hub_rules.specs.Suppliers.{Supplier, supplier_of}
 use Rattle.hub_law.specs.MailText.{entry_at, is_taken, untaken_after, list_text}
 use Rattle.hub_law.specs.Mark.{Mark, Whole, StoppedEmpty, StoppedBare, StoppedAfter}
 use Rattle.hub_law.specs.Messages.{Sent, messages_at, named, deliver_retailers, deliver_suppliers, cancel}
 use Rattle.hub_law.specs.Opening.{Opened, opened, addressed}
-use Rattle.hub_law.specs.Register.{Parties, Register}
 use Rattle.hub_law.specs.Replies.{done, denied, unknown, stopped, unless_stopped, upload_reply, cancel_reply, entry_reply, reply}
 use Rattle.hub_law.specs.StatusText.{status_text}
 use Rattle.hub_law.specs.Told.{Told, Act, in_row}
@@ -37,7 +37,7 @@ uploaded deliver moment mark upload t =
     (upload_reply mark upload (in_row deliver (looked_at moment mark upload) t).0, (in_row deliver (looked_at moment mark upload) t).1)
 
 -- a supplier sends to the hub or to the retailer, the retailer to the hub
-abbrev pub from_supplier : Parties → Supplier → List ℕ → Opened
+abbrev pub from_supplier : Parties → SupplierRow → List ℕ → Opened
 from_supplier parties s bytes = addressed s.gln (parties.hub ∷ parties.retailer ∷ []) (opened bytes)
 
 abbrev pub from_retailer : Parties → List ℕ → Opened
@@ -55,7 +55,7 @@ taken StoppedBare (Some entry) t = (stopped, t)
 taken (StoppedAfter k) (Some entry) t = (stopped, t)
 
 -- What a supplier asks.
-abbrev pub supplier_request : (Tables → Tables) → Parties → Supplier → ℕ → Mark → Request → Tables → Reply × Tables
+abbrev pub supplier_request : (Tables → Tables) → Parties → SupplierRow → ℕ → Mark → Request → Tables → Reply × Tables
 supplier_request look parties s moment mark (requests.Upload bytes) t = uploaded (deliver_suppliers look parties s) moment mark (from_supplier parties s bytes) t
 supplier_request look parties s moment mark (requests.MailAfter number) t = (unless_stopped mark (done (list_text (untaken_after (look t) number))), t)
 supplier_request look parties s moment mark (requests.MailItem number) t = (unless_stopped mark (entry_reply parties.hub (entry_at (look t) number)), t)
@@ -65,8 +65,8 @@ supplier_request look parties s moment mark (requests.StatusOf gln) t = (unless_
 supplier_request look parties s moment mark (requests.Cancel cancellation) t = (unless_stopped mark denied, t)
 
 -- What the retailer asks. A message, a cancellation and a report see what the supplier sees that they name.
-abbrev pub deliver_named : Register → Sent → Act
-deliver_named register sent = deliver_retailers (view (named sent)) register.parties (supplier_of register.suppliers (named sent)) sent
+abbrev pub deliver_named : Rows → Sent → Act
+deliver_named register sent = deliver_retailers (view (named sent)) (parties_of register) (supplier_of register.suppliers (named sent)) sent
 
 abbrev pub cancelled : Mark → Told × Tables → Tables → Reply × Tables
 cancelled Whole after t = (cancel_reply after.0, after.1)
@@ -74,12 +74,12 @@ cancelled StoppedEmpty after t = (reply Stopped [], t)
 cancelled StoppedBare after t = (stopped, t)
 cancelled (StoppedAfter k) after t = (stopped, t)
 
-abbrev pub report : Option Supplier → Tables → Reply
+abbrev pub report : Option SupplierRow → Tables → Reply
 report None state = unknown
 report (Some s) state = done (status_text state)
 
-abbrev pub retailer_request : Register → ℕ → Mark → Request → Tables → Reply × Tables
-retailer_request register moment mark (requests.Upload bytes) t = uploaded (deliver_named register) moment mark (from_retailer register.parties bytes) t
+abbrev pub retailer_request : Rows → ℕ → Mark → Request → Tables → Reply × Tables
+retailer_request register moment mark (requests.Upload bytes) t = uploaded (deliver_named register) moment mark (from_retailer (parties_of register) bytes) t
 retailer_request register moment mark (requests.MailAfter number) t = (unless_stopped mark denied, t)
 retailer_request register moment mark (requests.MailItem number) t = (unless_stopped mark denied, t)
 retailer_request register moment mark (requests.MailTaken number) t = (unless_stopped mark denied, t)

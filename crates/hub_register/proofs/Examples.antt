@@ -1,13 +1,13 @@
 -- The definitions at small registers.
 use Rattle.std.proofs.Common.{◌≡◌, ℕ, List, [], ◌∷◌, Some, None, Ok, Err, codes, refl}
 use Rattle.toml.proofs.OnLiterals.{toml_on_literals}
-use Rattle.hub_register.specs.Document.{rows_of_text}
+use Rattle.hub_parties.specs.Rows.{Rows, role_of}
+use Rattle.hub_parties.specs.declared.role.Role.TheVariants.{Retailer, Supplier}
+use Rattle.hub_parties.specs.declared.row.SupplierRow.{SupplierRow}
+use Rattle.hub_register.specs.Document.{rows_of_text, row_with}
 use Rattle.hub_register.specs.Fault.{fault_of}
 use Rattle.hub_register.specs.Register.{register_of}
-use Rattle.hub_register.specs.Rows.{Rows, role_of}
 use Rattle.hub_register.specs.declared.fault.RegisterFault.TheVariants.{Text, Gln, Twice, Prefix, Overlap}
-use Rattle.hub_register.specs.declared.role.Role.TheVariants.{Retailer, Supplier}
-use Rattle.hub_register.specs.declared.row.SupplierRow.{SupplierRow}
 
 abbrev hub : List ℕ
 hub = codes "5412345000006"
@@ -22,7 +22,7 @@ abbrev beta : List ℕ
 beta = codes "8712345000004"
 
 abbrev supplier : List ℕ → List ℕ → SupplierRow
-supplier gln prefix = record { gln = gln; prefix = prefix; key = codes "alpha-key-1" }
+supplier gln prefix = row_with gln prefix (codes "alpha-key-1")
 
 abbrev of : List SupplierRow → Rows
 of suppliers = record { hub = hub; retailer = retailer; retailer_key = codes "retail-key"; suppliers = suppliers }
@@ -48,7 +48,7 @@ three_digits = refl
 retailer_as_supplier : fault_of (of (supplier retailer (codes "4012345") ∷ [])) ≡ Some Twice
 retailer_as_supplier = refl
 
-wrong_gln_after_wrong_key : fault_of (of (record { gln = alpha; prefix = codes "4012345"; key = codes "short" } ∷ supplier (codes "8712345000005") (codes "8712345") ∷ [])) ≡ Some Gln
+wrong_gln_after_wrong_key : fault_of (of (row_with alpha (codes "4012345") (codes "short") ∷ supplier (codes "8712345000005") (codes "8712345") ∷ [])) ≡ Some Gln
 wrong_gln_after_wrong_key = refl
 
 one_right_key : role_of (of (supplier alpha (codes "40123455") ∷ [])) alpha (codes "alpha-key-1") ≡ Some Supplier

@@ -8,8 +8,9 @@ use Rattle.std.specs.declared.cmp.Ordering.TheVariants.{Less, Equal, Greater}
 use Rattle.std.proofs.lemmas.Map.Lookups.{exact_bytes}
 use Rattle.std.specs.Str.{bytes_eq}
 use Rattle.std.proofs.lemmas.Map.Text.{is_eq-slice_cmp}
-use Rattle.hub_register.specs.Rows.{put}
-use Rattle.hub_register.specs.declared.row.SupplierRow.{SupplierRow}
+use Rattle.edi_base.proofs.Twice.{bytes_eq-sym}
+use Rattle.hub_parties.specs.declared.row.SupplierRow.{SupplierRow}
+use Rattle.hub_register.specs.InOrder.{put}
 
 abbrev pub by_gln : List ℕ → List ℕ → Ordering
 by_gln = slice_cmp nat_cmp
@@ -44,7 +45,7 @@ at-insert [] row at = refl
 at-insert (e ∷ es) row at = at-case (by_gln row.gln e.0) e es row _ (exact_bytes row.gln e.0) at (at-insert es row (ap (drop 1) at))
 
 -- what the map finds is the row of that GLN
-pub lookup-find : (gln : List ℕ) (entries : List (List ℕ × SupplierRow)) → AtGln entries → lookup (is_at (by_gln gln)) entries ≡ find (λ row. bytes_eq gln row.gln) (values_of entries)
+pub lookup-find : (gln : List ℕ) (entries : List (List ℕ × SupplierRow)) → AtGln entries → lookup (is_at (by_gln gln)) entries ≡ find (λ row. bytes_eq row.gln gln) (values_of entries)
 lookup-find gln [] at = refl
 lookup-find gln (e ∷ es) at =
-    ap₂ (λ here rest. if here then Some e.1 else rest) (is_eq-slice_cmp gln e.0 ∙ ap (bytes_eq gln) (ap head at)) (lookup-find gln es (ap (drop 1) at))
+    ap₂ (λ here rest. if here then Some e.1 else rest) (is_eq-slice_cmp gln e.0 ∙ ap (bytes_eq gln) (ap head at) ∙ bytes_eq-sym gln (e.1).gln) (lookup-find gln es (ap (drop 1) at))

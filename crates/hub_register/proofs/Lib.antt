@@ -2,6 +2,7 @@ mod Examples
 pub mod Inserted
 pub mod Ordered
 pub mod Permuted
+pub mod PrefixFree
 pub mod Readings
 pub mod Rest
 pub mod Right

@@ -5,8 +5,8 @@ use Rattle.std.specs.Cmp.Lexicographic.{slice_cmp}
 use Rattle.std.specs.Ordering.{nat_cmp, match_ordering}
 use Rattle.std.specs.declared.cmp.Ordering.TheVariants.{Less, Equal, Greater}
 use Rattle.std.proofs.lemmas.Bool.{and_parts}
-use Rattle.hub_register.specs.Rows.{put, put_all}
-use Rattle.hub_register.specs.declared.row.SupplierRow.{SupplierRow}
+use Rattle.hub_parties.specs.declared.row.SupplierRow.{SupplierRow}
+use Rattle.hub_register.specs.InOrder.{put, put_all}
 
 -- what holds of the rows wherever the new one goes
 by_place : (Q : List SupplierRow → Type 0) (o : Ordering) (a b c : List SupplierRow) → Q a → Q b → Q c → Q (match_ordering o a b c)

@@ -9,17 +9,18 @@ use Rattle.std.proofs.lemmas.Bool.{or_parts, true≢false}
 use Rattle.std.proofs.lemmas.List.Sorted.{IsPermutation-refl, IsPermutation-cons, IsPermutation-middle, IsPermutation-trans, IsPermutation-sym, IsPermutation-append_right}
 use Rattle.std.proofs.lemmas.Map.Text.{is_eq-slice_cmp}
 use Rattle.edi_base.specs.Seen.{is_among, has_twice}
-use Rattle.hub_register.specs.Document.{rows_of_text}
-use Rattle.hub_register.specs.Fault.{fault_of}
-use Rattle.hub_register.specs.Register.{register_of_rows, judged, HasRows, RegisterHasItsRows}
 use Rattle.gs1_ids.specs.Gln.{is_gln}
 use Rattle.gs1_ids.specs.Overlap.{first_overlap_of}
 use Rattle.gs1_ids.specs.Prefix.{is_prefix}
-use Rattle.hub_register.specs.Key.{is_party_key}
-use Rattle.hub_register.specs.Rows.{Rows, put, put_all, in_gln_order, glns, prefixes, keys}
+use Rattle.hub_parties.specs.Key.{is_party_key}
+use Rattle.hub_parties.specs.Rows.{Rows, glns, prefixes, keys}
+use Rattle.hub_parties.specs.declared.row.SupplierRow.{SupplierRow}
+use Rattle.hub_register.specs.Document.{rows_of_text}
+use Rattle.hub_register.specs.Fault.{fault_of}
+use Rattle.hub_register.specs.Register.{register_of_rows, judged, HasRows, RegisterHasItsRows}
+use Rattle.hub_register.specs.InOrder.{put, put_all, in_gln_order}
 use Rattle.hub_register.specs.declared.fault.RegisterFault.{RegisterFault}
 use Rattle.hub_register.specs.declared.fault.RegisterFault.TheVariants.{Many, Gln, Twice, Prefix, Key, Overlap}
-use Rattle.hub_register.specs.declared.row.SupplierRow.{SupplierRow}
 use Rattle.hub_register.proofs.Ordered.{every-put, Apart}
 use Rattle.hub_register.proofs.Right.{Differ, differ-turned, differ}
 

@@ -1,6 +1,6 @@
 -- Rows that are read one after another.
 use Rattle.std.proofs.Common.{◌≡◌, List, [], ◌++◌, Option, Some, None, option_map, refl}
-use Rattle.hub_register.specs.declared.row.SupplierRow.{SupplierRow}
+use Rattle.hub_parties.specs.declared.row.SupplierRow.{SupplierRow}
 
 -- rows that were read, and those of the rest
 abbrev pub after : List SupplierRow → Option (List SupplierRow) → Option (List SupplierRow)

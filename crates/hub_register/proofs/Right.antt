@@ -1,20 +1,21 @@
 -- Rows that no fault stands against are those of a register, in the order of their GLNs too.
-use Rattle.std.proofs.Common.{◌≡◌, ℕ, suc, ◌≤◌, true, false, ◌&&◌, List, [], ◌∷◌, length, map, refl, ap₂, ◌∙◌, arith, All}
-use Rattle.std.specs.List.{list_all, AllByRecursion}
+use Rattle.std.proofs.Common.{◌≡◌, ℕ, suc, ◌≤◌, Bool, true, false, ◌&&◌, List, [], ◌∷◌, ◌++◌, length, get_or, map, refl, sym, ap, ap₂, ◌∙◌, arith, All}
+use Rattle.std.specs.List.{list_all, flat_map, AllByRecursion}
 use Rattle.std.specs.Str.{bytes_eq}
 use Rattle.std.proofs.lemmas.Bool.{and_parts, or_parts, or_from}
 use Rattle.std.proofs.lemmas.List.Elements.{All-cons, All-nil}
 use Rattle.std.proofs.lemmas.List.Kept.{AllPairs-cons}
 use Rattle.std.proofs.Math.Bool.{or_comm}
-use Rattle.gs1_ids.specs.Overlap.{AreApart, PrefixFree}
-use Rattle.gs1_ids.specs.Prefix.{overlap, begins, is_prefix}
-use Rattle.hub_register.specs.Key.{is_party_key}
-use Rattle.gs1_ids.specs.Gln.{is_gln}
-use Rattle.hub_register.specs.Rows.{Rows, IsRegister, put_all, in_gln_order, prefixes_of, prefixes, glns, keys}
 use Rattle.edi_base.specs.Seen.{is_among, has_twice}
-use Rattle.hub_register.specs.declared.row.SupplierRow.{SupplierRow}
-use Rattle.hub_register.proofs.Ordered.{length-put_all, all-put_all, every-put_all, Apart, apart_in_order}
 use Rattle.edi_base.proofs.Twice.{bytes_eq-sym}
+use Rattle.gs1_ids.specs.Overlap.{AreApart, PrefixFree}
+use Rattle.gs1_ids.specs.Prefix.{begins, is_prefix}
+use Rattle.gs1_ids.specs.Gln.{is_gln}
+use Rattle.hub_parties.specs.Key.{is_party_key}
+use Rattle.hub_parties.specs.Rows.{Rows, IsRegister, company_prefixes, prefixes, glns, keys}
+use Rattle.hub_parties.specs.declared.row.SupplierRow.{SupplierRow}
+use Rattle.hub_register.specs.InOrder.{put_all, in_gln_order}
+use Rattle.hub_register.proofs.Ordered.{length-put_all, all-put_all, every-put_all, Apart, apart_in_order}
 
 -- GLNs that differ
 abbrev pub Differ : SupplierRow → SupplierRow → Type 0
@@ -50,33 +51,42 @@ glns-apart hub retailer rows h =
     (or_from _ _ (other retailer second.0) (once (put_all rows []) (apart_in_order Differ differ-turned rows (differ rows second.1))))
 
 -- prefixes that do not overlap
-abbrev Free : SupplierRow → SupplierRow → Type 0
-Free r s = overlap r.prefix s.prefix ≡ false
+abbrev pub Free : SupplierRow → SupplierRow → Type 0
+Free r s = AreApart r.prefixes s.prefixes
 
 free-turned : (r s : SupplierRow) → Free r s → Free s r
-free-turned r s h = or_comm (begins s.prefix r.prefix) (begins r.prefix s.prefix) ∙ h
+free-turned r s h = λ j e there i d here. or_comm (begins (get_or s.prefixes j e) (get_or r.prefixes i d)) (begins (get_or r.prefixes i d) (get_or s.prefixes j e)) ∙ h i d here j e there
 
-each_free : (r : SupplierRow) (rows : List SupplierRow) → All (AreApart (r.prefix ∷ [])) (map (λ p. p ∷ []) (map (λ s. s.prefix) rows)) → AllByRecursion (Free r) rows
+each_free : (r : SupplierRow) (rows : List SupplierRow) → All (AreApart r.prefixes) (company_prefixes rows) → AllByRecursion (Free r) rows
 each_free r [] h = tt
-each_free r (s ∷ rows) h = (h 0 [] (omega arith) 0 [] (omega arith) 0 [] (omega arith), each_free r rows (λ k d within. h (suc k) d (omega (arith, within))))
+each_free r (s ∷ rows) h = (h 0 [] (omega arith), each_free r rows (λ k d within. h (suc k) d (omega (arith, within))))
 
-free : (rows : List SupplierRow) → PrefixFree (map (λ p. p ∷ []) (map (λ r. r.prefix) rows)) → Apart Free rows
+free : (rows : List SupplierRow) → PrefixFree (company_prefixes rows) → Apart Free rows
 free [] h = tt
 free (r ∷ rows) h = (each_free r rows (λ k d within. h 0 (suc k) d (omega arith) (omega (arith, within))), free rows (λ i j d before within. h (suc i) (suc j) d (omega (arith, before)) (omega (arith, within))))
 
-alone : (p q : List ℕ) → overlap p q ≡ false → AreApart (p ∷ []) (q ∷ [])
-alone p q e = All-cons (λ p. All (λ q. overlap p q ≡ false) (q ∷ [])) p [] (All-cons (λ q. overlap p q ≡ false) q [] e (All-nil (λ q. overlap p q ≡ false))) (All-nil (λ p. All (λ q. overlap p q ≡ false) (q ∷ [])))
+all_apart : (r : SupplierRow) (rows : List SupplierRow) → AllByRecursion (Free r) rows → All (AreApart r.prefixes) (company_prefixes rows)
+all_apart r [] h = All-nil (AreApart r.prefixes)
+all_apart r (s ∷ rows) h = All-cons (AreApart r.prefixes) s.prefixes (company_prefixes rows) h.0 (all_apart r rows h.1)
 
-all_apart : (r : SupplierRow) (rows : List SupplierRow) → AllByRecursion (Free r) rows → All (AreApart (prefixes_of r)) (map prefixes_of rows)
-all_apart r [] h = All-nil (AreApart (prefixes_of r))
-all_apart r (s ∷ rows) h = All-cons (AreApart (prefixes_of r)) (prefixes_of s) (map prefixes_of rows) (alone r.prefix s.prefix h.0) (all_apart r rows h.1)
-
-prefix_free : (rows : List SupplierRow) → Apart Free rows → PrefixFree (map prefixes_of rows)
+prefix_free : (rows : List SupplierRow) → Apart Free rows → PrefixFree (company_prefixes rows)
 prefix_free [] h = λ i j d before within. absurd (omega arith)
-prefix_free (r ∷ rows) h = AllPairs-cons AreApart (prefixes_of r) (map prefixes_of rows) (all_apart r rows h.0) (prefix_free rows h.1)
+prefix_free (r ∷ rows) h = AllPairs-cons AreApart r.prefixes (company_prefixes rows) (all_apart r rows h.0) (prefix_free rows h.1)
+
+pub free_in_order : (rows : List SupplierRow) → PrefixFree (company_prefixes rows) → PrefixFree (company_prefixes (put_all rows []))
+free_in_order rows h = prefix_free (put_all rows []) (apart_in_order Free free-turned rows (free rows h))
+
+-- a test of every prefix is one of the prefixes of each supplier
+all_joined : (p : List ℕ → Bool) (xs ys : List (List ℕ)) → list_all p (xs ++ ys) ≡ (list_all p xs && list_all p ys)
+all_joined p [] ys = refl
+all_joined p (x ∷ xs) ys = elim (p x) as (λ v. (v && list_all p (xs ++ ys)) ≡ ((v && list_all p xs) && list_all p ys)) [ true ↦ all_joined p xs ys | false ↦ refl ]
+
+all_flat : (p : List ℕ → Bool) (rows : List SupplierRow) → list_all p (flat_map (λ r. r.prefixes) rows) ≡ list_all (list_all p) (company_prefixes rows)
+all_flat p [] = refl
+all_flat p (r ∷ rows) = all_joined p r.prefixes (flat_map (λ r. r.prefixes) rows) ∙ ap (λ rest. list_all p r.prefixes && rest) (all_flat p rows)
 
 pub register_right : (rows : Rows) → length rows.suppliers ≤ 1000 → list_all is_gln (glns rows) ≡ true → has_twice (glns rows) ≡ false → list_all is_prefix (prefixes rows) ≡ true → list_all is_party_key (keys rows) ≡ true
-    → PrefixFree (map (λ p. p ∷ []) (prefixes rows)) → IsRegister (in_gln_order rows)
+    → PrefixFree (company_prefixes rows.suppliers) → IsRegister (in_gln_order rows)
 register_right rows few right apart prefix key none =
     let hub = and_parts (is_gln rows.hub) _ right in
     let retailer = and_parts (is_gln rows.retailer) _ hub.1 in
@@ -85,9 +95,9 @@ register_right rows few right apart prefix key none =
       few = omega (arith, length-put_all rows.suppliers [], few);
       glns_right = ap₂ (λ a b. a && b) hub.0 (ap₂ (λ a b. a && b) retailer.0 (all-put_all (λ r. r.gln) is_gln rows.suppliers [] retailer.1 refl));
       glns_apart = glns-apart rows.hub rows.retailer rows.suppliers apart;
-      prefixes_right = all-put_all (λ r. r.prefix) is_prefix rows.suppliers [] prefix refl;
+      prefixes_right = all_flat is_prefix (put_all rows.suppliers []) ∙ all-put_all (λ r. r.prefixes) (list_all is_prefix) rows.suppliers [] (sym (all_flat is_prefix rows.suppliers) ∙ prefix) refl;
       keys_right = ap₂ (λ a b. a && b) secret.0 (all-put_all (λ r. r.key) is_party_key rows.suppliers [] secret.1 refl);
-      prefixes_free = prefix_free (put_all rows.suppliers []) (apart_in_order Free free-turned rows.suppliers (free rows.suppliers none));
+      prefixes_free = free_in_order rows.suppliers none;
     }
 
 pub same_rows : (hub retailer key : List ℕ) (suppliers : List SupplierRow) (rows : Rows) → hub ≡ rows.hub → retailer ≡ rows.retailer → key ≡ rows.retailer_key → suppliers ≡ put_all rows.suppliers []

@@ -1,10 +1,10 @@
 -- What the text of a register says (TOML 1.1): at the top a string `hub`; a table `retailer` with the strings `gln` and
 -- `key`; and `supplier`, an array of tables, each with the strings `gln`, `prefix` and `key`. Other keys are ignored.
-use Rattle.std.specs.Prelude.{ℕ, codes, List, [], ◌∷◌, Option, Some, None, option_map, option_and_then}
 use Rattle.toml.specs.Data.{Data, Items, no_items, item, Members, get_member, as_str, as_array, as_table}
 use Rattle.toml.specs.Parse.{parse_document}
-use Rattle.hub_register.specs.Rows.{Rows}
-use Rattle.hub_register.specs.declared.row.SupplierRow.{SupplierRow}
+use Rattle.std.specs.Prelude.{ℕ, codes, List, [], ◌∷◌, Option, Some, None, option_map, option_and_then}
+use Rattle.hub_parties.specs.Rows.{Rows}
+use Rattle.hub_parties.specs.declared.row.SupplierRow.{SupplierRow}
 
 infixl 10 ◌>>=◌
 abbrev ◌>>=◌ : {A B : Type 0} → Option A → (A → Option B) → Option B
@@ -18,12 +18,16 @@ string_at key table = get_member key table >>= as_str
 abbrev pub table_at : List ℕ → Members → Option Members
 table_at name table = get_member name table >>= as_table
 
--- the row of a supplier, from its table
+-- the row of a supplier, of which a text gives one prefix
+abbrev pub row_with : List ℕ → List ℕ → List ℕ → SupplierRow
+row_with gln prefix key = record { gln = gln; prefixes = prefix ∷ []; key = key }
+
+-- the same from its table
 abbrev pub supplier_in : Members → Option SupplierRow
 supplier_in table =
     string_at (codes "gln") table >>= (λ gln.
     string_at (codes "prefix") table >>= (λ prefix.
-    option_map (λ key. record { gln = gln; prefix = prefix; key = key }) (string_at (codes "key") table)))
+    option_map (row_with gln prefix) (string_at (codes "key") table)))
 
 -- the rows of suppliers, from their tables in their order
 abbrev pub suppliers_in : Items → Option (List SupplierRow)

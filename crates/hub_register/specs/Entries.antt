@@ -1,12 +1,13 @@
 -- The rows that the borrowed strings of a document are.
 use Rattle.std.specs.Prelude.{map}
-use Rattle.hub_register.specs.Rows.{Rows}
+use Rattle.hub_parties.specs.Rows.{Rows}
+use Rattle.hub_parties.specs.declared.row.SupplierRow.{SupplierRow}
+use Rattle.hub_register.specs.Document.{row_with}
 use Rattle.hub_register.specs.declared.document.Document.{Document}
 use Rattle.hub_register.specs.declared.document.Entry.{Entry}
-use Rattle.hub_register.specs.declared.row.SupplierRow.{SupplierRow}
 
 abbrev pub row_in : Entry → SupplierRow
-row_in entry = record { gln = entry.gln.now; prefix = entry.prefix.now; key = entry.key.now }
+row_in entry = row_with entry.gln.now entry.prefix.now entry.key.now
 
 abbrev pub rows_from : Document → Rows
 rows_from document = record {

@@ -1,12 +1,12 @@
 -- What stands against the rows of a text.
 use Rattle.std.specs.Prelude.{◌+◌, not, nat_lt, if◌then◌else◌, length, Option, Some, option_map}
 use Rattle.std.specs.List.{list_all}
+use Rattle.edi_base.specs.Seen.{has_twice}
 use Rattle.gs1_ids.specs.Overlap.{first_overlap_of}
 use Rattle.gs1_ids.specs.Prefix.{is_prefix}
-use Rattle.hub_register.specs.Key.{is_party_key}
 use Rattle.gs1_ids.specs.Gln.{is_gln}
-use Rattle.hub_register.specs.Rows.{Rows, glns, prefixes, keys}
-use Rattle.edi_base.specs.Seen.{has_twice}
+use Rattle.hub_parties.specs.Key.{is_party_key}
+use Rattle.hub_parties.specs.Rows.{Rows, glns, prefixes, keys}
 use Rattle.hub_register.specs.declared.fault.RegisterFault.{RegisterFault}
 use Rattle.hub_register.specs.declared.fault.RegisterFault.TheVariants.{Many, Gln, Twice, Prefix, Key, Overlap}
 

@@ -1,7 +1,7 @@
 -- How a register is held: a map from GLNs to rows.
 use Rattle.std.specs.Prelude.{◌≡◌, map}
 use Rattle.std.specs.BTreeMap.{keys, values}
-use Rattle.hub_register.specs.Rows.{Rows, IsRegister}
+use Rattle.hub_parties.specs.Rows.{Rows, IsRegister}
 use Rattle.hub_register.specs.declared.register.Register.TheInside.{Inside}
 
 -- the rows of a register, its suppliers in the order of their GLNs

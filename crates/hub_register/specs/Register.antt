@@ -1,8 +1,10 @@
 -- The register that a text writes, or the fault of the text.
 use Rattle.std.specs.Prelude.{◌≡◌, ℕ, List, IsPermutation, Option, Some, None, Result, Ok, Err}
+use Rattle.gs1_ids.specs.Overlap.{PrefixFree}
+use Rattle.hub_parties.specs.Rows.{Rows, company_prefixes}
 use Rattle.hub_register.specs.Document.{rows_of_text}
 use Rattle.hub_register.specs.Fault.{fault_of}
-use Rattle.hub_register.specs.Rows.{Rows, in_gln_order}
+use Rattle.hub_register.specs.InOrder.{in_gln_order}
 use Rattle.hub_register.specs.declared.fault.RegisterFault.{RegisterFault}
 use Rattle.hub_register.specs.declared.fault.RegisterFault.TheVariants.{Text}
 
@@ -29,3 +31,7 @@ pub record HasRows (rows register : Rows) : Type 0 where
 
 abbrev pub RegisterHasItsRows : Type 0
 RegisterHasItsRows = (text : List ℕ) (register : Rows) → register_of text ≡ Ok register → (rows : Rows) × (rows_of_text text ≡ Some rows) × HasRows rows register
+
+-- in the register of a text no prefix of one supplier begins a prefix of another
+abbrev pub RegisterIsPrefixFree : Type 0
+RegisterIsPrefixFree = (text : List ℕ) (register : Rows) → register_of text ≡ Ok register → PrefixFree (company_prefixes register.suppliers)

@@ -2,20 +2,21 @@
 
 ghost use Rattle.std.specs.Prelude.{◌≡◌, ◌≢◌, ◌+◌, true, false, [], IfOk, IfErr, map, length};
 ghost use Rattle.std.specs.BTreeMap.{keys, values};
-ghost use Rattle.std.specs.List.{list_all};
+ghost use Rattle.std.specs.List.{list_all, flat_map};
+ghost use Rattle.edi_base.specs.Seen as twice;
 ghost use Rattle.gs1_ids.specs.Gln.{is_gln};
 ghost use Rattle.gs1_ids.specs.Prefix.{is_prefix};
+ghost use Rattle.hub_parties.specs.Key.{is_party_key};
+ghost use Rattle.hub_parties.specs.Rows as spec;
 ghost use Rattle.hub_register.specs.Entries.{row_in, rows_from};
-ghost use Rattle.hub_register.specs.Key.{is_party_key};
-ghost use Rattle.hub_register.specs.Rows as spec;
-ghost use Rattle.edi_base.specs.Seen as twice;
+ghost use Rattle.hub_register.specs.Document.{row_with};
+ghost use Rattle.hub_register.specs.InOrder.{put_all};
 
 use crate::document::{Document, Entry};
 use crate::fault::RegisterFault;
-use crate::key::Key;
-use crate::row::SupplierRow;
-use edi_base::Seen;
+use edi_base::{Items, Seen};
 use gs1_ids::{Gln, Prefix};
+use hub_parties::{Key, SupplierRow};
 use std::alloc::Global;
 use std::collections::BTreeMap;
 
@@ -71,14 +72,24 @@ pub(crate) fn has_twice(alloc: Global, glns: &[Gln]) -> Result<bool, RegisterFau
 
 /// The prefixes of the suppliers.
 pub(crate) fn prefixes(alloc: Global, entries: &[Entry<'_>]) -> Result<Vec<Prefix>, RegisterFault>
-    ensures ok { IfOk result (λ prefixes. (prefixes.items ≡ map (λ row. row.prefix) (map row_in entries.now)) × (list_all is_prefix (map (λ row. row.prefix) (map row_in entries.now)) ≡ true)) }
-    ensures err { IfErr result (λ fault. fault ≢ RegisterFault.Memory → (fault ≡ RegisterFault.Prefix) × (list_all is_prefix (map (λ row. row.prefix) (map row_in entries.now)) ≡ false)) }
+    ensures ok { IfOk result (λ prefixes. (prefixes.items ≡ flat_map (λ row. row.prefixes) (map row_in entries.now)) × (list_all is_prefix (flat_map (λ row. row.prefixes) (map row_in entries.now)) ≡ true)) }
+    ensures err { IfErr result (λ fault. fault ≢ RegisterFault.Memory → (fault ≡ RegisterFault.Prefix) × (list_all is_prefix (flat_map (λ row. row.prefixes) (map row_in entries.now)) ≡ false)) }
 {
     let mut prefixes = Vec::new(alloc);
     for entry in entries {
         prefixes.push(prefix_of(entry.prefix)?)?;
     }
     Ok(prefixes)
+}
+
+// The row of a supplier with one prefix.
+fn row_by(alloc: Global, gln: Gln, prefix: Prefix, key: Key) -> Result<SupplierRow, RegisterFault>
+    ensures ok { IfOk result (λ row. row ≡ row_with gln prefix key) }
+    ensures err { IfErr result (λ fault. fault ≡ RegisterFault.Memory) }
+{
+    let mut prefixes = Items::new(alloc);
+    prefixes.push(prefix)?;
+    Ok(SupplierRow { gln, prefixes, key })
 }
 
 /// The rows of the suppliers, each with its key judged, by their GLNs.
@@ -89,8 +100,8 @@ pub(crate) fn suppliers(
     prefixes: &[Prefix],
 ) -> Result<BTreeMap<Gln, SupplierRow>, RegisterFault>
     requires glns { glns.now ≡ map (λ row. row.gln) (map row_in entries.now) }
-    requires prefixes { prefixes.now ≡ map (λ row. row.prefix) (map row_in entries.now) }
-    ensures rows { IfOk result (λ suppliers. values suppliers ≡ spec.put_all (map row_in entries.now) []) }
+    requires prefixes { prefixes.now ≡ flat_map (λ row. row.prefixes) (map row_in entries.now) }
+    ensures rows { IfOk result (λ suppliers. values suppliers ≡ put_all (map row_in entries.now) []) }
     ensures at_gln { IfOk result (λ suppliers. keys suppliers ≡ map (λ row. row.gln) (values suppliers)) }
     ensures keys { IfOk result (λ suppliers. list_all is_party_key (map (λ row. row.key) (map row_in entries.now)) ≡ true) }
     ensures err { IfErr result (λ fault. fault ≢ RegisterFault.Memory → (fault ≡ RegisterFault.Key) × (list_all is_party_key (map (λ row. row.key) (map row_in entries.now)) ≡ false)) }
@@ -100,7 +111,8 @@ pub(crate) fn suppliers(
         let gln = glns[place];
         let prefix = prefixes[place];
         let key = key_of(entry.key)?;
-        suppliers.insert(gln, SupplierRow { gln, prefix, key })?;
+        let row = row_by(alloc, gln, prefix, key)?;
+        suppliers.insert(gln, row)?;
     }
     Ok(suppliers)
 }

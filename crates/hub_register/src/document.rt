@@ -1,8 +1,8 @@
 //! The strings that the text of a register holds, before they are judged.
 
-ghost use Rattle.std.specs.Prelude.{◌≡◌, ◌≢◌, Some, None, IfOk, IfErr, map, option_map, is_some, codes};
 ghost use Rattle.toml.specs.Data.{get_member};
 ghost use Rattle.toml.specs.View.{table_view, items_view, view};
+ghost use Rattle.std.specs.Prelude.{◌≡◌, ◌≢◌, Some, None, IfOk, IfErr, map, option_map, is_some, codes};
 ghost use Rattle.hub_register.specs.Document as spec;
 ghost use Rattle.hub_register.specs.Entries.{row_in, rows_from};
 

@@ -7,13 +7,8 @@
 mod columns;
 mod document;
 mod fault;
-mod key;
 mod register;
-mod role;
-mod row;
 
 pub use fault::RegisterFault;
-pub use key::Key;
-pub use register::{Register, register_has_its_rows};
-pub use role::Role;
-pub use row::SupplierRow;
+pub use hub_parties::{Key, Role, SupplierRow};
+pub use register::{Register, register_has_its_rows, register_is_prefix_free};

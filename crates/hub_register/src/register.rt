@@ -1,18 +1,16 @@
-ghost use Rattle.std.specs.Prelude.{◌≡◌, ◌≢◌, IfOk, IfErr, Ok, Err, Some, None, length, map, option_copied};
 ghost use Rattle.toml.specs.Parse.{parse_document};
 ghost use Rattle.toml.specs.View.{table_view};
-ghost use Rattle.hub_register.specs.Entries.{rows_from};
-ghost use Rattle.hub_register.specs.Register.{register_of, register_of_rows, RegisterHasItsRows};
-ghost use Rattle.hub_register.specs.Rows.{IsRegister, rows_by, row_of, role_of};
+ghost use Rattle.std.specs.Prelude.{◌≡◌, ◌≢◌, IfOk, IfErr, Ok, Err, Some, None, length, map, option_copied};
 ghost use Rattle.std.specs.BTreeMap.{keys, values};
+ghost use Rattle.hub_parties.specs.Rows.{IsRegister, rows_by, row_of, role_of};
+ghost use Rattle.hub_register.specs.Entries.{rows_from};
+ghost use Rattle.hub_register.specs.Register.{register_of, register_of_rows, RegisterHasItsRows, RegisterIsPrefixFree};
 
 use crate::columns;
 use crate::document::Document;
 use crate::fault::RegisterFault;
-use crate::key::Key;
-use crate::role::Role;
-use crate::row::SupplierRow;
 use gs1_ids::{Gln, first_overlap};
+use hub_parties::{Key, Role, SupplierRow};
 use std::alloc::Global;
 use std::collections::BTreeMap;
 use std::marker::Model;
@@ -28,7 +26,7 @@ pub struct Register {
 }
 
 impl Model for Register {
-    ghost use Rattle.hub_register.specs.Rows.{Rows};
+    ghost use Rattle.hub_parties.specs.Rows.{Rows};
 
     ghost Value = { Rows };
 
@@ -154,19 +152,25 @@ impl Register {
         ensures value { result ≡ role_of self.now gln.now key.now }
         ensures register { IsRegister self.now }
     {
+        if let Some(row) = self.supplier(gln) {
+            if row.key.bytes() == key {
+                return Some(Role::Supplier);
+            }
+            return None;
+        }
         if self.retailer == *gln && self.retailer_key.bytes() == key {
             return Some(Role::Retailer);
         }
-        let row = self.supplier(gln)?;
-        if row.key.bytes() == key {
-            Some(Role::Supplier)
-        } else {
-            None
-        }
+        None
     }
 }
 
 /// The register of a text has the rows that the text says, each once, and nothing stands against them.
 pub fn register_has_its_rows()
     ensures { RegisterHasItsRows }
+{}
+
+/// In the register of a text no prefix of one supplier begins a prefix of another.
+pub fn register_is_prefix_free()
+    ensures { RegisterIsPrefixFree }
 {}

@@ -3,6 +3,7 @@ use Rattle.std.proofs.Common.{◌≡◌, ℕ, Bool, true, not, inl, inr, List, [
 use Rattle.gs1_ids.specs.Sscc.{under_some}
 use Rattle.edi_goods.specs.declared.despatch.Despatch.{Despatch}
 use Rattle.edi_goods.specs.declared.despatch.Unit.{Unit as PalletUnit}
+use Rattle.hub_parties.specs.declared.row.SupplierRow.{SupplierRow}
 use Rattle.hub_tables.specs.Change.{apply_all}
 use Rattle.hub_tables.specs.Rows.{same}
 use Rattle.hub_tables.specs.State.{knows_advice, remembered_of}
@@ -16,7 +17,6 @@ use Rattle.hub_rules.specs.Judging.{Judge, refuse_if, joined, goes_on, in_turn, 
 use Rattle.hub_rules.specs.RepeatRules.{Reference, remembered, once, judge_once}
 use Rattle.hub_rules.specs.PartyRules.{is_other_buyer}
 use Rattle.hub_rules.specs.Rules.{referred_by, judge_message, judge_despatch}
-use Rattle.hub_rules.specs.Suppliers.{Supplier}
 use Rattle.hub_rules.specs.declared.code.Code.TheVariants as codes
 use Rattle.hub_rules.specs.declared.delivery.Delivery.{Delivery}
 use Rattle.hub_rules.specs.declared.verdict.Verdict.{Verdict}
@@ -40,8 +40,8 @@ in_order_alike judge other agree (x ∷ xs) state = in_turn_alike (judge x) (oth
 once_alike : (r : Reference) (content : List ℕ) (fresh other : Judge) → Alike fresh other → Alike (judge_once r content fresh) (judge_once r content other)
 once_alike r content fresh other agree state = ap (once (remembered_of state r.side r.control r.message) content) (goes_on_alike (Accept (Remember (remembered r content) ∷ [])) fresh other agree state)
 
-module _ (s : Supplier) where
-  message_alike : (retailer : List ℕ) (side : Side) (delivery : Delivery) (buyer : Option (List ℕ)) (named : List ℕ) (rest other : Supplier → Judge) → Alike (rest s) (other s) →
+module _ (s : SupplierRow) where
+  message_alike : (retailer : List ℕ) (side : Side) (delivery : Delivery) (buyer : Option (List ℕ)) (named : List ℕ) (rest other : SupplierRow → Judge) → Alike (rest s) (other s) →
       Alike (judge_message retailer (Some s) side delivery buyer named rest) (judge_message retailer (Some s) side delivery buyer named other)
   message_alike retailer side delivery buyer named rest other agree state =
       ap (λ v. refuse_if (is_other_buyer retailer buyer) codes.Buyer (refuse_if (not (same named s.gln)) codes.Supplier v)) (once_alike (referred_by s side delivery) delivery.content (rest s) (other s) agree state)

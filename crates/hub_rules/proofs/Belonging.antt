@@ -1,16 +1,16 @@
 -- Which changes are those of one supplier's rows, judged on what it sees.
 use Rattle.std.specs.Prelude.{◌≡◌, ◌≢◌, ℕ, true, false, List, [], ◌∷◌, ⊤}
 use Rattle.gs1_ids.specs.Sscc.{under_some}
+use Rattle.hub_parties.specs.declared.row.SupplierRow.{SupplierRow}
 use Rattle.hub_tables.specs.Change.{apply, apply_all}
 use Rattle.hub_tables.specs.Tables.{Tables, has_pallet, view}
 use Rattle.hub_tables.specs.declared.change.Change.{Change}
 use Rattle.hub_tables.specs.declared.change.Change.TheVariants.{AddOrder, AddLine, SetLine, AddAdvice, AddPallet, SetPallet, AddContent, AddReceipt, Remember, AddMail, SetMail}
-use Rattle.hub_rules.specs.Suppliers.{Supplier}
 use Rattle.hub_rules.specs.Sound.{IsOwn, Kept, Rooted}
 
 -- rows name the supplier; a new pallet's SSCC is under its prefixes and new to it; a pallet that is set, or gets a content or
 -- a receipt, is one of its own
-abbrev pub Belongs : Supplier → Tables → Change → Type 0
+abbrev pub Belongs : SupplierRow → Tables → Change → Type 0
 Belongs s state (AddOrder row) = row.supplier ≡ s.gln
 Belongs s state (AddLine row) = row.supplier ≡ s.gln
 Belongs s state (SetLine row) = row.supplier ≡ s.gln
@@ -24,18 +24,18 @@ Belongs s state (AddMail row) = row.supplier ≡ s.gln
 Belongs s state (SetMail row) = row.supplier ≡ s.gln
 
 -- each on what the earlier ones left
-abbrev pub BelongAll : Supplier → Tables → List Change → Type 0
+abbrev pub BelongAll : SupplierRow → Tables → List Change → Type 0
 BelongAll s state [] = ⊤
 BelongAll s state (change ∷ changes) = Belongs s state change × BelongAll s (apply change state) changes
 
 -- The supplier sees its changes done to what it saw, nobody else sees them, and the tables still keep suppliers apart.
-pub record Follows (suppliers : List Supplier) (s : Supplier) (t after : Tables) (changes : List Change) : Type 0 where
+pub record Follows (suppliers : List SupplierRow) (s : SupplierRow) (t after : Tables) (changes : List Change) : Type 0 where
   pub seen : view s.gln after ≡ apply_all changes (view s.gln t)
   pub unseen : (other : List ℕ) → other ≢ s.gln → view other after ≡ view other t
   pub rooted : Rooted suppliers after
 
 -- changes that are the supplier's, and leave its rows so
-pub record Keeps (s : Supplier) (state : Tables) (changes : List Change) : Type 0 where
+pub record Keeps (s : SupplierRow) (state : Tables) (changes : List Change) : Type 0 where
   pub belong : BelongAll s state changes
   pub own : IsOwn s (apply_all changes state)
   pub kept : Kept (apply_all changes state)

@@ -4,6 +4,9 @@ use Rattle.std.specs.List.{AllByRecursion, list_any}
 use Rattle.std.proofs.lemmas.Bool.{and_parts}
 use Rattle.std.proofs.lemmas.Bool.Decides.{nat_tests}
 use Rattle.gs1_ids.specs.Sscc.{under_some}
+use Rattle.gs1_ids.specs.Overlap.{PrefixFree}
+use Rattle.hub_parties.specs.Rows.{company_prefixes, supplier_of}
+use Rattle.hub_parties.specs.declared.row.SupplierRow.{SupplierRow}
 use Rattle.hub_tables.specs.Keys.{put, replace}
 use Rattle.hub_tables.specs.Rows.{same, order_cmp, line_cmp, advice_cmp, pallet_cmp, content_cmp, receipt_cmp, remembered_cmp, mail_cmp, same_line, same_pallet, same_mail}
 use Rattle.hub_tables.specs.Tables.{Tables, has_pallet, holds, view}
@@ -16,7 +19,6 @@ use Rattle.hub_tables.specs.declared.rows.MailRow.{MailRow}
 use Rattle.hub_tables.proofs.Lists.{decide, same_is, same_if, differ, filter_alike, filter_replace, filter_replace_out, all_replace, all_weaker, all_always}
 use Rattle.hub_tables.proofs.KeyOrder.{all_put, any_put, filter_put_in, filter_put_out}
 use Rattle.hub_tables.proofs.KindOrders.{order_total, line_total, advice_total, pallet_total, content_total, receipt_total, remembered_total, mail_total, ordered_after}
-use Rattle.hub_rules.specs.Suppliers.{Supplier, supplier_of, PrefixFree}
 use Rattle.hub_rules.specs.Sound.{IsRooted, Rooted}
 use Rattle.hub_rules.proofs.Belonging.{Belongs, BelongAll, Follows}
 use Rattle.hub_rules.proofs.Prefixes.{ours, under_held, holds_seen, holds_all, holds_none}
@@ -59,7 +61,7 @@ key_line r y h = same_is y.supplier r.supplier ((and_parts (same y.supplier r.su
 key_mail : (r y : MailRow) → same_mail r y ≡ true → y.supplier ≡ r.supplier
 key_mail r y h = same_is y.supplier r.supplier ((and_parts (same y.supplier r.supplier) (y.number == r.number) h).0)
 
-module _ (suppliers : List Supplier) (free : PrefixFree suppliers) (s : Supplier) (known : supplier_of suppliers s.gln ≡ Some s) (t : Tables) (rooted : Rooted suppliers t) where
+module _ (suppliers : List SupplierRow) (free : PrefixFree (company_prefixes suppliers)) (s : SupplierRow) (known : supplier_of suppliers s.gln ≡ Some s) (t : Tables) (rooted : Rooted suppliers t) where
   mine : (x : List ℕ) → under_some x s.prefixes ≡ true → AllByRecursion (λ q. same q.sscc x ≡ true → q.supplier ≡ s.gln) t.pallets
   mine x below = ours suppliers free s.gln s known t x rooted.pallets below
 
@@ -172,7 +174,7 @@ module _ (suppliers : List Supplier) (free : PrefixFree suppliers) (s : Supplier
   rooted_after (AddMail r) h = record { ordered = ordered_after (AddMail r) t rooted.ordered; pallets = rooted.pallets; contents = rooted.contents; receipts = rooted.receipts }
   rooted_after (SetMail r) h = record { ordered = ordered_after (SetMail r) t rooted.ordered; pallets = rooted.pallets; contents = rooted.contents; receipts = rooted.receipts }
 
-module _ (suppliers : List Supplier) (free : PrefixFree suppliers) (s : Supplier) (known : supplier_of suppliers s.gln ≡ Some s) where
+module _ (suppliers : List SupplierRow) (free : PrefixFree (company_prefixes suppliers)) (s : SupplierRow) (known : supplier_of suppliers s.gln ≡ Some s) where
   pub follows : (cs : List Change) (t : Tables) → Rooted suppliers t → BelongAll s (view s.gln t) cs → Follows suppliers s t (apply_all cs t) cs
   follows [] t rooted belong = record { seen = refl; unseen = λ other ne. refl; rooted = rooted }
   follows (c ∷ cs) t rooted belong =

@@ -9,6 +9,7 @@ use Rattle.edi_goods.specs.declared.despatch.DespatchLine.{DespatchLine}
 use Rattle.edi_goods.specs.declared.despatch.Unit.{Unit}
 use Rattle.edi_goods.specs.declared.receipt.ReceiptLine.{ReceiptLine}
 use Rattle.edi_goods.specs.declared.receipt.ReceiptUnit.{ReceiptUnit}
+use Rattle.hub_parties.specs.declared.row.SupplierRow.{SupplierRow}
 use Rattle.hub_tables.specs.Cases.{answer_letter, arrival_number}
 use Rattle.hub_tables.specs.State.{knows_order}
 use Rattle.hub_tables.specs.Tables.{Tables, empty}
@@ -25,7 +26,6 @@ use Rattle.hub_rules.specs.OrderRules.{judge_new_order}
 use Rattle.hub_rules.specs.ReceiptRules.{judge_new_receipt}
 use Rattle.hub_rules.specs.ResponseRules.{judge_answer, judge_answers, judge_new_response}
 use Rattle.hub_rules.specs.Rules.{judge_order, judge_response, judge_despatch, judge_receipt, judge_cancel}
-use Rattle.hub_rules.specs.Suppliers.{Supplier}
 use Rattle.hub_rules.specs.declared.code.Code.{Code}
 use Rattle.hub_rules.specs.declared.code.Code.TheVariants as codes_of
 use Rattle.hub_rules.specs.declared.delivery.Cancel.{Cancel}
@@ -39,7 +39,7 @@ gln = codes "4012345500004"
 abbrev buyer : List ℕ
 buyer = codes "5412345000013"
 
-abbrev alpha : Supplier
+abbrev alpha : SupplierRow
 alpha = record { gln = gln; prefixes = codes "40123455" ∷ []; key = codes "alpha-key-1" }
 
 abbrev number : List ℕ

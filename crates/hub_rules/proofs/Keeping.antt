@@ -20,8 +20,8 @@ use Rattle.hub_tables.specs.declared.rows.RememberedRow.{RememberedRow}
 use Rattle.hub_tables.specs.declared.rows.MailRow.{MailRow}
 use Rattle.hub_tables.proofs.KeyOrder.{all_put, any_more}
 use Rattle.hub_tables.proofs.Lists.{decide, same_is, same_if, all_replace, all_replaced, all_weaker}
-use Rattle.hub_rules.specs.Sound.{Balanced, Single, same_order, same_place, same_advice, same_sscc, same_gtin, same_reference, knows_line, was_received, Kept}
-use Rattle.hub_rules.proofs.KeptLists.{any_replaced, single_replace, numbered_put, placed_put, sent_more, sent_same, receipts_put, is_received, received_more, single_put}
+use Rattle.hub_rules.specs.Sound.{Balanced, Single, same_order, same_place, same_advice, same_sscc, same_gtin, same_reference, knows_line, was_received, Kept, same_spot}
+use Rattle.hub_rules.proofs.KeptLists.{any_replaced, single_replace, numbered_put, contents_put, sent_more, sent_same, receipts_put, is_received, received_more, single_put}
 
 -- a line set in place of another has its number and its place
 line_key : (r y : LineRow) → same_line r y ≡ true → (y.number ≡ r.number) × (y.line ≡ r.line)
@@ -37,9 +37,9 @@ module _ (state : Tables) (kept : Kept state) where
     lines = kept.lines;
     advices = kept.advices;
     pallets = kept.pallets;
+    contents = kept.contents;
     receipts = kept.receipts;
     remembered = kept.remembered;
-    places = kept.places;
     mail = kept.mail;
     line_orders = all_weaker (λ l. knows_order state l.number ≡ true) (λ l. knows_order (apply (AddOrder r) state) l.number ≡ true) (λ l h. any_more order_cmp (λ o. same o.number l.number) state.orders r h) state.lines kept.line_orders;
     content_lines = kept.content_lines;
@@ -53,9 +53,9 @@ module _ (state : Tables) (kept : Kept state) where
     lines = single_put line_cmp same_place (λ x y. ap₂ (λ v w. v && w) (bytes_eq-sym x.number y.number) (nat_eq-sym x.line y.line)) state.lines r kept.lines fresh;
     advices = kept.advices;
     pallets = kept.pallets;
+    contents = kept.contents;
     receipts = kept.receipts;
     remembered = kept.remembered;
-    places = kept.places;
     mail = kept.mail;
     line_orders = all_put line_cmp (λ l. knows_order state l.number ≡ true) state.lines r kept.line_orders known;
     content_lines = all_weaker (λ c. knows_line state c.number c.line ≡ true) (λ c. knows_line (apply (AddLine r) state) c.number c.line ≡ true) (λ c h. any_more line_cmp (λ l. same l.number c.number && (l.line == c.line)) state.lines r h) state.contents kept.content_lines;
@@ -78,9 +78,9 @@ module _ (state : Tables) (kept : Kept state) where
     lines = lines_single r;
     advices = kept.advices;
     pallets = kept.pallets;
+    contents = kept.contents;
     receipts = kept.receipts;
     remembered = kept.remembered;
-    places = kept.places;
     mail = kept.mail;
     line_orders = all_replace (λ l. knows_order state l.number ≡ true) (same_line r) r state.lines kept.line_orders known;
     content_lines = all_weaker (λ c. knows_line state c.number c.line ≡ true) (λ c. knows_line (apply (SetLine r) state) c.number c.line ≡ true) (λ c h. lines_known r c.number c.line ∙ h) state.contents kept.content_lines;
@@ -92,16 +92,16 @@ module _ (state : Tables) (kept : Kept state) where
   pub kept_despatched : (s : List ℕ) (r : LineRow) (c : ContentRow) → InOrder content_cmp state.contents → AllByRecursion (λ l. l.supplier ≡ s) state.lines → r.supplier ≡ s → knows_order state r.number ≡ true →
       c.number ≡ r.number → c.line ≡ r.line → knows_line state r.number r.line ≡ true →
       r.ordered ≡ r.open_qty + r.refused + r.cancelled + (despatched state r + c.quantity) →
-      c.place ≡ length (filter (λ d. same d.sscc c.sscc) state.contents) + 1 →
+      list_any (λ d. same_spot d c) (filter (λ d. same d.sscc c.sscc) state.contents) ≡ false →
       Kept (apply (AddContent c) (apply (SetLine r) state))
-  kept_despatched s r c ordered own whose known number line there balance next = record {
+  kept_despatched s r c ordered own whose known number line there balance fresh = record {
     orders = kept.orders;
     lines = lines_single r;
     advices = kept.advices;
     pallets = kept.pallets;
+    contents = λ sscc. contents_put sscc state.contents c ordered (kept.contents sscc) fresh;
     receipts = kept.receipts;
     remembered = kept.remembered;
-    places = λ sscc. placed_put c.sscc sscc state.contents c ordered kept.places refl next;
     mail = kept.mail;
     line_orders = all_replace (λ l. knows_order state l.number ≡ true) (same_line r) r state.lines kept.line_orders known;
     content_lines = all_put content_cmp (λ c. knows_line (apply (SetLine r) state) c.number c.line ≡ true) state.contents c
@@ -144,9 +144,9 @@ module _ (state : Tables) (kept : Kept state) where
     lines = kept.lines;
     advices = single_put advice_cmp same_advice (λ x y. bytes_eq-sym x.number y.number) state.advices r kept.advices fresh;
     pallets = kept.pallets;
+    contents = kept.contents;
     receipts = kept.receipts;
     remembered = kept.remembered;
-    places = kept.places;
     mail = kept.mail;
     line_orders = kept.line_orders;
     content_lines = kept.content_lines;
@@ -160,9 +160,9 @@ module _ (state : Tables) (kept : Kept state) where
     lines = kept.lines;
     advices = kept.advices;
     pallets = single_put pallet_cmp same_sscc (λ x y. bytes_eq-sym x.sscc y.sscc) state.pallets r kept.pallets fresh;
+    contents = kept.contents;
     receipts = kept.receipts;
     remembered = kept.remembered;
-    places = kept.places;
     mail = kept.mail;
     line_orders = kept.line_orders;
     content_lines = kept.content_lines;
@@ -176,9 +176,9 @@ module _ (state : Tables) (kept : Kept state) where
     lines = kept.lines;
     advices = kept.advices;
     pallets = single_replace same_sscc (same_pallet r) r state.pallets (λ y z e. ap (λ n. same n z.sscc) (sym (same_is y.sscc r.sscc e))) (λ y z e. ap (same z.sscc) (same_is y.sscc r.sscc e)) kept.pallets;
+    contents = kept.contents;
     receipts = kept.receipts;
     remembered = kept.remembered;
-    places = kept.places;
     mail = kept.mail;
     line_orders = kept.line_orders;
     content_lines = kept.content_lines;
@@ -192,9 +192,9 @@ module _ (state : Tables) (kept : Kept state) where
     lines = kept.lines;
     advices = kept.advices;
     pallets = kept.pallets;
+    contents = kept.contents;
     receipts = λ sscc. receipts_put sscc state.receipts r ordered (kept.receipts sscc) fresh;
     remembered = kept.remembered;
-    places = kept.places;
     mail = kept.mail;
     line_orders = kept.line_orders;
     content_lines = kept.content_lines;
@@ -208,9 +208,9 @@ module _ (state : Tables) (kept : Kept state) where
     lines = kept.lines;
     advices = kept.advices;
     pallets = kept.pallets;
+    contents = kept.contents;
     receipts = kept.receipts;
     remembered = single_put remembered_cmp same_reference (λ x y. ap₂ (λ v w. v && w) (nat_eq-sym x.side y.side) (ap₂ (λ v w. v && w) (bytes_eq-sym x.control y.control) (bytes_eq-sym x.message y.message))) state.remembered r kept.remembered fresh;
-    places = kept.places;
     mail = kept.mail;
     line_orders = kept.line_orders;
     content_lines = kept.content_lines;
@@ -224,9 +224,9 @@ module _ (state : Tables) (kept : Kept state) where
     lines = kept.lines;
     advices = kept.advices;
     pallets = kept.pallets;
+    contents = kept.contents;
     receipts = kept.receipts;
     remembered = kept.remembered;
-    places = kept.places;
     mail = numbered_put s state.mail r kept.mail own whose next;
     line_orders = kept.line_orders;
     content_lines = kept.content_lines;

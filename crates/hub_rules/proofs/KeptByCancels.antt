@@ -1,6 +1,7 @@
 -- What cancellations leave of a supplier's rows.
 use Rattle.std.proofs.Common.{◌≡◌, ℕ, ◌+◌, ◌-◌, nat_lt, false, not, List, [], ◌∷◌, Some, refl, arith}
 use Rattle.std.proofs.lemmas.Bool.Decides.{nat_tests}
+use Rattle.hub_parties.specs.declared.row.SupplierRow.{SupplierRow}
 use Rattle.hub_tables.specs.Rows.{same}
 use Rattle.hub_tables.specs.State.{knows_order, line_of, despatched}
 use Rattle.hub_tables.specs.declared.cases.Side.TheVariants.{Cancellation}
@@ -9,7 +10,6 @@ use Rattle.hub_tables.specs.declared.rows.LineRow.{LineRow}
 use Rattle.hub_rules.specs.CancellationRules.{judge_new_cancel}
 use Rattle.hub_rules.specs.RepeatRules.{Reference}
 use Rattle.hub_rules.specs.Rules.{judge_cancel}
-use Rattle.hub_rules.specs.Suppliers.{Supplier}
 use Rattle.hub_rules.specs.declared.code.Code.TheVariants as codes
 use Rattle.hub_rules.specs.declared.delivery.Cancel.{Cancel}
 use Rattle.hub_rules.proofs.GoodRows.{Good, GoodLine, good_lines, line_found, leaves_set_line}
@@ -19,7 +19,7 @@ use Rattle.hub_rules.proofs.Verdicts.{not_refused, was_given, Leads, leaves_give
 balanced_cancelled : (ordered open_qty refused cancelled sent quantity : ℕ) → ordered ≡ open_qty + refused + cancelled + sent → nat_lt open_qty quantity ≡ false → ordered ≡ (open_qty - quantity) + refused + (cancelled + quantity) + sent
 balanced_cancelled ordered open_qty refused cancelled sent quantity h enough = grind (arith, nat_tests)
 
-leads_new_cancel : (s : Supplier) (cancel : Cancel) → Leads s (Good s) (Good s) (judge_new_cancel cancel)
+leads_new_cancel : (s : SupplierRow) (cancel : Cancel) → Leads s (Good s) (Good s) (judge_new_cancel cancel)
 leads_new_cancel s cancel state changes good h =
     let a = not_refused (not (knows_order state cancel.order)) codes.NoOrder _ changes h in
     let found = was_given (line_of state cancel.order (Some cancel.line) []) codes.NoLine _ changes a.1 in
@@ -33,7 +33,7 @@ leads_new_cancel s cancel state changes good h =
     } in
     leaves_given s (Good s) state (SetLine line ∷ []) changes b.1 (leaves_set_line s state line good next)
 
-pub leads_cancel : (s : Supplier) (content : List ℕ) (cancel : Cancel) → Leads s (Good s) (Good s) (judge_cancel (Some s) content cancel)
+pub leads_cancel : (s : SupplierRow) (content : List ℕ) (cancel : Cancel) → Leads s (Good s) (Good s) (judge_cancel (Some s) content cancel)
 leads_cancel s content cancel state changes good h =
     let a = not_refused (not (same cancel.supplier s.gln)) codes.Supplier _ changes h in
     let reference : Reference = record { supplier = s.gln; side = Cancellation; control = cancel.reference; message = [] } in

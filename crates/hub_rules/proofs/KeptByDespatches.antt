@@ -1,14 +1,17 @@
 -- What despatches leave of a supplier's rows.
-use Rattle.std.proofs.Common.{◌≡◌, ℕ, ◌+◌, ◌-◌, nat_lt, Bool, true, false, not, ◌||◌, List, [], ◌∷◌, filter, length, Some, refl, sym, ◌∙◌, ap, length-append, arith}
+use Rattle.std.proofs.Common.{◌≡◌, ℕ, ◌+◌, ◌-◌, ◌≤◌, nat_lt, Bool, true, false, not, ◌||◌, List, [], ◌∷◌, filter, Some, refl, sym, ◌∙◌, ap, arith}
+use Rattle.std.specs.List.{AllByRecursion}
 use Rattle.std.proofs.lemmas.Bool.{not-false, or_parts, or_right}
 use Rattle.std.proofs.lemmas.Bool.Decides.{nat_tests}
 use Rattle.gs1_ids.specs.Sscc.{under_some}
 use Rattle.edi_goods.specs.declared.despatch.Despatch.{Despatch}
 use Rattle.edi_goods.specs.declared.despatch.DespatchLine.{DespatchLine}
 use Rattle.edi_goods.specs.declared.despatch.Unit.{Unit as PalletUnit}
+use Rattle.hub_parties.specs.declared.row.SupplierRow.{SupplierRow}
 use Rattle.hub_tables.specs.Cases.{arrival_number}
 use Rattle.hub_tables.specs.Change.{apply}
-use Rattle.hub_tables.specs.Rows.{same, pallet_cmp}
+use Rattle.hub_tables.specs.Keys.{put}
+use Rattle.hub_tables.specs.Rows.{same, pallet_cmp, content_cmp}
 use Rattle.hub_tables.specs.State.{knows_order, knows_advice, line_of, despatched}
 use Rattle.hub_tables.specs.Tables.{Tables, has_pallet}
 use Rattle.hub_tables.specs.declared.cases.Arrival.TheVariants.{Announced}
@@ -18,33 +21,32 @@ use Rattle.hub_tables.specs.declared.rows.AdviceRow.{AdviceRow}
 use Rattle.hub_tables.specs.declared.rows.ContentRow.{ContentRow}
 use Rattle.hub_tables.specs.declared.rows.LineRow.{LineRow}
 use Rattle.hub_tables.specs.declared.rows.PalletRow.{PalletRow}
-use Rattle.hub_tables.proofs.KeyOrder.{any_put}
-use Rattle.hub_tables.proofs.Lists.{same_if, differ, all_weaker, all_itself, filter_none}
+use Rattle.hub_tables.proofs.KeyOrder.{all_put, any_put}
+use Rattle.hub_tables.proofs.Lists.{same_is, same_if, all_weaker, all_itself}
 use Rattle.hub_rules.specs.DespatchRules.{placed, judge_despatched, judge_unit, judge_new_despatch}
 use Rattle.hub_rules.specs.Judging.{in_order}
 use Rattle.hub_rules.specs.Sound.{knows_line, same_place}
 use Rattle.hub_rules.specs.Rules.{judge_despatch}
-use Rattle.hub_rules.specs.Suppliers.{Supplier}
 use Rattle.hub_rules.specs.declared.code.Code.TheVariants as codes
 use Rattle.hub_rules.specs.declared.delivery.Delivery.{Delivery}
 use Rattle.hub_rules.proofs.Belonging.{Belongs}
 use Rattle.hub_rules.proofs.GoodRows.{Good, GoodLine, good_after, good_lines, line_found, leaves_good}
 use Rattle.hub_rules.proofs.Keeping.{kept_despatched, kept_advice, kept_pallet}
 use Rattle.hub_rules.proofs.KeptByMessages.{leads_message}
-use Rattle.hub_rules.proofs.KeptLists.{last_place}
+use Rattle.hub_rules.proofs.KeptLists.{none_at}
 use Rattle.hub_rules.proofs.Owned.{own_after}
 use Rattle.hub_rules.proofs.Verdicts.{not_refused, was_given, Leads, leaves_given, leaves_nothing, leaves_next, leads_in_turn, leads_in_order, leaves_in_turn}
 
 balanced_despatched : (ordered open_qty refused cancelled sent quantity : ℕ) → ordered ≡ open_qty + refused + cancelled + sent → nat_lt open_qty quantity ≡ false → ordered ≡ (open_qty - quantity) + refused + cancelled + (sent + quantity)
 balanced_despatched ordered open_qty refused cancelled sent quantity h enough = grind (arith, nat_tests)
 
--- while a pallet is filled: it is there, with so many contents
-record Filled (s : Supplier) (sscc : List ℕ) (n : ℕ) (state : Tables) : Type 0 where
+-- while a pallet is filled: it is there, with contents up to a place
+record Filled (s : SupplierRow) (sscc : List ℕ) (n : ℕ) (state : Tables) : Type 0 where
   pub good : Good s state
   pub there : has_pallet state sscc ≡ true
-  pub count : length (filter (λ content. same content.sscc sscc) state.contents) ≡ n
+  pub below : AllByRecursion (λ content. same content.sscc sscc ≡ true → content.place ≤ n) state.contents
 
-module _ (s : Supplier) where
+module _ (s : SupplierRow) where
   leads_despatched : (sscc : List ℕ) (n : ℕ) (said : DespatchLine) → Leads s (Filled s sscc n) (Filled s sscc (n + 1)) (judge_despatched sscc (n + 1, said))
   leads_despatched sscc n said state changes filled h =
       let a = not_refused (not (knows_order state said.order)) codes.NoOrder _ changes h in
@@ -56,16 +58,16 @@ module _ (s : Supplier) where
       let known = line_found (λ line. knows_line state line.number line.line ≡ true) state said.order said.order_line said.gtin found.0 (all_itself (λ line other. same_place other line) (λ line. let e = same_if line.number line.number refl in grind (arith, nat_tests, e)) state.lines) found.1 in
       let line : LineRow = record found.0 { open_qty = found.0.open_qty - said.quantity } in
       let content : ContentRow = record { sscc = sscc; place = n + 1; number = found.0.number; line = found.0.line; quantity = said.quantity } in
-      let next : n + 1 ≡ length (filter (λ content. same content.sscc sscc) state.contents) + 1 = ap (λ k. k + 1) (sym filled.count) in
+      let fresh = none_at sscc n state.contents content refl filled.below in
       let kept = kept_despatched state good.kept s.gln line content good.own.ordered.contents good.own.lines fine.whose fine.known refl refl known
-      (balanced_despatched found.0.ordered found.0.open_qty found.0.refused found.0.cancelled (despatched state found.0) said.quantity fine.balance c.0) next in
-      let last = last_place sscc state.contents content good.own.ordered.contents (good.kept.places sscc) refl next in
-      let count : length (filter (λ content. same content.sscc sscc) (apply (AddContent content) (apply (SetLine line) state)).contents) ≡ n + 1 =
-      ap length last ∙ length-append (filter (λ content. same content.sscc sscc) state.contents) (content ∷ []) ∙ ap (λ k. k + 1) filled.count in
+      (balanced_despatched found.0.ordered found.0.open_qty found.0.refused found.0.cancelled (despatched state found.0) said.quantity fine.balance c.0) fresh in
+      let below : AllByRecursion (λ content. same content.sscc sscc ≡ true → content.place ≤ n + 1) (put content_cmp content state.contents) =
+      all_put content_cmp (λ content. same content.sscc sscc ≡ true → content.place ≤ n + 1) state.contents content
+      (all_weaker (λ content. same content.sscc sscc ≡ true → content.place ≤ n) (λ content. same content.sscc sscc ≡ true → content.place ≤ n + 1) (λ c lower on. omega (arith, lower on)) state.contents filled.below) (λ on. omega arith) in
       let after : Filled s sscc (n + 1) (apply (AddContent content) (apply (SetLine line) state)) = record {
         good = good_after s (apply (SetLine line) state) (AddContent content) filled.there (own_after s state (SetLine line) fine.whose good.own) kept;
         there = filled.there;
-        count = count;
+        below = below;
       } in
       leaves_given s (Filled s sscc (n + 1)) state (SetLine line ∷ AddContent content ∷ []) changes c.1
       (leaves_next s (Filled s sscc (n + 1)) state (SetLine line) (AddContent content ∷ []) fine.whose
@@ -87,12 +89,12 @@ module _ (s : Supplier) where
       let belongs : Belongs s state (AddPallet pallet) = (refl, not-false (under_some unit.sscc s.prefixes) a.0, fresh) in
       let there : has_pallet (apply (AddPallet pallet) state) unit.sscc ≡ true =
       any_put pallet_cmp (λ p. same p.sscc unit.sscc) state.pallets pallet ∙ or_right (has_pallet state unit.sscc) (same unit.sscc unit.sscc || false) (ap (λ v. v || false) (same_if unit.sscc unit.sscc refl)) in
-      let none : filter (λ content. same content.sscc unit.sscc) state.contents ≡ [] =
-      filter_none (λ content. same content.sscc unit.sscc) state.contents (all_weaker (λ c. has_pallet state c.sscc ≡ true) (λ c. same c.sscc unit.sscc ≡ false) (λ c on. differ c.sscc unit.sscc (λ e. let both = ap (has_pallet state) e in (cc))) state.contents good.own.contents) in
+      let none : AllByRecursion (λ content. same content.sscc unit.sscc ≡ true → content.place ≤ 0) state.contents =
+      all_weaker (λ c. has_pallet state c.sscc ≡ true) (λ c. same c.sscc unit.sscc ≡ true → c.place ≤ 0) (λ c on e. let both = ap (has_pallet state) (same_is c.sscc unit.sscc e) in absurd (cc)) state.contents good.own.contents in
       let filled : Filled s unit.sscc 0 (apply (AddPallet pallet) state) = record {
         good = good_after s state (AddPallet pallet) belongs good.own (kept_pallet state good.kept pallet fresh);
         there = there;
-        count = ap length none;
+        below = none;
       } in
       leaves_in_turn s (Filled s unit.sscc 0) (Good s) (AddPallet pallet ∷ []) (in_order (judge_despatched unit.sscc) (placed 0 unit.lines)) state changes
       (leaves_next s (Filled s unit.sscc 0) state (AddPallet pallet) [] belongs (leaves_nothing s (Filled s unit.sscc 0) (apply (AddPallet pallet) state) filled))

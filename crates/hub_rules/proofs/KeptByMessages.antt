@@ -1,5 +1,6 @@
 -- What the checks that stand in front of those of a message or a cancellation leave of a supplier's rows.
 use Rattle.std.proofs.Common.{◌≡◌, ℕ, true, false, cond, not, ◌⊎◌, inl, inr, List, [], ◌∷◌, Option, Some, None, refl}
+use Rattle.hub_parties.specs.declared.row.SupplierRow.{SupplierRow}
 use Rattle.hub_tables.specs.Rows.{same}
 use Rattle.hub_tables.specs.State.{remembered_of}
 use Rattle.hub_tables.specs.declared.cases.Side.{Side}
@@ -12,7 +13,6 @@ use Rattle.hub_rules.specs.Sound.{same_reference}
 use Rattle.hub_rules.specs.RepeatRules.{Reference, remembered, once, judge_once}
 use Rattle.hub_rules.specs.PartyRules.{is_other_buyer}
 use Rattle.hub_rules.specs.Rules.{referred_by, judge_message}
-use Rattle.hub_rules.specs.Suppliers.{Supplier}
 use Rattle.hub_rules.specs.declared.code.Code.TheVariants as codes
 use Rattle.hub_rules.specs.declared.delivery.Delivery.{Delivery}
 use Rattle.hub_rules.specs.declared.verdict.Verdict.{Verdict}
@@ -29,7 +29,7 @@ once_cases (Some row) content fresh changes h =
       | false ↦ λ g. cc
     ] h
 
-module _ (s : Supplier) where
+module _ (s : SupplierRow) where
   pub leads_once : (r : Reference) (content : List ℕ) (fresh : Judge) → r.supplier ≡ s.gln → Leads s (Good s) (Good s) fresh → Leads s (Good s) (Good s) (judge_once r content fresh)
   leads_once r content fresh whose f state changes good h =
       elim (once_cases (remembered_of state r.side r.control r.message) content (in_turn (gives (Remember (remembered r content) ∷ [])) fresh state) changes h) [
@@ -40,7 +40,7 @@ module _ (s : Supplier) where
             (leaves_good s state (Remember (remembered r content)) whose good.own (kept_remembered state good.kept (remembered r content) new)) f g.1
       ]
 
-  pub leads_message : (retailer : List ℕ) (side : Side) (delivery : Delivery) (buyer : Option (List ℕ)) (named : List ℕ) (rest : Supplier → Judge) → Leads s (Good s) (Good s) (rest s) → Leads s (Good s) (Good s) (judge_message retailer (Some s) side delivery buyer named rest)
+  pub leads_message : (retailer : List ℕ) (side : Side) (delivery : Delivery) (buyer : Option (List ℕ)) (named : List ℕ) (rest : SupplierRow → Judge) → Leads s (Good s) (Good s) (rest s) → Leads s (Good s) (Good s) (judge_message retailer (Some s) side delivery buyer named rest)
   leads_message retailer side delivery buyer named rest f state changes good h =
       let a = not_refused (is_other_buyer retailer buyer) codes.Buyer _ changes h in
       let b = not_refused (not (same named s.gln)) codes.Supplier _ changes a.1 in

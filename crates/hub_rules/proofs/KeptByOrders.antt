@@ -5,6 +5,7 @@ use Rattle.std.proofs.lemmas.Bool.{and_parts, and_left, and_right, or_parts, or_
 use Rattle.edi_base.specs.Seen.{has_number_twice}
 use Rattle.edi_orders.specs.declared.order.Order.{Order}
 use Rattle.edi_orders.specs.declared.order.OrderLine.{OrderLine}
+use Rattle.hub_parties.specs.declared.row.SupplierRow.{SupplierRow}
 use Rattle.hub_tables.specs.Cases.{answer_letter}
 use Rattle.hub_tables.specs.Change.{apply}
 use Rattle.hub_tables.specs.Rows.{same, order_cmp, line_cmp}
@@ -23,7 +24,6 @@ use Rattle.hub_rules.specs.Sound.{knows_line, Kept}
 use Rattle.hub_rules.specs.MailboxRules.{mail_limit, new_mail}
 use Rattle.hub_rules.specs.OrderRules.{new_line, judge_new_order}
 use Rattle.hub_rules.specs.Rules.{judge_order}
-use Rattle.hub_rules.specs.Suppliers.{Supplier}
 use Rattle.hub_rules.specs.declared.code.Code.TheVariants as codes
 use Rattle.hub_rules.specs.declared.delivery.Delivery.{Delivery}
 use Rattle.hub_rules.proofs.GoodRows.{Good, good_after}
@@ -66,7 +66,7 @@ row_of supplier number line = record {
   answer = answer_letter Waiting;
 }
 
-module _ (s : Supplier) (number : List ℕ) where
+module _ (s : SupplierRow) (number : List ℕ) where
   -- lines of other numbers are not known after one line more
   still_unknown : (state : Tables) (line : OrderLine) (others : List OrderLine) → list_any (nat_eq line.line) (map (λ other. other.line) others) ≡ false → AllByRecursion (λ other. knows_line state number other.line ≡ false) others →
       AllByRecursion (λ other. knows_line (apply (new_line s.gln number line) state) number other.line ≡ false) others
@@ -89,7 +89,7 @@ module _ (s : Supplier) (number : List ℕ) where
       leaves_next s (Good s) state (AddLine row) (map (new_line s.gln number) lines) refl
       (leaves_new_lines lines (apply (AddLine row) state) (good_after s state (AddLine row) refl good.own (kept_line state good.kept row known (omega (arith, sent)) fresh.0)) known none apart.1 (still_unknown state line lines apart.0 fresh.1))
 
-module _ (s : Supplier) where
+module _ (s : SupplierRow) where
   leads_new_order : (delivery : Delivery) (body : List ℕ) (order : Order) → has_number_twice (map (λ line. line.line) order.lines) ≡ false → Leads s (Good s) (Good s) (judge_new_order s.gln delivery body order)
   leads_new_order delivery body order single state changes good h =
       let a = not_refused (knows_order state order.number) codes.OrderKnown _ changes h in

@@ -6,6 +6,7 @@ use Rattle.edi_base.proofs.Twice.{bytes_eq-sym}
 use Rattle.edi_goods.specs.declared.receipt.Receipt.{Receipt}
 use Rattle.edi_goods.specs.declared.receipt.ReceiptLine.{ReceiptLine}
 use Rattle.edi_goods.specs.declared.receipt.ReceiptUnit.{ReceiptUnit}
+use Rattle.hub_parties.specs.declared.row.SupplierRow.{SupplierRow}
 use Rattle.hub_tables.specs.Cases.{arrival_number}
 use Rattle.hub_tables.specs.Change.{apply}
 use Rattle.hub_tables.specs.Rows.{same, receipt_cmp}
@@ -26,7 +27,6 @@ use Rattle.hub_rules.specs.Sound.{Single, was_received}
 use Rattle.hub_rules.specs.MailboxRules.{mail_limit, new_mail}
 use Rattle.hub_rules.specs.ReceiptRules.{items, total, new_receipt, judge_received, judge_new_receipt}
 use Rattle.hub_rules.specs.Rules.{judge_receipt}
-use Rattle.hub_rules.specs.Suppliers.{Supplier}
 use Rattle.hub_rules.specs.declared.code.Code.TheVariants as codes
 use Rattle.hub_rules.specs.declared.delivery.Delivery.{Delivery}
 use Rattle.hub_rules.proofs.GoodRows.{Good, good_after, leaves_good}
@@ -75,7 +75,7 @@ receipt_of sscc lines gtin = record {
 abbrev Lacks : List ℕ → Tables → List ℕ → Type 0
 Lacks sscc state gtin = list_any (λ y. same y.gtin gtin) (filter (λ y. same y.sscc sscc) state.receipts) ≡ false
 
-module _ (s : Supplier) where
+module _ (s : SupplierRow) where
   still_lacking : (sscc : List ℕ) (lines : List ReceiptLine) (gtin : List ℕ) (state : Tables) → Good s state → (others : List (List ℕ)) → list_any (same gtin) others ≡ false → AllByRecursion (Lacks sscc state) others → AllByRecursion (Lacks sscc (apply (AddReceipt (receipt_of sscc lines gtin)) state)) others
   still_lacking sscc lines gtin state good [] apart lacking = tt
   still_lacking sscc lines gtin state good (other ∷ others) apart lacking =

@@ -9,6 +9,7 @@ use Rattle.edi_orders.specs.declared.response.AnswerLine.{AnswerLine}
 use Rattle.edi_orders.specs.declared.response.LineAnswer.{LineAnswer}
 use Rattle.edi_orders.specs.declared.response.LineAnswer.TheVariants.{Accepted, Refused, Changed}
 use Rattle.edi_orders.specs.declared.response.Response.{Response}
+use Rattle.hub_parties.specs.declared.row.SupplierRow.{SupplierRow}
 use Rattle.hub_tables.specs.Change.{apply}
 use Rattle.hub_tables.specs.Rows.{same}
 use Rattle.hub_tables.specs.State.{knows_order, lines_of, line_of, despatched, waits}
@@ -19,7 +20,6 @@ use Rattle.hub_tables.specs.declared.rows.LineRow.{LineRow}
 use Rattle.hub_tables.proofs.Lists.{all_filter, all_weaker}
 use Rattle.hub_rules.specs.ResponseRules.{answered, is_out_of_range, judge_answer, waiting, is_empty, judge_all, judge_answers, judge_new_response}
 use Rattle.hub_rules.specs.Rules.{judge_response}
-use Rattle.hub_rules.specs.Suppliers.{Supplier}
 use Rattle.hub_rules.specs.declared.code.Code.TheVariants as codes
 use Rattle.hub_rules.specs.declared.delivery.Delivery.{Delivery}
 use Rattle.hub_rules.proofs.GoodRows.{Good, GoodLine, good_after, good_lines, line_found, leaves_set_line}
@@ -34,7 +34,7 @@ balanced_changed : (ordered open_qty refused cancelled sent quantity : ℕ) → 
     ordered ≡ (quantity - sent) + (refused + (open_qty - (quantity - sent))) + cancelled + sent
 balanced_changed ordered open_qty refused cancelled sent quantity h low high = grind (arith, nat_tests)
 
-module _ (s : Supplier) where
+module _ (s : SupplierRow) where
   good_accepted : (state : Tables) (sent : ℕ) (line : LineRow) → GoodLine s state line → GoodLine s state (answered Accepted sent line)
   good_accepted state sent line fine = record { whose = fine.whose; known = fine.known; balance = fine.balance }
 

@@ -1,5 +1,5 @@
 -- Lists of rows that are numbered, or in which no two are alike, with one more row or one in place of another.
-use Rattle.std.proofs.Common.{◌≡◌, ℕ, ◌+◌, ◌<◌, Bool, true, false, cond, not, ◌&&◌, ◌||◌, ◌==◌, inl, inr, List, [], ◌∷◌, ◌++◌, filter, find, Some, length, sum_by, refl, sym, ◌∙◌, ap, ap₂, subst, arith}
+use Rattle.std.proofs.Common.{◌≡◌, ℕ, ◌+◌, ◌<◌, ◌≤◌, Bool, true, false, cond, not, ◌&&◌, ◌||◌, ◌==◌, inl, inr, List, [], ◌∷◌, ◌++◌, filter, find, Some, length, sum_by, refl, sym, ◌∙◌, ap, ap₂, subst, arith}
 use Rattle.std.specs.List.{AllByRecursion, list_any}
 use Rattle.std.specs.Ordering.{is_gt, ordering_then, nat_cmp}
 use Rattle.std.specs.declared.cmp.Ordering.{Ordering}
@@ -19,7 +19,7 @@ use Rattle.hub_tables.specs.declared.rows.ReceiptRow.{ReceiptRow}
 use Rattle.hub_tables.proofs.KeyOrder.{any_put, filter_put_in, filter_put_out, sum_put, put_last}
 use Rattle.hub_tables.proofs.KindOrders.{content_total, receipt_total}
 use Rattle.hub_tables.proofs.Lists.{decide, same_is, same_if, all_passes}
-use Rattle.hub_rules.specs.Sound.{Numbered, Placed, Single, same_gtin, same_sscc}
+use Rattle.hub_rules.specs.Sound.{Numbered, Single, same_spot, same_gtin, same_sscc}
 
 -- A list with one more.
 module _ {X : Type 0} (cmp : X → X → Ordering) where
@@ -83,38 +83,37 @@ mail_before s n (x ∷ xs) m a own whose h = (
 pub numbered_put : (s : List ℕ) (ms : List MailRow) (m : MailRow) → Numbered 0 ms → AllByRecursion (λ x. x.supplier ≡ s) ms → m.supplier ≡ s → m.number ≡ length ms + 1 → Numbered 0 (put mail_cmp m ms)
 numbered_put s ms m a own whose h = subst (Numbered 0) (sym (put_last mail_cmp ms m (mail_before s 0 ms m a own whose (omega arith)))) (numbered_push 0 ms m a (omega arith))
 
-placed_push : (n : ℕ) (cs : List ContentRow) (c : ContentRow) → Placed n cs → c.place ≡ n + length cs + 1 → Placed n (cs ++ c ∷ [])
-placed_push n [] c a h = (omega arith, tt)
-placed_push n (x ∷ xs) c a h = (a.0, placed_push (n + 1) xs c a.1 (omega arith))
-
-place_before : (sscc : List ℕ) (n : ℕ) (cs : List ContentRow) (c : ContentRow) → Placed n cs → AllByRecursion (λ d. same d.sscc sscc ≡ true) cs → c.sscc ≡ sscc → c.place ≡ n + length cs + 1 → AllByRecursion (λ d. is_gt (content_cmp d c) ≡ false) cs
-place_before sscc n [] c a all of h = tt
-place_before sscc n (x ∷ xs) c a all of h = (
-  after_number (bytes_cmp x.sscc c.sscc) x.place c.place (same_tied x.sscc c.sscc (same_is x.sscc sscc all.0 ∙ sym of)) (omega (arith, a.0, h)),
-  place_before sscc (n + 1) xs c a.1 all.1 of (omega arith),
-)
-
--- the next place on a pallet stands last
-pub last_place : (sscc : List ℕ) (cs : List ContentRow) (c : ContentRow) → InOrder content_cmp cs → Placed 0 (filter (λ d. same d.sscc sscc) cs) → c.sscc ≡ sscc → c.place ≡ length (filter (λ d. same d.sscc sscc) cs) + 1 → filter (λ d. same d.sscc sscc) (put content_cmp c cs) ≡ filter (λ d. same d.sscc sscc) cs ++ c ∷ []
-last_place sscc cs c ordered placed of next =
-    filter_put_in content_total (λ d. same d.sscc sscc) cs c ordered (same_if c.sscc sscc of)
-    ∙ put_last content_cmp (filter (λ d. same d.sscc sscc) cs) c (place_before sscc 0 (filter (λ d. same d.sscc sscc) cs) c placed (all_passes (λ d. same d.sscc sscc) cs) of (omega arith))
-
-pub placed_put : (of sscc : List ℕ) (cs : List ContentRow) (c : ContentRow) → InOrder content_cmp cs → ((x : List ℕ) → Placed 0 (filter (λ d. same d.sscc x) cs)) → c.sscc ≡ of → c.place ≡ length (filter (λ d. same d.sscc of) cs) + 1 → Placed 0 (filter (λ d. same d.sscc sscc) (put content_cmp c cs))
-placed_put of sscc cs c ordered placed whose next =
-    elim (decide (same c.sscc sscc)) [
-      | inl e ↦
-          let here : of ≡ sscc = sym whose ∙ same_is c.sscc sscc e in
-          subst (λ x. Placed 0 (filter (λ d. same d.sscc x) (put content_cmp c cs))) here (subst (Placed 0) (sym (last_place of cs c ordered (placed of) whose next)) (placed_push 0 (filter (λ d. same d.sscc of) cs) c (placed of) (omega arith)))
-      | inr e ↦ subst (Placed 0) (sym (filter_put_out content_cmp (λ d. same d.sscc sscc) cs c e)) (placed sscc)
-    ]
-
 -- what the contents of one test amount to, with one more
 pub sent_more : (p : ContentRow → Bool) (cs : List ContentRow) (c : ContentRow) → InOrder content_cmp cs → p c ≡ true → sum_by (λ c. c.quantity) (filter p (put content_cmp c cs)) ≡ sum_by (λ c. c.quantity) (filter p cs) + c.quantity
 sent_more p cs c ordered h = ap (sum_by (λ c. c.quantity)) (filter_put_in content_total p cs c ordered h) ∙ sum_put content_cmp (λ c. c.quantity) (filter p cs) c
 
 pub sent_same : (p : ContentRow → Bool) (cs : List ContentRow) (c : ContentRow) → p c ≡ false → sum_by (λ c. c.quantity) (filter p (put content_cmp c cs)) ≡ sum_by (λ c. c.quantity) (filter p cs)
 sent_same p cs c h = ap (sum_by (λ c. c.quantity)) (filter_put_out content_cmp p cs c h)
+
+-- a content at a place that none on its pallet has
+pub contents_put : (sscc : List ℕ) (cs : List ContentRow) (c : ContentRow) → InOrder content_cmp cs → Single same_spot (filter (λ y. same y.sscc sscc) cs) → list_any (λ y. same_spot y c) (filter (λ y. same y.sscc c.sscc) cs) ≡ false → Single same_spot (filter (λ y. same y.sscc sscc) (put content_cmp c cs))
+contents_put sscc cs c ordered single fresh =
+    elim (decide (same c.sscc sscc)) [
+      | inl e ↦
+          let here : list_any (λ y. same_spot y c) (filter (λ y. same y.sscc sscc) cs) ≡ false = subst (λ x. list_any (λ y. same_spot y c) (filter (λ y. same y.sscc x) cs) ≡ false) (same_is c.sscc sscc e) fresh in
+          subst (Single same_spot) (sym (filter_put_in content_total (λ y. same y.sscc sscc) cs c ordered e)) (single_put content_cmp same_spot (λ x y. nat_eq-turned x.place y.place) (filter (λ y. same y.sscc sscc) cs) c single here)
+      | inr e ↦ subst (Single same_spot) (sym (filter_put_out content_cmp (λ y. same y.sscc sscc) cs c e)) single
+    ]
+  where
+    nat_eq-turned : (a b : ℕ) → (a == b) ≡ (b == a)
+    nat_eq-turned a b = grind (arith, nat_tests)
+
+-- where the places on a pallet are below one, none is at it
+pub none_at : (sscc : List ℕ) (n : ℕ) (cs : List ContentRow) (c : ContentRow) → c.place ≡ n + 1 → AllByRecursion (λ y. same y.sscc sscc ≡ true → y.place ≤ n) cs → list_any (λ y. same_spot y c) (filter (λ y. same y.sscc sscc) cs) ≡ false
+none_at sscc n [] c next below = refl
+none_at sscc n (y ∷ cs) c next below =
+    elim (same y.sscc sscc) as (λ v. (v ≡ true → y.place ≤ n) → list_any (λ y. same_spot y c) (cond v (y ∷ filter (λ y. same y.sscc sscc) cs) (filter (λ y. same y.sscc sscc) cs)) ≡ false) [
+      | true ↦ λ lower. let least = lower refl in ap₂ (λ v w. v || w) (differs y.place c.place (omega (arith, least, next))) (none_at sscc n cs c next below.1)
+      | false ↦ λ lower. none_at sscc n cs c next below.1
+    ] below.0
+  where
+    differs : (a b : ℕ) → a < b → (a == b) ≡ false
+    differs a b h = grind (arith, nat_tests)
 
 pub receipts_put : (sscc : List ℕ) (rs : List ReceiptRow) (r : ReceiptRow) → InOrder receipt_cmp rs → Single same_gtin (filter (λ y. same y.sscc sscc) rs) → list_any (λ y. same_gtin y r) (filter (λ y. same y.sscc r.sscc) rs) ≡ false → Single same_gtin (filter (λ y. same y.sscc sscc) (put receipt_cmp r rs))
 receipts_put sscc rs r ordered single fresh =

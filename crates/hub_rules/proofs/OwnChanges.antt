@@ -1,5 +1,8 @@
 -- Changes that keep a supplier's rows, in the tables of all.
 use Rattle.std.proofs.Common.{◌≡◌, inl, inr, List, Some, sym, subst}
+use Rattle.gs1_ids.specs.Overlap.{PrefixFree}
+use Rattle.hub_parties.specs.Rows.{company_prefixes, supplier_of}
+use Rattle.hub_parties.specs.declared.row.SupplierRow.{SupplierRow}
 use Rattle.hub_tables.specs.Change.{apply_all}
 use Rattle.hub_tables.specs.Rows.{same}
 use Rattle.hub_tables.specs.Tables.{Tables, view}
@@ -7,7 +10,6 @@ use Rattle.hub_tables.specs.declared.change.Change.{Change}
 use Rattle.hub_tables.proofs.Lists.{decide, same_is, same_if}
 use Rattle.hub_rules.specs.Laws.{KeepsApart}
 use Rattle.hub_rules.specs.Sound.{Kept, Sound}
-use Rattle.hub_rules.specs.Suppliers.{Supplier, supplier_of, PrefixFree}
 use Rattle.hub_rules.proofs.Belonging.{Keeps}
 use Rattle.hub_rules.proofs.Changes.{follows}
 use Rattle.hub_rules.proofs.GoodRows.{Good, keeps_from}
@@ -15,10 +17,10 @@ use Rattle.hub_rules.proofs.Verdicts.{Leaves}
 use Rattle.hub_rules.proofs.Views.{view_own}
 
 -- what a supplier sees of sound tables is its own, and as it is to be
-pub good_view : (suppliers : List Supplier) (s : Supplier) (t : Tables) → Sound suppliers t → Good s (view s.gln t)
+pub good_view : (suppliers : List SupplierRow) (s : SupplierRow) (t : Tables) → Sound suppliers t → Good s (view s.gln t)
 good_view suppliers s t sound = record { own = view_own s t (sound.rooted).ordered; kept = sound.kept s.gln }
 
-module _ (suppliers : List Supplier) (free : PrefixFree suppliers) (s : Supplier) (known : supplier_of suppliers s.gln ≡ Some s) (t : Tables) (sound : Sound suppliers t) where
+module _ (suppliers : List SupplierRow) (free : PrefixFree (company_prefixes suppliers)) (s : SupplierRow) (known : supplier_of suppliers s.gln ≡ Some s) (t : Tables) (sound : Sound suppliers t) where
   pub after_changes : (changes : List Change) → Keeps s (view s.gln t) changes → KeepsApart suppliers s t changes
   after_changes changes keeps =
       let all = follows suppliers free s known changes t sound.rooted keeps.belong in

@@ -1,6 +1,7 @@
 -- Each change that is the supplier's leaves its rows its own.
 use Rattle.std.proofs.Common.{◌≡◌, ℕ, true, ◌||◌, List, [], ◌∷◌, ◌∙◌, ap}
 use Rattle.std.specs.List.{list_any}
+use Rattle.hub_parties.specs.declared.row.SupplierRow.{SupplierRow}
 use Rattle.hub_tables.specs.Change.{apply}
 use Rattle.hub_tables.specs.Rows.{same, order_cmp, line_cmp, advice_cmp, pallet_cmp, content_cmp, receipt_cmp, remembered_cmp, mail_cmp, same_line, same_pallet, same_mail}
 use Rattle.hub_tables.specs.Tables.{Tables, has_pallet}
@@ -10,7 +11,6 @@ use Rattle.hub_tables.proofs.KeyOrder.{all_put, any_put}
 use Rattle.hub_tables.proofs.KindOrders.{ordered_after}
 use Rattle.hub_tables.proofs.Lists.{all_replace, all_weaker}
 use Rattle.hub_rules.specs.Sound.{IsOwn}
-use Rattle.hub_rules.specs.Suppliers.{Supplier}
 use Rattle.hub_rules.proofs.Belonging.{Belongs}
 use Rattle.hub_rules.proofs.Changes.{has_set}
 
@@ -29,7 +29,7 @@ pallet_stays sscc state (AddMail r) h = h
 pallet_stays sscc state (SetMail r) h = h
 
 -- what a change of a supplier's rows leaves is the supplier's
-pub own_after : (s : Supplier) (state : Tables) (change : Change) → Belongs s state change → IsOwn s state → IsOwn s (apply change state)
+pub own_after : (s : SupplierRow) (state : Tables) (change : Change) → Belongs s state change → IsOwn s state → IsOwn s (apply change state)
 own_after s state (AddOrder r) h own = record {
   ordered = ordered_after (AddOrder r) state own.ordered;
   orders = all_put order_cmp (λ order. order.supplier ≡ s.gln) state.orders r own.orders h;

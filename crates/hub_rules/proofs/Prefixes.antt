@@ -1,15 +1,17 @@
 -- Whose an SSCC is.
-use Rattle.std.proofs.Common.{◌≡◌, ◌≢◌, ℕ, Bool, true, false, cond, ◌&&◌, ◌||◌, inl, inr, List, [], ◌∷◌, filter, drop, Some, refl, sym, ◌∙◌, ap, arith}
+use Rattle.std.proofs.Common.{◌≡◌, ◌≢◌, ℕ, zero, suc, ◌<◌, Bool, true, false, cond, ◌&&◌, ◌||◌, inl, inr, List, [], ◌∷◌, length, get_or, filter, Some, refl, sym, ◌∙◌, ap, arith}
 use Rattle.std.specs.List.{AllByRecursion, list_any}
 use Rattle.std.proofs.lemmas.Bool.{and_parts}
-use Rattle.gs1_ids.specs.Prefix.{overlap}
-use Rattle.gs1_ids.specs.Sscc.{under, under_some}
-use Rattle.gs1_ids.proofs.Prefixes.{Decides-begins, prefixes_overlap}
+use Rattle.std.proofs.lemmas.List.{get_or-map, length-map}
+use Rattle.gs1_ids.specs.Sscc.{under_some}
+use Rattle.gs1_ids.specs.Overlap.{PrefixFree}
+use Rattle.gs1_ids.proofs.Overlaps.{one_supplier}
+use Rattle.hub_parties.specs.Rows.{company_prefixes, supplier_of}
+use Rattle.hub_parties.specs.declared.row.SupplierRow.{SupplierRow}
 use Rattle.hub_tables.specs.Rows.{same}
 use Rattle.hub_tables.specs.Tables.{Tables, holds}
 use Rattle.hub_tables.specs.declared.rows.PalletRow.{PalletRow}
 use Rattle.hub_tables.proofs.Lists.{decide, same_is, same_if, differ, all_weaker}
-use Rattle.hub_rules.specs.Suppliers.{Supplier, supplier_of, some_overlap, PrefixFree}
 use Rattle.hub_rules.specs.Sound.{IsRooted}
 
 -- one that passes; and what passes it finds it
@@ -21,27 +23,46 @@ any_found {X} p (y ∷ ys) h =
       | false ↦ λ e g. let found = any_found p ys g in (found.0, found.1, λ r h. elim (r y) as (λ v. (v || list_any r ys) ≡ true) [ true ↦ refl | false ↦ found.2 r h ])
     ] refl h
 
--- one SSCC under two lists of prefixes: one of the one overlaps one of the other
-pub under_both : (ps qs : List (List ℕ)) (sscc : List ℕ) → under_some sscc ps ≡ true → under_some sscc qs ≡ true → some_overlap ps qs ≡ true
-under_both ps qs sscc a b =
-    let p = any_found (under sscc) ps a in
-    let q = any_found (under sscc) qs b in
-    let digits = drop 1 sscc in
-    let e = prefixes_overlap p.0 q.0 digits ((Decides-begins p.0 digits).0 p.1) ((Decides-begins q.0 digits).0 q.1) in
-    p.2 (λ y. list_any (overlap y) qs) (q.2 (overlap p.0) e)
+get_or_default : {X : Type 0} (xs : List X) (i : ℕ) (d e : X) → i < length xs → get_or xs i d ≡ get_or xs i e
+get_or_default [] i d e h = absurd (omega arith)
+get_or_default (x ∷ xs) zero d e h = refl
+get_or_default (x ∷ xs) (suc i) d e h = get_or_default xs i d e (omega arith)
 
-module _ (suppliers : List Supplier) (free : PrefixFree suppliers) (gln : List ℕ) (s : Supplier) (known : supplier_of suppliers gln ≡ Some s) where
+pub gln_found : (suppliers : List SupplierRow) (gln : List ℕ) (s : SupplierRow) → supplier_of suppliers gln ≡ Some s → s.gln ≡ gln
+gln_found [] gln s h = cc
+gln_found (first ∷ suppliers) gln s h =
+    elim (same first.gln gln) as (λ v. same first.gln gln ≡ v → cond v (Some first) (supplier_of suppliers gln) ≡ Some s → s.gln ≡ gln) [
+      | true ↦ λ e found. let is : first ≡ s = cc in ap (λ (r : SupplierRow). r.gln) (sym is) ∙ same_is first.gln gln e
+      | false ↦ λ e found. gln_found suppliers gln s found
+    ] refl h
+
+-- a supplier that is found stands at a place
+place_of : (suppliers : List SupplierRow) (gln : List ℕ) (s : SupplierRow) → supplier_of suppliers gln ≡ Some s → (i : ℕ) × (i < length suppliers) × (get_or suppliers i s ≡ s)
+place_of [] gln s h = cc
+place_of (first ∷ suppliers) gln s h =
+    elim (same first.gln gln) as (λ v. cond v (Some first) (supplier_of suppliers gln) ≡ Some s → (i : ℕ) × (i < suc (length suppliers)) × (get_or (first ∷ suppliers) i s ≡ s)) [
+      | true ↦ λ e. (0, omega arith, cc)
+      | false ↦ λ e. let later = place_of suppliers gln s e in (suc later.0, omega (arith, later.1), later.2)
+    ] h
+
+-- an SSCC under prefixes of two suppliers is under those of one
+one_supplier_of : (suppliers : List SupplierRow) → PrefixFree (company_prefixes suppliers) → (one other sscc : List ℕ) (a b : SupplierRow) → supplier_of suppliers one ≡ Some a → supplier_of suppliers other ≡ Some b →
+    under_some sscc a.prefixes ≡ true → under_some sscc b.prefixes ≡ true → one ≡ other
+one_supplier_of suppliers free one other sscc a b first second of_first of_second =
+    let i = place_of suppliers one a first in
+    let j = place_of suppliers other b second in
+    let within : (k : ℕ) → k < length suppliers → k < length (company_prefixes suppliers) = λ k h. omega (arith, h, length-map suppliers (λ (supplier : SupplierRow). supplier.prefixes)) in
+    let at : (k : ℕ) (s : SupplierRow) → k < length suppliers → get_or suppliers k s ≡ s → get_or (company_prefixes suppliers) k [] ≡ s.prefixes =
+    λ k s inside is. get_or-map (λ (supplier : SupplierRow). supplier.prefixes) suppliers k s [] inside ∙ ap (λ (r : SupplierRow). r.prefixes) is in
+    let same_place : i.0 ≡ j.0 =
+    one_supplier (company_prefixes suppliers) sscc i.0 j.0 free (within i.0 i.1) (ap (under_some sscc) (at i.0 a i.1 i.2) ∙ of_first) (within j.0 j.1) (ap (under_some sscc) (at j.0 b j.1 j.2) ∙ of_second) in
+    let same_row : a ≡ b = sym i.2 ∙ get_or_default suppliers i.0 a b i.1 ∙ ap (λ k. get_or suppliers k b) same_place ∙ j.2 in
+    sym (gln_found suppliers one a first) ∙ ap (λ (r : SupplierRow). r.gln) same_row ∙ gln_found suppliers other b second
+
+module _ (suppliers : List SupplierRow) (free : PrefixFree (company_prefixes suppliers)) (gln : List ℕ) (s : SupplierRow) (known : supplier_of suppliers gln ≡ Some s) where
   -- a pallet whose SSCC is under the supplier's prefixes is the supplier's
   pub owner : (q : PalletRow) → IsRooted suppliers q → under_some q.sscc s.prefixes ≡ true → q.supplier ≡ gln
-  owner q rooted below =
-      elim (decide (same q.supplier gln)) [
-        | inl e ↦ same_is q.supplier gln e
-        | inr e ↦
-            let ne : q.supplier ≢ gln = λ h. let yes = same_if q.supplier gln h in (cc) in
-            let both = under_both rooted.supplier.prefixes s.prefixes q.sscc rooted.is_under below in
-            let none = free q.supplier gln rooted.supplier s rooted.known known ne in
-            absurd (cc)
-      ]
+  owner q rooted below = one_supplier_of suppliers free q.supplier gln q.sscc rooted.supplier s rooted.known known rooted.is_under below
 
   pub ours : (t : Tables) (x : List ℕ) → AllByRecursion (IsRooted suppliers) t.pallets → under_some x s.prefixes ≡ true → AllByRecursion (λ q. same q.sscc x ≡ true → q.supplier ≡ gln) t.pallets
   ours t x all below = all_weaker (IsRooted suppliers) (λ q. same q.sscc x ≡ true → q.supplier ≡ gln) (λ q rooted e. owner q rooted (ap (λ v. under_some v s.prefixes) (same_is q.sscc x e) ∙ below)) t.pallets all
@@ -57,7 +78,7 @@ module _ (suppliers : List Supplier) (free : PrefixFree suppliers) (gln : List �
             let what : p.sscc ≡ x = same_is p.sscc x parts.1 in
             let there : supplier_of suppliers gln ≡ Some (all.0).supplier = ap (supplier_of suppliers) (sym who) ∙ (all.0).known in
             let one : (all.0).supplier ≡ s = cc in
-            ap (λ (r : Supplier). under_some x r.prefixes) (sym one) ∙ ap (λ v. under_some v (all.0).supplier.prefixes) (sym what) ∙ (all.0).is_under
+            ap (λ (r : SupplierRow). under_some x r.prefixes) (sym one) ∙ ap (λ v. under_some v (all.0).supplier.prefixes) (sym what) ∙ (all.0).is_under
         | inr e ↦ under_held ps x all.1 (ap (λ v. v || holds gln ps x) (sym e) ∙ h)
       ]
 

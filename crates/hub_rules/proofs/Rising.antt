@@ -9,6 +9,9 @@ use Rattle.std.proofs.lemmas.Bool.{and_from, or_parts}
 use Rattle.std.proofs.lemmas.Bool.Decides.{nat_tests}
 use Rattle.std.proofs.lemmas.Map.Text.{is_eq-slice_cmp}
 use Rattle.gs1_ids.specs.Sscc.{under_some}
+use Rattle.gs1_ids.specs.Overlap.{PrefixFree}
+use Rattle.hub_parties.specs.Rows.{company_prefixes}
+use Rattle.hub_parties.specs.declared.row.SupplierRow.{SupplierRow}
 use Rattle.hub_tables.specs.Keys.{bytes_cmp, InOrder}
 use Rattle.hub_tables.specs.Rows.{same, order_cmp, line_cmp, advice_cmp, pallet_cmp, content_cmp, receipt_cmp, remembered_cmp, mail_cmp}
 use Rattle.hub_tables.specs.Sets.{Rises, Rising}
@@ -17,8 +20,7 @@ use Rattle.hub_tables.specs.declared.rows.ContentRow.{ContentRow}
 use Rattle.hub_tables.specs.declared.rows.MailRow.{MailRow}
 use Rattle.hub_tables.proofs.KeyOrder.{in_order_filter}
 use Rattle.hub_tables.proofs.Lists.{decide, same_is, same_if, filter_none, all_filter, all_weaker, all_always}
-use Rattle.hub_rules.specs.Sound.{Numbered, Placed, Single, same_order, same_place, same_advice, same_sscc, same_gtin, same_reference, Kept, IsRooted, Rooted}
-use Rattle.hub_rules.specs.Suppliers.{Supplier, PrefixFree}
+use Rattle.hub_rules.specs.Sound.{Numbered, Single, same_order, same_place, same_advice, same_sscc, same_spot, same_gtin, same_reference, Kept, IsRooted, Rooted}
 use Rattle.hub_rules.proofs.Prefixes.{any_found, owner}
 use Rattle.hub_rules.proofs.Views.{view_own}
 
@@ -96,16 +98,6 @@ numbered_single : (n : ℕ) (ms : List MailRow) → Numbered n ms → Single (λ
 numbered_single n [] a = tt
 numbered_single n (m ∷ ms) a = (numbered_far m.number (n + 1) ms (omega (arith, a.0)) a.1, numbered_single (n + 1) ms a.1)
 
-placed_far : (k n : ℕ) (cs : List ContentRow) → k ≤ n → Placed n cs → list_any (λ c. k == c.place) cs ≡ false
-placed_far k n [] h a = refl
-placed_far k n (c ∷ cs) h a =
-    let other : (k == c.place) ≡ false = grind (arith, nat_tests, h, a.0) in
-    ap₂ (λ v w. v || w) other (placed_far k (n + 1) cs (omega (arith, h)) a.1)
-
-placed_single : (n : ℕ) (cs : List ContentRow) → Placed n cs → Single (λ a b. a.place == b.place) cs
-placed_single n [] a = tt
-placed_single n (c ∷ cs) a = (placed_far c.place (n + 1) cs (omega (arith, a.0)) a.1, placed_single (n + 1) cs a.1)
-
 -- Rows of two texts, and of a text and a number.
 module _ (a b : List ℕ) (o : Ordering) (h : ordering_then (bytes_cmp a b) o ≡ Equal) where
   first_same : b ≡ a
@@ -124,7 +116,7 @@ kept_rises state ordered kept = record {
   advices = rises advice_cmp same_advice (λ x y h. text_tied x.number y.number (rest_tied x.supplier y.supplier _ h)) state.advices ordered.advices kept.advices;
   pallets = rises pallet_cmp same_sscc (λ x y h. text_tied x.sscc y.sscc h) state.pallets ordered.pallets kept.pallets;
   contents = rises_by_part content_cmp (λ c. c.sscc) (λ x y h. first_same x.sscc y.sscc _ h) state.contents ordered.contents
-      (λ sscc. rises content_cmp (λ a b. a.place == b.place) (λ x y h. number_tied x.place y.place (rest_tied x.sscc y.sscc _ h)) (filter (λ c. same c.sscc sscc) state.contents) (in_order_filter content_cmp (λ c. same c.sscc sscc) state.contents ordered.contents) (placed_single 0 (filter (λ c. same c.sscc sscc) state.contents) (kept.places sscc)));
+      (λ sscc. rises content_cmp same_spot (λ x y h. number_tied x.place y.place (rest_tied x.sscc y.sscc _ h)) (filter (λ c. same c.sscc sscc) state.contents) (in_order_filter content_cmp (λ c. same c.sscc sscc) state.contents ordered.contents) (kept.contents sscc));
   receipts = rises_by_part receipt_cmp (λ r. r.sscc) (λ x y h. first_same x.sscc y.sscc _ h) state.receipts ordered.receipts
       (λ sscc. rises receipt_cmp same_gtin (λ x y h. text_tied x.gtin y.gtin (rest_tied x.sscc y.sscc _ h)) (filter (λ r. same r.sscc sscc) state.receipts) (in_order_filter receipt_cmp (λ r. same r.sscc sscc) state.receipts ordered.receipts) (kept.receipts sscc));
   remembered = rises remembered_cmp same_reference (λ x y h.
@@ -164,7 +156,7 @@ module _ {X : Type 0} (cmp : X → X → Ordering) (sscc : X → List ℕ) (t : 
       ]
 
 -- the rows of all suppliers rise, where those that each sees are as they are to be
-pub all_rise : (suppliers : List Supplier) (t : Tables) → PrefixFree suppliers → Rooted suppliers t → ((gln : List ℕ) → Kept (view gln t)) → Rising t
+pub all_rise : (suppliers : List SupplierRow) (t : Tables) → PrefixFree (company_prefixes suppliers) → Rooted suppliers t → ((gln : List ℕ) → Kept (view gln t)) → Rising t
 all_rise suppliers t free rooted kept =
     let ordered = rooted.ordered in
     let seen : (gln : List ℕ) → Rising (view gln t) = λ gln. view_rises gln t ordered (kept gln) in

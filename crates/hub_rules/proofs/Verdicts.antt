@@ -1,10 +1,10 @@
 -- What an accepted verdict tells of its parts, and judges that lead from one property of a supplier's rows to another.
 use Rattle.std.proofs.Common.{◌≡◌, Bool, true, false, List, [], ◌∷◌, ◌++◌, Option, Some, None, refl, subst}
+use Rattle.hub_parties.specs.declared.row.SupplierRow.{SupplierRow}
 use Rattle.hub_tables.specs.Change.{apply, apply_all}
 use Rattle.hub_tables.specs.Tables.{Tables}
 use Rattle.hub_tables.specs.declared.change.Change.{Change}
 use Rattle.hub_rules.specs.Judging.{Judge, gives, refuse_if, given, joined, goes_on, in_turn, in_order}
-use Rattle.hub_rules.specs.Suppliers.{Supplier}
 use Rattle.hub_rules.specs.declared.code.Code.{Code}
 use Rattle.hub_rules.specs.declared.verdict.Verdict.{Verdict}
 use Rattle.hub_rules.specs.declared.verdict.Verdict.TheVariants.{Accept, Refuse}
@@ -24,15 +24,15 @@ joined_rest first (Refuse code) changes h = cc
 joined_rest first (Accept rest) changes h = (rest, refl, cc)
 
 -- changes that are the supplier's, and leave a property of its rows
-pub record Leaves (s : Supplier) (After : Tables → Type 0) (state : Tables) (changes : List Change) : Type 0 where
+pub record Leaves (s : SupplierRow) (After : Tables → Type 0) (state : Tables) (changes : List Change) : Type 0 where
   pub belong : BelongAll s state changes
   pub after : After (apply_all changes state)
 
 -- all that a judge accepts where the one property is leaves the other
-abbrev pub Leads : Supplier → (Tables → Type 0) → (Tables → Type 0) → Judge → Type 0
+abbrev pub Leads : SupplierRow → (Tables → Type 0) → (Tables → Type 0) → Judge → Type 0
 Leads s Before After judge = (state : Tables) (changes : List Change) → Before state → judge state ≡ Accept changes → Leaves s After state changes
 
-module _ (s : Supplier) where
+module _ (s : SupplierRow) where
   pub leaves_given : (After : Tables → Type 0) (state : Tables) (given changes : List Change) → ◌≡◌ {A = Verdict} (Accept given) (Accept changes) → Leaves s After state given → Leaves s After state changes
   leaves_given After state given changes h left = let e : given ≡ changes = cc in subst (Leaves s After state) e left
 

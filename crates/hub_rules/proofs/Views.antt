@@ -1,12 +1,12 @@
 -- What a supplier sees is its own.
 use Rattle.std.proofs.Common.{◌≡◌, ℕ, true, List, filter, ◌∙◌}
 use Rattle.std.specs.List.{AllByRecursion}
+use Rattle.hub_parties.specs.declared.row.SupplierRow.{SupplierRow}
 use Rattle.hub_tables.specs.Rows.{same, order_cmp, line_cmp, advice_cmp, pallet_cmp, content_cmp, receipt_cmp, remembered_cmp, mail_cmp}
 use Rattle.hub_tables.specs.Tables.{Tables, Ordered, has_pallet, holds, view}
 use Rattle.hub_tables.proofs.KeyOrder.{in_order_filter}
 use Rattle.hub_tables.proofs.Lists.{same_is, all_weaker, all_passes}
 use Rattle.hub_rules.specs.Sound.{IsOwn}
-use Rattle.hub_rules.specs.Suppliers.{Supplier}
 use Rattle.hub_rules.proofs.Prefixes.{holds_seen}
 
 -- it is in key order
@@ -32,7 +32,7 @@ on_seen gln t sscc rows =
     all_weaker (λ row. holds gln t.pallets (sscc row) ≡ true) (λ row. has_pallet (view gln t) (sscc row) ≡ true) (λ row e. holds_seen gln t.pallets (sscc row) ∙ e)
     (filter (λ row. holds gln t.pallets (sscc row)) rows) (all_passes (λ row. holds gln t.pallets (sscc row)) rows)
 
-pub view_own : (s : Supplier) (t : Tables) → Ordered t → IsOwn s (view s.gln t)
+pub view_own : (s : SupplierRow) (t : Tables) → Ordered t → IsOwn s (view s.gln t)
 view_own s t ordered = record {
   ordered = ordered_view s.gln t ordered;
   orders = picked s.gln (λ row. row.supplier) t.orders;

@@ -4,6 +4,7 @@ use Rattle.gs1_ids.specs.Sscc.{under_some}
 use Rattle.edi_goods.specs.declared.despatch.Despatch.{Despatch}
 use Rattle.edi_goods.specs.declared.despatch.DespatchLine.{DespatchLine}
 use Rattle.edi_goods.specs.declared.despatch.Unit.{Unit}
+use Rattle.hub_parties.specs.declared.row.SupplierRow.{SupplierRow}
 use Rattle.hub_tables.specs.Cases.{arrival_number}
 use Rattle.hub_tables.specs.Rows.{same}
 use Rattle.hub_tables.specs.State.{knows_order, knows_advice, line_of}
@@ -11,7 +12,6 @@ use Rattle.hub_tables.specs.Tables.{has_pallet}
 use Rattle.hub_tables.specs.declared.cases.Arrival.TheVariants.{Announced}
 use Rattle.hub_tables.specs.declared.change.Change.TheVariants.{SetLine, AddAdvice, AddPallet, AddContent}
 use Rattle.hub_rules.specs.Judging.{Judge, gives, refuse_if, given, in_turn, in_order}
-use Rattle.hub_rules.specs.Suppliers.{Supplier}
 use Rattle.hub_rules.specs.declared.code.Code.TheVariants.{NoOrder, NoLine, OtherItem, MoreThanOpen, OtherPrefix, SsccUsed, AdviceKnown}
 use Rattle.hub_rules.specs.declared.verdict.Verdict.TheVariants.{Accept}
 
@@ -33,7 +33,7 @@ judge_despatched sscc (place, said) state =
     ∷ [])))))
 
 -- B11, B12 at a unit; then the pallet, and its lines. An SSCC is used where the hub has it, or an earlier unit.
-abbrev pub judge_unit : Supplier → (List ℕ → Bool) → List ℕ → Unit → Judge
+abbrev pub judge_unit : SupplierRow → (List ℕ → Bool) → List ℕ → Unit → Judge
 judge_unit s used advice unit state =
     refuse_if (not (under_some unit.sscc s.prefixes)) OtherPrefix (
     refuse_if (used unit.sscc || has_pallet state unit.sscc) SsccUsed (
@@ -41,7 +41,7 @@ judge_unit s used advice unit state =
     (in_order (judge_despatched unit.sscc) (placed 0 unit.lines)) state))
 
 -- B13; then the advice, and its units
-abbrev pub judge_new_despatch : Supplier → (List ℕ → Bool) → Despatch → Judge
+abbrev pub judge_new_despatch : SupplierRow → (List ℕ → Bool) → Despatch → Judge
 judge_new_despatch s used despatch state =
     refuse_if (knows_advice state despatch.number) AdviceKnown (
     in_turn (gives (AddAdvice (record { supplier = s.gln; number = despatch.number }) ∷ []))

@@ -1,22 +1,22 @@
 -- What comes of changes that the rules accept.
 use Rattle.std.specs.Prelude.{◌≡◌, ◌≢◌, ℕ, List}
+use Rattle.hub_parties.specs.declared.row.SupplierRow.{SupplierRow}
 use Rattle.hub_tables.specs.Change.{apply_all}
 use Rattle.hub_tables.specs.Tables.{Tables, view}
 use Rattle.hub_tables.specs.declared.change.Change.{Change}
 use Rattle.hub_rules.specs.Sound.{IsOwn, Kept, Sound}
-use Rattle.hub_rules.specs.Suppliers.{Supplier}
 
 -- the rows of a supplier are its own and sound after the changes
-pub record StaysKept (s : Supplier) (state : Tables) (changes : List Change) : Type 0 where
+pub record StaysKept (s : SupplierRow) (state : Tables) (changes : List Change) : Type 0 where
   pub own : IsOwn s (apply_all changes state)
   pub kept : Kept (apply_all changes state)
 
 -- the supplier sees its own rows after it, nobody else sees anything of it, and the tables are sound after it
-pub record Apart (suppliers : List Supplier) (s : Supplier) (t after own : Tables) : Type 0 where
+pub record Apart (suppliers : List SupplierRow) (s : SupplierRow) (t after own : Tables) : Type 0 where
   pub seen : view s.gln after ≡ own
   pub unseen : (other : List ℕ) → other ≢ s.gln → view other after ≡ view other t
   pub sound : Sound suppliers after
 
 -- changes of one supplier's rows keep it apart from the others
-abbrev pub KeepsApart : List Supplier → Supplier → Tables → List Change → Type 0
+abbrev pub KeepsApart : List SupplierRow → SupplierRow → Tables → List Change → Type 0
 KeepsApart suppliers s t changes = Apart suppliers s t (apply_all changes t) (apply_all changes (view s.gln t))

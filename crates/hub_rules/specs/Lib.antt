@@ -11,4 +11,3 @@ pub mod RepeatRules
 pub mod ResponseRules
 pub mod Rules
 pub mod Sound
-pub mod Suppliers

@@ -1,8 +1,8 @@
 -- The rules on the parties of a message (B01, B02).
 use Rattle.std.specs.Prelude.{ℕ, Bool, false, not, List, Option, Some, None}
+use Rattle.hub_parties.specs.declared.row.SupplierRow.{SupplierRow}
 use Rattle.hub_tables.specs.Rows.{same}
 use Rattle.hub_rules.specs.Judging.{refuse_if, given}
-use Rattle.hub_rules.specs.Suppliers.{Supplier}
 use Rattle.hub_rules.specs.declared.code.Code.TheVariants as codes
 use Rattle.hub_rules.specs.declared.verdict.Verdict.{Verdict}
 
@@ -12,5 +12,5 @@ is_other_buyer retailer None = false
 is_other_buyer retailer (Some buyer) = not (same buyer retailer)
 
 -- B02: the supplier is not registered, or the message names another
-abbrev pub registered : Option Supplier → List ℕ → (Supplier → Verdict) → Verdict
+abbrev pub registered : Option SupplierRow → List ℕ → (SupplierRow → Verdict) → Verdict
 registered supplier named rest = given supplier codes.Supplier (λ s. refuse_if (not (same named s.gln)) codes.Supplier (rest s))

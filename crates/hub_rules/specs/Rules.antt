@@ -5,6 +5,7 @@ use Rattle.edi_orders.specs.declared.order.Order.{Order}
 use Rattle.edi_orders.specs.declared.response.Response.{Response}
 use Rattle.edi_goods.specs.declared.despatch.Despatch.{Despatch}
 use Rattle.edi_goods.specs.declared.receipt.Receipt.{Receipt}
+use Rattle.hub_parties.specs.declared.row.SupplierRow.{SupplierRow}
 use Rattle.hub_tables.specs.declared.cases.Side.{Side}
 use Rattle.hub_tables.specs.declared.cases.Side.TheVariants as sides
 use Rattle.hub_rules.specs.CancellationRules.{judge_new_cancel}
@@ -15,42 +16,41 @@ use Rattle.hub_rules.specs.PartyRules.{is_other_buyer, registered}
 use Rattle.hub_rules.specs.ReceiptRules.{judge_new_receipt}
 use Rattle.hub_rules.specs.RepeatRules.{Reference, judge_once}
 use Rattle.hub_rules.specs.ResponseRules.{judge_new_response}
-use Rattle.hub_rules.specs.Suppliers.{Supplier}
 use Rattle.hub_rules.specs.declared.code.Code.TheVariants as codes
 use Rattle.hub_rules.specs.declared.delivery.Cancel.{Cancel}
 use Rattle.hub_rules.specs.declared.delivery.Delivery.{Delivery}
 
-abbrev pub referred_by : Supplier → Side → Delivery → Reference
+abbrev pub referred_by : SupplierRow → Side → Delivery → Reference
 referred_by s side delivery = record { supplier = s.gln; side = side; control = delivery.control; message = delivery.message }
 
 -- B01, B02, B03; then the checks of the message
-abbrev pub judge_message : List ℕ → Option Supplier → Side → Delivery → Option (List ℕ) → List ℕ → (Supplier → Judge) → Judge
+abbrev pub judge_message : List ℕ → Option SupplierRow → Side → Delivery → Option (List ℕ) → List ℕ → (SupplierRow → Judge) → Judge
 judge_message retailer supplier side delivery buyer named rest state =
     refuse_if (is_other_buyer retailer buyer) codes.Buyer (
     registered supplier named (λ s. judge_once (referred_by s side delivery) delivery.content (rest s) state))
 
 -- ORDERS: B01 B02 B03 B04 B16
-abbrev pub judge_order : List ℕ → Option Supplier → Delivery → List ℕ → Order → Judge
+abbrev pub judge_order : List ℕ → Option SupplierRow → Delivery → List ℕ → Order → Judge
 judge_order retailer supplier delivery body order =
     judge_message retailer supplier sides.Retailer delivery (Some order.buyer) order.supplier (λ s. judge_new_order s.gln delivery body order)
 
 -- ORDRSP: B01 B02 B03 B05, for all lines B07; at a line B06 B07 B08 B09
-abbrev pub judge_response : List ℕ → Option Supplier → Delivery → Response → Judge
+abbrev pub judge_response : List ℕ → Option SupplierRow → Delivery → Response → Judge
 judge_response retailer supplier delivery response =
     judge_message retailer supplier sides.Supplier delivery (Some response.buyer) response.supplier (λ s. judge_new_response response)
 
 -- DESADV: B01 B02 B03 B13; at a unit B11 B12; at a line B05 B06 B09 B10
-abbrev pub judge_despatch : List ℕ → Option Supplier → (List ℕ → Bool) → Delivery → Despatch → Judge
+abbrev pub judge_despatch : List ℕ → Option SupplierRow → (List ℕ → Bool) → Delivery → Despatch → Judge
 judge_despatch retailer supplier used delivery despatch =
     judge_message retailer supplier sides.Supplier delivery despatch.buyer despatch.supplier (λ s. judge_new_despatch s used despatch)
 
 -- RECADV: B01 B02 B03 B16; at a unit B14 B15
-abbrev pub judge_receipt : List ℕ → Option Supplier → Delivery → List ℕ → Receipt → Judge
+abbrev pub judge_receipt : List ℕ → Option SupplierRow → Delivery → List ℕ → Receipt → Judge
 judge_receipt retailer supplier delivery body receipt =
     judge_message retailer supplier sides.Retailer delivery receipt.buyer receipt.supplier (λ s. judge_new_receipt s.gln delivery body receipt)
 
 -- cancellations: B02 B03 B05 B06 B17
-abbrev pub judge_cancel : Option Supplier → List ℕ → Cancel → Judge
+abbrev pub judge_cancel : Option SupplierRow → List ℕ → Cancel → Judge
 judge_cancel supplier content cancel state =
     registered supplier cancel.supplier (λ s.
     judge_once (record { supplier = s.gln; side = sides.Cancellation; control = cancel.reference; message = [] }) content (judge_new_cancel cancel) state)

@@ -2,6 +2,8 @@
 use Rattle.std.specs.Prelude.{◌≡◌, ℕ, ◌+◌, ◌==◌, Bool, true, false, not, ◌&&◌, List, [], ◌∷◌, filter, Some, ⊤}
 use Rattle.std.specs.List.{AllByRecursion, list_any}
 use Rattle.gs1_ids.specs.Sscc.{under_some}
+use Rattle.hub_parties.specs.Rows.{supplier_of}
+use Rattle.hub_parties.specs.declared.row.SupplierRow.{SupplierRow}
 use Rattle.hub_tables.specs.Cases.{arrival_number}
 use Rattle.hub_tables.specs.Rows.{same}
 use Rattle.hub_tables.specs.State.{knows_order, despatched}
@@ -15,7 +17,6 @@ use Rattle.hub_tables.specs.declared.rows.ContentRow.{ContentRow}
 use Rattle.hub_tables.specs.declared.rows.ReceiptRow.{ReceiptRow}
 use Rattle.hub_tables.specs.declared.rows.RememberedRow.{RememberedRow}
 use Rattle.hub_tables.specs.declared.rows.MailRow.{MailRow}
-use Rattle.hub_rules.specs.Suppliers.{Supplier, supplier_of}
 
 -- the line sum: ordered is open, refused, cancelled and despatched together
 abbrev pub Balanced : Tables → LineRow → Type 0
@@ -26,7 +27,7 @@ abbrev pub Single : {X : Type 0} → (X → X → Bool) → List X → Type 0
 Single alike [] = ⊤
 Single alike (x ∷ xs) = (list_any (alike x) xs ≡ false) × Single alike xs
 
--- Rows of one supplier have one key.
+-- Rows of one supplier have one key, and contents and receipts of one pallet.
 abbrev pub same_order : OrderRow → OrderRow → Bool
 same_order a b = same a.number b.number
 
@@ -38,6 +39,9 @@ same_advice a b = same a.number b.number
 
 abbrev pub same_sscc : PalletRow → PalletRow → Bool
 same_sscc a b = same a.sscc b.sscc
+
+abbrev pub same_spot : ContentRow → ContentRow → Bool
+same_spot a b = a.place == b.place
 
 abbrev pub same_gtin : ReceiptRow → ReceiptRow → Bool
 same_gtin a b = same a.gtin b.gtin
@@ -57,13 +61,8 @@ abbrev pub Numbered : ℕ → List MailRow → Type 0
 Numbered n [] = ⊤
 Numbered n (entry ∷ entries) = (entry.number ≡ n + 1) × Numbered (n + 1) entries
 
--- the places of contents go on from n
-abbrev pub Placed : ℕ → List ContentRow → Type 0
-Placed n [] = ⊤
-Placed n (content ∷ contents) = (content.place ≡ n + 1) × Placed (n + 1) contents
-
 -- each row is the supplier's, and each content and receipt is on a pallet that is
-pub record IsOwn (s : Supplier) (state : Tables) : Type 0 where
+pub record IsOwn (s : SupplierRow) (state : Tables) : Type 0 where
   pub ordered : Ordered state
   pub orders : AllByRecursion (λ order. order.supplier ≡ s.gln) state.orders
   pub lines : AllByRecursion (λ line. line.supplier ≡ s.gln) state.lines
@@ -74,16 +73,16 @@ pub record IsOwn (s : Supplier) (state : Tables) : Type 0 where
   pub remembered : AllByRecursion (λ row. row.supplier ≡ s.gln) state.remembered
   pub mail : AllByRecursion (λ entry. entry.supplier ≡ s.gln) state.mail
 
--- keys are single; lines have their order, contents their line, receipts a pallet that was received; entries and places are
--- numbered from 1; and every line is balanced
+-- keys are single; lines have their order, contents their line, receipts a pallet that was received; entries are numbered from
+-- 1; and every line is balanced
 pub record Kept (state : Tables) : Type 0 where
   pub orders : Single same_order state.orders
   pub lines : Single same_place state.lines
   pub advices : Single same_advice state.advices
   pub pallets : Single same_sscc state.pallets
+  pub contents : (sscc : List ℕ) → Single same_spot (filter (λ content. same content.sscc sscc) state.contents)
   pub receipts : (sscc : List ℕ) → Single same_gtin (filter (λ receipt. same receipt.sscc sscc) state.receipts)
   pub remembered : Single same_reference state.remembered
-  pub places : (sscc : List ℕ) → Placed 0 (filter (λ content. same content.sscc sscc) state.contents)
   pub mail : Numbered 0 state.mail
   pub line_orders : AllByRecursion (λ line. knows_order state line.number ≡ true) state.lines
   pub content_lines : AllByRecursion (λ content. knows_line state content.number content.line ≡ true) state.contents
@@ -91,13 +90,13 @@ pub record Kept (state : Tables) : Type 0 where
   pub balanced : AllByRecursion (Balanced state) state.lines
 
 -- a pallet's supplier is known, and its SSCC is under a prefix of that supplier
-pub record IsRooted (suppliers : List Supplier) (pallet : PalletRow) : Type 0 where
-  pub supplier : Supplier
+pub record IsRooted (suppliers : List SupplierRow) (pallet : PalletRow) : Type 0 where
+  pub supplier : SupplierRow
   pub known : supplier_of suppliers pallet.supplier ≡ Some supplier
   pub is_under : under_some pallet.sscc supplier.prefixes ≡ true
 
 -- rows are in key order, each pallet is its supplier's, and each content and receipt has its pallet
-pub record Rooted (suppliers : List Supplier) (t : Tables) : Type 0 where
+pub record Rooted (suppliers : List SupplierRow) (t : Tables) : Type 0 where
   pub ordered : Ordered t
   pub pallets : AllByRecursion (IsRooted suppliers) t.pallets
   pub contents : AllByRecursion (λ content. has_pallet t content.sscc ≡ true) t.contents
@@ -105,6 +104,6 @@ pub record Rooted (suppliers : List Supplier) (t : Tables) : Type 0 where
 
 -- rows are in key order, each pallet is a registered supplier's and its SSCC under that supplier's prefixes, contents and
 -- receipts have their pallet; and what each supplier sees is sound by itself
-pub record Sound (suppliers : List Supplier) (t : Tables) : Type 0 where
+pub record Sound (suppliers : List SupplierRow) (t : Tables) : Type 0 where
   pub rooted : Rooted suppliers t
   pub kept : (gln : List ℕ) → Kept (view gln t)

@@ -2,47 +2,49 @@
 ghost use Rattle.std.specs.Prelude.{◌≡◌, ℕ, Bool, true, false, List, map, Some};
 ghost use Rattle.edi_base.specs.Seen.{has_number_twice};
 ghost use Rattle.gs1_ids.specs.Sscc.{under_some};
+ghost use Rattle.gs1_ids.specs.Overlap.{PrefixFree};
 ghost use Rattle.edi_orders.specs.declared.order.Order.{Order};
 ghost use Rattle.edi_orders.specs.declared.response.Response.{Response};
 ghost use Rattle.edi_goods.specs.declared.despatch.Despatch.{Despatch};
 ghost use Rattle.edi_goods.specs.declared.receipt.Receipt.{Receipt};
+ghost use Rattle.hub_parties.specs.Rows.{company_prefixes, supplier_of};
+ghost use Rattle.hub_parties.specs.declared.row.SupplierRow.{SupplierRow};
 ghost use Rattle.hub_tables.specs.Tables.{Tables, has_pallet, view, empty};
 ghost use Rattle.hub_tables.specs.declared.change.Change.{Change};
 ghost use Rattle.hub_rules.specs.Laws.{StaysKept, KeepsApart};
 ghost use Rattle.hub_rules.specs.Rules.{judge_order, judge_response, judge_despatch, judge_receipt, judge_cancel};
 ghost use Rattle.hub_rules.specs.Sound.{IsOwn, Kept, Rooted, Sound};
-ghost use Rattle.hub_rules.specs.Suppliers.{Supplier, supplier_of, PrefixFree};
 ghost use Rattle.hub_rules.specs.declared.delivery.Cancel.{Cancel};
 ghost use Rattle.hub_rules.specs.declared.delivery.Delivery.{Delivery};
 ghost use Rattle.hub_rules.specs.declared.verdict.Verdict.TheVariants.{Accept};
 
 /// An SSCC under a supplier's prefixes is that of a pallet exactly where it is that of a pallet of this supplier.
 pub fn pallet_is_its_prefixes_suppliers()
-    ensures { (suppliers : List Supplier) (s : Supplier) (t : Tables) (sscc : List ℕ) → PrefixFree suppliers → supplier_of suppliers s.gln ≡ Some s → Rooted suppliers t → under_some sscc s.prefixes ≡ true → has_pallet t sscc ≡ has_pallet (view s.gln t) sscc }
+    ensures { (suppliers : List SupplierRow) (s : SupplierRow) (t : Tables) (sscc : List ℕ) → PrefixFree (company_prefixes suppliers) → supplier_of suppliers s.gln ≡ Some s → Rooted suppliers t → under_some sscc s.prefixes ≡ true → has_pallet t sscc ≡ has_pallet (view s.gln t) sscc }
 {}
 
 /// Empty tables keep suppliers apart.
 pub fn empty_tables_are_rooted()
-    ensures { (suppliers : List Supplier) → Rooted suppliers empty }
+    ensures { (suppliers : List SupplierRow) → Rooted suppliers empty }
 {}
 
 /// What the rules accept leaves the supplier's rows its own and sound: each key stands once; the order of a line, the line of a
 /// content and the pallet of a receipt are there; numbers go on; and on every line ordered is open, refused, cancelled and
 /// despatched together.
 pub fn rules_keep_rows()
-    ensures order { (s : Supplier) (state : Tables) (retailer : List ℕ) (delivery : Delivery) (body : List ℕ) (order : Order) (changes : List Change) → IsOwn s state → Kept state → has_number_twice (map (λ line. line.line) order.lines) ≡ false → judge_order retailer (Some s) delivery body order state ≡ Accept changes → StaysKept s state changes }
-    ensures response { (s : Supplier) (state : Tables) (retailer : List ℕ) (delivery : Delivery) (response : Response) (changes : List Change) → IsOwn s state → Kept state → judge_response retailer (Some s) delivery response state ≡ Accept changes → StaysKept s state changes }
-    ensures despatch { (s : Supplier) (state : Tables) (retailer : List ℕ) (used : List ℕ → Bool) (delivery : Delivery) (despatch : Despatch) (changes : List Change) → IsOwn s state → Kept state → judge_despatch retailer (Some s) used delivery despatch state ≡ Accept changes → StaysKept s state changes }
-    ensures receipt { (s : Supplier) (state : Tables) (retailer : List ℕ) (delivery : Delivery) (body : List ℕ) (receipt : Receipt) (changes : List Change) → IsOwn s state → Kept state → judge_receipt retailer (Some s) delivery body receipt state ≡ Accept changes → StaysKept s state changes }
-    ensures cancel { (s : Supplier) (state : Tables) (content : List ℕ) (cancel : Cancel) (changes : List Change) → IsOwn s state → Kept state → judge_cancel (Some s) content cancel state ≡ Accept changes → StaysKept s state changes }
+    ensures order { (s : SupplierRow) (state : Tables) (retailer : List ℕ) (delivery : Delivery) (body : List ℕ) (order : Order) (changes : List Change) → IsOwn s state → Kept state → has_number_twice (map (λ line. line.line) order.lines) ≡ false → judge_order retailer (Some s) delivery body order state ≡ Accept changes → StaysKept s state changes }
+    ensures response { (s : SupplierRow) (state : Tables) (retailer : List ℕ) (delivery : Delivery) (response : Response) (changes : List Change) → IsOwn s state → Kept state → judge_response retailer (Some s) delivery response state ≡ Accept changes → StaysKept s state changes }
+    ensures despatch { (s : SupplierRow) (state : Tables) (retailer : List ℕ) (used : List ℕ → Bool) (delivery : Delivery) (despatch : Despatch) (changes : List Change) → IsOwn s state → Kept state → judge_despatch retailer (Some s) used delivery despatch state ≡ Accept changes → StaysKept s state changes }
+    ensures receipt { (s : SupplierRow) (state : Tables) (retailer : List ℕ) (delivery : Delivery) (body : List ℕ) (receipt : Receipt) (changes : List Change) → IsOwn s state → Kept state → judge_receipt retailer (Some s) delivery body receipt state ≡ Accept changes → StaysKept s state changes }
+    ensures cancel { (s : SupplierRow) (state : Tables) (content : List ℕ) (cancel : Cancel) (changes : List Change) → IsOwn s state → Kept state → judge_cancel (Some s) content cancel state ≡ Accept changes → StaysKept s state changes }
 {}
 
 /// What the rules accept of what a supplier sees of sound tables are changes of this supplier's rows: the supplier sees them done
 /// to what it saw, what another sees stays, and the tables are sound after them.
 pub fn rules_keep_suppliers_apart()
-    ensures order { (suppliers : List Supplier) (s : Supplier) (t : Tables) (retailer : List ℕ) (delivery : Delivery) (body : List ℕ) (order : Order) (changes : List Change) → PrefixFree suppliers → supplier_of suppliers s.gln ≡ Some s → Sound suppliers t → has_number_twice (map (λ line. line.line) order.lines) ≡ false → judge_order retailer (Some s) delivery body order (view s.gln t) ≡ Accept changes → KeepsApart suppliers s t changes }
-    ensures response { (suppliers : List Supplier) (s : Supplier) (t : Tables) (retailer : List ℕ) (delivery : Delivery) (response : Response) (changes : List Change) → PrefixFree suppliers → supplier_of suppliers s.gln ≡ Some s → Sound suppliers t → judge_response retailer (Some s) delivery response (view s.gln t) ≡ Accept changes → KeepsApart suppliers s t changes }
-    ensures despatch { (suppliers : List Supplier) (s : Supplier) (t : Tables) (retailer : List ℕ) (used : List ℕ → Bool) (delivery : Delivery) (despatch : Despatch) (changes : List Change) → PrefixFree suppliers → supplier_of suppliers s.gln ≡ Some s → Sound suppliers t → judge_despatch retailer (Some s) used delivery despatch (view s.gln t) ≡ Accept changes → KeepsApart suppliers s t changes }
-    ensures receipt { (suppliers : List Supplier) (s : Supplier) (t : Tables) (retailer : List ℕ) (delivery : Delivery) (body : List ℕ) (receipt : Receipt) (changes : List Change) → PrefixFree suppliers → supplier_of suppliers s.gln ≡ Some s → Sound suppliers t → judge_receipt retailer (Some s) delivery body receipt (view s.gln t) ≡ Accept changes → KeepsApart suppliers s t changes }
-    ensures cancel { (suppliers : List Supplier) (s : Supplier) (t : Tables) (content : List ℕ) (cancel : Cancel) (changes : List Change) → PrefixFree suppliers → supplier_of suppliers s.gln ≡ Some s → Sound suppliers t → judge_cancel (Some s) content cancel (view s.gln t) ≡ Accept changes → KeepsApart suppliers s t changes }
+    ensures order { (suppliers : List SupplierRow) (s : SupplierRow) (t : Tables) (retailer : List ℕ) (delivery : Delivery) (body : List ℕ) (order : Order) (changes : List Change) → PrefixFree (company_prefixes suppliers) → supplier_of suppliers s.gln ≡ Some s → Sound suppliers t → has_number_twice (map (λ line. line.line) order.lines) ≡ false → judge_order retailer (Some s) delivery body order (view s.gln t) ≡ Accept changes → KeepsApart suppliers s t changes }
+    ensures response { (suppliers : List SupplierRow) (s : SupplierRow) (t : Tables) (retailer : List ℕ) (delivery : Delivery) (response : Response) (changes : List Change) → PrefixFree (company_prefixes suppliers) → supplier_of suppliers s.gln ≡ Some s → Sound suppliers t → judge_response retailer (Some s) delivery response (view s.gln t) ≡ Accept changes → KeepsApart suppliers s t changes }
+    ensures despatch { (suppliers : List SupplierRow) (s : SupplierRow) (t : Tables) (retailer : List ℕ) (used : List ℕ → Bool) (delivery : Delivery) (despatch : Despatch) (changes : List Change) → PrefixFree (company_prefixes suppliers) → supplier_of suppliers s.gln ≡ Some s → Sound suppliers t → judge_despatch retailer (Some s) used delivery despatch (view s.gln t) ≡ Accept changes → KeepsApart suppliers s t changes }
+    ensures receipt { (suppliers : List SupplierRow) (s : SupplierRow) (t : Tables) (retailer : List ℕ) (delivery : Delivery) (body : List ℕ) (receipt : Receipt) (changes : List Change) → PrefixFree (company_prefixes suppliers) → supplier_of suppliers s.gln ≡ Some s → Sound suppliers t → judge_receipt retailer (Some s) delivery body receipt (view s.gln t) ≡ Accept changes → KeepsApart suppliers s t changes }
+    ensures cancel { (suppliers : List SupplierRow) (s : SupplierRow) (t : Tables) (content : List ℕ) (cancel : Cancel) (changes : List Change) → PrefixFree (company_prefixes suppliers) → supplier_of suppliers s.gln ≡ Some s → Sound suppliers t → judge_cancel (Some s) content cancel (view s.gln t) ≡ Accept changes → KeepsApart suppliers s t changes }
 {}

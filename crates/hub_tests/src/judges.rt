@@ -14,7 +14,7 @@ use edi_envelope::{Moment, RawMessage, open};
 use edi_tokens::read_all;
 use gs1_ids::{Gln, Gtin, Prefix};
 use hub_judges::{Known, LineFacts};
-use hub_register::{Key, SupplierRow};
+use hub_parties::{Key, SupplierRow};
 use hub_rules::{Delivery, Verdict};
 use hub_tables::{Answered, Change, Column, LineRow};
 use std::alloc::Global;
@@ -47,10 +47,12 @@ fn gtin(digits: &str) -> Result<Gtin, Fail> {
 }
 
 // Alpha's row of the register.
-fn alpha() -> Result<SupplierRow, Fail> {
+fn alpha(alloc: Global) -> Result<SupplierRow, Fail> {
+    let mut prefixes = Items::new(alloc);
+    prefixes.push(Prefix::parse(b"40123455").ok_or("a prefix")?)?;
     Ok(SupplierRow {
         gln: gln(ALPHA)?,
-        prefix: Prefix::parse(b"40123455").ok_or("a prefix")?,
+        prefixes,
         key: Key::parse(b"alpha-key-1").ok_or("a key")?,
     })
 }

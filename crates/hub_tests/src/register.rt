@@ -34,7 +34,10 @@ fn supplier_told(alloc: Global, register: &Register, gln: &Gln) -> Result<String
     match register.supplier(gln) {
         Some(row) => {
             let key = str::from_utf8(row.key.bytes()).unwrap_or("no text");
-            format!(in alloc; "{} {} {key}", row.gln, row.prefix)
+            match row.prefixes.as_slice() {
+                [prefix] => format!(in alloc; "{} {prefix} {key}", row.gln),
+                _ => format!(in alloc; "{} not one prefix {key}", row.gln),
+            }
         }
         None => format!(in alloc; "none"),
     }

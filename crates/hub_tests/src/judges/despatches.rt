@@ -138,7 +138,7 @@ fn despatch(alloc: Global, case: &DespatchCase) -> Result<Despatch, Fail>
 
 // Of the line 24 pieces are open.
 fn verdict(alloc: Global, case: &DespatchCase) -> Result<Verdict, Fail> {
-    let row = alpha()?;
+    let row = alpha(alloc)?;
     let retailer = gln(RETAILER)?;
     let despatch = despatch(alloc, case)?;
     let line = ("128576", 1, [48, 24, 24, 0, 0], Answered::Changed);

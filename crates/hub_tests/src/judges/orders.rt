@@ -125,7 +125,7 @@ fn order(alloc: Global, buyer: &str, supplier: &str) -> Result<Order, Fail> {
 }
 
 fn verdict(alloc: Global, case: &OrderCase) -> Result<Verdict, Fail> {
-    let row = alpha()?;
+    let row = alpha(alloc)?;
     let retailer = gln(RETAILER)?;
     let order = order(alloc, case.buyer, case.supplier)?;
     let mut known = known(alloc, [BEFORE, WAITING, BEHIND], case.remembered)?;

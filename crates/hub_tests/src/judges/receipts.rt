@@ -159,7 +159,7 @@ fn pallets(
 }
 
 fn verdict(alloc: Global, case: &ReceiptCase) -> Result<Verdict, Fail> {
-    let row = alpha()?;
+    let row = alpha(alloc)?;
     let retailer = gln(RETAILER)?;
     let receipt = receipt(alloc, case.parties)?;
     let mut known = known(alloc, [BEFORE, WAITING, BEHIND], case.remembered)?;

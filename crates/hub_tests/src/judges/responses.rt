@@ -235,7 +235,7 @@ fn response(alloc: Global, case: &ResponseCase) -> Result<Response, Fail> {
 }
 
 fn verdict(alloc: Global, case: &ResponseCase) -> Result<Verdict, Fail> {
-    let row = alpha()?;
+    let row = alpha(alloc)?;
     let retailer = gln(RETAILER)?;
     let response = response(alloc, case)?;
     let known = known(alloc, case.lines, None)?;

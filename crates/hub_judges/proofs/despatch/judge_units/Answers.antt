@@ -6,7 +6,6 @@ use Rattle.hub_rules.specs.Judging.{joined}
 use Rattle.hub_rules.specs.declared.verdict.Verdict.{Verdict}
 use Rattle.hub_rules.specs.declared.verdict.Verdict.TheVariants.{Refuse}
 use Rattle.hub_judges.specs.FromFacts.{lines_from, new_pallet, units_from}
-use Rattle.hub_judges.specs.Party.{supplier_in}
 use Rattle.hub_judges.proofs.Despatched.{unit_next}
 use Rattle.hub_judges.proofs.despatch.judge_units.Goals as goal
 
@@ -14,7 +13,7 @@ pub returns-in-Some-2 : goal.returns-in-Some-2
 returns-in-Some-2 c =
     let i = c.loop-index.index in
     let unit = c.unit-item.result in
-    let s = supplier_in c.args.row.now in
+    let s = c.args.row.now in
     let advice = c.args.despatch.now.number in
     let orders = c.args.orders.now in
     let units = drop (i + 1) c.args.despatch.now.units in
@@ -36,7 +35,7 @@ pub loop-index-preserved : goal.loop-index-preserved
 loop-index-preserved c =
     let i = c.loop-index.index in
     let unit = c.unit-item.result in
-    let s = supplier_in c.args.row.now in
+    let s = c.args.row.now in
     let advice = c.args.despatch.now.number in
     let orders = c.args.orders.now in
     let units = drop (i + 1) c.args.despatch.now.units in

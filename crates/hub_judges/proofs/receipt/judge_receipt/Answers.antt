@@ -13,7 +13,6 @@ use Rattle.hub_rules.specs.RepeatRules.{remembered, once, judge_once}
 use Rattle.hub_rules.specs.Rules.{referred_by}
 use Rattle.hub_rules.specs.declared.verdict.Verdict.{Verdict}
 use Rattle.hub_judges.specs.FromFacts.{receipts_from}
-use Rattle.hub_judges.specs.Party.{supplier_in}
 use Rattle.hub_judges.proofs.Received.{new_receipt_alike}
 use Rattle.hub_judges.proofs.receipt.judge_receipt.Goals as goal
 
@@ -23,7 +22,7 @@ returns c =
     let body = c.args.body in
     let receipt = c.args.receipt.now in
     let known = c.args.known.now in
-    let s = supplier_in c.in-Ok.row.now in
+    let s = c.in-Ok.row.now in
     let reference = referred_by s sides.Retailer delivery in
     let memory : Change = Remember (remembered reference delivery.content) in
     let entry : Change = mail_entry s.gln (known.mails + 1) delivery kinds.Receipt receipt.number body in

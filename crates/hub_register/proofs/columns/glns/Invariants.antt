@@ -1,8 +1,8 @@
 use Rattle.std.proofs.Common.{◌≡◌, ◌++◌, map, drop}
 use Rattle.std.specs.List.{list_all}
-use Rattle.hub_register.specs.Entries.{row_in, rows_from}
 use Rattle.gs1_ids.specs.Gln.{is_gln}
-use Rattle.hub_register.specs.Rows.{glns}
+use Rattle.hub_parties.specs.Rows.{glns}
+use Rattle.hub_register.specs.Entries.{row_in, rows_from}
 use Rattle.hub_register.proofs.columns.glns.Given as goal
 
 -- all GLNs are those read so far, which are right, and those of the rest

@@ -1,9 +1,9 @@
 use Rattle.std.proofs.Common.{◌≡◌, [], map, drop}
 use Rattle.std.specs.BTreeMap.{keys, values}
 use Rattle.std.specs.List.{list_all}
+use Rattle.hub_parties.specs.Key.{is_party_key}
 use Rattle.hub_register.specs.Entries.{row_in}
-use Rattle.hub_register.specs.Key.{is_party_key}
-use Rattle.hub_register.specs.Rows.{put_all}
+use Rattle.hub_register.specs.InOrder.{put_all}
 use Rattle.hub_register.proofs.columns.suppliers.Given as goal
 
 -- the rows put so far, each at its GLN and with a right key, wait for those of the rest

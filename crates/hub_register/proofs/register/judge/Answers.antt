@@ -1,12 +1,14 @@
 use Rattle.std.proofs.Common.{◌≡◌, ◌≤◌, ◌&&◌, true, false, length, get_or, map, [], ◌∷◌, refl, sym, subst, ap, ap₂, ◌∙◌, arith}
 use Rattle.std.specs.List.{list_all}
 use Rattle.std.proofs.lemmas.List.{length-map}
+use Rattle.edi_base.specs.Seen.{has_twice}
 use Rattle.gs1_ids.specs.Overlap.{PrefixFree}
 use Rattle.gs1_ids.specs.Prefix.{is_prefix}
+use Rattle.hub_parties.specs.Key.{is_party_key}
+use Rattle.hub_parties.specs.Rows.{IsRegister, prefixes, keys, glns, company_prefixes}
 use Rattle.hub_register.specs.Entries.{row_in, rows_from}
-use Rattle.hub_register.specs.Key.{is_party_key}
-use Rattle.hub_register.specs.Rows.{IsRegister, put_all, prefixes, keys, glns}
-use Rattle.edi_base.specs.Seen.{has_twice}
+use Rattle.hub_register.specs.InOrder.{put_all}
+use Rattle.hub_register.proofs.Rest.{one_each}
 use Rattle.hub_register.proofs.Right.{register_right, same_rows}
 use Rattle.hub_register.proofs.register.judge.Goals as goal
 
@@ -21,7 +23,8 @@ assembled-requires-clause-right c =
     let once : has_twice (glns rows) ≡ false = sym (ap has_twice read.0) ∙ sym (ap has_twice c.as_slice.ensures.value) ∙ sym c.in_ok-has_twice.ensures.ok ∙ c.if-branch.false in
     let prefix : list_all is_prefix (prefixes rows) ≡ true = rw (← same) c.in_ok-prefixes.ensures.ok.1 in
     let key : list_all is_party_key (keys rows) ≡ true = ap₂ (λ a b. a && b) c.in_ok-retailer_key.ensures.ok.1 (rw (← same) c.in_ok-suppliers.ensures.keys) in
-    let free : PrefixFree (map (λ p. p ∷ []) (prefixes rows)) = rw (← same, ← c.in_ok-prefixes.ensures.ok.0, ← c.as_slice-3.ensures.value) (c.in_default.ensures.free.0 refl) in
+    let free : PrefixFree (company_prefixes rows.suppliers) =
+    subst PrefixFree (ap (map (λ p. p ∷ [])) (c.as_slice-3.ensures.value ∙ c.in_ok-prefixes.ensures.ok.0) ∙ one_each entries ∙ ap (λ es. company_prefixes (map row_in es)) same) (c.in_default.ensures.free.0 refl) in
     subst IsRegister
     (same_rows _ _ _ _ rows (c.index.ensures ∙ ap (λ xs. get_or xs 0 c.index.result.now) read.0) (c.index-2.ensures ∙ ap (λ xs. get_or xs 1 c.index-2.result.now) read.0) c.in_ok-retailer_key.ensures.ok.0
     (c.in_ok-suppliers.ensures.rows ∙ ap (λ es. put_all (map row_in es) []) same))

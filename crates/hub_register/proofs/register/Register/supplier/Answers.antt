@@ -1,5 +1,5 @@
 use Rattle.std.proofs.Common.{◌∙◌, ap}
-use Rattle.hub_register.specs.Rows.{row_of}
+use Rattle.hub_parties.specs.Rows.{row_of}
 use Rattle.hub_register.proofs.Inserted.{lookup-find}
 use Rattle.hub_register.proofs.register.Register.supplier.Goals as goal
 

@@ -1,7 +1,7 @@
 ghost use Rattle.std.specs.Prelude.{◌≡◌, IsTrue};
 ghost use Rattle.std.specs.List.{list_all};
 ghost use Rattle.std.specs.Option.{SomeIff};
-ghost use Rattle.hub_register.specs.Key as spec;
+ghost use Rattle.hub_parties.specs.Key as spec;
 
 use arrayvec::ArrayVec;
 use std::fmt;
@@ -15,7 +15,7 @@ pub struct Key {
 
 impl Model for Key {
     ghost use Rattle.std.specs.Prelude.{ℕ, List, IsTrue};
-    ghost use Rattle.hub_register.specs.Key.{is_party_key};
+    ghost use Rattle.hub_parties.specs.Key.{is_party_key};
 
     ghost Value = { List ℕ };
 

@@ -1,0 +1,70 @@
+-- The rows of a register: the hub's GLN, the retailer with its key, and the suppliers; how one is found, and who asks.
+use Rattle.std.specs.Prelude.{◌≡◌, ℕ, ◌≤◌, Bool, false, ◌&&◌, if◌then◌else◌, IsTrue, List, ◌∷◌, length, map, find, Option, Some, None}
+use Rattle.std.specs.List.{list_all, flat_map}
+use Rattle.std.specs.Str.{bytes_eq}
+use Rattle.edi_base.specs.Seen.{has_twice}
+use Rattle.gs1_ids.specs.Gln.{is_gln}
+use Rattle.gs1_ids.specs.Overlap.{PrefixFree}
+use Rattle.gs1_ids.specs.Prefix.{is_prefix}
+use Rattle.hub_parties.specs.Key.{is_party_key}
+use Rattle.hub_parties.specs.declared.role.Role.{Role}
+use Rattle.hub_parties.specs.declared.role.Role.TheVariants.{Retailer, Supplier}
+use Rattle.hub_parties.specs.declared.row.SupplierRow.{SupplierRow}
+
+pub record Rows : Type 0 where
+  pub hub : List ℕ
+  pub retailer : List ℕ
+  pub retailer_key : List ℕ
+  pub suppliers : List SupplierRow
+
+abbrev pub rows_by : List ℕ → List ℕ → List ℕ → List SupplierRow → Rows
+rows_by hub retailer retailer_key suppliers = record { hub = hub; retailer = retailer; retailer_key = retailer_key; suppliers = suppliers }
+
+-- the GLNs of the hub and of the retailer
+pub record Parties : Type 0 where
+  pub hub : List ℕ
+  pub retailer : List ℕ
+
+abbrev pub parties_of : Rows → Parties
+parties_of rows = record { hub = rows.hub; retailer = rows.retailer }
+
+-- the company prefixes of each supplier
+abbrev pub company_prefixes : List SupplierRow → List (List (List ℕ))
+company_prefixes suppliers = map (λ supplier. supplier.prefixes) suppliers
+
+-- every GLN, the hub's and the retailer's first
+abbrev pub glns : Rows → List (List ℕ)
+glns rows = rows.hub ∷ rows.retailer ∷ map (λ row. row.gln) rows.suppliers
+
+-- every prefix, in the order of the suppliers
+abbrev pub prefixes : Rows → List (List ℕ)
+prefixes rows = flat_map (λ row. row.prefixes) rows.suppliers
+
+-- every key, the retailer's first
+abbrev pub keys : Rows → List (List ℕ)
+keys rows = rows.retailer_key ∷ map (λ row. row.key) rows.suppliers
+
+-- the row of a supplier, by its GLN
+abbrev pub supplier_of : List SupplierRow → List ℕ → Option SupplierRow
+supplier_of suppliers gln = find (λ supplier. bytes_eq supplier.gln gln) suppliers
+
+abbrev pub row_of : Rows → List ℕ → Option SupplierRow
+row_of rows gln = supplier_of rows.suppliers gln
+
+-- who asks with a GLN and a key, where that is the row of a supplier with the GLN
+abbrev pub role_by : Rows → Option SupplierRow → List ℕ → List ℕ → Option Role
+role_by rows (Some row) gln key = if bytes_eq row.key key then Some Supplier else None
+role_by rows None gln key = if bytes_eq rows.retailer gln && bytes_eq rows.retailer_key key then Some Retailer else None
+
+-- who asks: a supplier or the retailer, known by its own GLN and its own key together
+abbrev pub role_of : Rows → List ℕ → List ℕ → Option Role
+role_of rows gln key = role_by rows (row_of rows gln) gln key
+
+-- what every register keeps
+pub record IsRegister (rows : Rows) : Type 0 where
+  pub few : length rows.suppliers ≤ 1000
+  pub glns_right : IsTrue (list_all is_gln (glns rows))
+  pub glns_apart : has_twice (glns rows) ≡ false
+  pub prefixes_right : IsTrue (list_all is_prefix (prefixes rows))
+  pub keys_right : IsTrue (list_all is_party_key (keys rows))
+  pub prefixes_free : PrefixFree (company_prefixes rows.suppliers)

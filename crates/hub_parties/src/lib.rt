@@ -1,0 +1,11 @@
+//! The parties of a hub: the rows of a register, and by which GLN and key a caller is the retailer or a supplier.
+#![tactic(auto)]
+
+mod key;
+mod role;
+mod row;
+
+pub use key::Key;
+pub use role::Role;
+pub use row::SupplierRow;
+

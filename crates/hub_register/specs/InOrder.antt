@@ -1,0 +1,20 @@
+-- The suppliers of a register in the order of their GLNs.
+use Rattle.std.specs.Prelude.{List, [], ◌∷◌}
+use Rattle.std.specs.Ordering.{nat_cmp, match_ordering}
+use Rattle.std.specs.Cmp.Lexicographic.{slice_cmp}
+use Rattle.hub_parties.specs.Rows.{Rows}
+use Rattle.hub_parties.specs.declared.row.SupplierRow.{SupplierRow}
+
+-- a row more, at its place in the order of the GLNs. No row has its GLN yet, so that the case of equal ones never comes.
+abbrev pub put : SupplierRow → List SupplierRow → List SupplierRow
+put row [] = row ∷ []
+put row (first ∷ rest) = match_ordering (slice_cmp nat_cmp row.gln first.gln) (row ∷ first ∷ rest) (row ∷ rest) (first ∷ put row rest)
+
+-- one row after another
+abbrev pub put_all : List SupplierRow → List SupplierRow → List SupplierRow
+put_all [] done = done
+put_all (row ∷ rows) done = put_all rows (put row done)
+
+-- the rows with the suppliers in the order of their GLNs
+abbrev pub in_gln_order : Rows → Rows
+in_gln_order rows = record rows { suppliers = put_all rows.suppliers [] }
