@@ -3,6 +3,7 @@ ghost use Rattle.hub_app.specs.Relay.{AreRelayWords};
 
 use crate::{
     RelayFault, RelayWords, TextFault, check_run, read_register_text, relay_run, relay_text,
+    show_run,
 };
 use edi_envelope::{EnvelopeFault, Moment, open};
 use edi_tokens::{OfRead, OfWrite, Sink, Source, TokenFault, body_text, read_all};
@@ -271,5 +272,54 @@ fn the_text_of_a_register_is_read(rt: HostRuntime) -> Result<(), Fail> {
         read_register_text(alloc, &mut broken).err(),
         Some(TextFault::File)
     );
+    Ok(())
+}
+
+const SHOWN: &[u8] =
+    b"service component : element + decimal . release ? terminator '\ninterchange 1001\n  sender 5412345000013\n  recipient 5412345000006\n  prepared 250603 0915\n  messages 1\nmessage 1\n  type ORDERS\n  order 128576\n  buyer 5412345000013\n  supplier 4012345500004\n  line 1 item 04000862141404 ordered 48\n";
+
+#[test]
+fn an_order_is_shown(rt: HostRuntime) -> Result<(), Fail> {
+    let alloc = rt.alloc();
+    for (input, status, told) in [
+        (ORDERS, 0, SHOWN),
+        (&ORDERS[..200], 1, b"refused E04 text cut\n".as_slice()),
+    ] {
+        let mut out = OfWrite::new(Vec::new(alloc));
+        let mut err = OfWrite::new(Vec::new(alloc));
+        assert_eq!(rt;
+            show_run(alloc, &mut OfRead::new(input), &mut out, &mut err),
+            status
+        );
+        assert_eq!(rt; out.into_inner().as_slice(), told);
+        assert!(rt; err.into_inner().is_empty());
+    }
+    Ok(())
+}
+
+#[test]
+fn lines_whose_write_fails_midway(rt: HostRuntime) -> Result<(), Fail> {
+    let alloc = rt.alloc();
+    assert_eq!(rt; SHOWN.len(), 291);
+    for (room, answers_error, status) in [
+        (0usize, true, 3),
+        (100, true, 3),
+        (290, false, 3),
+        (291, true, 0),
+    ] {
+        let mut out = Slow {
+            taken: Vec::new(alloc),
+            room,
+            answers_error,
+        };
+        let mut err = OfWrite::new(Vec::new(alloc));
+        assert_eq!(rt;
+            show_run(alloc, &mut OfRead::new(ORDERS), &mut out, &mut err),
+            status
+        );
+        assert_eq!(rt; Some(out.taken.as_slice()), SHOWN.get(..room));
+        let told: &[u8] = if status == 0 { b"" } else { b"file\n" };
+        assert_eq!(rt; err.into_inner().as_slice(), told);
+    }
     Ok(())
 }
