@@ -1,32 +1,16 @@
 """The cases of the built program: words, standard input, and the expected standard output, standard error and status."""
 import os
 import sys
-from dataclasses import dataclass, field
 
 sys.path.insert(0, os.path.join(os.path.dirname(os.path.abspath(__file__)), "..", "bench"))
+import goods
 import loads
+import orders
+import shown
+from case import Case
 from envelopes import ENVELOPES, HEAD, MESSAGE, ORDERS
 from registers import ALPHA, BETA, HUB, REGISTERS, RETAILER, of_prefixes, register
 from texts import TEXT_LIMIT, TEXTS
-
-
-@dataclass
-class Case:
-    name: str
-    words: list
-    input: bytes = b""
-    output: object = b""
-    error: object = b""
-    status: int = 0
-    # where standard output goes, if not to the test, as to a full device
-    output_to: str = ""
-    # standard input is a folder, so that each read fails
-    input_is_folder: bool = False
-    # the most memory that the program may have, in bytes
-    memory: int = 0
-    # files in the folder in which the program runs
-    files: dict = field(default_factory=dict)
-
 
 OWNER = ALPHA
 
@@ -179,7 +163,6 @@ MEMORY = [
 ]
 
 
-
 def example(name):
     with open(os.path.join(os.path.dirname(os.path.abspath(__file__)), "..", "examples", name), encoding="latin-1", newline="") as it:
         return it.read()
@@ -269,4 +252,134 @@ ENVELOPE_CASES = [
 
 TEXT_CASES = [refused(name, source, code) for name, source, code in TEXTS]
 
-CASES = RELAY + CUTS + MEMORY + EXAMPLES + CHECK + REGISTER_CASES + ENVELOPE_CASES + TEXT_CASES
+
+def show(name, source, lines, status=0, **more):
+    """A case of `show` whose lines stand here in full."""
+    source = source if isinstance(source, bytes) else source.encode()
+    return Case(f"show: {name}", ["show"], source, "".join(line + "\n" for line in lines).encode(), status=status, **more)
+
+
+def refused_whole(case):
+    """The case of `show` for a case of `relay` that is refused."""
+    code = case.error.decode().removeprefix("refused ").removesuffix("\n")
+    return show(case.name, case.input, shown.refusal(code), 1)
+
+
+ALL_TYPES = [
+    orders.ORDER,
+    orders.RESPONSE,
+    goods.DESPATCH,
+    shown.edited(goods.RECEIPT, "LIN+2++4000862141411:SRV'QTY+194:3'", ""),
+]
+
+
+def in_a_row(*parts, marks=""):
+    """An interchange of these messages, each from UNH up to where UNT stands, numbered from 1."""
+    body = "".join(shown.closed(part.replace("UNH+1+", f"UNH+{number}+"), number) for number, part in enumerate(parts, 1))
+    return f"{marks}{shown.HEAD}{body}UNZ+{len(parts)}+1001'"
+
+
+ALL_LINES = """\
+service component : element + decimal . release ? terminator '
+interchange 1001
+  sender 5412345000013
+  recipient 5412345000006
+  prepared 250603 0915
+  messages 4
+message 1
+  type ORDERS
+  order 128576
+  buyer 5412345000013
+  supplier 4012345500004
+  line 1 item 04000862141404 ordered 48
+message 2
+  type ORDRSP
+  response R1
+  buyer 5412345000013
+  supplier 4012345500004
+  answers 128576
+  line - item 04000862141404 changed 36
+message 3
+  type DESADV
+  despatch DA1
+  buyer 5412345000013
+  supplier 4012345500004
+  unit 340123455000000012
+    item 04000862141404 despatched 12 line - order 128576
+message 4
+  type RECADV
+  receipt G1
+  buyer 5412345000013
+  supplier 4012345500004
+  unit 340123455000000012
+    item 04000862141404 accepted 10 returned 1 destroyed 0
+""".splitlines()
+
+
+def said(name, parts, messages, marks="", line=shown.USUAL_MARKS):
+    """A case of several messages, and the lines of each."""
+    kinds = [shown.kind_of(part) for part in parts]
+    return shown.shown(name, in_a_row(*parts, marks=marks), shown.Interchange(service=line, kinds=kinds), messages)
+
+
+# A right message of each type from BGM on, as the header names the supplier.
+FROM_BGM = [
+    (
+        "ORDERS",
+        "BGM+220+128576+9'DTM+137:20250603:102'NAD+BY+5412345000013::9'NAD+SU+4012345500004::9'LIN+1++4000862141404:SRV'QTY+21:48'UNS+S'CNT+2:1'",
+        orders.order(),
+    ),
+    (
+        "ORDRSP",
+        "BGM+231+R1+4'DTM+137:20250603:102'RFF+ON:128576'NAD+BY+5412345000013::9'NAD+SU+4012345500004::9'LIN+1+3+4000862141404:SRV'QTY+113:36'UNS+S'",
+        orders.response("line - item 04000862141404 changed 36"),
+    ),
+    (
+        "DESADV",
+        "BGM+351+DA1+9'DTM+137:20250604:102'RFF+ON:128576'NAD+BY+5412345000013::9'NAD+SU+4012345500004::9'CPS+1'PAC+1'PCI+33E'GIN+BJ+340123455000000012'LIN+1++4000862141404:SRV'QTY+12:12'",
+        goods.despatch(),
+    ),
+    (
+        "RECADV",
+        "BGM+632+G1+9'DTM+137:20250605:102'NAD+BY+5412345000013::9'NAD+SU+4012345500004::9'CPS+1'GIN+BJ+340123455000000012'LIN+1++4000862141404:SRV'QTY+194:10'",
+        goods.advice("receipt", "G1", [goods.SSCC, goods.received(10, 0, 0)]),
+    ),
+]
+
+NAMED = [
+    shown.edited(orders.RESPONSE, "UNS+S'", "RFF+ON:128576:1'UNS+S'"),
+    shown.edited(goods.DESPATCH, "QTY+12:12'", "QTY+12:12'RFF+ON:128577:7'"),
+]
+
+SHOW = [
+    show("all four types", in_a_row(*ALL_TYPES), ALL_LINES),
+    said(
+        "one of three messages is refused",
+        [ALL_TYPES[0], shown.edited(ALL_TYPES[1], "QTY+113:36'", "QTY+113:3x'"), ALL_TYPES[2]],
+        [orders.order(), shown.refusal("M08"), goods.despatch()],
+    ),
+    said(
+        "the lines of an order are named",
+        NAMED,
+        [orders.response("line 1 item 04000862141404 changed 36"), goods.despatch(goods.despatched(12, 7, "128577"))],
+    ),
+    *(shown.told(f"the header of {kind}", f"UNH+1+{kind}:D:01B:UN:EAN010'{behind}", lines) for kind, behind, lines in FROM_BGM),
+    said("no release character", ALL_TYPES[:1], [orders.order()], "UNA:+.  '", shown.USUAL_MARKS.replace("release ?", "release none")),
+    said("another decimal mark", ALL_TYPES[:1], [orders.order()], "UNA:+,? '", shown.USUAL_MARKS.replace("decimal .", "decimal ,")),
+    said("no message", [], []),
+    said("a type that is none of the four", [ALL_TYPES[0].replace("ORDERS", "INVOIC")], [shown.refusal("M01")]),
+    show("a sender of other bytes", in_a_row().replace(RETAILER, "caf\xe9 1"), [*ALL_LINES[:2], "  sender caf\xe9 1", *ALL_LINES[3:5], "  messages 0"]),
+    *(refused_whole(case) for case in RELAY + CUTS if case.words[:1] == ["relay"] and case.status == 1),
+    Case("show: a failed read", ["show"], input_is_folder=True, error=b"file\n", status=3),
+    Case("show: a failed write", ["show"], in_a_row(*ALL_TYPES).encode(), output_to="/dev/full", error=b"file\n", status=3),
+    *(
+        Case(f"show: want of memory, {mib} MiB in all", ["show"], loads.many_orders(TEXT_LIMIT), error=b"memory\n", status=3, memory=mib << 20)
+        for mib in (4, 6, 8, 10, 12, 16)
+    ),
+    Case("the help of show", ["show", "--help"], output=lambda it: b"Usage: edihub show" in it and b"refused M08 quantity" in it),
+    Case("the help of the program names show", ["--help"], output=lambda it: b"show" in it),
+    wrong_words("a word too many for show", ["show", "more"]),
+    wrong_words("an option for show", ["show", "--hub", HUB]),
+]
+
+CASES = RELAY + CUTS + MEMORY + EXAMPLES + CHECK + REGISTER_CASES + ENVELOPE_CASES + TEXT_CASES + SHOW + orders.CASES + goods.CASES

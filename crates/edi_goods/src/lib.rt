@@ -13,6 +13,3 @@ mod units;
 pub use despatch::{Despatch, DespatchLine, Unit};
 pub use edi_messages::MessageFault;
 pub use receipt::{Receipt, ReceiptLine, ReceiptUnit};
-
-#[cfg(test)]
-mod tests;

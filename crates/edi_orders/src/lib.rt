@@ -10,6 +10,3 @@ mod response;
 pub use edi_messages::{MessageFault, supplier_of};
 pub use order::{Order, OrderLine};
 pub use response::{Answer, AnswerLine, LineAnswer, Response};
-
-#[cfg(test)]
-mod tests;

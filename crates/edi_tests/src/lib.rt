@@ -6,8 +6,14 @@ mod base;
 #[cfg(test)]
 mod envelope;
 #[cfg(test)]
+mod goods;
+#[cfg(test)]
 mod identifiers;
 #[cfg(test)]
 mod messages;
+#[cfg(test)]
+mod orders;
+#[cfg(test)]
+mod show;
 #[cfg(test)]
 mod tokens;

@@ -4,7 +4,7 @@
 use clap::Error;
 use clap::error::ErrorKind;
 use edi_tokens::{OfRead, OfWrite};
-use hub_app::{Words, check_run, read_register_text, read_words, relay_run};
+use hub_app::{Words, check_run, read_register_text, read_words, relay_run, show_run};
 use std::fmt::Display;
 use std::fs::File;
 use std::process::ExitCode;
@@ -56,6 +56,12 @@ fn run(rt: &HostRuntime, words: &[String]) -> u8 {
         Ok(Words::Relay(relay)) => relay_run(
             rt.alloc(),
             &relay,
+            &mut OfRead::new(rt.stdin()),
+            &mut OfWrite::new(rt.stdout()),
+            &mut OfWrite::new(rt.stderr()),
+        ),
+        Ok(Words::Show) => show_run(
+            rt.alloc(),
             &mut OfRead::new(rt.stdin()),
             &mut OfWrite::new(rt.stdout()),
             &mut OfWrite::new(rt.stderr()),

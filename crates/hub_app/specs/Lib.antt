@@ -2,4 +2,5 @@ pub mod Check
 pub mod Exit
 pub mod Relay
 pub mod Run
+pub mod Show
 pub mod Words

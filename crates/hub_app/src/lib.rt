@@ -5,9 +5,11 @@ mod check;
 mod exit;
 mod relay;
 mod run;
+mod show;
 mod words;
 
 pub use check::{TextFault, check_run, read_register_text};
 pub use relay::{RelayFault, RelayWords, relay_text};
 pub use run::relay_run;
+pub use show::show_run;
 pub use words::{CheckWords, Words, read_words};

@@ -15,7 +15,7 @@ use edi_tokens::{ReadFault, Sink, Source, WriteFault, read_to_limit, write_bytes
 use std::alloc::Global;
 
 /// One byte more than the longest text is read, so that a longer one shows.
-const READ_LIMIT: usize = 1_048_577;
+pub(crate) const READ_LIMIT: usize = 1_048_577;
 
 // Writes the line that a refusal prints.
 fn write_refusal<E: Sink>(fault: RelayFault, err: &mut E) -> Result<(), WriteFault>

@@ -23,6 +23,7 @@ pub struct CheckWords {
 pub enum Words {
     Check(CheckWords),
     Relay(RelayWords),
+    Show,
 }
 
 // An option that has to be given, with one value.
@@ -98,12 +99,41 @@ fn check_command<'a>(alloc: Global) -> Result<Command<'a>, AllocError> {
         .arg(option(alloc, "register", "FILE", "The register, a TOML file"))
 }
 
+const SHOW: &str = "Reads an interchange on standard input, and prints in lines what it says";
+
+const SHOW_HELP: &str = "Of an interchange with one order it prints:
+
+  service component : element + decimal . release ? terminator '
+  interchange 1001
+    sender 5412345000013
+    recipient 5412345000006
+    prepared 250603 0915
+    messages 1
+  message 1
+    type ORDERS
+    order 128576
+    buyer 5412345000013
+    supplier 4012345500004
+    line 1 item 04000862141404 ordered 48
+
+A message that is refused has one line behind its type, as 'refused M08 quantity'. Where the whole
+is refused, one line is all, as 'refused E12 count of segments'.
+
+Exit status: 0 nothing is refused; 1 the text, the interchange or a message is refused; 2 wrong words; 3 a failed read or write, or want of memory";
+
+fn show_command<'a>(alloc: Global) -> Command<'a> {
+    Command::new(alloc, "show")
+        .about(SHOW)
+        .after_help(SHOW_HELP)
+}
+
 fn program<'a>(alloc: Global) -> Result<Command<'a>, AllocError> {
     Command::new(alloc, "edihub")
         .about("The EDI hub of one retailer (GS1 EANCOM 2002, ISO 9735 syntax version 3)")
         .subcommand_required(true)
         .subcommand(check_command(alloc)?)?
-        .subcommand(relay_command(alloc)?)
+        .subcommand(relay_command(alloc)?)?
+        .subcommand(show_command(alloc))
 }
 
 // Whether a text is so many digits.
@@ -150,6 +180,7 @@ pub fn read_words<'a, S: AsStr>(alloc: Global, words: &'a [S]) -> Result<Words, 
             Some(relay) => Ok(Words::Relay(relay)),
             None => Err(program.error(ErrorKind::ValueValidation, RELAY_LIMITS)?),
         },
+        Some(("show", _)) => Ok(Words::Show),
         _ => Err(program.error(ErrorKind::MissingSubcommand, "no command is named")?),
     }
 }

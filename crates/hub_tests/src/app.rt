@@ -3,7 +3,9 @@ ghost use Rattle.hub_app.specs.Relay.{AreRelayWords};
 
 use edi_envelope::Moment;
 use edi_tokens::{Sink, Source};
-use hub_app::{RelayWords, TextFault, check_run, read_register_text, relay_run, relay_text};
+use hub_app::{
+    RelayWords, TextFault, check_run, read_register_text, relay_run, relay_text, show_run,
+};
 use std::alloc::Global;
 use std::io;
 use std::test::Fail;
@@ -208,6 +210,57 @@ fn a_run_reads_writes_and_answers_its_status(rt: HostRuntime) -> Result<(), Fail
         let printed = MAIL.get(..run.printed).ok_or("a front")?;
         let want = (run.status, printed, run.told.as_bytes());
         assert_eq!(rt; found, want, "{}", run.name);
+    }
+    Ok(())
+}
+
+const SHOWN: &[u8] =
+    b"service component : element + decimal . release ? terminator '\ninterchange 1001\n  sender 5412345000013\n  recipient 5412345000006\n  prepared 250603 0915\n  messages 1\nmessage 1\n  type ORDERS\n  order 128576\n  buyer 5412345000013\n  supplier 4012345500004\n  line 1 item 04000862141404 ordered 48\n";
+
+const CUT_SHOWN: &[u8] = b"refused E04 text cut\n";
+
+// Runs of `show` over a front of the order: whether the read behind it fails, how many bytes the output takes, and whether the
+// next write fails; the status, what is printed of which lines, and what is told of a fault.
+type ShowRun = (
+    usize,
+    bool,
+    usize,
+    bool,
+    u8,
+    &'static [u8],
+    usize,
+    &'static str,
+);
+
+static SHOW_RUNS: [ShowRun; 8] = [
+    (255, false, usize::MAX, false, 0, SHOWN, 291, ""),
+    (200, false, usize::MAX, false, 1, CUT_SHOWN, 21, ""),
+    (255, true, usize::MAX, false, 3, SHOWN, 0, "file\n"),
+    (255, false, 0, true, 3, SHOWN, 0, "file\n"),
+    (255, false, 100, true, 3, SHOWN, 100, "file\n"),
+    (255, false, 290, false, 3, SHOWN, 290, "file\n"),
+    (255, false, 291, true, 0, SHOWN, 291, ""),
+    (200, false, 20, false, 3, CUT_SHOWN, 20, "file\n"),
+];
+
+#[test]
+fn an_order_is_shown(rt: HostRuntime) -> Result<(), Fail> {
+    let alloc = rt.alloc();
+    for (length, fails, room, write_fails, status, lines, printed, told) in &SHOW_RUNS {
+        let mut input = Brittle {
+            left: ORDERS.get(..*length).ok_or("a front")?,
+            fails: *fails,
+        };
+        let mut out = room_for(alloc, *room, *write_fails);
+        let mut err = room_for(alloc, usize::MAX, false);
+        let answered = show_run(alloc, &mut input, &mut out, &mut err);
+        let found = (answered, out.taken.as_slice(), err.taken.as_slice());
+        let want = (
+            *status,
+            lines.get(..*printed).ok_or("a front")?,
+            told.as_bytes(),
+        );
+        assert_eq!(rt; found, want, "{length} bytes, room for {room}");
     }
     Ok(())
 }

@@ -1,0 +1,32 @@
+-- The lines of messages.
+use Rattle.std.specs.Prelude.{ℕ, ◌+◌, List, [], ◌∷◌, ◌++◌, codes}
+use Rattle.std.specs.Fmt.{decimal}
+use Rattle.edi_messages.specs.Fault.{code_text}
+use Rattle.edi_messages.specs.declared.fault.MessageFault.{MessageFault}
+use Rattle.edi_show.specs.declared.content.Content.{Content}
+use Rattle.edi_show.specs.declared.content.Content.TheVariants.{Order, Response, Despatch, Receipt, Refused}
+use Rattle.edi_show.specs.declared.content.ShownMessage.{ShownMessage}
+use Rattle.edi_show.specs.Fault.{message_words}
+use Rattle.edi_show.specs.Goods.{despatch_lines, receipt_lines}
+use Rattle.edi_show.specs.Lines.{line}
+use Rattle.edi_show.specs.Orders.{order_lines, response_lines}
+
+-- the line of a message that is refused
+unfoldable pub fault_line : MessageFault → List ℕ
+fault_line fault = codes "  refused " ++ (code_text fault ++ (codes " " ++ (message_words fault ++ codes "\n")))
+
+abbrev pub content_lines : Content → List ℕ
+content_lines (Order order) = order_lines order
+content_lines (Response response) = response_lines response
+content_lines (Despatch despatch) = despatch_lines despatch
+content_lines (Receipt receipt) = receipt_lines receipt
+content_lines (Refused fault) = fault_line fault
+
+unfoldable pub message_lines : ℕ → ShownMessage → List ℕ
+message_lines number message =
+    (codes "message " ++ (decimal number ++ codes "\n")) ++ (line (codes "  type ") message.kind ++ content_lines message.content)
+
+-- the messages in their order, numbered from a number on
+abbrev pub messages_lines : ℕ → List ShownMessage → List ℕ
+messages_lines number [] = []
+messages_lines number (message ∷ messages) = message_lines number message ++ messages_lines (number + 1) messages

@@ -1,0 +1,60 @@
+-- What a text says, in lines.
+use Rattle.std.specs.Prelude.{ℕ, List, [], ◌∷◌, ◌++◌, length, codes, Option, Some, None}
+use Rattle.std.specs.Fmt.{decimal}
+use Rattle.edi_tokens.specs.declared.segment.Service.{Service}
+use Rattle.edi_envelope.specs.declared.interchange.Head.{Head}
+use Rattle.edi_show.specs.declared.fault.WholeFault.{WholeFault}
+use Rattle.edi_show.specs.declared.shown.Shown.{Shown}
+use Rattle.edi_show.specs.declared.shown.Shown.TheVariants.{Refused, Interchange}
+use Rattle.edi_show.specs.declared.shown.ShownInterchange.{ShownInterchange}
+use Rattle.edi_show.specs.Fault.{whole_code, whole_words}
+use Rattle.edi_show.specs.Lines.{line}
+use Rattle.edi_show.specs.Messages.{messages_lines}
+
+-- a name and a character
+unfoldable pub mark_text : List ℕ → ℕ → List ℕ
+mark_text name mark = name ++ mark ∷ []
+
+unfoldable pub release_text : Option ℕ → List ℕ
+release_text (Some release) = mark_text (codes " release ") release
+release_text None = codes " release none"
+
+-- the separators
+unfoldable pub separators_text : Service → List ℕ
+separators_text service =
+    codes "service" ++ (mark_text (codes " component ") service.component ++ mark_text (codes " element ") service.element)
+
+-- the decimal mark and the release character
+unfoldable pub signs_text : Service → List ℕ
+signs_text service = mark_text (codes " decimal ") service.decimal ++ release_text service.release
+
+-- the line of the service characters
+unfoldable pub service_line : Service → List ℕ
+service_line service = separators_text service ++ (signs_text service ++ (mark_text (codes " terminator ") service.terminator ++ codes "\n"))
+
+-- the line of the date and the time of preparation
+unfoldable pub prepared_line : Head → List ℕ
+prepared_line head = codes "  prepared " ++ (head.date ++ line (codes " ") head.time)
+
+-- the lines of the header
+unfoldable pub header_lines : Head → List ℕ
+header_lines head =
+    line (codes "interchange ") head.reference
+    ++ (line (codes "  sender ") head.sender ++ (line (codes "  recipient ") head.recipient ++ prepared_line head))
+
+-- the line of the number of messages
+unfoldable pub count_line : ℕ → List ℕ
+count_line count = codes "  messages " ++ (decimal count ++ codes "\n")
+
+unfoldable pub interchange_lines : ShownInterchange → List ℕ
+interchange_lines interchange =
+    service_line interchange.service
+    ++ (header_lines interchange.head ++ (count_line (length interchange.messages) ++ messages_lines 1 interchange.messages))
+
+-- the one line of a text that is refused as a whole
+unfoldable pub fault_line : WholeFault → List ℕ
+fault_line fault = codes "refused " ++ (whole_code fault ++ (codes " " ++ (whole_words fault ++ codes "\n")))
+
+abbrev pub shown_lines : Shown → List ℕ
+shown_lines (Refused fault) = fault_line fault
+shown_lines (Interchange interchange) = interchange_lines interchange

@@ -1,0 +1,96 @@
+//! Faults, and their names in words.
+ghost use Rattle.std.specs.Prelude.{◌≡◌};
+ghost use Rattle.edi_show.specs.Fault as spec;
+
+use edi_envelope::EnvelopeFault;
+use edi_messages::MessageFault;
+use edi_tokens::TokenFault;
+
+/// Why a text is refused as a whole.
+#[derive(Clone, Copy, Debug, PartialEq, Eq)]
+pub enum WholeFault {
+    /// The text spells no segments.
+    Token(TokenFault),
+    /// The segments are no interchange.
+    Envelope(EnvelopeFault),
+}
+
+// The name of a fault of a text.
+fn token_words(fault: TokenFault) -> &'static str
+    ensures { result.now ≡ spec.token_words fault }
+{
+    match fault {
+        TokenFault::TooLong => "text too long",
+        TokenFault::ServiceString => "service string",
+        TokenFault::Byte => "byte in a segment",
+        TokenFault::Cut => "text cut",
+        TokenFault::Tag => "tag",
+        TokenFault::LongSegment => "segment too long",
+        TokenFault::Read => "read",
+        TokenFault::Memory => "memory",
+    }
+}
+
+// The name of a fault of an envelope.
+fn envelope_words(fault: EnvelopeFault) -> &'static str
+    ensures { result.now ≡ spec.envelope_words fault }
+{
+    match fault {
+        EnvelopeFault::InterchangeFrame => "frame of the interchange",
+        EnvelopeFault::InterchangeHeader => "header of the interchange",
+        EnvelopeFault::MessageFrame => "frame of a message",
+        EnvelopeFault::MessageHeader => "header of a message",
+        EnvelopeFault::SegmentCount => "count of segments",
+        EnvelopeFault::MessageReference => "message reference",
+        EnvelopeFault::MessageCount => "count of messages",
+        EnvelopeFault::ControlReference => "control reference",
+        EnvelopeFault::RepeatedReference => "repeated message reference",
+        EnvelopeFault::TestIndicator => "test indicator",
+        EnvelopeFault::TooManyMessages => "too many messages",
+        EnvelopeFault::CharacterSet => "character set",
+        EnvelopeFault::Memory => "memory",
+    }
+}
+
+/// The name of a fault of a message, as `quantity` for M08; `memory` for want of memory.
+pub(crate) fn message_words(fault: MessageFault) -> &'static str
+    ensures { result.now ≡ spec.message_words fault }
+{
+    match fault {
+        MessageFault::MessageType => "message type",
+        MessageFault::Beginning => "beginning of the message",
+        MessageFault::Function => "message function",
+        MessageFault::Date => "document date",
+        MessageFault::Parties => "parties",
+        MessageFault::Summary => "section control",
+        MessageFault::Line => "line",
+        MessageFault::Quantity => "quantity",
+        MessageFault::Reference => "reference to an order",
+        MessageFault::Unit => "despatch unit",
+        MessageFault::Control => "control count",
+        MessageFault::NoLine => "no line",
+        MessageFault::Memory => "memory",
+    }
+}
+
+impl WholeFault {
+    /// The code that is printed, as `E12`.
+    pub fn code(self) -> &'static str
+        ensures { result.now ≡ spec.whole_code self }
+    {
+        match self {
+            WholeFault::Token(fault) => fault.code(),
+            WholeFault::Envelope(fault) => fault.code(),
+        }
+    }
+
+    /// The name in words, as `count of segments` for E12.
+    pub fn words(self) -> &'static str
+        ensures { result.now ≡ spec.whole_words self }
+    {
+        match self {
+            WholeFault::Token(fault) => token_words(fault),
+            WholeFault::Envelope(fault) => envelope_words(fault),
+        }
+    }
+}

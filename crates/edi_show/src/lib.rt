@@ -1,0 +1,16 @@
+//! What an interchange says, as a value and in plain lines: its service characters, its header, and each message as a
+//! record or with its fault.
+#![tactic(auto)]
+
+mod content;
+mod fault;
+mod goods;
+mod lines;
+mod messages;
+mod orders;
+mod shown;
+mod text;
+
+pub use content::{Content, ShownMessage};
+pub use fault::WholeFault;
+pub use shown::{Shown, ShownInterchange, show_text};

@@ -1,0 +1,84 @@
+//! What the text of an interchange says.
+ghost use Rattle.std.specs.Prelude.{◌≡◌, IfOk};
+ghost use Rattle.std.specs.List.{list_any};
+ghost use Rattle.edi_show.specs.Content.{is_refused};
+ghost use Rattle.edi_show.specs.Shown as spec;
+
+use crate::content::{ShownMessage, shown_messages};
+use crate::fault::WholeFault;
+use edi_envelope::{EnvelopeFault, Head, open};
+use edi_tokens::{
+    Items, MemoryFault, Service, TokenFault, Tokens, read_all, reading_is_the_grammar,
+};
+use std::alloc::{AllocError, Global};
+
+/// What a text says.
+#[derive(Debug, Drop)]
+pub enum Shown {
+    /// The text is refused as a whole.
+    Refused(WholeFault),
+    /// The text is an interchange.
+    Interchange(ShownInterchange),
+}
+
+/// An interchange, with what its messages say.
+#[derive(Debug, Drop)]
+pub struct ShownInterchange {
+    /// The service characters of the text.
+    pub service: Service,
+    /// What UNB says.
+    pub head: Head,
+    /// The messages, in their order.
+    pub messages: Items<ShownMessage>,
+}
+
+// What the segments of a text say.
+fn shown_tokens(alloc: Global, tokens: Tokens) -> Result<Shown, MemoryFault>
+    ensures { IfOk result (λ shown. shown ≡ spec.shown_tokens tokens) }
+{
+    let service = tokens.service;
+    let interchange = match open(alloc, tokens) {
+        Ok(interchange) => interchange,
+        Err(EnvelopeFault::Memory) => return Err(AllocError),
+        Err(fault) => return Ok(Shown::Refused(WholeFault::Envelope(fault))),
+    };
+    let messages = shown_messages(alloc, interchange.messages.as_slice())?;
+    Ok(Shown::Interchange(ShownInterchange {
+        service,
+        head: interchange.head,
+        messages,
+    }))
+}
+
+/// What a text says: the service characters, the header and each message of an interchange; or why the text is refused
+/// as a whole, by the fault that its earliest byte shows, or else by the lowest fault of the interchange. A message that
+/// is refused has the lowest of its faults; the others are as if it were not there.
+pub fn show_text(alloc: Global, text: &[u8]) -> Result<Shown, MemoryFault>
+    ensures { IfOk result (λ shown. shown ≡ spec.shown_of text.now) }
+{
+    reading_is_the_grammar();
+    match read_all(alloc, text) {
+        Ok(tokens) => shown_tokens(alloc, tokens),
+        Err(TokenFault::Memory) => Err(AllocError),
+        Err(fault) => Ok(Shown::Refused(WholeFault::Token(fault))),
+    }
+}
+
+impl Shown {
+    /// Whether anything is refused: the whole text, or one of the messages.
+    pub fn is_refused(&self) -> bool
+        ensures { result ≡ spec.is_refused self.now }
+    {
+        match self {
+            Shown::Refused(_) => true,
+            Shown::Interchange(interchange) => { has_refused(interchange.messages.as_slice()) }
+        }
+    }
+}
+
+// Whether one of the messages is refused.
+fn has_refused(messages: &[ShownMessage]) -> bool
+    ensures { result ≡ list_any is_refused messages.now }
+{
+    messages.iter().any(|message| message.is_refused())
+}

@@ -1,0 +1,26 @@
+use Rattle.std.proofs.Common.{◌∙◌, inl, inr}
+use Rattle.std.proofs.KnownBytes.{Keeps-refl}
+use Rattle.hub_app.proofs.Lines.{stands, is_shown, is_front_shown}
+use Rattle.hub_app.proofs.show.show_run.Goals as goal
+
+pub returns-in-Ok-write_bytes-clause-stands : goal.returns-in-Ok-write_bytes-clause-stands
+returns-in-Ok-write_bytes-clause-stands g c = λ _. stands (g.R.Source.remaining c.args.input.now) _ c.in-Ok.text.items c.in-Ok.ensures.bytes c.in-Ok.ensures.whole
+
+pub returns-in-Ok-write_bytes-clause-shown : goal.returns-in-Ok-write_bytes-clause-shown
+returns-in-Ok-write_bytes-clause-shown g c = λ _. (
+  is_shown (g.R.Source.remaining c.args.input.now) c.in-Ok-told_text.told.status (g.W.Sink.contents c.args.out.now) (g.W.Sink.contents c.write_bytes.new.out)
+      c.in-Ok.text.items c.as_slice.result.now c.as_slice-lines.result.now c.in-Ok.ensures.whole c.as_slice.ensures.value c.in-Ok-told_text.ensures.status
+      (c.as_slice-lines.ensures.value ∙ c.in-Ok-told_text.ensures.lines) c.in-Ok-write_bytes.ensures.ok,
+  Keeps-refl (g.E.Sink.contents c.args.err.now),
+)
+
+pub returns-clause-failed : goal.returns-clause-failed
+returns-clause-failed g c = λ _. inl (
+  c.tell-in-Err.ensures,
+  inr (
+    c.in-Err.ensures.failed,
+    is_front_shown (g.R.Source.remaining c.args.input.now) (g.W.Sink.contents c.args.out.now) (g.W.Sink.contents c.write_bytes.new.out)
+        c.in-Ok.text.items c.as_slice.result.now c.as_slice-lines.result.now c.in-Ok.ensures.whole c.as_slice.ensures.value
+        (c.as_slice-lines.ensures.value ∙ c.in-Ok-told_text.ensures.lines) c.in-Err.ensures.err,
+  ),
+)

@@ -1,0 +1,20 @@
+"""A case of the built program."""
+from dataclasses import dataclass, field
+
+
+@dataclass
+class Case:
+    name: str
+    words: list
+    input: bytes = b""
+    output: object = b""
+    error: object = b""
+    status: int = 0
+    # where standard output goes, if not to the test, as to a full device
+    output_to: str = ""
+    # standard input is a folder, so that each read fails
+    input_is_folder: bool = False
+    # the most memory that the program may have, in bytes
+    memory: int = 0
+    # files in the folder in which the program runs
+    files: dict = field(default_factory=dict)

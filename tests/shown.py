@@ -1,0 +1,147 @@
+"""Cases of `show`: an interchange, and the lines that say what it says."""
+from dataclasses import dataclass, field
+
+from case import Case
+
+RETAILER, SUPPLIER, HUB = "5412345000013", "4012345500004", "5412345000006"
+USUAL_MARKS = "service component : element + decimal . release ? terminator '"
+HEAD = f"UNB+UNOC:3+{RETAILER}:14+{HUB}:14+250603:0915+1001'"
+
+# the names of faults in words, as docs/FORMATS.md has them
+NAMES = {
+    "E01": "text too long",
+    "E02": "service string",
+    "E03": "byte in a segment",
+    "E04": "text cut",
+    "E05": "tag",
+    "E20": "segment too long",
+    "E06": "frame of the interchange",
+    "E07": "header of the interchange",
+    "E10": "frame of a message",
+    "E11": "header of a message",
+    "E12": "count of segments",
+    "E13": "message reference",
+    "E14": "count of messages",
+    "E15": "control reference",
+    "E16": "repeated message reference",
+    "E17": "test indicator",
+    "E18": "too many messages",
+    "E19": "character set",
+    "M01": "message type",
+    "M02": "beginning of the message",
+    "M03": "message function",
+    "M04": "document date",
+    "M05": "parties",
+    "M06": "section control",
+    "M07": "line",
+    "M08": "quantity",
+    "M09": "reference to an order",
+    "M10": "despatch unit",
+    "M11": "control count",
+    "M12": "no line",
+}
+
+
+@dataclass
+class Interchange:
+    """What is shown of an interchange before its messages, and the types of these."""
+    service: str = USUAL_MARKS
+    reference: str = "1001"
+    kinds: list = field(default_factory=list)
+
+    def lines(self):
+        return [
+            self.service,
+            f"interchange {self.reference}",
+            f"  sender {RETAILER}",
+            f"  recipient {HUB}",
+            "  prepared 250603 0915",
+            f"  messages {len(self.kinds)}",
+        ]
+
+
+def refusal(code):
+    """The lines of a message that is refused."""
+    return [f"refused {code} {NAMES[code]}"]
+
+
+def is_refused(lines):
+    return any(line.startswith("refused ") for line in lines)
+
+
+def shown_lines(interchange, messages):
+    """All lines, those of each message behind its number and its type."""
+    lines = interchange.lines()
+    for number, (kind, message) in enumerate(zip(interchange.kinds, messages), 1):
+        lines += [f"message {number}", f"  type {kind}", *(f"  {line}" for line in message)]
+    return "".join(line + "\n" for line in lines).encode()
+
+
+def shown(name, text, interchange, messages):
+    """A case: the text is an interchange, and its messages say these lines."""
+    status = 1 if any(is_refused(lines) for lines in messages) else 0
+    return Case(f"show: {name}", ["show"], text.encode(), shown_lines(interchange, messages), status=status)
+
+
+def closed(segments, number=1):
+    """A message, from UNH up to where UNT stands, with its UNT."""
+    return f"{segments}UNT+{segments.count(chr(39)) + 1}+{number}'"
+
+
+def of_one(segments, service=""):
+    """The interchange of one message."""
+    return f"{service}{HEAD}{closed(segments)}UNZ+1+1001'"
+
+
+def kind_of(segments):
+    """The message type in UNH."""
+    return segments.split("+", 2)[2].split(":")[0]
+
+
+def told(name, segments, lines, service=""):
+    """A case of one message, which says these lines."""
+    marks = f"service component : element + decimal {service[5]} release ? terminator '" if service else USUAL_MARKS
+    return shown(name, of_one(segments, service), Interchange(service=marks, kinds=[kind_of(segments)]), [lines])
+
+
+def taken(name, segments):
+    """A case of one message that is not refused, whatever it says."""
+    start = shown_lines(Interchange(kinds=[kind_of(segments)]), [[]])
+    return Case(
+        f"show: {name}",
+        ["show"],
+        of_one(segments).encode(),
+        lambda it: it.startswith(start) and len(it) > len(start) and b"\n  refused " not in it,
+    )
+
+
+def edited(text, place, words):
+    """The text with other words in the place of its first ones like these."""
+    before, found, behind = text.partition(place)
+    assert found, f"no {place} in {text}"
+    return before + words + behind
+
+
+def rows(table):
+    """The rows of a table in lines, their parts parted by `|`."""
+    return [tuple(row.split("|", 2)) for row in table.split("\n")]
+
+
+def edits(text, table):
+    """A case for each edit of the text by itself. A row is `ok` or a code; the place of the edit; what then stands there."""
+    for want, place, words in table:
+        segments = edited(text, place, words)
+        name = f"{kind_of(text)} with {words} for {place}: {want}"
+        yield taken(name, segments) if want == "ok" else told(name, segments, refusal(want))
+
+
+def both(text, faults, count):
+    """A case for each pair of these edits that leave one another's place: the lower fault is told. There are so many."""
+    cases = [
+        told(f"{kind_of(text)} with {want} beside {code}: {words}, {others}", edited(edited(text, place, words), other, others), refusal(want))
+        for index, (want, place, words) in enumerate(faults)
+        for code, other, others in faults[index + 1 :]
+        if place not in other
+    ]
+    assert len(cases) == count, len(cases)
+    return cases
