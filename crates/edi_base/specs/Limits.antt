@@ -42,5 +42,5 @@ abbrev pub count_of : List ℕ → Option ℕ
 count_of bytes = if is_count bytes then Some (number_of bytes) else None
 
 -- a count that is this number
-abbrev pub counts : List ℕ → ℕ → Bool
-counts bytes n = is_count bytes && (number_of bytes == n)
+abbrev pub is_count_of : List ℕ → ℕ → Bool
+is_count_of bytes n = is_count bytes && (number_of bytes == n)

@@ -12,7 +12,9 @@ mod source;
 
 pub use buffer::Buffer;
 pub use items::{Items, copied};
-pub use limits::{GREATEST, all_printable, are_digits, count_of, counts, has_length, value_of};
+pub use limits::{
+    GREATEST, all_printable, are_digits, count_of, has_length, is_count_of, value_of,
+};
 pub use memory::MemoryFault;
 pub use seen::{Seen, number_twice};
 pub use sink::{OfWrite, Sink, WriteFault, write_bytes};

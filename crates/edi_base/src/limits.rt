@@ -58,9 +58,9 @@ pub fn count_of(bytes: &[u8]) -> Option<u32>
     value_of(bytes)
 }
 
-/// Whether 1 to 6 digits write this number.
-pub fn counts(bytes: &[u8], n: usize) -> bool
-    ensures { result ≡ spec.counts bytes.now n }
+/// Whether 1 to 6 digits write this count.
+pub fn is_count_of(bytes: &[u8], n: usize) -> bool
+    ensures { result ≡ spec.is_count_of bytes.now n }
 {
     match count_of(bytes) {
         Some(count) => count as usize == n,

@@ -1,4 +1,4 @@
 use std::alloc::AllocError;
 
-/// Want of memory.
+/// Out of memory.
 pub type MemoryFault = AllocError;

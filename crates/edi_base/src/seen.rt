@@ -30,8 +30,8 @@ impl<'a> Seen<'a> {
         }
     }
 
-    /// Whether the text comes for the first time.
-    pub fn is_new(&mut self, text: &'a [u8]) -> Result<bool, AllocError>
+    /// Puts the text in, as a set does. Whether it comes for the first time.
+    pub fn insert(&mut self, text: &'a [u8]) -> Result<bool, AllocError>
         ensures new { IfOk result (λ new. new ≡ not (is_among text.now self.old)) }
         ensures seen { OnOk result ((other : List ℕ) → is_among other self.new ≡ (bytes_eq other text.now || is_among other self.old)) }
         ensures err { OnErr result (self.new ≡ self.old) }

@@ -89,7 +89,7 @@ impl<R: Read> Source for OfRead<R> {
 pub enum ReadFault {
     /// The source answered an error.
     Read,
-    /// Want of memory.
+    /// Out of memory.
     Memory,
 }
 

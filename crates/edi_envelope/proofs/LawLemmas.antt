@@ -77,7 +77,7 @@ none_hold p (x ∷ xs) h = rw (h x) (none_hold p xs h)
 rising : Above 0 faults
 rising = (omega arith, (omega arith, (omega arith, (omega arith, (omega arith, (omega arith, (omega arith, (omega arith, (omega arith, (omega arith, (omega arith, (omega arith, tt))))))))))))
 
--- each fault but want of memory is listed
+-- each fault but out of memory is listed
 listed : (f : EnvelopeFault) → (f ≡ Memory) ⊎ Among f faults
 listed InterchangeFrame = inr (inl refl)
 listed InterchangeHeader = inr (inr (inl refl))
@@ -93,7 +93,7 @@ listed TooManyMessages = inr (inr (inr (inr (inr (inr (inr (inr (inr (inr (inr (
 listed CharacterSet = inr (inr (inr (inr (inr (inr (inr (inr (inr (inr (inr (inr (inl refl))))))))))))
 listed Memory = inl refl
 
--- want of memory is no condition
+-- out of memory is no condition
 not_memory : (f : EnvelopeFault) (segments : List Segment) → f ≡ Memory → holds f segments ≡ false
 not_memory f segments e = rw e refl
 

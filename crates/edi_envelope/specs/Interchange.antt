@@ -8,7 +8,7 @@ use Rattle.edi_envelope.specs.declared.fault.EnvelopeFault.{EnvelopeFault}
 use Rattle.edi_envelope.specs.declared.fault.EnvelopeFault.TheVariants.{InterchangeFrame, InterchangeHeader, MessageFrame, MessageHeader, SegmentCount, MessageReference, MessageCount, ControlReference, RepeatedReference, TestIndicator, TooManyMessages, CharacterSet, Memory}
 use Rattle.edi_envelope.specs.declared.interchange.Interchange.{Interchange}
 use Rattle.edi_envelope.specs.Segments.{is_unb, is_unz, component, first_segment, last_segment, between}
-use Rattle.edi_base.specs.Limits.{counts}
+use Rattle.edi_base.specs.Limits.{is_count_of}
 use Rattle.edi_envelope.specs.Header.{is_header, is_test, is_seven_bit_set, head_of}
 use Rattle.edi_envelope.specs.Blocks.{before_message, blocks}
 use Rattle.edi_base.specs.Seen.{has_twice}
@@ -47,7 +47,7 @@ holds MessageFrame segments = not (is_row_of_messages segments)
 holds MessageHeader segments = not (list_all is_within_limits (messages_in segments))
 holds SegmentCount segments = not (list_all is_counted (messages_in segments))
 holds MessageReference segments = not (list_all is_closed (messages_in segments))
-holds MessageCount segments = not (counts (component (last_segment segments) 0 0) (length (messages_in segments)))
+holds MessageCount segments = not (is_count_of (component (last_segment segments) 0 0) (length (messages_in segments)))
 holds ControlReference segments = not (bytes_eq (component (last_segment segments) 1 0) (component (first_segment segments) 4 0))
 holds RepeatedReference segments = has_twice (map reference_of (messages_in segments))
 holds TestIndicator segments = is_test (first_segment segments)

@@ -5,7 +5,7 @@ use Rattle.std.specs.Str.{bytes_eq}
 use Rattle.edi_tokens.specs.declared.segment.Segment.{Segment}
 use Rattle.edi_envelope.specs.declared.interchange.RawMessage.{RawMessage}
 use Rattle.edi_envelope.specs.Segments.{is_unh, is_unt, is_ung, is_une, component, first_segment, last_segment, between}
-use Rattle.edi_base.specs.Limits.{is_count, counts}
+use Rattle.edi_base.specs.Limits.{is_count, is_count_of}
 use Rattle.edi_envelope.specs.Limits.{is_reference, is_identifier}
 
 -- a segment that may not stand between UNH and UNT
@@ -33,7 +33,7 @@ is_within_limits block =
 
 -- the count in UNT is the number of segments, UNH and UNT counted
 abbrev pub is_counted : List Segment → Bool
-is_counted block = counts (component (last_segment block) 0 0) (length block)
+is_counted block = is_count_of (component (last_segment block) 0 0) (length block)
 
 -- the message reference number in UNT is that in UNH
 abbrev pub is_closed : List Segment → Bool

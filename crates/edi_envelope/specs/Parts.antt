@@ -7,7 +7,7 @@ use Rattle.edi_envelope.specs.declared.opening.Parts.{Parts}
 use Rattle.edi_envelope.specs.Segments.{component, first_segment, last_segment, between}
 use Rattle.edi_envelope.specs.declared.fault.EnvelopeFault.{EnvelopeFault}
 use Rattle.edi_envelope.specs.declared.fault.EnvelopeFault.TheVariants.{MessageFrame, MessageHeader, SegmentCount, MessageReference, MessageCount, ControlReference, RepeatedReference, TestIndicator, TooManyMessages, CharacterSet}
-use Rattle.edi_base.specs.Limits.{counts}
+use Rattle.edi_base.specs.Limits.{is_count_of}
 use Rattle.edi_envelope.specs.Header.{is_test}
 use Rattle.edi_base.specs.Seen.{has_twice}
 use Rattle.edi_envelope.specs.Message.{is_block, is_within_limits, is_counted, is_closed, reference_of}
@@ -28,7 +28,7 @@ fault_of_parts parts outside =
     else (if not (list_all is_within_limits parts.blocks.items) then Some MessageHeader
     else (if not (list_all is_counted parts.blocks.items) then Some SegmentCount
     else (if not (list_all is_closed parts.blocks.items) then Some MessageReference
-    else (if not (counts (component parts.unz 0 0) (length parts.blocks.items)) then Some MessageCount
+    else (if not (is_count_of (component parts.unz 0 0) (length parts.blocks.items)) then Some MessageCount
     else (if not (bytes_eq (component parts.unz 1 0) (component parts.unb 4 0)) then Some ControlReference
     else (if has_twice (map reference_of parts.blocks.items) then Some RepeatedReference
     else (if is_test parts.unb then Some TestIndicator

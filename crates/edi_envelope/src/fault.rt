@@ -31,14 +31,14 @@ pub enum EnvelopeFault {
     TooManyMessages,
     /// E19: a byte from 0xA0 on under UNOA or UNOB.
     CharacterSet,
-    /// Want of memory.
+    /// Out of memory.
     Memory,
 }
 
 impl EnvelopeFault {
     ghost use Rattle.edi_envelope.specs.Fault.{code_text};
 
-    /// The code that is printed, as `E12`; `memory` for want of memory.
+    /// The code that is printed, as `E12`; `memory` for out of memory.
     pub fn code(self) -> &'static str
         ensures { result.now ≡ code_text self }
     {

@@ -6,7 +6,7 @@ ghost use Rattle.edi_envelope.specs.Message as spec;
 
 use crate::interchange::RawMessage;
 use crate::limits;
-use edi_base::{Seen, are_digits, copied, counts};
+use edi_base::{Seen, are_digits, copied, is_count_of};
 use edi_tokens::{Items, MemoryFault, Segment};
 use std::alloc::Global;
 
@@ -82,7 +82,7 @@ pub(crate) fn is_within_limits(block: &[Segment]) -> bool
 pub(crate) fn is_counted(block: &[Segment]) -> bool
     ensures { result ≡ spec.is_counted block.now }
 {
-    counts(last_component(block, 0, 0), block.len())
+    is_count_of(last_component(block, 0, 0), block.len())
 }
 
 /// Whether UNT's reference is UNH's.
@@ -98,7 +98,7 @@ pub(crate) fn has_twice(alloc: Global, blocks: &[Items<Segment>]) -> Result<bool
 {
     let mut seen = Seen::new(alloc);
     for block in blocks {
-        if !seen.is_new(reference_of(block.as_slice()))? {
+        if !seen.insert(reference_of(block.as_slice()))? {
             return Ok(true);
         }
     }

@@ -10,7 +10,7 @@ use crate::blocks::cut;
 use crate::fault::EnvelopeFault;
 use crate::interchange::Interchange;
 use crate::{header, message};
-use edi_base::counts;
+use edi_base::is_count_of;
 use edi_tokens::{Items, MemoryFault, Segment, Tokens};
 use std::alloc::Global;
 
@@ -164,7 +164,7 @@ fn later_fault(
         Some(EnvelopeFault::SegmentCount)
     } else if !all_closed(blocks) {
         Some(EnvelopeFault::MessageReference)
-    } else if !counts(parts.unz.component(0, 0), blocks.len()) {
+    } else if !is_count_of(parts.unz.component(0, 0), blocks.len()) {
         Some(EnvelopeFault::MessageCount)
     } else if parts.unz.component(1, 0) != parts.unb.component(4, 0) {
         Some(EnvelopeFault::ControlReference)

@@ -190,7 +190,7 @@ fn has_twice(alloc: Global, ssccs: &[Sscc]) -> Result<bool, MessageFault>
 {
     let mut seen = Seen::new(alloc);
     for sscc in ssccs {
-        if !seen.is_new(sscc.digits())? {
+        if !seen.insert(sscc.digits())? {
             return Ok(true);
         }
     }

@@ -2,7 +2,7 @@
 use Rattle.std.specs.Prelude.{ℕ, Bool, false, not, ◌&&◌, ◌||◌, if◌then◌else◌, List, [], ◌∷◌, length, filter, codes, Option, Some, None}
 use Rattle.std.specs.List.{list_any}
 use Rattle.std.specs.Str.{bytes_eq}
-use Rattle.edi_base.specs.Limits.{counts}
+use Rattle.edi_base.specs.Limits.{is_count_of}
 use Rattle.edi_tokens.specs.declared.segment.Segment.{Segment}
 use Rattle.edi_envelope.specs.Segments.{component}
 use Rattle.edi_messages.specs.Parts.{is_lin, is_uns, only, has_qualified, only_qualified}
@@ -28,7 +28,7 @@ line_count message = length (filter is_lin message)
 -- the number of a CNT (6066) is this one
 abbrev pub is_control_of : ℕ → Option Segment → Bool
 is_control_of count None = false
-is_control_of count (Some control) = counts (component control 0 1) count
+is_control_of count (Some control) = is_count_of (component control 0 1) count
 
 -- no control of the number of line items (CNT with 6069 2), or one, with the number of LIN
 abbrev pub is_controlled : List Segment → Bool

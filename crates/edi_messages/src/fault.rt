@@ -31,14 +31,14 @@ pub enum MessageFault {
     Control,
     /// M12: there is no line.
     NoLine,
-    /// Want of memory.
+    /// Out of memory.
     Memory,
 }
 
 impl MessageFault {
     ghost use Rattle.edi_messages.specs.Fault.{code_text};
 
-    /// The code that is printed, as `M02`; `memory` for want of memory.
+    /// The code that is printed, as `M02`; `memory` for out of memory.
     pub fn code(self) -> &'static str
         ensures { result.now ≡ code_text self }
     {

@@ -4,7 +4,7 @@ ghost use Rattle.edi_messages.specs.Parts as parts;
 ghost use Rattle.edi_messages.specs.Summary as spec;
 
 use crate::parts::{has_lin, has_qualified, is_lin, is_uns, only_qualified};
-use edi_base::counts;
+use edi_base::is_count_of;
 use edi_tokens::Segment;
 
 // The section control, where there is just one.
@@ -61,7 +61,7 @@ pub fn is_controlled(message: &[Segment]) -> bool
         return true;
     }
     match only_qualified(b"CNT", b"2", message) {
-        Some(control) => counts(control.component(0, 1), line_count(message)),
+        Some(control) => is_count_of(control.component(0, 1), line_count(message)),
         None => false,
     }
 }

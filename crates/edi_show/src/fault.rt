@@ -52,7 +52,7 @@ fn envelope_words(fault: EnvelopeFault) -> &'static str
     }
 }
 
-/// The name of a fault of a message, as `quantity` for M08; `memory` for want of memory.
+/// The name of a fault of a message, as `quantity` for M08; `memory` for out of memory.
 pub(crate) fn message_words(fault: MessageFault) -> &'static str
     ensures { result.now ≡ spec.message_words fault }
 {

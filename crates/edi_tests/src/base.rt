@@ -195,7 +195,7 @@ fn a_text_comes_again(rt: HostRuntime) -> Result<(), Fail> {
         (b"a", false),
         (b"", false),
     ] {
-        assert_eq!(rt; seen.is_new(text)?, is_new);
+        assert_eq!(rt; seen.insert(text)?, is_new);
     }
     Ok(())
 }
@@ -230,9 +230,9 @@ fn lengths_and_characters(rt: HostRuntime) {
         ("two digits", are_digits(1, 2, b"09"), true),
         ("a letter", are_digits(1, 2, b"0x"), false),
         ("three digits", are_digits(1, 2, b"123"), false),
-        ("12 counts 12", counts(b"012", 12), true),
-        ("12 counts 13", counts(b"012", 13), false),
-        ("nothing counts 0", counts(b"", 0), false),
+        ("12 counts 12", is_count_of(b"012", 12), true),
+        ("12 counts 13", is_count_of(b"012", 13), false),
+        ("nothing counts 0", is_count_of(b"", 0), false),
     ] {
         assert_eq!(rt; found, want, "{what}");
     }

@@ -22,7 +22,7 @@ pub enum TokenFault {
     LongSegment,
     /// The reader answered an error.
     Read,
-    /// Want of memory.
+    /// Out of memory.
     Memory,
 }
 

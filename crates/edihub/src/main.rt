@@ -10,10 +10,10 @@ use std::fs::File;
 use std::process::ExitCode;
 use std::{env, io};
 
-/// The exit status of wrong words.
+/// The exit status of a usage error.
 const USAGE: u8 = 2;
 
-/// The exit status of a failed read or write, and of want of memory.
+/// The exit status of a failed read or write, and of out of memory.
 const FAILED: u8 = 3;
 
 // Prints a line on standard error. Where that fails, the exit status alone tells.

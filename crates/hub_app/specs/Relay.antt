@@ -41,7 +41,7 @@ mail_texts words mark number [] = []
 mail_texts words mark number (message ∷ messages) =
     mail_text words.hub words.owner words.moment mark number message ++ mail_texts words mark (number + 1) messages
 
--- the fault of a text; want of memory is one for all
+-- the fault of a text; out of memory is one for all
 abbrev pub of_token : TokenFault → RelayFault
 of_token token.Memory = Memory
 of_token fault = Token fault

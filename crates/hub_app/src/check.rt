@@ -23,7 +23,7 @@ const TEXT_LIMIT: usize = 1_048_576;
 pub enum TextFault {
     /// The source failed, is longer than 1,048,576 bytes, or is no UTF-8.
     File,
-    /// Want of memory.
+    /// Out of memory.
     Memory,
 }
 

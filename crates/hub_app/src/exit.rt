@@ -10,7 +10,7 @@ pub(crate) const DONE: u8 = 0;
 /// Something was refused.
 pub(crate) const REFUSED: u8 = 1;
 
-/// A failed read or write, or want of memory.
+/// A failed read or write, or out of memory.
 pub(crate) const FAILED: u8 = 3;
 
 /// Prints a line. Where the writer fails, the exit status alone tells.

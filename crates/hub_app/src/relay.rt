@@ -82,14 +82,14 @@ pub enum RelayFault {
     Token(TokenFault),
     /// The segments are no interchange.
     Envelope(EnvelopeFault),
-    /// Want of memory.
+    /// Out of memory.
     Memory,
 }
 
 impl RelayFault {
     ghost use Rattle.hub_app.specs.Relay.{code_of};
 
-    /// The code that is printed, as `E12`; `memory` for want of memory.
+    /// The code that is printed, as `E12`; `memory` for out of memory.
     pub fn code(self) -> &'static str
         ensures { result.now ≡ code_of self }
     {

@@ -43,7 +43,7 @@ const RELAY_LIMITS: &str =
     "a GLN has 13 digits, --moment is 0 to 4102444799, and --number is 1 to 99999999999001";
 
 const STATUS: &str =
-    "Exit status: 0 done; 1 refused, the code stands on standard error; 2 wrong words; 3 a failed read or write, or want of memory";
+    "Exit status: 0 done; 1 refused, the code stands on standard error; 2 usage error; 3 a failed read or write, or out of memory";
 
 fn relay_command<'a>(alloc: Global) -> Result<Command<'a>, AllocError> {
     Command::new(alloc, "relay")
@@ -90,7 +90,7 @@ Faults, in the order in which they are looked for:
   key          a key is not 8 to 64 visible characters
   overlap I J  the prefix of supplier I begins that of supplier J, or the other way round
 
-Exit status: 0 a register; 1 a fault; 2 wrong words; 3 the file cannot be read, is not UTF-8 or too long, or want of memory";
+Exit status: 0 a register; 1 a fault; 2 usage error; 3 the file cannot be read, is not UTF-8 or too long, or out of memory";
 
 fn check_command<'a>(alloc: Global) -> Result<Command<'a>, AllocError> {
     Command::new(alloc, "check")
@@ -119,7 +119,7 @@ const SHOW_HELP: &str = "Of an interchange with one order it prints:
 A message that is refused has one line behind its type, as 'refused M08 quantity'. Where the whole
 is refused, one line is all, as 'refused E12 count of segments'.
 
-Exit status: 0 nothing is refused; 1 the text, the interchange or a message is refused; 2 wrong words; 3 a failed read or write, or want of memory";
+Exit status: 0 nothing is refused; 1 the text, the interchange or a message is refused; 2 usage error; 3 a failed read or write, or out of memory";
 
 fn show_command<'a>(alloc: Global) -> Command<'a> {
     Command::new(alloc, "show")

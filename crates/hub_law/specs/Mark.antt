@@ -1,4 +1,4 @@
--- Whether want of memory or a fault of the store stopped an input, and where.
+-- Whether running out of memory or a fault of the store stopped an input, and where.
 use Rattle.std.specs.Prelude.{ℕ}
 
 -- Whole: it was not stopped. StoppedEmpty: nothing was done, and the reply is empty. StoppedBare: nothing was done, and the reply

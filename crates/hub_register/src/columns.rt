@@ -63,7 +63,7 @@ pub(crate) fn has_twice(alloc: Global, glns: &[Gln]) -> Result<bool, RegisterFau
 {
     let mut seen = Seen::new(alloc);
     for gln in glns {
-        if !seen.is_new(gln.digits())? {
+        if !seen.insert(gln.digits())? {
             return Ok(true);
         }
     }

@@ -19,7 +19,7 @@ pub enum RegisterFault {
     Key,
     /// The prefixes of two suppliers overlap: one begins the other. Their places among the suppliers, from 1.
     Overlap(usize, usize),
-    /// Want of memory.
+    /// Out of memory.
     Memory,
 }
 

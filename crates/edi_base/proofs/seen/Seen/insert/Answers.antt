@@ -2,7 +2,7 @@ use Rattle.std.proofs.Common.{not, ap, ◌∙◌, ◌||◌, map}
 use Rattle.std.specs.Str.{bytes_eq}
 use Rattle.edi_base.specs.Seen.{is_among}
 use Rattle.edi_base.proofs.Twice.{is_among-insert, contains-text, text_of}
-use Rattle.edi_base.proofs.seen.Seen.is_new.Goals as goal
+use Rattle.edi_base.proofs.seen.Seen.insert.Goals as goal
 
 pub returns-clause-new : goal.returns-clause-new
 returns-clause-new c =
