@@ -138,7 +138,7 @@ const FAILED: Run = Run {
     ..WHOLE
 };
 
-const RUNS: [Run; 10] = [
+static RUNS: [Run; 10] = [
     WHOLE,
     CUT,
     FAILED,

@@ -60,7 +60,7 @@ fn parties_are_found(rt: HostRuntime) -> Result<(), Fail> {
 }
 
 // Parties, keys, and as whom the party may ask with the key.
-const ROLES: [(&str, &[u8], Option<Role>); 11] = [
+static ROLES: [(&str, &[u8], Option<Role>); 11] = [
     (ALPHA, b"alpha-key-1", Some(Role::Supplier)),
     (RETAILER, b"retail-key", Some(Role::Retailer)),
     (ALPHA, b"beta-key-1", None),

@@ -27,7 +27,7 @@ remember 4012345500004 Cancellation C1/ said
 set 4012345500004 128576 1 04000862141404 48 14 12 10 Changed",
 };
 
-const CASES: [CancelCase; 8] = [
+static CASES: [CancelCase; 8] = [
     PART,
     CancelCase {
         name: "all that is open is cancelled",

@@ -54,7 +54,7 @@ set 4012345500004 128576 1 04000862141404 48 0 24 0 Changed
 content 340123455000000012 2 128576 1 4",
 };
 
-const CASES: [DespatchCase; 10] = [
+static CASES: [DespatchCase; 10] = [
     ALL,
     DespatchCase {
         name: "two lines that take more than is open are refused",

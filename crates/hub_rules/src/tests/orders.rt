@@ -32,7 +32,7 @@ line 4012345500004 128576 7 04000862141404 48 48 0 0 Waiting
 line 4012345500004 128576 2 04000862141411 30 30 0 0 Waiting",
 };
 
-const CASES: [OrderCase; 10] = [
+static CASES: [OrderCase; 10] = [
     NEW,
     OrderCase {
         name: "a mailbox entry is numbered behind those there",

@@ -48,7 +48,7 @@ set 340123455000000029 4012345500004 DA1 Received
 receipt 340123455000000029 04000862141404 0 12 0",
 };
 
-const CASES: [ReceiptCase; 12] = [
+static CASES: [ReceiptCase; 12] = [
     BOTH,
     ReceiptCase {
         name: "an advice need not name its buyer",

@@ -34,7 +34,7 @@ const TOO_LITTLE: ResponseCase = ResponseCase {
     want: "B08",
 };
 
-const CASES: [ResponseCase; 21] = [
+static CASES: [ResponseCase; 21] = [
     TOO_LITTLE,
     ResponseCase {
         name: "what is despatched leaves nothing open",
