@@ -27,6 +27,13 @@ fn row(alloc: Global, order: &[u8], line: u32) -> Result<LineRow, Fail> {
     })
 }
 
+fn facts(alloc: Global, order: &[u8], line: u32) -> Result<LineFacts, Fail> {
+    Ok(LineFacts {
+        row: row(alloc, order, line)?,
+        despatched: 12,
+    })
+}
+
 fn is_before(first: &LineFacts, second: &LineFacts) -> bool
     ensures { IsTrue result → facts_cmp first.now second.now ≡ Less }
 {
@@ -42,13 +49,9 @@ fn is_before(first: &LineFacts, second: &LineFacts) -> bool
 fn lines(alloc: Global) -> Result<Items<LineFacts>, Fail>
     ensures { IfOk result (λ lines. Rise lines) }
 {
-    let despatched = 12;
-    let [first, second, third] = [
-        row(alloc, b"128575", 1)?,
-        row(alloc, b"128576", 1)?,
-        row(alloc, b"128576", 2)?,
-    ]
-    .map(|row| LineFacts { row, despatched });
+    let first = facts(alloc, b"128575", 1)?;
+    let second = facts(alloc, b"128576", 1)?;
+    let third = facts(alloc, b"128576", 2)?;
     if !is_before(&first, &second) || !is_before(&first, &third) || !is_before(&second, &third) {
         return Err(Fail::new("lines that do not rise"));
     }
@@ -80,19 +83,26 @@ fn a_book_finds_its_lines(rt: HostRuntime) -> Result<(), Fail> {
     Ok(())
 }
 
+fn orders(alloc: Global) -> Result<Items<Items<u8>>, Fail> {
+    let mut orders = Items::new(alloc);
+    for order in [b"128576", b"128575"] {
+        orders.push(copied(alloc, order)?)?;
+    }
+    Ok(orders)
+}
+
 #[test]
 fn orders_are_asked_for_by_number(rt: HostRuntime) -> Result<(), Fail> {
-    let mut orders = Items::new(rt.alloc());
-    orders.push(copied(rt.alloc(), b"128576")?)?;
-    orders.push(copied(rt.alloc(), b"128575")?)?;
+    let orders = orders(rt.alloc())?;
     let numbers = OrderNumbers::new(rt.alloc(), orders.as_slice())?;
-    for (order, is_there) in [
-        (b"128575".as_slice(), true),
-        (b"128576", true),
-        (b"128577", false),
-        (b"12857", false),
+    for (what, order, is_there) in [
+        ("the second order", b"128575".as_slice(), true),
+        ("the first order", b"128576", true),
+        ("another order", b"128577", false),
+        ("the front of an order", b"12857", false),
     ] {
-        assert_eq!(rt; numbers.has(order), is_there, "{order:?}");
+        let found = numbers.has(order);
+        assert_eq!(rt; found, is_there, "{what}");
     }
     Ok(())
 }

@@ -6,7 +6,7 @@ use hub_judges::judge_response;
 #[derive(Drop)]
 struct ResponseCase {
     name: &'static str,
-    lines: [Line; 3],
+    lines: &'static [Line; 3],
     order: &'static str,
     said: Said,
     want: &'static str,
@@ -28,7 +28,7 @@ const SECOND: Line = ("128576", 2, [48, 36, 0, 0, 12], Answered::Waiting);
 // An answer to line 1 of order 128576, between other orders' lines like it: 48 pieces, of which 12 are despatched.
 const TOO_LITTLE: ResponseCase = ResponseCase {
     name: "less than is despatched is out of range",
-    lines: [BEFORE, WAITING, BEHIND],
+    lines: &[BEFORE, WAITING, BEHIND],
     order: "128576",
     said: Said::Lines(&[(Some(1), ITEM, LineAnswer::Changed(11))]),
     want: "B08",
@@ -60,7 +60,7 @@ set 4012345500004 128576 1 04000862141404 48 36 0 0 Changed",
     },
     ResponseCase {
         name: "a part of what none is despatched of",
-        lines: [
+        lines: &[
             BEFORE,
             ("128576", 1, [48, 48, 0, 0, 0], Answered::Waiting),
             BEHIND,
@@ -73,7 +73,7 @@ set 4012345500004 128576 1 04000862141404 48 36 12 0 Changed",
     },
     ResponseCase {
         name: "a change adds to what is refused",
-        lines: [
+        lines: &[
             BEFORE,
             ("128576", 1, [48, 30, 4, 2, 12], Answered::Waiting),
             BEHIND,
@@ -114,14 +114,14 @@ set 4012345500004 128576 1 04000862141404 48 0 36 0 NotAccepted",
     },
     ResponseCase {
         name: "an answered line is not answered again",
-        lines: [BEFORE, ANSWERED, BEHIND],
+        lines: &[BEFORE, ANSWERED, BEHIND],
         said: Said::Lines(&[(Some(1), ITEM, LineAnswer::Changed(20))]),
         want: "B07",
         ..TOO_LITTLE
     },
     ResponseCase {
         name: "an answer that is there goes before the range",
-        lines: [BEFORE, ANSWERED, BEHIND],
+        lines: &[BEFORE, ANSWERED, BEHIND],
         said: Said::Lines(&[(Some(1), OTHER_ITEM, LineAnswer::Changed(49))]),
         want: "B07",
         ..TOO_LITTLE
@@ -134,7 +134,7 @@ set 4012345500004 128576 1 04000862141404 48 0 36 0 NotAccepted",
     },
     ResponseCase {
         name: "an item of two lines needs a number",
-        lines: [WAITING, SECOND, BEHIND],
+        lines: &[WAITING, SECOND, BEHIND],
         said: Said::Lines(&[(None, ITEM, LineAnswer::Accepted)]),
         want: "B06",
         ..TOO_LITTLE
@@ -150,7 +150,7 @@ set 4012345500004 128576 1 04000862141404 48 0 36 0 NotAccepted",
     },
     ResponseCase {
         name: "lines are set in the order of their answers",
-        lines: [WAITING, SECOND, BEHIND],
+        lines: &[WAITING, SECOND, BEHIND],
         said: Said::Lines(&[
             (Some(2), ITEM, LineAnswer::Accepted),
             (Some(1), ITEM, LineAnswer::Changed(20)),
@@ -163,7 +163,7 @@ set 4012345500004 128576 1 04000862141404 48 8 28 0 Changed",
     },
     ResponseCase {
         name: "a whole refusal refuses what is open",
-        lines: [
+        lines: &[
             BEFORE,
             ("128576", 1, [30, 18, 0, 0, 12], Answered::Waiting),
             BEHIND,
@@ -184,7 +184,7 @@ set 4012345500004 128576 1 04000862141404 48 36 0 0 Accepted",
     },
     ResponseCase {
         name: "a whole answer leaves lines that do not wait",
-        lines: [ANSWERED, SECOND, BEHIND],
+        lines: &[ANSWERED, SECOND, BEHIND],
         said: Said::AllAccepted,
         want: "accepted
 remember 4012345500004 Supplier 1001/7 said
@@ -193,7 +193,7 @@ set 4012345500004 128576 2 04000862141404 48 36 0 0 Accepted",
     },
     ResponseCase {
         name: "a whole answer where no line waits",
-        lines: [BEFORE, ANSWERED, BEHIND],
+        lines: &[BEFORE, ANSWERED, BEHIND],
         said: Said::AllRefused,
         want: "B07",
         ..TOO_LITTLE
@@ -238,7 +238,7 @@ fn verdict(alloc: Global, case: &ResponseCase) -> Result<Verdict, Fail> {
     let row = alpha(alloc)?;
     let retailer = gln(RETAILER)?;
     let response = response(alloc, case)?;
-    let known = known(alloc, case.lines, None)?;
+    let known = known(alloc, *case.lines, None)?;
     let delivery = delivery(alloc)?;
     Ok(judge_response(alloc, &retailer, Some(&row), known, delivery, &response)?)
 }
