@@ -18,4 +18,4 @@ pub use reply::{Outcome, Reply};
 pub use request::{Input, Request};
 pub use sets::views_are_sets;
 pub use sound_acts::acts_stay_sound;
-pub use stops::stops_are_told;
+pub use stops::{stops_are_told, stops_cut_uploads};
