@@ -2,6 +2,7 @@ pub mod Answering
 pub mod Cancelled
 pub mod Despatched
 pub mod Facts
+pub mod Given
 pub mod Messages
 pub mod Once
 pub mod Received

@@ -1,3 +1,4 @@
+pub mod Facts
 pub mod FromFacts
 pub mod Known
 pub mod Totals

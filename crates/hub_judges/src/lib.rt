@@ -5,6 +5,7 @@ mod answers;
 mod cancel;
 mod despatch;
 mod known;
+mod laws;
 mod mail;
 mod order;
 mod party;
@@ -22,6 +23,7 @@ pub use hub_tables::{
     OrderRow, PalletRow, ReceiptRow, RememberedRow, Side,
 };
 pub use known::Known;
+pub use laws::judges_are_given_what_they_ask;
 pub use order::judge_order;
 pub use receipt::judge_receipt;
 pub use response::judge_response;

@@ -3,6 +3,7 @@ pub mod Acts
 pub mod Agreeing
 pub mod Balance
 pub mod Callers
+pub mod Cutting
 mod Examples
 pub mod Judged
 pub mod Overlapping

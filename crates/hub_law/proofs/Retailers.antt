@@ -82,14 +82,14 @@ module _ (register : Rows) (free : PrefixFree (company_prefixes register.supplie
   cancel_named c = cancel (view c.supplier) (supplier_of register.suppliers c.supplier) c
 
   -- Tables stay sound.
-  message_sound : (sent : Sent) (t : Tables) → Sound register.suppliers t → Sound register.suppliers (deliver_named register sent t).1
+  pub message_sound : (sent : Sent) (t : Tables) → Sound register.suppliers t → Sound register.suppliers (deliver_named register sent t).1
   message_sound sent t sound = named_sound register.suppliers t sound _ (message_apart sent t sound) (named sent)
 
   messages_sound : (sents : List Sent) (t : Tables) → Sound register.suppliers t → Sound register.suppliers (in_row (deliver_named register) sents t).1
   messages_sound [] t sound = sound
   messages_sound (sent ∷ sents) t sound = messages_sound sents (deliver_named register sent t).1 (message_sound sent t sound)
 
-  cancelled_sound : (mark : Mark) (c : Cancel) (t : Tables) → Sound register.suppliers t → Sound register.suppliers (cancelled mark (cancel_named c t) t).1
+  pub cancelled_sound : (mark : Mark) (c : Cancel) (t : Tables) → Sound register.suppliers t → Sound register.suppliers (cancelled mark (cancel_named c t) t).1
   cancelled_sound Whole c t sound = named_sound register.suppliers t sound _ (cancel_apart c t sound) c.supplier
   cancelled_sound StoppedEmpty c t sound = sound
   cancelled_sound StoppedBare c t sound = sound

@@ -1,10 +1,10 @@
 -- What one supplier sees and is told, whatever the others do.
-use Rattle.std.specs.Prelude.{◌≡◌, true, [], ◌∷◌, ◌++◌, length, slice_get, Option, Some, None}
+use Rattle.std.specs.Prelude.{◌≡◌, List, true, [], ◌∷◌, ◌++◌, length, slice_get, Option, Some, None}
 use Rattle.gs1_ids.specs.Overlap.{PrefixFree}
 use Rattle.hub_parties.specs.Rows.{Rows, parties_of, company_prefixes, supplier_of, role_of}
 use Rattle.hub_parties.specs.declared.role.Role.TheVariants.{Retailer}
 use Rattle.hub_parties.specs.declared.row.SupplierRow.{SupplierRow}
-use Rattle.hub_tables.specs.Sets.{SameRows}
+use Rattle.hub_tables.specs.Sets.{Rising, SameRows}
 use Rattle.hub_tables.specs.Tables.{Tables, view}
 use Rattle.hub_rules.specs.Sound.{Sound}
 use Rattle.hub_law.specs.Alone.{items, items_of, fold}
@@ -44,3 +44,8 @@ pub record Agree (s : SupplierRow) (first second : Rows) (t u : Tables) (xs ys :
   pub parties : (parties_of first) ≡ (parties_of second)
   pub rows : SameRows (view s.gln t) (view s.gln u)
   pub items : items_of s.gln first xs ≡ items_of s.gln second ys
+
+-- tables are sound, and so rise by their keys
+pub record StaySound (suppliers : List SupplierRow) (t : Tables) : Type 0 where
+  pub sound : Sound suppliers t
+  pub rising : Rising t

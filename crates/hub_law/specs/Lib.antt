@@ -11,5 +11,6 @@ pub mod Remembered
 pub mod Replies
 pub mod Requests
 pub mod StatusText
+pub mod Stops
 pub mod Told
 pub mod Widths

@@ -7,6 +7,7 @@ mod repeats;
 mod reply;
 mod request;
 mod sets;
+mod sound_acts;
 mod stops;
 
 pub use laws::{
@@ -16,4 +17,5 @@ pub use repeats::{accepted_is_repeated, remembered_stays};
 pub use reply::{Outcome, Reply};
 pub use request::{Input, Request};
 pub use sets::views_are_sets;
-pub use stops::stops_are_told;
+pub use sound_acts::acts_stay_sound;
+pub use stops::{stops_are_told, stops_cut_uploads};

@@ -15,6 +15,7 @@ pub mod KeptMail
 pub mod Owned
 pub mod OwnChanges
 pub mod Prefixes
+pub mod Remembering
 pub mod Repeating
 pub mod Rising
 pub mod Verdicts

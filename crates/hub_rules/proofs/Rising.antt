@@ -46,7 +46,7 @@ only_less Less g ne = refl
 only_less Equal g ne = absurd (ne refl)
 only_less Greater g ne = cc
 
-rises_filter : {X : Type 0} (cmp : X → X → Ordering) (p : X → Bool) (xs : List X) → Rises cmp xs → Rises cmp (filter p xs)
+pub rises_filter : {X : Type 0} (cmp : X → X → Ordering) (p : X → Bool) (xs : List X) → Rises cmp xs → Rises cmp (filter p xs)
 rises_filter cmp p [] a = tt
 rises_filter cmp p (x ∷ xs) a = elim (p x) as (λ v. Rises cmp (cond v (x ∷ filter p xs) (filter p xs))) [ true ↦ (all_filter (λ y. cmp x y ≡ Less) p xs a.0, rises_filter cmp p xs a.1) | false ↦ rises_filter cmp p xs a.1 ]
 

@@ -1,9 +1,15 @@
 -- What comes of changes that the rules accept.
-use Rattle.std.specs.Prelude.{◌≡◌, ◌≢◌, ℕ, List}
+use Rattle.std.specs.Prelude.{◌≡◌, ◌≢◌, ◌↔◌, ℕ, List, [], ◌∷◌, Some}
 use Rattle.hub_parties.specs.declared.row.SupplierRow.{SupplierRow}
 use Rattle.hub_tables.specs.Change.{apply_all}
 use Rattle.hub_tables.specs.Tables.{Tables, view}
 use Rattle.hub_tables.specs.declared.change.Change.{Change}
+use Rattle.hub_tables.specs.State.{remembered_of}
+use Rattle.hub_tables.specs.declared.change.Change.TheVariants.{Remember}
+use Rattle.hub_tables.specs.declared.rows.RememberedRow.{RememberedRow}
+use Rattle.hub_rules.specs.RepeatRules.{Reference, remembered}
+use Rattle.hub_rules.specs.declared.verdict.Verdict.{Verdict}
+use Rattle.hub_rules.specs.declared.verdict.Verdict.TheVariants.{Accept}
 use Rattle.hub_rules.specs.Sound.{IsOwn, Kept, Sound}
 
 -- the rows of a supplier are its own and sound after the changes
@@ -20,3 +26,15 @@ pub record Apart (suppliers : List SupplierRow) (s : SupplierRow) (t after own :
 -- changes of one supplier's rows keep it apart from the others
 abbrev pub KeepsApart : List SupplierRow → SupplierRow → Tables → List Change → Type 0
 KeepsApart suppliers s t changes = Apart suppliers s t (apply_all changes t) (apply_all changes (view s.gln t))
+
+-- the same content is remembered under the references
+pub record IsRemembered (state : Tables) (r : Reference) (content : List ℕ) : Type 0 where
+  pub row : RememberedRow
+  pub found : remembered_of state r.side r.control r.message ≡ Some row
+  pub says : row.content ≡ content
+
+-- what is accepted with changes is remembered by the first of them; and it is accepted without any exactly where it is admitted
+-- and the same content is remembered
+pub record Remembers (r : Reference) (content : List ℕ) (admitted : Type 0) (state : Tables) (verdict : Verdict) : Type 0 where
+  pub first : (change : Change) (changes : List Change) → verdict ≡ Accept (change ∷ changes) → change ≡ Remember (remembered r content)
+  pub again : (verdict ≡ Accept []) ↔ (admitted × IsRemembered state r content)

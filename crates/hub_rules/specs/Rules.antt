@@ -49,8 +49,11 @@ abbrev pub judge_receipt : List ℕ → Option SupplierRow → Delivery → List
 judge_receipt retailer supplier delivery body receipt =
     judge_message retailer supplier sides.Retailer delivery receipt.buyer receipt.supplier (λ s. judge_new_receipt s.gln delivery body receipt)
 
+abbrev pub cancelled_by : SupplierRow → Cancel → Reference
+cancelled_by s cancel = record { supplier = s.gln; side = sides.Cancellation; control = cancel.reference; message = [] }
+
 -- cancellations: B02 B03 B05 B06 B17
 abbrev pub judge_cancel : Option SupplierRow → List ℕ → Cancel → Judge
 judge_cancel supplier content cancel state =
     registered supplier cancel.supplier (λ s.
-    judge_once (record { supplier = s.gln; side = sides.Cancellation; control = cancel.reference; message = [] }) content (judge_new_cancel cancel) state)
+    judge_once (cancelled_by s cancel) content (judge_new_cancel cancel) state)

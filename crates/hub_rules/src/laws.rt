@@ -10,9 +10,11 @@ ghost use Rattle.edi_goods.specs.declared.receipt.Receipt.{Receipt};
 ghost use Rattle.hub_parties.specs.Rows.{company_prefixes, supplier_of};
 ghost use Rattle.hub_parties.specs.declared.row.SupplierRow.{SupplierRow};
 ghost use Rattle.hub_tables.specs.Tables.{Tables, has_pallet, view, empty};
+ghost use Rattle.hub_tables.specs.declared.cases.Side.TheVariants as sides;
 ghost use Rattle.hub_tables.specs.declared.change.Change.{Change};
-ghost use Rattle.hub_rules.specs.Laws.{StaysKept, KeepsApart};
-ghost use Rattle.hub_rules.specs.Rules.{judge_order, judge_response, judge_despatch, judge_receipt, judge_cancel};
+ghost use Rattle.hub_rules.specs.Laws.{StaysKept, KeepsApart, Remembers};
+ghost use Rattle.hub_rules.specs.PartyRules.{is_other_buyer};
+ghost use Rattle.hub_rules.specs.Rules.{referred_by, cancelled_by, judge_order, judge_response, judge_despatch, judge_receipt, judge_cancel};
 ghost use Rattle.hub_rules.specs.Sound.{IsOwn, Kept, Rooted, Sound};
 ghost use Rattle.hub_rules.specs.declared.delivery.Cancel.{Cancel};
 ghost use Rattle.hub_rules.specs.declared.delivery.Delivery.{Delivery};
@@ -47,4 +49,14 @@ pub fn rules_keep_suppliers_apart()
     ensures despatch { (suppliers : List SupplierRow) (s : SupplierRow) (t : Tables) (retailer : List ℕ) (used : List ℕ → Bool) (delivery : Delivery) (despatch : Despatch) (changes : List Change) → PrefixFree (company_prefixes suppliers) → supplier_of suppliers s.gln ≡ Some s → Sound suppliers t → judge_despatch retailer (Some s) used delivery despatch (view s.gln t) ≡ Accept changes → KeepsApart suppliers s t changes }
     ensures receipt { (suppliers : List SupplierRow) (s : SupplierRow) (t : Tables) (retailer : List ℕ) (delivery : Delivery) (body : List ℕ) (receipt : Receipt) (changes : List Change) → PrefixFree (company_prefixes suppliers) → supplier_of suppliers s.gln ≡ Some s → Sound suppliers t → judge_receipt retailer (Some s) delivery body receipt (view s.gln t) ≡ Accept changes → KeepsApart suppliers s t changes }
     ensures cancel { (suppliers : List SupplierRow) (s : SupplierRow) (t : Tables) (content : List ℕ) (cancel : Cancel) (changes : List Change) → PrefixFree (company_prefixes suppliers) → supplier_of suppliers s.gln ≡ Some s → Sound suppliers t → judge_cancel (Some s) content cancel (view s.gln t) ≡ Accept changes → KeepsApart suppliers s t changes }
+{}
+
+/// What the rules accept with changes is remembered, by the first of these. They accept without any change exactly what is
+/// remembered with the same content, of no other buyer (B01) and of the supplier itself (B02).
+pub fn accepted_is_remembered()
+    ensures order { (s : SupplierRow) (state : Tables) (retailer : List ℕ) (delivery : Delivery) (body : List ℕ) (order : Order) → Remembers (referred_by s sides.Retailer delivery) delivery.content ((is_other_buyer retailer (Some order.buyer) ≡ false) × (order.supplier ≡ s.gln)) state (judge_order retailer (Some s) delivery body order state) }
+    ensures response { (s : SupplierRow) (state : Tables) (retailer : List ℕ) (delivery : Delivery) (response : Response) → Remembers (referred_by s sides.Supplier delivery) delivery.content ((is_other_buyer retailer (Some response.buyer) ≡ false) × (response.supplier ≡ s.gln)) state (judge_response retailer (Some s) delivery response state) }
+    ensures despatch { (s : SupplierRow) (state : Tables) (retailer : List ℕ) (used : List ℕ → Bool) (delivery : Delivery) (despatch : Despatch) → Remembers (referred_by s sides.Supplier delivery) delivery.content ((is_other_buyer retailer despatch.buyer ≡ false) × (despatch.supplier ≡ s.gln)) state (judge_despatch retailer (Some s) used delivery despatch state) }
+    ensures receipt { (s : SupplierRow) (state : Tables) (retailer : List ℕ) (delivery : Delivery) (body : List ℕ) (receipt : Receipt) → Remembers (referred_by s sides.Retailer delivery) delivery.content ((is_other_buyer retailer receipt.buyer ≡ false) × (receipt.supplier ≡ s.gln)) state (judge_receipt retailer (Some s) delivery body receipt state) }
+    ensures cancel { (s : SupplierRow) (state : Tables) (content : List ℕ) (cancel : Cancel) → Remembers (cancelled_by s cancel) content (cancel.supplier ≡ s.gln) state (judge_cancel (Some s) content cancel state) }
 {}

@@ -10,7 +10,7 @@ mod verdict;
 pub use code::Code;
 pub use delivery::{Cancel, Delivery};
 pub use laws::{
-    empty_tables_are_rooted, pallet_is_its_prefixes_suppliers, rules_keep_rows,
-    rules_keep_suppliers_apart,
+    accepted_is_remembered, empty_tables_are_rooted, pallet_is_its_prefixes_suppliers,
+    rules_keep_rows, rules_keep_suppliers_apart,
 };
 pub use verdict::Verdict;

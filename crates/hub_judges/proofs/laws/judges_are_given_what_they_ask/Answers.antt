@@ -1,0 +1,18 @@
+use Rattle.edi_goods.proofs.Read.{receipt_apart, receipt_sums, despatch_apart}
+use Rattle.hub_judges.proofs.Given.{seen_rise, seen_covered}
+use Rattle.hub_judges.proofs.laws.judges_are_given_what_they_ask.Goals as goal
+
+pub returns-clause-rise : goal.returns-clause-rise
+returns-clause-rise c suppliers gln t test sound = seen_rise suppliers gln t test sound
+
+pub returns-clause-covered : goal.returns-clause-covered
+returns-clause-covered c suppliers gln t test sound = seen_covered suppliers gln t test sound
+
+pub returns-clause-despatch : goal.returns-clause-despatch
+returns-clause-despatch c message despatch h = despatch_apart message despatch h
+
+pub returns-clause-receipt : goal.returns-clause-receipt
+returns-clause-receipt c message receipt h = receipt_apart message receipt h
+
+pub returns-clause-sums : goal.returns-clause-sums
+returns-clause-sums c message receipt h = receipt_sums message receipt h

@@ -1,0 +1,163 @@
+-- Uploads that are whole, and those that are stopped behind some of their messages.
+use Rattle.std.proofs.Common.{◌≡◌, ℕ, zero, suc, ◌<◌, ◌≤◌, nat_lt, Bool, true, false, if◌then◌else◌, List, [], ◌∷◌, ◌++◌, length, take, Option, Some, None, Ok, Err, refl, sym, ◌∙◌, ap, ap₂, subst, arith}
+use Rattle.std.specs.List.{list_any}
+use Rattle.std.proofs.lemmas.Bool.Decides.{nat_tests}
+use Rattle.edi_envelope.specs.declared.interchange.Interchange.{Interchange}
+use Rattle.edi_envelope.specs.declared.interchange.RawMessage.{RawMessage}
+use Rattle.hub_parties.specs.Rows.{Rows, Parties, parties_of, row_of, role_of}
+use Rattle.hub_parties.specs.declared.role.Role.{Role}
+use Rattle.hub_parties.specs.declared.role.Role.TheVariants.{Retailer, Supplier}
+use Rattle.hub_parties.specs.declared.row.SupplierRow.{SupplierRow}
+use Rattle.hub_tables.specs.Tables.{Tables, view}
+use Rattle.hub_tables.specs.declared.rows.MailRow.{MailRow}
+use Rattle.hub_law.specs.Machine.{shared_step, step_as}
+use Rattle.hub_law.specs.MailText.{entry_at}
+use Rattle.hub_law.specs.Mark.{Mark, Whole, StoppedAfter}
+use Rattle.hub_law.specs.Messages.{Sent, messages_at, deliver_suppliers}
+use Rattle.hub_law.specs.Opening.{Opened}
+use Rattle.hub_law.specs.Replies.{told_words, interchange_line, message_lines, stopped_line, stopped, unless_stopped, upload_reply}
+use Rattle.hub_law.specs.Requests.{uploaded, from_supplier, from_retailer, supplier_request, retailer_request, deliver_named, cancelled, taken}
+use Rattle.hub_law.specs.Stops.{opened_well, upload_from, upload_by, upload_of, act_by, act_of, whole_reply, reply_behind}
+use Rattle.hub_law.specs.Told.{Told, Act, is_refused, in_row}
+use Rattle.hub_law.specs.Widths.{line}
+use Rattle.hub_law.specs.declared.reply.Outcome.TheVariants.{Stopped}
+use Rattle.hub_law.specs.declared.reply.Reply.{Reply}
+use Rattle.hub_law.specs.declared.request.Input.{Input}
+use Rattle.hub_law.specs.declared.request.Request.{Request}
+use Rattle.hub_law.specs.declared.request.Request.TheVariants as requests
+
+-- what is told of the first of some acts is the first of what is told
+told_first : {X : Type 0} (step : X → Act) (k : ℕ) (xs : List X) (t : Tables) → (in_row step (take k xs) t).0 ≡ take k (in_row step xs t).0
+told_first step zero xs t = refl
+told_first step (suc k) [] t = refl
+told_first step (suc k) (x ∷ xs) t = ap (λ told. (step x t).0 ∷ told) (told_first step k xs (step x t).1)
+
+-- and as many lines are written
+lines_first : (k : ℕ) (messages : List RawMessage) (told : List Told) → message_lines messages (take k told) ≡ message_lines (take k messages) (take k told)
+lines_first zero [] told = refl
+lines_first zero (message ∷ messages) told = refl
+lines_first (suc k) [] told = refl
+lines_first (suc k) (message ∷ messages) [] = refl
+lines_first (suc k) (message ∷ messages) (one ∷ told) = ap (λ rest. line (message.reference ∷ message.kind ∷ told_words one) ++ rest) (lines_first k messages told)
+
+module _ (deliver : Sent → Act) (moment : ℕ) (t : Tables) where
+  abbrev told_of : Interchange → List Told
+  told_of i = (in_row deliver (messages_at moment i) t).0
+
+  upload_whole : (opened : Opened) (i : Interchange) → opened_well opened ≡ Some i → uploaded deliver moment Whole opened t ≡ (whole_reply i (told_of i), (in_row deliver (messages_at moment i) t).1)
+  upload_whole (Err code) i h = cc
+  upload_whole (Ok j) i h = let same : j ≡ i = cc in subst (λ i. uploaded deliver moment Whole (Ok j) t ≡ (whole_reply i (told_of i), (in_row deliver (messages_at moment i) t).1)) same refl
+
+  -- the first k messages that are told of
+  abbrev cut : ℕ → Interchange → List Told → Tables → Reply × Tables
+  cut k i told after = (record { outcome = Stopped; refused = list_any is_refused told; body = (interchange_line i ++ message_lines i.messages told) ++ stopped_line }, after)
+
+  cut_behind : (k : ℕ) (i : Interchange) → cut k i (in_row deliver (take k (messages_at moment i)) t).0 (in_row deliver (take k (messages_at moment i)) t).1 ≡ (reply_behind k i (told_of i), (in_row deliver (take k (messages_at moment i)) t).1)
+  cut_behind k i =
+      ap (λ told. cut k i told (in_row deliver (take k (messages_at moment i)) t).1) (told_first deliver k (messages_at moment i) t)
+      ∙ ap (λ lines. (record { outcome = Stopped; refused = list_any is_refused (take k (told_of i)); body = (interchange_line i ++ lines) ++ stopped_line }, (in_row deliver (take k (messages_at moment i)) t).1)) (lines_first k i.messages (told_of i))
+
+  -- by whether there are more
+  abbrev by_count : Bool → ℕ → Interchange → Reply × Tables
+  by_count v k i = (
+    if v then record { outcome = Stopped; refused = list_any is_refused (in_row deliver (if v then take k (messages_at moment i) else []) t).0; body = (interchange_line i ++ message_lines i.messages (in_row deliver (if v then take k (messages_at moment i) else []) t).0) ++ stopped_line } else stopped,
+    (in_row deliver (if v then take k (messages_at moment i) else []) t).1,
+  )
+
+  upload_behind : (k : ℕ) (opened : Opened) (i : Interchange) → opened_well opened ≡ Some i → k < length i.messages → uploaded deliver moment (StoppedAfter k) opened t ≡ (reply_behind k i (told_of i), (in_row deliver (take k (messages_at moment i)) t).1)
+  upload_behind k (Err code) i h less = cc
+  upload_behind k (Ok j) i h less =
+      let same : i ≡ j = cc in
+      let more : nat_lt k (length j.messages) ≡ true = subst (λ (i : Interchange). nat_lt k (length i.messages) ≡ true) same (is_less k (length i.messages) less) in
+      subst (λ i. uploaded deliver moment (StoppedAfter k) (Ok j) t ≡ (reply_behind k i (told_of i), (in_row deliver (take k (messages_at moment i)) t).1)) (sym same) (ap (λ v. by_count v k j) more ∙ cut_behind k j)
+    where
+      is_less : (a b : ℕ) → a < b → nat_lt a b ≡ true
+      is_less a b h = grind (arith, nat_tests)
+
+  upload_too_far : (k : ℕ) (opened : Opened) (i : Interchange) → opened_well opened ≡ Some i → length i.messages ≤ k → uploaded deliver moment (StoppedAfter k) opened t ≡ (stopped, t)
+  upload_too_far k (Err code) i h most = cc
+  upload_too_far k (Ok j) i h most =
+      let same : i ≡ j = cc in
+      ap (λ v. by_count v k j) (subst (λ (i : Interchange). nat_lt k (length i.messages) ≡ false) same (no_less k (length i.messages) most))
+    where
+      no_less : (a b : ℕ) → b ≤ a → nat_lt a b ≡ false
+      no_less a b h = grind (arith, nat_tests)
+
+  upload_none : (k : ℕ) (opened : Opened) → opened_well opened ≡ None → uploaded deliver moment (StoppedAfter k) opened t ≡ (stopped, t)
+  upload_none k (Err code) h = refl
+  upload_none k (Ok j) h = cc
+
+-- A fact of an upload that is looked at holds of whoever sends it.
+module _ (register : Rows) (t : Tables) (mark : Mark) (P : Interchange → Type 0) (after : (Sent → Act) → ℕ → Interchange → Reply × Tables)
+    (of_upload : (deliver : Sent → Act) (moment : ℕ) (opened : Opened) (i : Interchange) → opened_well opened ≡ Some i → P i → uploaded deliver moment mark opened t ≡ after deliver moment i) where
+  suppliers : (s : SupplierRow) (moment : ℕ) (request : Request) (i : Interchange) → upload_from (from_supplier (parties_of register) s) request ≡ Some i → P i → supplier_request (view s.gln) (parties_of register) s moment mark request t ≡ after (deliver_suppliers (view s.gln) (parties_of register) s) moment i
+  suppliers s moment (requests.Upload bytes) i h p = of_upload (deliver_suppliers (view s.gln) (parties_of register) s) moment (from_supplier (parties_of register) s bytes) i h p
+  suppliers s moment (requests.MailAfter number) i h p = cc
+  suppliers s moment (requests.MailItem number) i h p = cc
+  suppliers s moment (requests.MailTaken number) i h p = cc
+  suppliers s moment requests.Status i h p = cc
+  suppliers s moment (requests.StatusOf gln) i h p = cc
+  suppliers s moment (requests.Cancel c) i h p = cc
+
+  retailers : (moment : ℕ) (request : Request) (i : Interchange) → upload_from (from_retailer (parties_of register)) request ≡ Some i → P i → retailer_request register moment mark request t ≡ after (deliver_named register) moment i
+  retailers moment (requests.Upload bytes) i h p = of_upload (deliver_named register) moment (from_retailer (parties_of register) bytes) i h p
+  retailers moment (requests.MailAfter number) i h p = cc
+  retailers moment (requests.MailItem number) i h p = cc
+  retailers moment (requests.MailTaken number) i h p = cc
+  retailers moment requests.Status i h p = cc
+  retailers moment (requests.StatusOf gln) i h p = cc
+  retailers moment (requests.Cancel c) i h p = cc
+
+  by_role : (role : Option Role) (row : Option SupplierRow) (input : Input) (i : Interchange) → upload_by register role row input.request ≡ Some i → P i → step_as register role row input mark t ≡ after (act_by register role row) input.moment i
+  by_role (Some Supplier) (Some s) input i h p = suppliers s input.moment input.request i h p
+  by_role (Some Supplier) None input i h p = cc
+  by_role (Some Retailer) row input i h p = retailers input.moment input.request i h p
+  by_role None row input i h p = cc
+
+  pub by_anybody : (input : Input) (i : Interchange) → upload_of register input ≡ Some i → P i → shared_step register t input mark ≡ after (act_of register input) input.moment i
+  by_anybody input i h p = by_role (role_of register input.caller input.key) (row_of register input.caller) input i h p
+
+-- Whatever is no such upload is stopped before anything was done.
+module _ (register : Rows) (t : Tables) (k : ℕ) where
+  suppliers_none : (s : SupplierRow) (moment : ℕ) (request : Request) → upload_from (from_supplier (parties_of register) s) request ≡ None → supplier_request (view s.gln) (parties_of register) s moment (StoppedAfter k) request t ≡ (stopped, t)
+  suppliers_none s moment (requests.Upload bytes) h = upload_none (deliver_suppliers (view s.gln) (parties_of register) s) moment t k (from_supplier (parties_of register) s bytes) h
+  suppliers_none s moment (requests.MailAfter number) h = refl
+  suppliers_none s moment (requests.MailItem number) h = refl
+  suppliers_none s moment (requests.MailTaken number) h = entry (entry_at (view s.gln t) number)
+    where
+      entry : (found : Option MailRow) → taken (StoppedAfter k) found t ≡ (stopped, t)
+      entry None = refl
+      entry (Some row) = refl
+  suppliers_none s moment requests.Status h = refl
+  suppliers_none s moment (requests.StatusOf gln) h = refl
+  suppliers_none s moment (requests.Cancel c) h = refl
+
+  retailers_none : (moment : ℕ) (request : Request) → upload_from (from_retailer (parties_of register)) request ≡ None → retailer_request register moment (StoppedAfter k) request t ≡ (stopped, t)
+  retailers_none moment (requests.Upload bytes) h = upload_none (deliver_named register) moment t k (from_retailer (parties_of register) bytes) h
+  retailers_none moment (requests.MailAfter number) h = refl
+  retailers_none moment (requests.MailItem number) h = refl
+  retailers_none moment (requests.MailTaken number) h = refl
+  retailers_none moment requests.Status h = refl
+  retailers_none moment (requests.StatusOf gln) h = refl
+  retailers_none moment (requests.Cancel c) h = refl
+
+  none_by_role : (role : Option Role) (row : Option SupplierRow) (input : Input) → upload_by register role row input.request ≡ None → step_as register role row input (StoppedAfter k) t ≡ (stopped, t)
+  none_by_role (Some Supplier) (Some s) input h = suppliers_none s input.moment input.request h
+  none_by_role (Some Supplier) None input h = refl
+  none_by_role (Some Retailer) row input h = retailers_none input.moment input.request h
+  none_by_role None row input h = refl
+
+  pub no_upload : (input : Input) → upload_of register input ≡ None → shared_step register t input (StoppedAfter k) ≡ (stopped, t)
+  no_upload input h = none_by_role (role_of register input.caller input.key) (row_of register input.caller) input h
+
+pub whole_upload : (register : Rows) (t : Tables) (input : Input) (i : Interchange) → upload_of register input ≡ Some i → shared_step register t input Whole ≡ (whole_reply i (in_row (act_of register input) (messages_at input.moment i) t).0, (in_row (act_of register input) (messages_at input.moment i) t).1)
+whole_upload register t input i h =
+    by_anybody register t Whole (λ i. Unit {0}) (λ deliver moment i. (whole_reply i (in_row deliver (messages_at moment i) t).0, (in_row deliver (messages_at moment i) t).1)) (λ deliver moment opened i there _. upload_whole deliver moment t opened i there) input i h tt
+
+pub behind_some : (register : Rows) (t : Tables) (input : Input) (k : ℕ) (i : Interchange) → upload_of register input ≡ Some i → k < length i.messages → shared_step register t input (StoppedAfter k) ≡ (reply_behind k i (in_row (act_of register input) (messages_at input.moment i) t).0, (in_row (act_of register input) (take k (messages_at input.moment i)) t).1)
+behind_some register t input k i h less =
+    by_anybody register t (StoppedAfter k) (λ (i : Interchange). k < length i.messages) (λ deliver moment i. (reply_behind k i (in_row deliver (messages_at moment i) t).0, (in_row deliver (take k (messages_at moment i)) t).1)) (λ deliver moment opened i there p. upload_behind deliver moment t k opened i there p) input i h less
+
+pub too_far_behind : (register : Rows) (t : Tables) (input : Input) (k : ℕ) (i : Interchange) → upload_of register input ≡ Some i → length i.messages ≤ k → shared_step register t input (StoppedAfter k) ≡ (stopped, t)
+too_far_behind register t input k i h most =
+    by_anybody register t (StoppedAfter k) (λ (i : Interchange). length i.messages ≤ k) (λ deliver moment i. (stopped, t)) (λ deliver moment opened i there p. upload_too_far deliver moment t k opened i there p) input i h most
