@@ -10,6 +10,9 @@ use edi_base::copied;
 use edi_tokens::{Elements, Items, MemoryFault, Segment};
 use std::alloc::Global;
 
+/// The greatest number of a mail text: 14 digits, as many as a control reference has.
+pub const LAST_MAIL_NUMBER: u64 = 99_999_999_999_999;
+
 // A copy of an element.
 fn copied_element(alloc: Global, components: &[Items<u8>]) -> Result<Items<Items<u8>>, MemoryFault>
     ensures { IfOk result (λ copy. copy ≡ components.now) }
@@ -134,7 +137,7 @@ pub fn wrap(
 ) -> Result<Items<Segment>, MemoryFault>
     requires hub { All (λ digit. IsTrue (is_digit digit)) hub.now }
     requires owner { All (λ digit. IsTrue (is_digit digit)) owner.now }
-    requires number { (1 ≤ number) × (number ≤ 99_999_999_999_999) }
+    requires number { (1 ≤ number) × (number ≤ LAST_MAIL_NUMBER) }
     ensures segments { IfOk result (λ segments. segments ≡ mail_segments hub.now owner.now moment number message.now) }
     ensures text { IfOk result (λ segments. text segments ≡ mail_body hub.now owner.now moment number message.now) }
 {

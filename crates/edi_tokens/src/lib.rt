@@ -20,6 +20,6 @@ pub use laws::{
     canonical_text_spells_again, reading_is_the_grammar, text_spells_one_list,
     text_spells_or_shows_a_fault,
 };
-pub use reading::read_all;
+pub use reading::{TEXT_LIMIT, read_all};
 pub use segment::{Elements, Segment, Service, Tokens};
-pub use text::{append_text, body_text, write_text};
+pub use text::{append_text, body_text, service_string, write_text};

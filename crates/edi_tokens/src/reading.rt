@@ -13,7 +13,7 @@ use crate::segment::Tokens;
 use std::alloc::Global;
 
 /// The longest text in bytes.
-const TEXT_LIMIT: usize = 1_048_576;
+pub const TEXT_LIMIT: usize = 1_048_576;
 
 fn read(alloc: Global, text: &[u8]) -> Result<Tokens, TokenFault>
     ensures { Answers (λ tokens. tokens) result (tokens_of text.now) }

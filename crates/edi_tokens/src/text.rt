@@ -112,6 +112,13 @@ fn put_all<W: Sink>(out: &mut W, front: &[u8], segments: &[Segment]) -> Result<(
     buffer.flush(out)
 }
 
+/// The service string `UNA:+.? '`, with this decimal mark (ISO 9735, section 7.1).
+pub fn service_string(decimal: u8) -> [u8; 9]
+    ensures { result ≡ una decimal }
+{
+    [b'U', b'N', b'A', b':', b'+', decimal, b'?', b' ', b'\'']
+}
+
 /// Writes the service string `UNA:+.? '`, with this decimal mark, and the canonical text of segments
 /// (ISO 9735, sections 5, 7.1 and 8). It takes no memory. At `WriteFault` a front of the text was written.
 pub fn write_text<W: Sink>(segments: &[Segment], decimal: u8, out: &mut W) -> Result<(), WriteFault>
@@ -122,7 +129,7 @@ pub fn write_text<W: Sink>(segments: &[Segment], decimal: u8, out: &mut W) -> Re
     ensures kept { OnOk result (W.failed out.new ≡ W.failed out.old) }
     ensures failed { OnErr result (IsTrue (W.failed out.new)) }
 {
-    let service = [b'U', b'N', b'A', b':', b'+', decimal, b'?', b' ', b'\''];
+    let service = service_string(decimal);
     put_all(out, &service, segments)
 }
 

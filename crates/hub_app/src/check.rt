@@ -9,14 +9,11 @@ ghost use Rattle.hub_app.specs.Exit.{Tells};
 ghost use Rattle.hub_register.specs.Register.{register_of};
 
 use crate::exit::{DONE, FAILED, REFUSED, tell};
-use edi_tokens::{MemoryFault, ReadFault, Sink, Source, read_to_limit, write_bytes};
+use edi_tokens::{MemoryFault, ReadFault, Sink, Source, TEXT_LIMIT, read_to_limit, write_bytes};
 use hub_register::{Register, RegisterFault};
 use std::alloc::{AllocError, Global};
 use std::error::Error;
 use std::fmt;
-
-/// The longest text of a register, in bytes.
-const TEXT_LIMIT: usize = 1_048_576;
 
 /// Why the text of a register was not read.
 #[derive(Clone, Copy, Debug, PartialEq, Eq)]

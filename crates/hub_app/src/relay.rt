@@ -4,8 +4,8 @@ ghost use Rattle.std.specs.Prelude.{◌≡◌, ◌++◌, ◌+◌, ◌≤◌, len
 ghost use Rattle.edi_tokens.specs.Characters.{is_digit};
 ghost use Rattle.edi_envelope.specs.Mail.{mail_text};
 
-use edi_envelope::{EnvelopeFault, Moment, RawMessage, open, wrap};
-use edi_tokens::{MemoryFault, TokenFault, append_text, read_all};
+use edi_envelope::{EnvelopeFault, LAST_MAIL_NUMBER, Moment, RawMessage, open, wrap};
+use edi_tokens::{MemoryFault, TokenFault, append_text, read_all, service_string};
 use std::alloc::{AllocError, Global};
 use std::error::Error;
 use std::fmt;
@@ -54,7 +54,7 @@ fn gln_digits(text: &str) -> Option<[u8; 13]>
 
 impl RelayWords {
     /// The number of the first mail text is at most this, so that those of 999 messages have 14 digits.
-    pub const LAST_NUMBER: u64 = 99_999_999_999_001;
+    pub const LAST_NUMBER: u64 = LAST_MAIL_NUMBER - 998;
 
     /// The words, where both GLNs are 13 digits and the number is within its limits.
     pub fn new(hub: &str, owner: &str, moment: Moment, number: u64) -> Option<RelayWords>
@@ -163,7 +163,7 @@ fn append_mail(
 ) -> Result<(), MemoryFault>
     requires hub { All (λ digit. IsTrue (is_digit digit)) words.now.hub }
     requires owner { All (λ digit. IsTrue (is_digit digit)) words.now.owner }
-    requires number { (1 ≤ number) × (number ≤ 99_999_999_999_999) }
+    requires number { (1 ≤ number) × (number ≤ LAST_MAIL_NUMBER) }
     ensures { OnOk result (out.new.items ≡ out.old.items ++ mail_text words.now.hub words.now.owner words.now.moment decimal number message.now) }
 {
     let segments = wrap(
@@ -174,7 +174,7 @@ fn append_mail(
         number,
         message,
     )?;
-    out.extend_from_slice(&[b'U', b'N', b'A', b':', b'+', decimal, b'?', b' ', b'\''])?;
+    out.extend_from_slice(&service_string(decimal))?;
     append_text(out, segments.as_slice())
 }
 

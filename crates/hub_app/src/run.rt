@@ -11,11 +11,11 @@ ghost use Rattle.hub_app.specs.Run.{Delivers, DeliversFront, IsRefused, refusal}
 
 use crate::exit::{DONE, FAILED, REFUSED, tell};
 use crate::relay::{RelayFault, RelayWords, relay_text};
-use edi_tokens::{ReadFault, Sink, Source, WriteFault, read_to_limit, write_bytes};
+use edi_tokens::{ReadFault, Sink, Source, TEXT_LIMIT, WriteFault, read_to_limit, write_bytes};
 use std::alloc::Global;
 
 /// One byte more than the longest text is read, so that a longer one shows.
-pub(crate) const READ_LIMIT: usize = 1_048_577;
+pub(crate) const READ_LIMIT: usize = TEXT_LIMIT + 1;
 
 // Writes the line that a refusal prints.
 fn write_refusal<E: Sink>(fault: RelayFault, err: &mut E) -> Result<(), WriteFault>

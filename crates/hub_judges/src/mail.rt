@@ -3,13 +3,14 @@ ghost use Rattle.std.specs.Prelude.{◌≡◌, ◌+◌, ◌<◌, IfOk};
 ghost use Rattle.hub_rules.specs.MailboxRules.{mail_entry};
 
 use edi_base::{Items, MemoryFault, copied};
+use edi_envelope::LAST_MAIL_NUMBER;
 use gs1_ids::Gln;
 use hub_rules::Delivery;
 use hub_tables::{Change, Column, MailKind, MailRow};
 use std::alloc::Global;
 
 /// The greatest number of an entry.
-pub(crate) const MAIL_LIMIT: u64 = 99_999_999_999_999;
+pub(crate) const MAIL_LIMIT: u64 = LAST_MAIL_NUMBER;
 
 /// The next entry of a mailbox that has so many.
 pub(crate) fn new_mail(
@@ -21,7 +22,7 @@ pub(crate) fn new_mail(
     document: &[u8],
     body: Items<u8>,
 ) -> Result<Change, MemoryFault>
-    requires { mails < 99_999_999_999_999 }
+    requires { mails < LAST_MAIL_NUMBER }
     ensures { IfOk result (λ change. change ≡ mail_entry supplier (mails + 1) delivery.now kind document.now body) }
 {
     Ok(Change::AddMail(MailRow {

@@ -6,6 +6,7 @@ pub mod Callers
 pub mod Cutting
 mod Examples
 pub mod Judged
+pub mod MailOf
 pub mod Overlapping
 pub mod Repeated
 pub mod Retailers

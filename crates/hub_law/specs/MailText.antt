@@ -2,9 +2,8 @@
 use Rattle.std.specs.Prelude.{ℕ, ◌==◌, nat_lt, Bool, true, not, ◌&&◌, List, [], ◌∷◌, ◌++◌, filter, find, length, take, if◌then◌else◌, codes, Option}
 use Rattle.std.specs.Fmt.{decimal}
 use Rattle.std.specs.List.{flat_map}
-use Rattle.edi_tokens.specs.Text.{segment_text, una}
-use Rattle.edi_envelope.specs.Mail.{unb_from, unz_of}
-use Rattle.edi_envelope.specs.Moment.{date_text, time_text}
+use Rattle.edi_tokens.specs.Text.{una}
+use Rattle.edi_envelope.specs.Mail.{text_around}
 use Rattle.hub_tables.specs.Cases.{kind_letter, truth_number}
 use Rattle.hub_tables.specs.Tables.{Tables}
 use Rattle.hub_tables.specs.declared.cases.MailKind.TheVariants as kinds
@@ -13,11 +12,7 @@ use Rattle.hub_law.specs.Widths.{right, line}
 
 -- an entry as the hub's interchange for its owner, with the decimal mark with which its message came
 unfoldable pub mail_text : List ℕ → MailRow → List ℕ
-mail_text hub entry =
-    una entry.decimal
-    ++ segment_text (unb_from hub entry.supplier (date_text entry.moment) (time_text entry.moment) (decimal entry.number))
-    ++ entry.body
-    ++ segment_text (unz_of (decimal entry.number))
+mail_text hub entry = una entry.decimal ++ text_around hub entry.supplier entry.moment entry.number entry.body
 
 abbrev pub entry_at : Tables → ℕ → Option MailRow
 entry_at state number = find (λ entry. entry.number == number) state.mail

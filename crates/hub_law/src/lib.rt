@@ -3,6 +3,7 @@
 #![tactic(auto)]
 
 mod laws;
+mod mail;
 mod repeats;
 mod reply;
 mod request;
@@ -13,6 +14,7 @@ mod stops;
 pub use laws::{
     each_line_balances, hub_stays_sound, prefixes_matter, run_is_own, runs_alike, step_is_own,
 };
+pub use mail::entry_is_its_messages_mail;
 pub use repeats::{accepted_is_repeated, remembered_stays};
 pub use reply::{Outcome, Reply};
 pub use request::{Input, Request};
