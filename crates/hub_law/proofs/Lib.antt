@@ -7,6 +7,7 @@ pub mod Cutting
 mod Examples
 pub mod Judged
 pub mod Overlapping
+pub mod Recurring
 pub mod Repeated
 pub mod Retailers
 pub mod Runs
