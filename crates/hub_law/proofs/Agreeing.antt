@@ -1,5 +1,5 @@
 -- What one supplier sees and is told in a run, and in two runs that agree on it.
-use Rattle.std.proofs.Common.{◌≡◌, ℕ, if◌then◌else◌, List, [], ◌∷◌, ◌++◌, length, slice_get, take, Some, refl, sym, ◌∙◌, ap}
+use Rattle.std.proofs.Common.{◌≡◌, ℕ, List, [], ◌∷◌, ◌++◌, length, slice_get, take, Some, refl, sym, ◌∙◌, ap}
 use Rattle.std.proofs.Math.Seq.{take-append_seam}
 use Rattle.std.proofs.lemmas.List.{append_assoc}
 use Rattle.hub_parties.specs.Rows.{Rows, parties_of, supplier_of, row_of}
@@ -13,7 +13,7 @@ use Rattle.hub_law.specs.Alone.{items, items_of, fold}
 use Rattle.hub_law.specs.Laws.{Registered, RunIsOwn, AsksStatus, Agree, reply_between}
 use Rattle.hub_law.specs.Machine.{Inputs, step_as, shared_step, shared_run, replies_to}
 use Rattle.hub_law.specs.Mark.{Mark, Whole}
-use Rattle.hub_law.specs.Replies.{denied, done}
+use Rattle.hub_law.specs.Replies.{done}
 use Rattle.hub_law.specs.Requests.{report, retailer_request}
 use Rattle.hub_law.specs.StatusText.{status_text}
 use Rattle.hub_law.specs.declared.request.Input.{Input}

@@ -1,10 +1,10 @@
 -- Uploads that are whole, and those that are stopped behind some of their messages.
-use Rattle.std.proofs.Common.{◌≡◌, ℕ, zero, suc, ◌<◌, ◌≤◌, nat_lt, Bool, true, false, if◌then◌else◌, List, [], ◌∷◌, ◌++◌, length, take, Option, Some, None, Ok, Err, refl, sym, ◌∙◌, ap, ap₂, subst, arith}
+use Rattle.std.proofs.Common.{◌≡◌, ℕ, zero, suc, ◌<◌, ◌≤◌, nat_lt, Bool, true, false, if◌then◌else◌, List, [], ◌∷◌, ◌++◌, length, take, Option, Some, None, Ok, Err, refl, sym, ◌∙◌, ap, subst, arith}
 use Rattle.std.specs.List.{list_any}
 use Rattle.std.proofs.lemmas.Bool.Decides.{nat_tests}
 use Rattle.edi_envelope.specs.declared.interchange.Interchange.{Interchange}
 use Rattle.edi_envelope.specs.declared.interchange.RawMessage.{RawMessage}
-use Rattle.hub_parties.specs.Rows.{Rows, Parties, parties_of, row_of, role_of}
+use Rattle.hub_parties.specs.Rows.{Rows, parties_of, row_of, role_of}
 use Rattle.hub_parties.specs.declared.role.Role.{Role}
 use Rattle.hub_parties.specs.declared.role.Role.TheVariants.{Retailer, Supplier}
 use Rattle.hub_parties.specs.declared.row.SupplierRow.{SupplierRow}
@@ -15,8 +15,8 @@ use Rattle.hub_law.specs.MailText.{entry_at}
 use Rattle.hub_law.specs.Mark.{Mark, Whole, StoppedAfter}
 use Rattle.hub_law.specs.Messages.{Sent, messages_at, deliver_suppliers}
 use Rattle.hub_law.specs.Opening.{Opened}
-use Rattle.hub_law.specs.Replies.{told_words, interchange_line, message_lines, stopped_line, stopped, unless_stopped, upload_reply}
-use Rattle.hub_law.specs.Requests.{uploaded, from_supplier, from_retailer, supplier_request, retailer_request, deliver_named, cancelled, taken}
+use Rattle.hub_law.specs.Replies.{told_words, interchange_line, message_lines, stopped_line, stopped}
+use Rattle.hub_law.specs.Requests.{uploaded, from_supplier, from_retailer, supplier_request, retailer_request, deliver_named, taken}
 use Rattle.hub_law.specs.Stops.{opened_well, upload_from, upload_by, upload_of, act_by, act_of, whole_reply, reply_behind}
 use Rattle.hub_law.specs.Told.{Told, Act, is_refused, in_row}
 use Rattle.hub_law.specs.Widths.{line}

@@ -8,6 +8,7 @@ mod Examples
 pub mod Judged
 pub mod MailOf
 pub mod Overlapping
+pub mod Recurring
 pub mod Repeated
 pub mod Retailers
 pub mod Runs

@@ -1,5 +1,5 @@
 -- What one supplier sees and is told, whatever the others do.
-use Rattle.std.specs.Prelude.{◌≡◌, List, true, [], ◌∷◌, ◌++◌, length, slice_get, Option, Some, None}
+use Rattle.std.specs.Prelude.{◌≡◌, List, [], ◌∷◌, ◌++◌, length, slice_get, Option, Some}
 use Rattle.gs1_ids.specs.Overlap.{PrefixFree}
 use Rattle.hub_parties.specs.Rows.{Rows, parties_of, company_prefixes, supplier_of, role_of}
 use Rattle.hub_parties.specs.declared.role.Role.TheVariants.{Retailer}

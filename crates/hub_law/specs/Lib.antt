@@ -1,3 +1,4 @@
+pub mod Again
 pub mod Alone
 pub mod CancelText
 pub mod Laws

@@ -1,13 +1,20 @@
 //! What was accepted and comes again: laws, each the contract of a function without a body.
-ghost use Rattle.std.specs.Prelude.{◌≡◌, ℕ, List};
-ghost use Rattle.hub_parties.specs.Rows.{Parties, Rows, supplier_of};
+ghost use Rattle.std.specs.Prelude.{◌≡◌, ℕ, ◌+◌, List, ◌∷◌, ◌++◌, Some};
+ghost use Rattle.gs1_ids.specs.Overlap.{PrefixFree};
+ghost use Rattle.hub_parties.specs.declared.role.Role.TheVariants.{Retailer};
+ghost use Rattle.hub_parties.specs.Rows.{Parties, Rows, supplier_of, company_prefixes, role_of};
 ghost use Rattle.hub_parties.specs.declared.row.SupplierRow.{SupplierRow};
 ghost use Rattle.hub_tables.specs.Tables.{Tables, view};
 ghost use Rattle.hub_rules.specs.declared.delivery.Cancel.{Cancel};
 ghost use Rattle.hub_rules.specs.Sound.{Sound};
-ghost use Rattle.hub_law.specs.Machine.{Inputs, shared_run};
+ghost use Rattle.hub_law.specs.Again.{MessageAt, Reaches, SameMessage, tables_before, told_at};
+ghost use Rattle.hub_law.specs.Machine.{Inputs, shared_step, shared_run};
+ghost use Rattle.hub_law.specs.Mark.{Mark, Whole};
 ghost use Rattle.hub_law.specs.Messages.{Sent, deliver_suppliers, cancel};
 ghost use Rattle.hub_law.specs.Remembered.{StaysRemembered};
+ghost use Rattle.hub_law.specs.Replies.{cancel_reply};
+ghost use Rattle.hub_law.specs.declared.request.Input.{Input};
+ghost use Rattle.hub_law.specs.declared.request.Request.TheVariants as requests;
 ghost use Rattle.hub_law.specs.Requests.{deliver_named};
 ghost use Rattle.hub_law.specs.Told.{Accepted, Repeated, in_row};
 
@@ -27,4 +34,13 @@ pub fn remembered_stays()
     ensures retailers { (register : Rows) (sents : List Sent) (t : Tables) → StaysRemembered t (in_row (deliver_named register) sents t).1 }
     ensures suppliers { (parties : Parties) (s : SupplierRow) (sents : List Sent) (t : Tables) → StaysRemembered t (in_row (deliver_suppliers (view s.gln) parties s) sents t).1 }
     ensures run { (register : Rows) (t : Tables) (inputs : Inputs) → StaysRemembered t (shared_run register t inputs).1 }
+{}
+
+/// In a run from sound tables, a message that was accepted and comes again in a later upload that is looked at, is told of as
+/// repeated, and its act leaves the tables as they are; `stops_cut_uploads` says which of what is told is in the reply. And a
+/// cancellation that was accepted and comes again is answered so.
+pub fn repeated_in_runs()
+    ensures message { (register : Rows) (t : Tables) (before between : Inputs) (first second : Input) (mark : Mark) (place later : ℕ) (sent again : Sent) (one : MessageAt register first place sent) (other : MessageAt register second later again) → PrefixFree (company_prefixes register.suppliers) → Sound register.suppliers t → SameMessage first second sent again → Reaches mark one.upload place → told_at register t before first one.upload place ≡ Some Accepted → told_at register t (before ++ (first, mark) ∷ between) second other.upload later ≡ Some Repeated }
+    ensures stays { (register : Rows) (t : Tables) (before between : Inputs) (first second : Input) (mark : Mark) (place later : ℕ) (sent again : Sent) (one : MessageAt register first place sent) (other : MessageAt register second later again) → PrefixFree (company_prefixes register.suppliers) → Sound register.suppliers t → SameMessage first second sent again → Reaches mark one.upload place → told_at register t before first one.upload place ≡ Some Accepted → tables_before register t (before ++ (first, mark) ∷ between) second other.upload (later + 1) ≡ tables_before register t (before ++ (first, mark) ∷ between) second other.upload later }
+    ensures cancellation { (register : Rows) (t : Tables) (before between : Inputs) (first second : Input) (c : Cancel) → PrefixFree (company_prefixes register.suppliers) → Sound register.suppliers t → role_of register first.caller first.key ≡ Some Retailer → role_of register second.caller second.key ≡ Some Retailer → first.request ≡ requests.Cancel c → second.request ≡ requests.Cancel c → (cancel (view c.supplier) (supplier_of register.suppliers c.supplier) c (shared_run register t before).1).0 ≡ Accepted → shared_step register (shared_run register t (before ++ (first, Whole) ∷ between)).1 second Whole ≡ (cancel_reply Repeated, (shared_run register t (before ++ (first, Whole) ∷ between)).1) }
 {}

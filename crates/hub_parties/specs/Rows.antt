@@ -1,5 +1,5 @@
 -- The rows of a register: the hub's GLN, the retailer with its key, and the suppliers; how one is found, and who asks.
-use Rattle.std.specs.Prelude.{◌≡◌, ℕ, ◌≤◌, Bool, false, ◌&&◌, if◌then◌else◌, IsTrue, List, ◌∷◌, length, map, find, Option, Some, None}
+use Rattle.std.specs.Prelude.{◌≡◌, ℕ, ◌≤◌, false, ◌&&◌, if◌then◌else◌, IsTrue, List, ◌∷◌, length, map, find, Option, Some, None}
 use Rattle.std.specs.List.{list_all, flat_map}
 use Rattle.std.specs.Str.{bytes_eq}
 use Rattle.edi_base.specs.Seen.{has_twice}

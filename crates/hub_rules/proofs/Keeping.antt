@@ -1,5 +1,5 @@
 -- What each change has to be for the rows of a supplier to stay as they are to be.
-use Rattle.std.proofs.Common.{◌≡◌, ℕ, ◌+◌, true, false, ◌&&◌, ◌==◌, inl, inr, List, [], ◌∷◌, filter, length, refl, sym, ◌∙◌, ap, ap₂, arith}
+use Rattle.std.proofs.Common.{◌≡◌, ℕ, ◌+◌, true, false, ◌&&◌, ◌==◌, inl, inr, List, [], ◌∷◌, filter, length, sym, ◌∙◌, ap, ap₂, arith}
 use Rattle.std.specs.List.{AllByRecursion, list_any}
 use Rattle.std.proofs.lemmas.Bool.{and_parts}
 use Rattle.std.proofs.lemmas.Bool.Decides.{nat_tests}

@@ -18,7 +18,7 @@ use Rattle.hub_tables.specs.declared.rows.PalletRow.{PalletRow}
 use Rattle.hub_tables.specs.declared.rows.ReceiptRow.{ReceiptRow}
 use Rattle.hub_tables.proofs.KeyOrder.{any_put, filter_put_in, filter_put_out, sum_put, put_last}
 use Rattle.hub_tables.proofs.KindOrders.{content_total, receipt_total}
-use Rattle.hub_tables.proofs.Lists.{decide, same_is, same_if, all_passes}
+use Rattle.hub_tables.proofs.Lists.{decide, same_is, same_if}
 use Rattle.hub_rules.specs.Sound.{Numbered, Single, same_spot, same_gtin, same_sscc}
 
 -- A list with one more.

@@ -1,5 +1,5 @@
 -- What is accepted is remembered, or was.
-use Rattle.std.proofs.Common.{◌≡◌, ◌↔◌, ℕ, Bool, true, false, cond, not, inl, inr, List, [], ◌∷◌, Option, Some, None, refl, sym, ◌∙◌, ap}
+use Rattle.std.proofs.Common.{◌≡◌, ℕ, Bool, true, false, cond, not, List, [], ◌∷◌, Option, Some, None, refl, sym, ◌∙◌, ap}
 use Rattle.std.specs.Bool.{⊤}
 use Rattle.hub_parties.specs.declared.row.SupplierRow.{SupplierRow}
 use Rattle.hub_tables.specs.Change.{apply_all}
@@ -9,9 +9,9 @@ use Rattle.hub_tables.specs.Tables.{Tables}
 use Rattle.hub_tables.specs.declared.cases.Side.{Side}
 use Rattle.hub_tables.specs.declared.change.Change.TheVariants.{Remember}
 use Rattle.hub_tables.specs.declared.rows.RememberedRow.{RememberedRow}
-use Rattle.hub_tables.proofs.Lists.{decide, same_is, same_if}
+use Rattle.hub_tables.proofs.Lists.{same_is, same_if}
 use Rattle.hub_rules.specs.Judging.{Judge, refuse_if, joined}
-use Rattle.hub_rules.specs.Laws.{IsRemembered, Remembers}
+use Rattle.hub_rules.specs.Laws.{Remembers}
 use Rattle.hub_rules.specs.PartyRules.{is_other_buyer, registered}
 use Rattle.hub_rules.specs.RepeatRules.{Reference, remembered, once, judge_once}
 use Rattle.hub_rules.specs.Rules.{referred_by, judge_message}

@@ -1,0 +1,207 @@
+-- What was accepted in a run and comes again later in it.
+use Rattle.std.proofs.Common.{◌≡◌, ℕ, zero, suc, ◌+◌, ◌<◌, ◌≤◌, true, false, ◌&&◌, if◌then◌else◌, List, [], ◌∷◌, ◌++◌, length, slice_get, take, Option, Some, None, refl, sym, ◌∙◌, ap, subst, arith}
+use Rattle.edi_envelope.specs.declared.interchange.Interchange.{Interchange}
+use Rattle.gs1_ids.specs.Overlap.{PrefixFree}
+use Rattle.hub_parties.specs.Rows.{Rows, parties_of, company_prefixes, supplier_of, row_of, role_by, role_of}
+use Rattle.hub_parties.specs.declared.role.Role.TheVariants.{Retailer, Supplier}
+use Rattle.hub_parties.specs.declared.row.SupplierRow.{SupplierRow}
+use Rattle.hub_tables.specs.Rows.{same}
+use Rattle.hub_tables.specs.Sets.{Has}
+use Rattle.hub_tables.specs.Tables.{Tables, view}
+use Rattle.hub_rules.specs.Sound.{Sound}
+use Rattle.hub_rules.specs.declared.delivery.Cancel.{Cancel}
+use Rattle.hub_law.specs.Again.{MessageAt, Reaches, SameMessage, tables_before, told_at}
+use Rattle.hub_law.specs.Machine.{Inputs, shared_step, shared_run, step_as}
+use Rattle.hub_law.specs.Mark.{Mark, Whole, StoppedEmpty, StoppedBare, StoppedAfter}
+use Rattle.hub_law.specs.Messages.{Sent, messages_at, deliver_suppliers, cancel}
+use Rattle.hub_law.specs.Remembered.{StaysRemembered}
+use Rattle.hub_law.specs.Replies.{cancel_reply}
+use Rattle.hub_law.specs.Requests.{deliver_named, retailer_request}
+use Rattle.hub_law.specs.Stops.{upload_by, upload_of, act_by, act_of}
+use Rattle.hub_law.specs.Told.{Told, Accepted, Repeated, Act, in_row}
+use Rattle.hub_law.specs.declared.reply.Reply.{Reply}
+use Rattle.hub_law.specs.declared.request.Input.{Input}
+use Rattle.hub_law.specs.declared.request.Request.TheVariants as requests
+use Rattle.hub_law.proofs.Acts.{suppliers_act}
+use Rattle.hub_law.proofs.Cutting.{whole_upload, behind_some}
+use Rattle.hub_law.proofs.Repeated.{named_repeated, suppliers_repeated, cancellation_repeated}
+use Rattle.hub_law.proofs.Retailers.{message_sound}
+use Rattle.hub_law.proofs.Runs.{run_sound}
+use Rattle.hub_law.proofs.Staying.{all_retailers_stay, all_suppliers_stay, run_stays}
+use Rattle.hub_law.proofs.Steps.{gln_of}
+
+-- Acts in a row, and what is told of one at a place.
+module _ {X : Type 0} (step : X → Act) where
+  told_there : (xs : List X) (place : ℕ) (x : X) (t : Tables) → slice_get xs place ≡ Some x → slice_get (in_row step xs t).0 place ≡ Some (step x (in_row step (take place xs) t).1).0
+  told_there [] zero x t h = cc
+  told_there [] (suc place) x t h = cc
+  told_there (y ∷ xs) zero x t h = let same : y ≡ x = cc in ap (λ x. Some (step x t).0) same
+  told_there (y ∷ xs) (suc place) x t h = told_there xs place x (step y t).1 h
+
+  behind_it : (xs : List X) (place : ℕ) (x : X) (t : Tables) → slice_get xs place ≡ Some x → (in_row step (take (suc place) xs) t).1 ≡ (step x (in_row step (take place xs) t).1).1
+  behind_it [] zero x t h = cc
+  behind_it [] (suc place) x t h = cc
+  behind_it (y ∷ xs) zero x t h = let same : y ≡ x = cc in ap (λ x. (step x t).1) same
+  behind_it (y ∷ xs) (suc place) x t h = behind_it xs place x (step y t).1 h
+
+  next_there : (xs : List X) (place : ℕ) (x : X) (t : Tables) → slice_get xs place ≡ Some x → (in_row step (take (place + 1) xs) t).1 ≡ (step x (in_row step (take place xs) t).1).1
+  next_there xs place x t h = ap (λ n. (in_row step (take n xs) t).1) (one_more place) ∙ behind_it xs place x t h
+    where
+      one_more : (n : ℕ) → n + 1 ≡ suc n
+      one_more n = omega arith
+
+  -- what more acts leave still remembers
+  module _ (stays : (xs : List X) (t : Tables) → StaysRemembered t (in_row step xs t).1) where
+    more_stay : (xs : List X) (few many : ℕ) (t : Tables) → few ≤ many → StaysRemembered (in_row step (take few xs) t).1 (in_row step (take many xs) t).1
+    more_stay xs zero many t less = stays (take many xs) t
+    more_stay [] (suc few) many t less = λ row there. subst (λ (rest : List X). Has (in_row step rest t).1.remembered row) (sym (take_none many)) there
+      where
+        take_none : (n : ℕ) → ◌≡◌ {A = List X} (take n []) []
+        take_none zero = refl
+        take_none (suc n) = refl
+    more_stay (x ∷ xs) (suc few) zero t less = absurd (omega arith)
+    more_stay (x ∷ xs) (suc few) (suc many) t less = more_stay xs few many (step x t).1 (omega arith)
+
+  row_sound : (P : Tables → Type 0) → ((x : X) (t : Tables) → P t → P (step x t).1) → (xs : List X) (t : Tables) → P t → P (in_row step xs t).1
+  row_sound P f [] t p = p
+  row_sound P f (x ∷ xs) t p = row_sound P f xs (step x t).1 (f x t p)
+
+all_taken : {X : Type 0} (xs : List X) → take (length xs) xs ≡ xs
+all_taken [] = refl
+all_taken (x ∷ xs) = ap (λ rest. x ∷ rest) (all_taken xs)
+
+within : {X : Type 0} (xs : List X) (place : ℕ) (x : X) → slice_get xs place ≡ Some x → place < length xs
+within [] zero x h = cc
+within [] (suc place) x h = cc
+within (y ∷ xs) zero x h = omega arith
+within (y ∷ xs) (suc place) x h = omega (arith, within xs place x h)
+
+run_of_both : (register : Rows) (t : Tables) (before later : Inputs) → (shared_run register t (before ++ later)).1 ≡ (shared_run register (shared_run register t before).1 later).1
+run_of_both register t [] later = refl
+run_of_both register t ((input, mark) ∷ before) later = run_of_both register (shared_step register t input mark).1 before later
+
+-- the act of whoever has a row, or none
+abbrev act_at : Rows → Option SupplierRow → Sent → Act
+act_at register (Some s) = deliver_suppliers (view s.gln) (parties_of register) s
+act_at register None = deliver_named register
+
+module _ (register : Rows) where
+  act_by_row : (input : Input) (upload : Interchange) (o : Option SupplierRow) → upload_by register (role_by register o input.caller input.key) o input.request ≡ Some upload → act_by register (role_by register o input.caller input.key) o ≡ act_at register o
+  act_by_row input upload (Some s) =
+      elim (same s.key input.key) as (λ v. upload_by register (if v then Some Supplier else None) (Some s) input.request ≡ Some upload → act_by register (if v then Some Supplier else None) (Some s) ≡ act_at register (Some s)) [ true ↦ λ h. refl | false ↦ λ h. cc ]
+  act_by_row input upload None =
+      elim (same register.retailer input.caller && same register.retailer_key input.key) as (λ v. upload_by register (if v then Some Retailer else None) None input.request ≡ Some upload → act_by register (if v then Some Retailer else None) None ≡ act_at register None) [ true ↦ λ h. refl | false ↦ λ h. cc ]
+
+  act_is : (input : Input) (upload : Interchange) → upload_of register input ≡ Some upload → act_of register input ≡ act_at register (row_of register input.caller)
+  act_is input upload h = act_by_row input upload (row_of register input.caller) h
+
+  acts_stay : (o : Option SupplierRow) (sents : List Sent) (t : Tables) → StaysRemembered t (in_row (act_at register o) sents t).1
+  acts_stay (Some s) sents t = all_suppliers_stay (view s.gln) (parties_of register) s sents t
+  acts_stay None sents t = all_retailers_stay register sents t
+
+  module _ (free : PrefixFree (company_prefixes register.suppliers)) where
+    act_sound : (gln : List ℕ) (o : Option SupplierRow) → row_of register gln ≡ o → (sent : Sent) (t : Tables) → Sound register.suppliers t → Sound register.suppliers (act_at register o sent t).1
+    act_sound gln (Some s) known sent t sound =
+        (suppliers_act register.suppliers free (parties_of register) s (ap (supplier_of register.suppliers) (gln_of register.suppliers gln s known) ∙ known) sent t sound).apart.sound
+    act_sound gln None known sent t sound = message_sound register free sent t sound
+
+    act_again : (o : Option SupplierRow) (sent again : Sent) (t u : Tables) → again.control ≡ sent.control → again.message ≡ sent.message → (act_at register o sent t).0 ≡ Accepted → StaysRemembered (act_at register o sent t).1 u → Sound register.suppliers u → act_at register o again u ≡ (Repeated, u)
+    act_again o sent again t u control message told stays sound =
+        let same_again : record sent { moment = again.moment; decimal = again.decimal } ≡ again = λ k. record { moment = again.moment; decimal = again.decimal; control = sym control k; message = sym message k } in
+        subst (λ (one : Sent). act_at register o one u ≡ (Repeated, u)) same_again (by_row o told stays)
+      where
+        by_row : (o : Option SupplierRow) → (act_at register o sent t).0 ≡ Accepted → StaysRemembered (act_at register o sent t).1 u → act_at register o (record sent { moment = again.moment; decimal = again.decimal }) u ≡ (Repeated, u)
+        by_row (Some s) told stays = suppliers_repeated register.suppliers (parties_of register) s sent again.moment again.decimal t u told stays sound
+        by_row None told stays = named_repeated register sent again.moment again.decimal t u told stays sound
+
+-- the tables after an upload that reached a place still remember what was there after the message
+module _ (register : Rows) (t : Tables) (input : Input) (upload : Interchange) (looked_at : upload_of register input ≡ Some upload) (place : ℕ) (stays : (sents : List Sent) (t : Tables) → StaysRemembered t (in_row (act_of register input) sents t).1) where
+  abbrev sents : List Sent
+  sents = messages_at input.moment upload
+
+  reached_stays : (mark : Mark) → place < length sents → Reaches mark upload place → StaysRemembered (in_row (act_of register input) (take (place + 1) sents) t).1 (shared_step register t input mark).1
+  reached_stays Whole there reaches =
+      subst (λ (after : Reply × Tables). StaysRemembered (in_row (act_of register input) (take (place + 1) sents) t).1 after.1) (sym (whole_upload register t input upload looked_at))
+      (subst (λ all. StaysRemembered (in_row (act_of register input) (take (place + 1) sents) t).1 (in_row (act_of register input) all t).1) (all_taken sents) (more_stay (act_of register input) stays sents (place + 1) (length sents) t (omega (arith, there))))
+  reached_stays StoppedEmpty there reaches = absurd reaches
+  reached_stays StoppedBare there reaches = absurd reaches
+  reached_stays (StoppedAfter k) there reaches =
+      subst (λ (after : Reply × Tables). StaysRemembered (in_row (act_of register input) (take (place + 1) sents) t).1 after.1) (sym (behind_some register t input k upload looked_at reaches.1))
+      (more_stay (act_of register input) stays sents (place + 1) k t (omega (arith, reaches.0)))
+
+-- The message that comes again.
+module _ (register : Rows) (t : Tables) (before between : Inputs) (first second : Input) (mark : Mark) (place later : ℕ) (sent again : Sent) (one : MessageAt register first place sent) (other : MessageAt register second later again)
+    (free : PrefixFree (company_prefixes register.suppliers)) (sound : Sound register.suppliers t) (alike : SameMessage first second sent again) (reaches : Reaches mark one.upload place) (told : told_at register t before first one.upload place ≡ Some Accepted) where
+  abbrev whose : Option SupplierRow
+  whose = row_of register first.caller
+
+  abbrev whole_run : Inputs
+  whole_run = before ++ (first, mark) ∷ between
+
+  abbrev at_first : Tables
+  at_first = (shared_run register t before).1
+
+  abbrev at_second : Tables
+  at_second = (shared_run register t whole_run).1
+
+  abbrev here : Tables
+  here = tables_before register t before first one.upload place
+
+  abbrev there : Tables
+  there = tables_before register t whole_run second other.upload later
+
+  first_act : act_of register first ≡ act_at register whose
+  first_act = act_is register first one.upload one.looked_at
+
+  second_act : act_of register second ≡ act_at register whose
+  second_act = act_is register second other.upload other.looked_at ∙ ap (λ caller. act_at register (row_of register caller)) alike.caller
+
+  stays_of : (input : Input) → act_of register input ≡ act_at register whose → (sents : List Sent) (u : Tables) → StaysRemembered u (in_row (act_of register input) sents u).1
+  stays_of input is = subst (λ act. (sents : List Sent) (u : Tables) → StaysRemembered u (in_row act sents u).1) (sym is) (acts_stay register whose)
+
+  accepted : (act_of register first sent here).0 ≡ Accepted
+  accepted = let both : Some (act_of register first sent here).0 ≡ Some Accepted = sym (told_there (act_of register first) (messages_at first.moment one.upload) place sent at_first one.there) ∙ told in cc
+
+  remembers : StaysRemembered (act_of register first sent here).1 there
+  remembers = λ row was.
+      let after : Has (in_row (act_of register first) (take (place + 1) (messages_at first.moment one.upload)) at_first).1.remembered row = subst (λ (u : Tables). Has u.remembered row) (sym (next_there (act_of register first) (messages_at first.moment one.upload) place sent at_first one.there)) was in
+      let stepped = reached_stays register at_first first one.upload one.looked_at place (stays_of first first_act) mark (within (messages_at first.moment one.upload) place sent one.there) reaches row after in
+      let ran = run_stays register (shared_step register at_first first mark).1 between row stepped in
+      stays_of second second_act (take later (messages_at second.moment other.upload)) at_second row (subst (λ (u : Tables). Has u.remembered row) (sym (run_of_both register t before ((first, mark) ∷ between))) ran)
+
+  sound_there : Sound register.suppliers there
+  sound_there =
+      row_sound (act_of register second) (Sound register.suppliers)
+      (subst (λ act. (sent : Sent) (u : Tables) → Sound register.suppliers u → Sound register.suppliers (act sent u).1) (sym second_act) (act_sound register free first.caller whose refl))
+      (take later (messages_at second.moment other.upload)) at_second (run_sound register free t whole_run sound)
+
+  repeated : act_of register second again there ≡ (Repeated, there)
+  repeated =
+      subst (λ act. act again there ≡ (Repeated, there)) (sym second_act)
+      (act_again register free whose sent again here there alike.control alike.message (subst (λ act. (act sent here).0 ≡ Accepted) first_act accepted) (subst (λ act. StaysRemembered (act sent here).1 there) first_act remembers) sound_there)
+
+  pub told_again : told_at register t whole_run second other.upload later ≡ Some Repeated
+  told_again = told_there (act_of register second) (messages_at second.moment other.upload) later again at_second other.there ∙ ap (λ (after : Told × Tables). Some after.0) repeated
+
+  pub left_again : tables_before register t whole_run second other.upload (later + 1) ≡ there
+  left_again = next_there (act_of register second) (messages_at second.moment other.upload) later again at_second other.there ∙ ap (λ (after : Told × Tables). after.1) repeated
+
+-- The cancellation that comes again.
+module _ (register : Rows) (c : Cancel) where
+  abbrev cancels : Act
+  cancels = cancel (view c.supplier) (supplier_of register.suppliers c.supplier) c
+
+  step_cancels : (input : Input) (u : Tables) → role_of register input.caller input.key ≡ Some Retailer → input.request ≡ requests.Cancel c → shared_step register u input Whole ≡ (cancel_reply (cancels u).0, (cancels u).1)
+  step_cancels input u role asks = ap (λ role. step_as register role (row_of register input.caller) input Whole u) role ∙ ap (λ request. retailer_request register input.moment Whole request u) asks
+
+  pub cancelled_again : (t : Tables) (before between : Inputs) (first second : Input) → PrefixFree (company_prefixes register.suppliers) → Sound register.suppliers t → role_of register first.caller first.key ≡ Some Retailer → role_of register second.caller second.key ≡ Some Retailer →
+      first.request ≡ requests.Cancel c → second.request ≡ requests.Cancel c → (cancels (shared_run register t before).1).0 ≡ Accepted →
+      shared_step register (shared_run register t (before ++ (first, Whole) ∷ between)).1 second Whole ≡ (cancel_reply Repeated, (shared_run register t (before ++ (first, Whole) ∷ between)).1)
+  cancelled_again t before between first second free sound first_role second_role first_asks second_asks told =
+      let at_first = (shared_run register t before).1 in
+      let at_second = (shared_run register t (before ++ (first, Whole) ∷ between)).1 in
+      let stays : StaysRemembered (cancels at_first).1 at_second = λ row was.
+      let stepped : Has (shared_step register at_first first Whole).1.remembered row = subst (λ (after : Reply × Tables). Has after.1.remembered row) (sym (step_cancels first at_first first_role first_asks)) was in
+      subst (λ (u : Tables). Has u.remembered row) (sym (run_of_both register t before ((first, Whole) ∷ between))) (run_stays register (shared_step register at_first first Whole).1 between row stepped) in
+      step_cancels second at_second second_role second_asks
+      ∙ ap (λ (after : Told × Tables). (cancel_reply after.0, after.1)) (cancellation_repeated register c at_first at_second told stays (run_sound register free t (before ++ (first, Whole) ∷ between) sound))
