@@ -8,6 +8,10 @@ use Rattle.edi_envelope.specs.declared.interchange.RawMessage.{RawMessage}
 use Rattle.edi_envelope.specs.Segments.{is_unh, is_unt}
 use Rattle.edi_envelope.specs.Moment.{date_text, time_text}
 
+-- the greatest number of a mail text
+abbrev pub last_number : ℕ
+last_number = 99_999_999_999_999
+
 -- the elements, where the first component of one is `1`; where there is none, they stay
 abbrev pub with_one : List (List (List ℕ)) → ℕ → List (List (List ℕ))
 with_one elements place = slice_set elements place (slice_set (element_at elements place) 0 (codes "1"))

@@ -2,7 +2,7 @@ ghost use Rattle.std.specs.Prelude.{◌≡◌, ◌≤◌, [], ◌∷◌, All, Is
 ghost use Rattle.edi_tokens.specs.Characters.{is_digit};
 ghost use Rattle.edi_tokens.specs.Text.{text};
 ghost use Rattle.edi_envelope.specs.Moment.{date_text, time_text};
-ghost use Rattle.edi_envelope.specs.Mail.{unb_from, unz_of, with_one, renumbered, mail_segments, mail_body};
+ghost use Rattle.edi_envelope.specs.Mail.{unb_from, unz_of, with_one, renumbered, mail_segments, mail_body, last_number};
 
 use crate::interchange::RawMessage;
 use crate::moment::{Moment, date_digits, time_digits};
@@ -137,7 +137,7 @@ pub fn wrap(
 ) -> Result<Items<Segment>, MemoryFault>
     requires hub { All (λ digit. IsTrue (is_digit digit)) hub.now }
     requires owner { All (λ digit. IsTrue (is_digit digit)) owner.now }
-    requires number { (1 ≤ number) × (number ≤ LAST_MAIL_NUMBER) }
+    requires number { (1 ≤ number) × (number ≤ last_number) }
     ensures segments { IfOk result (λ segments. segments ≡ mail_segments hub.now owner.now moment number message.now) }
     ensures text { IfOk result (λ segments. text segments ≡ mail_body hub.now owner.now moment number message.now) }
 {

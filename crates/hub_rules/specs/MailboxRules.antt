@@ -1,6 +1,6 @@
 -- Entries of a mailbox, and the rule on their number (B16).
 use Rattle.std.specs.Prelude.{ℕ, false, List}
-use Rattle.edi_envelope.specs.declared.TheConstants.{LAST_MAIL_NUMBER}
+use Rattle.edi_envelope.specs.Mail.{last_number}
 use Rattle.hub_tables.specs.Cases.{kind_letter, truth_number}
 use Rattle.hub_tables.specs.State.{next_mail}
 use Rattle.hub_tables.specs.Tables.{Tables}
@@ -11,7 +11,7 @@ use Rattle.hub_rules.specs.declared.delivery.Delivery.{Delivery}
 
 -- the greatest number of an entry
 abbrev pub mail_limit : ℕ
-mail_limit = LAST_MAIL_NUMBER
+mail_limit = last_number
 
 -- an entry with a number
 abbrev pub mail_entry : List ℕ → ℕ → Delivery → MailKind → List ℕ → List ℕ → Change
