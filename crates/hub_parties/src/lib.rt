@@ -8,4 +8,3 @@ mod row;
 pub use key::Key;
 pub use role::Role;
 pub use row::SupplierRow;
-

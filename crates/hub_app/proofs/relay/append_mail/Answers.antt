@@ -1,4 +1,4 @@
-use Rattle.std.proofs.Common.{ap, ◌∙◌}
+use Rattle.std.proofs.Common.{ℕ, List, ◌++◌, ap, ◌∙◌}
 use Rattle.std.proofs.lemmas.Result.{on_ok_weaker}
 use Rattle.edi_tokens.specs.Text.{text, una}
 use Rattle.edi_envelope.specs.Mail.{mail_body}
@@ -10,5 +10,5 @@ returns c =
     let w = c.args.words.now in
     on_ok_weaker c.append_text.result (λ e. behind c.args.out.now.items (una c.args.decimal) (mail_body w.hub w.owner w.moment c.args.number c.args.message.now)
     c.extend_from_slice.new.self.items (text c.as_slice.result.now) c.append_text.new.out.items
-    c.in_ok-extend_from_slice.ensures.items
+    (c.in_ok-extend_from_slice.ensures.items ∙ ap (λ (service : List ℕ). c.args.out.now.items ++ service) c.service_string.ensures)
     (ap text c.as_slice.ensures ∙ c.in_ok-segments.ensures.text) e) c.append_text.ensures.ok
