@@ -1,7 +1,8 @@
+use crate::doubles::{Dribble, outcome, sink_with_room};
 use edi_base::*;
 use std::alloc::Global;
 use std::io;
-use std::io::{Error, ErrorKind, Read, Write};
+use std::io::{Error, ErrorKind, Read};
 use std::test::*;
 
 /// So many bytes, none of them equal to one beside it.
@@ -26,51 +27,6 @@ fn items_are_those_of_a_vector(rt: HostRuntime) -> Result<(), Fail> {
     let found = (again.as_slice(), copy.as_slice());
     assert_eq!(rt; found, (b"\x07\x05".as_slice(), b"\x00\xff".as_slice()));
     Ok(())
-}
-
-/// A writer that takes one byte at a time, and then fails, or takes nothing.
-#[derive(Drop)]
-struct Dribble {
-    written: Vec<u8>,
-    room: usize,
-    fails: bool,
-}
-
-impl Write for Dribble {
-    fn write(&mut self, bytes: &[u8]) -> io::Result<usize> {
-        if self.written.len() >= self.room {
-            return if self.fails {
-                Err(Error::from(ErrorKind::BrokenPipe))
-            } else {
-                Ok(0)
-            };
-        }
-        let Some(byte) = bytes.first() else {
-            return Ok(0);
-        };
-        self.written.push(*byte)?;
-        Ok(1)
-    }
-
-    fn flush(&mut self) -> io::Result<()> {
-        Ok(())
-    }
-}
-
-/// A writer with room for so many bytes, which then fails, or takes nothing.
-fn sink_with_room(alloc: Global, room: usize, fails: bool) -> OfWrite<Dribble> {
-    OfWrite::new(Dribble {
-        written: Vec::new(alloc),
-        room,
-        fails,
-    })
-}
-
-/// What came of a write: whether it succeeded, whether the sink has failed, and what was taken.
-fn outcome(wrote: Result<(), WriteFault>, sink: OfWrite<Dribble>) -> (bool, bool, Vec<u8>) {
-    let failed = sink.failed();
-    let Dribble { written, .. } = sink.into_inner();
-    (wrote.is_ok(), failed, written)
 }
 
 #[test]

@@ -4,6 +4,8 @@
 #[cfg(test)]
 mod base;
 #[cfg(test)]
+mod doubles;
+#[cfg(test)]
 mod envelope;
 #[cfg(test)]
 mod goods;

@@ -1,7 +1,6 @@
+use crate::doubles::{outcome, sink_with_room};
 use edi_tokens::*;
 use std::alloc::Global;
-use std::io;
-use std::io::{Error, ErrorKind, Write};
 use std::test::*;
 
 const ORDERS: &[u8] =
@@ -95,35 +94,6 @@ fn each_text_gives_its_canonical_text(rt: HostRuntime) -> Result<(), Fail> {
     Ok(())
 }
 
-/// A writer that takes one byte at a time, and then fails, or takes nothing.
-#[derive(Drop)]
-struct Dribble {
-    written: Vec<u8>,
-    room: usize,
-    fails: bool,
-}
-
-impl Write for Dribble {
-    fn write(&mut self, bytes: &[u8]) -> io::Result<usize> {
-        if self.written.len() >= self.room {
-            return if self.fails {
-                Err(Error::from(ErrorKind::BrokenPipe))
-            } else {
-                Ok(0)
-            };
-        }
-        let Some(byte) = bytes.first() else {
-            return Ok(0);
-        };
-        self.written.push(*byte)?;
-        Ok(1)
-    }
-
-    fn flush(&mut self) -> io::Result<()> {
-        Ok(())
-    }
-}
-
 /// Writes segments to a writer with so much room: whether that succeeds, whether the sink has failed, and what is written.
 fn written(
     alloc: Global,
@@ -132,15 +102,9 @@ fn written(
     room: usize,
     fails: bool,
 ) -> (bool, bool, Vec<u8>) {
-    let mut sink = OfWrite::new(Dribble {
-        written: Vec::new(alloc),
-        room,
-        fails,
-    });
-    let is_ok = write_text(segments, decimal, &mut sink).is_ok();
-    let failed = sink.failed();
-    let Dribble { written, .. } = sink.into_inner();
-    (is_ok, failed, written)
+    let mut sink = sink_with_room(alloc, room, fails);
+    let wrote = write_text(segments, decimal, &mut sink);
+    outcome(wrote, sink)
 }
 
 #[test]

@@ -17,14 +17,14 @@ use Rattle.hub_lines.specs.declared.facts.LineFacts.{LineFacts}
 use Rattle.hub_lines.proofs.InOrder.{first_at}
 
 abbrev pub key_cmp : LineKey → LineKey → Ordering
-key_cmp a b = ordering_then (bytes_cmp a.order b.order) (nat_cmp a.number b.number)
+key_cmp a b = ordering_then (bytes_cmp a.number b.number) (nat_cmp a.line b.line)
 
 pub key_total : IsTotalOrder key_cmp
-key_total = then_total (on_total (λ k. k.order) nat_list_cmp_total) (on_total (λ k. k.number) nat_cmp_total)
+key_total = then_total (on_total (λ k. k.number) nat_list_cmp_total) (on_total (λ k. k.line) nat_cmp_total)
 
 -- a key of a number of an order
 abbrev pub number_key : List ℕ → ℕ → LineKey
-number_key order number = record { order = order; number = number; gtin = [] }
+number_key number line = record { number = number; line = line; gtin = [] }
 
 pub rise_in_order : (lines : List LineFacts) → Rise lines → InOrder (λ a b. key_cmp (key_of a) (key_of b)) lines
 rise_in_order [] rise = tt

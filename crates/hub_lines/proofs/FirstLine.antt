@@ -24,7 +24,7 @@ then_less Less p h = refl
 then_less Equal p h = refl
 then_less Greater p h = cc
 
-order_in_order : (lines : List LineFacts) → Rise lines → InOrder (λ a b. bytes_cmp (key_of a).order (key_of b).order) lines
+order_in_order : (lines : List LineFacts) → Rise lines → InOrder (λ a b. bytes_cmp (key_of a).number (key_of b).number) lines
 order_in_order [] rise = tt
 order_in_order (line ∷ lines) rise =
     (all_weaker (λ later. facts_cmp line later ≡ Less) (λ later. is_gt (bytes_cmp line.row.number later.row.number) ≡ false) (λ later less. then_less (bytes_cmp line.row.number later.row.number) (nat_cmp line.row.line later.row.line) less) lines rise.0, order_in_order lines rise.1)
@@ -39,7 +39,7 @@ by_order : (lines : List LineFacts) (order : List ℕ) → Rise lines →
     find (λ line. same line.row.number order) lines ≡ option_filter (λ line. same line.row.number order) (slice_get lines (place_from order 0 (keys_of lines)))
 by_order lines order rise =
     sym (λ i. find (λ (line : LineFacts). is_eq-slice_cmp line.row.number order i) lines)
-    ∙ first_at (on_total (λ (key : LineKey). key.order) nat_list_cmp_total) key_of (number_key order 0) (is_below order 0) (λ key. below_first (bytes_cmp key.order order) key.number) lines (order_in_order lines rise)
+    ∙ first_at (on_total (λ (key : LineKey). key.number) nat_list_cmp_total) key_of (number_key order 0) (is_below order 0) (λ key. below_first (bytes_cmp key.number order) key.line) lines (order_in_order lines rise)
     ∙ (λ i. option_filter (λ (line : LineFacts). is_eq-slice_cmp line.row.number order i) (slice_get lines (place_from order 0 (keys_of lines))))
 
 some_found : {X : Type 0} (p : X → Bool) (xs : List X) → list_any p xs ≡ true → (x : X) × (find p xs ≡ Some x)

@@ -23,7 +23,7 @@ same_item a b = (a.0 == b.0) && same a.1 b.1
 
 -- the item of a line of these lines
 abbrev pub item_of : List LineKey → LineKey → OrderItem
-item_of keys key = (place_from key.order 0 keys, key.gtin)
+item_of keys key = (place_from key.number 0 keys, key.gtin)
 
 abbrev pub has_item : List LineKey → OrderItem → LineKey → Bool
 has_item keys item key = same_item (item_of keys key) item

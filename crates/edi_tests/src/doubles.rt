@@ -1,0 +1,54 @@
+//! Fake writers.
+
+use edi_base::{OfWrite, WriteFault};
+use std::alloc::Global;
+use std::io;
+use std::io::{Error, ErrorKind, Write};
+
+/// A writer that takes one byte at a time, and then fails, or takes nothing.
+#[derive(Drop)]
+pub(crate) struct Dribble {
+    written: Vec<u8>,
+    room: usize,
+    fails: bool,
+}
+
+impl Write for Dribble {
+    fn write(&mut self, bytes: &[u8]) -> io::Result<usize> {
+        if self.written.len() >= self.room {
+            return if self.fails {
+                Err(Error::from(ErrorKind::BrokenPipe))
+            } else {
+                Ok(0)
+            };
+        }
+        let Some(byte) = bytes.first() else {
+            return Ok(0);
+        };
+        self.written.push(*byte)?;
+        Ok(1)
+    }
+
+    fn flush(&mut self) -> io::Result<()> {
+        Ok(())
+    }
+}
+
+/// A writer with room for so many bytes, which then fails, or takes nothing.
+pub(crate) fn sink_with_room(alloc: Global, room: usize, fails: bool) -> OfWrite<Dribble> {
+    OfWrite::new(Dribble {
+        written: Vec::new(alloc),
+        room,
+        fails,
+    })
+}
+
+/// What came of a write: whether it succeeded, whether the sink has failed, and what was taken.
+pub(crate) fn outcome(
+    wrote: Result<(), WriteFault>,
+    sink: OfWrite<Dribble>,
+) -> (bool, bool, Vec<u8>) {
+    let failed = sink.failed();
+    let Dribble { written, .. } = sink.into_inner();
+    (wrote.is_ok(), failed, written)
+}
