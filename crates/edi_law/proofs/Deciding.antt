@@ -1,6 +1,6 @@
 -- Tests that decide a relation, and answers that are there exactly where a relation holds.
-use Rattle.std.proofs.Common.{◌≡◌, ℕ, ◌≤◌, Bool, true, false, cond, List, [], ◌∷◌, Option, Some, None, refl, sym, ap, ◌∙◌}
-use Rattle.std.specs.Prelude.{nat_le, ◌==◌, ◌||◌, ◌≢◌, not, ⊤, is_some, option_and_then, unwrap_or, Decides}
+use Rattle.std.proofs.Common.{◌≡◌, ℕ, ◌≤◌, Bool, true, false, cond, List, [], ◌∷◌, Option, Some, None, refl, sym, ap, subst, ◌∙◌}
+use Rattle.std.specs.Prelude.{nat_le, ◌==◌, ◌||◌, ◌&&◌, ◌≢◌, not, ⊤, is_some, option_and_then, unwrap_or, Decides}
 use Rattle.std.specs.List.{list_all, list_any, AllByRecursion}
 use Rattle.std.proofs.lemmas.Bool.{leb-true, le-leb, eqb-false, ne_eqb, true≢false, or_parts, or_from}
 use Rattle.std.proofs.lemmas.Bool.Decides.{Decides-and}
@@ -19,6 +19,10 @@ Refutes-not false d = ((λ e. absurd (true≢false e)), (λ h. absurd (true≢fa
 
 pub Refutes-or : {P Q : Type 0} (a b : Bool) → Refutes a P → Refutes b Q → Refutes (a || b) (P × Q)
 Refutes-or a b d k = ((λ e. let both = or_parts a b e in (d.0 both.0, k.0 both.1)), (λ h. or_from a b (d.1 h.0) (k.1 h.1)))
+
+pub Refutes-and : {P Q : Type 0} (a b : Bool) → Decides a P → Refutes b Q → Refutes (a && b) (P → Q)
+Refutes-and true b d k = ((λ e p. k.0 e), (λ h. k.1 (h (d.0 refl))))
+Refutes-and false b d k = ((λ e p. absurd (true≢false (sym (d.1 p)))), (λ h. refl))
 
 pub or_refuted : (a b : Bool) (P : Type 0) → (a ≡ true → b ≡ false → P) → (P → a ≡ true) → (P → b ≡ false) → Refutes (not a || b) P
 or_refuted true b P to first second = ((λ e. to refl e), second)
@@ -75,6 +79,18 @@ module _ {X : Type 0} where
 
   pub unwrap_of : (o : Option X) (P : X → Type 0) (d x : X) → Says o P → P x → x ≡ unwrap_or o d
   unwrap_of o P d x says h = sym (ap (λ answer. unwrap_or answer d) ((says x).1 h))
+
+  -- the first of three tests that passes chooses its answer
+  pub chosen : (x y z : X) (a b c : Bool) (P : X → Type 0) → (a ≡ true → P x) → (b ≡ true → P y) → (c ≡ true → P z) → (answer : X) → cond a (Some x) (cond b (Some y) (cond c (Some z) None)) ≡ Some answer → P answer
+  chosen x y z true b c P first second third answer e = subst P (same_some x answer e) (first refl)
+  chosen x y z false true c P first second third answer e = subst P (same_some y answer e) (second refl)
+  chosen x y z false false true P first second third answer e = subst P (same_some z answer e) (third refl)
+  chosen x y z false false false P first second third answer e = absurd cc
+
+  -- a test of what is looked at only where a first test passes
+  pub Decides-read : (read : Bool) (xs : List X) (t : List X → Bool) (P Q : Type 0) → t [] ≡ true → Decides read P → Decides (t xs) Q → Decides (t (cond read xs [])) (P → Q)
+  Decides-read true xs t P Q none d k = ((λ e p. k.0 e), (λ h. k.1 (h (d.0 refl))))
+  Decides-read false xs t P Q none d k = ((λ e p. absurd (true≢false (sym (d.1 p)))), (λ h. none))
 
   pub Decides-of : (o : Option X) (P : X → Type 0) (t : Option X → Bool) (Q : X → Type 0) → Says o P → t None ≡ false → ((x : X) → Decides (t (Some x)) (Q x)) → Decides (t o) ((x : X) × P x × Q x)
   Decides-of None P t Q says none each = (λ e. absurd (true≢false (sym e ∙ none)), λ h. let e = (says h.0).1 h.1 in absurd cc)

@@ -1,6 +1,6 @@
 -- What is read of a header is what is right in it.
 use Rattle.std.proofs.Common.{◌≡◌, ◌≢◌, ℕ, suc, Bool, true, false, List, [], ◌∷◌, length, filter, inl, inr, refl, sym, ap, subst, ◌∙◌, arith}
-use Rattle.std.specs.Prelude.{◌==◌, codes, Decides}
+use Rattle.std.specs.Prelude.{is_some, ◌==◌, codes, Decides}
 use Rattle.std.specs.Str.{bytes_eq}
 use Rattle.std.proofs.lemmas.Bool.{cases_Bool, true≢false, eqb-true, and_parts, and_from}
 use Rattle.std.proofs.lemmas.List.{nil_from_length}
@@ -17,7 +17,7 @@ use Rattle.edi_law.specs.Header.{IsOfType, Begins, HasFunction, IsDated, IsNamed
 use Rattle.edi_law.specs.Parts.{HasNone, OfOnly}
 use Rattle.edi_law.specs.Segments.{says}
 use Rattle.edi_law.specs.Values.{IsDocumentNumber, IsDate}
-use Rattle.edi_law.proofs.Deciding.{Says, Says-like, Says-if}
+use Rattle.edi_law.proofs.Deciding.{Decides-is_some, Says, Says-like, Says-if}
 use Rattle.edi_law.proofs.PartLemmas.{Decides-header, Says-header, Decides-of_only, Says-of_only, none_passes, passes_none}
 use Rattle.edi_law.proofs.ValueLemmas.{Decides-document_number, Decides-date}
 
@@ -131,3 +131,6 @@ pub Says-party : (role : List ℕ) (message : List Segment) → Says (party role
 Says-party role message =
     Says-header _ (λ gln header. OfOnly (says (codes "NAD") role) header (IsNamed gln))
     (Says-of_only (says (codes "NAD") role) named_by IsNamed Says-named) message
+
+pub Decides-party : (role : List ℕ) (message : List Segment) → Decides (is_some (party role message)) ((gln : List ℕ) × NamesParty role message gln)
+Decides-party role message = Decides-is_some (party role message) (NamesParty role message) (Says-party role message)

@@ -4,5 +4,7 @@ mod LineLemmas
 mod LowestLemmas
 mod OrderLemmas
 mod PartLemmas
+mod ReferenceLemmas
+mod ResponseLemmas
 mod SummaryLemmas
 mod ValueLemmas

@@ -21,7 +21,7 @@ use Rattle.edi_law.proofs.Deciding.{Says, Refutes, Refutes-false, Refutes-or, Re
 use Rattle.edi_law.proofs.PartLemmas.{Says-of_only}
 use Rattle.edi_law.proofs.ValueLemmas.{Says-line_number, Says-quantity}
 
-Decides-nothing : {X : Type 0} (xs : List X) → Decides (length xs == 0) (xs ≡ [])
+pub Decides-nothing : {X : Type 0} (xs : List X) → Decides (length xs == 0) (xs ≡ [])
 Decides-nothing xs = Decides-like (length xs == 0) (nil_from_length xs) (λ e. ap length e) (Decides-eqb (length xs) 0)
 
 -- the item

@@ -21,10 +21,10 @@ use Rattle.edi_law.specs.Lowest.{IsLowest, IsFaultless}
 use Rattle.edi_law.specs.Order.{AreNumbered, IsRight, IsOrderLine, IsOrder}
 use Rattle.edi_law.specs.Parts.{OfLines}
 use Rattle.edi_law.proofs.Deciding.{Refutes, or_refuted, Refutes-not, Refutes-false, Decides-all, Decides-is_some, said_of, unwrap_of}
-use Rattle.edi_law.proofs.HeaderLemmas.{Decides-type, Decides-begins, Decides-function, Decides-dated, Says-party, Begins-begins_as, begins_as-from_Begins, document_number-from_Begins}
+use Rattle.edi_law.proofs.HeaderLemmas.{Decides-party, Decides-type, Decides-begins, Decides-function, Decides-dated, Says-party, Begins-begins_as, begins_as-from_Begins, document_number-from_Begins}
 use Rattle.edi_law.proofs.LineLemmas.{line_there, is_line-from_IsLine, number-from_IsLine, item-from_IsLine, Says-quantity_of, Refutes-twice}
 use Rattle.edi_law.proofs.LowestLemmas.{judged_fault, judged_content}
-use Rattle.edi_law.proofs.PartLemmas.{AreLineGroups-line_groups, line_groups-from_AreLineGroups, Decides-lines}
+use Rattle.edi_law.proofs.PartLemmas.{Refutes-lines, AreLineGroups-line_groups, line_groups-from_AreLineGroups, Decides-lines}
 use Rattle.edi_law.proofs.SummaryLemmas.{Decides-closed, Decides-controlled, Refutes-no_line}
 
 -- the lines
@@ -52,17 +52,8 @@ Refutes-numbered groups = or_refuted (list_all is_line groups) (has_number_twice
     (λ h. (numbered_lines groups h.numbers h.lines).0)
     (λ h. (Refutes-twice (map number_or_zero groups)).1 (subst NoneTwice (sym (numbered_lines groups h.numbers h.lines).1) h.apart))
 
-Refutes-lines : (t : List (List Segment) → Bool) (Are : List (List Segment) → Type 0) → ((groups : List (List Segment)) → Refutes (t groups) (Are groups)) → (message : List Segment) → Refutes (t (line_groups message)) (OfLines Are message)
-Refutes-lines t Are each message = (
-  (λ e. record { groups = line_groups message; are_groups = AreLineGroups-line_groups message; are = (each (line_groups message)).0 e }),
-  (λ h. ap t (line_groups-from_AreLineGroups h.groups message h.are_groups) ∙ (each h.groups).1 h.are),
-)
-
 Decides-ordered : (group : List Segment) → Decides (is_some (ordered group)) ((quantity : ℕ) × HasQuantity (codes "21") 1 group quantity)
 Decides-ordered group = Decides-is_some (ordered group) (HasQuantity (codes "21") 1 group) (Says-quantity_of (codes "21") 1 group)
-
-Decides-party : (role : List ℕ) (message : List Segment) → Decides (is_some (party role message)) ((gln : List ℕ) × NamesParty role message gln)
-Decides-party role message = Decides-is_some (party role message) (NamesParty role message) (Says-party role message)
 
 -- each condition
 refutes : (m : RawMessage) (fault : MessageFault) → Refutes (holds fault m) (IsRight m fault)

@@ -8,7 +8,7 @@ use Rattle.edi_tokens.specs.declared.segment.Segment.{Segment}
 use Rattle.edi_messages.specs.Parts.{only, header, line_groups, up_to_end}
 use Rattle.edi_law.specs.Parts.{HasNone, BeginsWith, IsFront, IsOnly, IsHeader, AreParts, AreLineGroups, OfHeader, OfLines, OfOnly}
 use Rattle.edi_law.specs.Segments.{is_line_item, parts_lines}
-use Rattle.edi_law.proofs.Deciding.{Says, same_some, Says-then, Decides-of}
+use Rattle.edi_law.proofs.Deciding.{Refutes, Says, same_some, Says-then, Decides-of}
 
 -- what stands in front of the first of a kind, and the rest
 module _ {X : Type 0} where
@@ -169,6 +169,9 @@ module _ (kind : Segment → Bool) where
         | inr not_ ↦ rw not_ ((λ e. (refl, (Decides-none part).0 e)), (λ h. (Decides-none part).1 h.1))
       ]
 
+pub only_some : (kind : Segment → Bool) (part : List Segment) (s : Segment) → IsOnly kind part s → HasNone kind part → ⊥
+only_some kind part s h none = let e : None ≡ Some s = sym (ap only (none_passes kind part none)) ∙ (Says-only kind part s).1 h in absurd cc
+
 -- the parts
 module _ (begins ends : Segment → Bool) (apart : (s : Segment) → ends s ≡ false → begins s ≡ false) where
   abbrev pub cut : List Segment → List (List Segment)
@@ -281,4 +284,10 @@ pub Decides-lines : (t : List (List Segment) → Bool) (Are : List (List Segment
 Decides-lines t Are each segments = (
   (λ e. record { groups = line_groups segments; are_groups = AreLineGroups-line_groups segments; are = (each (line_groups segments)).0 e }),
   (λ h. ap t (line_groups-from_AreLineGroups h.groups segments h.are_groups) ∙ (each h.groups).1 h.are),
+)
+
+pub Refutes-lines : (t : List (List Segment) → Bool) (Are : List (List Segment) → Type 0) → ((groups : List (List Segment)) → Refutes (t groups) (Are groups)) → (message : List Segment) → Refutes (t (line_groups message)) (OfLines Are message)
+Refutes-lines t Are each message = (
+  (λ e. record { groups = line_groups message; are_groups = AreLineGroups-line_groups message; are = (each (line_groups message)).0 e }),
+  (λ h. ap t (line_groups-from_AreLineGroups h.groups message h.are_groups) ∙ (each h.groups).1 h.are),
 )

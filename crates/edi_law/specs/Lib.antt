@@ -3,6 +3,8 @@ pub mod Lines
 pub mod Lowest
 pub mod Order
 pub mod Parts
+pub mod References
+pub mod Response
 pub mod Segments
 pub mod Summary
 pub mod Values

@@ -2,6 +2,8 @@
 //! segments stand and what they say, apart from how a message is read.
 #![tactic(auto)]
 
-mod orders;
+mod order;
+mod response;
 
-pub use orders::order_law;
+pub use order::order_law;
+pub use response::response_law;

@@ -1,5 +1,5 @@
 use Rattle.edi_law.proofs.OrderLemmas.{fault_law, order_law}
-use Rattle.edi_law.proofs.orders.order_law.Goals as goal
+use Rattle.edi_law.proofs.order.order_law.Goals as goal
 
 pub returns-clause-fault : goal.returns-clause-fault
 returns-clause-fault c = fault_law
