@@ -1,8 +1,8 @@
 -- Tests that decide a relation, and answers that are there exactly where a relation holds.
 use Rattle.std.proofs.Common.{◌≡◌, ℕ, ◌≤◌, Bool, true, false, cond, List, [], ◌∷◌, Option, Some, None, refl, sym, ap, subst, ◌∙◌}
-use Rattle.std.specs.Prelude.{nat_le, ◌==◌, ◌||◌, ◌&&◌, ◌≢◌, not, ⊤, is_some, option_and_then, unwrap_or, Decides}
+use Rattle.std.specs.Prelude.{nat_le, ◌||◌, ◌&&◌, ◌≢◌, not, ⊤, is_some, option_and_then, unwrap_or, Decides}
 use Rattle.std.specs.List.{list_all, list_any, AllByRecursion}
-use Rattle.std.proofs.lemmas.Bool.{leb-true, le-leb, eqb-false, ne_eqb, true≢false, or_parts, or_from}
+use Rattle.std.proofs.lemmas.Bool.{leb-true, le-leb, true≢false, or_parts, or_from}
 use Rattle.std.proofs.lemmas.Bool.Decides.{Decides-and}
 
 -- the answer is there exactly where the relation holds of it
@@ -31,8 +31,9 @@ or_refuted false b P to first second = ((λ e. absurd (true≢false e)), (λ h. 
 pub Refutes-false : Refutes false ⊤
 Refutes-false = ((λ _. tt), (λ _. refl))
 
-pub Refutes-eqb : (a b : ℕ) → Refutes (a == b) (a ≢ b)
-Refutes-eqb a b = (eqb-false a b, ne_eqb a b)
+pub Refutes-ne : {X : Type 0} {x y : X} (t : Bool) → Decides t (x ≡ y) → Refutes t (x ≢ y)
+Refutes-ne true d = ((λ e. absurd (true≢false e)), (λ h. absurd (h (d.0 refl))))
+Refutes-ne false d = ((λ e same. true≢false (sym (d.1 same))), (λ h. refl))
 
 pub Refutes-like : {P Q : Type 0} (t : Bool) → (P → Q) → (Q → P) → Refutes t P → Refutes t Q
 Refutes-like t to from r = ((λ e. to (r.0 e)), (λ h. r.1 (from h)))

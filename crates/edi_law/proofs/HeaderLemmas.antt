@@ -119,7 +119,7 @@ Decides-dated =
     (Decides-of_only (says (codes "DTM") (codes "137")) is_dated (λ dtm. IsDate (component dtm 0 2) (component dtm 0 1)) refl (λ dtm. Decides-date (component dtm 0 2) (component dtm 0 1)))
 
 -- the parties
-Says-named : (nad : Segment) → Says (named_by nad) (λ gln. IsNamed gln nad)
+pub Says-named : (nad : Segment) → Says (named_by nad) (λ gln. IsNamed gln nad)
 Says-named nad =
     let right = Decides-and (is_gln (component nad 1 0)) (bytes_eq (component nad 1 2) (codes "9")) (Decides-is_key 13 (component nad 1 0)) (bytes_eq-Decides (component nad 1 2) (codes "9")) in
     Says-like (named_by nad) (λ gln. (IsGln (component nad 1 0) × (component nad 1 2 ≡ codes "9")) × (component nad 1 0 ≡ gln)) (λ gln. IsNamed gln nad)

@@ -1,4 +1,6 @@
 mod Deciding
+mod DespatchLemmas
+mod GoodsLemmas
 mod HeaderLemmas
 mod LineLemmas
 mod LowestLemmas
@@ -7,4 +9,5 @@ mod PartLemmas
 mod ReferenceLemmas
 mod ResponseLemmas
 mod SummaryLemmas
+mod UnitLemmas
 mod ValueLemmas

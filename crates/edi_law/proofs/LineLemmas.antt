@@ -8,7 +8,7 @@ use Rattle.std.proofs.lemmas.Bool.Decides.{Decides-and, Decides-or, Decides-like
 use Rattle.std.proofs.lemmas.Slice.Eq.{bytes_eq-Decides}
 use Rattle.gs1_ids.specs.Gtin.{IsGtin, in_fourteen, gtin_of}
 use Rattle.gs1_ids.proofs.Decided.{Decides-is_gtin}
-use Rattle.edi_base.specs.Seen.{has_number_twice, comes_among}
+use Rattle.edi_base.specs.Seen.{has_number_twice, has_twice, comes_among, comes_twice}
 use Rattle.edi_tokens.specs.declared.segment.Segment.{Segment}
 use Rattle.edi_tokens.specs.Segment.{element_at}
 use Rattle.edi_envelope.specs.Segments.{component}
@@ -17,7 +17,7 @@ use Rattle.edi_messages.specs.Values.{quantity}
 use Rattle.edi_law.specs.Lines.{HasItem, IsLine, IsAmount, HasQuantity, NoneTwice}
 use Rattle.edi_law.specs.Segments.{says}
 use Rattle.edi_law.specs.Values.{IsLineNumber, IsQuantity}
-use Rattle.edi_law.proofs.Deciding.{Says, Refutes, Refutes-false, Refutes-or, Refutes-any, Refutes-eqb, Decides-leb, Decides-is_some, Says-like, Says-if, Says-when, Says-then}
+use Rattle.edi_law.proofs.Deciding.{Says, Refutes, Refutes-false, Refutes-or, Refutes-any, Refutes-ne, Decides-leb, Decides-is_some, Says-like, Says-if, Says-when, Says-then}
 use Rattle.edi_law.proofs.PartLemmas.{Says-of_only}
 use Rattle.edi_law.proofs.ValueLemmas.{Says-line_number, Says-quantity}
 
@@ -81,6 +81,9 @@ number-from_IsLine group n digits h = ap number_or_zero h.place ∙ ap (λ o. un
 pub item-from_IsLine : (group : List Segment) (n : ℕ) (digits : List ℕ) → IsLine group n digits → unwrap_or (gtin group) [] ≡ digits
 item-from_IsLine group n digits h = ap (λ segments. unwrap_or (gtin segments) []) h.place ∙ ap (λ o. unwrap_or o []) ((Says-item h.lin digits).1 h.item)
 
+pub Decides-line : (group : List Segment) → Decides (is_line group) ((number : ℕ) × (gtin : List ℕ) × IsLine group number gtin)
+Decides-line group = ((λ e. (number_or_zero group, unwrap_or (gtin group) [], line_there group e)), (λ h. is_line-from_IsLine group h.0 h.1 h.2))
+
 -- quantities
 Decides-piece : (bytes : List ℕ) → Decides (is_piece bytes) ((bytes ≡ []) ⊎ (bytes ≡ codes "PCE"))
 Decides-piece bytes = Decides-or _ _ (Decides-nothing bytes) (bytes_eq-Decides bytes (codes "PCE"))
@@ -99,7 +102,14 @@ Says-amount least qty =
 pub Says-quantity_of : (kind : List ℕ) (least : ℕ) (group : List Segment) → Says (quantity_of kind least group) (HasQuantity kind least group)
 Says-quantity_of kind least group = Says-of_only (says (codes "QTY") kind) (amount least) (IsAmount least) (Says-amount least) group
 
--- numbers that come twice
-pub Refutes-twice : (numbers : List ℕ) → Refutes (has_number_twice numbers) (NoneTwice numbers)
-Refutes-twice [] = Refutes-false
-Refutes-twice (n ∷ numbers) = Refutes-or (comes_among nat_eq n numbers) (has_number_twice numbers) (Refutes-any (nat_eq n) (λ other. n ≢ other) (Refutes-eqb n) numbers) (Refutes-twice numbers)
+-- what comes twice
+module _ {X : Type 0} (same : X → X → Bool) (decides : (x y : X) → Decides (same x y) (x ≡ y)) where
+  pub Refutes-twice : (xs : List X) → Refutes (comes_twice same xs) (NoneTwice xs)
+  Refutes-twice [] = Refutes-false
+  Refutes-twice (x ∷ xs) = Refutes-or (comes_among same x xs) (comes_twice same xs) (Refutes-any (same x) (λ other. x ≢ other) (λ other. Refutes-ne (same x other) (decides x other)) xs) (Refutes-twice xs)
+
+pub Refutes-number_twice : (numbers : List ℕ) → Refutes (has_number_twice numbers) (NoneTwice numbers)
+Refutes-number_twice = Refutes-twice nat_eq Decides-eqb
+
+pub Refutes-text_twice : (texts : List (List ℕ)) → Refutes (has_twice texts) (NoneTwice texts)
+Refutes-text_twice = Refutes-twice bytes_eq bytes_eq-Decides

@@ -22,7 +22,7 @@ use Rattle.edi_law.specs.Order.{AreNumbered, IsRight, IsOrderLine, IsOrder}
 use Rattle.edi_law.specs.Parts.{OfLines}
 use Rattle.edi_law.proofs.Deciding.{Refutes, or_refuted, Refutes-not, Refutes-false, Decides-all, Decides-is_some, said_of, unwrap_of}
 use Rattle.edi_law.proofs.HeaderLemmas.{Decides-party, Decides-type, Decides-begins, Decides-function, Decides-dated, Says-party, Begins-begins_as, begins_as-from_Begins, document_number-from_Begins}
-use Rattle.edi_law.proofs.LineLemmas.{line_there, is_line-from_IsLine, number-from_IsLine, item-from_IsLine, Says-quantity_of, Refutes-twice}
+use Rattle.edi_law.proofs.LineLemmas.{line_there, is_line-from_IsLine, number-from_IsLine, item-from_IsLine, Says-quantity_of, Refutes-number_twice}
 use Rattle.edi_law.proofs.LowestLemmas.{judged_fault, judged_content}
 use Rattle.edi_law.proofs.PartLemmas.{Refutes-lines, AreLineGroups-line_groups, line_groups-from_AreLineGroups, Decides-lines}
 use Rattle.edi_law.proofs.SummaryLemmas.{Decides-closed, Decides-controlled, Refutes-no_line}
@@ -48,9 +48,9 @@ are_numbered groups = not (list_all is_line groups) || has_number_twice (map num
 
 Refutes-numbered : (groups : List (List Segment)) → Refutes (are_numbered groups) (AreNumbered groups)
 Refutes-numbered groups = or_refuted (list_all is_line groups) (has_number_twice (map number_or_zero groups)) (AreNumbered groups)
-    (λ e d. record { numbers = map number_or_zero groups; lines = numbered_there groups e; apart = (Refutes-twice (map number_or_zero groups)).0 d })
+    (λ e d. record { numbers = map number_or_zero groups; lines = numbered_there groups e; apart = (Refutes-number_twice (map number_or_zero groups)).0 d })
     (λ h. (numbered_lines groups h.numbers h.lines).0)
-    (λ h. (Refutes-twice (map number_or_zero groups)).1 (subst NoneTwice (sym (numbered_lines groups h.numbers h.lines).1) h.apart))
+    (λ h. (Refutes-number_twice (map number_or_zero groups)).1 (subst NoneTwice (sym (numbered_lines groups h.numbers h.lines).1) h.apart))
 
 Decides-ordered : (group : List Segment) → Decides (is_some (ordered group)) ((quantity : ℕ) × HasQuantity (codes "21") 1 group quantity)
 Decides-ordered group = Decides-is_some (ordered group) (HasQuantity (codes "21") 1 group) (Says-quantity_of (codes "21") 1 group)

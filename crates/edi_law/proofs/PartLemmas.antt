@@ -1,12 +1,12 @@
 -- The parts of a message stand where the relations say, and nowhere else.
 use Rattle.std.proofs.Common.{◌≡◌, Bool, true, false, cond, not, List, [], ◌∷◌, ◌++◌, filter, Option, Some, None, inl, inr, refl, sym, ap, subst, ◌∙◌, append-nil, append_assoc}
-use Rattle.std.specs.Prelude.{option_and_then, Decides}
+use Rattle.std.specs.Prelude.{is_some, ◌||◌, option_and_then, Decides}
 use Rattle.std.specs.List.{list_any, AllByRecursion, take_while}
-use Rattle.std.proofs.lemmas.Bool.{cases_Bool, true≢false}
+use Rattle.std.proofs.lemmas.Bool.{cases_Bool, true≢false, not-true, not_from_false, true_from_ne_false}
 use Rattle.std.proofs.lemmas.List.Sums.{take_while-cons}
 use Rattle.edi_tokens.specs.declared.segment.Segment.{Segment}
 use Rattle.edi_messages.specs.Parts.{only, header, line_groups, up_to_end}
-use Rattle.edi_law.specs.Parts.{HasNone, BeginsWith, IsFront, IsOnly, IsHeader, AreParts, AreLineGroups, OfHeader, OfLines, OfOnly}
+use Rattle.edi_law.specs.Parts.{HasNone, BeginsWith, IsFront, IsOnly, IsHeader, AreParts, AreLineGroups, OfHeader, OfLines, OfOnly, OneOrNone}
 use Rattle.edi_law.specs.Segments.{is_line_item, parts_lines}
 use Rattle.edi_law.proofs.Deciding.{Refutes, Says, same_some, Says-then, Decides-of}
 
@@ -172,6 +172,44 @@ module _ (kind : Segment → Bool) where
 pub only_some : (kind : Segment → Bool) (part : List Segment) (s : Segment) → IsOnly kind part s → HasNone kind part → ⊥
 only_some kind part s h none = let e : None ≡ Some s = sym (ap only (none_passes kind part none)) ∙ (Says-only kind part s).1 h in absurd cc
 
+or_false : (t : Bool) → (t || false) ≡ t
+or_false true = refl
+or_false false = refl
+
+-- what the header is
+pub at_header : (Is : List Segment → Type 0) (message : List Segment) → OfHeader Is message → Is (header message)
+at_header Is message h = subst Is (sym (header-from_IsHeader h.header message h.is_header)) h.is
+
+-- one of a kind, or none
+module _ {X : Type 0} (kind : Segment → Bool) (f : Segment → Option X) (Is : X → Segment → Type 0) (each : (s : Segment) → Says (f s) (λ x. Is x s)) where
+  abbrev found : List Segment → Option X
+  found part = option_and_then f (only (filter kind part))
+
+  one_or_none : (part : List Segment) (o : Option X) → found part ≡ o → (not (list_any kind part) || is_some o) ≡ true → OneOrNone kind Is part o
+  one_or_none part None there e = (Decides-none kind part).0 (sym (or_false (not (list_any kind part))) ∙ e)
+  one_or_none part (Some x) there e = (Says-of_only kind f Is each part x).0 there
+
+  pub found-from_OneOrNone : (part : List Segment) (o : Option X) → OneOrNone kind Is part o → found part ≡ o
+  found-from_OneOrNone part None none = ap (λ passing. option_and_then f (only passing)) (none_passes kind part none)
+  found-from_OneOrNone part (Some x) h = (Says-of_only kind f Is each part x).1 h
+
+  pub there-from_OneOrNone : (part : List Segment) (o : Option X) → OneOrNone kind Is part o → list_any kind part ≡ is_some o
+  there-from_OneOrNone part None none = not-true (list_any kind part) ((Decides-none kind part).1 none)
+  there-from_OneOrNone part (Some x) h = true_from_ne_false (list_any kind part) (λ e. only_some kind part h.segment h.is_only ((Decides-none kind part).0 (not_from_false (list_any kind part) e)))
+
+  right : (t : Bool) → (not t || t) ≡ true
+  right true = refl
+  right false = refl
+
+  pub Decides-one_or_none : (part : List Segment) → Decides (not (list_any kind part) || is_some (found part)) ((o : Option X) × OneOrNone kind Is part o)
+  Decides-one_or_none part = (
+    (λ e. (found part, one_or_none part (found part) refl e)),
+    (λ h. ap (λ there. not there || is_some (found part)) (there-from_OneOrNone part h.0 h.1) ∙ ap (λ o. not (is_some h.0) || is_some o) (found-from_OneOrNone part h.0 h.1) ∙ right (is_some h.0)),
+  )
+
+  pub OneOrNone-found : (part : List Segment) (o : Option X) → OneOrNone kind Is part o → OneOrNone kind Is part (found part)
+  OneOrNone-found part o h = subst (OneOrNone kind Is part) (sym (found-from_OneOrNone part o h)) h
+
 -- the parts
 module _ (begins ends : Segment → Bool) (apart : (s : Segment) → ends s ≡ false → begins s ≡ false) where
   abbrev pub cut : List Segment → List (List Segment)
@@ -291,3 +329,6 @@ Refutes-lines t Are each message = (
   (λ e. record { groups = line_groups message; are_groups = AreLineGroups-line_groups message; are = (each (line_groups message)).0 e }),
   (λ h. ap t (line_groups-from_AreLineGroups h.groups message h.are_groups) ∙ (each h.groups).1 h.are),
 )
+
+pub of_lines : (Are : List (List Segment) → Type 0) (message : List Segment) → OfLines Are message → Are (line_groups message)
+of_lines Are message h = subst Are (sym (line_groups-from_AreLineGroups h.groups message h.are_groups)) h.are

@@ -10,7 +10,7 @@ use Rattle.edi_tokens.specs.declared.segment.Segment.{Segment}
 use Rattle.edi_envelope.specs.Segments.{component}
 use Rattle.edi_envelope.specs.declared.interchange.RawMessage.{RawMessage}
 use Rattle.edi_messages.specs.Header.{function, party}
-use Rattle.edi_messages.specs.Lines.{line, number_or_zero, gtin, is_line, quantity_of}
+use Rattle.edi_messages.specs.Lines.{line, gtin, is_line, quantity_of}
 use Rattle.edi_messages.specs.Parts.{line_groups}
 use Rattle.edi_messages.specs.References.{order, has_line_or_none}
 use Rattle.edi_messages.specs.Values.{is_document_number}
@@ -34,9 +34,9 @@ use Rattle.edi_law.specs.Segments.{says}
 use Rattle.edi_law.specs.Values.{IsDocumentNumber}
 use Rattle.edi_law.proofs.Deciding.{Says, Refutes, Refutes-not, Refutes-and, Refutes-false, Decides-all, Decides-is_some, Decides-of, Decides-read, chosen, said_of, unwrap_of}
 use Rattle.edi_law.proofs.HeaderLemmas.{Decides-type, Decides-begins, Decides-function, function-from_HasFunction, Decides-dated, Decides-party, Says-party, Begins-begins_as, begins_as-from_Begins, document_number-from_Begins}
-use Rattle.edi_law.proofs.LineLemmas.{line_there, is_line-from_IsLine, item-from_IsLine, Says-quantity_of}
+use Rattle.edi_law.proofs.LineLemmas.{Decides-line, item-from_IsLine, Says-quantity_of}
 use Rattle.edi_law.proofs.LowestLemmas.{judged_fault, judged_content}
-use Rattle.edi_law.proofs.PartLemmas.{AreLineGroups-line_groups, line_groups-from_AreLineGroups, Decides-lines, Decides-none, Decides-of_only, only_some}
+use Rattle.edi_law.proofs.PartLemmas.{of_lines, AreLineGroups-line_groups, line_groups-from_AreLineGroups, Decides-lines, Decides-none, Decides-of_only, only_some}
 use Rattle.edi_law.proofs.ReferenceLemmas.{Says-order, Decides-line_or_none, NamesLine-group_line, group_line-from_NamesLine}
 use Rattle.edi_law.proofs.SummaryLemmas.{Decides-closed, Decides-controlled, Refutes-no_line}
 use Rattle.edi_law.proofs.ValueLemmas.{Decides-document_number}
@@ -169,9 +169,6 @@ Says-action group a = (action_there group a, (λ h. ap action h.place ∙ code_a
 Decides-action : (group : List Segment) → Decides (is_some (spec.action group)) ((a : Action) × HasAction group a)
 Decides-action group =
     Decides-at (is_some (spec.action group)) (is_some (action group)) (same_action (component (line group) 1 0)).some (Decides-is_some (action group) (HasAction group) (Says-action group))
-
-Decides-line : (group : List Segment) → Decides (is_line group) ((number : ℕ) × (gtin : List ℕ) × IsLine group number gtin)
-Decides-line group = ((λ e. (number_or_zero group, unwrap_or (gtin group) [], line_there group e)), (λ h. is_line-from_IsLine group h.0 h.1 h.2))
 
 abbrev are_answered : List (List Segment) → Bool
 are_answered groups = list_all is_line groups && list_all (λ group. is_some (spec.action group)) groups
@@ -326,9 +323,6 @@ lines_are (group ∷ groups) (one ∷ lines) h = ap (λ first. first ∷ map lin
 
 groups_read : (message : List Segment) → HasExtent message EachLine → read_groups message ≡ line_groups message
 groups_read message h = ap (λ read. cond read (line_groups message) []) ((Decides-has_lines message).1 h)
-
-of_lines : (Are : List (List Segment) → Type 0) (message : List Segment) → OfLines Are message → Are (line_groups message)
-of_lines Are message h = subst Are (sym (line_groups-from_AreLineGroups h.groups message h.are_groups)) h.are
 
 abbrev read_lines : List Segment → List AnswerLine
 read_lines message = map line_of (read_groups message)

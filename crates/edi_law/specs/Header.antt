@@ -1,10 +1,10 @@
 -- What is right in the header of a message: its type, its beginning, its function, its date and its parties.
-use Rattle.std.specs.Prelude.{◌≡◌, ℕ, true, false, List, ◌∷◌, codes}
+use Rattle.std.specs.Prelude.{◌≡◌, ℕ, true, false, List, ◌∷◌, codes, Option}
 use Rattle.gs1_ids.specs.Gln.{IsGln}
 use Rattle.edi_tokens.specs.declared.segment.Segment.{Segment}
 use Rattle.edi_envelope.specs.Segments.{has_tag, component}
 use Rattle.edi_envelope.specs.declared.interchange.RawMessage.{RawMessage}
-use Rattle.edi_law.specs.Parts.{HasNone, OfHeader, OfOnly}
+use Rattle.edi_law.specs.Parts.{HasNone, OfHeader, OfOnly, OneOrNone}
 use Rattle.edi_law.specs.Segments.{says}
 use Rattle.edi_law.specs.Values.{IsDocumentNumber, IsDate}
 
@@ -49,3 +49,7 @@ pub record IsNamed (gln : List ℕ) (nad : Segment) : Type 0 where
 -- there is just one NAD of the role in the header, and it names this party
 abbrev pub NamesParty : List ℕ → List Segment → List ℕ → Type 0
 NamesParty role message gln = OfHeader (λ header. OfOnly (says (codes "NAD") role) header (IsNamed gln)) message
+
+-- there is no NAD with BY in the header, or just one, which names the buyer
+abbrev pub NamesBuyer : List Segment → Option (List ℕ) → Type 0
+NamesBuyer message buyer = OfHeader (λ header. OneOrNone (says (codes "NAD") (codes "BY")) IsNamed header buyer) message

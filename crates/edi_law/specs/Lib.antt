@@ -1,3 +1,4 @@
+pub mod Despatch
 pub mod Header
 pub mod Lines
 pub mod Lowest
@@ -7,4 +8,5 @@ pub mod References
 pub mod Response
 pub mod Segments
 pub mod Summary
+pub mod Units
 pub mod Values

@@ -34,7 +34,7 @@ pub record IsAmount (least number : ℕ) (qty : Segment) : Type 0 where
 abbrev pub HasQuantity : List ℕ → ℕ → List Segment → ℕ → Type 0
 HasQuantity kind least group number = OfOnly (says (codes "QTY") kind) group (IsAmount least number)
 
--- no number comes twice
-abbrev pub NoneTwice : List ℕ → Type 0
+-- none comes twice
+abbrev pub NoneTwice : {X : Type 0} → List X → Type 0
 NoneTwice [] = ⊤
-NoneTwice (number ∷ numbers) = AllByRecursion (λ other. number ≢ other) numbers × NoneTwice numbers
+NoneTwice (one ∷ others) = AllByRecursion (λ other. one ≢ other) others × NoneTwice others

@@ -1,5 +1,5 @@
 -- How a message, UNH to UNT, is cut: where its header, its line groups and its units stand, apart from how they are found.
-use Rattle.std.specs.Prelude.{◌≡◌, Bool, true, false, List, [], ◌∷◌, ◌++◌, ⊤}
+use Rattle.std.specs.Prelude.{◌≡◌, Bool, true, false, List, [], ◌∷◌, ◌++◌, ⊤, Option, Some, None}
 use Rattle.std.specs.List.{AllByRecursion}
 use Rattle.edi_tokens.specs.declared.segment.Segment.{Segment}
 use Rattle.edi_law.specs.Segments.{is_line_item, is_packing, parts_lines, parts_units}
@@ -76,3 +76,8 @@ pub record OfOnly (kind : Segment → Bool) (part : List Segment) (Is : Segment 
   pub segment : Segment
   pub is_only : IsOnly kind part segment
   pub is : Is segment
+
+-- the part has no segment of the kind, or just one, which is such
+abbrev pub OneOrNone : {X : Type 0} → (Segment → Bool) → (X → Segment → Type 0) → List Segment → Option X → Type 0
+OneOrNone kind Is part None = HasNone kind part
+OneOrNone kind Is part (Some x) = OfOnly kind part (Is x)

@@ -2,8 +2,10 @@
 //! segments stand and what they say, apart from how a message is read.
 #![tactic(auto)]
 
+mod despatch;
 mod order;
 mod response;
 
+pub use despatch::despatch_law;
 pub use order::order_law;
 pub use response::response_law;
