@@ -242,12 +242,12 @@ contents_are message despatch h =
 
 pub fault_law : (m : RawMessage) (fault : MessageFault) → (despatch_of m ≡ Err fault) ↔ IsLowest (IsRight m) fault
 unfolding despatch_of
-fault_law m fault = judged_fault (λ f. holds f m) (IsRight m) (refutes m) refl (contents_of m.segments) fault
+fault_law m fault = judged_fault (λ f. holds f m) (IsRight m) (λ f lower. refutes m f) refl (contents_of m.segments) fault
 
 pub despatch_law : (m : RawMessage) (despatch : Despatch) → (despatch_of m ≡ Ok despatch) ↔ (IsFaultless (IsRight m) × IsDespatch m.segments despatch)
 unfolding despatch_of
 despatch_law m despatch =
-    let law = judged_content (λ f. holds f m) (IsRight m) (refutes m) refl (contents_of m.segments) despatch in (
+    let law = judged_content (λ f. holds f m) (IsRight m) (λ f lower. refutes m f) refl (contents_of m.segments) despatch in (
       (λ h. let both = law.0 h in (both.0, subst (IsDespatch m.segments) both.1 (contents_there m both.0))),
       (λ h. law.1 (h.0, contents_are m.segments despatch h.1)),
     )

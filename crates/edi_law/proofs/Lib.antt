@@ -6,8 +6,10 @@ mod LineLemmas
 mod LowestLemmas
 mod OrderLemmas
 mod PartLemmas
+mod ReceiptLemmas
 mod ReferenceLemmas
 mod ResponseLemmas
+mod SumLemmas
 mod SummaryLemmas
 mod UnitLemmas
 mod ValueLemmas

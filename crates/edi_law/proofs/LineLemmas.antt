@@ -88,7 +88,7 @@ Decides-line group = ((λ e. (number_or_zero group, unwrap_or (gtin group) [], l
 Decides-piece : (bytes : List ℕ) → Decides (is_piece bytes) ((bytes ≡ []) ⊎ (bytes ≡ codes "PCE"))
 Decides-piece bytes = Decides-or _ _ (Decides-nothing bytes) (bytes_eq-Decides bytes (codes "PCE"))
 
-Says-amount : (least : ℕ) (qty : Segment) → Says (amount least qty) (λ n. IsAmount least n qty)
+pub Says-amount : (least : ℕ) (qty : Segment) → Says (amount least qty) (λ n. IsAmount least n qty)
 Says-amount least qty =
     let bytes = component qty 0 1 in
     let unit = component qty 0 2 in

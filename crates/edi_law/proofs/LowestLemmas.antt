@@ -1,5 +1,5 @@
 -- The first fault that is found in their order is the one with the lowest number.
-use Rattle.std.proofs.Common.{◌≡◌, ℕ, ◌<◌, ◌⊎◌, inl, inr, List, [], ◌∷◌, true, false, Bool, Option, Some, None, Ok, Err, refl, sym, ap, ◌∙◌, arith, find}
+use Rattle.std.proofs.Common.{◌≡◌, ℕ, zero, suc, ◌<◌, ◌⊎◌, inl, inr, List, [], ◌∷◌, true, false, Bool, Option, Some, None, Ok, Err, refl, sym, ap, ◌∙◌, arith, find}
 use Rattle.std.specs.Prelude.{◌↔◌}
 use Rattle.std.proofs.lemmas.Bool.{cases_Bool, true≢false, true_from_ne_false}
 use Rattle.edi_messages.specs.declared.fault.MessageFault.{MessageFault}
@@ -119,19 +119,34 @@ module _ {X : Type 0} where
   content_found None content right h = (refl, cc)
   content_found (Some g) content right h = absurd cc
 
-  -- the test of each fault is false exactly where what is right under its number holds
-  module _ (p : MessageFault → Bool) (IsRight : MessageFault → Type 0) (refutes : (f : MessageFault) → Refutes (p f) (IsRight f)) (no_memory : p faulty.Memory ≡ false) (content : X) where
+  -- Where all is right under lower numbers, the test of a fault is false exactly where what is right under its number holds.
+  module _ (p : MessageFault → Bool) (IsRight : MessageFault → Type 0) (refutes : (f : MessageFault) → ((g : MessageFault) → number g < number f → IsRight g) → Refutes (p f) (IsRight f)) (no_memory : p faulty.Memory ≡ false) (content : X) where
+    lower_right : (n : ℕ) → ((g : MessageFault) → number g < n → p g ≡ false) → (g : MessageFault) → number g < n → IsRight g
+    lower_right zero h g lt = absurd (omega (arith, lt))
+    lower_right (suc n) h g lt = (refutes g (λ k below. lower_right n (λ one small. h one (omega (arith, small))) k (omega (arith, below, lt)))).0 (h g lt)
+
+    all_right : ((g : MessageFault) → p g ≡ false) → (g : MessageFault) → IsRight g
+    all_right h g = lower_right (suc (number g)) (λ one lt. h one) g (omega arith)
+
+    right_false : (f g : MessageFault) → ((one : MessageFault) → number one < number f → IsRight one) → number g < number f → p g ≡ false
+    right_false f g h lt = (refutes g (λ one below. h one (omega (arith, below, lt)))).1 (h g lt)
+
+    not_right : (f : MessageFault) → p f ≡ true → ((g : MessageFault) → number g < number f → IsRight g) → IsRight f → ⊥
+    not_right f is lower right = true≢false (sym is ∙ (refutes f lower).1 right)
+
+    lowest_from : (f : MessageFault) → find p faults ≡ Some f → IsLowest IsRight f
+    lowest_from f found =
+        let lower = lower_right (number f) (λ g lt. lower_false p no_memory f g found lt) in
+        record { here = not_right f (found_holds p no_memory faults f found) lower; lower = lower }
+
+    found_from : (f : MessageFault) → IsLowest IsRight f → find p faults ≡ Some f
+    found_from f h = found_here p no_memory f (true_from_ne_false (p f) (λ e. h.here ((refutes f h.lower).0 e))) (λ g lt. right_false f g h.lower lt)
+
     pub judged_fault : (f : MessageFault) → (judged p content ≡ Err f) ↔ IsLowest IsRight f
-    judged_fault f = (
-      (λ h. let found = fault_found (find p faults) content f h in record {
-        here = λ right. true≢false (sym (found_holds p no_memory faults f found) ∙ (refutes f).1 right);
-        lower = λ g lt. (refutes g).0 (lower_false p no_memory f g found lt);
-      }),
-      (λ h. ap (λ found. unless found content) (found_here p no_memory f (true_from_ne_false (p f) (λ e. h.here ((refutes f).0 e))) (λ g lt. (refutes g).1 (h.lower g lt)))),
-    )
+    judged_fault f = ((λ h. lowest_from f (fault_found (find p faults) content f h)), (λ h. ap (λ found. unless found content) (found_from f h)))
 
     pub judged_content : (right : X) → (judged p content ≡ Ok right) ↔ (IsFaultless IsRight × (content ≡ right))
     judged_content right = (
-      (λ h. let both = content_found (find p faults) content right h in ((λ f. (refutes f).0 (all_false p no_memory both.0 f)), both.1)),
-      (λ h. ap (λ found. unless found content) (none_hold p no_memory faults (λ f. (refutes f).1 (h.0 f))) ∙ ap Ok h.1),
+      (λ h. let both = content_found (find p faults) content right h in (all_right (all_false p no_memory both.0), both.1)),
+      (λ h. ap (λ found. unless found content) (none_hold p no_memory faults (λ f. (refutes f (λ g lt. h.0 g)).1 (h.0 f))) ∙ ap Ok h.1),
     )

@@ -131,12 +131,12 @@ contents_are message order h =
 
 pub fault_law : (m : RawMessage) (fault : MessageFault) → (order_of m ≡ Err fault) ↔ IsLowest (IsRight m) fault
 unfolding order_of
-fault_law m fault = judged_fault (λ f. holds f m) (IsRight m) (refutes m) refl (contents_of m.segments) fault
+fault_law m fault = judged_fault (λ f. holds f m) (IsRight m) (λ f lower. refutes m f) refl (contents_of m.segments) fault
 
 pub order_law : (m : RawMessage) (order : Order) → (order_of m ≡ Ok order) ↔ (IsFaultless (IsRight m) × IsOrder m.segments order)
 unfolding order_of
 order_law m order =
-    let law = judged_content (λ f. holds f m) (IsRight m) (refutes m) refl (contents_of m.segments) order in (
+    let law = judged_content (λ f. holds f m) (IsRight m) (λ f lower. refutes m f) refl (contents_of m.segments) order in (
       (λ h. let both = law.0 h in (both.0, subst (IsOrder m.segments) both.1 (contents_there m both.0))),
       (λ h. law.1 (h.0, contents_are m.segments order h.1)),
     )

@@ -392,12 +392,12 @@ contents_are message response h =
 
 pub fault_law : (m : RawMessage) (fault : MessageFault) → (response_of m ≡ Err fault) ↔ IsLowest (IsRight m) fault
 unfolding response_of
-fault_law m fault = judged_fault (λ f. holds f m) (IsRight m) (refutes m) refl (contents_of m.segments) fault
+fault_law m fault = judged_fault (λ f. holds f m) (IsRight m) (λ f lower. refutes m f) refl (contents_of m.segments) fault
 
 pub response_law : (m : RawMessage) (response : Response) → (response_of m ≡ Ok response) ↔ (IsFaultless (IsRight m) × IsResponse m.segments response)
 unfolding response_of
 response_law m response =
-    let law = judged_content (λ f. holds f m) (IsRight m) (refutes m) refl (contents_of m.segments) response in (
+    let law = judged_content (λ f. holds f m) (IsRight m) (λ f lower. refutes m f) refl (contents_of m.segments) response in (
       (λ h. let both = law.0 h in (both.0, subst (IsResponse m.segments) both.1 (contents_there m both.0))),
       (λ h. law.1 (h.0, contents_are m.segments response h.1)),
     )

@@ -4,6 +4,7 @@ pub mod Lines
 pub mod Lowest
 pub mod Order
 pub mod Parts
+pub mod Receipt
 pub mod References
 pub mod Response
 pub mod Segments

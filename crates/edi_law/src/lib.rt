@@ -4,8 +4,10 @@
 
 mod despatch;
 mod order;
+mod receipt;
 mod response;
 
 pub use despatch::despatch_law;
 pub use order::order_law;
+pub use receipt::receipt_law;
 pub use response::response_law;
