@@ -35,9 +35,6 @@ pub Refutes-ne : {X : Type 0} {x y : X} (t : Bool) → Decides t (x ≡ y) → R
 Refutes-ne true d = ((λ e. absurd (true≢false e)), (λ h. absurd (h (d.0 refl))))
 Refutes-ne false d = ((λ e same. true≢false (sym (d.1 same))), (λ h. refl))
 
-pub Refutes-like : {P Q : Type 0} (t : Bool) → (P → Q) → (Q → P) → Refutes t P → Refutes t Q
-Refutes-like t to from r = ((λ e. to (r.0 e)), (λ h. r.1 (from h)))
-
 pub Decides-leb : (a b : ℕ) → Decides (nat_le a b) (a ≤ b)
 Decides-leb a b = (leb-true a b, le-leb a b)
 
