@@ -130,8 +130,10 @@ def check_told(lines):
     """What a check that does not pass says of an edited definition."""
     errors = [it for it in lines if re.match(r"(\./)?\S+:\d+:\d+: error", it)]
     unread = next((it for it in errors if re.match(r"(\./)?(src|specs)/", it) and re.search(r"is not in scope|has no field|is no name|operand is missing|expected|cannot continue", it)), "")
-    if unread or not lines[-1].startswith("logic=not-proved"):
-        return NOT_REFUSED, f"it cannot be read: {unread or lines[-1]}"
+    # advice may follow the verdict
+    judged = next((it for it in reversed(lines) if it.startswith("logic=")), lines[-1])
+    if unread or not judged.startswith("logic=not-proved"):
+        return NOT_REFUSED, f"it cannot be read: {unread or judged}"
     names = r"(\./)?proofs/.*(has no field|is not in scope|has no `|was not admitted)"
     first = next((it for it in errors if not re.match(names, it)), "")
     return (REFUSED, first) if first else (NAMES_ALONE, (errors or [""])[0])

@@ -1,0 +1,15 @@
+mod Deciding
+mod DespatchLemmas
+mod GoodsLemmas
+mod HeaderLemmas
+mod LineLemmas
+mod LowestLemmas
+mod OrderLemmas
+mod PartLemmas
+mod ReceiptLemmas
+mod ReferenceLemmas
+mod ResponseLemmas
+mod SumLemmas
+mod SummaryLemmas
+mod UnitLemmas
+mod ValueLemmas

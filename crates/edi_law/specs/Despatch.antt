@@ -1,0 +1,67 @@
+-- What is right in a despatch advice (DESADV) under the number of each fault, and what an advice says.
+use Rattle.std.specs.Prelude.{◌≡◌, ◌⊎◌, ⊤, ℕ, List, codes, Option, Some}
+use Rattle.std.specs.List.{AllByRecursion, AllZip}
+use Rattle.edi_tokens.specs.declared.segment.Segment.{Segment}
+use Rattle.edi_envelope.specs.declared.interchange.RawMessage.{RawMessage}
+use Rattle.edi_messages.specs.declared.fault.MessageFault.{MessageFault}
+use Rattle.edi_messages.specs.declared.fault.MessageFault.TheVariants.{MessageType, Beginning, Function, Date, Parties, Summary, Line, Quantity, Reference, Unit, Control, NoLine, Memory}
+use Rattle.edi_goods.specs.declared.despatch.Despatch.{Despatch}
+use Rattle.edi_goods.specs.declared.despatch.DespatchLine.{DespatchLine}
+use Rattle.edi_goods.specs.declared.despatch.Unit.{Unit as DespatchUnit}
+use Rattle.edi_law.specs.Header.{IsOfType, Begins, HasFunction, IsDated, NamesParty, NamesBuyer}
+use Rattle.edi_law.specs.Lines.{IsLine, HasQuantity}
+use Rattle.edi_law.specs.Parts.{HasNone, OfHeader, OfLines, OfOnly, OneOrNone}
+use Rattle.edi_law.specs.References.{is_reference, NamesOrder, NamesLineOrNone, NamesLine}
+use Rattle.edi_law.specs.Summary.{IsControlled, HasLine}
+use Rattle.edi_law.specs.Units.{OfUnits, OfUnitLines, AreLines, HasUnits, HasSscc}
+
+-- there is no reference in the header, or just one, which names this order
+abbrev pub Inherits : List Segment → Option (List ℕ) → Type 0
+Inherits message order = OfHeader (λ header. OneOrNone is_reference NamesOrder header order) message
+
+-- the order of a line: the one that the one reference of its group names, and that of the header where the group has none
+abbrev pub IsOfOrder : Option (List ℕ) → List Segment → List ℕ → Type 0
+IsOfOrder inherited group order = OfOnly is_reference group (NamesOrder order) ⊎ (HasNone is_reference group × (inherited ≡ Some order))
+
+-- the one reference of a group is right, or the group has none and the header has one
+abbrev pub IsReferred : Option (List ℕ) → List Segment → Type 0
+IsReferred inherited group =
+    OfOnly is_reference group (λ rff. ((order : List ℕ) × NamesOrder order rff) × NamesLineOrNone rff)
+    ⊎ (HasNone is_reference group × ((order : List ℕ) × (inherited ≡ Some order)))
+
+abbrev pub IsRight : RawMessage → MessageFault → Type 0
+IsRight m MessageType = IsOfType (codes "DESADV") m
+IsRight m Beginning = (number : List ℕ) × Begins (codes "351") m.segments number
+IsRight m Function = HasFunction m.segments (codes "9")
+IsRight m Date = IsDated m.segments
+IsRight m Parties = ((buyer : Option (List ℕ)) × NamesBuyer m.segments buyer) × ((supplier : List ℕ) × NamesParty (codes "SU") m.segments supplier)
+IsRight m Summary = ⊤
+IsRight m Line = AreLines m.segments
+IsRight m Quantity = OfUnitLines (AllByRecursion (λ group. (quantity : ℕ) × HasQuantity (codes "12") 1 group quantity)) m.segments
+IsRight m Reference = (inherited : Option (List ℕ)) × Inherits m.segments inherited × OfUnitLines (AllByRecursion (IsReferred inherited)) m.segments
+IsRight m Unit = HasUnits m.segments
+IsRight m Control = IsControlled m.segments
+IsRight m NoLine = HasLine m.segments
+IsRight m Memory = ⊤
+
+-- a line of the advice is what its group says
+pub record IsDespatchLine (inherited : Option (List ℕ)) (group : List Segment) (line : DespatchLine) : Type 0 where
+  pub order_is : IsOfOrder inherited group line.order
+  pub order_line_is : NamesLine group line.order_line
+  pub number : ℕ
+  pub line_is : IsLine group number line.gtin
+  pub quantity_is : HasQuantity (codes "12") 1 group line.quantity
+
+-- a unit of the advice is what the unit of the message says
+pub record IsDespatchUnit (inherited : Option (List ℕ)) (segments : List Segment) (unit : DespatchUnit) : Type 0 where
+  pub sscc_is : HasSscc segments unit.sscc
+  pub lines_are : OfLines (λ groups. AllZip (IsDespatchLine inherited) groups unit.lines) segments
+
+-- the advice is what the message says
+pub record IsDespatch (message : List Segment) (despatch : Despatch) : Type 0 where
+  pub number_is : Begins (codes "351") message despatch.number
+  pub buyer_is : NamesBuyer message despatch.buyer
+  pub supplier_is : NamesParty (codes "SU") message despatch.supplier
+  pub inherited : Option (List ℕ)
+  pub inherited_is : Inherits message inherited
+  pub units_are : OfUnits (λ units. AllZip (IsDespatchUnit inherited) units despatch.units) message

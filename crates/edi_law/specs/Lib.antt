@@ -1,0 +1,13 @@
+pub mod Despatch
+pub mod Header
+pub mod Lines
+pub mod Lowest
+pub mod Order
+pub mod Parts
+pub mod Receipt
+pub mod References
+pub mod Response
+pub mod Segments
+pub mod Summary
+pub mod Units
+pub mod Values

@@ -1,0 +1,46 @@
+-- What is right in an order (ORDERS) under the number of each fault, and what an order says.
+use Rattle.std.specs.Prelude.{ℕ, List, codes, ⊤}
+use Rattle.std.specs.List.{AllByRecursion, AllZip}
+use Rattle.edi_tokens.specs.declared.segment.Segment.{Segment}
+use Rattle.edi_envelope.specs.declared.interchange.RawMessage.{RawMessage}
+use Rattle.edi_messages.specs.declared.fault.MessageFault.{MessageFault}
+use Rattle.edi_messages.specs.declared.fault.MessageFault.TheVariants.{MessageType, Beginning, Function, Date, Parties, Summary, Line, Quantity, Reference, Unit, Control, NoLine, Memory}
+use Rattle.edi_orders.specs.declared.order.Order.{Order}
+use Rattle.edi_orders.specs.declared.order.OrderLine.{OrderLine}
+use Rattle.edi_law.specs.Header.{IsOfType, Begins, HasFunction, IsDated, NamesParty}
+use Rattle.edi_law.specs.Lines.{IsLine, HasQuantity, NoneTwice}
+use Rattle.edi_law.specs.Parts.{OfLines}
+use Rattle.edi_law.specs.Summary.{IsClosed, IsControlled, HasLine}
+
+-- each group is a line, and no number comes twice
+pub record AreNumbered (groups : List (List Segment)) : Type 0 where
+  pub numbers : List ℕ
+  pub lines : AllZip (λ group number. (gtin : List ℕ) × IsLine group number gtin) groups numbers
+  pub apart : NoneTwice numbers
+
+abbrev pub IsRight : RawMessage → MessageFault → Type 0
+IsRight m MessageType = IsOfType (codes "ORDERS") m
+IsRight m Beginning = (number : List ℕ) × Begins (codes "220") m.segments number
+IsRight m Function = HasFunction m.segments (codes "9")
+IsRight m Date = IsDated m.segments
+IsRight m Parties = ((buyer : List ℕ) × NamesParty (codes "BY") m.segments buyer) × ((supplier : List ℕ) × NamesParty (codes "SU") m.segments supplier)
+IsRight m Summary = IsClosed m.segments
+IsRight m Line = OfLines AreNumbered m.segments
+IsRight m Quantity = OfLines (AllByRecursion (λ group. (quantity : ℕ) × HasQuantity (codes "21") 1 group quantity)) m.segments
+IsRight m Reference = ⊤
+IsRight m Unit = ⊤
+IsRight m Control = IsControlled m.segments
+IsRight m NoLine = HasLine m.segments
+IsRight m Memory = ⊤
+
+-- a line of the order is what its group says
+pub record IsOrderLine (group : List Segment) (line : OrderLine) : Type 0 where
+  pub line_is : IsLine group line.line line.gtin
+  pub quantity_is : HasQuantity (codes "21") 1 group line.quantity
+
+-- the order is what the message says
+pub record IsOrder (message : List Segment) (order : Order) : Type 0 where
+  pub number_is : Begins (codes "220") message order.number
+  pub buyer_is : NamesParty (codes "BY") message order.buyer
+  pub supplier_is : NamesParty (codes "SU") message order.supplier
+  pub lines_are : OfLines (λ groups. AllZip IsOrderLine groups order.lines) message

@@ -1,0 +1,83 @@
+-- What is right in a receiving advice (RECADV) under the number of each fault, and what an advice says.
+use Rattle.std.specs.Prelude.{◌≡◌, ◌≤◌, ◌||◌, ⊤, ℕ, true, List, filter, sum_by, is_some, unwrap_or, codes, Option}
+use Rattle.std.specs.List.{AllByRecursion, AllZip}
+use Rattle.std.specs.Str.{bytes_eq}
+use Rattle.edi_tokens.specs.declared.segment.Segment.{Segment}
+use Rattle.edi_envelope.specs.declared.interchange.RawMessage.{RawMessage}
+use Rattle.edi_messages.specs.declared.fault.MessageFault.{MessageFault}
+use Rattle.edi_messages.specs.declared.fault.MessageFault.TheVariants.{MessageType, Beginning, Function, Date, Parties, Summary, Line, Quantity, Reference, Unit, Control, NoLine, Memory}
+use Rattle.edi_goods.specs.declared.receipt.Receipt.{Receipt}
+use Rattle.edi_goods.specs.declared.receipt.ReceiptLine.{ReceiptLine}
+use Rattle.edi_goods.specs.declared.receipt.ReceiptUnit.{ReceiptUnit}
+use Rattle.edi_law.specs.Header.{IsOfType, Begins, HasFunction, IsDated, NamesParty, NamesBuyer}
+use Rattle.edi_law.specs.Lines.{IsLine, IsAmount}
+use Rattle.edi_law.specs.Parts.{OfLines, OneOrNone}
+use Rattle.edi_law.specs.Segments.{says}
+use Rattle.edi_law.specs.Summary.{IsControlled, HasLine}
+use Rattle.edi_law.specs.Units.{OfUnits, AreLines, HasUnits, HasSscc}
+
+-- there is no QTY of the kind in the group, or just one, with this quantity
+abbrev pub HasKind : List ℕ → List Segment → Option ℕ → Type 0
+HasKind kind group quantity = OneOrNone (says (codes "QTY") kind) (IsAmount 0) group quantity
+
+-- the quantities of a group: 194 accepted, 195 to be returned, 196 to be destroyed; one of them is there
+pub record HasReceived (group : List Segment) (accepted returned destroyed : Option ℕ) : Type 0 where
+  pub accepted_is : HasKind (codes "194") group accepted
+  pub returned_is : HasKind (codes "195") group returned
+  pub destroyed_is : HasKind (codes "196") group destroyed
+  pub some : (is_some accepted || is_some returned || is_some destroyed) ≡ true
+
+-- a line of the advice is what its group says: a kind that is not there counts for none
+pub record IsReceiptLine (group : List Segment) (line : ReceiptLine) : Type 0 where
+  pub number : ℕ
+  pub line_is : IsLine group number line.gtin
+  pub accepted : Option ℕ
+  pub returned : Option ℕ
+  pub destroyed : Option ℕ
+  pub received : HasReceived group accepted returned destroyed
+  pub accepted_is : unwrap_or accepted 0 ≡ line.accepted
+  pub returned_is : unwrap_or returned 0 ≡ line.returned
+  pub destroyed_is : unwrap_or destroyed 0 ≡ line.destroyed
+
+-- the quantities of all lines of one item, in sum
+abbrev pub total : (ReceiptLine → ℕ) → List ℕ → List ReceiptLine → ℕ
+total quantity item lines = sum_by quantity (filter (λ line. bytes_eq line.gtin item) lines)
+
+-- no sum of a kind is above 999,999,999 for any item
+pub record AreWithin (lines : List ReceiptLine) : Type 0 where
+  pub accepted : (item : List ℕ) → total (λ line. line.accepted) item lines ≤ 999_999_999
+  pub returned : (item : List ℕ) → total (λ line. line.returned) item lines ≤ 999_999_999
+  pub destroyed : (item : List ℕ) → total (λ line. line.destroyed) item lines ≤ 999_999_999
+
+-- the groups of a unit have right quantities, and these right sums
+pub record AreReceived (groups : List (List Segment)) : Type 0 where
+  pub lines : List ReceiptLine
+  pub lines_are : AllZip IsReceiptLine groups lines
+  pub within : AreWithin lines
+
+abbrev pub IsRight : RawMessage → MessageFault → Type 0
+IsRight m MessageType = IsOfType (codes "RECADV") m
+IsRight m Beginning = (number : List ℕ) × Begins (codes "632") m.segments number
+IsRight m Function = HasFunction m.segments (codes "9")
+IsRight m Date = IsDated m.segments
+IsRight m Parties = ((buyer : Option (List ℕ)) × NamesBuyer m.segments buyer) × ((supplier : List ℕ) × NamesParty (codes "SU") m.segments supplier)
+IsRight m Summary = ⊤
+IsRight m Line = AreLines m.segments
+IsRight m Quantity = OfUnits (AllByRecursion (OfLines AreReceived)) m.segments
+IsRight m Reference = ⊤
+IsRight m Unit = HasUnits m.segments
+IsRight m Control = IsControlled m.segments
+IsRight m NoLine = HasLine m.segments
+IsRight m Memory = ⊤
+
+-- a unit of the advice is what the unit of the message says
+pub record IsReceiptUnit (segments : List Segment) (unit : ReceiptUnit) : Type 0 where
+  pub sscc_is : HasSscc segments unit.sscc
+  pub lines_are : OfLines (λ groups. AllZip IsReceiptLine groups unit.lines) segments
+
+-- the advice is what the message says
+pub record IsReceipt (message : List Segment) (receipt : Receipt) : Type 0 where
+  pub number_is : Begins (codes "632") message receipt.number
+  pub buyer_is : NamesBuyer message receipt.buyer
+  pub supplier_is : NamesParty (codes "SU") message receipt.supplier
+  pub units_are : OfUnits (λ units. AllZip IsReceiptUnit units receipt.units) message

@@ -1,0 +1,113 @@
+-- What is right in an order response (ORDRSP) under the number of each fault, and what a response says.
+use Rattle.std.specs.Prelude.{◌≡◌, ◌⊎◌, ⊤, ℕ, List, ◌∷◌, codes}
+use Rattle.std.specs.List.{AllByRecursion, AllZip}
+use Rattle.edi_tokens.specs.declared.segment.Segment.{Segment}
+use Rattle.edi_envelope.specs.Segments.{component}
+use Rattle.edi_envelope.specs.declared.interchange.RawMessage.{RawMessage}
+use Rattle.edi_messages.specs.declared.fault.MessageFault.{MessageFault}
+use Rattle.edi_messages.specs.declared.fault.MessageFault.TheVariants.{MessageType, Beginning, Function, Date, Parties, Summary, Line, Quantity, Reference, Unit, Control, NoLine, Memory}
+use Rattle.edi_orders.specs.declared.response.Answer.{Answer}
+use Rattle.edi_orders.specs.declared.response.Answer.TheVariants as answers
+use Rattle.edi_orders.specs.declared.response.AnswerLine.{AnswerLine}
+use Rattle.edi_orders.specs.declared.response.LineAnswer.{LineAnswer}
+use Rattle.edi_orders.specs.declared.response.LineAnswer.TheVariants as line_answers
+use Rattle.edi_orders.specs.declared.response.Response.{Response}
+use Rattle.edi_law.specs.Header.{IsOfType, Begins, HasFunction, IsDated, NamesParty}
+use Rattle.edi_law.specs.Lines.{IsLine, HasQuantity}
+use Rattle.edi_law.specs.Parts.{HasNone, OfLines, OfOnly}
+use Rattle.edi_law.specs.References.{is_reference, NamesOrder, NamesLineOrNone, HeaderNames, NamesLine}
+use Rattle.edi_law.specs.Segments.{says}
+use Rattle.edi_law.specs.Summary.{IsClosed, IsControlled, HasLine}
+
+-- what a response answers: lines one by one, or all of them
+pub data Extent : Type 0 where
+  EachLine : Extent
+  NoneOfAll : Extent
+  AllOfAll : Extent
+
+-- what becomes of a line
+pub data Action : Type 0 where
+  Accept : Action
+  Refuse : Action
+  Change : Action
+
+-- the function: 4 change and 9 original answer lines, 27 is not accepted, 29 accepted without amendment
+abbrev pub HasExtent : List Segment → Extent → Type 0
+HasExtent message EachLine = HasFunction message (codes "4") ⊎ HasFunction message (codes "9")
+HasExtent message NoneOfAll = HasFunction message (codes "27")
+HasExtent message AllOfAll = HasFunction message (codes "29")
+
+-- where lines are answered, the line groups are such
+abbrev pub OfReadLines : (List (List Segment) → Type 0) → List Segment → Type 0
+OfReadLines Are message = HasExtent message EachLine → OfLines Are message
+
+-- the action of a line: 5 accepted without amendment, 7 not accepted, 3 changed, 6 accepted with amendment
+abbrev pub IsAction : List ℕ → Action → Type 0
+IsAction code Accept = code ≡ codes "5"
+IsAction code Refuse = code ≡ codes "7"
+IsAction code Change = (code ≡ codes "3") ⊎ (code ≡ codes "6")
+
+pub record HasAction (group : List Segment) (action : Action) : Type 0 where
+  pub lin : Segment
+  pub body : List Segment
+  pub place : group ≡ lin ∷ body
+  pub action_is : IsAction (component lin 1 0) action
+
+-- each group is a line, with an action
+pub record AreAnswered (groups : List (List Segment)) : Type 0 where
+  pub lines : AllByRecursion (λ group. (number : ℕ) × (gtin : List ℕ) × IsLine group number gtin) groups
+  pub actions : AllByRecursion (λ group. (action : Action) × HasAction group action) groups
+
+-- the quantity of a change: the one QTY with 113, or where there is none the one with 21
+abbrev pub HasChange : List Segment → ℕ → Type 0
+HasChange group quantity = HasQuantity (codes "113") 0 group quantity ⊎ (HasNone (says (codes "QTY") (codes "113")) group × HasQuantity (codes "21") 0 group quantity)
+
+-- a line that is changed has a quantity
+abbrev pub IsChangeRight : List Segment → Type 0
+IsChangeRight group = HasAction group Change → (quantity : ℕ) × HasChange group quantity
+
+-- a group has no reference, or just one, which names the order of the header and a line or none
+abbrev pub IsReferred : List ℕ → List Segment → Type 0
+IsReferred order group = HasNone is_reference group ⊎ OfOnly is_reference group (λ rff. NamesOrder order rff × NamesLineOrNone rff)
+
+abbrev pub IsRight : RawMessage → MessageFault → Type 0
+IsRight m MessageType = IsOfType (codes "ORDRSP") m
+IsRight m Beginning = (number : List ℕ) × Begins (codes "231") m.segments number
+IsRight m Function = (extent : Extent) × HasExtent m.segments extent
+IsRight m Date = IsDated m.segments
+IsRight m Parties = ((buyer : List ℕ) × NamesParty (codes "BY") m.segments buyer) × ((supplier : List ℕ) × NamesParty (codes "SU") m.segments supplier)
+IsRight m Summary = IsClosed m.segments
+IsRight m Line = OfReadLines AreAnswered m.segments
+IsRight m Quantity = OfReadLines (AllByRecursion IsChangeRight) m.segments
+IsRight m Reference = (order : List ℕ) × HeaderNames m.segments order × OfReadLines (AllByRecursion (IsReferred order)) m.segments
+IsRight m Unit = ⊤
+IsRight m Control = IsControlled m.segments
+IsRight m NoLine = HasExtent m.segments EachLine → HasLine m.segments
+IsRight m Memory = ⊤
+
+-- the answer to a line
+abbrev pub HasAnswer : List Segment → LineAnswer → Type 0
+HasAnswer group line_answers.Accepted = HasAction group Accept
+HasAnswer group line_answers.Refused = HasAction group Refuse
+HasAnswer group (line_answers.Changed quantity) = HasAction group Change × HasChange group quantity
+
+-- a line of the response is what its group says
+pub record IsAnswerLine (group : List Segment) (line : AnswerLine) : Type 0 where
+  pub order_line_is : NamesLine group line.order_line
+  pub number : ℕ
+  pub line_is : IsLine group number line.gtin
+  pub answer_is : HasAnswer group line.answer
+
+-- the answer to all lines, or to each
+abbrev pub HasAnswers : List Segment → Answer → Type 0
+HasAnswers message answers.AllAccepted = HasExtent message AllOfAll
+HasAnswers message answers.AllRefused = HasExtent message NoneOfAll
+HasAnswers message (answers.Lines lines) = HasExtent message EachLine × OfLines (λ groups. AllZip IsAnswerLine groups lines) message
+
+-- the response is what the message says
+pub record IsResponse (message : List Segment) (response : Response) : Type 0 where
+  pub number_is : Begins (codes "231") message response.number
+  pub buyer_is : NamesParty (codes "BY") message response.buyer
+  pub supplier_is : NamesParty (codes "SU") message response.supplier
+  pub order_is : HeaderNames message response.order
+  pub answer_is : HasAnswers message response.answer

@@ -1,0 +1,17 @@
+ghost use Rattle.std.specs.Prelude.{◌≡◌, ◌↔◌, Ok, Err};
+ghost use Rattle.edi_envelope.specs.declared.interchange.RawMessage.{RawMessage};
+ghost use Rattle.edi_law.specs.Lowest.{IsLowest, IsFaultless};
+ghost use Rattle.edi_law.specs.Order.{IsRight, IsOrder};
+ghost use Rattle.edi_messages.specs.declared.fault.MessageFault.{MessageFault};
+ghost use Rattle.edi_orders.specs.Order.{order_of};
+ghost use Rattle.edi_orders.specs.declared.order.Order.{Order};
+
+/// A law of the definition that an order is read by: a message has a fault exactly where what is right under its number
+/// does not hold and all that is right under lower numbers does. It is an order exactly where all is right and the order is
+/// what the message says.
+pub fn order_law()
+    ensures fault { (message : RawMessage) (fault : MessageFault) →
+        (order_of message ≡ Err fault) ↔ IsLowest (IsRight message) fault }
+    ensures order { (message : RawMessage) (order : Order) →
+        (order_of message ≡ Ok order) ↔ (IsFaultless (IsRight message) × IsOrder message.segments order) }
+{}

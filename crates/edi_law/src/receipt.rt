@@ -1,0 +1,17 @@
+ghost use Rattle.std.specs.Prelude.{◌≡◌, ◌↔◌, Ok, Err};
+ghost use Rattle.edi_envelope.specs.declared.interchange.RawMessage.{RawMessage};
+ghost use Rattle.edi_goods.specs.Receipt.{receipt_of};
+ghost use Rattle.edi_goods.specs.declared.receipt.Receipt.{Receipt};
+ghost use Rattle.edi_law.specs.Lowest.{IsLowest, IsFaultless};
+ghost use Rattle.edi_law.specs.Receipt.{IsRight, IsReceipt};
+ghost use Rattle.edi_messages.specs.declared.fault.MessageFault.{MessageFault};
+
+/// A law of the definition that a receiving advice is read by: a message has a fault exactly where what is right under its
+/// number does not hold and all that is right under lower numbers does. It is an advice exactly where all is right and the
+/// advice is what the message says.
+pub fn receipt_law()
+    ensures fault { (message : RawMessage) (fault : MessageFault) →
+        (receipt_of message ≡ Err fault) ↔ IsLowest (IsRight message) fault }
+    ensures receipt { (message : RawMessage) (receipt : Receipt) →
+        (receipt_of message ≡ Ok receipt) ↔ (IsFaultless (IsRight message) × IsReceipt message.segments receipt) }
+{}

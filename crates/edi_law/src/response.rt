@@ -1,0 +1,17 @@
+ghost use Rattle.std.specs.Prelude.{◌≡◌, ◌↔◌, Ok, Err};
+ghost use Rattle.edi_envelope.specs.declared.interchange.RawMessage.{RawMessage};
+ghost use Rattle.edi_law.specs.Lowest.{IsLowest, IsFaultless};
+ghost use Rattle.edi_law.specs.Response.{IsRight, IsResponse};
+ghost use Rattle.edi_messages.specs.declared.fault.MessageFault.{MessageFault};
+ghost use Rattle.edi_orders.specs.Response.{response_of};
+ghost use Rattle.edi_orders.specs.declared.response.Response.{Response};
+
+/// A law of the definition that an order response is read by: a message has a fault exactly where what is right under its
+/// number does not hold and all that is right under lower numbers does. It is a response exactly where all is right and the
+/// response is what the message says.
+pub fn response_law()
+    ensures fault { (message : RawMessage) (fault : MessageFault) →
+        (response_of message ≡ Err fault) ↔ IsLowest (IsRight message) fault }
+    ensures response { (message : RawMessage) (response : Response) →
+        (response_of message ≡ Ok response) ↔ (IsFaultless (IsRight message) × IsResponse message.segments response) }
+{}
