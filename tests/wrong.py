@@ -4,9 +4,14 @@
 
 An edit is written as those of must-fail/ are: lines `file:`, `old:` and `new:`. It is a wrong body, which its own crate has to
 refuse, or, where its first line is `refused by: CRATE`, a wrong definition, which that crate has to refuse: the crates between
-are built with it, each of them proved, and that one is checked. Prints each edit that is not refused and each that is refused
-by names alone (a proof that names what the edit took away, which says little of the contract). The last line is
-`N refused, M not`, and the status is 1 where M is not 0."""
+are built with it, each of them proved, and that one is checked.
+
+Wrong bodies of different functions are tried in one check: each function is proved by itself, over what the others promise, so
+a body is refused where the check says so of its own function. What is not refused so, or only by a proof that names what the
+edit took away, is tried again alone, by `rt must-fail`, and that counts.
+
+Prints each edit that is not refused and each that is refused by names alone (which says little of the contract). The last line
+is `N refused, M not`, and the status is 1 where M is not 0."""
 import os
 import re
 import shutil
@@ -20,6 +25,8 @@ ROOT = os.path.dirname(os.path.dirname(os.path.abspath(__file__)))
 SOURCES = ("src", "specs", "proofs")
 # the most memory that a check is taken to need, in bytes
 CHECK_MEMORY = 5 << 30
+# an error of a proof that names what an edit took away
+BY_NAMES = r"(\./)?proofs/.*(has no field|is not in scope|has no `|was not admitted)"
 REFUSED, NAMES_ALONE, NOT_REFUSED = "refused", "refused by names alone", "not refused"
 
 
@@ -83,8 +90,128 @@ def run(words, folder):
     return ran.returncode, ran.stdout.rstrip("\n").split("\n")
 
 
-def bodies_tried(room, crate, bodies):
-    """What becomes of a crate's wrong bodies: pairs of the verdict and a line that says why."""
+@dataclass(frozen=True)
+class Function:
+    """A function of a crate, by its file, the type whose it is, and its name, with the lines on which it stands."""
+
+    file: str
+    owner: str
+    name: str
+    lines: range
+
+    def is_refused(self, crate, unproved):
+        """Whether it, or a closure in it, is among the names of the functions that are not proved."""
+        within = "".join(f"{re.escape(it)}::" for it in self.modules())
+        own = rf"{re.escape(self.owner)}\w*::" if self.owner else ""
+        path = rf"{crate}::{within}({own}{self.name}|{own}fn::{self.name}::.*)"
+        return any(re.fullmatch(path, it) for it in unproved)
+
+    def modules(self):
+        return [it for it in self.file.removeprefix("src/").removesuffix(".rt").split("/") if it != "lib"]
+
+    def has_error(self, file, line):
+        """Whether a place that a check names is in its text or in its proofs."""
+        proofs = "/".join(["proofs", *self.modules(), *[it for it in [self.owner] if it], self.name, ""])
+        return file == self.file and line in self.lines or file.startswith(proofs)
+
+
+def function_at(file, text, place):
+    """The function around a place of a source file, if there is one."""
+    lines, at = text.split("\n"), text.count("\n", 0, place)
+    header = re.compile(r"( *)(?:pub(?:\(crate\))? )?(?:const )?fn (\w+)")
+    first = next((it for it in range(at, -1, -1) if header.match(lines[it])), None)
+    if first is None:
+        return None
+    indent, name = header.match(lines[first]).groups()
+    last = next((it for it in range(first, len(lines)) if lines[it] == indent + "}"), len(lines))
+    if last < at:
+        return None
+    owner = next((lines[it] for it in range(first, -1, -1) if re.match(r"(impl|trait|pub trait)\b", lines[it])), "") if indent else ""
+    of_type = re.search(r"(?:for |impl(?:<[^>]*>)? |trait )(\w+)[^(]*$", owner)
+    return Function(file, of_type[1] if of_type else "", name, range(first + 1, last + 2))
+
+
+def pairs_of(text):
+    """The pairs of an edit: file, what stands there, and what stands there instead."""
+    path, old = "", ""
+    for line in text.split("\n"):
+        if line.startswith("file: "):
+            path = line.removeprefix("file: ").strip()
+        elif line.startswith("old: "):
+            old = line.removeprefix("old: ")
+        elif line.startswith("new:"):
+            yield path, old, line.removeprefix("new:").removeprefix(" ")
+
+
+def functions_of(wrong, folder):
+    """The functions that an edit touches; none where it touches anything else, or cannot be applied."""
+    found, texts = set(), {}
+    for path, old, new in pairs_of(wrong.text):
+        if path not in texts:
+            if not path.startswith("src/") or not os.path.isfile(os.path.join(folder, path)):
+                return set()
+            with open(os.path.join(folder, path), encoding="utf-8") as file:
+                texts[path] = file.read()
+        if not old or texts[path].count(old) != 1:
+            return set()
+        function = function_at(path, texts[path], texts[path].index(old))
+        if not function:
+            return set()
+        found.add(function)
+        texts[path] = texts[path].replace(old, new)
+    return found
+
+
+def batches(bodies, folder):
+    """Wrong bodies that touch different functions stand together; what touches more than functions stands in none."""
+    found = []
+    for it in bodies:
+        functions = functions_of(it, folder)
+        if functions:
+            batch = next((batch for batch in found if not any(functions & others for _, others in batch)), None)
+            if batch is None:
+                found.append(batch := [])
+            batch.append((it, functions))
+    return found
+
+
+def refused_together(room, crate, batch):
+    """The names of those of a batch that one check refuses, each by an error of its own functions that is not one of names alone."""
+    folder = os.path.join(room, "crates", crate)
+    kept = {}
+    for path in {path for it, _ in batch for path, _, _ in pairs_of(it.text)}:
+        with open(os.path.join(folder, path), encoding="utf-8") as file:
+            kept[path] = file.read()
+    for it, _ in batch:
+        applied(it.text, folder)
+    lines = run(["check", "--jobs", "1"], folder)[1]
+    for path, text in kept.items():
+        with open(os.path.join(folder, path), "w", encoding="utf-8") as file:
+            file.write(text)
+    if not any(it.startswith("logic=not-proved") for it in lines):
+        return set()
+    unproved = [it[1] for it in (re.fullmatch(r"fn (\S+): not proved", line) for line in lines) if it]
+    told = [it for it in (re.match(r"(?:note: )?(?:\./)?(\S+?):(\d+):\d+: ", line) for line in lines) if it and not re.match(BY_NAMES, it.string)]
+    return {
+        it.name
+        for it, functions in batch
+        if any(f.is_refused(crate, unproved) and any(f.has_error(at[1], int(at[2])) for at in told) for f in functions)
+    }
+
+
+def bodies_tried(crate, bodies):
+    """What becomes of a crate's wrong bodies: triples of the edit, the verdict and a line that says why."""
+    with room_beside() as room:
+        copied(room, {crate})
+        refused = set()
+        for batch in batches(bodies, os.path.join(room, "crates", crate)):
+            refused |= refused_together(room, crate, batch)
+        alone = [it for it in bodies if it.name not in refused]
+        return [(it, REFUSED, "") for it in bodies if it.name in refused] + tried_alone(room, crate, alone)
+
+
+def tried_alone(room, crate, bodies):
+    """The same by `rt must-fail`."""
     folder = os.path.join(room, "crates", crate, "must-fail")
     shutil.rmtree(folder, ignore_errors=True)
     os.makedirs(folder)
@@ -92,7 +219,7 @@ def bodies_tried(room, crate, bodies):
         with open(os.path.join(folder, it.name), "w", encoding="utf-8") as file:
             file.write(it.text)
     told = {}
-    for line in run(["must-fail", crate], room)[1]:
+    for line in run(["must-fail", crate], room)[1] if bodies else []:
         found = re.search(r"must-fail \S+/(\S+\.edit): (.*)", line)
         if found:
             told[found[1]] = found[2]
@@ -107,22 +234,15 @@ def verdict(said):
 
 def applied(text, folder):
     """Applies an edit to a crate's files. Says why it cannot be."""
-    path, old = "", ""
-    for line in text.split("\n"):
-        if line.startswith("file: "):
-            path = line.removeprefix("file: ").strip()
-        elif line.startswith("old: "):
-            old = line.removeprefix("old: ")
-        elif line.startswith("new:"):
-            new = line.removeprefix("new:").removeprefix(" ")
-            if not path.startswith(tuple(f"{it}/" for it in SOURCES)) or not os.path.isfile(os.path.join(folder, path)):
-                return f"there is no file {path or '(none is named)'}"
-            with open(os.path.join(folder, path), encoding="utf-8") as file:
-                source = file.read()
-            if not old or source.count(old) != 1:
-                return f"an 'old:' text is in {path} {source.count(old) if old else 0} times, and not once"
-            with open(os.path.join(folder, path), "w", encoding="utf-8") as file:
-                file.write(source.replace(old, new))
+    for path, old, new in pairs_of(text):
+        if not path.startswith(tuple(f"{it}/" for it in SOURCES)) or not os.path.isfile(os.path.join(folder, path)):
+            return f"there is no file {path or '(none is named)'}"
+        with open(os.path.join(folder, path), encoding="utf-8") as file:
+            source = file.read()
+        if not old or source.count(old) != 1:
+            return f"an 'old:' text is in {path} {source.count(old) if old else 0} times, and not once"
+        with open(os.path.join(folder, path), "w", encoding="utf-8") as file:
+            file.write(source.replace(old, new))
     return ""
 
 
@@ -134,8 +254,7 @@ def check_told(lines):
     judged = next((it for it in reversed(lines) if it.startswith("logic=")), lines[-1])
     if unread or not judged.startswith("logic=not-proved"):
         return NOT_REFUSED, f"it cannot be read: {unread or judged}"
-    names = r"(\./)?proofs/.*(has no field|is not in scope|has no `|was not admitted)"
-    first = next((it for it in errors if not re.match(names, it)), "")
+    first = next((it for it in errors if not re.match(BY_NAMES, it)), "")
     return (REFUSED, first) if first else (NAMES_ALONE, (errors or [""])[0])
 
 
@@ -179,10 +298,9 @@ def main(names):
                 print(f"{crate} is not proved as it stands: {lines[-1]}")
                 return 1
     count = {REFUSED: 0, NAMES_ALONE: 0, NOT_REFUSED: 0}
-    with room_beside() as room, ThreadPoolExecutor(lanes()) as pool:
+    with ThreadPoolExecutor(lanes()) as pool:
         bodies = {crate: [it for it in wrong if it.crate == crate and not it.refused_by] for crate in below}
-        copied(room, {it for it in bodies if bodies[it]})
-        waiting = [pool.submit(bodies_tried, room, crate, its) for crate, its in sorted(bodies.items(), key=lambda it: -len(it[1])) if its]
+        waiting = [pool.submit(bodies_tried, crate, its) for crate, its in sorted(bodies.items(), key=lambda it: -len(it[1])) if its]
         waiting += [pool.submit(definition_tried, it, below) for it in wrong if it.refused_by]
         for done in waiting:
             for it, told, why in done.result():

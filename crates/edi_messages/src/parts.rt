@@ -13,7 +13,7 @@ pub fn is_lin(segment: &Segment) -> bool
 }
 
 /// Whether a segment is a section control.
-pub fn is_uns(segment: &Segment) -> bool
+pub(crate) fn is_uns(segment: &Segment) -> bool
     ensures { result ≡ spec.is_uns segment.now }
 {
     segment.tag == *b"UNS"
@@ -72,7 +72,7 @@ pub fn header(message: &[Segment]) -> &[Segment]
 }
 
 /// The first segment, with what follows it up to the next that ends a group.
-pub fn group_of(segments: &[Segment]) -> &[Segment]
+pub(crate) fn group_of(segments: &[Segment]) -> &[Segment]
     ensures { result.now ≡ spec.group_of segments.now }
 {
     match segments.split_first() {
@@ -85,7 +85,7 @@ pub fn group_of(segments: &[Segment]) -> &[Segment]
 }
 
 /// Whether a segment has this tag, and this qualifier as the first component of element 1.
-pub fn is_qualified(tag: &[u8; 3], qualifier: &[u8], segment: &Segment) -> bool
+pub(crate) fn is_qualified(tag: &[u8; 3], qualifier: &[u8], segment: &Segment) -> bool
     ensures { result ≡ spec.is_qualified tag.now qualifier.now segment.now }
 {
     segment.tag == *tag && segment.component(0, 0) == qualifier

@@ -22,7 +22,7 @@ pub fn reference(part: &[Segment]) -> Option<&Segment>
 }
 
 /// The order number of a reference (1154), where it is within its limits.
-pub fn order_named(rff: &Segment) -> Option<&[u8]>
+pub(crate) fn order_named(rff: &Segment) -> Option<&[u8]>
     ensures { option_map (λ number. number.now) result ≡ spec.order_named rff.now }
 {
     let number = rff.component(0, 1);

@@ -8,14 +8,14 @@ use edi_base::{all_printable, count_of, has_length, value_of};
 use jiff::civil::Date;
 
 /// Whether these are a document number, or the number of an order: 1 to 35 bytes of 0x20 to 0x7E.
-pub fn is_document_number(bytes: &[u8]) -> bool
+pub(crate) fn is_document_number(bytes: &[u8]) -> bool
     ensures { result ≡ spec.is_document_number bytes.now }
 {
     has_length(1, 35, bytes) && all_printable(bytes)
 }
 
 /// The line number that 1 to 6 digits write, which is no zero.
-pub fn line_number(bytes: &[u8]) -> Option<u32>
+pub(crate) fn line_number(bytes: &[u8]) -> Option<u32>
     ensures { result ≡ spec.line_number bytes.now }
 {
     let number = count_of(bytes)?;
@@ -112,7 +112,7 @@ fn is_minute(bytes: &[u8]) -> bool
 }
 
 /// Whether these are a date that exists, in format 102, CCYYMMDD, or 203, CCYYMMDDHHMM.
-pub fn is_date(format: &[u8], bytes: &[u8]) -> bool
+pub(crate) fn is_date(format: &[u8], bytes: &[u8]) -> bool
     ensures { result ≡ spec.is_date format.now bytes.now }
 {
     if format == b"102".as_slice() {
