@@ -7,7 +7,7 @@ use super::*;
 use edi_goods::Receipt;
 use gs1_ids::Sscc;
 use hub_judges::judge_receipt;
-use hub_tables::{Arrival, PalletRow};
+use hub_tables::{Arrival, Column, PalletRow};
 
 // A receiving advice of two units; how far their pallets have come, where they are there, and what else is known of the
 // supplier; and what comes of it.
@@ -171,7 +171,7 @@ fn verdict(alloc: Global, case: &ReceiptCase) -> Result<Verdict, Fail> {
     Ok(judge_receipt(
         alloc,
         &retailer,
-        Some(&row).filter(|_| case.is_registered),
+        registered(&row, case.is_registered),
         &known,
         delivery(alloc)?,
         copied(alloc, b"body")?,
