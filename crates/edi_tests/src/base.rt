@@ -140,17 +140,20 @@ fn a_source_is_read_to_its_end_or_the_limit(rt: HostRuntime) -> Result<(), Fail>
     Ok(())
 }
 
+fn read_two(alloc: Global, source: &mut OfRead<Drip>) -> Result<Vec<u8>, ReadFault> {
+    read_to_limit(alloc, source, 2)
+}
+
 #[test]
 fn a_failed_read_is_answered(rt: HostRuntime) -> Result<(), Fail> {
     let mut source = OfRead::new(Drip { left: 3 });
-    for (want, has_failed) in [(Ok(b"aa".as_slice()), false), (Err(ReadFault::Read), true)] {
-        let read = read_to_limit(rt.alloc(), &mut source, 2);
-        let found = match &read {
-            Ok(bytes) => Ok(bytes.as_slice()),
-            Err(fault) => Err(*fault),
-        };
-        assert_eq!(rt; (found, source.failed()), (want, has_failed));
-    }
+    let read = read_two(rt.alloc(), &mut source)?;
+    assert_eq!(rt;
+        (read.as_slice(), source.failed()),
+        (b"aa".as_slice(), false)
+    );
+    let again = read_two(rt.alloc(), &mut source).err();
+    assert_eq!(rt; (again, source.failed()), (Some(ReadFault::Read), true));
     Ok(())
 }
 
@@ -187,7 +190,7 @@ fn numbers_that_come_twice(rt: HostRuntime) -> Result<(), Fail> {
     Ok(())
 }
 
-/// What is asked of bytes: their length, or how many digits they are, between two limits; or the number that they count.
+/// What is asked of bytes: a length or so many digits, between two limits; or the number that they count.
 #[derive(Clone, Copy)]
 enum Asked {
     Length(usize, usize),
@@ -239,10 +242,14 @@ static DIGITS: [(&str, Option<u32>, Option<u32>); 7] = [
     ("99999999999999999999999999999999999", None, None),
 ];
 
+fn numbers_of(digits: &[u8]) -> (Option<u32>, Option<u32>) {
+    (value_of(digits), count_of(digits))
+}
+
 #[test]
 fn numbers_of_digits(rt: HostRuntime) {
     for (digits, number, count) in &DIGITS {
-        let found = (value_of(digits.as_bytes()), count_of(digits.as_bytes()));
+        let found = numbers_of(digits.as_bytes());
         assert_eq!(rt; found, (*number, *count), "{digits}");
     }
     assert_eq!(rt; count_of(b"1x"), None);

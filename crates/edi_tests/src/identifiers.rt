@@ -103,13 +103,14 @@ static GTINS: [(&str, Option<&[u8; 14]>); 14] = [
     ("", None),
 ];
 
+fn gtin_digits(text: &str) -> Option<[u8; 14]> {
+    Some(*Gtin::parse(text.as_bytes())?.digits())
+}
+
 #[test]
 fn gtins(rt: HostRuntime) {
     for (text, want) in &GTINS {
-        match Gtin::parse(text.as_bytes()) {
-            Some(gtin) => assert_eq!(rt; Some(gtin.digits()), *want, "{text}"),
-            None => assert_eq!(rt; None, *want, "{text}"),
-        }
+        assert_eq!(rt; gtin_digits(text).as_ref(), *want, "{text}");
     }
 }
 
