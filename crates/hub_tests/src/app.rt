@@ -281,8 +281,8 @@ fn an_order_is_shown(rt: HostRuntime) -> Result<(), Fail> {
 const REGISTER: &str =
     "hub = \"5412345000006\"\nretailer = { gln = \"5412345000013\", key = \"retail-key\" }\n[[supplier]]\ngln = \"4012345500004\"\nprefix = \"40123455\"\nkey = \"alpha-key-1\"\n";
 
-// Texts of a register, how many bytes the output takes, and whether the next write fails; the status, what is printed, and
-// what is told of a fault.
+// Texts of a register, how many bytes the output takes, and whether the next write fails; the status, what is
+// printed, and what is told of a fault.
 static CHECKS: [(&str, usize, bool, u8, &str, &str); 5] = [
     (REGISTER, usize::MAX, false, 0, "ok 1 suppliers\n", ""),
     ("hub = 1", usize::MAX, false, 1, "fault text\n", ""),

@@ -17,6 +17,16 @@ fn book(alloc: Global) -> Result<Book, Fail> {
     Ok(Book::new(alloc, lines)?)
 }
 
+fn place_of(
+    book: &Book,
+    order: &[u8],
+    number: Option<u32>,
+    item: &str,
+) -> Result<Option<usize>, Fail> {
+    let item = gtin(item)?;
+    Ok(book.place_of(order, number, &item))
+}
+
 // An order, a line's number or none, and an item; and the place of the line that they name.
 static PLACES: [(&[u8; 6], Option<u32>, &str, Option<usize>); 9] = [
     (b"128575", Some(1), ITEM, Some(0)),
@@ -34,7 +44,7 @@ static PLACES: [(&[u8; 6], Option<u32>, &str, Option<usize>); 9] = [
 fn a_book_finds_its_lines(rt: HostRuntime) -> Result<(), Fail> {
     let book = book(rt.alloc())?;
     for (order, number, item, place) in &PLACES {
-        let found = book.place_of(*order, *number, &gtin(item)?);
+        let found = place_of(&book, *order, *number, item)?;
         assert_eq!(rt; found, *place, "line {number:?} of {order:?}");
     }
     Ok(())
