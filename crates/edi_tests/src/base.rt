@@ -48,16 +48,21 @@ fn a_failed_write_leaves_a_front_of_the_bytes(rt: HostRuntime) -> Result<(), Fai
     Ok(())
 }
 
+/// Puts bytes behind those that wait in a buffer.
+fn put(buffer: &mut Buffer, bytes: &[u8], out: &mut OfWrite<Dribble>) -> Result<(), WriteFault> {
+    buffer.put(out, bytes)
+}
+
 /// Puts bytes into a buffer in pieces of these sizes, and writes those that wait at the end.
 fn put_pieces(bytes: &[u8], sizes: &[usize], out: &mut OfWrite<Dribble>) -> Result<(), WriteFault> {
     let mut buffer = Buffer::new();
     let mut rest = bytes;
     for size in sizes {
         let (piece, after) = rest.split_at((*size).min(rest.len()));
-        buffer.put(out, piece)?;
+        put(&mut buffer, piece, out)?;
         rest = after;
     }
-    buffer.put(out, rest)?;
+    put(&mut buffer, rest, out)?;
     buffer.flush(out)
 }
 
@@ -101,42 +106,54 @@ impl Read for Drip {
     }
 }
 
+/// What is read of bytes to a limit, what is left of them, and whether the source has failed.
+fn read_front(alloc: Global, bytes: &[u8], limit: usize) -> Result<(Vec<u8>, &[u8], bool), Fail> {
+    let mut source = OfRead::new(bytes);
+    let read = read_to_limit(alloc, &mut source, limit)?;
+    let failed = source.failed();
+    Ok((read, source.into_inner(), failed))
+}
+
+// How many bytes are given, the limit, and how many are read.
+static LIMITS: [(usize, usize, usize); 7] = [
+    (255, 0, 0),
+    (255, 1, 1),
+    (255, 254, 254),
+    (255, 255, 255),
+    (255, 256, 255),
+    (255, 1_048_577, 255),
+    (200_000, 150_000, 150_000),
+];
+
 #[test]
 fn a_source_is_read_to_its_end_or_the_limit(rt: HostRuntime) -> Result<(), Fail> {
     let long = bytes_of(rt.alloc(), 200_000)?;
-    for (given, limit, size) in [
-        (255, 0, 0),
-        (255, 1, 1),
-        (255, 254, 254),
-        (255, 255, 255),
-        (255, 256, 255),
-        (255, 1_048_577, 255),
-        (200_000, 150_000, 150_000),
-    ] {
-        let known = long.as_slice().get(..given).ok_or("a front")?;
-        let mut source = OfRead::new(known);
-        let read = read_to_limit(rt.alloc(), &mut source, limit)?;
-        let failed = source.failed();
+    for (given, limit, size) in &LIMITS {
+        let known = long.as_slice().get(..*given).ok_or("a front")?;
+        let (read, left, failed) = read_front(rt.alloc(), known, *limit)?;
         assert_eq!(rt;
-            (Some(read.as_slice()), Some(source.into_inner()), failed),
-            (known.get(..size), known.get(size..), false),
+            (Some(read.as_slice()), Some(left), failed),
+            (known.get(..*size), known.get(*size..), false),
             "{given} bytes to the limit {limit}"
         );
     }
     Ok(())
 }
 
+fn read_two(alloc: Global, source: &mut OfRead<Drip>) -> Result<Vec<u8>, ReadFault> {
+    read_to_limit(alloc, source, 2)
+}
+
 #[test]
 fn a_failed_read_is_answered(rt: HostRuntime) -> Result<(), Fail> {
     let mut source = OfRead::new(Drip { left: 3 });
-    for (want, has_failed) in [(Ok(b"aa".as_slice()), false), (Err(ReadFault::Read), true)] {
-        let read = read_to_limit(rt.alloc(), &mut source, 2);
-        let found = match &read {
-            Ok(bytes) => Ok(bytes.as_slice()),
-            Err(fault) => Err(*fault),
-        };
-        assert_eq!(rt; (found, source.failed()), (want, has_failed));
-    }
+    let read = read_two(rt.alloc(), &mut source)?;
+    assert_eq!(rt;
+        (read.as_slice(), source.failed()),
+        (b"aa".as_slice(), false)
+    );
+    let again = read_two(rt.alloc(), &mut source).err();
+    assert_eq!(rt; (again, source.failed()), (Some(ReadFault::Read), true));
     Ok(())
 }
 
@@ -156,57 +173,84 @@ fn a_text_comes_again(rt: HostRuntime) -> Result<(), Fail> {
     Ok(())
 }
 
+// Numbers, and whether one of them comes twice.
+static NUMBERS: [(&[u32], bool); 4] = [
+    (&[], false),
+    (&[3, 1, 2], false),
+    (&[3, 1, 2, 3], true),
+    (&[0, 0], true),
+];
+
 #[test]
 fn numbers_that_come_twice(rt: HostRuntime) -> Result<(), Fail> {
-    for (numbers, come_twice) in [
-        ([].as_slice(), false),
-        (&[3, 1, 2], false),
-        (&[3, 1, 2, 3], true),
-        (&[0, 0], true),
-    ] {
-        assert_eq!(rt;
-            number_twice(rt.alloc(), numbers)?,
-            come_twice,
-            "{numbers:?}"
-        );
+    for (numbers, come_twice) in &NUMBERS {
+        let found = number_twice(rt.alloc(), numbers)?;
+        assert_eq!(rt; found, *come_twice, "{numbers:?}");
     }
     Ok(())
 }
 
+/// What is asked of bytes: a length or so many digits, between two limits; or the number that they count.
+#[derive(Clone, Copy)]
+enum Asked {
+    Length(usize, usize),
+    Printable,
+    Digits(usize, usize),
+    Count(usize),
+}
+
+fn holds(asked: Asked, bytes: &[u8]) -> bool {
+    match asked {
+        Asked::Length(low, high) => has_length(low, high, bytes),
+        Asked::Printable => all_printable(bytes),
+        Asked::Digits(low, high) => are_digits(low, high, bytes),
+        Asked::Count(number) => is_count_of(bytes, number),
+    }
+}
+
+static ASKED: [(&str, Asked, &[u8], bool); 13] = [
+    ("a length of 0 to 3", Asked::Length(0, 3), b"a 1", true),
+    ("a length of 3", Asked::Length(3, 3), b"a 1", true),
+    ("a length of 4 to 9", Asked::Length(4, 9), b"a 1", false),
+    ("a length of 0 to 2", Asked::Length(0, 2), b"a 1", false),
+    ("a blank and a tilde", Asked::Printable, b" ~", true),
+    ("0x7F", Asked::Printable, b"a\x7f", false),
+    ("0x1F", Asked::Printable, b"a\x1f", false),
+    ("two digits", Asked::Digits(1, 2), b"09", true),
+    ("a letter", Asked::Digits(1, 2), b"0x", false),
+    ("three digits", Asked::Digits(1, 2), b"123", false),
+    ("12 counts 12", Asked::Count(12), b"012", true),
+    ("12 counts 13", Asked::Count(13), b"012", false),
+    ("nothing counts 0", Asked::Count(0), b"", false),
+];
+
 #[test]
 fn lengths_and_characters(rt: HostRuntime) {
-    for (what, found, want) in [
-        ("a length of 0 to 3", has_length(0, 3, b"a 1"), true),
-        ("a length of 3", has_length(3, 3, b"a 1"), true),
-        ("a length of 4 to 9", has_length(4, 9, b"a 1"), false),
-        ("a length of 0 to 2", has_length(0, 2, b"a 1"), false),
-        ("a blank and a tilde", all_printable(b" ~"), true),
-        ("0x7F", all_printable(b"a\x7f"), false),
-        ("0x1F", all_printable(b"a\x1f"), false),
-        ("two digits", are_digits(1, 2, b"09"), true),
-        ("a letter", are_digits(1, 2, b"0x"), false),
-        ("three digits", are_digits(1, 2, b"123"), false),
-        ("12 counts 12", is_count_of(b"012", 12), true),
-        ("12 counts 13", is_count_of(b"012", 13), false),
-        ("nothing counts 0", is_count_of(b"", 0), false),
-    ] {
-        assert_eq!(rt; found, want, "{what}");
+    for (what, asked, bytes, want) in &ASKED {
+        assert_eq!(rt; holds(*asked, bytes), *want, "{what}");
     }
+}
+
+// Digits, the number of up to nine of them, and the number of up to six.
+static DIGITS: [(&str, Option<u32>, Option<u32>); 7] = [
+    ("0", Some(0), Some(0)),
+    ("000012", Some(12), Some(12)),
+    ("999999", Some(999_999), Some(999_999)),
+    ("1000000", Some(1_000_000), None),
+    ("000000999999999", Some(999_999_999), None),
+    ("1000000000", None, None),
+    ("99999999999999999999999999999999999", None, None),
+];
+
+fn numbers_of(digits: &[u8]) -> (Option<u32>, Option<u32>) {
+    (value_of(digits), count_of(digits))
 }
 
 #[test]
 fn numbers_of_digits(rt: HostRuntime) {
-    for (digits, number, count) in [
-        ("0", Some(0), Some(0)),
-        ("000012", Some(12), Some(12)),
-        ("999999", Some(999_999), Some(999_999)),
-        ("1000000", Some(1_000_000), None),
-        ("000000999999999", Some(999_999_999), None),
-        ("1000000000", None, None),
-        ("99999999999999999999999999999999999", None, None),
-    ] {
-        let found = (value_of(digits.as_bytes()), count_of(digits.as_bytes()));
-        assert_eq!(rt; found, (number, count), "{digits}");
+    for (digits, number, count) in &DIGITS {
+        let found = numbers_of(digits.as_bytes());
+        assert_eq!(rt; found, (*number, *count), "{digits}");
     }
     assert_eq!(rt; count_of(b"1x"), None);
 }

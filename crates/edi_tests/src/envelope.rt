@@ -1,5 +1,7 @@
-use edi_envelope::{Head, Interchange, Moment, RawMessage, open, wrap};
-use edi_tokens::{body_text, read_all};
+use crate::texts::opened;
+use edi_base::Items;
+use edi_envelope::{Head, Interchange, Moment, RawMessage, wrap};
+use edi_tokens::{Segment, body_text};
 use std::alloc::{AllocError, Global};
 use std::test::Fail;
 
@@ -10,11 +12,6 @@ const BOTH: &[u8] =
 
 const TOLD: &[u8] =
     b"UNOC 5412345000013 5412345000006 250603 0915 1001 1 ORDERS D 01B UN EAN010 UNH+1+ORDERS:D:01B:UN:EAN010'BGM+220+128576+9'DTM+137:20250603:102'NAD+BY+5412345000013::9'NAD+SU+4012345500004::9'LIN+1++4000862141404:SRV'QTY+21:48'UNS+S'CNT+2:1'UNT+10+1' 2 DESADV D 01B UN  UNH+2+DESADV:D:01B:UN'UNT+2+2' ";
-
-fn opened(alloc: Global, text: &[u8]) -> Result<Interchange, Fail> {
-    let tokens = read_all(alloc, text)?;
-    Ok(open(alloc, tokens)?)
-}
 
 // The fields, with a blank behind each.
 fn joined(alloc: Global, fields: &[&[u8]]) -> Result<Vec<u8>, AllocError> {
@@ -52,15 +49,19 @@ fn message_told(alloc: Global, message: &RawMessage) -> Result<Vec<u8>, AllocErr
     joined(alloc, &fields)
 }
 
-#[test]
-fn gives_the_head_and_the_messages(rt: HostRuntime) -> Result<(), Fail> {
-    let alloc = rt.alloc();
-    let interchange = opened(alloc, BOTH)?;
+// What is told of the head, and then of each message.
+fn told(alloc: Global, interchange: &Interchange) -> Result<Vec<u8>, AllocError> {
     let mut told = head_told(alloc, &interchange.head)?;
     for message in interchange.messages.as_slice() {
-        let message = message_told(alloc, message)?;
-        told.extend_from_slice(message.as_slice())?;
+        told.extend_from_slice(message_told(alloc, message)?.as_slice())?;
     }
+    Ok(told)
+}
+
+#[test]
+fn gives_the_head_and_the_messages(rt: HostRuntime) -> Result<(), Fail> {
+    let interchange = opened(rt.alloc(), BOTH)?;
+    let told = told(rt.alloc(), &interchange)?;
     assert_eq!(rt; (interchange.decimal, told.as_slice()), (b',', TOLD));
     Ok(())
 }
@@ -81,13 +82,28 @@ fn only_message(alloc: Global, text: &[u8]) -> Result<RawMessage, Fail> {
     Err(Fail::new("more than one message"))
 }
 
+const LAST_NUMBER: u64 = 99_999_999_999_999;
+
+// The mail of this number that a message becomes at a moment.
+fn mail(
+    alloc: Global,
+    moment: Moment,
+    number: u64,
+    message: &RawMessage,
+) -> Result<Items<Segment>, Fail> {
+    let (hub, owner) = (b"5412345000006", b"4012345500004");
+    if number == 0 || number > LAST_NUMBER {
+        return Err(Fail::new("not the number of a mail"));
+    }
+    Ok(wrap(alloc, hub, owner, moment, number, message)?)
+}
+
 #[test]
 fn wraps_a_message_for_the_mailbox(rt: HostRuntime) -> Result<(), Fail> {
     let alloc = rt.alloc();
     let moment = Moment::new(1_748_942_400).ok_or("a moment")?;
-    let (hub, owner) = (b"5412345000006", b"4012345500004");
     let message = only_message(alloc, RELAYED)?;
-    let mail = wrap(alloc, hub, owner, moment, 99_999_999_999_999, &message)?;
+    let mail = mail(alloc, moment, LAST_NUMBER, &message)?;
     let text = body_text(alloc, mail.as_slice())?;
     assert_eq!(rt; text.as_slice(), MAIL);
     Ok(())
@@ -95,14 +111,7 @@ fn wraps_a_message_for_the_mailbox(rt: HostRuntime) -> Result<(), Fail> {
 
 // Date and time of the mail that a message becomes.
 fn mail_date(alloc: Global, message: &RawMessage, moment: Moment) -> Result<Vec<u8>, Fail> {
-    let mail = wrap(
-        alloc,
-        b"5412345000006",
-        b"4012345500004",
-        moment,
-        1,
-        message,
-    )?;
+    let mail = mail(alloc, moment, 1, message)?;
     let unb = mail.as_slice().first().ok_or("UNB")?;
     Ok(joined(alloc, &[unb.component(3, 0), unb.component(3, 1)])?)
 }

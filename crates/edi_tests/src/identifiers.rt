@@ -1,7 +1,6 @@
 use gs1_ids::*;
 use std::cmp::Ordering;
 use std::hash::{DefaultHasher, Hash, Hasher};
-use std::process::Abort;
 use std::test::Fail;
 
 fn prefix(text: &str) -> Result<Prefix, &'static str> {
@@ -18,94 +17,116 @@ fn order_of<T: Ord>(a: &T, b: &T) -> (Ordering, bool) {
     (a.cmp(b), a == b)
 }
 
+// Digits, and the check digit that is published behind them.
+static CHECK_DIGITS: [(&str, Option<u8>); 11] = [
+    ("629104150021", Some(3)),
+    ("37610425002123456", Some(9)),
+    ("34012345500000001", Some(2)),
+    ("03600029145", Some(2)),
+    ("9638507", Some(4)),
+    ("1", Some(7)),
+    ("0", Some(0)),
+    ("", None),
+    ("629104150o21", None),
+    ("62910415002/", None),
+    ("62910415002:", None),
+];
+
 #[test]
 fn check_digits_of_published_numbers(rt: HostRuntime) {
-    let cases = [
-        ("629104150021", Some(3)),
-        ("37610425002123456", Some(9)),
-        ("34012345500000001", Some(2)),
-        ("03600029145", Some(2)),
-        ("9638507", Some(4)),
-        ("1", Some(7)),
-        ("0", Some(0)),
-        ("", None),
-        ("629104150o21", None),
-        ("62910415002/", None),
-        ("62910415002:", None),
-    ];
-    for (digits, want) in cases {
-        assert_eq!(rt; check_digit(digits.as_bytes()), want, "of {digits}");
+    for (digits, want) in &CHECK_DIGITS {
+        assert_eq!(rt; check_digit(digits.as_bytes()), *want, "of {digits}");
     }
 }
 
-#[test]
-fn glns(rt: HostRuntime) -> Result<(), Fail> {
-    let cases = [
-        ("5412345000006", true),
-        ("4012345500004", true),
-        ("0614141123452", true),
-        ("0614141123453", false),
-        ("614141123452", false),
-        ("00614141123452", false),
-        ("061414112345 ", false),
-        ("", false),
-    ];
-    for (text, right) in cases {
-        assert_eq!(rt; Gln::parse(text.as_bytes()).is_some(), right, "{text}");
+#[derive(Clone, Copy)]
+enum Kind {
+    Gln,
+    Sscc,
+    Prefix,
+}
+
+fn is_read(kind: Kind, text: &[u8]) -> bool {
+    match kind {
+        Kind::Gln => Gln::parse(text).is_some(),
+        Kind::Sscc => Sscc::parse(text).is_some(),
+        Kind::Prefix => Prefix::parse(text).is_some(),
     }
-    Ok(())
+}
+
+// Texts, and whether each is an identifier of its kind.
+static TEXTS: [(Kind, &str, bool); 20] = [
+    (Kind::Gln, "5412345000006", true),
+    (Kind::Gln, "4012345500004", true),
+    (Kind::Gln, "0614141123452", true),
+    (Kind::Gln, "0614141123453", false),
+    (Kind::Gln, "614141123452", false),
+    (Kind::Gln, "00614141123452", false),
+    (Kind::Gln, "061414112345 ", false),
+    (Kind::Gln, "", false),
+    (Kind::Sscc, "340123455000000012", true),
+    (Kind::Sscc, "340123455000000013", false),
+    (Kind::Sscc, "376104250021234569", true),
+    (Kind::Sscc, "106141412345678908", true),
+    (Kind::Sscc, "6291041500213", false),
+    (Kind::Sscc, "0340123455000000012", false),
+    (Kind::Prefix, "0614", true),
+    (Kind::Prefix, "4012345", true),
+    (Kind::Prefix, "629104150021", true),
+    (Kind::Prefix, "061", false),
+    (Kind::Prefix, "6291041500213", false),
+    (Kind::Prefix, "40 2345", false),
+];
+
+#[test]
+fn texts_are_read_as_identifiers(rt: HostRuntime) {
+    for (kind, text, right) in &TEXTS {
+        assert_eq!(rt; is_read(*kind, text.as_bytes()), *right, "{text}");
+    }
+}
+
+// Texts, and the fourteen digits of the GTIN that each is.
+static GTINS: [(&str, Option<&[u8; 14]>); 14] = [
+    ("96385074", Some(b"00000096385074")),
+    ("96385075", None),
+    ("73513537", Some(b"00000073513537")),
+    ("614141999996", Some(b"00614141999996")),
+    ("036000291452", Some(b"00036000291452")),
+    ("0036000291452", Some(b"00036000291452")),
+    ("6291041500213", Some(b"06291041500213")),
+    ("09501101530003", Some(b"09501101530003")),
+    ("80614141123458", Some(b"80614141123458")),
+    ("80614141123459", None),
+    ("36000291452", None),
+    ("000036000291452", None),
+    ("0", None),
+    ("", None),
+];
+
+fn gtin_digits(text: &str) -> Option<[u8; 14]> {
+    Some(*Gtin::parse(text.as_bytes())?.digits())
 }
 
 #[test]
 fn gtins(rt: HostRuntime) {
-    let cases = [
-        ("96385074", Some(b"00000096385074")),
-        ("96385075", None),
-        ("73513537", Some(b"00000073513537")),
-        ("614141999996", Some(b"00614141999996")),
-        ("036000291452", Some(b"00036000291452")),
-        ("0036000291452", Some(b"00036000291452")),
-        ("6291041500213", Some(b"06291041500213")),
-        ("09501101530003", Some(b"09501101530003")),
-        ("80614141123458", Some(b"80614141123458")),
-        ("80614141123459", None),
-        ("36000291452", None),
-        ("000036000291452", None),
-        ("0", None),
-        ("", None),
-    ];
-    for (text, want) in cases {
-        let gtin = Gtin::parse(text.as_bytes());
-        let digits = gtin.as_ref().map(|gtin| gtin.digits());
-        assert_eq!(rt; digits, want, "{text}");
+    for (text, want) in &GTINS {
+        assert_eq!(rt; gtin_digits(text).as_ref(), *want, "{text}");
     }
 }
 
-#[test]
-fn ssccs(rt: HostRuntime) {
-    let cases = [
-        ("340123455000000012", true),
-        ("340123455000000013", false),
-        ("376104250021234569", true),
-        ("106141412345678908", true),
-        ("6291041500213", false),
-        ("0340123455000000012", false),
-    ];
-    for (text, right) in cases {
-        assert_eq!(rt; Sscc::parse(text.as_bytes()).is_some(), right, "{text}");
-    }
-}
+// Digits, and whether the SSCC 340123455000000012 is under them.
+static PREFIXES_OF_AN_SSCC: [(&str, bool); 4] = [
+    ("4012345", true),
+    ("401234550000", true),
+    ("3401234", false),
+    ("4012346", false),
+];
 
 #[test]
 fn an_sscc_is_under_its_prefixes(rt: HostRuntime) -> Result<(), Fail> {
     let sscc = Sscc::parse(b"340123455000000012").ok_or("an SSCC")?;
-    for (digits, want) in [
-        ("4012345", true),
-        ("401234550000", true),
-        ("3401234", false),
-        ("4012346", false),
-    ] {
-        assert_eq!(rt; sscc.under(&prefix(digits)?), want, "{digits}");
+    for (digits, want) in &PREFIXES_OF_AN_SSCC {
+        assert_eq!(rt; sscc.under(&prefix(digits)?), *want, "{digits}");
     }
     Ok(())
 }
@@ -136,71 +157,63 @@ fn equal_numbers_are_one_gtin(rt: HostRuntime) -> Result<(), Fail> {
     Ok(())
 }
 
-#[test]
-fn prefixes(rt: HostRuntime) {
-    let cases = [
-        ("0614", true),
-        ("4012345", true),
-        ("629104150021", true),
-        ("061", false),
-        ("6291041500213", false),
-        ("40 2345", false),
-    ];
-    for (text, right) in cases {
-        assert_eq!(rt; Prefix::parse(text.as_bytes()).is_some(), right, "{text}");
-    }
+// Two prefixes: whether the first begins the second, their order, and whether they are equal.
+static PAIRS: [(&str, &str, bool, Ordering, bool); 5] = [
+    ("40123", "4012345", true, Ordering::Less, false),
+    ("4012345", "40123", false, Ordering::Greater, false),
+    ("40123", "40123", true, Ordering::Equal, true),
+    ("40123", "40130", false, Ordering::Less, false),
+    ("4012345", "40130", false, Ordering::Less, false),
+];
+
+// Whether the first prefix begins the second, their order, whether they are equal, and whether their hashes are.
+fn compared(first: &str, second: &str) -> Result<(bool, (Ordering, bool), bool), Fail> {
+    let (one, other) = (prefix(first)?, prefix(second)?);
+    let is_one_hash = hash_of(&one) == hash_of(&other);
+    Ok((one.begins(&other), order_of(&one, &other), is_one_hash))
 }
 
 #[test]
 fn prefixes_are_compared_by_their_digits(rt: HostRuntime) -> Result<(), Fail> {
-    // two prefixes: whether the first begins the second, their order, and whether they are equal
-    for (first, second, begins, order, is_equal) in [
-        ("40123", "4012345", true, Ordering::Less, false),
-        ("4012345", "40123", false, Ordering::Greater, false),
-        ("40123", "40123", true, Ordering::Equal, true),
-        ("40123", "40130", false, Ordering::Less, false),
-        ("4012345", "40130", false, Ordering::Less, false),
-    ] {
-        let (one, other) = (prefix(first)?, prefix(second)?);
-        let is_one_hash = hash_of(&one) == hash_of(&other);
-        let found = (
-            one.begins(&other),
-            order_of(&one, &other),
-            is_one_hash || !is_equal,
-        );
+    for (first, second, begins, order, is_equal) in &PAIRS {
+        let (found, found_order, is_one_hash) = compared(first, second)?;
         assert_eq!(rt;
-            found,
-            (begins, (order, is_equal), true),
+            (found, found_order, is_one_hash || !*is_equal),
+            (*begins, (*order, *is_equal), true),
             "{first} and {second}"
         );
     }
     Ok(())
 }
 
-fn overlap_of(rt: &impl Abort, texts: &[&str; 4]) -> Option<(usize, usize)> {
+// Four prefixes, and the places of the first two of which one begins the other.
+static OVERLAPS: [([&str; 4], Option<(usize, usize)>); 6] = [
+    (["4012", "4013", "4014", "4015"], None),
+    (["4012", "4013", "4012", "4013"], Some((0, 2))),
+    (["4012", "4013", "4014", "401399"], Some((1, 3))),
+    (["401299", "4013", "4013", "4012"], Some((0, 3))),
+    (["40121", "40122", "4012", "4012"], Some((0, 2))),
+    (["4012", "4012", "4012", "4012"], Some((0, 1))),
+];
+
+fn overlap_of(texts: &[&str; 4]) -> Result<Option<(usize, usize)>, Fail> {
+    let [first, second, third, fourth] = texts;
     let all = [
-        prefix(texts[0]).expect(rt, "first"),
-        prefix(texts[1]).expect(rt, "second"),
-        prefix(texts[2]).expect(rt, "third"),
-        prefix(texts[3]).expect(rt, "fourth"),
+        prefix(first)?,
+        prefix(second)?,
+        prefix(third)?,
+        prefix(fourth)?,
     ];
-    first_overlap(&all)
+    Ok(first_overlap(&all))
 }
 
 #[test]
-fn first_overlaps(rt: HostRuntime) {
-    let cases = [
-        (["4012", "4013", "4014", "4015"], None),
-        (["4012", "4013", "4012", "4013"], Some((0, 2))),
-        (["4012", "4013", "4014", "401399"], Some((1, 3))),
-        (["401299", "4013", "4013", "4012"], Some((0, 3))),
-        (["40121", "40122", "4012", "4012"], Some((0, 2))),
-        (["4012", "4012", "4012", "4012"], Some((0, 1))),
-    ];
-    for (texts, want) in cases {
-        assert_eq!(rt; overlap_of(&rt, &texts), want, "{texts:?}");
+fn first_overlaps(rt: HostRuntime) -> Result<(), Fail> {
+    for (texts, want) in &OVERLAPS {
+        assert_eq!(rt; overlap_of(texts)?, *want, "{texts:?}");
     }
     assert_eq!(rt; first_overlap(&[]), None);
     prefixes_of_one_overlap();
     sscc_has_one_supplier();
+    Ok(())
 }

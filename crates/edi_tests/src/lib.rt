@@ -18,4 +18,6 @@ mod orders;
 #[cfg(test)]
 mod show;
 #[cfg(test)]
+mod texts;
+#[cfg(test)]
 mod tokens;

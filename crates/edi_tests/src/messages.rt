@@ -1,13 +1,13 @@
-use edi_envelope::{RawMessage, open};
+use crate::texts::last_message;
+use edi_envelope::RawMessage;
 use edi_messages::{MessageFault, supplier_of};
-use edi_tokens::read_all;
 use std::alloc::{AllocError, Global};
 use std::test::Fail;
 
 const SUPPLIER: &[u8; 13] = b"4012345500004";
 
 // The type of a message and its segments behind UNH, and whether the header names the supplier.
-const MESSAGES: [(&str, &str, bool); 11] = [
+static MESSAGES: [(&str, &str, bool); 11] = [
     ("ORDERS", "NAD+SU+4012345500004:x:9:y+z'", true),
     (
         "ORDERS",
@@ -37,37 +37,38 @@ const MESSAGES: [(&str, &str, bool); 11] = [
     ("DESADV", "CPS+1'NAD+SU+4012345500004::9'", false),
 ];
 
-// The message of these segments, in an interchange.
-fn message(alloc: Global, segments: &str) -> Result<RawMessage, Fail> {
-    let count = segments.matches("'").count().saturating_add(1);
+// The message of this type and these segments, in an interchange.
+fn message(alloc: Global, kind: &str, behind: &str) -> Result<RawMessage, Fail> {
+    let count = behind.matches("'").count().saturating_add(2);
     let text = format!(in alloc;
-        "UNB+UNOC:3+5412345000013:14+5412345000006:14+250603:0915+1001'{segments}UNT+{count}+1'UNZ+1+1001'"
+        "UNB+UNOC:3+5412345000013:14+5412345000006:14+250603:0915+1001'UNH+1+{kind}:D:01B:UN:EAN010'{behind}UNT+{count}+1'UNZ+1+1001'"
     )?;
-    let interchange = open(alloc, read_all(alloc, text.as_bytes())?)?;
-    Ok(interchange.messages.into_vec().pop().ok_or("a message")?)
+    last_message(alloc, text.as_bytes())
+}
+
+fn supplier_digits(message: &RawMessage) -> Option<[u8; 13]> {
+    Some(*supplier_of(message)?.digits())
 }
 
 #[test]
 fn the_header_names_the_supplier(rt: HostRuntime) -> Result<(), Fail> {
-    let alloc = rt.alloc();
-    for (kind, behind, names) in MESSAGES {
-        let segments = format!(in alloc; "UNH+1+{kind}:D:01B:UN:EAN010'{behind}")?;
-        let message = message(alloc, segments.as_str())?;
-        match supplier_of(&message) {
-            Some(gln) => assert_eq!(rt; (names, *gln.digits()), (true, *SUPPLIER), "{behind}"),
-            None => assert!(rt; !names, "{behind}"),
-        }
+    for (kind, behind, names) in &MESSAGES {
+        let message = message(rt.alloc(), kind, behind)?;
+        let want = if *names { Some(*SUPPLIER) } else { None };
+        assert_eq!(rt; supplier_digits(&message), want, "{behind}");
     }
     Ok(())
 }
 
+static CODES: [(MessageFault, &str); 2] = [
+    (MessageFault::Quantity, "M08"),
+    (MessageFault::Memory, "memory"),
+];
+
 #[test]
 fn a_fault_prints_its_code(rt: HostRuntime) -> Result<(), AllocError> {
-    for (fault, code) in [
-        (MessageFault::Quantity, "M08"),
-        (MessageFault::Memory, "memory"),
-    ] {
-        assert_eq!(rt; fault.to_string(rt.alloc())?.as_str(), code);
+    for (fault, code) in &CODES {
+        assert_eq!(rt; fault.to_string(rt.alloc())?.as_str(), *code);
     }
     Ok(())
 }

@@ -1,39 +1,61 @@
-use edi_envelope::open;
+use crate::texts::opened;
+use edi_envelope::RawMessage;
 use edi_orders::{Answer, LineAnswer, Order, Response};
-use edi_tokens::read_all;
+use std::alloc::Global;
+use std::process::Abort;
 use std::test::Fail;
 
 // An order and a response to it.
 const TEXT: &[u8] =
     b"UNB+UNOC:3+5412345000013:14+5412345000006:14+250603:0915+1001'UNH+1+ORDERS:D:01B:UN:EAN010'BGM+220+128576+9'DTM+137:20250603:102'NAD+BY+5412345000013::9'NAD+SU+4012345500004::9'LIN+1++4000862141404:SRV'QTY+21:48'UNS+S'CNT+2:1'UNT+10+1'UNH+2+ORDRSP:D:01B:UN:EAN009'BGM+231+R1+4'DTM+137:20250603:102'RFF+ON:128576'NAD+BY+5412345000013::9'NAD+SU+4012345500004::9'LIN+1+3+4000862141404:SRV'QTY+113:36'UNS+S'UNT+10+2'UNZ+2+1001'";
 
-#[test]
-fn an_order_and_its_response_are_read(rt: HostRuntime) -> Result<(), Fail> {
-    let alloc = rt.alloc();
-    let interchange = open(alloc, read_all(alloc, TEXT)?)?;
-    let messages = interchange.messages.as_slice();
-    let order = Order::read(alloc, messages.first().ok_or("an order")?)?;
+fn read_order(alloc: Global, message: &RawMessage) -> Result<Order, Fail> {
+    Ok(Order::read(alloc, message)?)
+}
+
+fn read_response(alloc: Global, message: &RawMessage) -> Result<Response, Fail> {
+    Ok(Response::read(alloc, message)?)
+}
+
+fn is_the_order(rt: &impl Abort, order: &Order) -> Result<(), Fail> {
+    let parties = (*order.buyer.digits(), *order.supplier.digits());
+    assert_eq!(rt; parties, (*b"5412345000013", *b"4012345500004"));
     assert_eq!(rt; order.number.as_slice(), b"128576".as_slice());
-    assert_eq!(rt; *order.buyer.digits(), *b"5412345000013");
-    assert_eq!(rt; *order.supplier.digits(), *b"4012345500004");
     let line = order.lines.as_slice().first().ok_or("a line")?;
     assert_eq!(rt;
         (line.line, *line.gtin.digits(), line.quantity),
         (1, *b"04000862141404", 48)
     );
-    let response = Response::read(alloc, messages.get(1).ok_or("a response")?)?;
-    assert_eq!(rt; response.number.as_slice(), b"R1".as_slice());
-    assert_eq!(rt; *response.buyer.digits(), *b"5412345000013");
-    assert_eq!(rt; *response.supplier.digits(), *b"4012345500004");
-    assert_eq!(rt; response.order.as_slice(), b"128576".as_slice());
-    let Answer::Lines(answers) = &response.answer else {
+    Ok(())
+}
+
+fn is_the_answer(rt: &impl Abort, answer: &Answer) -> Result<(), Fail> {
+    let Answer::Lines(answers) = answer else {
         return Err(Fail::from("answers to lines"));
     };
     let answer = answers.as_slice().first().ok_or("an answer")?;
     assert_eq!(rt;
-        (answer.order_line, *answer.gtin.digits()),
-        (None, *b"04000862141404")
+        (answer.order_line, *answer.gtin.digits(), answer.answer),
+        (None, *b"04000862141404", LineAnswer::Changed(36))
     );
-    assert_eq!(rt; answer.answer, LineAnswer::Changed(36));
     Ok(())
+}
+
+fn is_the_response(rt: &impl Abort, response: &Response) {
+    let parties = (*response.buyer.digits(), *response.supplier.digits());
+    assert_eq!(rt; parties, (*b"5412345000013", *b"4012345500004"));
+    let numbers = (response.number.as_slice(), response.order.as_slice());
+    assert_eq!(rt; numbers, (b"R1".as_slice(), b"128576".as_slice()));
+}
+
+#[test]
+fn an_order_and_its_response_are_read(rt: HostRuntime) -> Result<(), Fail> {
+    let alloc = rt.alloc();
+    let interchange = opened(alloc, TEXT)?;
+    let messages = interchange.messages.as_slice();
+    let order = read_order(alloc, messages.first().ok_or("an order")?)?;
+    is_the_order(&rt, &order)?;
+    let response = read_response(alloc, messages.get(1).ok_or("a response")?)?;
+    is_the_response(&rt, &response);
+    is_the_answer(&rt, &response.answer)
 }

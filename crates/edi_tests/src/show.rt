@@ -1,4 +1,5 @@
 use edi_show::show_text;
+use std::alloc::Global;
 use std::test::Fail;
 
 const TEXT: &[u8] =
@@ -7,20 +8,23 @@ const TEXT: &[u8] =
 const LINES: &[u8] =
     b"service component : element + decimal . release ? terminator '\ninterchange 1001\n  sender 5412345000013\n  recipient 5412345000006\n  prepared 250603 0915\n  messages 2\nmessage 1\n  type ORDERS\n  order 128576\n  buyer 5412345000013\n  supplier 4012345500004\n  line 1 item 04000862141404 ordered 48\nmessage 2\n  type ORDERS\n  refused M02 beginning of the message\n";
 
+// Texts, whether each is refused, and the lines that show it.
+static TEXTS: [(&[u8], bool, &[u8]); 2] = [
+    (TEXT, true, LINES),
+    (b"UNB", true, b"refused E04 text cut\n"),
+];
+
+// Whether a text is refused, and the lines that show it.
+fn shown(alloc: Global, text: &[u8]) -> Result<(bool, Vec<u8>), Fail> {
+    let shown = show_text(alloc, text)?;
+    Ok((shown.is_refused(), shown.to_lines(alloc)?))
+}
+
 #[test]
 fn a_text_is_shown(rt: HostRuntime) -> Result<(), Fail> {
-    let alloc = rt.alloc();
-    for (text, refused, lines) in [
-        (TEXT, true, LINES),
-        (
-            b"UNB".as_slice(),
-            true,
-            b"refused E04 text cut\n".as_slice(),
-        ),
-    ] {
-        let shown = show_text(alloc, text)?;
-        assert_eq!(rt; shown.is_refused(), refused);
-        assert_eq!(rt; shown.to_lines(alloc)?.as_slice(), lines);
+    for (text, refused, want) in &TEXTS {
+        let (is_refused, lines) = shown(rt.alloc(), text)?;
+        assert_eq!(rt; (is_refused, lines.as_slice()), (*refused, *want));
     }
     Ok(())
 }

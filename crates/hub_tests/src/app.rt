@@ -194,21 +194,29 @@ static RUNS: [Run; 10] = [
     },
 ];
 
+// The status of a run of `relay`, what it prints and what it tells of a fault.
+fn relayed(alloc: Global, run: &Run) -> Result<(u8, Vec<u8>, Vec<u8>), Fail> {
+    let words = words().ok_or("words")?;
+    let left = ORDERS.get(..run.length).ok_or("a front")?;
+    let fails = run.read_fails;
+    let mut out = room_for(alloc, run.room, run.write_fails);
+    let mut err = room_for(alloc, run.error_room, false);
+    let status = relay_run(
+        alloc,
+        &words,
+        &mut Brittle { left, fails },
+        &mut out,
+        &mut err,
+    );
+    Ok((status, out.taken, err.taken))
+}
+
 #[test]
 fn a_run_reads_writes_and_answers_its_status(rt: HostRuntime) -> Result<(), Fail> {
-    let alloc = rt.alloc();
-    let words = words().ok_or("words")?;
     for run in &RUNS {
-        let mut input = Brittle {
-            left: ORDERS.get(..run.length).ok_or("a front")?,
-            fails: run.read_fails,
-        };
-        let mut out = room_for(alloc, run.room, run.write_fails);
-        let mut err = room_for(alloc, run.error_room, false);
-        let status = relay_run(alloc, &words, &mut input, &mut out, &mut err);
-        let found = (status, out.taken.as_slice(), err.taken.as_slice());
-        let printed = MAIL.get(..run.printed).ok_or("a front")?;
-        let want = (run.status, printed, run.told.as_bytes());
+        let (status, printed, told) = relayed(rt.alloc(), run)?;
+        let found = (status, Some(printed.as_slice()), told.as_slice());
+        let want = (run.status, MAIL.get(..run.printed), run.told.as_bytes());
         assert_eq!(rt; found, want, "{}", run.name);
     }
     Ok(())
@@ -243,23 +251,28 @@ static SHOW_RUNS: [ShowRun; 8] = [
     (200, false, 20, false, 3, CUT_SHOWN, 20, "file\n"),
 ];
 
+// The status of a run of `show` over what an input gives, what it prints and what it tells of a fault.
+fn shown(alloc: Global, mut input: Brittle<'_>, mut out: Slow) -> (u8, Vec<u8>, Vec<u8>) {
+    let mut err = room_for(alloc, usize::MAX, false);
+    let status = show_run(alloc, &mut input, &mut out, &mut err);
+    (status, out.taken, err.taken)
+}
+
 #[test]
 fn an_order_is_shown(rt: HostRuntime) -> Result<(), Fail> {
-    let alloc = rt.alloc();
     for (length, fails, room, write_fails, status, lines, printed, told) in &SHOW_RUNS {
-        let mut input = Brittle {
-            left: ORDERS.get(..*length).ok_or("a front")?,
-            fails: *fails,
-        };
-        let mut out = room_for(alloc, *room, *write_fails);
-        let mut err = room_for(alloc, usize::MAX, false);
-        let answered = show_run(alloc, &mut input, &mut out, &mut err);
-        let found = (answered, out.taken.as_slice(), err.taken.as_slice());
-        let want = (
-            *status,
-            lines.get(..*printed).ok_or("a front")?,
-            told.as_bytes(),
+        let left = ORDERS.get(..*length).ok_or("a front")?;
+        let out = room_for(rt.alloc(), *room, *write_fails);
+        let (answered, taken, fault) = shown(
+            rt.alloc(),
+            Brittle {
+                left,
+                fails: *fails,
+            },
+            out,
         );
+        let found = (answered, Some(taken.as_slice()), fault.as_slice());
+        let want = (*status, lines.get(..*printed), told.as_bytes());
         assert_eq!(rt; found, want, "{length} bytes, room for {room}");
     }
     Ok(())
@@ -268,23 +281,41 @@ fn an_order_is_shown(rt: HostRuntime) -> Result<(), Fail> {
 const REGISTER: &str =
     "hub = \"5412345000006\"\nretailer = { gln = \"5412345000013\", key = \"retail-key\" }\n[[supplier]]\ngln = \"4012345500004\"\nprefix = \"40123455\"\nkey = \"alpha-key-1\"\n";
 
+// Texts of a register, how many bytes the output takes, and whether the next write fails; the status, what is
+// printed, and what is told of a fault.
+static CHECKS: [(&str, usize, bool, u8, &str, &str); 5] = [
+    (REGISTER, usize::MAX, false, 0, "ok 1 suppliers\n", ""),
+    ("hub = 1", usize::MAX, false, 1, "fault text\n", ""),
+    (REGISTER, 0, true, 3, "", "file\n"),
+    (REGISTER, 14, false, 3, "ok 1 suppliers", "file\n"),
+    (REGISTER, 15, true, 0, "ok 1 suppliers\n", ""),
+];
+
+// The status of a run of `check` over a register, what it prints and what it tells of a fault.
+fn checked(alloc: Global, text: &str, mut out: Slow) -> (u8, Vec<u8>, Vec<u8>) {
+    let mut err = room_for(alloc, usize::MAX, false);
+    let status = check_run(alloc, text, &mut out, &mut err);
+    (status, out.taken, err.taken)
+}
+
 #[test]
 fn a_register_is_checked(rt: HostRuntime) {
-    let alloc = rt.alloc();
-    for (text, room, write_fails, status, printed, told) in [
-        (REGISTER, usize::MAX, false, 0, "ok 1 suppliers\n", ""),
-        ("hub = 1", usize::MAX, false, 1, "fault text\n", ""),
-        (REGISTER, 0, true, 3, "", "file\n"),
-        (REGISTER, 14, false, 3, "ok 1 suppliers", "file\n"),
-        (REGISTER, 15, true, 0, "ok 1 suppliers\n", ""),
-    ] {
-        let mut out = room_for(alloc, room, write_fails);
-        let mut err = room_for(alloc, usize::MAX, false);
-        let answered = check_run(alloc, text, &mut out, &mut err);
-        let found = (answered, out.taken.as_slice(), err.taken.as_slice());
-        let want = (status, printed.as_bytes(), told.as_bytes());
+    for (text, room, write_fails, status, printed, told) in &CHECKS {
+        let out = room_for(rt.alloc(), *room, *write_fails);
+        let (answered, taken, fault) = checked(rt.alloc(), text, out);
+        let found = (answered, taken.as_slice(), fault.as_slice());
+        let want = (*status, printed.as_bytes(), told.as_bytes());
         assert_eq!(rt; found, want, "with room for {room}");
     }
+}
+
+// What a register is read as: its bytes, or the name of the fault.
+fn register_told(alloc: Global, mut input: Brittle<'_>) -> Result<Vec<u8>, Fail> {
+    Ok(match read_register_text(alloc, &mut input) {
+        Ok(text) => text.into_bytes(),
+        Err(TextFault::File) => Vec::from_slice(alloc, b"file")?,
+        Err(TextFault::Memory) => Vec::from_slice(alloc, b"memory")?,
+    })
 }
 
 #[test]
@@ -300,13 +331,8 @@ fn the_text_of_a_register_is_read(rt: HostRuntime) -> Result<(), Fail> {
         ("a read that fails", front, true, false),
     ] {
         let want = if is_read { left } else { b"file" };
-        let read = read_register_text(alloc, &mut Brittle { left, fails });
-        let found = match &read {
-            Ok(text) => text.as_bytes(),
-            Err(TextFault::File) => b"file",
-            Err(TextFault::Memory) => b"memory",
-        };
-        assert!(rt; found == want, "{name}");
+        let found = register_told(alloc, Brittle { left, fails })?;
+        assert!(rt; found.as_slice() == want, "{name}");
     }
     Ok(())
 }

@@ -10,6 +10,8 @@ mod lines;
 #[cfg(test)]
 mod register;
 #[cfg(test)]
+mod rising;
+#[cfg(test)]
 mod rules;
 #[cfg(test)]
 mod tables;

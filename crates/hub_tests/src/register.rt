@@ -43,21 +43,35 @@ fn supplier_told(alloc: Global, register: &Register, gln: &Gln) -> Result<String
     }
 }
 
+fn register_of_two(alloc: Global) -> Result<Register, Fail> {
+    Ok(Register::from_toml(alloc, OF_TWO)?)
+}
+
+fn gln(digits: &str) -> Result<Gln, Fail> {
+    Ok(Gln::parse(digits.as_bytes()).ok_or("a GLN")?)
+}
+
+// The hub, the retailer, and how many suppliers there are.
+fn register_told(alloc: Global, register: &Register) -> Result<String, AllocError> {
+    let (hub, retailer) = (register.hub(), register.retailer());
+    format!(in alloc; "{hub} {retailer} {}", register.supplier_count())
+}
+
+// Parties, and what the register says of each as a supplier.
+static SUPPLIERS: [(&str, &str); 3] = [
+    (ALPHA, "4012345500004 40123455 alpha-key-1"),
+    (GAMMA, "none"),
+    (RETAILER, "none"),
+];
+
 #[test]
 fn parties_are_found(rt: HostRuntime) -> Result<(), Fail> {
-    let alloc = rt.alloc();
-    let register = Register::from_toml(alloc, OF_TWO)?;
-    let (hub, retailer) = (register.hub(), register.retailer());
-    let told = format!(in alloc; "{hub} {retailer} {}", register.supplier_count())?;
+    let register = register_of_two(rt.alloc())?;
+    let told = register_told(rt.alloc(), &register)?;
     assert_eq!(rt; told.as_str(), "5412345000006 5412345000013 2");
-    for (gln, want) in [
-        (ALPHA, "4012345500004 40123455 alpha-key-1"),
-        (GAMMA, "none"),
-        (RETAILER, "none"),
-    ] {
-        let gln = Gln::parse(gln.as_bytes()).ok_or("a GLN")?;
-        let told = supplier_told(alloc, &register, &gln)?;
-        assert_eq!(rt; told.as_str(), want, "of {gln}");
+    for (party, want) in &SUPPLIERS {
+        let told = supplier_told(rt.alloc(), &register, &gln(party)?)?;
+        assert_eq!(rt; told.as_str(), *want, "of {party}");
     }
     Ok(())
 }
@@ -79,10 +93,10 @@ static ROLES: [(&str, &[u8], Option<Role>); 11] = [
 
 #[test]
 fn parties_are_known_by_their_keys(rt: HostRuntime) -> Result<(), Fail> {
-    let register = Register::from_toml(rt.alloc(), OF_TWO)?;
-    for (gln, key, role) in ROLES {
-        let party = Gln::parse(gln.as_bytes()).ok_or("a GLN")?;
-        assert_eq!(rt; register.may(&party, key), role, "{gln} with {key:?}");
+    let register = register_of_two(rt.alloc())?;
+    for (party, key, role) in &ROLES {
+        let found = register.may(&gln(party)?, key);
+        assert_eq!(rt; found, *role, "{party} with {key:?}");
     }
     Ok(())
 }

@@ -1,29 +1,31 @@
 use hub_rules::Code;
 use std::alloc::AllocError;
 
+static CODES: [(Code, &str); 17] = [
+    (Code::Buyer, "B01"),
+    (Code::Supplier, "B02"),
+    (Code::OtherContent, "B03"),
+    (Code::OrderKnown, "B04"),
+    (Code::NoOrder, "B05"),
+    (Code::NoLine, "B06"),
+    (Code::NotWaiting, "B07"),
+    (Code::OutOfRange, "B08"),
+    (Code::OtherItem, "B09"),
+    (Code::MoreThanOpen, "B10"),
+    (Code::OtherPrefix, "B11"),
+    (Code::SsccUsed, "B12"),
+    (Code::AdviceKnown, "B13"),
+    (Code::NoPallet, "B14"),
+    (Code::PalletReceived, "B15"),
+    (Code::MailboxFull, "B16"),
+    (Code::CancelsMoreThanOpen, "B17"),
+];
+
 #[test]
 fn rules_have_their_codes(rt: HostRuntime) -> Result<(), AllocError> {
-    for (code, text) in [
-        (Code::Buyer, "B01"),
-        (Code::Supplier, "B02"),
-        (Code::OtherContent, "B03"),
-        (Code::OrderKnown, "B04"),
-        (Code::NoOrder, "B05"),
-        (Code::NoLine, "B06"),
-        (Code::NotWaiting, "B07"),
-        (Code::OutOfRange, "B08"),
-        (Code::OtherItem, "B09"),
-        (Code::MoreThanOpen, "B10"),
-        (Code::OtherPrefix, "B11"),
-        (Code::SsccUsed, "B12"),
-        (Code::AdviceKnown, "B13"),
-        (Code::NoPallet, "B14"),
-        (Code::PalletReceived, "B15"),
-        (Code::MailboxFull, "B16"),
-        (Code::CancelsMoreThanOpen, "B17"),
-    ] {
-        assert_eq!(rt; code.code(), text);
-        assert_eq!(rt; code.to_string(rt.alloc())?.as_str(), text);
+    for (code, text) in &CODES {
+        assert_eq!(rt; code.code(), *text);
+        assert_eq!(rt; code.to_string(rt.alloc())?.as_str(), *text);
     }
     Ok(())
 }

@@ -93,7 +93,7 @@ fn cancel(alloc: Global, case: &CancelCase) -> Result<Cancel, Fail> {
 // Of the line 24 pieces are open.
 fn verdict(alloc: Global, case: &CancelCase) -> Result<Verdict, Fail> {
     let row = alpha(alloc)?;
-    let supplier = Some(&row).filter(|_| case.is_registered);
+    let supplier = registered(&row, case.is_registered);
     let line = ("128576", 1, [48, 24, 12, 0, 12], Answered::Changed);
     let known = known(alloc, [BEFORE, line, BEHIND], case.remembered)?;
     let content = copied(alloc, SAID.as_bytes())?;

@@ -134,7 +134,7 @@ fn verdict(alloc: Global, case: &OrderCase) -> Result<Verdict, Fail> {
     Ok(judge_order(
         alloc,
         &retailer,
-        Some(&row).filter(|_| case.is_registered),
+        registered(&row, case.is_registered),
         &known,
         delivery(alloc)?,
         copied(alloc, b"body")?,

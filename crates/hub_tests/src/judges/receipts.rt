@@ -7,7 +7,7 @@ use super::*;
 use edi_goods::Receipt;
 use gs1_ids::Sscc;
 use hub_judges::judge_receipt;
-use hub_tables::{Arrival, PalletRow};
+use hub_tables::{Arrival, Column, PalletRow};
 
 // A receiving advice of two units; how far their pallets have come, where they are there, and what else is known of the
 // supplier; and what comes of it.
@@ -135,26 +135,28 @@ fn receipt(alloc: Global, parties: &str) -> Result<Receipt, Fail>
     Ok(Receipt::read(alloc, &message)?)
 }
 
-// Alpha's pallets of both units, announced by advice DA1.
+// Alpha's pallet of this SSCC, announced by advice DA1, where it is there.
+fn pallet(alloc: Global, sscc: &[u8], arrival: Option<Arrival>) -> Result<Option<PalletRow>, Fail> {
+    let Some(arrival) = arrival else {
+        return Ok(None);
+    };
+    Ok(Some(PalletRow {
+        sscc: Sscc::parse(sscc).ok_or("an SSCC")?,
+        supplier: gln(ALPHA)?,
+        advice: copied(alloc, b"DA1")?,
+        received: Column::of(arrival),
+    }))
+}
+
+// The pallets of both units.
 fn pallets(
     alloc: Global,
     arrivals: [Option<Arrival>; 2],
 ) -> Result<Items<Option<PalletRow>>, Fail> {
+    let [first, second] = arrivals;
     let mut pallets = Items::new(alloc);
-    for (sscc, arrival) in [b"340123455000000012", b"340123455000000029"]
-        .iter()
-        .zip(arrivals)
-    {
-        pallets.push(match arrival {
-            Some(arrival) => Some(PalletRow {
-                sscc: Sscc::parse(sscc.as_slice()).ok_or("an SSCC")?,
-                supplier: gln(ALPHA)?,
-                advice: copied(alloc, b"DA1")?,
-                received: Column::of(arrival),
-            }),
-            None => None,
-        })?;
-    }
+    pallets.push(pallet(alloc, b"340123455000000012", first)?)?;
+    pallets.push(pallet(alloc, b"340123455000000029", second)?)?;
     Ok(pallets)
 }
 
@@ -171,7 +173,7 @@ fn verdict(alloc: Global, case: &ReceiptCase) -> Result<Verdict, Fail> {
     Ok(judge_receipt(
         alloc,
         &retailer,
-        Some(&row).filter(|_| case.is_registered),
+        registered(&row, case.is_registered),
         &known,
         delivery(alloc)?,
         copied(alloc, b"body")?,
