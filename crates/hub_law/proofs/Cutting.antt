@@ -1,5 +1,5 @@
 -- Uploads that are whole, and those that are stopped behind some of their messages.
-use Rattle.std.proofs.Common.{◌≡◌, ℕ, zero, suc, ◌<◌, ◌≤◌, nat_lt, Bool, true, false, if◌then◌else◌, List, [], ◌∷◌, ◌++◌, length, take, Option, Some, None, Ok, Err, refl, sym, ◌∙◌, ap, subst, arith}
+use Rattle.std.proofs.Common.{◌≡◌, ℕ, zero, suc, ◌<◌, ◌≤◌, nat_lt, true, false, if◌then◌else◌, List, [], ◌∷◌, ◌++◌, length, take, Option, Some, None, Ok, Err, refl, sym, ◌∙◌, ap, subst, arith}
 use Rattle.std.specs.List.{list_any}
 use Rattle.std.proofs.lemmas.Bool.Decides.{nat_tests}
 use Rattle.edi_envelope.specs.declared.interchange.Interchange.{Interchange}
@@ -12,12 +12,12 @@ use Rattle.hub_tables.specs.Tables.{Tables, view}
 use Rattle.hub_tables.specs.declared.rows.MailRow.{MailRow}
 use Rattle.hub_law.specs.Machine.{shared_step, step_as}
 use Rattle.hub_law.specs.MailText.{entry_at}
-use Rattle.hub_law.specs.Mark.{Mark, Whole, StoppedAfter}
+use Rattle.hub_law.specs.Mark.{Mark, Whole, StoppedAfter, first_done}
 use Rattle.hub_law.specs.Messages.{Sent, messages_at, deliver_suppliers}
 use Rattle.hub_law.specs.Opening.{Opened}
-use Rattle.hub_law.specs.Replies.{told_words, interchange_line, message_lines, stopped_line, stopped}
-use Rattle.hub_law.specs.Requests.{uploaded, from_supplier, from_retailer, supplier_request, retailer_request, deliver_named, taken}
-use Rattle.hub_law.specs.Stops.{opened_well, upload_from, upload_by, upload_of, act_by, act_of, whole_reply, reply_behind}
+use Rattle.hub_law.specs.Replies.{told_words, interchange_line, message_lines, stopped_line, stopped, whole_reply, cut_reply}
+use Rattle.hub_law.specs.Requests.{reply_by_stop, uploaded, from_supplier, from_retailer, supplier_request, retailer_request, deliver_named, taken}
+use Rattle.hub_law.specs.Stops.{opened_well, upload_from, upload_by, upload_of, act_by, act_of, reply_behind}
 use Rattle.hub_law.specs.Told.{Told, Act, is_refused, in_row}
 use Rattle.hub_law.specs.Widths.{line}
 use Rattle.hub_law.specs.declared.reply.Outcome.TheVariants.{Stopped}
@@ -50,26 +50,25 @@ module _ (deliver : Sent → Act) (moment : ℕ) (t : Tables) where
 
   -- the first k messages that are told of
   abbrev cut : ℕ → Interchange → List Told → Tables → Reply × Tables
-  cut k i told after = (record { outcome = Stopped; refused = list_any is_refused told; body = (interchange_line i ++ message_lines i.messages told) ++ stopped_line }, after)
+  cut k i told after = (cut_reply i told, after)
 
   cut_behind : (k : ℕ) (i : Interchange) → cut k i (in_row deliver (take k (messages_at moment i)) t).0 (in_row deliver (take k (messages_at moment i)) t).1 ≡ (reply_behind k i (told_of i), (in_row deliver (take k (messages_at moment i)) t).1)
   cut_behind k i =
       ap (λ told. cut k i told (in_row deliver (take k (messages_at moment i)) t).1) (told_first deliver k (messages_at moment i) t)
       ∙ ap (λ lines. (record { outcome = Stopped; refused = list_any is_refused (take k (told_of i)); body = (interchange_line i ++ lines) ++ stopped_line }, (in_row deliver (take k (messages_at moment i)) t).1)) (lines_first k i.messages (told_of i))
 
-  -- by whether there are more
-  abbrev by_count : Bool → ℕ → Interchange → Reply × Tables
-  by_count v k i = (
-    if v then record { outcome = Stopped; refused = list_any is_refused (in_row deliver (if v then take k (messages_at moment i) else []) t).0; body = (interchange_line i ++ message_lines i.messages (in_row deliver (if v then take k (messages_at moment i) else []) t).0) ++ stopped_line } else stopped,
-    (in_row deliver (if v then take k (messages_at moment i) else []) t).1,
-  )
+  -- by the messages behind which it was stopped
+  abbrev by_stop : Option ℕ → ℕ → Interchange → Reply × Tables
+  by_stop behind k i =
+      let looked : List Sent = first_done (StoppedAfter k) behind (messages_at moment i) in
+      (reply_by_stop (StoppedAfter k) behind i (in_row deliver looked t).0, (in_row deliver looked t).1)
 
   upload_behind : (k : ℕ) (opened : Opened) (i : Interchange) → opened_well opened ≡ Some i → k < length i.messages → uploaded deliver moment (StoppedAfter k) opened t ≡ (reply_behind k i (told_of i), (in_row deliver (take k (messages_at moment i)) t).1)
   upload_behind k (Err code) i h less = cc
   upload_behind k (Ok j) i h less =
       let same : i ≡ j = cc in
       let more : nat_lt k (length j.messages) ≡ true = subst (λ (i : Interchange). nat_lt k (length i.messages) ≡ true) same (is_less k (length i.messages) less) in
-      subst (λ i. uploaded deliver moment (StoppedAfter k) (Ok j) t ≡ (reply_behind k i (told_of i), (in_row deliver (take k (messages_at moment i)) t).1)) (sym same) (ap (λ v. by_count v k j) more ∙ cut_behind k j)
+      subst (λ i. uploaded deliver moment (StoppedAfter k) (Ok j) t ≡ (reply_behind k i (told_of i), (in_row deliver (take k (messages_at moment i)) t).1)) (sym same) (ap (λ v. by_stop (if v then Some k else None) k j) more ∙ cut_behind k j)
     where
       is_less : (a b : ℕ) → a < b → nat_lt a b ≡ true
       is_less a b h = grind (arith, nat_tests)
@@ -78,7 +77,7 @@ module _ (deliver : Sent → Act) (moment : ℕ) (t : Tables) where
   upload_too_far k (Err code) i h most = cc
   upload_too_far k (Ok j) i h most =
       let same : i ≡ j = cc in
-      ap (λ v. by_count v k j) (subst (λ (i : Interchange). nat_lt k (length i.messages) ≡ false) same (no_less k (length i.messages) most))
+      ap (λ v. by_stop (if v then Some k else None) k j) (subst (λ (i : Interchange). nat_lt k (length i.messages) ≡ false) same (no_less k (length i.messages) most))
     where
       no_less : (a b : ℕ) → b ≤ a → nat_lt a b ≡ false
       no_less a b h = grind (arith, nat_tests)

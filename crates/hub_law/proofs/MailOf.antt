@@ -4,7 +4,6 @@ use Rattle.edi_envelope.specs.Mail as messages
 use Rattle.hub_tables.specs.State.{next_mail}
 use Rattle.hub_tables.specs.Tables.{Tables}
 use Rattle.hub_tables.specs.declared.cases.MailKind.{MailKind}
-use Rattle.hub_tables.specs.declared.change.Change.{Change}
 use Rattle.hub_tables.specs.declared.change.Change.TheVariants.{AddMail}
 use Rattle.hub_tables.specs.declared.rows.MailRow.{MailRow}
 use Rattle.hub_rules.specs.MailboxRules.{new_mail}

@@ -1,5 +1,7 @@
 -- What was accepted in a run and comes again later in it.
-use Rattle.std.proofs.Common.{◌≡◌, ℕ, zero, suc, ◌+◌, ◌<◌, ◌≤◌, true, false, ◌&&◌, if◌then◌else◌, List, [], ◌∷◌, ◌++◌, length, slice_get, take, Option, Some, None, refl, sym, ◌∙◌, ap, subst, arith}
+use Rattle.std.proofs.Common.{◌≡◌, ℕ, zero, suc, ◌+◌, ◌<◌, ◌≤◌, min, nat_lt, Bool, true, false, ◌&&◌, if◌then◌else◌, List, [], ◌∷◌, ◌++◌, length, slice_get, take, Option, Some, None, refl, sym, ◌∙◌, ap, subst, arith}
+use Rattle.std.proofs.lemmas.Bool.Decides.{nat_tests}
+use Rattle.std.proofs.lemmas.List.{length-take}
 use Rattle.edi_envelope.specs.declared.interchange.Interchange.{Interchange}
 use Rattle.gs1_ids.specs.Overlap.{PrefixFree}
 use Rattle.hub_parties.specs.Rows.{Rows, parties_of, company_prefixes, supplier_of, row_of, role_by, role_of}
@@ -12,7 +14,7 @@ use Rattle.hub_rules.specs.Sound.{Sound}
 use Rattle.hub_rules.specs.declared.delivery.Cancel.{Cancel}
 use Rattle.hub_law.specs.Again.{MessageAt, Reaches, SameMessage, tables_before, told_at}
 use Rattle.hub_law.specs.Machine.{Inputs, shared_step, shared_run, step_as}
-use Rattle.hub_law.specs.Mark.{Mark, Whole, StoppedEmpty, StoppedBare, StoppedAfter}
+use Rattle.hub_law.specs.Mark.{Mark, Whole, StoppedEmpty, StoppedBare, StoppedAfter, first_done}
 use Rattle.hub_law.specs.Messages.{Sent, messages_at, deliver_suppliers, cancel}
 use Rattle.hub_law.specs.Remembered.{StaysRemembered}
 use Rattle.hub_law.specs.Replies.{cancel_reply}
@@ -119,19 +121,33 @@ module _ (register : Rows) (t : Tables) (input : Input) (upload : Interchange) (
   abbrev sents : List Sent
   sents = messages_at input.moment upload
 
-  reached_stays : (mark : Mark) → place < length sents → Reaches mark upload place → StaysRemembered (in_row (act_of register input) (take (place + 1) sents) t).1 (shared_step register t input mark).1
+  -- what is reached of an upload that is stopped stands before the stop, which is before its end
+  reached_behind : (k : ℕ) (more : Bool) → nat_lt k (length upload.messages) ≡ more → place < length (first_done (StoppedAfter k) (if more then Some k else None) sents) → (place < k) × (k < length upload.messages)
+  reached_behind k true e reaches =
+      let most : place < min k (length sents) = subst (λ n. place < n) (length-take k sents) reaches in
+      (below_min place k (length sents) most, is_less k (length upload.messages) e)
+    where
+      below_min : (a b c : ℕ) → a < min b c → a < b
+      below_min a b c h = grind (arith, min)
+
+      is_less : (a b : ℕ) → nat_lt a b ≡ true → a < b
+      is_less a b h = grind (arith, nat_tests)
+  reached_behind k false e reaches = absurd (omega (arith, reaches))
+
+  reached_stays : (mark : Mark) → place < length sents → Reaches mark input upload place → StaysRemembered (in_row (act_of register input) (take (place + 1) sents) t).1 (shared_step register t input mark).1
   reached_stays Whole there reaches =
       subst (λ (after : Reply × Tables). StaysRemembered (in_row (act_of register input) (take (place + 1) sents) t).1 after.1) (sym (whole_upload register t input upload looked_at))
       (subst (λ all. StaysRemembered (in_row (act_of register input) (take (place + 1) sents) t).1 (in_row (act_of register input) all t).1) (all_taken sents) (more_stay (act_of register input) stays sents (place + 1) (length sents) t (omega (arith, there))))
-  reached_stays StoppedEmpty there reaches = absurd reaches
-  reached_stays StoppedBare there reaches = absurd reaches
+  reached_stays StoppedEmpty there reaches = absurd (omega (arith, reaches))
+  reached_stays StoppedBare there reaches = absurd (omega (arith, reaches))
   reached_stays (StoppedAfter k) there reaches =
-      subst (λ (after : Reply × Tables). StaysRemembered (in_row (act_of register input) (take (place + 1) sents) t).1 after.1) (sym (behind_some register t input k upload looked_at reaches.1))
-      (more_stay (act_of register input) stays sents (place + 1) k t (omega (arith, reaches.0)))
+      let behind = reached_behind k (nat_lt k (length upload.messages)) refl reaches in
+      subst (λ (after : Reply × Tables). StaysRemembered (in_row (act_of register input) (take (place + 1) sents) t).1 after.1) (sym (behind_some register t input k upload looked_at behind.1))
+      (more_stay (act_of register input) stays sents (place + 1) k t (omega (arith, behind.0)))
 
 -- The message that comes again.
 module _ (register : Rows) (t : Tables) (before between : Inputs) (first second : Input) (mark : Mark) (place later : ℕ) (sent again : Sent) (one : MessageAt register first place sent) (other : MessageAt register second later again)
-    (free : PrefixFree (company_prefixes register.suppliers)) (sound : Sound register.suppliers t) (alike : SameMessage first second sent again) (reaches : Reaches mark one.upload place) (told : told_at register t before first one.upload place ≡ Some Accepted) where
+    (free : PrefixFree (company_prefixes register.suppliers)) (sound : Sound register.suppliers t) (alike : SameMessage first second sent again) (reaches : Reaches mark first one.upload place) (told : told_at register t before first one.upload place ≡ Some Accepted) where
   abbrev whose : Option SupplierRow
   whose = row_of register first.caller
 

@@ -8,8 +8,8 @@ use Rattle.hub_tables.specs.Tables.{Tables, view}
 use Rattle.hub_tables.proofs.Lists.{same_is}
 use Rattle.hub_rules.specs.declared.delivery.Cancel.{Cancel}
 use Rattle.hub_rules.specs.Sound.{Sound}
-use Rattle.hub_law.specs.Alone.{Item, Message, Cancellation, fold, cancel_items, retailer_items}
-use Rattle.hub_law.specs.Mark.{Mark, Whole, StoppedEmpty, StoppedBare, StoppedAfter}
+use Rattle.hub_law.specs.Alone.{Item, Message, Cancellation, fold, retailer_items}
+use Rattle.hub_law.specs.Mark.{Mark, Whole, StoppedEmpty, StoppedBare, StoppedAfter, all_unless_stopped}
 use Rattle.hub_law.specs.Messages.{Sent, named, deliver_retailers, cancel}
 use Rattle.hub_law.specs.Requests.{looked_at, from_retailer, deliver_named, cancelled, retailer_request}
 use Rattle.hub_law.specs.Told.{Act, in_row}
@@ -128,7 +128,7 @@ module _ (register : Rows) (free : PrefixFree (company_prefixes register.supplie
     stopped_moves c t = elim (same c.supplier s.gln) as (λ v. Moves (parties_of register) s (view s.gln t) t (if v then [] else [])) [ true ↦ still t | false ↦ still t ]
 
     cancelled_moves : (moment : ℕ) (mark : Mark) (c : Cancel) (t : Tables) → Sound register.suppliers t →
-        Moves (parties_of register) s (view s.gln t) (cancelled mark (cancel_named c t) t).1 (if same c.supplier s.gln then cancel_items moment mark c else [])
+        Moves (parties_of register) s (view s.gln t) (cancelled mark (cancel_named c t) t).1 (if same c.supplier s.gln then all_unless_stopped mark (Cancellation moment c ∷ []) else [])
     cancelled_moves moment Whole c t sound =
         elim (same c.supplier s.gln) as (λ v. same c.supplier s.gln ≡ v → Moves (parties_of register) s (view s.gln t) (cancel_named c t).1 (if v then Cancellation moment c ∷ [] else [])) [
           | true ↦ λ e. record { seen = named_sees register.suppliers t sound _ (cancel_apart c t sound) c.supplier s known e; silent = refl }

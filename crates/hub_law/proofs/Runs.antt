@@ -10,8 +10,8 @@ use Rattle.hub_rules.specs.Sound.{Sound}
 use Rattle.hub_law.specs.Alone.{Item, Own, own_step, fold, retailer_items, items, items_of}
 use Rattle.hub_law.specs.Laws.{RunIsOwn}
 use Rattle.hub_law.specs.Machine.{Inputs, shared_step, shared_run, replies_to}
-use Rattle.hub_law.specs.Mark.{Mark}
-use Rattle.hub_law.specs.Replies.{denied, unless_stopped}
+use Rattle.hub_law.specs.Mark.{Mark, replied}
+use Rattle.hub_law.specs.Replies.{denied}
 use Rattle.hub_law.specs.Requests.{retailer_request}
 use Rattle.hub_law.specs.declared.reply.Reply.{Reply}
 use Rattle.hub_law.specs.declared.request.Input.{Input}
@@ -37,7 +37,7 @@ module _ (register : Rows) (free : PrefixFree (company_prefixes register.supplie
       let whose = gln_of register.suppliers input.caller w h in
       (supplier_alike register.suppliers free (parties_of register) w (ap (supplier_of register.suppliers) whose ∙ h) input mark t sound).apart.sound
   step_sound input mark t sound None h =
-      elim (is_retailers register input) as (λ v. Sound register.suppliers (if v then retailer_request register input.moment mark input.request t else (unless_stopped mark denied, t)).1) [
+      elim (is_retailers register input) as (λ v. Sound register.suppliers (if v then retailer_request register input.moment mark input.request t else replied mark denied t).1) [
         | true ↦ retailer_sound register free input.moment mark input.request t sound
         | false ↦ sound
       ]
@@ -71,7 +71,7 @@ module _ (register : Rows) (free : PrefixFree (company_prefixes register.supplie
         let unseen = (supplier_alike register.suppliers free (parties_of register) w (ap (supplier_of register.suppliers) whose ∙ h) input mark t sound).apart.unseen s.gln (unlike register.suppliers input.caller w s.gln h e) in
         subst (λ v. Moves (parties_of register) s (view s.gln t) (step_by register (Some w) input mark t).1 (if v then Own input mark ∷ [] else [])) (sym e) (record { seen = unseen; silent = refl })
     anothers input mark t sound e None h =
-        elim (is_retailers register input) as (λ v. Moves (parties_of register) s (view s.gln t) (if v then retailer_request register input.moment mark input.request t else (unless_stopped mark denied, t)).1
+        elim (is_retailers register input) as (λ v. Moves (parties_of register) s (view s.gln t) (if v then retailer_request register input.moment mark input.request t else replied mark denied t).1
         (if v then retailer_items s.gln register input.moment mark input.request else [])) [
           | true ↦ retailer_moves register free s known input.moment mark input.request t sound
           | false ↦ still register free s known t

@@ -7,12 +7,12 @@ use Rattle.hub_tables.specs.Tables.{Tables, view}
 use Rattle.hub_tables.specs.declared.rows.MailRow.{MailRow}
 use Rattle.hub_law.specs.MailText.{entry_at}
 use Rattle.hub_law.specs.Machine.{shared_step}
-use Rattle.hub_law.specs.Mark.{Mark, Whole, StoppedEmpty, StoppedBare, StoppedAfter}
-use Rattle.hub_law.specs.Messages.{Sent, deliver_suppliers, cancel}
+use Rattle.hub_law.specs.Mark.{Mark, Whole, StoppedEmpty, StoppedBare, StoppedAfter, replied, first_done}
+use Rattle.hub_law.specs.Messages.{Sent, messages_at, deliver_suppliers, cancel}
 use Rattle.hub_law.specs.Opening.{Opened}
-use Rattle.hub_law.specs.Replies.{reply, denied, stopped, unless_stopped, entry_reply}
-use Rattle.hub_law.specs.Requests.{uploaded, from_supplier, from_retailer, taken, supplier_request, deliver_named, cancelled, report, retailer_request}
-use Rattle.hub_law.specs.Told.{Told, Act}
+use Rattle.hub_law.specs.Replies.{reply, denied, stopped, entry_reply}
+use Rattle.hub_law.specs.Requests.{reply_by_stop, uploaded, from_supplier, from_retailer, taken, supplier_request, deliver_named, cancelled, report, retailer_request}
+use Rattle.hub_law.specs.Told.{Told, Act, in_row}
 use Rattle.hub_law.specs.declared.reply.Outcome.TheVariants.{Stopped}
 use Rattle.hub_law.specs.declared.reply.Reply.{Reply}
 use Rattle.hub_law.specs.declared.request.Input.{Input}
@@ -39,7 +39,7 @@ report_is_whole (Some s) state = λ e. cc
 
 -- A property of what is replied and left, whatever is asked.
 module _ (mark : Mark) (P : Tables → Reply × Tables → Type 0)
-    (unless : (t : Tables) (whole : Reply) → IsWhole whole → P t (unless_stopped mark whole, t))
+    (unless : (t : Tables) (whole : Reply) → IsWhole whole → P t (replied mark whole t))
     (upload : (deliver : Sent → Act) (moment : ℕ) (opened : Opened) (t : Tables) → P t (uploaded deliver moment mark opened t))
     (entry : (found : Option MailRow) (t : Tables) → P t (taken mark found t))
     (cut : (after : Told × Tables) (t : Tables) → P t (cancelled mark after t)) where
@@ -69,7 +69,7 @@ module _ (mark : Mark) (P : Tables → Reply × Tables → Type 0)
 
 module _ (register : Rows) (t : Tables) (input : Input) where
   anybody : (mark : Mark) (P : Tables → Reply × Tables → Type 0) →
-      ((t : Tables) (whole : Reply) → IsWhole whole → P t (unless_stopped mark whole, t)) →
+      ((t : Tables) (whole : Reply) → IsWhole whole → P t (replied mark whole t)) →
       ((deliver : Sent → Act) (moment : ℕ) (opened : Opened) (t : Tables) → P t (uploaded deliver moment mark opened t)) →
       ((found : Option MailRow) (t : Tables) → P t (taken mark found t)) →
       ((after : Told × Tables) (t : Tables) → P t (cancelled mark after t)) → P t (shared_step register t input mark)
@@ -113,7 +113,9 @@ module _ (register : Rows) (t : Tables) (input : Input) where
     where
       upload : (deliver : Sent → Act) (moment : ℕ) (opened : Opened) (t : Tables) → (uploaded deliver moment (StoppedAfter k) opened t).0.outcome ≡ Stopped
       upload deliver moment (Err code) t = refl
-      upload deliver moment (Ok i) t = either (λ (told : Reply). told.outcome ≡ Stopped) (nat_lt k (length i.messages)) _ _ refl refl
+      upload deliver moment (Ok i) t =
+          either (λ (behind : Option ℕ). (reply_by_stop (StoppedAfter k) behind i (in_row deliver (first_done (StoppedAfter k) behind (messages_at moment i)) t).0).outcome ≡ Stopped)
+          (nat_lt k (length i.messages)) (Some k) None refl refl
 
       entry : (found : Option MailRow) (t : Tables) → (taken (StoppedAfter k) found t).0.outcome ≡ Stopped
       entry None t = refl

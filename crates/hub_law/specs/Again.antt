@@ -1,11 +1,12 @@
 -- What comes again in a run.
-use Rattle.std.specs.Prelude.{◌≡◌, ℕ, ◌<◌, length, slice_get, take, Option, Some, ⊤}
+use Rattle.std.specs.Prelude.{◌≡◌, ℕ, ◌<◌, length, slice_get, take, Option, Some, Ok}
 use Rattle.edi_envelope.specs.declared.interchange.Interchange.{Interchange}
 use Rattle.hub_parties.specs.Rows.{Rows}
 use Rattle.hub_tables.specs.Tables.{Tables}
 use Rattle.hub_law.specs.Machine.{Inputs, shared_run}
-use Rattle.hub_law.specs.Mark.{Mark, Whole, StoppedEmpty, StoppedBare, StoppedAfter}
+use Rattle.hub_law.specs.Mark.{Mark}
 use Rattle.hub_law.specs.Messages.{Sent, messages_at}
+use Rattle.hub_law.specs.Requests.{looked_at}
 use Rattle.hub_law.specs.Stops.{upload_of, act_of}
 use Rattle.hub_law.specs.Told.{Told, in_row}
 use Rattle.hub_law.specs.declared.request.Input.{Input}
@@ -16,12 +17,9 @@ pub record MessageAt (register : Rows) (input : Input) (place : ℕ) (sent : Sen
   pub looked_at : upload_of register input ≡ Some upload
   pub there : slice_get (messages_at input.moment upload) place ≡ Some sent
 
--- the input was not stopped before the message at the place was done
-abbrev pub Reaches : Mark → Interchange → ℕ → Type 0
-Reaches Whole upload place = ⊤
-Reaches StoppedEmpty upload place = ⊥
-Reaches StoppedBare upload place = ⊥
-Reaches (StoppedAfter k) upload place = (place < k) × (k < length upload.messages)
+-- the message at the place is among those that are looked at: the upload was not stopped before it was done
+abbrev pub Reaches : Mark → Input → Interchange → ℕ → Type 0
+Reaches mark input upload place = place < length (looked_at input.moment mark (Ok upload))
 
 -- the tables when the message at a place of an upload comes, which is behind a run
 abbrev pub tables_before : Rows → Tables → Inputs → Input → Interchange → ℕ → Tables

@@ -8,9 +8,9 @@ use Rattle.hub_tables.specs.Rows.{same}
 use Rattle.hub_tables.specs.Tables.{Tables}
 use Rattle.hub_rules.specs.declared.delivery.Cancel.{Cancel}
 use Rattle.hub_law.specs.Machine.{Inputs}
-use Rattle.hub_law.specs.Mark.{Mark, Whole, StoppedEmpty, StoppedBare, StoppedAfter}
+use Rattle.hub_law.specs.Mark.{Mark, replied, all_unless_stopped}
 use Rattle.hub_law.specs.Messages.{Sent, named, deliver_retailers, cancel}
-use Rattle.hub_law.specs.Replies.{denied, unless_stopped}
+use Rattle.hub_law.specs.Replies.{denied}
 use Rattle.hub_law.specs.Requests.{looked_at, from_retailer, supplier_request}
 use Rattle.hub_law.specs.declared.reply.Reply.{Reply}
 use Rattle.hub_law.specs.declared.request.Input.{Input}
@@ -27,7 +27,7 @@ pub data Item : Type 0 where
 abbrev pub supplier_step : (Tables → Tables) → Parties → SupplierRow → Input → Mark → Tables → Reply × Tables
 supplier_step look parties s input mark t =
     if same s.key input.key then supplier_request look parties s input.moment mark input.request t
-    else (unless_stopped mark denied, t)
+    else replied mark denied t
 
 -- what an item does to the supplier's rows, and what is replied to it
 abbrev pub own_step : Parties → SupplierRow → Item → Tables → List Reply × Tables
@@ -45,12 +45,6 @@ fold parties s (item ∷ items) state = (
 )
 
 -- What of an input is for the supplier with a GLN.
-abbrev pub cancel_items : ℕ → Mark → Cancel → List Item
-cancel_items moment Whole c = Cancellation moment c ∷ []
-cancel_items moment StoppedEmpty c = []
-cancel_items moment StoppedBare c = []
-cancel_items moment (StoppedAfter k) c = []
-
 abbrev pub retailer_items : List ℕ → Rows → ℕ → Mark → Request → List Item
 retailer_items gln register moment mark (requests.Upload bytes) =
     map Message (filter (λ sent. same (named sent) gln) (looked_at moment mark (from_retailer (parties_of register) bytes)))
@@ -59,7 +53,8 @@ retailer_items gln register moment mark (requests.MailItem number) = []
 retailer_items gln register moment mark (requests.MailTaken number) = []
 retailer_items gln register moment mark requests.Status = []
 retailer_items gln register moment mark (requests.StatusOf other) = []
-retailer_items gln register moment mark (requests.Cancel c) = if same c.supplier gln then cancel_items moment mark c else []
+retailer_items gln register moment mark (requests.Cancel c) =
+    if same c.supplier gln then all_unless_stopped mark (Cancellation moment c ∷ []) else []
 
 abbrev pub own_items : List ℕ → Input → Mark → List Item
 own_items gln input mark = if same input.caller gln then Own input mark ∷ [] else []

@@ -12,7 +12,7 @@ use Rattle.hub_law.specs.Opening.{Opened}
 use Rattle.hub_law.specs.Replies.{interchange_line, message_lines, stopped_line}
 use Rattle.hub_law.specs.Requests.{from_supplier, from_retailer, deliver_named}
 use Rattle.hub_law.specs.Told.{Told, Repeated, Act, is_refused}
-use Rattle.hub_law.specs.declared.reply.Outcome.TheVariants.{Done, Stopped}
+use Rattle.hub_law.specs.declared.reply.Outcome.TheVariants.{Stopped}
 use Rattle.hub_law.specs.declared.reply.Reply.{Reply}
 use Rattle.hub_law.specs.declared.request.Input.{Input}
 use Rattle.hub_law.specs.declared.request.Request.{Request}
@@ -51,11 +51,7 @@ act_by register None row sent = λ t. (Repeated, t)
 abbrev pub act_of : Rows → Input → Sent → Act
 act_of register input = act_by register (role_of register input.caller input.key) (row_of register input.caller)
 
--- the reply to the whole of it: a line for each message
-abbrev pub whole_reply : Interchange → List Told → Reply
-whole_reply i told = record { outcome = Done; refused = list_any is_refused told; body = interchange_line i ++ message_lines i.messages told }
-
--- the reply where it was stopped behind k messages: the first k of these lines, and that it was stopped
+-- the reply where it was stopped behind k messages: the first k lines of the whole reply, and that it was stopped
 abbrev pub reply_behind : ℕ → Interchange → List Told → Reply
 reply_behind k i told = record {
   outcome = Stopped;
