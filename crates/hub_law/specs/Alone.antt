@@ -7,6 +7,7 @@ use Rattle.hub_parties.specs.declared.row.SupplierRow.{SupplierRow}
 use Rattle.hub_tables.specs.Rows.{same}
 use Rattle.hub_tables.specs.Tables.{Tables}
 use Rattle.hub_rules.specs.declared.delivery.Cancel.{Cancel}
+use Rattle.hub_law.specs.InTurn.{single, silent, followed_by}
 use Rattle.hub_law.specs.Machine.{Inputs}
 use Rattle.hub_law.specs.Mark.{Mark, replied, all_unless_stopped}
 use Rattle.hub_law.specs.Messages.{Sent, named, deliver_retailers, cancel}
@@ -31,18 +32,14 @@ supplier_step look parties s input mark t =
 
 -- what an item does to the supplier's rows, and what is replied to it
 abbrev pub own_step : Parties → SupplierRow → Item → Tables → List Reply × Tables
-own_step parties s (Own input mark) state =
-    ((supplier_step (λ rows. rows) parties s input mark state).0 ∷ [], (supplier_step (λ rows. rows) parties s input mark state).1)
-own_step parties s (Message sent) state = ([], (deliver_retailers (λ rows. rows) parties (Some s) sent state).1)
-own_step parties s (Cancellation moment c) state = ([], (cancel (λ rows. rows) (Some s) c state).1)
+own_step parties s (Own input mark) state = single (supplier_step (λ rows. rows) parties s input mark state)
+own_step parties s (Message sent) state = silent (deliver_retailers (λ rows. rows) parties (Some s) sent state)
+own_step parties s (Cancellation moment c) state = silent (cancel (λ rows. rows) (Some s) c state)
 
 -- items one after another
 abbrev pub fold : Parties → SupplierRow → List Item → Tables → List Reply × Tables
 fold parties s [] state = ([], state)
-fold parties s (item ∷ items) state = (
-  (own_step parties s item state).0 ++ (fold parties s items (own_step parties s item state).1).0,
-  (fold parties s items (own_step parties s item state).1).1,
-)
+fold parties s (item ∷ items) state = followed_by (own_step parties s item state) (fold parties s items)
 
 -- What of an input is for the supplier with a GLN.
 abbrev pub retailer_items : List ℕ → Rows → ℕ → Mark → Request → List Item

@@ -6,6 +6,7 @@ use Rattle.hub_parties.specs.declared.role.Role.TheVariants.{Retailer, Supplier}
 use Rattle.hub_parties.specs.declared.row.SupplierRow.{SupplierRow}
 use Rattle.hub_tables.specs.Rows.{same}
 use Rattle.hub_tables.specs.Tables.{Tables, view}
+use Rattle.hub_law.specs.InTurn.{single, followed_by}
 use Rattle.hub_law.specs.Mark.{Mark, replied}
 use Rattle.hub_law.specs.Replies.{denied}
 use Rattle.hub_law.specs.Requests.{supplier_request, retailer_request}
@@ -28,10 +29,8 @@ Inputs = List (Input × Mark)
 
 abbrev pub shared_run : Rows → Tables → Inputs → List Reply × Tables
 shared_run register t [] = ([], t)
-shared_run register t ((input, mark) ∷ inputs) = (
-  (shared_step register t input mark).0 ∷ (shared_run register (shared_step register t input mark).1 inputs).0,
-  (shared_run register (shared_step register t input mark).1 inputs).1,
-)
+shared_run register t ((input, mark) ∷ inputs) =
+    followed_by (single (shared_step register t input mark)) (λ after. shared_run register after inputs)
 
 -- the replies to the inputs whose caller is the supplier
 abbrev pub replies_to : List ℕ → Inputs → List Reply → List Reply
