@@ -41,10 +41,14 @@ abbrev pub fold : Parties → SupplierRow → List Item → Tables → List Repl
 fold parties s [] state = ([], state)
 fold parties s (item ∷ items) state = followed_by (own_step parties s item state) (fold parties s items)
 
+-- the messages that name the supplier with a GLN
+abbrev pub naming : List ℕ → List Sent → List Sent
+naming gln sents = filter (λ sent. same (named sent) gln) sents
+
 -- What of an input is for the supplier with a GLN.
 abbrev pub retailer_items : List ℕ → Rows → ℕ → Mark → Request → List Item
 retailer_items gln register moment mark (requests.Upload bytes) =
-    map Message (filter (λ sent. same (named sent) gln) (looked_at moment mark (from_retailer (parties_of register) bytes)))
+    map Message (naming gln (looked_at moment mark (from_retailer (parties_of register) bytes)))
 retailer_items gln register moment mark (requests.MailAfter number) = []
 retailer_items gln register moment mark (requests.MailItem number) = []
 retailer_items gln register moment mark (requests.MailTaken number) = []

@@ -1,4 +1,4 @@
--- Whether running out of memory or a fault of the store stopped an input, and where; and what becomes of what was stopped.
+-- Whether running out of memory or a fault of the store stopped an input, and where; and what becomes of it.
 use Rattle.std.specs.Prelude.{ℕ, nat_lt, List, [], take, is_none, if◌then◌else◌, Option, Some, None}
 use Rattle.std.specs.Option.{unwrap_or, option_map}
 use Rattle.hub_tables.specs.Tables.{Tables}
@@ -6,8 +6,9 @@ use Rattle.hub_law.specs.Replies.{reply, stopped}
 use Rattle.hub_law.specs.declared.reply.Outcome.TheVariants.{Stopped}
 use Rattle.hub_law.specs.declared.reply.Reply.{Reply}
 
--- Whole: it was not stopped. StoppedEmpty: nothing was done, and the reply is empty. StoppedBare: nothing was done, and the reply
--- says so. StoppedAfter k: an upload of more than k messages was stopped behind its first k; of any other input it is StoppedBare.
+-- Whole: it was not stopped. StoppedEmpty: nothing was done, and the reply is empty. StoppedBare: nothing was done, and
+-- the reply says so. StoppedAfter k: an upload of more than k messages was stopped behind its first k; of any other
+-- input it is StoppedBare.
 pub data Mark : Type 0 where
   Whole : Mark
   StoppedEmpty : Mark
@@ -21,7 +22,7 @@ stop_reply StoppedEmpty = Some (reply Stopped [])
 stop_reply StoppedBare = Some stopped
 stop_reply (StoppedAfter k) = Some stopped
 
--- how many messages of an upload of so many were done before it was stopped behind them; none where it was not stopped so
+-- how many of an upload's messages were done before it was stopped behind them; none where it was not stopped so
 abbrev pub stopped_behind : Mark → ℕ → Option ℕ
 stopped_behind Whole count = None
 stopped_behind StoppedEmpty count = None

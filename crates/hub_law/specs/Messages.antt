@@ -1,5 +1,5 @@
--- The acts of messages and cancellations. Each looks at the tables through `look`, and changes the tables themselves; whether an
--- SSCC is used is asked of the tables themselves.
+-- The acts of messages and cancellations. Each looks at the tables through `look`, and changes the tables themselves;
+-- whether an SSCC is used is asked of the tables themselves.
 use Rattle.std.specs.Prelude.{ℕ, List, [], map, if◌then◌else◌, codes, Option, Some}
 use Rattle.std.specs.Option.{unwrap_or}
 use Rattle.edi_tokens.specs.Text.{text}
@@ -33,7 +33,12 @@ pub record Sent : Type 0 where
 -- the messages of an interchange that comes at a moment
 abbrev pub messages_at : ℕ → Interchange → List Sent
 messages_at moment interchange =
-    map (λ message. record { moment = moment; decimal = interchange.decimal; control = interchange.head.reference; message = message }) interchange.messages
+    map (λ message. record {
+      moment = moment;
+      decimal = interchange.decimal;
+      control = interchange.head.reference;
+      message = message;
+    }) interchange.messages
 
 -- the supplier that a message names, and no digits where it names none
 abbrev pub named : Sent → List ℕ
@@ -61,18 +66,22 @@ other_type t = (Refused (message_faults.code_text MessageType), t)
 abbrev pub deliver_retailers : (Tables → Tables) → Parties → Option SupplierRow → Sent → Act
 deliver_retailers look parties supplier sent t =
     if same sent.message.kind (codes "ORDERS")
-    then read_act (order_of sent.message) (λ order. judge_order parties.retailer supplier (delivery_of sent) (body_of sent) order (look t)) t
+    then read_act (order_of sent.message)
+    (λ order. judge_order parties.retailer supplier (delivery_of sent) (body_of sent) order (look t)) t
     else (if same sent.message.kind (codes "RECADV")
-    then read_act (receipt_of sent.message) (λ receipt. judge_receipt parties.retailer supplier (delivery_of sent) (body_of sent) receipt (look t)) t
+    then read_act (receipt_of sent.message)
+    (λ receipt. judge_receipt parties.retailer supplier (delivery_of sent) (body_of sent) receipt (look t)) t
     else other_type t)
 
 -- a message of a supplier: ORDRSP, DESADV
 abbrev pub deliver_suppliers : (Tables → Tables) → Parties → SupplierRow → Sent → Act
 deliver_suppliers look parties s sent t =
     if same sent.message.kind (codes "ORDRSP")
-    then read_act (response_of sent.message) (λ response. judge_response parties.retailer (Some s) (delivery_of sent) response (look t)) t
+    then read_act (response_of sent.message)
+    (λ response. judge_response parties.retailer (Some s) (delivery_of sent) response (look t)) t
     else (if same sent.message.kind (codes "DESADV")
-    then read_act (despatch_of sent.message) (λ despatch. judge_despatch parties.retailer (Some s) (has_pallet t) (delivery_of sent) despatch (look t)) t
+    then read_act (despatch_of sent.message)
+    (λ despatch. judge_despatch parties.retailer (Some s) (has_pallet t) (delivery_of sent) despatch (look t)) t
     else other_type t)
 
 -- a cancellation of the retailer for a supplier

@@ -44,7 +44,8 @@ interchange_line i = line (codes "interchange" ∷ i.head.reference ∷ codes "m
 abbrev pub message_lines : List RawMessage → List Told → List ℕ
 message_lines [] told = []
 message_lines (message ∷ messages) [] = []
-message_lines (message ∷ messages) (told ∷ others) = line (message.reference ∷ message.kind ∷ told_words told) ++ message_lines messages others
+message_lines (message ∷ messages) (told ∷ others) =
+    line (message.reference ∷ message.kind ∷ told_words told) ++ message_lines messages others
 
 -- and then one for each message of which something is told
 abbrev pub reply_lines : Interchange → List Told → List ℕ
@@ -59,7 +60,11 @@ abbrev pub whole_reply : Interchange → List Told → Reply
 whole_reply i told = record { outcome = Done; refused = list_any is_refused told; body = reply_lines i told }
 
 abbrev pub cut_reply : Interchange → List Told → Reply
-cut_reply i told = record { outcome = Stopped; refused = list_any is_refused told; body = reply_lines i told ++ stopped_line }
+cut_reply i told = record {
+  outcome = Stopped;
+  refused = list_any is_refused told;
+  body = reply_lines i told ++ stopped_line;
+}
 
 -- the reply to a cancellation
 abbrev pub cancel_reply : Told → Reply

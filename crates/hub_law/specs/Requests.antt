@@ -1,4 +1,5 @@
--- Requests: what is answered, and what is done. Each looks at the tables through `look`, and changes the tables themselves.
+-- Requests: what is answered, and what is done. Each looks at the tables through `look`, and changes the tables
+-- themselves.
 use Rattle.std.specs.Prelude.{ℕ, true, List, [], ◌∷◌, length, if◌then◌else◌, Option, Some, None, Ok, Err, codes}
 use Rattle.std.specs.Option.{unwrap_or}
 use Rattle.edi_envelope.specs.declared.interchange.Interchange.{Interchange}
@@ -10,6 +11,7 @@ use Rattle.hub_tables.specs.Tables.{Tables, view}
 use Rattle.hub_tables.specs.declared.change.Change.{Change}
 use Rattle.hub_tables.specs.declared.change.Change.TheVariants.{SetMail}
 use Rattle.hub_tables.specs.declared.rows.MailRow.{MailRow}
+use Rattle.hub_rules.specs.declared.delivery.Cancel.{Cancel}
 use Rattle.hub_law.specs.MailText.{entry_at, is_taken, untaken_after, list_text}
 use Rattle.hub_law.specs.Mark.{Mark, stop_reply, stopped_behind, replied, unless_stopped, first_done}
 use Rattle.hub_law.specs.Messages.{Sent, messages_at, named, deliver_retailers, deliver_suppliers, cancel}
@@ -38,10 +40,14 @@ abbrev pub upload_reply : Mark → Opened → List Told → Reply
 upload_reply mark (Err code) told = unwrap_or (stop_reply mark) (refused_reply code)
 upload_reply mark (Ok i) told = reply_by_stop mark (stopped_behind mark (length i.messages)) i told
 
+-- what is told, as a reply
+abbrev pub replied_by : {X : Type 0} → (X → Reply) → X × Tables → Reply × Tables
+replied_by words after = (words after.0, after.1)
+
 -- each message that is looked at is one act
 abbrev pub uploaded : (Sent → Act) → ℕ → Mark → Opened → Tables → Reply × Tables
 uploaded deliver moment mark upload t =
-    (upload_reply mark upload (in_row deliver (looked_at moment mark upload) t).0, (in_row deliver (looked_at moment mark upload) t).1)
+    replied_by (upload_reply mark upload) (in_row deliver (looked_at moment mark upload) t)
 
 -- a supplier sends to the hub or to the retailer, the retailer to the hub
 abbrev pub from_supplier : Parties → SupplierRow → List ℕ → Opened
@@ -60,9 +66,12 @@ taken mark (Some entry) t = unless_stopped mark (done (line (codes "taken" ∷ [
 
 -- What a supplier asks.
 abbrev pub supplier_request : (Tables → Tables) → Parties → SupplierRow → ℕ → Mark → Request → Tables → Reply × Tables
-supplier_request look parties s moment mark (requests.Upload bytes) t = uploaded (deliver_suppliers look parties s) moment mark (from_supplier parties s bytes) t
-supplier_request look parties s moment mark (requests.MailAfter number) t = replied mark (done (list_text (untaken_after (look t) number))) t
-supplier_request look parties s moment mark (requests.MailItem number) t = replied mark (entry_reply parties.hub (entry_at (look t) number)) t
+supplier_request look parties s moment mark (requests.Upload bytes) t =
+    uploaded (deliver_suppliers look parties s) moment mark (from_supplier parties s bytes) t
+supplier_request look parties s moment mark (requests.MailAfter number) t =
+    replied mark (done (list_text (untaken_after (look t) number))) t
+supplier_request look parties s moment mark (requests.MailItem number) t =
+    replied mark (entry_reply parties.hub (entry_at (look t) number)) t
 supplier_request look parties s moment mark (requests.MailTaken number) t = taken mark (entry_at (look t) number) t
 supplier_request look parties s moment mark requests.Status t = replied mark (done (status_text (look t))) t
 supplier_request look parties s moment mark (requests.StatusOf gln) t = replied mark denied t
@@ -70,20 +79,26 @@ supplier_request look parties s moment mark (requests.Cancel cancellation) t = r
 
 -- What the retailer asks. A message, a cancellation and a report see what the supplier sees that they name.
 abbrev pub deliver_named : Rows → Sent → Act
-deliver_named register sent = deliver_retailers (view (named sent)) (parties_of register) (supplier_of register.suppliers (named sent)) sent
+deliver_named register sent =
+    deliver_retailers (view (named sent)) (parties_of register) (supplier_of register.suppliers (named sent)) sent
+
+abbrev pub cancel_named : Rows → Cancel → Act
+cancel_named register c = cancel (view c.supplier) (supplier_of register.suppliers c.supplier) c
 
 abbrev pub cancelled : Mark → Told × Tables → Tables → Reply × Tables
-cancelled mark after t = unless_stopped mark (cancel_reply after.0, after.1) t
+cancelled mark after t = unless_stopped mark (replied_by cancel_reply after) t
 
 abbrev pub report : Option SupplierRow → Tables → Reply
 report None state = unknown
 report (Some s) state = done (status_text state)
 
 abbrev pub retailer_request : Rows → ℕ → Mark → Request → Tables → Reply × Tables
-retailer_request register moment mark (requests.Upload bytes) t = uploaded (deliver_named register) moment mark (from_retailer (parties_of register) bytes) t
+retailer_request register moment mark (requests.Upload bytes) t =
+    uploaded (deliver_named register) moment mark (from_retailer (parties_of register) bytes) t
 retailer_request register moment mark (requests.MailAfter number) t = replied mark denied t
 retailer_request register moment mark (requests.MailItem number) t = replied mark denied t
 retailer_request register moment mark (requests.MailTaken number) t = replied mark denied t
 retailer_request register moment mark requests.Status t = replied mark denied t
-retailer_request register moment mark (requests.StatusOf gln) t = replied mark (report (supplier_of register.suppliers gln) (view gln t)) t
-retailer_request register moment mark (requests.Cancel c) t = cancelled mark (cancel (view c.supplier) (supplier_of register.suppliers c.supplier) c t) t
+retailer_request register moment mark (requests.StatusOf gln) t =
+    replied mark (report (supplier_of register.suppliers gln) (view gln t)) t
+retailer_request register moment mark (requests.Cancel c) t = cancelled mark (cancel_named register c t) t
