@@ -10,8 +10,8 @@ ghost use Rattle.hub_rules.specs.MailboxRules.{new_mail};
 ghost use Rattle.hub_law.specs.MailText.{mail_text};
 ghost use Rattle.hub_law.specs.Messages.{Sent, delivery_of, body_of};
 
-/// The text of the entry that the rules make of a message is the mail text of that message: to the supplier, with the moment and
-/// the decimal mark with which it came, and the entry's number.
+/// The text of the entry that the rules make of a message is the mail text of that message: to the supplier, with the
+/// moment and the decimal mark with which it came, and the entry's number.
 pub fn entry_is_its_messages_mail()
     ensures { (hub supplier document : List ℕ) (state : Tables) (sent : Sent) (kind : MailKind) (entry : MailRow) →
         new_mail supplier state (delivery_of sent) kind document (body_of sent) ≡ AddMail entry →
