@@ -1,5 +1,5 @@
 -- When what is known tells the truth of a state, as far as a judge asks.
-use Rattle.std.specs.Prelude.{◌≡◌, ℕ, ◌+◌, ◌≤◌, Bool, true, List, [], length, map, option_map}
+use Rattle.std.specs.Prelude.{◌≡◌, ℕ, Bool, true, List, [], length, map, option_map}
 use Rattle.std.specs.List.{AllByRecursion, list_any}
 use Rattle.edi_base.specs.Seen.{is_among}
 use Rattle.edi_orders.specs.declared.order.Order.{Order}

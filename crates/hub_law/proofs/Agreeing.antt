@@ -10,7 +10,8 @@ use Rattle.hub_tables.proofs.Sets.{rows_are_one}
 use Rattle.hub_rules.specs.Sound.{Sound}
 use Rattle.hub_rules.proofs.Rising.{view_rises}
 use Rattle.hub_law.specs.Alone.{items, items_of, fold}
-use Rattle.hub_law.specs.Laws.{Registered, RunIsOwn, AsksStatus, Agree, reply_between}
+use Rattle.hub_rules.specs.Laws.{Registered}
+use Rattle.hub_law.specs.Laws.{RunIsOwn, AsksStatus, Agree, reply_between}
 use Rattle.hub_law.specs.Machine.{Inputs, step_as, shared_step, shared_run, replies_to}
 use Rattle.hub_law.specs.Mark.{Mark, Whole}
 use Rattle.hub_law.specs.Replies.{done}
@@ -19,7 +20,7 @@ use Rattle.hub_law.specs.StatusText.{status_text}
 use Rattle.hub_law.specs.declared.request.Input.{Input}
 use Rattle.hub_law.proofs.Runs.{whole_run}
 
-pub own_run : (register : Rows) (s : SupplierRow) (t : Tables) (inputs : Inputs) → Registered register s t → RunIsOwn register s t inputs
+pub own_run : (register : Rows) (s : SupplierRow) (t : Tables) (inputs : Inputs) → Registered register.suppliers s t → RunIsOwn register s t inputs
 own_run register s t inputs here = whole_run register here.free s here.known inputs t here.sound
 
 -- a status for which the retailer asks is the text of what the supplier sees
@@ -39,7 +40,7 @@ status_between : (register : Rows) (s : SupplierRow) (t : Tables) (before : Inpu
     reply_between register t before input later ≡ Some (done (status_text (view s.gln (shared_run register t before).1)))
 status_between register s t before input later known asked = reply_at register t before input Whole later ∙ ap (λ reply. Some reply) (status_seen register s (shared_run register t before).1 input known asked)
 
-pub status_is_own : (register : Rows) (s : SupplierRow) (t : Tables) (before later : Inputs) (input : Input) → Registered register s t → AsksStatus register s input → reply_between register t before input later ≡ Some (done (status_text (fold (parties_of register) s (items_of s.gln register before) (view s.gln t)).1))
+pub status_is_own : (register : Rows) (s : SupplierRow) (t : Tables) (before later : Inputs) (input : Input) → Registered register.suppliers s t → AsksStatus register s input → reply_between register t before input later ≡ Some (done (status_text (fold (parties_of register) s (items_of s.gln register before) (view s.gln t)).1))
 status_is_own register s t before later input here asked =
     status_between register s t before input later here.known asked
     ∙ ap (λ rows. Some (done (status_text rows))) (own_run register s t before here).seen
@@ -60,7 +61,7 @@ items_after gln register ((input, mark) ∷ inputs) later =
 fronts_alike : {X : Type 0} (a b c d : List X) → a ++ b ≡ c ++ d → length a ≡ length c → a ≡ c
 fronts_alike a b c d joined counts = sym (take-append_seam a b) ∙ (λ i. take (counts i) (joined i)) ∙ take-append_seam c d
 
-module _ (first second : Rows) (s : SupplierRow) (t u : Tables) (here : Registered first s t) (there : Registered second s u) where
+module _ (first second : Rows) (s : SupplierRow) (t u : Tables) (here : Registered first.suppliers s t) (there : Registered second.suppliers s u) where
   module _ (xs ys : Inputs) (parties : (parties_of first) ≡ (parties_of second)) (rows : SameRows (view s.gln t) (view s.gln u)) (same_items : items_of s.gln first xs ≡ items_of s.gln second ys) where
     alone : fold (parties_of first) s (items_of s.gln first xs) (view s.gln t) ≡ fold (parties_of second) s (items_of s.gln second ys) (view s.gln u)
     alone =

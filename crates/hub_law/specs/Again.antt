@@ -7,7 +7,7 @@ use Rattle.hub_parties.specs.declared.row.SupplierRow.{SupplierRow}
 use Rattle.hub_tables.specs.Tables.{Tables}
 use Rattle.hub_rules.specs.Sound.{Sound}
 use Rattle.hub_rules.specs.declared.delivery.Cancel.{Cancel}
-use Rattle.hub_law.specs.Laws.{SoundHub}
+use Rattle.hub_rules.specs.Laws.{SoundHub}
 use Rattle.hub_law.specs.Machine.{Inputs, shared_run}
 use Rattle.hub_law.specs.Mark.{Mark}
 use Rattle.hub_law.specs.Messages.{Sent, messages_at}

@@ -1,11 +1,11 @@
 -- What one supplier sees and is told, whatever the others do.
 use Rattle.std.specs.Prelude.{◌≡◌, List, [], ◌∷◌, ◌++◌, length, slice_get, Option, Some}
-use Rattle.gs1_ids.specs.Overlap.{PrefixFree}
-use Rattle.hub_parties.specs.Rows.{Rows, parties_of, company_prefixes, supplier_of, role_of}
+use Rattle.hub_parties.specs.Rows.{Rows, parties_of, role_of}
 use Rattle.hub_parties.specs.declared.role.Role.TheVariants.{Retailer}
 use Rattle.hub_parties.specs.declared.row.SupplierRow.{SupplierRow}
 use Rattle.hub_tables.specs.Sets.{Rising, SameRows}
 use Rattle.hub_tables.specs.Tables.{Tables, view}
+use Rattle.hub_rules.specs.Laws.{Registered}
 use Rattle.hub_rules.specs.Sound.{Sound}
 use Rattle.hub_law.specs.Alone.{Item, items, items_of, fold}
 use Rattle.hub_law.specs.Machine.{Inputs, shared_step, shared_run, replies_to}
@@ -13,17 +13,6 @@ use Rattle.hub_law.specs.Mark.{Mark, Whole}
 use Rattle.hub_law.specs.declared.reply.Reply.{Reply}
 use Rattle.hub_law.specs.declared.request.Input.{Input}
 use Rattle.hub_law.specs.declared.request.Request.TheVariants.{StatusOf}
-
--- no prefix of one supplier begins a prefix of another, and the tables are sound
-pub record SoundHub (suppliers : List SupplierRow) (t : Tables) : Type 0 where
-  pub free : PrefixFree (company_prefixes suppliers)
-  pub sound : Sound suppliers t
-
--- the same, and the supplier is registered
-pub record Registered (register : Rows) (s : SupplierRow) (t : Tables) : Type 0 where
-  pub free : PrefixFree (company_prefixes register.suppliers)
-  pub known : supplier_of register.suppliers s.gln ≡ Some s
-  pub sound : Sound register.suppliers t
 
 -- what comes of a supplier's items in its own rows, with nothing else in the tables
 abbrev pub alone : Rows → SupplierRow → List Item → Tables → List Reply × Tables
@@ -56,8 +45,8 @@ reply_between register t before input later =
 -- Two runs agree on a supplier that is registered in both: on the GLNs of hub and retailer, on its rows at the start,
 -- and on its items.
 pub record Agree (s : SupplierRow) (first second : Rows) (t u : Tables) (xs ys : Inputs) : Type 0 where
-  pub here : Registered first s t
-  pub there : Registered second s u
+  pub here : Registered first.suppliers s t
+  pub there : Registered second.suppliers s u
   pub parties : (parties_of first) ≡ (parties_of second)
   pub rows : SameRows (view s.gln t) (view s.gln u)
   pub items : items_of s.gln first xs ≡ items_of s.gln second ys

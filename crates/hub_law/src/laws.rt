@@ -14,7 +14,8 @@ ghost use Rattle.hub_parties.specs.declared.row.SupplierRow.{SupplierRow};
 ghost use Rattle.hub_tables.specs.Tables.{Tables, view, empty};
 ghost use Rattle.hub_rules.specs.Sound.{Balanced, Sound};
 ghost use Rattle.hub_law.specs.Alone.{items_of, fold};
-ghost use Rattle.hub_law.specs.Laws.{SoundHub, Registered, StepIsOwn, RunIsOwn, AsksStatus, Agree, AgreeBefore, alone, reply_between};
+ghost use Rattle.hub_rules.specs.Laws.{SoundHub, Registered};
+ghost use Rattle.hub_law.specs.Laws.{StepIsOwn, RunIsOwn, AsksStatus, Agree, AgreeBefore, alone, reply_between};
 ghost use Rattle.hub_law.specs.Machine.{Inputs, shared_step, shared_run, replies_to};
 ghost use Rattle.hub_law.specs.Mark.{Mark, Whole, StoppedEmpty, StoppedBare};
 ghost use Rattle.hub_law.specs.Overlap.{long_supplier, overlapping, both_announce, one_announces, advice_reply};
@@ -26,7 +27,7 @@ ghost use Rattle.hub_law.specs.declared.request.Input.{Input};
 /// supplier asks, it is answered as it would be alone. This holds also of a request that was stopped.
 pub fn step_is_own()
     ensures { (register : Rows) (s : SupplierRow) (t : Tables) (input : Input) (mark : Mark) →
-        Registered register s t → StepIsOwn register s t input mark }
+        Registered register.suppliers s t → StepIsOwn register s t input mark }
 {}
 
 /// The same of all inputs of a run, one after another: what the supplier sees in the end, and all answers to it in
@@ -34,9 +35,9 @@ pub fn step_is_own()
 /// see alone at that place.
 pub fn run_is_own()
     ensures run { (register : Rows) (s : SupplierRow) (t : Tables) (inputs : Inputs) →
-        Registered register s t → RunIsOwn register s t inputs }
+        Registered register.suppliers s t → RunIsOwn register s t inputs }
     ensures status { (register : Rows) (s : SupplierRow) (t : Tables) (before later : Inputs) (input : Input) →
-        Registered register s t → AsksStatus register s input →
+        Registered register.suppliers s t → AsksStatus register s input →
         reply_between register t before input later ≡
         Some (done (status_text (alone register s (items_of s.gln register before) t).1)) }
 {}

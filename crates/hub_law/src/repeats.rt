@@ -5,7 +5,7 @@ ghost use Rattle.hub_parties.specs.declared.row.SupplierRow.{SupplierRow};
 ghost use Rattle.hub_tables.specs.Tables.{Tables, view};
 ghost use Rattle.hub_rules.specs.declared.delivery.Cancel.{Cancel};
 ghost use Rattle.hub_law.specs.Again.{MessageAt, AcceptedAt, AcceptedBefore, SameMessage, AsksCancel, tables_before, told_at};
-ghost use Rattle.hub_law.specs.Laws.{SoundHub};
+ghost use Rattle.hub_rules.specs.Laws.{SoundHub};
 ghost use Rattle.hub_law.specs.Machine.{Inputs, shared_step, shared_run};
 ghost use Rattle.hub_law.specs.Mark.{Mark, Whole};
 ghost use Rattle.hub_law.specs.Messages.{Sent, deliver_suppliers};

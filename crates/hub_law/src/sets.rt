@@ -4,7 +4,7 @@ ghost use Rattle.hub_parties.specs.declared.row.SupplierRow.{SupplierRow};
 ghost use Rattle.hub_tables.specs.Sets.{Rising, SameRows};
 ghost use Rattle.hub_tables.specs.Tables.{Tables, view};
 ghost use Rattle.hub_rules.specs.Sound.{Sound};
-ghost use Rattle.hub_law.specs.Laws.{SoundHub};
+ghost use Rattle.hub_rules.specs.Laws.{SoundHub};
 
 /// What a supplier sees of sound tables is its rows and nothing else: where two hubs have the same rows of it, it sees
 /// the same in both, in whatever order the rows came and whoever else has rows. And all rows of sound tables stand in

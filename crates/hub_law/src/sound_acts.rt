@@ -6,7 +6,8 @@ ghost use Rattle.hub_tables.specs.Change.{apply_all};
 ghost use Rattle.hub_tables.specs.Tables.{Tables, view};
 ghost use Rattle.hub_tables.specs.declared.rows.MailRow.{MailRow};
 ghost use Rattle.hub_rules.specs.declared.delivery.Cancel.{Cancel};
-ghost use Rattle.hub_law.specs.Laws.{SoundHub, Registered, StaySound};
+ghost use Rattle.hub_rules.specs.Laws.{SoundHub, Registered};
+ghost use Rattle.hub_law.specs.Laws.{StaySound};
 ghost use Rattle.hub_law.specs.MailText.{entry_at};
 ghost use Rattle.hub_law.specs.Messages.{Sent, deliver_suppliers};
 ghost use Rattle.hub_law.specs.Requests.{deliver_named, cancel_named, taking};
@@ -15,13 +16,13 @@ ghost use Rattle.hub_law.specs.Requests.{deliver_named, cancel_named, taking};
 /// and so rising by their keys.
 pub fn acts_stay_sound()
     ensures suppliers { (register : Rows) (s : SupplierRow) (sent : Sent) (t : Tables) →
-        Registered register s t →
+        Registered register.suppliers s t →
         StaySound register.suppliers (deliver_suppliers (view s.gln) (parties_of register) s sent t).1 }
     ensures retailers { (register : Rows) (sent : Sent) (t : Tables) →
         SoundHub register.suppliers t → StaySound register.suppliers (deliver_named register sent t).1 }
     ensures cancellation { (register : Rows) (c : Cancel) (t : Tables) →
         SoundHub register.suppliers t → StaySound register.suppliers (cancel_named register c t).1 }
     ensures taken { (register : Rows) (s : SupplierRow) (number : ℕ) (entry : MailRow) (t : Tables) →
-        Registered register s t → entry_at (view s.gln t) number ≡ Some entry →
+        Registered register.suppliers s t → entry_at (view s.gln t) number ≡ Some entry →
         StaySound register.suppliers (apply_all (taking entry) t) }
 {}
