@@ -30,7 +30,7 @@ use Rattle.hub_rules.specs.ReceiptRules.{items, new_receipt}
 use Rattle.hub_rules.specs.ResponseRules.{answered, is_out_of_range, is_empty}
 use Rattle.hub_rules.specs.declared.code.Code.TheVariants.{NoOrder, NoLine, NotWaiting, OutOfRange, OtherItem, MoreThanOpen, OtherPrefix, SsccUsed, AdviceKnown, NoPallet, PalletReceived, CancelsMoreThanOpen}
 use Rattle.hub_rules.specs.declared.code.Code.{Code}
-use Rattle.hub_rules.specs.declared.delivery.Cancel.{Cancel}
+use Rattle.hub_rules.specs.declared.cancel.Cancel.{Cancel}
 use Rattle.hub_rules.specs.declared.verdict.Verdict.{Verdict}
 use Rattle.hub_rules.specs.declared.verdict.Verdict.TheVariants.{Accept, Refuse}
 use Rattle.hub_judges.specs.declared.known.Known.{Known}

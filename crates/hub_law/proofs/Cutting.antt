@@ -10,10 +10,11 @@ use Rattle.hub_parties.specs.declared.role.Role.TheVariants.{Retailer, Supplier}
 use Rattle.hub_parties.specs.declared.row.SupplierRow.{SupplierRow}
 use Rattle.hub_tables.specs.Tables.{Tables, view}
 use Rattle.hub_tables.specs.declared.rows.MailRow.{MailRow}
+use Rattle.hub_rules.specs.declared.incoming.IncomingMessage.{IncomingMessage}
 use Rattle.hub_law.specs.Machine.{shared_step, step_as}
 use Rattle.hub_law.specs.MailText.{entry_at}
 use Rattle.hub_law.specs.Mark.{Mark, Whole, StoppedAfter, first_done}
-use Rattle.hub_law.specs.Messages.{Sent, messages_at, deliver_suppliers}
+use Rattle.hub_law.specs.Messages.{messages_at, deliver_suppliers}
 use Rattle.hub_law.specs.Opening.{Opened}
 use Rattle.hub_law.specs.Replies.{told_words, interchange_line, message_lines, stopped_line, stopped, whole_reply, cut_reply}
 use Rattle.hub_law.specs.Requests.{reply_by_stop, uploaded, from_supplier, from_retailer, supplier_request, retailer_request, deliver_named, taken}
@@ -40,7 +41,7 @@ lines_first (suc k) [] told = refl
 lines_first (suc k) (message ∷ messages) [] = refl
 lines_first (suc k) (message ∷ messages) (one ∷ told) = ap (λ rest. line (message.reference ∷ message.kind ∷ told_words one) ++ rest) (lines_first k messages told)
 
-module _ (deliver : Sent → Act) (moment : ℕ) (t : Tables) where
+module _ (deliver : RawMessage × IncomingMessage → Act) (moment : ℕ) (t : Tables) where
   abbrev told_of : Interchange → List Told
   told_of i = (in_row deliver (messages_at moment i) t).0
 
@@ -60,7 +61,7 @@ module _ (deliver : Sent → Act) (moment : ℕ) (t : Tables) where
   -- by the messages behind which it was stopped
   abbrev by_stop : Option ℕ → ℕ → Interchange → Reply × Tables
   by_stop behind k i =
-      let looked : List Sent = first_done (StoppedAfter k) behind (messages_at moment i) in
+      let looked : List (RawMessage × IncomingMessage) = first_done (StoppedAfter k) behind (messages_at moment i) in
       (reply_by_stop (StoppedAfter k) behind i (in_row deliver looked t).0, (in_row deliver looked t).1)
 
   upload_behind : (k : ℕ) (opened : Opened) (i : Interchange) → opened_well opened ≡ Some i → k < length i.messages → uploaded deliver moment (StoppedAfter k) opened t ≡ (reply_behind k i (told_of i), (in_row deliver (take k (messages_at moment i)) t).1)
@@ -87,8 +88,8 @@ module _ (deliver : Sent → Act) (moment : ℕ) (t : Tables) where
   upload_none k (Ok j) h = cc
 
 -- A fact of an upload that is looked at holds of whoever sends it.
-module _ (register : Rows) (t : Tables) (mark : Mark) (P : Interchange → Type 0) (after : (Sent → Act) → ℕ → Interchange → Reply × Tables)
-    (of_upload : (deliver : Sent → Act) (moment : ℕ) (opened : Opened) (i : Interchange) → opened_well opened ≡ Some i → P i → uploaded deliver moment mark opened t ≡ after deliver moment i) where
+module _ (register : Rows) (t : Tables) (mark : Mark) (P : Interchange → Type 0) (after : (RawMessage × IncomingMessage → Act) → ℕ → Interchange → Reply × Tables)
+    (of_upload : (deliver : RawMessage × IncomingMessage → Act) (moment : ℕ) (opened : Opened) (i : Interchange) → opened_well opened ≡ Some i → P i → uploaded deliver moment mark opened t ≡ after deliver moment i) where
   suppliers : (s : SupplierRow) (moment : ℕ) (request : Request) (i : Interchange) → upload_from (from_supplier (parties_of register) s) request ≡ Some i → P i → supplier_request (view s.gln) (parties_of register) s moment mark request t ≡ after (deliver_suppliers (view s.gln) (parties_of register) s) moment i
   suppliers s moment (requests.Upload bytes) i h p = of_upload (deliver_suppliers (view s.gln) (parties_of register) s) moment (from_supplier (parties_of register) s bytes) i h p
   suppliers s moment (requests.MailAfter number) i h p = cc

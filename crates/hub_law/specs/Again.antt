@@ -1,16 +1,16 @@
 -- What comes again in a run.
 use Rattle.std.specs.Prelude.{◌≡◌, ℕ, ◌<◌, List, length, slice_get, Option, Some, Ok}
+use Rattle.edi_envelope.specs.declared.interchange.RawMessage.{RawMessage}
 use Rattle.edi_envelope.specs.declared.interchange.Interchange.{Interchange}
 use Rattle.hub_parties.specs.Rows.{Rows, role_of}
 use Rattle.hub_parties.specs.declared.role.Role.TheVariants.{Retailer}
 use Rattle.hub_parties.specs.declared.row.SupplierRow.{SupplierRow}
 use Rattle.hub_tables.specs.Tables.{Tables}
 use Rattle.hub_rules.specs.Sound.{Sound}
-use Rattle.hub_rules.specs.declared.delivery.Cancel.{Cancel}
+use Rattle.hub_rules.specs.declared.cancel.Cancel.{Cancel}
 use Rattle.hub_rules.specs.Laws.{SoundHub}
 use Rattle.hub_law.specs.Machine.{Inputs, shared_run}
 use Rattle.hub_law.specs.Mark.{Mark}
-use Rattle.hub_law.specs.Messages.{Sent, messages_at}
 use Rattle.hub_law.specs.Remembered.{StaysRemembered}
 use Rattle.hub_law.specs.Requests.{looked_at}
 use Rattle.hub_law.specs.Stops.{upload_of, all_acts, first_acts}
@@ -19,10 +19,10 @@ use Rattle.hub_law.specs.declared.request.Input.{Input}
 use Rattle.hub_law.specs.declared.request.Request.TheVariants as requests
 
 -- the message at a place, counted from 0, of an upload that is looked at
-pub record MessageAt (register : Rows) (input : Input) (place : ℕ) (sent : Sent) : Type 0 where
+pub record MessageAt (register : Rows) (input : Input) (place : ℕ) (message : RawMessage) : Type 0 where
   pub upload : Interchange
   pub looked_at : upload_of register input ≡ Some upload
-  pub there : slice_get (messages_at input.moment upload) place ≡ Some sent
+  pub there : slice_get upload.messages place ≡ Some message
 
 -- the message at the place is among those that are looked at: the upload was not stopped before it was done
 abbrev pub Reaches : Mark → Input → Interchange → ℕ → Type 0
@@ -41,17 +41,16 @@ told_at register t before input upload place =
 -- From sound tables of free prefixes, and behind a run, the message at a place of an upload is accepted, and the upload
 -- is not stopped before it is done.
 pub record AcceptedAt (register : Rows) (t : Tables) (before : Inputs) (input : Input) (mark : Mark) (place : ℕ)
-    (sent : Sent) : Type 0 where
+    (message : RawMessage) : Type 0 where
   pub start : SoundHub register.suppliers t
-  pub message : MessageAt register input place sent
-  pub reached : Reaches mark input message.upload place
-  pub accepted : told_at register t before input message.upload place ≡ Some Accepted
+  pub comes : MessageAt register input place message
+  pub reached : Reaches mark input comes.upload place
+  pub accepted : told_at register t before input comes.upload place ≡ Some Accepted
 
--- of the same caller, with the same control reference and the same segments, whenever and in whatever spelling
-pub record SameMessage (first second : Input) (sent again : Sent) : Type 0 where
+-- of the same caller, and with the same control reference
+pub record SameReference (first second : Input) (one other : Interchange) : Type 0 where
   pub caller : second.caller ≡ first.caller
-  pub control : again.control ≡ sent.control
-  pub message : again.message ≡ sent.message
+  pub control : other.head.reference ≡ one.head.reference
 
 -- what was accepted, and tables to which it comes again: sound ones that still remember all that was remembered after
 -- it

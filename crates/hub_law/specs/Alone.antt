@@ -1,16 +1,18 @@
 -- One supplier alone: the items of inputs that are for it, and its machine over them.
 use Rattle.std.specs.Prelude.{ℕ, List, [], ◌∷◌, ◌++◌, map, filter, if◌then◌else◌, Option, Some, None}
+use Rattle.edi_envelope.specs.declared.interchange.RawMessage.{RawMessage}
 use Rattle.hub_parties.specs.Rows.{Rows, Parties, parties_of, role_of}
 use Rattle.hub_parties.specs.declared.role.Role.{Role}
 use Rattle.hub_parties.specs.declared.role.Role.TheVariants.{Retailer, Supplier}
 use Rattle.hub_parties.specs.declared.row.SupplierRow.{SupplierRow}
 use Rattle.hub_tables.specs.Rows.{same}
 use Rattle.hub_tables.specs.Tables.{Tables}
-use Rattle.hub_rules.specs.declared.delivery.Cancel.{Cancel}
+use Rattle.hub_rules.specs.declared.incoming.IncomingMessage.{IncomingMessage}
+use Rattle.hub_rules.specs.declared.cancel.Cancel.{Cancel}
 use Rattle.hub_law.specs.InTurn.{single, silent, followed_by}
 use Rattle.hub_law.specs.Machine.{Inputs}
 use Rattle.hub_law.specs.Mark.{Mark, replied, all_unless_stopped}
-use Rattle.hub_law.specs.Messages.{Sent, named, deliver_retailers, cancel}
+use Rattle.hub_law.specs.Messages.{named, deliver_retailers, cancel}
 use Rattle.hub_law.specs.Replies.{denied}
 use Rattle.hub_law.specs.Requests.{looked_at, from_retailer, supplier_request}
 use Rattle.hub_law.specs.declared.reply.Reply.{Reply}
@@ -21,7 +23,7 @@ use Rattle.hub_law.specs.declared.request.Request.TheVariants as requests
 -- an input of its own; a message of the retailer that names it; a cancellation of the retailer for it, with its moment
 pub data Item : Type 0 where
   Own : Input → Mark → Item
-  Message : Sent → Item
+  Message : RawMessage × IncomingMessage → Item
   Cancellation : ℕ → Cancel → Item
 
 -- an input of the supplier: denied without its key
@@ -42,8 +44,8 @@ fold parties s [] state = ([], state)
 fold parties s (item ∷ items) state = followed_by (own_step parties s item state) (fold parties s items)
 
 -- the messages that name the supplier with a GLN
-abbrev pub naming : List ℕ → List Sent → List Sent
-naming gln sents = filter (λ sent. same (named sent) gln) sents
+abbrev pub naming : List ℕ → List (RawMessage × IncomingMessage) → List (RawMessage × IncomingMessage)
+naming gln sents = filter (λ sent. same (named sent.0) gln) sents
 
 -- What of an input is for the supplier with a GLN.
 abbrev pub retailer_items : List ℕ → Rows → ℕ → Mark → Request → List Item

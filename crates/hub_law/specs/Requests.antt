@@ -2,6 +2,7 @@
 -- themselves.
 use Rattle.std.specs.Prelude.{ℕ, true, List, [], ◌∷◌, length, if◌then◌else◌, Option, Some, None, Ok, Err, codes}
 use Rattle.std.specs.Option.{unwrap_or}
+use Rattle.edi_envelope.specs.declared.interchange.RawMessage.{RawMessage}
 use Rattle.edi_envelope.specs.declared.interchange.Interchange.{Interchange}
 use Rattle.hub_parties.specs.Rows.{Parties, Rows, parties_of, supplier_of}
 use Rattle.hub_parties.specs.declared.row.SupplierRow.{SupplierRow}
@@ -11,10 +12,11 @@ use Rattle.hub_tables.specs.Tables.{Tables, view}
 use Rattle.hub_tables.specs.declared.change.Change.{Change}
 use Rattle.hub_tables.specs.declared.change.Change.TheVariants.{SetMail}
 use Rattle.hub_tables.specs.declared.rows.MailRow.{MailRow}
-use Rattle.hub_rules.specs.declared.delivery.Cancel.{Cancel}
+use Rattle.hub_rules.specs.declared.incoming.IncomingMessage.{IncomingMessage}
+use Rattle.hub_rules.specs.declared.cancel.Cancel.{Cancel}
 use Rattle.hub_law.specs.MailText.{entry_at, is_taken, untaken_after, list_text}
 use Rattle.hub_law.specs.Mark.{Mark, stop_reply, stopped_behind, replied, unless_stopped, first_done}
-use Rattle.hub_law.specs.Messages.{Sent, messages_at, named, deliver_retailers, deliver_suppliers, cancel}
+use Rattle.hub_law.specs.Messages.{messages_at, named, deliver_retailers, deliver_suppliers, cancel}
 use Rattle.hub_law.specs.Opening.{Opened, opened, addressed}
 use Rattle.hub_law.specs.Replies.{done, denied, unknown, refused_reply, whole_reply, cut_reply, cancel_reply, entry_reply}
 use Rattle.hub_law.specs.StatusText.{status_text}
@@ -27,7 +29,7 @@ use Rattle.hub_law.specs.declared.request.Request.TheVariants as requests
 -- Uploads.
 
 -- the messages that are looked at: all, or the first so many of more where it was stopped behind them, or none
-abbrev pub looked_at : ℕ → Mark → Opened → List Sent
+abbrev pub looked_at : ℕ → Mark → Opened → List (RawMessage × IncomingMessage)
 looked_at moment mark (Err code) = []
 looked_at moment mark (Ok i) = first_done mark (stopped_behind mark (length i.messages)) (messages_at moment i)
 
@@ -45,7 +47,7 @@ abbrev pub replied_by : {X : Type 0} → (X → Reply) → X × Tables → Reply
 replied_by words after = (words after.0, after.1)
 
 -- each message that is looked at is one act
-abbrev pub uploaded : (Sent → Act) → ℕ → Mark → Opened → Tables → Reply × Tables
+abbrev pub uploaded : (RawMessage × IncomingMessage → Act) → ℕ → Mark → Opened → Tables → Reply × Tables
 uploaded deliver moment mark upload t =
     replied_by (upload_reply mark upload) (in_row deliver (looked_at moment mark upload) t)
 
@@ -78,9 +80,10 @@ supplier_request look parties s moment mark (requests.StatusOf gln) t = replied 
 supplier_request look parties s moment mark (requests.Cancel cancellation) t = replied mark denied t
 
 -- What the retailer asks. A message, a cancellation and a report see what the supplier sees that they name.
-abbrev pub deliver_named : Rows → Sent → Act
-deliver_named register sent =
-    deliver_retailers (view (named sent)) (parties_of register) (supplier_of register.suppliers (named sent)) sent
+abbrev pub deliver_named : Rows → RawMessage × IncomingMessage → Act
+deliver_named register (message, incoming) =
+    deliver_retailers (view (named message)) (parties_of register) (supplier_of register.suppliers (named message))
+    (message, incoming)
 
 abbrev pub cancel_named : Rows → Cancel → Act
 cancel_named register c = cancel (view c.supplier) (supplier_of register.suppliers c.supplier) c

@@ -1,13 +1,15 @@
 -- What a stop behind some messages of an upload replies and leaves.
 use Rattle.std.specs.Prelude.{ℕ, List, ◌++◌, take, Option, Some, None, Ok, Err}
 use Rattle.std.specs.List.{list_any}
+use Rattle.edi_envelope.specs.declared.interchange.RawMessage.{RawMessage}
 use Rattle.edi_envelope.specs.declared.interchange.Interchange.{Interchange}
 use Rattle.hub_parties.specs.Rows.{Rows, parties_of, row_of, role_of}
 use Rattle.hub_parties.specs.declared.role.Role.{Role}
 use Rattle.hub_parties.specs.declared.role.Role.TheVariants.{Retailer, Supplier}
 use Rattle.hub_parties.specs.declared.row.SupplierRow.{SupplierRow}
 use Rattle.hub_tables.specs.Tables.{Tables, view}
-use Rattle.hub_law.specs.Messages.{Sent, messages_at, deliver_suppliers}
+use Rattle.hub_rules.specs.declared.incoming.IncomingMessage.{IncomingMessage}
+use Rattle.hub_law.specs.Messages.{messages_at, deliver_suppliers}
 use Rattle.hub_law.specs.Opening.{Opened}
 use Rattle.hub_law.specs.Replies.{interchange_line, message_lines, stopped_line}
 use Rattle.hub_law.specs.Requests.{from_supplier, from_retailer, deliver_named}
@@ -44,13 +46,13 @@ upload_of register input =
     upload_by register (role_of register input.caller input.key) (row_of register input.caller) input.request
 
 -- the act of each of its messages; where nobody may there is none
-abbrev pub act_by : Rows → Option Role → Option SupplierRow → Sent → Act
+abbrev pub act_by : Rows → Option Role → Option SupplierRow → RawMessage × IncomingMessage → Act
 act_by register (Some Supplier) (Some s) sent = deliver_suppliers (view s.gln) (parties_of register) s sent
 act_by register (Some Supplier) None sent = λ t. (Repeated, t)
 act_by register (Some Retailer) row sent = deliver_named register sent
 act_by register None row sent = λ t. (Repeated, t)
 
-abbrev pub act_of : Rows → Input → Sent → Act
+abbrev pub act_of : Rows → Input → RawMessage × IncomingMessage → Act
 act_of register input = act_by register (role_of register input.caller input.key) (row_of register input.caller)
 
 -- the messages of an upload one after another, or the first k of them, and what is told of each

@@ -12,7 +12,7 @@ use Rattle.hub_rules.specs.CancellationRules.{judge_new_cancel}
 use Rattle.hub_rules.specs.RepeatRules.{Reference}
 use Rattle.hub_rules.specs.Rules.{judge_cancel}
 use Rattle.hub_rules.specs.declared.code.Code.TheVariants as codes
-use Rattle.hub_rules.specs.declared.delivery.Cancel.{Cancel}
+use Rattle.hub_rules.specs.declared.cancel.Cancel.{Cancel}
 use Rattle.hub_rules.proofs.GoodRows.{GoodLine, good_lines, line_found, leaves_set_line}
 use Rattle.hub_rules.proofs.KeptByMessages.{leads_once}
 use Rattle.hub_rules.proofs.Verdicts.{not_refused, was_given, Leads, leaves_given}

@@ -29,7 +29,7 @@ use Rattle.hub_rules.specs.Judging.{in_order}
 use Rattle.hub_rules.specs.Sound.{knows_line, same_place}
 use Rattle.hub_rules.specs.Rules.{judge_despatch}
 use Rattle.hub_rules.specs.declared.code.Code.TheVariants as codes
-use Rattle.hub_rules.specs.declared.delivery.Delivery.{Delivery}
+use Rattle.hub_rules.specs.declared.incoming.IncomingMessage.{IncomingMessage}
 use Rattle.hub_rules.proofs.Belonging.{Belongs}
 use Rattle.hub_rules.proofs.GoodRows.{GoodLine, good_after, good_lines, line_found, leaves_good}
 use Rattle.hub_rules.proofs.Keeping.{kept_despatched, kept_advice, kept_pallet}
@@ -109,5 +109,5 @@ module _ (s : SupplierRow) where
       (leaves_good s state (AddAdvice advice) refl good.own (kept_advice state good.kept advice a.0))
       (leads_in_order s (KeptOwn s) (judge_unit s used despatch.number) (leads_unit used despatch.number) despatch.units) a.1
 
-  pub leads_despatch : (retailer : List ℕ) (used : List ℕ → Bool) (delivery : Delivery) (despatch : Despatch) → Leads s (KeptOwn s) (KeptOwn s) (judge_despatch retailer (Some s) used delivery despatch)
-  leads_despatch retailer used delivery despatch = leads_message s retailer sides.Supplier delivery despatch.buyer despatch.supplier (λ s. judge_new_despatch s used despatch) (leads_new_despatch used despatch)
+  pub leads_despatch : (retailer : List ℕ) (used : List ℕ → Bool) (incoming : IncomingMessage) (despatch : Despatch) → Leads s (KeptOwn s) (KeptOwn s) (judge_despatch retailer (Some s) used incoming despatch)
+  leads_despatch retailer used incoming despatch = leads_message s retailer sides.Supplier incoming despatch.buyer despatch.supplier (λ s. judge_new_despatch s used despatch) (leads_new_despatch used despatch)

@@ -15,7 +15,7 @@ use Rattle.hub_rules.specs.RepeatRules.{Reference, remembered, once, judge_once}
 use Rattle.hub_rules.specs.PartyRules.{is_other_buyer}
 use Rattle.hub_rules.specs.Rules.{referred_by, judge_message}
 use Rattle.hub_rules.specs.declared.code.Code.TheVariants as codes
-use Rattle.hub_rules.specs.declared.delivery.Delivery.{Delivery}
+use Rattle.hub_rules.specs.declared.incoming.IncomingMessage.{IncomingMessage}
 use Rattle.hub_rules.specs.declared.verdict.Verdict.{Verdict}
 use Rattle.hub_rules.specs.declared.verdict.Verdict.TheVariants.{Accept, Refuse}
 use Rattle.hub_rules.proofs.GoodRows.{leaves_good}
@@ -41,8 +41,8 @@ module _ (s : SupplierRow) where
             (leaves_good s state (Remember (remembered r content)) whose good.own (kept_remembered state good.kept (remembered r content) new)) f g.1
       ]
 
-  pub leads_message : (retailer : List ℕ) (side : Side) (delivery : Delivery) (buyer : Option (List ℕ)) (named : List ℕ) (rest : SupplierRow → Judge) → Leads s (KeptOwn s) (KeptOwn s) (rest s) → Leads s (KeptOwn s) (KeptOwn s) (judge_message retailer (Some s) side delivery buyer named rest)
-  leads_message retailer side delivery buyer named rest f state changes good h =
+  pub leads_message : (retailer : List ℕ) (side : Side) (incoming : IncomingMessage) (buyer : Option (List ℕ)) (named : List ℕ) (rest : SupplierRow → Judge) → Leads s (KeptOwn s) (KeptOwn s) (rest s) → Leads s (KeptOwn s) (KeptOwn s) (judge_message retailer (Some s) side incoming buyer named rest)
+  leads_message retailer side incoming buyer named rest f state changes good h =
       let a = not_refused (is_other_buyer retailer buyer) codes.Buyer _ changes h in
       let b = not_refused (not (same named s.gln)) codes.Supplier _ changes a.1 in
-      leads_once (referred_by s side delivery) delivery.content (rest s) refl f state changes good b.1
+      leads_once (referred_by s side incoming) incoming.content (rest s) refl f state changes good b.1

@@ -26,7 +26,7 @@ use Rattle.hub_rules.specs.MailboxRules.{mail_limit, new_mail}
 use Rattle.hub_rules.specs.OrderRules.{new_line, judge_new_order}
 use Rattle.hub_rules.specs.Rules.{judge_order}
 use Rattle.hub_rules.specs.declared.code.Code.TheVariants as codes
-use Rattle.hub_rules.specs.declared.delivery.Delivery.{Delivery}
+use Rattle.hub_rules.specs.declared.incoming.IncomingMessage.{IncomingMessage}
 use Rattle.hub_rules.proofs.GoodRows.{good_after}
 use Rattle.hub_rules.proofs.Keeping.{kept_order, kept_line, kept_mail}
 use Rattle.hub_rules.proofs.KeptByMessages.{leads_message}
@@ -91,12 +91,12 @@ module _ (s : SupplierRow) (number : List ℕ) where
       (leaves_new_lines lines (apply (AddLine row) state) (good_after s state (AddLine row) refl good.own (kept_line state good.kept row known (omega (arith, sent)) fresh.0)) known none apart.1 (still_unknown state line lines apart.0 fresh.1))
 
 module _ (s : SupplierRow) where
-  leads_new_order : (delivery : Delivery) (body : List ℕ) (order : Order) → has_number_twice (map (λ line. line.line) order.lines) ≡ false → Leads s (KeptOwn s) (KeptOwn s) (judge_new_order s.gln delivery body order)
-  leads_new_order delivery body order single state changes good h =
+  leads_new_order : (incoming : IncomingMessage) (body : List ℕ) (order : Order) → has_number_twice (map (λ line. line.line) order.lines) ≡ false → Leads s (KeptOwn s) (KeptOwn s) (judge_new_order s.gln incoming body order)
+  leads_new_order incoming body order single state changes good h =
       let a = not_refused (knows_order state order.number) codes.OrderKnown _ changes h in
       let b = not_refused (nat_lt mail_limit (next_mail state)) codes.MailboxFull _ changes a.1 in
       let row : OrderRow = record { supplier = s.gln; number = order.number } in
-      let mail : Change = new_mail s.gln state delivery kinds.Orders order.number body in
+      let mail : Change = new_mail s.gln state incoming kinds.Orders order.number body in
       let mailed : KeptOwn s (apply mail state) = good_after s state mail refl good.own (kept_mail state good.kept s.gln _ good.own.mail refl refl) in
       let ordered : KeptOwn s (apply (AddOrder row) (apply mail state)) = good_after s (apply mail state) (AddOrder row) refl mailed.own (kept_order (apply mail state) mailed.kept row a.0) in
       let known : knows_order (apply (AddOrder row) (apply mail state)) order.number ≡ true =
@@ -107,5 +107,5 @@ module _ (s : SupplierRow) where
       (leaves_new_lines s order.number order.lines (apply (AddOrder row) (apply mail state)) ordered known (unnamed state good.kept order.number a.0) single
       (all_always (λ line. knows_line state order.number line.line ≡ false) (λ line. no_lines state good.kept order.number a.0 line.line) order.lines))))
 
-  pub leads_order : (retailer : List ℕ) (delivery : Delivery) (body : List ℕ) (order : Order) → has_number_twice (map (λ line. line.line) order.lines) ≡ false → Leads s (KeptOwn s) (KeptOwn s) (judge_order retailer (Some s) delivery body order)
-  leads_order retailer delivery body order single = leads_message s retailer sides.Retailer delivery (Some order.buyer) order.supplier (λ s. judge_new_order s.gln delivery body order) (leads_new_order delivery body order single)
+  pub leads_order : (retailer : List ℕ) (incoming : IncomingMessage) (body : List ℕ) (order : Order) → has_number_twice (map (λ line. line.line) order.lines) ≡ false → Leads s (KeptOwn s) (KeptOwn s) (judge_order retailer (Some s) incoming body order)
+  leads_order retailer incoming body order single = leads_message s retailer sides.Retailer incoming (Some order.buyer) order.supplier (λ s. judge_new_order s.gln incoming body order) (leads_new_order incoming body order single)

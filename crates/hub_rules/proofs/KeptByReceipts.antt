@@ -29,7 +29,7 @@ use Rattle.hub_rules.specs.MailboxRules.{mail_limit, new_mail}
 use Rattle.hub_rules.specs.ReceiptRules.{items, total, new_receipt, judge_received, judge_new_receipt}
 use Rattle.hub_rules.specs.Rules.{judge_receipt}
 use Rattle.hub_rules.specs.declared.code.Code.TheVariants as codes
-use Rattle.hub_rules.specs.declared.delivery.Delivery.{Delivery}
+use Rattle.hub_rules.specs.declared.incoming.IncomingMessage.{IncomingMessage}
 use Rattle.hub_rules.proofs.GoodRows.{good_after, leaves_good}
 use Rattle.hub_rules.proofs.Keeping.{kept_received, kept_receipt, kept_mail}
 use Rattle.hub_rules.proofs.KeptByMessages.{leads_message}
@@ -116,13 +116,13 @@ module _ (s : SupplierRow) where
       (leaves_next s (KeptOwn s) state (SetPallet row) (map (new_receipt unit.sscc unit.lines) (items unit.lines)) belongs
       (leaves_receipts unit.sscc unit.lines (items unit.lines) after (good_after s state (SetPallet row) belongs good.own (kept_received state good.kept row refl)) (pallet_stays unit.sscc state (SetPallet row) there) received (items_single unit.lines) lacking))
 
-  leads_new_receipt : (delivery : Delivery) (body : List ℕ) (receipt : Receipt) → Leads s (KeptOwn s) (KeptOwn s) (judge_new_receipt s.gln delivery body receipt)
-  leads_new_receipt delivery body receipt state changes good h =
+  leads_new_receipt : (incoming : IncomingMessage) (body : List ℕ) (receipt : Receipt) → Leads s (KeptOwn s) (KeptOwn s) (judge_new_receipt s.gln incoming body receipt)
+  leads_new_receipt incoming body receipt state changes good h =
       let a = not_refused (nat_lt mail_limit (next_mail state)) codes.MailboxFull _ changes h in
-      let mail : Change = new_mail s.gln state delivery kinds.Receipt receipt.number body in
+      let mail : Change = new_mail s.gln state incoming kinds.Receipt receipt.number body in
       leaves_in_turn s (KeptOwn s) (KeptOwn s) (mail ∷ []) (in_order judge_received receipt.units) state changes
       (leaves_good s state mail refl good.own (kept_mail state good.kept s.gln _ good.own.mail refl refl))
       (leads_in_order s (KeptOwn s) judge_received leads_received receipt.units) a.1
 
-  pub leads_receipt : (retailer : List ℕ) (delivery : Delivery) (body : List ℕ) (receipt : Receipt) → Leads s (KeptOwn s) (KeptOwn s) (judge_receipt retailer (Some s) delivery body receipt)
-  leads_receipt retailer delivery body receipt = leads_message s retailer sides.Retailer delivery receipt.buyer receipt.supplier (λ s. judge_new_receipt s.gln delivery body receipt) (leads_new_receipt delivery body receipt)
+  pub leads_receipt : (retailer : List ℕ) (incoming : IncomingMessage) (body : List ℕ) (receipt : Receipt) → Leads s (KeptOwn s) (KeptOwn s) (judge_receipt retailer (Some s) incoming body receipt)
+  leads_receipt retailer incoming body receipt = leads_message s retailer sides.Retailer incoming receipt.buyer receipt.supplier (λ s. judge_new_receipt s.gln incoming body receipt) (leads_new_receipt incoming body receipt)

@@ -22,7 +22,7 @@ use Rattle.hub_rules.specs.Laws.{KeptOwn}
 use Rattle.hub_rules.specs.ResponseRules.{answered, is_out_of_range, judge_answer, waiting, is_empty, judge_all, judge_answers, judge_new_response}
 use Rattle.hub_rules.specs.Rules.{judge_response}
 use Rattle.hub_rules.specs.declared.code.Code.TheVariants as codes
-use Rattle.hub_rules.specs.declared.delivery.Delivery.{Delivery}
+use Rattle.hub_rules.specs.declared.incoming.IncomingMessage.{IncomingMessage}
 use Rattle.hub_rules.proofs.GoodRows.{GoodLine, good_after, good_lines, line_found, leaves_set_line}
 use Rattle.hub_rules.proofs.Keeping.{kept_set_line}
 use Rattle.hub_rules.proofs.KeptByMessages.{leads_message}
@@ -90,5 +90,5 @@ module _ (s : SupplierRow) where
   leads_new_response : (response : Response) → Leads s (KeptOwn s) (KeptOwn s) (judge_new_response response)
   leads_new_response response state changes good h = leads_answers response.answer response.order state changes good (not_refused (not (knows_order state response.order)) codes.NoOrder _ changes h).1
 
-  pub leads_response : (retailer : List ℕ) (delivery : Delivery) (response : Response) → Leads s (KeptOwn s) (KeptOwn s) (judge_response retailer (Some s) delivery response)
-  leads_response retailer delivery response = leads_message s retailer sides.Supplier delivery (Some response.buyer) response.supplier (λ s. judge_new_response response) (leads_new_response response)
+  pub leads_response : (retailer : List ℕ) (incoming : IncomingMessage) (response : Response) → Leads s (KeptOwn s) (KeptOwn s) (judge_response retailer (Some s) incoming response)
+  leads_response retailer incoming response = leads_message s retailer sides.Supplier incoming (Some response.buyer) response.supplier (λ s. judge_new_response response) (leads_new_response response)

@@ -15,7 +15,7 @@ use edi_tokens::read_all;
 use gs1_ids::{Gln, Gtin, Prefix};
 use hub_judges::{Known, LineFacts};
 use hub_parties::{Key, SupplierRow};
-use hub_rules::{Delivery, Verdict};
+use hub_rules::{IncomingMessage, Verdict};
 use hub_tables::{Answered, Change, Column, LineRow};
 use std::alloc::Global;
 use std::cmp::Ordering;
@@ -58,8 +58,8 @@ fn alpha(alloc: Global) -> Result<SupplierRow, Fail> {
 }
 
 // Message 7 of interchange 1001.
-fn delivery(alloc: Global) -> Result<Delivery, Fail> {
-    Ok(Delivery {
+fn delivery(alloc: Global) -> Result<IncomingMessage, Fail> {
+    Ok(IncomingMessage {
         control: copied(alloc, b"1001")?,
         message: copied(alloc, b"7")?,
         content: copied(alloc, SAID.as_bytes())?,

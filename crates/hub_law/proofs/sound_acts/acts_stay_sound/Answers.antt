@@ -15,11 +15,11 @@ stay : (suppliers : List SupplierRow) (t : Tables) → PrefixFree (company_prefi
 stay suppliers t free sound = record { sound = sound; rising = all_rise suppliers t free sound.rooted sound.kept }
 
 pub returns-clause-suppliers : goal.returns-clause-suppliers
-returns-clause-suppliers c register s sent t here =
-    stay register.suppliers _ here.free (suppliers_act register.suppliers here.free (parties_of register) s here.known sent t here.sound).apart.sound
+returns-clause-suppliers c register s message incoming t here =
+    stay register.suppliers _ here.free (suppliers_act register.suppliers here.free (parties_of register) s here.known (message, incoming) t here.sound).apart.sound
 
 pub returns-clause-retailers : goal.returns-clause-retailers
-returns-clause-retailers c register sent t here = stay register.suppliers _ here.free (message_sound register here.free sent t here.sound)
+returns-clause-retailers c register message incoming t here = stay register.suppliers _ here.free (message_sound register here.free (message, incoming) t here.sound)
 
 pub returns-clause-cancellation : goal.returns-clause-cancellation
 returns-clause-cancellation c register cancellation t here = stay register.suppliers _ here.free (cancelled_sound register here.free Whole cancellation t here.sound)
