@@ -1,5 +1,5 @@
 use edi_envelope::{RawMessage, open};
-use edi_messages::{MessageFault, supplier_of};
+use edi_messages::{MessageFault, named_supplier};
 use edi_tokens::read_all;
 use std::alloc::{AllocError, Global};
 use std::test::Fail;
@@ -53,7 +53,7 @@ fn the_header_names_the_supplier(rt: HostRuntime) -> Result<(), Fail> {
     for (kind, behind, names) in MESSAGES {
         let segments = format!(in alloc; "UNH+1+{kind}:D:01B:UN:EAN010'{behind}")?;
         let message = message(alloc, segments.as_str())?;
-        match supplier_of(&message) {
+        match named_supplier(&message) {
             Some(gln) => assert_eq!(rt; (names, *gln.digits()), (true, *SUPPLIER), "{behind}"),
             None => assert!(rt; !names, "{behind}"),
         }

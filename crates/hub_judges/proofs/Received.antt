@@ -19,7 +19,7 @@ use Rattle.hub_tables.specs.declared.rows.PalletRow.{PalletRow}
 use Rattle.hub_tables.proofs.Lists.{decide, same_is, all_always, all_found}
 use Rattle.hub_rules.specs.Judging.{refuse_if, given, joined, goes_on, in_order}
 use Rattle.hub_rules.specs.MailboxRules.{mail_limit, mail_entry}
-use Rattle.hub_rules.specs.ReceiptRules.{items, new_receipt, judge_received, judge_new_receipt}
+use Rattle.hub_rules.specs.ReceiptRules.{gtins, new_receipt, judge_received, judge_new_receipt}
 use Rattle.hub_rules.specs.declared.code.Code.TheVariants.{NoPallet, PalletReceived, MailboxFull}
 use Rattle.hub_rules.specs.declared.incoming.IncomingMessage.{IncomingMessage}
 use Rattle.hub_rules.specs.declared.verdict.Verdict.{Verdict}
@@ -50,7 +50,7 @@ module _ (unit : ReceiptUnit) (state : Tables) (row : PalletRow) (found : pallet
   pallet_kept sscc apart =
       let set : PalletRow = record row { received = arrival_number Received } in
       let which : row.sscc ≡ unit.sscc = same_is row.sscc unit.sscc (all_found (λ _. Unit {0}) (λ pallet. same pallet.sscc unit.sscc) state.pallets row (all_always (λ _. Unit {0}) (λ _. tt) state.pallets) found).1 in
-      ap (find (λ pallet. same pallet.sscc sscc)) (receipts_keep unit.sscc unit.lines (items unit.lines) (apply (SetPallet set) state))
+      ap (find (λ pallet. same pallet.sscc sscc)) (receipts_keep unit.sscc unit.lines (gtins unit.lines) (apply (SetPallet set) state))
       ∙ find_replace_out (λ pallet. same pallet.sscc sscc) (same_pallet set) set state.pallets (ap (λ v. same v sscc) which ∙ apart) (λ y at. ap (λ v. same v sscc) (same_is y.sscc row.sscc at ∙ which) ∙ apart)
 
   pallets_kept : (units : List ReceiptUnit) → is_among unit.sscc (map (λ unit. unit.sscc) units) ≡ false → pallets_of (apply_all (received row unit) state) units ≡ pallets_of state units

@@ -170,7 +170,7 @@ pub fn judge_despatch(
     incoming: IncomingMessage,
     despatch: &Despatch,
 ) -> Result<Verdict, MemoryFault>
-    requires told { length known.used ≡ length despatch.now.units }
+    requires each_unit { length known.used ≡ length despatch.now.units }
     requires rise { Rise known.lines }
     requires apart { has_twice (map (λ unit. unit.sscc) despatch.now.units) ≡ false }
     ensures { IfOk result (λ verdict. (used : List ℕ → Bool) (state : Tables) → TellsForDespatch known used incoming despatch.now state → verdict ≡ rules.judge_despatch retailer.now (option_copied supplier.entry) used incoming despatch.now state) }

@@ -5,7 +5,7 @@ ghost use Rattle.edi_base.specs.Seen.{has_twice};
 ghost use Rattle.edi_goods.specs.Receipt.{has_sums};
 ghost use Rattle.hub_tables.specs.Tables.{Tables};
 ghost use Rattle.hub_rules.specs.Judging.{joined};
-ghost use Rattle.hub_rules.specs.ReceiptRules.{items, new_receipt};
+ghost use Rattle.hub_rules.specs.ReceiptRules.{gtins, new_receipt};
 ghost use Rattle.hub_rules.specs.Rules as rules;
 ghost use Rattle.hub_judges.specs.FromFacts.{received, receipts_from};
 ghost use Rattle.hub_judges.specs.Known.{TellsForReceipt};
@@ -30,7 +30,7 @@ fn add_receipts(
     changes: &mut Items<Change>,
 ) -> Result<(), MemoryFault>
     requires { has_sums unit.now.lines ≡ true }
-    ensures { IfOk result (λ _. changes.new ≡ changes.old ++ map (new_receipt unit.now.sscc unit.now.lines) (items unit.now.lines)) }
+    ensures { IfOk result (λ _. changes.new ≡ changes.old ++ map (new_receipt unit.now.sscc unit.now.lines) (gtins unit.now.lines)) }
 {
     let lines = unit.lines.as_slice();
     let mut totals = totals_of(alloc, lines)?;
@@ -74,7 +74,7 @@ fn judge_units(
     pallets: &[Option<PalletRow>],
     mut changes: Items<Change>,
 ) -> Result<Verdict, MemoryFault>
-    requires told { length pallets.now ≡ length units.now }
+    requires each_unit { length pallets.now ≡ length units.now }
     requires sums { list_all (λ unit. has_sums unit.lines) units.now ≡ true }
     ensures { IfOk result (λ verdict. verdict ≡ joined changes (receipts_from units.now pallets.now)) }
 {
@@ -102,7 +102,7 @@ pub fn judge_receipt(
     body: Items<u8>,
     receipt: &Receipt,
 ) -> Result<Verdict, MemoryFault>
-    requires told { length known.now.pallets ≡ length receipt.now.units }
+    requires each_unit { length known.now.pallets ≡ length receipt.now.units }
     requires apart { has_twice (map (λ unit. unit.sscc) receipt.now.units) ≡ false }
     requires sums { list_all (λ unit. has_sums unit.lines) receipt.now.units ≡ true }
     ensures { IfOk result (λ verdict. (state : Tables) → TellsForReceipt known.now incoming receipt.now state → verdict ≡ rules.judge_receipt retailer.now (option_copied supplier.entry) incoming body receipt.now state) }

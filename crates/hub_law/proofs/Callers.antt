@@ -6,7 +6,7 @@ use Rattle.hub_parties.specs.declared.row.SupplierRow.{SupplierRow}
 use Rattle.hub_tables.specs.Rows.{same}
 use Rattle.hub_tables.specs.Tables.{Tables, view}
 use Rattle.hub_tables.proofs.Lists.{decide, same_is}
-use Rattle.hub_law.specs.Alone.{Item, Own, supplier_step, own_items, retailer_items, items, items_as}
+use Rattle.hub_law.specs.Alone.{Item, Own, supplier_step, own_items, retailer_items, items_of_input, items_as}
 use Rattle.hub_law.specs.Machine.{shared_step, step_as}
 use Rattle.hub_law.specs.Mark.{Mark, replied}
 use Rattle.hub_law.specs.Replies.{denied}
@@ -49,5 +49,5 @@ module _ (register : Rows) (input : Input) (mark : Mark) where
         ]
       ]
 
-  pub items_are : (gln : List ℕ) (s : SupplierRow) → supplier_of register.suppliers gln ≡ Some s → items gln register input mark ≡ items_by gln register (row_of register input.caller) input mark
+  pub items_are : (gln : List ℕ) (s : SupplierRow) → supplier_of register.suppliers gln ≡ Some s → items_of_input gln register input mark ≡ items_by gln register (row_of register input.caller) input mark
   items_are gln s known = items_by_row gln s known (row_of register input.caller) refl

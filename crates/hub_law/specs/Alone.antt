@@ -67,9 +67,9 @@ items_as gln register (Some Retailer) input mark = retailer_items gln register i
 items_as gln register (Some Supplier) input mark = own_items gln input mark
 items_as gln register None input mark = own_items gln input mark
 
-abbrev pub items : List ℕ → Rows → Input → Mark → List Item
-items gln register input mark = items_as gln register (role_of register input.caller input.key) input mark
+abbrev pub items_of_input : List ℕ → Rows → Input → Mark → List Item
+items_of_input gln register input mark = items_as gln register (role_of register input.caller input.key) input mark
 
-abbrev pub items_of : List ℕ → Rows → Inputs → List Item
-items_of gln register [] = []
-items_of gln register ((input, mark) ∷ inputs) = items gln register input mark ++ items_of gln register inputs
+abbrev pub items : List ℕ → Rows → Inputs → List Item
+items gln register [] = []
+items gln register ((input, mark) ∷ inputs) = items_of_input gln register input mark ++ items gln register inputs

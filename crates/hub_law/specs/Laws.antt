@@ -7,7 +7,7 @@ use Rattle.hub_tables.specs.Sets.{Rising, SameRows}
 use Rattle.hub_tables.specs.Tables.{Tables, view}
 use Rattle.hub_rules.specs.Laws.{Registered}
 use Rattle.hub_rules.specs.Sound.{Sound}
-use Rattle.hub_law.specs.Alone.{Item, items, items_of, fold}
+use Rattle.hub_law.specs.Alone.{Item, items_of_input, items, fold}
 use Rattle.hub_law.specs.Machine.{Inputs, shared_step, shared_run, replies_to}
 use Rattle.hub_law.specs.Mark.{Mark, Whole}
 use Rattle.hub_law.specs.declared.reply.Reply.{Reply}
@@ -22,15 +22,15 @@ alone register s items t = fold (parties_of register) s items (view s.gln t)
 -- is told alone
 pub record StepIsOwn (register : Rows) (s : SupplierRow) (t : Tables) (input : Input) (mark : Mark) : Type 0 where
   pub seen :
-      view s.gln (shared_step register t input mark).1 ≡ (alone register s (items s.gln register input mark) t).1
+      view s.gln (shared_step register t input mark).1 ≡ (alone register s (items_of_input s.gln register input mark) t).1
   pub told : input.caller ≡ s.gln →
-      (alone register s (items s.gln register input mark) t).0 ≡ (shared_step register t input mark).0 ∷ []
+      (alone register s (items_of_input s.gln register input mark) t).0 ≡ (shared_step register t input mark).0 ∷ []
 
 -- the same of a whole run
 pub record RunIsOwn (register : Rows) (s : SupplierRow) (t : Tables) (inputs : Inputs) : Type 0 where
-  pub seen : view s.gln (shared_run register t inputs).1 ≡ (alone register s (items_of s.gln register inputs) t).1
+  pub seen : view s.gln (shared_run register t inputs).1 ≡ (alone register s (items s.gln register inputs) t).1
   pub told :
-      replies_to s.gln inputs (shared_run register t inputs).0 ≡ (alone register s (items_of s.gln register inputs) t).0
+      replies_to s.gln inputs (shared_run register t inputs).0 ≡ (alone register s (items s.gln register inputs) t).0
 
 -- the retailer asks, with its key, for the status of the supplier
 pub record AsksStatus (register : Rows) (s : SupplierRow) (input : Input) : Type 0 where
@@ -49,14 +49,14 @@ pub record Agree (s : SupplierRow) (first second : Rows) (t u : Tables) (xs ys :
   pub there : Registered second.suppliers s u
   pub parties : (parties_of first) ≡ (parties_of second)
   pub rows : SameRows (view s.gln t) (view s.gln u)
-  pub items : items_of s.gln first xs ≡ items_of s.gln second ys
+  pub items : items s.gln first xs ≡ items s.gln second ys
 
 -- The retailer asks for the status of the supplier behind each of two runs that agree on it, whatever comes later, and
 -- there are as many of its items before it.
 pub record AgreeBefore (s : SupplierRow) (first second : Rows) (t u : Tables) (xs xs_later ys ys_later : Inputs)
     (x y : Input) : Type 0 where
   pub agree : Agree s first second t u (xs ++ (x, Whole) ∷ xs_later) (ys ++ (y, Whole) ∷ ys_later)
-  pub as_many : length (items_of s.gln first xs) ≡ length (items_of s.gln second ys)
+  pub as_many : length (items s.gln first xs) ≡ length (items s.gln second ys)
   pub asks : AsksStatus first s x
   pub asks_too : AsksStatus second s y
 

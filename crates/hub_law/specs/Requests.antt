@@ -17,7 +17,7 @@ use Rattle.hub_rules.specs.declared.cancel.Cancel.{Cancel}
 use Rattle.hub_law.specs.MailText.{entry_at, is_taken, untaken_after, list_text}
 use Rattle.hub_law.specs.Mark.{Mark, stop_reply, stopped_behind, replied, unless_stopped, first_done}
 use Rattle.hub_law.specs.Messages.{messages_at, named, deliver_retailers, deliver_suppliers, cancel}
-use Rattle.hub_law.specs.Opening.{Opened, opened, addressed}
+use Rattle.hub_law.specs.Opening.{Opened, interchange_in, addressed}
 use Rattle.hub_law.specs.Replies.{done, denied, unknown, refused_reply, whole_reply, cut_reply, cancel_reply, entry_reply}
 use Rattle.hub_law.specs.StatusText.{status_text}
 use Rattle.hub_law.specs.Told.{Told, Act, in_row}
@@ -53,10 +53,10 @@ uploaded deliver moment mark upload t =
 
 -- a supplier sends to the hub or to the retailer, the retailer to the hub
 abbrev pub from_supplier : Parties → SupplierRow → List ℕ → Opened
-from_supplier parties s bytes = addressed s.gln (parties.hub ∷ parties.retailer ∷ []) (opened bytes)
+from_supplier parties s bytes = addressed s.gln (parties.hub ∷ parties.retailer ∷ []) (interchange_in bytes)
 
 abbrev pub from_retailer : Parties → List ℕ → Opened
-from_retailer parties bytes = addressed parties.retailer (parties.hub ∷ []) (opened bytes)
+from_retailer parties bytes = addressed parties.retailer (parties.hub ∷ []) (interchange_in bytes)
 
 -- Taken marks. An entry that is taken stays so.
 abbrev pub taking : MailRow → List Change

@@ -13,7 +13,7 @@ ghost use Rattle.hub_parties.specs.Rows.{Rows, parties_of, company_prefixes};
 ghost use Rattle.hub_parties.specs.declared.row.SupplierRow.{SupplierRow};
 ghost use Rattle.hub_tables.specs.Tables.{Tables, view, empty};
 ghost use Rattle.hub_rules.specs.Sound.{Balanced, Sound};
-ghost use Rattle.hub_law.specs.Alone.{items_of, fold};
+ghost use Rattle.hub_law.specs.Alone.{items, fold};
 ghost use Rattle.hub_rules.specs.Laws.{SoundHub, Registered};
 ghost use Rattle.hub_law.specs.Laws.{StepIsOwn, RunIsOwn, AsksStatus, Agree, AgreeBefore, alone, reply_between};
 ghost use Rattle.hub_law.specs.Machine.{Inputs, shared_step, shared_run, replies_to};
@@ -39,7 +39,7 @@ pub fn run_is_own()
     ensures status { (register : Rows) (s : SupplierRow) (t : Tables) (before later : Inputs) (input : Input) →
         Registered register.suppliers s t → AsksStatus register s input →
         reply_between register t before input later ≡
-        Some (done (status_text (alone register s (items_of s.gln register before) t).1)) }
+        Some (done (status_text (alone register s (items s.gln register before) t).1)) }
 {}
 
 /// Two runs that agree on a supplier are alike for it: it sees the same in the end and is told the same, and a status
@@ -82,13 +82,13 @@ pub fn each_line_balances()
 /// announces nothing, or in what the second would be told alone, it is accepted, over the same items.
 pub fn prefixes_matter()
     ensures overlap { PrefixFree (company_prefixes overlapping.suppliers) → ⊥ }
-    ensures items { items_of long_supplier.gln overlapping both_announce ≡
-        items_of long_supplier.gln overlapping one_announces }
+    ensures items { items long_supplier.gln overlapping both_announce ≡
+        items long_supplier.gln overlapping one_announces }
     ensures both { replies_to long_supplier.gln both_announce (shared_run overlapping empty both_announce).0 ≡
         advice_reply true (codes "refused" ∷ codes "B12" ∷ []) ∷ [] }
     ensures one { replies_to long_supplier.gln one_announces (shared_run overlapping empty one_announces).0 ≡
         advice_reply false (codes "accepted" ∷ []) ∷ [] }
     ensures alone { (fold (parties_of overlapping) long_supplier
-        (items_of long_supplier.gln overlapping both_announce) empty).0 ≡
+        (items long_supplier.gln overlapping both_announce) empty).0 ≡
         advice_reply false (codes "accepted" ∷ []) ∷ [] }
 {}

@@ -26,7 +26,7 @@ use Rattle.hub_rules.specs.Laws.{KeptOwn}
 use Rattle.hub_rules.specs.Judging.{in_order}
 use Rattle.hub_rules.specs.Sound.{Single, was_received}
 use Rattle.hub_rules.specs.MailboxRules.{mail_limit, new_mail}
-use Rattle.hub_rules.specs.ReceiptRules.{items, total, new_receipt, judge_received, judge_new_receipt}
+use Rattle.hub_rules.specs.ReceiptRules.{gtins, total, new_receipt, judge_received, judge_new_receipt}
 use Rattle.hub_rules.specs.Rules.{judge_receipt}
 use Rattle.hub_rules.specs.declared.code.Code.TheVariants as codes
 use Rattle.hub_rules.specs.declared.incoming.IncomingMessage.{IncomingMessage}
@@ -59,9 +59,9 @@ gone gtin (other ∷ others) =
     elim (decide (same other gtin)) [ inl e ↦ grind (arith, e, ih) | inr e ↦ grind (arith, e, turn, ih) ]
 
 -- each item comes once
-items_single : (lines : List ReceiptLine) → Single same (items lines)
-items_single [] = tt
-items_single (line ∷ lines) = (gone line.gtin (items lines), single_filter same (λ gtin. not (same gtin line.gtin)) (items lines) (items_single lines))
+gtins_single : (lines : List ReceiptLine) → Single same (gtins lines)
+gtins_single [] = tt
+gtins_single (line ∷ lines) = (gone line.gtin (gtins lines), single_filter same (λ gtin. not (same gtin line.gtin)) (gtins lines) (gtins_single lines))
 
 abbrev receipt_of : List ℕ → List ReceiptLine → List ℕ → ReceiptRow
 receipt_of sscc lines gtin = record {
@@ -110,11 +110,11 @@ module _ (s : SupplierRow) where
       let not_yet = found_unreceived unit.sscc state.pallets p.0 good.kept.pallets p.1 a.0 in
       let none : filter (λ y. same y.sscc unit.sscc) state.receipts ≡ [] =
       filter_none (λ y. same y.sscc unit.sscc) state.receipts (all_weaker (λ r. was_received state r.sscc ≡ true) (λ r. same r.sscc unit.sscc ≡ false) (λ r was. differ r.sscc unit.sscc (λ e. let both = ap (was_received state) e in (cc))) state.receipts good.kept.receipt_pallets) in
-      let lacking : AllByRecursion (Lacks unit.sscc after) (items unit.lines) = all_always (Lacks unit.sscc after) (λ gtin. ap (list_any (λ (y : ReceiptRow). same y.gtin gtin)) none) (items unit.lines) in
+      let lacking : AllByRecursion (Lacks unit.sscc after) (gtins unit.lines) = all_always (Lacks unit.sscc after) (λ gtin. ap (list_any (λ (y : ReceiptRow). same y.gtin gtin)) none) (gtins unit.lines) in
       let belongs : (row.supplier ≡ s.gln) × (has_pallet state row.sscc ≡ true) = (found.0, here) in
-      leaves_given s (KeptOwn s) state (SetPallet row ∷ map (new_receipt unit.sscc unit.lines) (items unit.lines)) changes a.1
-      (leaves_next s (KeptOwn s) state (SetPallet row) (map (new_receipt unit.sscc unit.lines) (items unit.lines)) belongs
-      (leaves_receipts unit.sscc unit.lines (items unit.lines) after (good_after s state (SetPallet row) belongs good.own (kept_received state good.kept row refl)) (pallet_stays unit.sscc state (SetPallet row) there) received (items_single unit.lines) lacking))
+      leaves_given s (KeptOwn s) state (SetPallet row ∷ map (new_receipt unit.sscc unit.lines) (gtins unit.lines)) changes a.1
+      (leaves_next s (KeptOwn s) state (SetPallet row) (map (new_receipt unit.sscc unit.lines) (gtins unit.lines)) belongs
+      (leaves_receipts unit.sscc unit.lines (gtins unit.lines) after (good_after s state (SetPallet row) belongs good.own (kept_received state good.kept row refl)) (pallet_stays unit.sscc state (SetPallet row) there) received (gtins_single unit.lines) lacking))
 
   leads_new_receipt : (incoming : IncomingMessage) (body : List ℕ) (receipt : Receipt) → Leads s (KeptOwn s) (KeptOwn s) (judge_new_receipt s.gln incoming body receipt)
   leads_new_receipt incoming body receipt state changes good h =

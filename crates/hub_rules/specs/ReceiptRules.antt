@@ -17,9 +17,9 @@ use Rattle.hub_rules.specs.declared.incoming.IncomingMessage.{IncomingMessage}
 use Rattle.hub_rules.specs.declared.verdict.Verdict.TheVariants.{Accept}
 
 -- the items of lines, each once, in the order in which they first come
-abbrev pub items : List ReceiptLine → List (List ℕ)
-items [] = []
-items (line ∷ lines) = line.gtin ∷ filter (λ gtin. not (same gtin line.gtin)) (items lines)
+abbrev pub gtins : List ReceiptLine → List (List ℕ)
+gtins [] = []
+gtins (line ∷ lines) = line.gtin ∷ filter (λ gtin. not (same gtin line.gtin)) (gtins lines)
 
 -- the sum of one kind of quantity over the lines of an item
 abbrev pub total : (ReceiptLine → ℕ) → List ℕ → List ReceiptLine → ℕ
@@ -40,7 +40,7 @@ abbrev pub judge_received : ReceiptUnit → Judge
 judge_received unit state =
     given (pallet_of state unit.sscc) NoPallet (λ pallet.
     refuse_if (not (pallet.received == arrival_number Announced)) PalletReceived (
-    Accept (SetPallet (record pallet { received = arrival_number Received }) ∷ map (new_receipt unit.sscc unit.lines) (items unit.lines))))
+    Accept (SetPallet (record pallet { received = arrival_number Received }) ∷ map (new_receipt unit.sscc unit.lines) (gtins unit.lines))))
 
 -- B16; then the mailbox entry, and the units
 abbrev pub judge_new_receipt : List ℕ → IncomingMessage → List ℕ → Receipt → Judge
