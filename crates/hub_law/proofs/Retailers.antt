@@ -13,7 +13,7 @@ use Rattle.hub_rules.specs.Sound.{Sound}
 use Rattle.hub_law.specs.Alone.{Item, Message, Cancellation, fold, retailer_items}
 use Rattle.hub_law.specs.Mark.{Mark, Whole, StoppedEmpty, StoppedBare, StoppedAfter, all_unless_stopped}
 use Rattle.hub_law.specs.Messages.{named, deliver_retailers, cancel}
-use Rattle.hub_law.specs.Requests.{looked_at, from_retailer, deliver_named, cancelled, retailer_request}
+use Rattle.hub_law.specs.Requests.{looked_at, from_retailer, deliver_named, cancel_named, cancelled, retailer_request}
 use Rattle.hub_law.specs.Told.{Act, in_row}
 use Rattle.hub_law.specs.declared.request.Request.{Request}
 use Rattle.hub_law.specs.declared.request.Request.TheVariants as requests
@@ -80,9 +80,6 @@ module _ (register : Rows) (free : PrefixFree (company_prefixes register.supplie
     nobodys = λ look. nobodys_cancellation look c t;
   }
 
-  abbrev cancel_named : Cancel → Act
-  cancel_named c = cancel (view c.supplier) (supplier_of register.suppliers c.supplier) c
-
   -- Tables stay sound.
   pub message_sound : (sent : RawMessage × IncomingMessage) (t : Tables) → Sound register.suppliers t → Sound register.suppliers (deliver_named register sent t).1
   message_sound sent t sound = named_sound register.suppliers t sound _ (message_apart sent t sound) (named sent.0)
@@ -91,7 +88,7 @@ module _ (register : Rows) (free : PrefixFree (company_prefixes register.supplie
   messages_sound [] t sound = sound
   messages_sound (sent ∷ sents) t sound = messages_sound sents (deliver_named register sent t).1 (message_sound sent t sound)
 
-  pub cancelled_sound : (mark : Mark) (c : Cancel) (t : Tables) → Sound register.suppliers t → Sound register.suppliers (cancelled mark (cancel_named c t) t).1
+  pub cancelled_sound : (mark : Mark) (c : Cancel) (t : Tables) → Sound register.suppliers t → Sound register.suppliers (cancelled mark (cancel_named register c t) t).1
   cancelled_sound Whole c t sound = named_sound register.suppliers t sound _ (cancel_apart c t sound) c.supplier
   cancelled_sound StoppedEmpty c t sound = sound
   cancelled_sound StoppedBare c t sound = sound
@@ -130,9 +127,9 @@ module _ (register : Rows) (free : PrefixFree (company_prefixes register.supplie
     stopped_moves c t = elim (same c.supplier s.gln) as (λ v. Moves (parties_of register) s (view s.gln t) t (if v then [] else [])) [ true ↦ still t | false ↦ still t ]
 
     cancelled_moves : (moment : ℕ) (mark : Mark) (c : Cancel) (t : Tables) → Sound register.suppliers t →
-        Moves (parties_of register) s (view s.gln t) (cancelled mark (cancel_named c t) t).1 (if same c.supplier s.gln then all_unless_stopped mark (Cancellation moment c ∷ []) else [])
+        Moves (parties_of register) s (view s.gln t) (cancelled mark (cancel_named register c t) t).1 (if same c.supplier s.gln then all_unless_stopped mark (Cancellation moment c ∷ []) else [])
     cancelled_moves moment Whole c t sound =
-        elim (same c.supplier s.gln) as (λ v. same c.supplier s.gln ≡ v → Moves (parties_of register) s (view s.gln t) (cancel_named c t).1 (if v then Cancellation moment c ∷ [] else [])) [
+        elim (same c.supplier s.gln) as (λ v. same c.supplier s.gln ≡ v → Moves (parties_of register) s (view s.gln t) (cancel_named register c t).1 (if v then Cancellation moment c ∷ [] else [])) [
           | true ↦ λ e. record { seen = named_sees register.suppliers t sound _ (cancel_apart c t sound) c.supplier s known e; silent = refl }
           | false ↦ λ e. record { seen = another_sees register.suppliers t sound _ (cancel_apart c t sound) c.supplier s known e; silent = refl }
         ] refl
