@@ -10,7 +10,7 @@ use Rattle.edi_messages.specs.Parts.{line_groups}
 use Rattle.edi_messages.specs.declared.fault.MessageFault.TheVariants.{Quantity, Unit}
 use Rattle.edi_messages.proofs.Judged.{judged_is, judged_at}
 use Rattle.edi_goods.specs.Despatch.{holds as despatch_holds, header_order, unit_from as despatch_unit, contents_of as despatch_contents, despatch_of}
-use Rattle.edi_goods.specs.Receipt.{is_received, lines_of, has_sums, has_quantities, holds as receipt_holds, unit_from as receipt_unit, contents_of as receipt_contents, receipt_of}
+use Rattle.edi_goods.specs.Receipt.{is_received, lines_in_unit, has_sums, has_quantities, holds as receipt_holds, unit_from as receipt_unit, contents_of as receipt_contents, receipt_of}
 use Rattle.edi_goods.specs.Units.{read_units, has_line_outside, is_unit, has_units, sscc_or_none}
 use Rattle.edi_goods.specs.declared.despatch.Despatch.{Despatch}
 use Rattle.edi_goods.specs.declared.despatch.Unit.{Unit as DespatchUnit}
@@ -35,7 +35,7 @@ pub receipt_units_sums : (units : List (List Segment)) → list_all has_quantiti
 receipt_units_sums [] h = refl
 receipt_units_sums (unit ∷ units) h =
     let parts = and_parts (has_quantities unit) (list_all has_quantities units) h in
-    and_from _ _ (and_parts (list_all is_received (line_groups unit)) (has_sums (lines_of unit)) parts.0).1 (receipt_units_sums units parts.1)
+    and_from _ _ (and_parts (list_all is_received (line_groups unit)) (has_sums (lines_in_unit unit)) parts.0).1 (receipt_units_sums units parts.1)
 
 -- no SSCC of a receiving advice stands twice
 pub receipt_apart : (m : RawMessage) (receipt : Receipt) → receipt_of m ≡ Ok receipt → has_twice (map (λ unit. unit.sscc) receipt.units) ≡ false

@@ -77,11 +77,11 @@ line_of order group = record {
   quantity = unwrap_or (despatched group) 0;
 }
 
-abbrev pub lines_of : List ℕ → List Segment → List DespatchLine
-lines_of order unit = map (line_of order) (line_groups unit)
+abbrev pub lines_in_unit : List ℕ → List Segment → List DespatchLine
+lines_in_unit order unit = map (line_of order) (line_groups unit)
 
 abbrev pub unit_from : List ℕ → List Segment → DespatchUnit
-unit_from order unit = record { sscc = sscc_or_none unit; lines = lines_of order unit }
+unit_from order unit = record { sscc = sscc_or_none unit; lines = lines_in_unit order unit }
 
 -- what the message says
 abbrev pub contents_of : List Segment → Despatch

@@ -50,8 +50,8 @@ line_of group = record {
   destroyed = unwrap_or (destroyed group) 0;
 }
 
-abbrev pub lines_of : List Segment → List ReceiptLine
-lines_of unit = map line_of (line_groups unit)
+abbrev pub lines_in_unit : List Segment → List ReceiptLine
+lines_in_unit unit = map line_of (line_groups unit)
 
 -- what a line says of one kind
 abbrev pub of_kind : Kind → ReceiptLine → ℕ
@@ -68,7 +68,7 @@ has_sums lines = sums_within (amounts Accepted lines) && sums_within (amounts Re
 
 -- the quantities of each line of a unit, and their sums by item
 abbrev pub has_quantities : List Segment → Bool
-has_quantities unit = list_all is_received (line_groups unit) && has_sums (lines_of unit)
+has_quantities unit = list_all is_received (line_groups unit) && has_sums (lines_in_unit unit)
 
 -- Each condition, of the whole message. Each is defined also where another one holds.
 abbrev pub holds : MessageFault → RawMessage → Bool
@@ -87,7 +87,7 @@ holds NoLine m = line_count m.segments == 0
 holds Memory m = false
 
 abbrev pub unit_from : List Segment → ReceiptUnit
-unit_from unit = record { sscc = sscc_or_none unit; lines = lines_of unit }
+unit_from unit = record { sscc = sscc_or_none unit; lines = lines_in_unit unit }
 
 -- what the message says
 abbrev pub contents_of : List Segment → Receipt

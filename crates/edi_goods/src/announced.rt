@@ -228,12 +228,12 @@ fn line_of(
 }
 
 /// The lines of a unit of the record.
-pub(crate) fn lines_of(
+pub(crate) fn lines_in_unit(
     alloc: Global,
     header_order: &[u8],
     unit: &ReferredUnit<'_, '_>,
 ) -> Result<Items<DespatchLine>, MessageFault>
-    ensures ok { IfOk result (λ lines. lines ≡ spec.lines_of header_order.now unit.now) }
+    ensures ok { IfOk result (λ lines. lines ≡ spec.lines_in_unit header_order.now unit.now) }
     ensures err { IfErr result (λ fault. fault ≡ MessageFault.Memory) }
 {
     let mut lines = Items::new(alloc);

@@ -4,7 +4,7 @@ ghost use Rattle.edi_base.specs.Seen.{has_twice};
 ghost use Rattle.edi_goods.specs.Despatch as spec;
 ghost use Rattle.edi_goods.specs.Units.{sscc_or_none};
 
-use crate::announced::{ReferredUnit, despatch_units, lines_of, referred_units};
+use crate::announced::{ReferredUnit, despatch_units, lines_in_unit, referred_units};
 use crate::parties::read_parties;
 use crate::units::{item_units, ssccs};
 use edi_base::copied;
@@ -84,7 +84,7 @@ fn units_of(
     let mut read = Items::new(alloc);
     for (place, unit) in units.iter().enumerate() {
         let sscc = ssccs[place];
-        let lines = lines_of(alloc, header_order, unit)?;
+        let lines = lines_in_unit(alloc, header_order, unit)?;
         read.push(Unit { sscc, lines })?;
     }
     Ok(read)

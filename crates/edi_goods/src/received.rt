@@ -25,19 +25,19 @@ pub(crate) struct ReceivedUnit<'a, 'b> {
 impl<'a, 'b> Model for ReceivedUnit<'a, 'b> {
     ghost use Rattle.std.specs.Prelude.{◌≡◌, List};
     ghost use Rattle.edi_tokens.specs.declared.segment.Segment.{Segment};
-    ghost use Rattle.edi_goods.specs.Receipt.{lines_of};
+    ghost use Rattle.edi_goods.specs.Receipt.{lines_in_unit};
 
     ghost Value = { List Segment };
 
     ghost view = { λ lined. lined.unit.now };
 
-    ghost invariant = { λ lined. lined.lines.items ≡ lines_of lined.unit.now };
+    ghost invariant = { λ lined. lined.lines.items ≡ lines_in_unit lined.unit.now };
 }
 
 impl<'a, 'b> ReceivedUnit<'a, 'b> {
     /// What was received in it.
     pub(crate) fn lines(&self) -> &[ReceiptLine]
-        ensures { result.now ≡ spec.lines_of self.now }
+        ensures { result.now ≡ spec.lines_in_unit self.now }
     {
         self.lines.as_slice()
     }

@@ -12,7 +12,7 @@ use Rattle.edi_messages.specs.Parts.{line_groups}
 use Rattle.edi_messages.specs.declared.fault.MessageFault.{MessageFault}
 use Rattle.edi_messages.specs.declared.fault.MessageFault.TheVariants as faults
 use Rattle.edi_goods.specs.Parties.{buyer}
-use Rattle.edi_goods.specs.Receipt.{accepted, returned, destroyed, is_once_or_none, is_received, line_of, lines_of, has_sums, has_quantities, holds, unit_from, contents_of, receipt_of}
+use Rattle.edi_goods.specs.Receipt.{accepted, returned, destroyed, is_once_or_none, is_received, line_of, lines_in_unit, has_sums, has_quantities, holds, unit_from, contents_of, receipt_of}
 use Rattle.edi_goods.specs.Units.{read_units}
 use Rattle.edi_goods.specs.declared.receipt.Receipt.{Receipt}
 use Rattle.edi_goods.specs.declared.receipt.ReceiptLine.{ReceiptLine}
@@ -156,7 +156,7 @@ refutes m faults.NoLine lower = Refutes-no_line m.segments
 refutes m faults.Memory lower = Refutes-false
 
 -- what a unit says
-received_lines : (unit : List Segment) → OfLines AreReceived unit → OfLines (λ groups. AllZip IsReceiptLine groups (lines_of unit)) unit
+received_lines : (unit : List Segment) → OfLines AreReceived unit → OfLines (λ groups. AllZip IsReceiptLine groups (lines_in_unit unit)) unit
 received_lines unit h =
     let given = of_lines AreReceived unit h in
     record {
@@ -182,7 +182,7 @@ receipt_unit digits lines = record { sscc = digits; lines = lines }
 unit_is : (unit : List Segment) (one : ReceiptUnit) → IsReceiptUnit unit one → unit_from unit ≡ one
 unit_is unit one h =
     let given = h.lines_are in
-    ap (λ digits. receipt_unit digits (lines_of unit)) (sscc-from_HasSscc unit one.sscc h.sscc_is)
+    ap (λ digits. receipt_unit digits (lines_in_unit unit)) (sscc-from_HasSscc unit one.sscc h.sscc_is)
     ∙ ap (λ lines. receipt_unit one.sscc lines) (ap (map line_of) (line_groups-from_AreLineGroups given.groups unit given.are_groups) ∙ zip_is line_of IsReceiptLine line_is given.groups one.lines given.are)
 
 -- what the advice says

@@ -13,16 +13,16 @@ use Rattle.edi_show.specs.declared.content.Content.TheVariants.{Order, Response,
 use Rattle.edi_show.specs.declared.content.ShownMessage.{ShownMessage}
 
 -- the record that is read of a message, or its fault
-abbrev pub told : {X : Type 0} → (X → Content) → Result X MessageFault → Content
-told of (Ok record_of) = of record_of
-told of (Err fault) = Refused fault
+abbrev pub content_from : {X : Type 0} → (X → Content) → Result X MessageFault → Content
+content_from of (Ok record_of) = of record_of
+content_from of (Err fault) = Refused fault
 
 abbrev pub content_by : List ℕ → RawMessage → Content
 content_by kind m =
-    if bytes_eq kind (codes "ORDERS") then told Order (order_of m)
-    else if bytes_eq kind (codes "ORDRSP") then told Response (response_of m)
-    else if bytes_eq kind (codes "DESADV") then told Despatch (despatch_of m)
-    else if bytes_eq kind (codes "RECADV") then told Receipt (receipt_of m)
+    if bytes_eq kind (codes "ORDERS") then content_from Order (order_of m)
+    else if bytes_eq kind (codes "ORDRSP") then content_from Response (response_of m)
+    else if bytes_eq kind (codes "DESADV") then content_from Despatch (despatch_of m)
+    else if bytes_eq kind (codes "RECADV") then content_from Receipt (receipt_of m)
     else Refused MessageType
 
 abbrev pub content_of : RawMessage → Content

@@ -41,7 +41,7 @@ pub struct ShownMessage {
 
 // What an order says.
 fn order_content(alloc: Global, message: &RawMessage) -> Result<Content, MemoryFault>
-    ensures { IfOk result (λ content. content ≡ spec.told contents.Order (order_of message.now)) }
+    ensures { IfOk result (λ content. content ≡ spec.content_from contents.Order (order_of message.now)) }
 {
     match Order::read(alloc, message) {
         Ok(order) => Ok(Content::Order(order)),
@@ -52,7 +52,7 @@ fn order_content(alloc: Global, message: &RawMessage) -> Result<Content, MemoryF
 
 // What a response says.
 fn response_content(alloc: Global, message: &RawMessage) -> Result<Content, MemoryFault>
-    ensures { IfOk result (λ content. content ≡ spec.told contents.Response (response_of message.now)) }
+    ensures { IfOk result (λ content. content ≡ spec.content_from contents.Response (response_of message.now)) }
 {
     match Response::read(alloc, message) {
         Ok(response) => Ok(Content::Response(response)),
@@ -63,7 +63,7 @@ fn response_content(alloc: Global, message: &RawMessage) -> Result<Content, Memo
 
 // What a despatch advice says.
 fn despatch_content(alloc: Global, message: &RawMessage) -> Result<Content, MemoryFault>
-    ensures { IfOk result (λ content. content ≡ spec.told contents.Despatch (despatch_of message.now)) }
+    ensures { IfOk result (λ content. content ≡ spec.content_from contents.Despatch (despatch_of message.now)) }
 {
     match Despatch::read(alloc, message) {
         Ok(despatch) => Ok(Content::Despatch(despatch)),
@@ -74,7 +74,7 @@ fn despatch_content(alloc: Global, message: &RawMessage) -> Result<Content, Memo
 
 // What a receiving advice says.
 fn receipt_content(alloc: Global, message: &RawMessage) -> Result<Content, MemoryFault>
-    ensures { IfOk result (λ content. content ≡ spec.told contents.Receipt (receipt_of message.now)) }
+    ensures { IfOk result (λ content. content ≡ spec.content_from contents.Receipt (receipt_of message.now)) }
 {
     match Receipt::read(alloc, message) {
         Ok(receipt) => Ok(Content::Receipt(receipt)),

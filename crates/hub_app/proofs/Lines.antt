@@ -9,7 +9,7 @@ use Rattle.hub_app.specs.declared.relay.RelayWords.{RelayWords}
 use Rattle.hub_app.specs.declared.relay.RelayFault.{RelayFault}
 use Rattle.hub_app.specs.Relay.{relayed}
 use Rattle.hub_app.specs.Run.{read_limit, Delivers, DeliversFront, IsRefused}
-use Rattle.hub_app.specs.Show.{lines_of, status_of, Shows, ShowsFront}
+use Rattle.hub_app.specs.Show.{lines_shown, status_of, Shows, ShowsFront}
 
 -- a fact where a call failed, or did not
 pub on_err : {T E P : Type 0} (r : Result T E) → P → OnErr r P
@@ -51,13 +51,13 @@ stands None new read consumed whole = tt
 stands (Some k) new read consumed whole = subst (λ (t : List ℕ). Consumes (Some k) new t) whole consumed
 
 -- what a run of `show` did, by what was read and written
-pub is_shown : (known : Option (List ℕ)) (status : ℕ) (old new : Option (List ℕ)) (read bytes lines : List ℕ) → IfSome known (λ k. read ≡ take read_limit k) → bytes ≡ read → status ≡ status_of bytes → lines ≡ lines_of bytes → Appends old new lines → Shows known status old new
+pub is_shown : (known : Option (List ℕ)) (status : ℕ) (old new : Option (List ℕ)) (read bytes lines : List ℕ) → IfSome known (λ k. read ≡ take read_limit k) → bytes ≡ read → status ≡ status_of bytes → lines ≡ lines_shown bytes → Appends old new lines → Shows known status old new
 is_shown None status old new read bytes lines whole same told said written = tt
 is_shown (Some k) status old new read bytes lines whole same told said written = (
   told ∙ ap status_of (same ∙ whole),
-  subst (λ (t : List ℕ). Appends old new t) (said ∙ ap lines_of (same ∙ whole)) written,
+  subst (λ (t : List ℕ). Appends old new t) (said ∙ ap lines_shown (same ∙ whole)) written,
 )
 
-pub is_front_shown : (known : Option (List ℕ)) (old new : Option (List ℕ)) (read bytes lines : List ℕ) → IfSome known (λ k. read ≡ take read_limit k) → bytes ≡ read → lines ≡ lines_of bytes → AppendsFront old new lines → ShowsFront known old new
+pub is_front_shown : (known : Option (List ℕ)) (old new : Option (List ℕ)) (read bytes lines : List ℕ) → IfSome known (λ k. read ≡ take read_limit k) → bytes ≡ read → lines ≡ lines_shown bytes → AppendsFront old new lines → ShowsFront known old new
 is_front_shown None old new read bytes lines whole same said written = tt
-is_front_shown (Some k) old new read bytes lines whole same said written = subst (λ (t : List ℕ). AppendsFront old new t) (said ∙ ap lines_of (same ∙ whole)) written
+is_front_shown (Some k) old new read bytes lines whole same said written = subst (λ (t : List ℕ). AppendsFront old new t) (said ∙ ap lines_shown (same ∙ whole)) written

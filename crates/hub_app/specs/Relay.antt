@@ -54,13 +54,13 @@ abbrev pub mailed : RelayWords → Result Interchange EnvelopeFault → Result (
 mailed words (Err fault) = Err (of_envelope fault)
 mailed words (Ok interchange) = Ok (mail_texts words interchange.decimal words.number interchange.messages)
 
-abbrev pub opened : RelayWords → Result Tokens TokenFault → Result (List ℕ) RelayFault
-opened words (Err fault) = Err (of_token fault)
-opened words (Ok tokens) = mailed words (interchange_of tokens)
+abbrev pub tokens_mailed : RelayWords → Result Tokens TokenFault → Result (List ℕ) RelayFault
+tokens_mailed words (Err fault) = Err (of_token fault)
+tokens_mailed words (Ok tokens) = mailed words (interchange_of tokens)
 
 -- what the bytes become, or why they are refused
 abbrev pub relayed : List ℕ → RelayWords → Result (List ℕ) RelayFault
-relayed bytes words = opened words (tokens_of bytes)
+relayed bytes words = tokens_mailed words (tokens_of bytes)
 
 -- the code of a fault
 abbrev pub code_of : RelayFault → List ℕ

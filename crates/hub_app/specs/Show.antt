@@ -7,8 +7,8 @@ use Rattle.edi_show.specs.Text.{shown_lines}
 use Rattle.hub_app.specs.Run.{read_limit}
 
 -- the lines of a text
-abbrev pub lines_of : List ℕ → List ℕ
-lines_of text = shown_lines (shown_of text)
+abbrev pub lines_shown : List ℕ → List ℕ
+lines_shown text = shown_lines (shown_of text)
 
 -- the exit status of a text: 1 where anything is refused
 abbrev pub status_of : List ℕ → ℕ
@@ -16,8 +16,8 @@ status_of text = if is_refused (shown_of text) then 1 else 0
 
 -- the lines of what was read were written, and the exit status is theirs
 abbrev pub Shows : Option (List ℕ) → ℕ → Option (List ℕ) → Option (List ℕ) → Type 0
-Shows known status old new = IfSome known (λ bytes. (status ≡ status_of (take read_limit bytes)) × Appends old new (lines_of (take read_limit bytes)))
+Shows known status old new = IfSome known (λ bytes. (status ≡ status_of (take read_limit bytes)) × Appends old new (lines_shown (take read_limit bytes)))
 
 -- a front of the lines of what was read was written
 abbrev pub ShowsFront : Option (List ℕ) → Option (List ℕ) → Option (List ℕ) → Type 0
-ShowsFront known old new = IfSome known (λ bytes. AppendsFront old new (lines_of (take read_limit bytes)))
+ShowsFront known old new = IfSome known (λ bytes. AppendsFront old new (lines_shown (take read_limit bytes)))

@@ -5,7 +5,7 @@ ghost use Rattle.std.specs.Io.KnownBytes.{Appends, Consumes, Keeps};
 ghost use Rattle.edi_base.specs.Buffer.{AppendsFront};
 ghost use Rattle.edi_base.specs.Source.{TakesAtMost};
 ghost use Rattle.hub_app.specs.Exit.{Tells};
-ghost use Rattle.hub_app.specs.Show.{Shows, ShowsFront, lines_of, status_of};
+ghost use Rattle.hub_app.specs.Show.{Shows, ShowsFront, lines_shown, status_of};
 
 use crate::exit::{DONE, FAILED, REFUSED, tell};
 use crate::run::READ_LIMIT;
@@ -22,7 +22,7 @@ struct Told {
 
 // The lines and the exit status of a text.
 fn told_text(alloc: Global, text: &[u8]) -> Result<Told, MemoryFault>
-    ensures lines { IfOk result (λ told. told.lines.items ≡ lines_of text.now) }
+    ensures lines { IfOk result (λ told. told.lines.items ≡ lines_shown text.now) }
     ensures status { IfOk result (λ told. told.status ≡ status_of text.now) }
 {
     let shown = show_text(alloc, text)?;

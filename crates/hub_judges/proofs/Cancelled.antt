@@ -9,7 +9,7 @@ use Rattle.hub_lines.specs.declared.facts.LineFacts.{LineFacts}
 use Rattle.hub_rules.specs.CancellationRules.{judge_new_cancel}
 use Rattle.hub_rules.specs.Judging.{refuse_if, given}
 use Rattle.hub_rules.specs.declared.code.Code.TheVariants.{NoOrder, NoLine, CancelsMoreThanOpen}
-use Rattle.hub_rules.specs.declared.delivery.Cancel.{Cancel}
+use Rattle.hub_rules.specs.declared.cancel.Cancel.{Cancel}
 use Rattle.hub_rules.specs.declared.verdict.Verdict.{Verdict}
 use Rattle.hub_rules.specs.declared.verdict.Verdict.TheVariants.{Accept}
 use Rattle.hub_judges.specs.FromFacts.{cancelled_from}

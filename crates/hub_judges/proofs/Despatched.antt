@@ -53,22 +53,22 @@ grouped a (Refuse code) third state = refl
 grouped a (Accept b) third state = ap (λ st. joined (a ++ b) (third st)) (applied_in_turn a b state) ∙ joined_grouped a b (third (apply_all b (apply_all a state)))
 
 -- facts that tell the lines of the named orders, in a state with these pallets
-pub record Told (named : List ℕ → Bool) (orders : List (List ℕ)) (pallets : List PalletRow) (state : Tables) (lines : List LineFacts) : Type 0 where
+pub record TellsNamed (named : List ℕ → Bool) (orders : List (List ℕ)) (pallets : List PalletRow) (state : Tables) (lines : List LineFacts) : Type 0 where
   pub pallets_are : state.pallets ≡ pallets
   pub order : (number : List ℕ) → named number ≡ true → knows_order state number ≡ is_among number orders
-  pub told : (number : List ℕ) → named number ≡ true → TellsLines state lines number
+  pub lines_are : (number : List ℕ) → named number ≡ true → TellsLines state lines number
 
 module _ (named : List ℕ → Bool) (orders : List (List ℕ)) where
-  after_line : (pallets : List PalletRow) (state : Tables) (lines : List LineFacts) (row : LineRow) (content : ContentRow) → Told named orders pallets state lines → Told named orders pallets (apply (AddContent content) (apply (SetLine row) state)) (with_row row lines)
+  after_line : (pallets : List PalletRow) (state : Tables) (lines : List LineFacts) (row : LineRow) (content : ContentRow) → TellsNamed named orders pallets state lines → TellsNamed named orders pallets (apply (AddContent content) (apply (SetLine row) state)) (with_row row lines)
   after_line pallets state lines row content t = record {
     pallets_are = t.pallets_are;
     order = λ number is. t.order number is;
-    told = λ number is. lines_told_after state lines row number (t.told number is);
+    lines_are = λ number is. lines_told_after state lines row number (t.lines_are number is);
   }
 
   -- one line judged, and what follows
-  module _ (sscc : List ℕ) (n : ℕ) (said : DespatchLine) (rest : Judge) (third : Judge) (next : List LineFacts → Verdict) (state : Tables) (lines : List LineFacts) (pallets : List PalletRow) (t : Told named orders pallets state lines)
-      (ih : (st : Tables) (ls : List LineFacts) → Told named orders pallets st ls → goes_on (rest st) third st ≡ next ls) where
+  module _ (sscc : List ℕ) (n : ℕ) (said : DespatchLine) (rest : Judge) (third : Judge) (next : List LineFacts → Verdict) (state : Tables) (lines : List LineFacts) (pallets : List PalletRow) (t : TellsNamed named orders pallets state lines)
+      (ih : (st : Tables) (ls : List LineFacts) → TellsNamed named orders pallets st ls → goes_on (rest st) third st ≡ next ls) where
     abbrev changes_of : LineFacts → List Change
     changes_of line = SetLine (after_despatch said line) ∷ new_content sscc (n + 1) said line ∷ []
 
@@ -102,12 +102,12 @@ module _ (named : List ℕ → Bool) (orders : List (List ℕ)) where
         ap₂ (λ v line. goes_on (goes_on (refuse_if (not v) NoOrder (given line NoLine (λ row.
         refuse_if (not (same row.gtin said.gtin)) OtherItem (refuse_if (nat_lt row.open_qty said.quantity) MoreThanOpen (
         Accept (SetLine (record row { open_qty = row.open_qty - said.quantity }) ∷ AddContent (record { sscc = sscc; place = n + 1; number = row.number; line = row.line; quantity = said.quantity }) ∷ [])))))) rest state) third state)
-        (t.order said.order is) (line_told state lines said.order said.order_line said.gtin (t.told said.order is))
+        (t.order said.order is) (line_told state lines said.order said.order_line said.gtin (t.lines_are said.order is))
         ∙ known (not (is_among said.order orders)) _ _ (found (facts_among (facts_of lines said.order) said.order_line said.gtin))
 
   -- the lines of a unit
-  lines_alike : (sscc : List ℕ) (pallets : List PalletRow) (third : Judge) (next : List LineFacts → Verdict) → ((st : Tables) (ls : List LineFacts) → Told named orders pallets st ls → third st ≡ next ls) →
-      (n : ℕ) (said : List DespatchLine) (state : Tables) (lines : List LineFacts) → AllByRecursion (λ line. named line.order ≡ true) said → Told named orders pallets state lines →
+  lines_alike : (sscc : List ℕ) (pallets : List PalletRow) (third : Judge) (next : List LineFacts → Verdict) → ((st : Tables) (ls : List LineFacts) → TellsNamed named orders pallets st ls → third st ≡ next ls) →
+      (n : ℕ) (said : List DespatchLine) (state : Tables) (lines : List LineFacts) → AllByRecursion (λ line. named line.order ≡ true) said → TellsNamed named orders pallets state lines →
       goes_on (in_order (judge_despatched sscc) (placed n said) state) third state ≡ lines_from sscc orders n said lines next
   lines_alike sscc pallets third next agree n [] state lines all t = joined_none (third state) ∙ agree state lines t
   lines_alike sscc pallets third next agree n (x ∷ said) state lines all t =
@@ -115,8 +115,8 @@ module _ (named : List ℕ → Bool) (orders : List (List ℕ)) where
       (λ st ls told. lines_alike sscc pallets third next agree (n + 1) said st ls all.1 told) all.0
 
   -- a new pallet leaves the facts
-  after_pallet : (pallets : List PalletRow) (state : Tables) (lines : List LineFacts) (pallet : PalletRow) → Told named orders pallets state lines → Told named orders (apply (AddPallet pallet) state).pallets (apply (AddPallet pallet) state) lines
-  after_pallet pallets state lines pallet t = record { pallets_are = refl; order = λ number is. t.order number is; told = λ number is. t.told number is }
+  after_pallet : (pallets : List PalletRow) (state : Tables) (lines : List LineFacts) (pallet : PalletRow) → TellsNamed named orders pallets state lines → TellsNamed named orders (apply (AddPallet pallet) state).pallets (apply (AddPallet pallet) state) lines
+  after_pallet pallets state lines pallet t = record { pallets_are = refl; order = λ number is. t.order number is; lines_are = λ number is. t.lines_are number is }
 
   -- whether an SSCC is used, with what earlier units have
   abbrev Used : (List ℕ → Bool) → List PalletRow → Unit → Type 0
@@ -145,7 +145,7 @@ module _ (named : List ℕ → Bool) (orders : List (List ℕ)) where
     checked false false unit third state w x h = h
 
     units_alike : (units : List Unit) (state : Tables) (lines : List LineFacts) (pallets : List PalletRow) → AllByRecursion (λ unit. AllByRecursion (λ line. named line.order ≡ true) unit.lines) units →
-        has_twice (map (λ unit. unit.sscc) units) ≡ false → AllByRecursion (Used used pallets) units → Told named orders pallets state lines →
+        has_twice (map (λ unit. unit.sscc) units) ≡ false → AllByRecursion (Used used pallets) units → TellsNamed named orders pallets state lines →
         in_order (judge_unit s used advice) units state ≡ units_from s advice orders units (map (λ unit. used unit.sscc) units) lines
     units_alike [] state lines pallets all once flags t = refl
     units_alike (unit ∷ units) state lines pallets all once flags t =
@@ -194,7 +194,7 @@ pub despatch_alike : (s : SupplierRow) (used : List ℕ → Bool) (known : Known
 despatch_alike s used known despatch state number flags there orders lines once =
     let advice : List Change = AddAdvice (record { supplier = s.gln; number = despatch.number }) ∷ [] in
     ap₂ (λ v rest. refuse_if v AdviceKnown (joined advice rest)) number
-    (units_alike (names_order despatch.units) known.orders s used despatch.number despatch.units (apply_all advice state) known.lines state.pallets (names_all despatch.units) once (used_all used state there despatch.units) (record { pallets_are = refl; order = orders; told = lines })
+    (units_alike (names_order despatch.units) known.orders s used despatch.number despatch.units (apply_all advice state) known.lines state.pallets (names_all despatch.units) once (used_all used state there despatch.units) (record { pallets_are = refl; order = orders; lines_are = lines })
     ∙ ap (λ us. units_from s despatch.number known.orders despatch.units us known.lines) flags)
 
 -- one line judged by the code, and the rest on what it left

@@ -12,19 +12,19 @@ use Rattle.hub_rules.specs.RepeatRules.{remembered, once, judge_once}
 use Rattle.hub_rules.specs.PartyRules.{is_other_buyer, registered}
 use Rattle.hub_rules.specs.Rules.{referred_by, judge_message}
 use Rattle.hub_rules.specs.declared.code.Code.TheVariants.{Buyer}
-use Rattle.hub_rules.specs.declared.delivery.Delivery.{Delivery}
+use Rattle.hub_rules.specs.declared.incoming.IncomingMessage.{IncomingMessage}
 use Rattle.hub_rules.specs.declared.verdict.Verdict.{Verdict}
 
 -- what is remembered of it
-abbrev pub first_of : SupplierRow → Side → Delivery → List Change
-first_of s side delivery = Remember (remembered (referred_by s side delivery) delivery.content) ∷ []
+abbrev pub first_of : SupplierRow → Side → IncomingMessage → List Change
+first_of s side incoming = Remember (remembered (referred_by s side incoming) incoming.content) ∷ []
 
-pub judged_message : (retailer : List ℕ) (supplier : Option SupplierRow) (side : Side) (delivery : Delivery) (buyer : Option (List ℕ)) (named : List ℕ) (rest : SupplierRow → Judge) (s : SupplierRow) (state : Tables) (content : List ℕ) (verdict : Verdict) →
-    ((next : SupplierRow → Verdict) → refuse_if (is_other_buyer retailer buyer) Buyer (registered supplier named next) ≡ next s) → content ≡ delivery.content →
-    ((fresh : Verdict) → once (remembered_of state side delivery.control delivery.message) content fresh ≡ fresh) → rest s (apply_all (first_of s side delivery) state) ≡ verdict →
-    judge_message retailer supplier side delivery buyer named rest state ≡ joined (first_of s side delivery) verdict
-judged_message retailer supplier side delivery buyer named rest s state content verdict admitted is new judged =
-    admitted (λ s. judge_once (referred_by s side delivery) delivery.content (rest s) state)
-    ∙ ap (λ bytes. once (remembered_of state side delivery.control delivery.message) bytes (in_turn (gives (first_of s side delivery)) (rest s) state)) (sym is)
-    ∙ new (in_turn (gives (first_of s side delivery)) (rest s) state)
-    ∙ ap (joined (first_of s side delivery)) judged
+pub judged_message : (retailer : List ℕ) (supplier : Option SupplierRow) (side : Side) (incoming : IncomingMessage) (buyer : Option (List ℕ)) (named : List ℕ) (rest : SupplierRow → Judge) (s : SupplierRow) (state : Tables) (content : List ℕ) (verdict : Verdict) →
+    ((next : SupplierRow → Verdict) → refuse_if (is_other_buyer retailer buyer) Buyer (registered supplier named next) ≡ next s) → content ≡ incoming.content →
+    ((fresh : Verdict) → once (remembered_of state side incoming.control incoming.message) content fresh ≡ fresh) → rest s (apply_all (first_of s side incoming) state) ≡ verdict →
+    judge_message retailer supplier side incoming buyer named rest state ≡ joined (first_of s side incoming) verdict
+judged_message retailer supplier side incoming buyer named rest s state content verdict admitted is new judged =
+    admitted (λ s. judge_once (referred_by s side incoming) incoming.content (rest s) state)
+    ∙ ap (λ bytes. once (remembered_of state side incoming.control incoming.message) bytes (in_turn (gives (first_of s side incoming)) (rest s) state)) (sym is)
+    ∙ new (in_turn (gives (first_of s side incoming)) (rest s) state)
+    ∙ ap (joined (first_of s side incoming)) judged

@@ -7,22 +7,22 @@ use Rattle.hub_tables.specs.Rows.{same}
 use Rattle.hub_tables.specs.declared.change.Change.{Change}
 use Rattle.hub_tables.specs.declared.change.Change.TheVariants.{AddReceipt}
 use Rattle.hub_tables.proofs.Lists.{decide, same_if, all_weaker, all_filter}
-use Rattle.hub_rules.specs.ReceiptRules.{items, total, new_receipt}
+use Rattle.hub_rules.specs.ReceiptRules.{gtins, total, new_receipt}
 use Rattle.hub_judges.specs.Totals.{nothing, with_line, total_from}
 use Rattle.hub_judges.specs.declared.totals.Total.{Total}
 use Rattle.hub_judges.proofs.Summed.{from_some, over_lines, rest_from}
 
 -- the items of lines that have a total left
 abbrev pub left : (List ℕ → Option Total) → List ReceiptLine → List (List ℕ)
-left totals lines = filter (λ gtin. is_some (totals gtin)) (items lines)
+left totals lines = filter (λ gtin. is_some (totals gtin)) (gtins lines)
 
 keeps_all : {X : Type 0} (p : X → Bool) (xs : List X) → AllByRecursion (λ x. p x ≡ true) xs → filter p xs ≡ xs
 keeps_all p [] all = refl
 keeps_all p (x ∷ xs) all = ap₂ (λ v rest. cond v (x ∷ rest) rest) all.0 (keeps_all p xs all.1)
 
-of_items : (P : List ℕ → Type 0) (lines : List ReceiptLine) → AllByRecursion (λ line. P line.gtin) lines → AllByRecursion P (items lines)
-of_items P [] all = tt
-of_items P (line ∷ lines) all = (all.0, all_filter P (λ gtin. not (same gtin line.gtin)) (items lines) (of_items P lines all.1))
+of_gtins : (P : List ℕ → Type 0) (lines : List ReceiptLine) → AllByRecursion (λ line. P line.gtin) lines → AllByRecursion P (gtins lines)
+of_gtins P [] all = tt
+of_gtins P (line ∷ lines) all = (all.0, all_filter P (λ gtin. not (same gtin line.gtin)) (gtins lines) (of_gtins P lines all.1))
 
 abbrev Comes : List ReceiptLine → List ℕ → Type 0
 Comes lines item = is_some (total_from None item lines) ≡ true
@@ -42,8 +42,8 @@ all_come [] = tt
 all_come (line ∷ lines) = (comes_here line lines line.gtin (same_if line.gtin line.gtin refl), all_weaker (λ other. Comes lines other.gtin) (λ other. Comes (line ∷ lines) other.gtin) (λ other h. comes_later line lines other.gtin h) lines (all_come lines))
 
 -- at first every item is left
-pub all_left : (totals : List ℕ → Option Total) (lines : List ReceiptLine) → ((item : List ℕ) → totals item ≡ total_from None item lines) → left totals lines ≡ items lines
-all_left totals lines are = keeps_all (λ gtin. is_some (totals gtin)) (items lines) (of_items (λ gtin. is_some (totals gtin) ≡ true) lines (all_weaker (λ line. Comes lines line.gtin) (λ line. is_some (totals line.gtin) ≡ true) (λ line h. ap is_some (are line.gtin) ∙ h) lines (all_come lines)))
+pub all_left : (totals : List ℕ → Option Total) (lines : List ReceiptLine) → ((item : List ℕ) → totals item ≡ total_from None item lines) → left totals lines ≡ gtins lines
+all_left totals lines are = keeps_all (λ gtin. is_some (totals gtin)) (gtins lines) (of_gtins (λ gtin. is_some (totals gtin) ≡ true) lines (all_weaker (λ line. Comes lines line.gtin) (λ line. is_some (totals line.gtin) ≡ true) (λ line h. ap is_some (are line.gtin) ∙ h) lines (all_come lines)))
 
 -- the receipt of an item with its total
 pub receipt_is : (sscc : List ℕ) (lines : List ReceiptLine) (gtin : List ℕ) (sum : Total) → total_from None gtin lines ≡ Some sum →
@@ -88,7 +88,7 @@ module _ (old new : List ℕ → Option Total) (taken : List ℕ) (becomes : (it
 -- a line, whose item is taken
 module _ (lines : List ReceiptLine) (i : ℕ) (line : ReceiptLine) (inside : i < length lines) (at : line ≡ get_or lines i line) (old new : List ℕ → Option Total) (becomes : (item : List ℕ) → new item ≡ cond (same line.gtin item) None (old item)) where
   left_from : left old (drop i lines) ≡ cond (is_some (old line.gtin)) (line.gtin ∷ left new (drop (i + 1) lines)) (left new (drop (i + 1) lines))
-  left_from = ap (left old) (rest_from lines i line inside at) ∙ ap (λ rest. cond (is_some (old line.gtin)) (line.gtin ∷ rest) rest) (left_without old new line.gtin becomes (items (drop (i + 1) lines)))
+  left_from = ap (left old) (rest_from lines i line inside at) ∙ ap (λ rest. cond (is_some (old line.gtin)) (line.gtin ∷ rest) rest) (left_without old new line.gtin becomes (gtins (drop (i + 1) lines)))
 
   pub left_taken : (sum : Total) → old line.gtin ≡ Some sum → left old (drop i lines) ≡ line.gtin ∷ left new (drop (i + 1) lines)
   left_taken sum e = left_from ∙ ap (λ v. cond (is_some v) (line.gtin ∷ left new (drop (i + 1) lines)) (left new (drop (i + 1) lines))) e

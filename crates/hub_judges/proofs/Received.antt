@@ -19,9 +19,9 @@ use Rattle.hub_tables.specs.declared.rows.PalletRow.{PalletRow}
 use Rattle.hub_tables.proofs.Lists.{decide, same_is, all_always, all_found}
 use Rattle.hub_rules.specs.Judging.{refuse_if, given, joined, goes_on, in_order}
 use Rattle.hub_rules.specs.MailboxRules.{mail_limit, mail_entry}
-use Rattle.hub_rules.specs.ReceiptRules.{items, new_receipt, judge_received, judge_new_receipt}
+use Rattle.hub_rules.specs.ReceiptRules.{gtins, new_receipt, judge_received, judge_new_receipt}
 use Rattle.hub_rules.specs.declared.code.Code.TheVariants.{NoPallet, PalletReceived, MailboxFull}
-use Rattle.hub_rules.specs.declared.delivery.Delivery.{Delivery}
+use Rattle.hub_rules.specs.declared.incoming.IncomingMessage.{IncomingMessage}
 use Rattle.hub_rules.specs.declared.verdict.Verdict.{Verdict}
 use Rattle.hub_rules.specs.declared.verdict.Verdict.TheVariants.{Accept, Refuse}
 use Rattle.hub_judges.specs.FromFacts.{received, receipts_from}
@@ -50,7 +50,7 @@ module _ (unit : ReceiptUnit) (state : Tables) (row : PalletRow) (found : pallet
   pallet_kept sscc apart =
       let set : PalletRow = record row { received = arrival_number Received } in
       let which : row.sscc ≡ unit.sscc = same_is row.sscc unit.sscc (all_found (λ _. Unit {0}) (λ pallet. same pallet.sscc unit.sscc) state.pallets row (all_always (λ _. Unit {0}) (λ _. tt) state.pallets) found).1 in
-      ap (find (λ pallet. same pallet.sscc sscc)) (receipts_keep unit.sscc unit.lines (items unit.lines) (apply (SetPallet set) state))
+      ap (find (λ pallet. same pallet.sscc sscc)) (receipts_keep unit.sscc unit.lines (gtins unit.lines) (apply (SetPallet set) state))
       ∙ find_replace_out (λ pallet. same pallet.sscc sscc) (same_pallet set) set state.pallets (ap (λ v. same v sscc) which ∙ apart) (λ y at. ap (λ v. same v sscc) (same_is y.sscc row.sscc at ∙ which) ∙ apart)
 
   pallets_kept : (units : List ReceiptUnit) → is_among unit.sscc (map (λ unit. unit.sscc) units) ≡ false → pallets_of (apply_all (received row unit) state) units ≡ pallets_of state units
@@ -87,11 +87,11 @@ joined_joined first second (Refuse code) = refl
 joined_joined first second (Accept rest) = ap Accept (sym (append_assoc first second rest))
 
 -- what comes of a RECADV that is new, behind a first change, where the mailbox has a number left
-pub new_receipt_alike : (first : Change) (supplier : List ℕ) (delivery : Delivery) (body : List ℕ) (receipt : Receipt) (state : Tables) (mails : ℕ) (pallets : List (Option PalletRow))
+pub new_receipt_alike : (first : Change) (supplier : List ℕ) (incoming : IncomingMessage) (body : List ℕ) (receipt : Receipt) (state : Tables) (mails : ℕ) (pallets : List (Option PalletRow))
     → mails < mail_limit → length state.mail ≡ mails → map (λ unit. pallet_of state unit.sscc) receipt.units ≡ pallets → has_twice (map (λ unit. unit.sscc) receipt.units) ≡ false
-    → joined (first ∷ []) (judge_new_receipt supplier delivery body receipt state) ≡ joined (first ∷ mail_entry supplier (mails + 1) delivery kinds.Receipt receipt.number body ∷ []) (receipts_from receipt.units pallets)
-new_receipt_alike first supplier delivery body receipt state mails pallets room counted told apart =
-    let entry : ℕ → Change = λ n. mail_entry supplier (n + 1) delivery kinds.Receipt receipt.number body in
+    → joined (first ∷ []) (judge_new_receipt supplier incoming body receipt state) ≡ joined (first ∷ mail_entry supplier (mails + 1) incoming kinds.Receipt receipt.number body ∷ []) (receipts_from receipt.units pallets)
+new_receipt_alike first supplier incoming body receipt state mails pallets room counted told apart =
+    let entry : ℕ → Change = λ n. mail_entry supplier (n + 1) incoming kinds.Receipt receipt.number body in
     let behind : ℕ → Verdict = λ n. joined (entry n ∷ []) (in_order judge_received receipt.units (apply (entry n) state)) in
     ap (λ n. joined (first ∷ []) (refuse_if (nat_lt mail_limit (n + 1)) MailboxFull (behind n))) counted
     ∙ ap (λ full. joined (first ∷ []) (refuse_if full MailboxFull (behind mails))) (lt-leb (mail_limit + 1) (mails + 1) (omega arith))

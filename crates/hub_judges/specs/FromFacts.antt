@@ -26,11 +26,11 @@ use Rattle.hub_tables.specs.declared.rows.LineRow.{LineRow}
 use Rattle.hub_lines.specs.Book.{facts_of, facts_among, with_row}
 use Rattle.hub_lines.specs.declared.facts.LineFacts.{LineFacts}
 use Rattle.hub_rules.specs.Judging.{refuse_if, given, joined}
-use Rattle.hub_rules.specs.ReceiptRules.{items, new_receipt}
+use Rattle.hub_rules.specs.ReceiptRules.{gtins, new_receipt}
 use Rattle.hub_rules.specs.ResponseRules.{answered, is_out_of_range, is_empty}
 use Rattle.hub_rules.specs.declared.code.Code.TheVariants.{NoOrder, NoLine, NotWaiting, OutOfRange, OtherItem, MoreThanOpen, OtherPrefix, SsccUsed, AdviceKnown, NoPallet, PalletReceived, CancelsMoreThanOpen}
 use Rattle.hub_rules.specs.declared.code.Code.{Code}
-use Rattle.hub_rules.specs.declared.delivery.Cancel.{Cancel}
+use Rattle.hub_rules.specs.declared.cancel.Cancel.{Cancel}
 use Rattle.hub_rules.specs.declared.verdict.Verdict.{Verdict}
 use Rattle.hub_rules.specs.declared.verdict.Verdict.TheVariants.{Accept, Refuse}
 use Rattle.hub_judges.specs.declared.known.Known.{Known}
@@ -89,7 +89,7 @@ cancelled_from cancel known =
 
 -- what comes of a unit on a pallet: the pallet is received, with the sums of each item
 abbrev pub received : PalletRow → ReceiptUnit → List Change
-received pallet unit = SetPallet (record pallet { received = arrival_number Received }) ∷ map (new_receipt unit.sscc unit.lines) (items unit.lines)
+received pallet unit = SetPallet (record pallet { received = arrival_number Received }) ∷ map (new_receipt unit.sscc unit.lines) (gtins unit.lines)
 
 -- the units of a RECADV, each with its pallet; both lists have one length
 abbrev pub receipts_from : List ReceiptUnit → List (Option PalletRow) → Verdict

@@ -1,5 +1,5 @@
 -- When what is known tells the truth of a state, as far as a judge asks.
-use Rattle.std.specs.Prelude.{◌≡◌, ℕ, ◌+◌, ◌≤◌, Bool, true, List, [], length, map, option_map}
+use Rattle.std.specs.Prelude.{◌≡◌, ℕ, Bool, true, List, [], length, map, option_map}
 use Rattle.std.specs.List.{AllByRecursion, list_any}
 use Rattle.edi_base.specs.Seen.{is_among}
 use Rattle.edi_orders.specs.declared.order.Order.{Order}
@@ -15,8 +15,8 @@ use Rattle.hub_tables.specs.declared.cases.Side.TheVariants.{Retailer, Supplier,
 use Rattle.hub_tables.specs.declared.rows.LineRow.{LineRow}
 use Rattle.hub_lines.specs.Book.{facts_of}
 use Rattle.hub_lines.specs.declared.facts.LineFacts.{LineFacts}
-use Rattle.hub_rules.specs.declared.delivery.Cancel.{Cancel}
-use Rattle.hub_rules.specs.declared.delivery.Delivery.{Delivery}
+use Rattle.hub_rules.specs.declared.cancel.Cancel.{Cancel}
+use Rattle.hub_rules.specs.declared.incoming.IncomingMessage.{IncomingMessage}
 use Rattle.hub_judges.specs.declared.known.Known.{Known}
 
 abbrev pub rows : List LineFacts → List LineRow
@@ -39,14 +39,15 @@ abbrev pub TellsDespatched : Tables → List LineFacts → Type 0
 TellsDespatched state lines = AllByRecursion (λ line. despatched state line.row ≡ line.despatched) lines
 
 -- what is asked for an ORDERS
-pub record TellsForOrder (known : Known) (delivery : Delivery) (order : Order) (state : Tables) : Type 0 where
-  pub remembered : TellsRemembered known Retailer delivery.control delivery.message state
+pub record TellsForOrder (known : Known) (incoming : IncomingMessage) (order : Order) (state : Tables) : Type 0 where
+  pub remembered : TellsRemembered known Retailer incoming.control incoming.message state
   pub number : knows_order state order.number ≡ known.number_known
   pub mails : length state.mail ≡ known.mails
 
 -- for an ORDRSP
-pub record TellsForResponse (known : Known) (delivery : Delivery) (response : Response) (state : Tables) : Type 0 where
-  pub remembered : TellsRemembered known Supplier delivery.control delivery.message state
+pub record TellsForResponse (known : Known) (incoming : IncomingMessage) (response : Response)
+    (state : Tables) : Type 0 where
+  pub remembered : TellsRemembered known Supplier incoming.control incoming.message state
   pub order : TellsOrder known state response.order
   pub lines : TellsLines state known.lines response.order
   pub despatched : TellsDespatched state known.lines
@@ -56,8 +57,9 @@ abbrev pub names_order : List Unit → List ℕ → Bool
 names_order units order = list_any (λ unit. list_any (λ line. same line.order order) unit.lines) units
 
 -- for a DESADV: whether an SSCC is used is told of each unit, and is true wherever the state has the pallet
-pub record TellsForDespatch (known : Known) (used : List ℕ → Bool) (delivery : Delivery) (despatch : Despatch) (state : Tables) : Type 0 where
-  pub remembered : TellsRemembered known Supplier delivery.control delivery.message state
+pub record TellsForDespatch (known : Known) (used : List ℕ → Bool) (incoming : IncomingMessage) (despatch : Despatch)
+    (state : Tables) : Type 0 where
+  pub remembered : TellsRemembered known Supplier incoming.control incoming.message state
   pub number : knows_advice state despatch.number ≡ known.number_known
   pub used_told : map (λ unit. used unit.sscc) despatch.units ≡ known.used
   pub used_there : (sscc : List ℕ) → has_pallet state sscc ≡ true → used sscc ≡ true
@@ -65,8 +67,9 @@ pub record TellsForDespatch (known : Known) (used : List ℕ → Bool) (delivery
   pub lines : (order : List ℕ) → names_order despatch.units order ≡ true → TellsLines state known.lines order
 
 -- for a RECADV
-pub record TellsForReceipt (known : Known) (delivery : Delivery) (receipt : Receipt) (state : Tables) : Type 0 where
-  pub remembered : TellsRemembered known Retailer delivery.control delivery.message state
+pub record TellsForReceipt (known : Known) (incoming : IncomingMessage) (receipt : Receipt)
+    (state : Tables) : Type 0 where
+  pub remembered : TellsRemembered known Retailer incoming.control incoming.message state
   pub mails : length state.mail ≡ known.mails
   pub pallets : map (λ unit. pallet_of state unit.sscc) receipt.units ≡ known.pallets
 

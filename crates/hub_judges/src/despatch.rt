@@ -21,7 +21,7 @@ use edi_goods::{Despatch, DespatchLine, Unit};
 use gs1_ids::{Gln, Sscc};
 use hub_lines::{Book, LineFacts, OrderNumbers, copied_row};
 use hub_parties::SupplierRow;
-use hub_rules::{Code, Delivery, Verdict};
+use hub_rules::{Code, IncomingMessage, Verdict};
 use hub_tables::{AdviceRow, Arrival, Change, Column, ContentRow, PalletRow, Side};
 use std::alloc::Global;
 
@@ -167,13 +167,13 @@ pub fn judge_despatch(
     retailer: &Gln,
     supplier: Option<&SupplierRow>,
     known: Known,
-    delivery: Delivery,
+    incoming: IncomingMessage,
     despatch: &Despatch,
 ) -> Result<Verdict, MemoryFault>
-    requires told { length known.used ≡ length despatch.now.units }
+    requires each_unit { length known.used ≡ length despatch.now.units }
     requires rise { Rise known.lines }
     requires apart { has_twice (map (λ unit. unit.sscc) despatch.now.units) ≡ false }
-    ensures { IfOk result (λ verdict. (used : List ℕ → Bool) (state : Tables) → TellsForDespatch known used delivery despatch.now state → verdict ≡ rules.judge_despatch retailer.now (option_copied supplier.entry) used delivery despatch.now state) }
+    ensures { IfOk result (λ verdict. (used : List ℕ → Bool) (state : Tables) → TellsForDespatch known used incoming despatch.now state → verdict ≡ rules.judge_despatch retailer.now (option_copied supplier.entry) used incoming despatch.now state) }
 {
     let Known {
         remembered,
@@ -187,7 +187,7 @@ pub fn judge_despatch(
         Ok(row) => row,
         Err(code) => return Ok(Verdict::Refuse(code)),
     };
-    if let Some(verdict) = repeats(alloc, &remembered, delivery.content.as_slice()) {
+    if let Some(verdict) = repeats(alloc, &remembered, incoming.content.as_slice()) {
         return Ok(verdict);
     }
     if number_known {
@@ -201,7 +201,7 @@ pub fn judge_despatch(
         number: copied(alloc, despatch.number.as_slice())?,
     };
     let mut changes = Items::new(alloc);
-    changes.push(remember(row.gln, Side::Supplier, delivery))?;
+    changes.push(remember(row.gln, Side::Supplier, incoming))?;
     changes.push(Change::AddAdvice(advice))?;
     let used = used.as_slice();
     let verdict = judge_units(alloc, row, despatch, &numbers, used, book, changes)?;

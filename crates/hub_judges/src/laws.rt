@@ -14,13 +14,18 @@ ghost use Rattle.hub_lines.specs.Book.{Rise, IsCovered};
 ghost use Rattle.hub_rules.specs.Sound.{Sound};
 ghost use Rattle.hub_judges.specs.Facts.{facts_in};
 
-/// Of sound tables, the lines that a supplier sees, all or those of some orders, rise by order number and line number, and of
-/// each no more is open, refused and cancelled than is ordered. Of what is read, no SSCC stands in two units, and no sum of a
-/// receiving advice is past its limit.
+/// Of sound tables, the lines that a supplier sees, all or those of some orders, rise by order number and line number,
+/// and of each no more is open, refused and cancelled than is ordered. Of what is read, no SSCC stands in two units,
+/// and no sum of a receiving advice is past its limit.
 pub fn judges_are_given_what_they_ask()
-    ensures rise { (suppliers : List SupplierRow) (gln : List ℕ) (t : Tables) (test : LineRow → Bool) → Sound suppliers t → Rise (facts_in (view gln t) (filter test (view gln t).lines)) }
-    ensures covered { (suppliers : List SupplierRow) (gln : List ℕ) (t : Tables) (test : LineRow → Bool) → Sound suppliers t → AllByRecursion IsCovered (facts_in (view gln t) (filter test (view gln t).lines)) }
-    ensures despatch { (message : RawMessage) (despatch : Despatch) → despatch_of message ≡ Ok despatch → has_twice (map (λ unit. unit.sscc) despatch.units) ≡ false }
-    ensures receipt { (message : RawMessage) (receipt : Receipt) → receipt_of message ≡ Ok receipt → has_twice (map (λ unit. unit.sscc) receipt.units) ≡ false }
-    ensures sums { (message : RawMessage) (receipt : Receipt) → receipt_of message ≡ Ok receipt → list_all (λ unit. has_sums unit.lines) receipt.units ≡ true }
+    ensures rise { (suppliers : List SupplierRow) (gln : List ℕ) (t : Tables) (test : LineRow → Bool) →
+        Sound suppliers t → Rise (facts_in (view gln t) (filter test (view gln t).lines)) }
+    ensures covered { (suppliers : List SupplierRow) (gln : List ℕ) (t : Tables) (test : LineRow → Bool) →
+        Sound suppliers t → AllByRecursion IsCovered (facts_in (view gln t) (filter test (view gln t).lines)) }
+    ensures despatch { (message : RawMessage) (despatch : Despatch) →
+        despatch_of message ≡ Ok despatch → has_twice (map (λ unit. unit.sscc) despatch.units) ≡ false }
+    ensures receipt { (message : RawMessage) (receipt : Receipt) →
+        receipt_of message ≡ Ok receipt → has_twice (map (λ unit. unit.sscc) receipt.units) ≡ false }
+    ensures sums { (message : RawMessage) (receipt : Receipt) →
+        receipt_of message ≡ Ok receipt → list_all (λ unit. has_sums unit.lines) receipt.units ≡ true }
 {}

@@ -17,7 +17,7 @@ mod totals;
 pub use cancel::judge_cancel;
 pub use despatch::judge_despatch;
 pub use hub_lines::LineFacts;
-pub use hub_rules::{Cancel, Code, Delivery, Verdict};
+pub use hub_rules::{Cancel, Code, IncomingMessage, Verdict};
 pub use hub_tables::{
     AdviceRow, Answered, Arrival, Case, Change, Column, ContentRow, LineRow, MailKind, MailRow,
     OrderRow, PalletRow, ReceiptRow, RememberedRow, Side,

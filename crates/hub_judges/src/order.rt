@@ -13,7 +13,7 @@ use edi_base::{Items, MemoryFault, copied};
 use edi_orders::Order;
 use gs1_ids::Gln;
 use hub_parties::SupplierRow;
-use hub_rules::{Code, Delivery, Verdict};
+use hub_rules::{Code, IncomingMessage, Verdict};
 use hub_tables::{Answered, Change, Column, LineRow, MailKind, OrderRow, Side};
 use std::alloc::Global;
 
@@ -48,17 +48,17 @@ pub fn judge_order(
     retailer: &Gln,
     supplier: Option<&SupplierRow>,
     known: &Known,
-    delivery: Delivery,
+    incoming: IncomingMessage,
     body: Items<u8>,
     order: &Order,
 ) -> Result<Verdict, MemoryFault>
-    ensures { IfOk result (λ verdict. (state : Tables) → TellsForOrder known.now delivery order.now state → verdict ≡ rules.judge_order retailer.now (option_copied supplier.entry) delivery body order.now state) }
+    ensures { IfOk result (λ verdict. (state : Tables) → TellsForOrder known.now incoming order.now state → verdict ≡ rules.judge_order retailer.now (option_copied supplier.entry) incoming body order.now state) }
 {
     let row = match admitted(retailer, supplier, Some(order.buyer), &order.supplier) {
         Ok(row) => row,
         Err(code) => return Ok(Verdict::Refuse(code)),
     };
-    if let Some(verdict) = repeats(alloc, &known.remembered, delivery.content.as_slice()) {
+    if let Some(verdict) = repeats(alloc, &known.remembered, incoming.content.as_slice()) {
         return Ok(verdict);
     }
     if known.number_known {
@@ -71,13 +71,13 @@ pub fn judge_order(
         alloc,
         row.gln,
         known.mails,
-        &delivery,
+        &incoming,
         MailKind::Orders,
         order.number.as_slice(),
         body,
     )?;
     let mut changes = Items::new(alloc);
-    changes.push(remember(row.gln, Side::Retailer, delivery))?;
+    changes.push(remember(row.gln, Side::Retailer, incoming))?;
     changes.push(mail)?;
     changes.push(Change::AddOrder(OrderRow {
         supplier: row.gln,

@@ -5,7 +5,7 @@ ghost use Rattle.edi_base.specs.Seen.{has_twice};
 ghost use Rattle.edi_goods.specs.Receipt.{has_sums};
 ghost use Rattle.hub_tables.specs.Tables.{Tables};
 ghost use Rattle.hub_rules.specs.Judging.{joined};
-ghost use Rattle.hub_rules.specs.ReceiptRules.{items, new_receipt};
+ghost use Rattle.hub_rules.specs.ReceiptRules.{gtins, new_receipt};
 ghost use Rattle.hub_rules.specs.Rules as rules;
 ghost use Rattle.hub_judges.specs.FromFacts.{received, receipts_from};
 ghost use Rattle.hub_judges.specs.Known.{TellsForReceipt};
@@ -19,7 +19,7 @@ use edi_base::{Items, MemoryFault, copied};
 use edi_goods::{Receipt, ReceiptUnit};
 use gs1_ids::Gln;
 use hub_parties::SupplierRow;
-use hub_rules::{Code, Delivery, Verdict};
+use hub_rules::{Code, IncomingMessage, Verdict};
 use hub_tables::{Arrival, Change, Column, MailKind, PalletRow, ReceiptRow, Side};
 use std::alloc::Global;
 
@@ -30,7 +30,7 @@ fn add_receipts(
     changes: &mut Items<Change>,
 ) -> Result<(), MemoryFault>
     requires { has_sums unit.now.lines ≡ true }
-    ensures { IfOk result (λ _. changes.new ≡ changes.old ++ map (new_receipt unit.now.sscc unit.now.lines) (items unit.now.lines)) }
+    ensures { IfOk result (λ _. changes.new ≡ changes.old ++ map (new_receipt unit.now.sscc unit.now.lines) (gtins unit.now.lines)) }
 {
     let lines = unit.lines.as_slice();
     let mut totals = totals_of(alloc, lines)?;
@@ -74,7 +74,7 @@ fn judge_units(
     pallets: &[Option<PalletRow>],
     mut changes: Items<Change>,
 ) -> Result<Verdict, MemoryFault>
-    requires told { length pallets.now ≡ length units.now }
+    requires each_unit { length pallets.now ≡ length units.now }
     requires sums { list_all (λ unit. has_sums unit.lines) units.now ≡ true }
     ensures { IfOk result (λ verdict. verdict ≡ joined changes (receipts_from units.now pallets.now)) }
 {
@@ -98,20 +98,20 @@ pub fn judge_receipt(
     retailer: &Gln,
     supplier: Option<&SupplierRow>,
     known: &Known,
-    delivery: Delivery,
+    incoming: IncomingMessage,
     body: Items<u8>,
     receipt: &Receipt,
 ) -> Result<Verdict, MemoryFault>
-    requires told { length known.now.pallets ≡ length receipt.now.units }
+    requires each_unit { length known.now.pallets ≡ length receipt.now.units }
     requires apart { has_twice (map (λ unit. unit.sscc) receipt.now.units) ≡ false }
     requires sums { list_all (λ unit. has_sums unit.lines) receipt.now.units ≡ true }
-    ensures { IfOk result (λ verdict. (state : Tables) → TellsForReceipt known.now delivery receipt.now state → verdict ≡ rules.judge_receipt retailer.now (option_copied supplier.entry) delivery body receipt.now state) }
+    ensures { IfOk result (λ verdict. (state : Tables) → TellsForReceipt known.now incoming receipt.now state → verdict ≡ rules.judge_receipt retailer.now (option_copied supplier.entry) incoming body receipt.now state) }
 {
     let row = match admitted(retailer, supplier, receipt.buyer, &receipt.supplier) {
         Ok(row) => row,
         Err(code) => return Ok(Verdict::Refuse(code)),
     };
-    if let Some(verdict) = repeats(alloc, &known.remembered, delivery.content.as_slice()) {
+    if let Some(verdict) = repeats(alloc, &known.remembered, incoming.content.as_slice()) {
         return Ok(verdict);
     }
     if known.mails >= MAIL_LIMIT {
@@ -122,13 +122,13 @@ pub fn judge_receipt(
         alloc,
         row.gln,
         known.mails,
-        &delivery,
+        &incoming,
         MailKind::Receipt,
         number,
         body,
     )?;
     let mut changes = Items::new(alloc);
-    changes.push(remember(row.gln, Side::Retailer, delivery))?;
+    changes.push(remember(row.gln, Side::Retailer, incoming))?;
     changes.push(mail)?;
     let units = receipt.units.as_slice();
     let pallets = known.pallets.as_slice();

@@ -8,7 +8,7 @@ ghost use Rattle.hub_rules.specs.declared.verdict.Verdict.{Verdict};
 
 use edi_base::Items;
 use gs1_ids::Gln;
-use hub_rules::{Code, Delivery, Verdict};
+use hub_rules::{Code, IncomingMessage, Verdict};
 use hub_tables::{Change, Column, RememberedRow, Side};
 use std::alloc::Global;
 
@@ -34,14 +34,14 @@ pub(crate) fn repeats(
 }
 
 /// Remembers a message.
-pub(crate) fn remember(supplier: Gln, side: Side, delivery: Delivery) -> Change
-    ensures { result ≡ Remember (remembered (record { supplier = supplier; side = side; control = delivery.control; message = delivery.message }) delivery.content) }
+pub(crate) fn remember(supplier: Gln, side: Side, incoming: IncomingMessage) -> Change
+    ensures { result ≡ Remember (remembered (record { supplier = supplier; side = side; control = incoming.control; message = incoming.message }) incoming.content) }
 {
     Change::Remember(RememberedRow {
         supplier,
         side: Column::of(side),
-        control: delivery.control,
-        message: delivery.message,
-        content: delivery.content,
+        control: incoming.control,
+        message: incoming.message,
+        content: incoming.content,
     })
 }

@@ -19,7 +19,7 @@ use edi_orders::{Answer, LineAnswer, Response};
 use gs1_ids::Gln;
 use hub_lines::{Book, LineFacts, is_known};
 use hub_parties::SupplierRow;
-use hub_rules::{Code, Delivery, Verdict};
+use hub_rules::{Code, IncomingMessage, Verdict};
 use hub_tables::{Change, Side};
 use std::alloc::Global;
 
@@ -88,22 +88,22 @@ pub fn judge_response(
     retailer: &Gln,
     supplier: Option<&SupplierRow>,
     known: Known,
-    delivery: Delivery,
+    incoming: IncomingMessage,
     response: &Response,
 ) -> Result<Verdict, MemoryFault>
     requires rise { Rise known.lines }
     requires covered { AllByRecursion IsCovered known.lines }
-    ensures { IfOk result (λ verdict. (state : Tables) → TellsForResponse known delivery response.now state → verdict ≡ rules.judge_response retailer.now (option_copied supplier.entry) delivery response.now state) }
+    ensures { IfOk result (λ verdict. (state : Tables) → TellsForResponse known incoming response.now state → verdict ≡ rules.judge_response retailer.now (option_copied supplier.entry) incoming response.now state) }
 {
     let row = match admitted(retailer, supplier, Some(response.buyer), &response.supplier) {
         Ok(row) => row,
         Err(code) => return Ok(Verdict::Refuse(code)),
     };
-    if let Some(verdict) = repeats(alloc, &known.remembered, delivery.content.as_slice()) {
+    if let Some(verdict) = repeats(alloc, &known.remembered, incoming.content.as_slice()) {
         return Ok(verdict);
     }
     let mut changes = Items::new(alloc);
-    changes.push(remember(row.gln, Side::Supplier, delivery))?;
+    changes.push(remember(row.gln, Side::Supplier, incoming))?;
     let verdict = respond(alloc, known, response, changes)?;
     Ok(verdict)
 }

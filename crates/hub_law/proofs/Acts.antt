@@ -1,5 +1,6 @@
 -- Messages, cancellations and taken marks of one supplier, in the tables of all and in its own rows alone.
 use Rattle.std.proofs.Common.{◌≡◌, ℕ, List, Bool, true, false, [], ◌∷◌, cond, ◌==◌, codes, Some, None, Result, Ok, Err, refl}
+use Rattle.edi_envelope.specs.declared.interchange.RawMessage.{RawMessage}
 use Rattle.gs1_ids.specs.Overlap.{PrefixFree}
 use Rattle.edi_messages.specs.Fault as message_faults
 use Rattle.edi_messages.specs.declared.fault.MessageFault.{MessageFault}
@@ -18,12 +19,13 @@ use Rattle.hub_tables.specs.Tables.{Tables, has_pallet, view, empty}
 use Rattle.hub_tables.specs.declared.change.Change.TheVariants.{SetMail}
 use Rattle.hub_tables.specs.declared.rows.MailRow.{MailRow}
 use Rattle.hub_tables.proofs.Lists.{all_found}
+use Rattle.hub_rules.specs.declared.incoming.IncomingMessage.{IncomingMessage}
 use Rattle.hub_rules.specs.Judging.{refuse_if}
 use Rattle.hub_rules.specs.PartyRules.{is_other_buyer}
 use Rattle.hub_rules.specs.Rules.{judge_order, judge_receipt, judge_response, judge_despatch}
 use Rattle.hub_rules.specs.declared.code.Code.{Code}
 use Rattle.hub_rules.specs.declared.code.Code.TheVariants as rules
-use Rattle.hub_rules.specs.declared.delivery.Cancel.{Cancel}
+use Rattle.hub_rules.specs.declared.cancel.Cancel.{Cancel}
 use Rattle.hub_rules.specs.declared.verdict.Verdict.{Verdict}
 use Rattle.hub_rules.specs.declared.verdict.Verdict.TheVariants.{Refuse}
 use Rattle.hub_rules.specs.Sound.{Sound}
@@ -41,52 +43,52 @@ use Rattle.hub_rules.proofs.Owned.{own_after}
 use Rattle.hub_rules.proofs.OwnChanges.{good_view, after_changes}
 use Rattle.hub_law.specs.CancelText.{cancel_text}
 use Rattle.hub_law.specs.MailText.{entry_at, is_taken}
-use Rattle.hub_law.specs.Messages.{Sent, delivery_of, body_of, deliver_retailers, deliver_suppliers, cancel}
+use Rattle.hub_law.specs.Messages.{body_of, deliver_retailers, deliver_suppliers, cancel}
 use Rattle.hub_law.specs.Requests.{taking}
 use Rattle.hub_law.specs.Told.{Told, Refused, changed, read_act}
 use Rattle.hub_law.proofs.Acting.{Alike}
 use Rattle.hub_law.proofs.Judged.{unchanged, nothing_done, either, same_verdict, same_reading}
 
 module _ (suppliers : List SupplierRow) (free : PrefixFree (company_prefixes suppliers)) (parties : Parties) (s : SupplierRow) (known : supplier_of suppliers s.gln ≡ Some s) where
-  response_act : (sent : Sent) (t : Tables) → Sound suppliers t →
-      Alike suppliers s t (read_act (response_of sent.message) (λ response. judge_response parties.retailer (Some s) (delivery_of sent) response (view s.gln t)) t)
-      (read_act (response_of sent.message) (λ response. judge_response parties.retailer (Some s) (delivery_of sent) response (view s.gln t)) (view s.gln t))
+  response_act : (sent : RawMessage × IncomingMessage) (t : Tables) → Sound suppliers t →
+      Alike suppliers s t (read_act (response_of sent.0) (λ response. judge_response parties.retailer (Some s) sent.1 response (view s.gln t)) t)
+      (read_act (response_of sent.0) (λ response. judge_response parties.retailer (Some s) sent.1 response (view s.gln t)) (view s.gln t))
   response_act sent t sound =
-      same_reading suppliers free s known t sound (response_of sent.message) _ _ (λ response. refl)
-      (λ response read changes h. keeps_from s (view s.gln t) changes (leads_response s parties.retailer (delivery_of sent) response (view s.gln t) changes (good_view suppliers s t sound) h))
+      same_reading suppliers free s known t sound (response_of sent.0) _ _ (λ response. refl)
+      (λ response read changes h. keeps_from s (view s.gln t) changes (leads_response s parties.retailer sent.1 response (view s.gln t) changes (good_view suppliers s t sound) h))
 
-  despatch_act : (sent : Sent) (t : Tables) → Sound suppliers t →
-      Alike suppliers s t (read_act (despatch_of sent.message) (λ despatch. judge_despatch parties.retailer (Some s) (has_pallet t) (delivery_of sent) despatch (view s.gln t)) t)
-      (read_act (despatch_of sent.message) (λ despatch. judge_despatch parties.retailer (Some s) (has_pallet (view s.gln t)) (delivery_of sent) despatch (view s.gln t)) (view s.gln t))
+  despatch_act : (sent : RawMessage × IncomingMessage) (t : Tables) → Sound suppliers t →
+      Alike suppliers s t (read_act (despatch_of sent.0) (λ despatch. judge_despatch parties.retailer (Some s) (has_pallet t) sent.1 despatch (view s.gln t)) t)
+      (read_act (despatch_of sent.0) (λ despatch. judge_despatch parties.retailer (Some s) (has_pallet (view s.gln t)) sent.1 despatch (view s.gln t)) (view s.gln t))
   despatch_act sent t sound =
-      same_reading suppliers free s known t sound (despatch_of sent.message) _ _
-      (λ despatch. despatch_alike s (has_pallet t) (has_pallet (view s.gln t)) (used_seen suppliers free s known t sound.rooted) parties.retailer (delivery_of sent) despatch (view s.gln t))
-      (λ despatch read changes h. keeps_from s (view s.gln t) changes (leads_despatch s parties.retailer (has_pallet (view s.gln t)) (delivery_of sent) despatch (view s.gln t) changes (good_view suppliers s t sound) h))
+      same_reading suppliers free s known t sound (despatch_of sent.0) _ _
+      (λ despatch. despatch_alike s (has_pallet t) (has_pallet (view s.gln t)) (used_seen suppliers free s known t sound.rooted) parties.retailer sent.1 despatch (view s.gln t))
+      (λ despatch read changes h. keeps_from s (view s.gln t) changes (leads_despatch s parties.retailer (has_pallet (view s.gln t)) sent.1 despatch (view s.gln t) changes (good_view suppliers s t sound) h))
 
-  order_act : (sent : Sent) (t : Tables) → Sound suppliers t →
-      Alike suppliers s t (read_act (order_of sent.message) (λ order. judge_order parties.retailer (Some s) (delivery_of sent) (body_of sent) order (view s.gln t)) t)
-      (read_act (order_of sent.message) (λ order. judge_order parties.retailer (Some s) (delivery_of sent) (body_of sent) order (view s.gln t)) (view s.gln t))
+  order_act : (sent : RawMessage × IncomingMessage) (t : Tables) → Sound suppliers t →
+      Alike suppliers s t (read_act (order_of sent.0) (λ order. judge_order parties.retailer (Some s) sent.1 (body_of sent.0) order (view s.gln t)) t)
+      (read_act (order_of sent.0) (λ order. judge_order parties.retailer (Some s) sent.1 (body_of sent.0) order (view s.gln t)) (view s.gln t))
   order_act sent t sound =
-      same_reading suppliers free s known t sound (order_of sent.message) _ _ (λ order. refl)
-      (λ order read changes h. keeps_from s (view s.gln t) changes (leads_order s parties.retailer (delivery_of sent) (body_of sent) order (order_apart sent.message order read) (view s.gln t) changes (good_view suppliers s t sound) h))
+      same_reading suppliers free s known t sound (order_of sent.0) _ _ (λ order. refl)
+      (λ order read changes h. keeps_from s (view s.gln t) changes (leads_order s parties.retailer sent.1 (body_of sent.0) order (order_apart sent.0 order read) (view s.gln t) changes (good_view suppliers s t sound) h))
 
-  receipt_act : (sent : Sent) (t : Tables) → Sound suppliers t →
-      Alike suppliers s t (read_act (receipt_of sent.message) (λ receipt. judge_receipt parties.retailer (Some s) (delivery_of sent) (body_of sent) receipt (view s.gln t)) t)
-      (read_act (receipt_of sent.message) (λ receipt. judge_receipt parties.retailer (Some s) (delivery_of sent) (body_of sent) receipt (view s.gln t)) (view s.gln t))
+  receipt_act : (sent : RawMessage × IncomingMessage) (t : Tables) → Sound suppliers t →
+      Alike suppliers s t (read_act (receipt_of sent.0) (λ receipt. judge_receipt parties.retailer (Some s) sent.1 (body_of sent.0) receipt (view s.gln t)) t)
+      (read_act (receipt_of sent.0) (λ receipt. judge_receipt parties.retailer (Some s) sent.1 (body_of sent.0) receipt (view s.gln t)) (view s.gln t))
   receipt_act sent t sound =
-      same_reading suppliers free s known t sound (receipt_of sent.message) _ _ (λ receipt. refl)
-      (λ receipt read changes h. keeps_from s (view s.gln t) changes (leads_receipt s parties.retailer (delivery_of sent) (body_of sent) receipt (view s.gln t) changes (good_view suppliers s t sound) h))
+      same_reading suppliers free s known t sound (receipt_of sent.0) _ _ (λ receipt. refl)
+      (λ receipt read changes h. keeps_from s (view s.gln t) changes (leads_receipt s parties.retailer sent.1 (body_of sent.0) receipt (view s.gln t) changes (good_view suppliers s t sound) h))
 
-  pub suppliers_act : (sent : Sent) (t : Tables) → Sound suppliers t → Alike suppliers s t (deliver_suppliers (view s.gln) parties s sent t) (deliver_suppliers (λ rows. rows) parties s sent (view s.gln t))
+  pub suppliers_act : (sent : RawMessage × IncomingMessage) (t : Tables) → Sound suppliers t → Alike suppliers s t (deliver_suppliers (view s.gln) parties s sent t) (deliver_suppliers (λ rows. rows) parties s sent (view s.gln t))
   suppliers_act sent t sound =
-      either suppliers s t sound (same sent.message.kind (codes "ORDRSP")) _ _ _ _ (response_act sent t sound)
-      (either suppliers s t sound (same sent.message.kind (codes "DESADV")) _ _ _ _ (despatch_act sent t sound)
+      either suppliers s t sound (same sent.0.kind (codes "ORDRSP")) _ _ _ _ (response_act sent t sound)
+      (either suppliers s t sound (same sent.0.kind (codes "DESADV")) _ _ _ _ (despatch_act sent t sound)
       (nothing_done suppliers s t sound (Refused (message_faults.code_text MessageType))))
 
-  pub retailers_act : (sent : Sent) (t : Tables) → Sound suppliers t → Alike suppliers s t (deliver_retailers (view s.gln) parties (Some s) sent t) (deliver_retailers (λ rows. rows) parties (Some s) sent (view s.gln t))
+  pub retailers_act : (sent : RawMessage × IncomingMessage) (t : Tables) → Sound suppliers t → Alike suppliers s t (deliver_retailers (view s.gln) parties (Some s) sent t) (deliver_retailers (λ rows. rows) parties (Some s) sent (view s.gln t))
   retailers_act sent t sound =
-      either suppliers s t sound (same sent.message.kind (codes "ORDERS")) _ _ _ _ (order_act sent t sound)
-      (either suppliers s t sound (same sent.message.kind (codes "RECADV")) _ _ _ _ (receipt_act sent t sound)
+      either suppliers s t sound (same sent.0.kind (codes "ORDERS")) _ _ _ _ (order_act sent t sound)
+      (either suppliers s t sound (same sent.0.kind (codes "RECADV")) _ _ _ _ (receipt_act sent t sound)
       (nothing_done suppliers s t sound (Refused (message_faults.code_text MessageType))))
 
   pub cancel_act : (c : Cancel) (t : Tables) → Sound suppliers t → Alike suppliers s t (cancel (view s.gln) (Some s) c t) (cancel (λ rows. rows) (Some s) c (view s.gln t))
@@ -118,12 +120,12 @@ refused_anyway true first second t = refl
 refused_anyway false first second t = refl
 
 -- what names no registered supplier changes nothing
-pub nobodys_message : (look : Tables → Tables) (parties : Parties) (sent : Sent) (t : Tables) → (deliver_retailers look parties None sent t).1 ≡ t
+pub nobodys_message : (look : Tables → Tables) (parties : Parties) (sent : RawMessage × IncomingMessage) (t : Tables) → (deliver_retailers look parties None sent t).1 ≡ t
 nobodys_message look parties sent t =
-    either_nothing (same sent.message.kind (codes "ORDERS")) _ _ t
-    (read_nothing (order_of sent.message) _ t (λ order. refused_anyway (is_other_buyer parties.retailer (Some order.buyer)) rules.Buyer rules.Supplier t))
-    (either_nothing (same sent.message.kind (codes "RECADV")) _ _ t
-    (read_nothing (receipt_of sent.message) _ t (λ receipt. refused_anyway (is_other_buyer parties.retailer receipt.buyer) rules.Buyer rules.Supplier t)) refl)
+    either_nothing (same sent.0.kind (codes "ORDERS")) _ _ t
+    (read_nothing (order_of sent.0) _ t (λ order. refused_anyway (is_other_buyer parties.retailer (Some order.buyer)) rules.Buyer rules.Supplier t))
+    (either_nothing (same sent.0.kind (codes "RECADV")) _ _ t
+    (read_nothing (receipt_of sent.0) _ t (λ receipt. refused_anyway (is_other_buyer parties.retailer receipt.buyer) rules.Buyer rules.Supplier t)) refl)
 
 pub nobodys_cancellation : (look : Tables → Tables) (c : Cancel) (t : Tables) → (cancel look None c t).1 ≡ t
 nobodys_cancellation look c t = refl

@@ -6,10 +6,10 @@ use Rattle.hub_parties.specs.declared.row.SupplierRow.{SupplierRow}
 use Rattle.hub_tables.specs.Rows.{same}
 use Rattle.hub_tables.specs.Tables.{Tables, view}
 use Rattle.hub_tables.proofs.Lists.{decide, same_is}
-use Rattle.hub_law.specs.Alone.{Item, Own, supplier_step, own_items, retailer_items, items, items_as}
+use Rattle.hub_law.specs.Alone.{Item, Own, supplier_step, own_items, retailer_items, items_of_input, items_as}
 use Rattle.hub_law.specs.Machine.{shared_step, step_as}
-use Rattle.hub_law.specs.Mark.{Mark}
-use Rattle.hub_law.specs.Replies.{denied, unless_stopped}
+use Rattle.hub_law.specs.Mark.{Mark, replied}
+use Rattle.hub_law.specs.Replies.{denied}
 use Rattle.hub_law.specs.Requests.{supplier_request, retailer_request}
 use Rattle.hub_law.specs.declared.reply.Reply.{Reply}
 use Rattle.hub_law.specs.declared.request.Input.{Input}
@@ -22,7 +22,7 @@ abbrev pub step_by : Rows → Option SupplierRow → Input → Mark → Tables �
 step_by register (Some s) input mark t = supplier_step (view s.gln) (parties_of register) s input mark t
 step_by register None input mark t =
     if is_retailers register input then retailer_request register input.moment mark input.request t
-    else (unless_stopped mark denied, t)
+    else replied mark denied t
 
 abbrev pub items_by : List ℕ → Rows → Option SupplierRow → Input → Mark → List Item
 items_by gln register (Some s) input mark = own_items gln input mark
@@ -31,9 +31,9 @@ items_by gln register None input mark = if is_retailers register input then reta
 module _ (register : Rows) (input : Input) (mark : Mark) where
   by_row : (t : Tables) (o : Option SupplierRow) → step_as register (role_by register o input.caller input.key) o input mark t ≡ step_by register o input mark t
   by_row t (Some s) =
-      elim (same s.key input.key) as (λ v. step_as register (if v then Some Supplier else None) (Some s) input mark t ≡ (if v then supplier_request (view s.gln) (parties_of register) s input.moment mark input.request t else (unless_stopped mark denied, t))) [ true ↦ refl | false ↦ refl ]
+      elim (same s.key input.key) as (λ v. step_as register (if v then Some Supplier else None) (Some s) input mark t ≡ (if v then supplier_request (view s.gln) (parties_of register) s input.moment mark input.request t else replied mark denied t)) [ true ↦ refl | false ↦ refl ]
   by_row t None =
-      elim (is_retailers register input) as (λ v. step_as register (if v then Some Retailer else None) None input mark t ≡ (if v then retailer_request register input.moment mark input.request t else (unless_stopped mark denied, t))) [ true ↦ refl | false ↦ refl ]
+      elim (is_retailers register input) as (λ v. step_as register (if v then Some Retailer else None) None input mark t ≡ (if v then retailer_request register input.moment mark input.request t else replied mark denied t)) [ true ↦ refl | false ↦ refl ]
 
   pub step_is : (t : Tables) → shared_step register t input mark ≡ step_by register (row_of register input.caller) input mark t
   step_is t = by_row t (row_of register input.caller)
@@ -49,5 +49,5 @@ module _ (register : Rows) (input : Input) (mark : Mark) where
         ]
       ]
 
-  pub items_are : (gln : List ℕ) (s : SupplierRow) → supplier_of register.suppliers gln ≡ Some s → items gln register input mark ≡ items_by gln register (row_of register input.caller) input mark
+  pub items_are : (gln : List ℕ) (s : SupplierRow) → supplier_of register.suppliers gln ≡ Some s → items_of_input gln register input mark ≡ items_by gln register (row_of register input.caller) input mark
   items_are gln s known = items_by_row gln s known (row_of register input.caller) refl

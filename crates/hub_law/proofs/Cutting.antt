@@ -1,5 +1,5 @@
 -- Uploads that are whole, and those that are stopped behind some of their messages.
-use Rattle.std.proofs.Common.{◌≡◌, ℕ, zero, suc, ◌<◌, ◌≤◌, nat_lt, Bool, true, false, if◌then◌else◌, List, [], ◌∷◌, ◌++◌, length, take, Option, Some, None, Ok, Err, refl, sym, ◌∙◌, ap, subst, arith}
+use Rattle.std.proofs.Common.{◌≡◌, ℕ, zero, suc, ◌<◌, ◌≤◌, nat_lt, true, false, if◌then◌else◌, List, [], ◌∷◌, ◌++◌, length, take, Option, Some, None, Ok, Err, refl, sym, ◌∙◌, ap, subst, arith}
 use Rattle.std.specs.List.{list_any}
 use Rattle.std.proofs.lemmas.Bool.Decides.{nat_tests}
 use Rattle.edi_envelope.specs.declared.interchange.Interchange.{Interchange}
@@ -10,14 +10,15 @@ use Rattle.hub_parties.specs.declared.role.Role.TheVariants.{Retailer, Supplier}
 use Rattle.hub_parties.specs.declared.row.SupplierRow.{SupplierRow}
 use Rattle.hub_tables.specs.Tables.{Tables, view}
 use Rattle.hub_tables.specs.declared.rows.MailRow.{MailRow}
+use Rattle.hub_rules.specs.declared.incoming.IncomingMessage.{IncomingMessage}
 use Rattle.hub_law.specs.Machine.{shared_step, step_as}
 use Rattle.hub_law.specs.MailText.{entry_at}
-use Rattle.hub_law.specs.Mark.{Mark, Whole, StoppedAfter}
-use Rattle.hub_law.specs.Messages.{Sent, messages_at, deliver_suppliers}
+use Rattle.hub_law.specs.Mark.{Mark, Whole, StoppedAfter, first_done}
+use Rattle.hub_law.specs.Messages.{messages_at, deliver_suppliers}
 use Rattle.hub_law.specs.Opening.{Opened}
-use Rattle.hub_law.specs.Replies.{told_words, interchange_line, message_lines, stopped_line, stopped}
-use Rattle.hub_law.specs.Requests.{uploaded, from_supplier, from_retailer, supplier_request, retailer_request, deliver_named, taken}
-use Rattle.hub_law.specs.Stops.{opened_well, upload_from, upload_by, upload_of, act_by, act_of, whole_reply, reply_behind}
+use Rattle.hub_law.specs.Replies.{told_words, interchange_line, message_lines, stopped_line, stopped, whole_reply, cut_reply}
+use Rattle.hub_law.specs.Requests.{reply_by_stop, uploaded, from_supplier, from_retailer, supplier_request, retailer_request, deliver_named, taken}
+use Rattle.hub_law.specs.Stops.{opened_well, upload_from, upload_by, upload_of, act_by, act_of, reply_behind}
 use Rattle.hub_law.specs.Told.{Told, Act, is_refused, in_row}
 use Rattle.hub_law.specs.Widths.{line}
 use Rattle.hub_law.specs.declared.reply.Outcome.TheVariants.{Stopped}
@@ -40,7 +41,7 @@ lines_first (suc k) [] told = refl
 lines_first (suc k) (message ∷ messages) [] = refl
 lines_first (suc k) (message ∷ messages) (one ∷ told) = ap (λ rest. line (message.reference ∷ message.kind ∷ told_words one) ++ rest) (lines_first k messages told)
 
-module _ (deliver : Sent → Act) (moment : ℕ) (t : Tables) where
+module _ (deliver : RawMessage × IncomingMessage → Act) (moment : ℕ) (t : Tables) where
   abbrev told_of : Interchange → List Told
   told_of i = (in_row deliver (messages_at moment i) t).0
 
@@ -50,26 +51,25 @@ module _ (deliver : Sent → Act) (moment : ℕ) (t : Tables) where
 
   -- the first k messages that are told of
   abbrev cut : ℕ → Interchange → List Told → Tables → Reply × Tables
-  cut k i told after = (record { outcome = Stopped; refused = list_any is_refused told; body = (interchange_line i ++ message_lines i.messages told) ++ stopped_line }, after)
+  cut k i told after = (cut_reply i told, after)
 
   cut_behind : (k : ℕ) (i : Interchange) → cut k i (in_row deliver (take k (messages_at moment i)) t).0 (in_row deliver (take k (messages_at moment i)) t).1 ≡ (reply_behind k i (told_of i), (in_row deliver (take k (messages_at moment i)) t).1)
   cut_behind k i =
       ap (λ told. cut k i told (in_row deliver (take k (messages_at moment i)) t).1) (told_first deliver k (messages_at moment i) t)
       ∙ ap (λ lines. (record { outcome = Stopped; refused = list_any is_refused (take k (told_of i)); body = (interchange_line i ++ lines) ++ stopped_line }, (in_row deliver (take k (messages_at moment i)) t).1)) (lines_first k i.messages (told_of i))
 
-  -- by whether there are more
-  abbrev by_count : Bool → ℕ → Interchange → Reply × Tables
-  by_count v k i = (
-    if v then record { outcome = Stopped; refused = list_any is_refused (in_row deliver (if v then take k (messages_at moment i) else []) t).0; body = (interchange_line i ++ message_lines i.messages (in_row deliver (if v then take k (messages_at moment i) else []) t).0) ++ stopped_line } else stopped,
-    (in_row deliver (if v then take k (messages_at moment i) else []) t).1,
-  )
+  -- by the messages behind which it was stopped
+  abbrev by_stop : Option ℕ → ℕ → Interchange → Reply × Tables
+  by_stop behind k i =
+      let looked : List (RawMessage × IncomingMessage) = first_done (StoppedAfter k) behind (messages_at moment i) in
+      (reply_by_stop (StoppedAfter k) behind i (in_row deliver looked t).0, (in_row deliver looked t).1)
 
   upload_behind : (k : ℕ) (opened : Opened) (i : Interchange) → opened_well opened ≡ Some i → k < length i.messages → uploaded deliver moment (StoppedAfter k) opened t ≡ (reply_behind k i (told_of i), (in_row deliver (take k (messages_at moment i)) t).1)
   upload_behind k (Err code) i h less = cc
   upload_behind k (Ok j) i h less =
       let same : i ≡ j = cc in
       let more : nat_lt k (length j.messages) ≡ true = subst (λ (i : Interchange). nat_lt k (length i.messages) ≡ true) same (is_less k (length i.messages) less) in
-      subst (λ i. uploaded deliver moment (StoppedAfter k) (Ok j) t ≡ (reply_behind k i (told_of i), (in_row deliver (take k (messages_at moment i)) t).1)) (sym same) (ap (λ v. by_count v k j) more ∙ cut_behind k j)
+      subst (λ i. uploaded deliver moment (StoppedAfter k) (Ok j) t ≡ (reply_behind k i (told_of i), (in_row deliver (take k (messages_at moment i)) t).1)) (sym same) (ap (λ v. by_stop (if v then Some k else None) k j) more ∙ cut_behind k j)
     where
       is_less : (a b : ℕ) → a < b → nat_lt a b ≡ true
       is_less a b h = grind (arith, nat_tests)
@@ -78,7 +78,7 @@ module _ (deliver : Sent → Act) (moment : ℕ) (t : Tables) where
   upload_too_far k (Err code) i h most = cc
   upload_too_far k (Ok j) i h most =
       let same : i ≡ j = cc in
-      ap (λ v. by_count v k j) (subst (λ (i : Interchange). nat_lt k (length i.messages) ≡ false) same (no_less k (length i.messages) most))
+      ap (λ v. by_stop (if v then Some k else None) k j) (subst (λ (i : Interchange). nat_lt k (length i.messages) ≡ false) same (no_less k (length i.messages) most))
     where
       no_less : (a b : ℕ) → b ≤ a → nat_lt a b ≡ false
       no_less a b h = grind (arith, nat_tests)
@@ -88,8 +88,8 @@ module _ (deliver : Sent → Act) (moment : ℕ) (t : Tables) where
   upload_none k (Ok j) h = cc
 
 -- A fact of an upload that is looked at holds of whoever sends it.
-module _ (register : Rows) (t : Tables) (mark : Mark) (P : Interchange → Type 0) (after : (Sent → Act) → ℕ → Interchange → Reply × Tables)
-    (of_upload : (deliver : Sent → Act) (moment : ℕ) (opened : Opened) (i : Interchange) → opened_well opened ≡ Some i → P i → uploaded deliver moment mark opened t ≡ after deliver moment i) where
+module _ (register : Rows) (t : Tables) (mark : Mark) (P : Interchange → Type 0) (after : (RawMessage × IncomingMessage → Act) → ℕ → Interchange → Reply × Tables)
+    (of_upload : (deliver : RawMessage × IncomingMessage → Act) (moment : ℕ) (opened : Opened) (i : Interchange) → opened_well opened ≡ Some i → P i → uploaded deliver moment mark opened t ≡ after deliver moment i) where
   suppliers : (s : SupplierRow) (moment : ℕ) (request : Request) (i : Interchange) → upload_from (from_supplier (parties_of register) s) request ≡ Some i → P i → supplier_request (view s.gln) (parties_of register) s moment mark request t ≡ after (deliver_suppliers (view s.gln) (parties_of register) s) moment i
   suppliers s moment (requests.Upload bytes) i h p = of_upload (deliver_suppliers (view s.gln) (parties_of register) s) moment (from_supplier (parties_of register) s bytes) i h p
   suppliers s moment (requests.MailAfter number) i h p = cc

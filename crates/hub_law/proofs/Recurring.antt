@@ -1,5 +1,8 @@
 -- What was accepted in a run and comes again later in it.
-use Rattle.std.proofs.Common.{◌≡◌, ℕ, zero, suc, ◌+◌, ◌<◌, ◌≤◌, true, false, ◌&&◌, if◌then◌else◌, List, [], ◌∷◌, ◌++◌, length, slice_get, take, Option, Some, None, refl, sym, ◌∙◌, ap, subst, arith}
+use Rattle.std.proofs.Common.{◌≡◌, ℕ, zero, suc, ◌+◌, ◌<◌, ◌≤◌, min, nat_lt, Bool, true, false, ◌&&◌, if◌then◌else◌, List, [], ◌∷◌, ◌++◌, length, map, slice_get, take, Option, Some, None, refl, sym, ◌∙◌, ap, subst, arith}
+use Rattle.std.proofs.lemmas.Bool.Decides.{nat_tests}
+use Rattle.std.proofs.lemmas.List.{length-take}
+use Rattle.edi_envelope.specs.declared.interchange.RawMessage.{RawMessage}
 use Rattle.edi_envelope.specs.declared.interchange.Interchange.{Interchange}
 use Rattle.gs1_ids.specs.Overlap.{PrefixFree}
 use Rattle.hub_parties.specs.Rows.{Rows, parties_of, company_prefixes, supplier_of, row_of, role_by, role_of}
@@ -8,12 +11,13 @@ use Rattle.hub_parties.specs.declared.row.SupplierRow.{SupplierRow}
 use Rattle.hub_tables.specs.Rows.{same}
 use Rattle.hub_tables.specs.Sets.{Has}
 use Rattle.hub_tables.specs.Tables.{Tables, view}
+use Rattle.hub_rules.specs.declared.incoming.IncomingMessage.{IncomingMessage}
 use Rattle.hub_rules.specs.Sound.{Sound}
-use Rattle.hub_rules.specs.declared.delivery.Cancel.{Cancel}
-use Rattle.hub_law.specs.Again.{MessageAt, Reaches, SameMessage, tables_before, told_at}
+use Rattle.hub_rules.specs.declared.cancel.Cancel.{Cancel}
+use Rattle.hub_law.specs.Again.{MessageAt, Reaches, SameReference, tables_before, told_at}
 use Rattle.hub_law.specs.Machine.{Inputs, shared_step, shared_run, step_as}
-use Rattle.hub_law.specs.Mark.{Mark, Whole, StoppedEmpty, StoppedBare, StoppedAfter}
-use Rattle.hub_law.specs.Messages.{Sent, messages_at, deliver_suppliers, cancel}
+use Rattle.hub_law.specs.Mark.{Mark, Whole, StoppedEmpty, StoppedBare, StoppedAfter, first_done}
+use Rattle.hub_law.specs.Messages.{incoming, messages_at, deliver_suppliers, cancel}
 use Rattle.hub_law.specs.Remembered.{StaysRemembered}
 use Rattle.hub_law.specs.Replies.{cancel_reply}
 use Rattle.hub_law.specs.Requests.{deliver_named, retailer_request}
@@ -76,12 +80,19 @@ within [] (suc place) x h = cc
 within (y ∷ xs) zero x h = omega arith
 within (y ∷ xs) (suc place) x h = omega (arith, within xs place x h)
 
+-- what stands at a place stands there after a map
+at_place : {X Y : Type 0} (f : X → Y) (xs : List X) (place : ℕ) (x : X) → slice_get xs place ≡ Some x → slice_get (map f xs) place ≡ Some (f x)
+at_place f [] zero x h = cc
+at_place f [] (suc place) x h = cc
+at_place f (y ∷ xs) zero x h = let same : y ≡ x = cc in ap (λ x. Some (f x)) same
+at_place f (y ∷ xs) (suc place) x h = at_place f xs place x h
+
 run_of_both : (register : Rows) (t : Tables) (before later : Inputs) → (shared_run register t (before ++ later)).1 ≡ (shared_run register (shared_run register t before).1 later).1
 run_of_both register t [] later = refl
 run_of_both register t ((input, mark) ∷ before) later = run_of_both register (shared_step register t input mark).1 before later
 
 -- the act of whoever has a row, or none
-abbrev act_at : Rows → Option SupplierRow → Sent → Act
+abbrev act_at : Rows → Option SupplierRow → RawMessage × IncomingMessage → Act
 act_at register (Some s) = deliver_suppliers (view s.gln) (parties_of register) s
 act_at register None = deliver_named register
 
@@ -95,43 +106,56 @@ module _ (register : Rows) where
   act_is : (input : Input) (upload : Interchange) → upload_of register input ≡ Some upload → act_of register input ≡ act_at register (row_of register input.caller)
   act_is input upload h = act_by_row input upload (row_of register input.caller) h
 
-  acts_stay : (o : Option SupplierRow) (sents : List Sent) (t : Tables) → StaysRemembered t (in_row (act_at register o) sents t).1
+  acts_stay : (o : Option SupplierRow) (sents : List (RawMessage × IncomingMessage)) (t : Tables) → StaysRemembered t (in_row (act_at register o) sents t).1
   acts_stay (Some s) sents t = all_suppliers_stay (view s.gln) (parties_of register) s sents t
   acts_stay None sents t = all_retailers_stay register sents t
 
   module _ (free : PrefixFree (company_prefixes register.suppliers)) where
-    act_sound : (gln : List ℕ) (o : Option SupplierRow) → row_of register gln ≡ o → (sent : Sent) (t : Tables) → Sound register.suppliers t → Sound register.suppliers (act_at register o sent t).1
+    act_sound : (gln : List ℕ) (o : Option SupplierRow) → row_of register gln ≡ o → (sent : RawMessage × IncomingMessage) (t : Tables) → Sound register.suppliers t → Sound register.suppliers (act_at register o sent t).1
     act_sound gln (Some s) known sent t sound =
         (suppliers_act register.suppliers free (parties_of register) s (ap (supplier_of register.suppliers) (gln_of register.suppliers gln s known) ∙ known) sent t sound).apart.sound
     act_sound gln None known sent t sound = message_sound register free sent t sound
 
-    act_again : (o : Option SupplierRow) (sent again : Sent) (t u : Tables) → again.control ≡ sent.control → again.message ≡ sent.message → (act_at register o sent t).0 ≡ Accepted → StaysRemembered (act_at register o sent t).1 u → Sound register.suppliers u → act_at register o again u ≡ (Repeated, u)
-    act_again o sent again t u control message told stays sound =
-        let same_again : record sent { moment = again.moment; decimal = again.decimal } ≡ again = λ k. record { moment = again.moment; decimal = again.decimal; control = sym control k; message = sym message k } in
-        subst (λ (one : Sent). act_at register o one u ≡ (Repeated, u)) same_again (by_row o told stays)
+    act_again : (o : Option SupplierRow) (message : RawMessage) (one other : IncomingMessage) (t u : Tables) → record one { moment = other.moment; decimal = other.decimal } ≡ other → (act_at register o (message, one) t).0 ≡ Accepted → StaysRemembered (act_at register o (message, one) t).1 u → Sound register.suppliers u → act_at register o (message, other) u ≡ (Repeated, u)
+    act_again o message one other t u same_again told stays sound =
+        subst (λ (again : IncomingMessage). act_at register o (message, again) u ≡ (Repeated, u)) same_again (by_row o told stays)
       where
-        by_row : (o : Option SupplierRow) → (act_at register o sent t).0 ≡ Accepted → StaysRemembered (act_at register o sent t).1 u → act_at register o (record sent { moment = again.moment; decimal = again.decimal }) u ≡ (Repeated, u)
-        by_row (Some s) told stays = suppliers_repeated register.suppliers (parties_of register) s sent again.moment again.decimal t u told stays sound
-        by_row None told stays = named_repeated register sent again.moment again.decimal t u told stays sound
+        by_row : (o : Option SupplierRow) → (act_at register o (message, one) t).0 ≡ Accepted → StaysRemembered (act_at register o (message, one) t).1 u → act_at register o (message, record one { moment = other.moment; decimal = other.decimal }) u ≡ (Repeated, u)
+        by_row (Some s) told stays = suppliers_repeated register.suppliers (parties_of register) s (message, one) other.moment other.decimal t u told stays sound
+        by_row None told stays = named_repeated register (message, one) other.moment other.decimal t u told stays sound
 
 -- the tables after an upload that reached a place still remember what was there after the message
-module _ (register : Rows) (t : Tables) (input : Input) (upload : Interchange) (looked_at : upload_of register input ≡ Some upload) (place : ℕ) (stays : (sents : List Sent) (t : Tables) → StaysRemembered t (in_row (act_of register input) sents t).1) where
-  abbrev sents : List Sent
+module _ (register : Rows) (t : Tables) (input : Input) (upload : Interchange) (looked_at : upload_of register input ≡ Some upload) (place : ℕ) (stays : (sents : List (RawMessage × IncomingMessage)) (t : Tables) → StaysRemembered t (in_row (act_of register input) sents t).1) where
+  abbrev sents : List (RawMessage × IncomingMessage)
   sents = messages_at input.moment upload
 
-  reached_stays : (mark : Mark) → place < length sents → Reaches mark upload place → StaysRemembered (in_row (act_of register input) (take (place + 1) sents) t).1 (shared_step register t input mark).1
+  -- what is reached of an upload that is stopped stands before the stop, which is before its end
+  reached_behind : (k : ℕ) (more : Bool) → nat_lt k (length upload.messages) ≡ more → place < length (first_done (StoppedAfter k) (if more then Some k else None) sents) → (place < k) × (k < length upload.messages)
+  reached_behind k true e reaches =
+      let most : place < min k (length sents) = subst (λ n. place < n) (length-take k sents) reaches in
+      (below_min place k (length sents) most, is_less k (length upload.messages) e)
+    where
+      below_min : (a b c : ℕ) → a < min b c → a < b
+      below_min a b c h = grind (arith, min)
+
+      is_less : (a b : ℕ) → nat_lt a b ≡ true → a < b
+      is_less a b h = grind (arith, nat_tests)
+  reached_behind k false e reaches = absurd (omega (arith, reaches))
+
+  reached_stays : (mark : Mark) → place < length sents → Reaches mark input upload place → StaysRemembered (in_row (act_of register input) (take (place + 1) sents) t).1 (shared_step register t input mark).1
   reached_stays Whole there reaches =
       subst (λ (after : Reply × Tables). StaysRemembered (in_row (act_of register input) (take (place + 1) sents) t).1 after.1) (sym (whole_upload register t input upload looked_at))
       (subst (λ all. StaysRemembered (in_row (act_of register input) (take (place + 1) sents) t).1 (in_row (act_of register input) all t).1) (all_taken sents) (more_stay (act_of register input) stays sents (place + 1) (length sents) t (omega (arith, there))))
-  reached_stays StoppedEmpty there reaches = absurd reaches
-  reached_stays StoppedBare there reaches = absurd reaches
+  reached_stays StoppedEmpty there reaches = absurd (omega (arith, reaches))
+  reached_stays StoppedBare there reaches = absurd (omega (arith, reaches))
   reached_stays (StoppedAfter k) there reaches =
-      subst (λ (after : Reply × Tables). StaysRemembered (in_row (act_of register input) (take (place + 1) sents) t).1 after.1) (sym (behind_some register t input k upload looked_at reaches.1))
-      (more_stay (act_of register input) stays sents (place + 1) k t (omega (arith, reaches.0)))
+      let behind = reached_behind k (nat_lt k (length upload.messages)) refl reaches in
+      subst (λ (after : Reply × Tables). StaysRemembered (in_row (act_of register input) (take (place + 1) sents) t).1 after.1) (sym (behind_some register t input k upload looked_at behind.1))
+      (more_stay (act_of register input) stays sents (place + 1) k t (omega (arith, behind.0)))
 
 -- The message that comes again.
-module _ (register : Rows) (t : Tables) (before between : Inputs) (first second : Input) (mark : Mark) (place later : ℕ) (sent again : Sent) (one : MessageAt register first place sent) (other : MessageAt register second later again)
-    (free : PrefixFree (company_prefixes register.suppliers)) (sound : Sound register.suppliers t) (alike : SameMessage first second sent again) (reaches : Reaches mark one.upload place) (told : told_at register t before first one.upload place ≡ Some Accepted) where
+module _ (register : Rows) (t : Tables) (before between : Inputs) (first second : Input) (mark : Mark) (place later : ℕ) (message : RawMessage) (one : MessageAt register first place message) (other : MessageAt register second later message)
+    (free : PrefixFree (company_prefixes register.suppliers)) (sound : Sound register.suppliers t) (alike : SameReference first second one.upload other.upload) (reaches : Reaches mark first one.upload place) (told : told_at register t before first one.upload place ≡ Some Accepted) where
   abbrev whose : Option SupplierRow
   whose = row_of register first.caller
 
@@ -156,35 +180,48 @@ module _ (register : Rows) (t : Tables) (before between : Inputs) (first second 
   second_act : act_of register second ≡ act_at register whose
   second_act = act_is register second other.upload other.looked_at ∙ ap (λ caller. act_at register (row_of register caller)) alike.caller
 
-  stays_of : (input : Input) → act_of register input ≡ act_at register whose → (sents : List Sent) (u : Tables) → StaysRemembered u (in_row (act_of register input) sents u).1
-  stays_of input is = subst (λ act. (sents : List Sent) (u : Tables) → StaysRemembered u (in_row act sents u).1) (sym is) (acts_stay register whose)
+  stays_of : (input : Input) → act_of register input ≡ act_at register whose → (sents : List (RawMessage × IncomingMessage)) (u : Tables) → StaysRemembered u (in_row (act_of register input) sents u).1
+  stays_of input is = subst (λ act. (sents : List (RawMessage × IncomingMessage)) (u : Tables) → StaysRemembered u (in_row act sents u).1) (sym is) (acts_stay register whose)
+
+  -- the message as it comes, and as it comes again
+  abbrev sent : RawMessage × IncomingMessage
+  sent = (message, incoming first.moment one.upload message)
+
+  abbrev again : RawMessage × IncomingMessage
+  again = (message, incoming second.moment other.upload message)
+
+  first_there : slice_get (messages_at first.moment one.upload) place ≡ Some sent
+  first_there = at_place (λ message. (message, incoming first.moment one.upload message)) one.upload.messages place message one.there
+
+  second_there : slice_get (messages_at second.moment other.upload) later ≡ Some again
+  second_there = at_place (λ message. (message, incoming second.moment other.upload message)) other.upload.messages later message other.there
 
   accepted : (act_of register first sent here).0 ≡ Accepted
-  accepted = let both : Some (act_of register first sent here).0 ≡ Some Accepted = sym (told_there (act_of register first) (messages_at first.moment one.upload) place sent at_first one.there) ∙ told in cc
+  accepted = let both : Some (act_of register first sent here).0 ≡ Some Accepted = sym (told_there (act_of register first) (messages_at first.moment one.upload) place sent at_first first_there) ∙ told in cc
 
   remembers : StaysRemembered (act_of register first sent here).1 there
   remembers = λ row was.
-      let after : Has (in_row (act_of register first) (take (place + 1) (messages_at first.moment one.upload)) at_first).1.remembered row = subst (λ (u : Tables). Has u.remembered row) (sym (next_there (act_of register first) (messages_at first.moment one.upload) place sent at_first one.there)) was in
-      let stepped = reached_stays register at_first first one.upload one.looked_at place (stays_of first first_act) mark (within (messages_at first.moment one.upload) place sent one.there) reaches row after in
+      let after : Has (in_row (act_of register first) (take (place + 1) (messages_at first.moment one.upload)) at_first).1.remembered row = subst (λ (u : Tables). Has u.remembered row) (sym (next_there (act_of register first) (messages_at first.moment one.upload) place sent at_first first_there)) was in
+      let stepped = reached_stays register at_first first one.upload one.looked_at place (stays_of first first_act) mark (within (messages_at first.moment one.upload) place sent first_there) reaches row after in
       let ran = run_stays register (shared_step register at_first first mark).1 between row stepped in
       stays_of second second_act (take later (messages_at second.moment other.upload)) at_second row (subst (λ (u : Tables). Has u.remembered row) (sym (run_of_both register t before ((first, mark) ∷ between))) ran)
 
   sound_there : Sound register.suppliers there
   sound_there =
       row_sound (act_of register second) (Sound register.suppliers)
-      (subst (λ act. (sent : Sent) (u : Tables) → Sound register.suppliers u → Sound register.suppliers (act sent u).1) (sym second_act) (act_sound register free first.caller whose refl))
+      (subst (λ act. (sent : RawMessage × IncomingMessage) (u : Tables) → Sound register.suppliers u → Sound register.suppliers (act sent u).1) (sym second_act) (act_sound register free first.caller whose refl))
       (take later (messages_at second.moment other.upload)) at_second (run_sound register free t whole_run sound)
 
   repeated : act_of register second again there ≡ (Repeated, there)
   repeated =
       subst (λ act. act again there ≡ (Repeated, there)) (sym second_act)
-      (act_again register free whose sent again here there alike.control alike.message (subst (λ act. (act sent here).0 ≡ Accepted) first_act accepted) (subst (λ act. StaysRemembered (act sent here).1 there) first_act remembers) sound_there)
+      (act_again register free whose message sent.1 again.1 here there (λ k. record again.1 { control = sym alike.control k }) (subst (λ act. (act sent here).0 ≡ Accepted) first_act accepted) (subst (λ act. StaysRemembered (act sent here).1 there) first_act remembers) sound_there)
 
   pub told_again : told_at register t whole_run second other.upload later ≡ Some Repeated
-  told_again = told_there (act_of register second) (messages_at second.moment other.upload) later again at_second other.there ∙ ap (λ (after : Told × Tables). Some after.0) repeated
+  told_again = told_there (act_of register second) (messages_at second.moment other.upload) later again at_second second_there ∙ ap (λ (after : Told × Tables). Some after.0) repeated
 
   pub left_again : tables_before register t whole_run second other.upload (later + 1) ≡ there
-  left_again = next_there (act_of register second) (messages_at second.moment other.upload) later again at_second other.there ∙ ap (λ (after : Told × Tables). after.1) repeated
+  left_again = next_there (act_of register second) (messages_at second.moment other.upload) later again at_second second_there ∙ ap (λ (after : Told × Tables). after.1) repeated
 
 -- The cancellation that comes again.
 module _ (register : Rows) (c : Cancel) where

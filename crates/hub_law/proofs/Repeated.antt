@@ -1,5 +1,6 @@
 -- What was accepted and comes again is repeated.
 use Rattle.std.proofs.Common.{◌≡◌, ℕ, Bool, true, false, cond, not, List, [], ◌∷◌, codes, Option, Some, None, Result, Ok, Err, refl, ◌∙◌, ap}
+use Rattle.edi_envelope.specs.declared.interchange.RawMessage.{RawMessage}
 use Rattle.edi_messages.specs.declared.fault.MessageFault.{MessageFault}
 use Rattle.edi_orders.specs.Order.{order_of}
 use Rattle.edi_orders.specs.Response.{response_of}
@@ -23,15 +24,15 @@ use Rattle.hub_rules.specs.ResponseRules.{judge_new_response}
 use Rattle.hub_rules.specs.PartyRules.{is_other_buyer, registered}
 use Rattle.hub_rules.specs.Rules.{referred_by, judge_message, judge_order, judge_response, judge_despatch, judge_receipt, judge_cancel}
 use Rattle.hub_rules.specs.declared.code.Code.TheVariants as rules
-use Rattle.hub_rules.specs.declared.delivery.Cancel.{Cancel}
-use Rattle.hub_rules.specs.declared.delivery.Delivery.{Delivery}
+use Rattle.hub_rules.specs.declared.cancel.Cancel.{Cancel}
+use Rattle.hub_rules.specs.declared.incoming.IncomingMessage.{IncomingMessage}
 use Rattle.hub_rules.specs.declared.verdict.Verdict.{Verdict}
 use Rattle.hub_rules.specs.declared.verdict.Verdict.TheVariants.{Accept, Refuse}
 use Rattle.hub_rules.specs.Sound.{Sound}
 use Rattle.hub_rules.proofs.Repeating.{found_again, accepted_has, once_again}
 use Rattle.hub_rules.proofs.Verdicts.{not_refused}
 use Rattle.hub_law.specs.CancelText.{cancel_text}
-use Rattle.hub_law.specs.Messages.{Sent, named, delivery_of, body_of, deliver_retailers, deliver_suppliers, cancel}
+use Rattle.hub_law.specs.Messages.{named, body_of, deliver_retailers, deliver_suppliers, cancel}
 use Rattle.hub_law.specs.Remembered.{StaysRemembered}
 use Rattle.hub_law.specs.Requests.{deliver_named}
 use Rattle.hub_law.specs.Told.{Told, Accepted, Repeated, Refused, Act, act, read_act}
@@ -74,36 +75,36 @@ module _ (suppliers : List SupplierRow) where
         ap (λ v. refuse_if v rules.Supplier (judge_once (r s) content (other u s) (view gln u))) passed.0 ∙ once_again (r s) content (other u s) (view gln u) found
 
     -- the same content under the same references, at any moment and with any decimal mark
-    message_recurs : (retailer : List ℕ) (supplier : Option SupplierRow) → ((s : SupplierRow) → supplier ≡ Some s → s.gln ≡ gln) → (side : Side) (delivery : Delivery) (moment decimal : ℕ) (buyer : Option (List ℕ)) (of : List ℕ) (fresh : SupplierRow → Judge) (other : Tables → SupplierRow → Judge) →
-        Recurs t (judge_message retailer supplier side delivery buyer of fresh (view gln t)) (λ u. judge_message retailer supplier side (record delivery { moment = moment; decimal = decimal }) buyer of (other u) (view gln u))
-    message_recurs retailer supplier whose side delivery moment decimal buyer of fresh other change changes h u stays sound =
-        let passed = not_refused (is_other_buyer retailer buyer) rules.Buyer (registered supplier of (λ s. judge_once (referred_by s side delivery) delivery.content (fresh s) (view gln t))) (change ∷ changes) h in
-        let rest = registered_recurs supplier whose of (λ s. referred_by s side delivery) (λ s. refl) delivery.content fresh other change changes passed.1 u stays sound in
-        ap (λ v. refuse_if v rules.Buyer (registered supplier of (λ s. judge_once (referred_by s side delivery) delivery.content (other u s) (view gln u)))) passed.0 ∙ rest
+    message_recurs : (retailer : List ℕ) (supplier : Option SupplierRow) → ((s : SupplierRow) → supplier ≡ Some s → s.gln ≡ gln) → (side : Side) (incoming : IncomingMessage) (moment decimal : ℕ) (buyer : Option (List ℕ)) (of : List ℕ) (fresh : SupplierRow → Judge) (other : Tables → SupplierRow → Judge) →
+        Recurs t (judge_message retailer supplier side incoming buyer of fresh (view gln t)) (λ u. judge_message retailer supplier side (record incoming { moment = moment; decimal = decimal }) buyer of (other u) (view gln u))
+    message_recurs retailer supplier whose side incoming moment decimal buyer of fresh other change changes h u stays sound =
+        let passed = not_refused (is_other_buyer retailer buyer) rules.Buyer (registered supplier of (λ s. judge_once (referred_by s side incoming) incoming.content (fresh s) (view gln t))) (change ∷ changes) h in
+        let rest = registered_recurs supplier whose of (λ s. referred_by s side incoming) (λ s. refl) incoming.content fresh other change changes passed.1 u stays sound in
+        ap (λ v. refuse_if v rules.Buyer (registered supplier of (λ s. judge_once (referred_by s side incoming) incoming.content (other u s) (view gln u)))) passed.0 ∙ rest
 
-    retailers_repeats : (parties : Parties) (supplier : Option SupplierRow) → ((s : SupplierRow) → supplier ≡ Some s → s.gln ≡ gln) → (sent : Sent) (moment decimal : ℕ) →
-        Repeats (deliver_retailers (view gln) parties supplier sent t) (deliver_retailers (view gln) parties supplier (record sent { moment = moment; decimal = decimal }))
+    retailers_repeats : (parties : Parties) (supplier : Option SupplierRow) → ((s : SupplierRow) → supplier ≡ Some s → s.gln ≡ gln) → (sent : RawMessage × IncomingMessage) (moment decimal : ℕ) →
+        Repeats (deliver_retailers (view gln) parties supplier sent t) (deliver_retailers (view gln) parties supplier (sent.0, record sent.1 { moment = moment; decimal = decimal }))
     retailers_repeats parties supplier whose sent moment decimal =
-        let again : Sent = record sent { moment = moment; decimal = decimal } in
-        either_repeats (same sent.message.kind (codes "ORDERS")) _ _ _ _
-        (read_repeats t (order_of sent.message) (λ order. judge_order parties.retailer supplier (delivery_of sent) (body_of sent) order (view gln t)) (λ u order. judge_order parties.retailer supplier (delivery_of again) (body_of again) order (view gln u))
-        (λ order. message_recurs parties.retailer supplier whose sides.Retailer (delivery_of sent) moment decimal (Some order.buyer) order.supplier (λ s. judge_new_order s.gln (delivery_of sent) (body_of sent) order) (λ u s. judge_new_order s.gln (delivery_of again) (body_of again) order)))
-        (either_repeats (same sent.message.kind (codes "RECADV")) _ _ _ _
-        (read_repeats t (receipt_of sent.message) (λ receipt. judge_receipt parties.retailer supplier (delivery_of sent) (body_of sent) receipt (view gln t)) (λ u receipt. judge_receipt parties.retailer supplier (delivery_of again) (body_of again) receipt (view gln u))
-        (λ receipt. message_recurs parties.retailer supplier whose sides.Retailer (delivery_of sent) moment decimal receipt.buyer receipt.supplier (λ s. judge_new_receipt s.gln (delivery_of sent) (body_of sent) receipt) (λ u s. judge_new_receipt s.gln (delivery_of again) (body_of again) receipt)))
+        let again : RawMessage × IncomingMessage = (sent.0, record sent.1 { moment = moment; decimal = decimal }) in
+        either_repeats (same sent.0.kind (codes "ORDERS")) _ _ _ _
+        (read_repeats t (order_of sent.0) (λ order. judge_order parties.retailer supplier sent.1 (body_of sent.0) order (view gln t)) (λ u order. judge_order parties.retailer supplier again.1 (body_of again.0) order (view gln u))
+        (λ order. message_recurs parties.retailer supplier whose sides.Retailer sent.1 moment decimal (Some order.buyer) order.supplier (λ s. judge_new_order s.gln sent.1 (body_of sent.0) order) (λ u s. judge_new_order s.gln again.1 (body_of again.0) order)))
+        (either_repeats (same sent.0.kind (codes "RECADV")) _ _ _ _
+        (read_repeats t (receipt_of sent.0) (λ receipt. judge_receipt parties.retailer supplier sent.1 (body_of sent.0) receipt (view gln t)) (λ u receipt. judge_receipt parties.retailer supplier again.1 (body_of again.0) receipt (view gln u))
+        (λ receipt. message_recurs parties.retailer supplier whose sides.Retailer sent.1 moment decimal receipt.buyer receipt.supplier (λ s. judge_new_receipt s.gln sent.1 (body_of sent.0) receipt) (λ u s. judge_new_receipt s.gln again.1 (body_of again.0) receipt)))
         (refused_never _ t _))
 
-    suppliers_repeats : (parties : Parties) (s : SupplierRow) → s.gln ≡ gln → (sent : Sent) (moment decimal : ℕ) →
-        Repeats (deliver_suppliers (view gln) parties s sent t) (deliver_suppliers (view gln) parties s (record sent { moment = moment; decimal = decimal }))
+    suppliers_repeats : (parties : Parties) (s : SupplierRow) → s.gln ≡ gln → (sent : RawMessage × IncomingMessage) (moment decimal : ℕ) →
+        Repeats (deliver_suppliers (view gln) parties s sent t) (deliver_suppliers (view gln) parties s (sent.0, record sent.1 { moment = moment; decimal = decimal }))
     suppliers_repeats parties s whose sent moment decimal =
-        let again : Sent = record sent { moment = moment; decimal = decimal } in
+        let again : RawMessage × IncomingMessage = (sent.0, record sent.1 { moment = moment; decimal = decimal }) in
         let one : (other : SupplierRow) → ◌≡◌ {A = Option SupplierRow} (Some s) (Some other) → other.gln ≡ gln = λ other e. cc in
-        either_repeats (same sent.message.kind (codes "ORDRSP")) _ _ _ _
-        (read_repeats t (response_of sent.message) (λ response. judge_response parties.retailer (Some s) (delivery_of sent) response (view gln t)) (λ u response. judge_response parties.retailer (Some s) (delivery_of again) response (view gln u))
-        (λ response. message_recurs parties.retailer (Some s) one sides.Supplier (delivery_of sent) moment decimal (Some response.buyer) response.supplier (λ s. judge_new_response response) (λ u s. judge_new_response response)))
-        (either_repeats (same sent.message.kind (codes "DESADV")) _ _ _ _
-        (read_repeats t (despatch_of sent.message) (λ despatch. judge_despatch parties.retailer (Some s) (has_pallet t) (delivery_of sent) despatch (view gln t)) (λ u despatch. judge_despatch parties.retailer (Some s) (has_pallet u) (delivery_of again) despatch (view gln u))
-        (λ despatch. message_recurs parties.retailer (Some s) one sides.Supplier (delivery_of sent) moment decimal despatch.buyer despatch.supplier (λ s. judge_new_despatch s (has_pallet t) despatch) (λ u s. judge_new_despatch s (has_pallet u) despatch)))
+        either_repeats (same sent.0.kind (codes "ORDRSP")) _ _ _ _
+        (read_repeats t (response_of sent.0) (λ response. judge_response parties.retailer (Some s) sent.1 response (view gln t)) (λ u response. judge_response parties.retailer (Some s) again.1 response (view gln u))
+        (λ response. message_recurs parties.retailer (Some s) one sides.Supplier sent.1 moment decimal (Some response.buyer) response.supplier (λ s. judge_new_response response) (λ u s. judge_new_response response)))
+        (either_repeats (same sent.0.kind (codes "DESADV")) _ _ _ _
+        (read_repeats t (despatch_of sent.0) (λ despatch. judge_despatch parties.retailer (Some s) (has_pallet t) sent.1 despatch (view gln t)) (λ u despatch. judge_despatch parties.retailer (Some s) (has_pallet u) again.1 despatch (view gln u))
+        (λ despatch. message_recurs parties.retailer (Some s) one sides.Supplier sent.1 moment decimal despatch.buyer despatch.supplier (λ s. judge_new_despatch s (has_pallet t) despatch) (λ u s. judge_new_despatch s (has_pallet u) despatch)))
         (refused_never _ t _))
 
     cancel_repeats : (supplier : Option SupplierRow) → ((s : SupplierRow) → supplier ≡ Some s → s.gln ≡ gln) → (c : Cancel) → Repeats (cancel (view gln) supplier c t) (cancel (view gln) supplier c)
@@ -111,11 +112,11 @@ module _ (suppliers : List SupplierRow) where
         act_repeats t (judge_cancel supplier (cancel_text c) c (view gln t)) (λ u. judge_cancel supplier (cancel_text c) c (view gln u))
         (registered_recurs supplier whose c.supplier (λ s. record { supplier = s.gln; side = sides.Cancellation; control = c.reference; message = [] }) (λ s. refl) (cancel_text c) (λ s. judge_new_cancel c) (λ u s. judge_new_cancel c))
 
-pub named_repeated : (register : Rows) (sent : Sent) (moment decimal : ℕ) (t u : Tables) → (deliver_named register sent t).0 ≡ Accepted → StaysRemembered (deliver_named register sent t).1 u → Sound register.suppliers u → deliver_named register (record sent { moment = moment; decimal = decimal }) u ≡ (Repeated, u)
+pub named_repeated : (register : Rows) (sent : RawMessage × IncomingMessage) (moment decimal : ℕ) (t u : Tables) → (deliver_named register sent t).0 ≡ Accepted → StaysRemembered (deliver_named register sent t).1 u → Sound register.suppliers u → deliver_named register (sent.0, record sent.1 { moment = moment; decimal = decimal }) u ≡ (Repeated, u)
 named_repeated register sent moment decimal t u told stays sound =
-    retailers_repeats register.suppliers (named sent) t (parties_of register) (supplier_of register.suppliers (named sent)) (gln_of register.suppliers (named sent)) sent moment decimal told u stays sound
+    retailers_repeats register.suppliers (named sent.0) t (parties_of register) (supplier_of register.suppliers (named sent.0)) (gln_of register.suppliers (named sent.0)) sent moment decimal told u stays sound
 
-pub suppliers_repeated : (suppliers : List SupplierRow) (parties : Parties) (s : SupplierRow) (sent : Sent) (moment decimal : ℕ) (t u : Tables) → (deliver_suppliers (view s.gln) parties s sent t).0 ≡ Accepted → StaysRemembered (deliver_suppliers (view s.gln) parties s sent t).1 u → Sound suppliers u → deliver_suppliers (view s.gln) parties s (record sent { moment = moment; decimal = decimal }) u ≡ (Repeated, u)
+pub suppliers_repeated : (suppliers : List SupplierRow) (parties : Parties) (s : SupplierRow) (sent : RawMessage × IncomingMessage) (moment decimal : ℕ) (t u : Tables) → (deliver_suppliers (view s.gln) parties s sent t).0 ≡ Accepted → StaysRemembered (deliver_suppliers (view s.gln) parties s sent t).1 u → Sound suppliers u → deliver_suppliers (view s.gln) parties s (sent.0, record sent.1 { moment = moment; decimal = decimal }) u ≡ (Repeated, u)
 suppliers_repeated suppliers parties s sent moment decimal t u told stays sound =
     suppliers_repeats suppliers s.gln t parties s refl sent moment decimal told u stays sound
 

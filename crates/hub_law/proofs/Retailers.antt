@@ -1,17 +1,19 @@
 -- An input of the retailer, in the tables of all and as one supplier sees it.
 use Rattle.std.proofs.Common.{◌≡◌, ℕ, true, false, cond, if◌then◌else◌, List, [], ◌∷◌, map, filter, Option, Some, None, refl, sym, ◌∙◌, ap, subst}
+use Rattle.edi_envelope.specs.declared.interchange.RawMessage.{RawMessage}
 use Rattle.gs1_ids.specs.Overlap.{PrefixFree}
 use Rattle.hub_parties.specs.Rows.{Parties, Rows, parties_of, company_prefixes, supplier_of}
 use Rattle.hub_parties.specs.declared.row.SupplierRow.{SupplierRow}
 use Rattle.hub_tables.specs.Rows.{same}
 use Rattle.hub_tables.specs.Tables.{Tables, view}
 use Rattle.hub_tables.proofs.Lists.{same_is}
-use Rattle.hub_rules.specs.declared.delivery.Cancel.{Cancel}
+use Rattle.hub_rules.specs.declared.incoming.IncomingMessage.{IncomingMessage}
+use Rattle.hub_rules.specs.declared.cancel.Cancel.{Cancel}
 use Rattle.hub_rules.specs.Sound.{Sound}
-use Rattle.hub_law.specs.Alone.{Item, Message, Cancellation, fold, cancel_items, retailer_items}
-use Rattle.hub_law.specs.Mark.{Mark, Whole, StoppedEmpty, StoppedBare, StoppedAfter}
-use Rattle.hub_law.specs.Messages.{Sent, named, deliver_retailers, cancel}
-use Rattle.hub_law.specs.Requests.{looked_at, from_retailer, deliver_named, cancelled, retailer_request}
+use Rattle.hub_law.specs.Alone.{Item, Message, Cancellation, fold, retailer_items}
+use Rattle.hub_law.specs.Mark.{Mark, Whole, StoppedEmpty, StoppedBare, StoppedAfter, all_unless_stopped}
+use Rattle.hub_law.specs.Messages.{named, deliver_retailers, cancel}
+use Rattle.hub_law.specs.Requests.{looked_at, from_retailer, deliver_named, cancel_named, cancelled, retailer_request}
 use Rattle.hub_law.specs.Told.{Act, in_row}
 use Rattle.hub_law.specs.declared.request.Request.{Request}
 use Rattle.hub_law.specs.declared.request.Request.TheVariants as requests
@@ -66,7 +68,7 @@ pub record Moves (parties : Parties) (s : SupplierRow) (own after : Tables) (ite
   pub silent : (fold parties s items own).0 ≡ []
 
 module _ (register : Rows) (free : PrefixFree (company_prefixes register.suppliers)) where
-  message_apart : (sent : Sent) (t : Tables) → Sound register.suppliers t → IsApart register.suppliers t (λ look supplier. deliver_retailers look (parties_of register) supplier sent)
+  message_apart : (sent : RawMessage × IncomingMessage) (t : Tables) → Sound register.suppliers t → IsApart register.suppliers t (λ look supplier. deliver_retailers look (parties_of register) supplier sent)
   message_apart sent t sound = record {
     ones = λ w known. retailers_act register.suppliers free (parties_of register) w known sent t sound;
     nobodys = λ look. nobodys_message look (parties_of register) sent t;
@@ -78,18 +80,15 @@ module _ (register : Rows) (free : PrefixFree (company_prefixes register.supplie
     nobodys = λ look. nobodys_cancellation look c t;
   }
 
-  abbrev cancel_named : Cancel → Act
-  cancel_named c = cancel (view c.supplier) (supplier_of register.suppliers c.supplier) c
-
   -- Tables stay sound.
-  pub message_sound : (sent : Sent) (t : Tables) → Sound register.suppliers t → Sound register.suppliers (deliver_named register sent t).1
-  message_sound sent t sound = named_sound register.suppliers t sound _ (message_apart sent t sound) (named sent)
+  pub message_sound : (sent : RawMessage × IncomingMessage) (t : Tables) → Sound register.suppliers t → Sound register.suppliers (deliver_named register sent t).1
+  message_sound sent t sound = named_sound register.suppliers t sound _ (message_apart sent t sound) (named sent.0)
 
-  messages_sound : (sents : List Sent) (t : Tables) → Sound register.suppliers t → Sound register.suppliers (in_row (deliver_named register) sents t).1
+  messages_sound : (sents : List (RawMessage × IncomingMessage)) (t : Tables) → Sound register.suppliers t → Sound register.suppliers (in_row (deliver_named register) sents t).1
   messages_sound [] t sound = sound
   messages_sound (sent ∷ sents) t sound = messages_sound sents (deliver_named register sent t).1 (message_sound sent t sound)
 
-  pub cancelled_sound : (mark : Mark) (c : Cancel) (t : Tables) → Sound register.suppliers t → Sound register.suppliers (cancelled mark (cancel_named c t) t).1
+  pub cancelled_sound : (mark : Mark) (c : Cancel) (t : Tables) → Sound register.suppliers t → Sound register.suppliers (cancelled mark (cancel_named register c t) t).1
   cancelled_sound Whole c t sound = named_sound register.suppliers t sound _ (cancel_apart c t sound) c.supplier
   cancelled_sound StoppedEmpty c t sound = sound
   cancelled_sound StoppedBare c t sound = sound
@@ -109,28 +108,28 @@ module _ (register : Rows) (free : PrefixFree (company_prefixes register.supplie
     pub still : (t : Tables) → Moves (parties_of register) s (view s.gln t) t []
     still t = record { seen = refl; silent = refl }
 
-    messages_move : (sents : List Sent) (t : Tables) → Sound register.suppliers t →
-        Moves (parties_of register) s (view s.gln t) (in_row (deliver_named register) sents t).1 (map Message (filter (λ sent. same (named sent) s.gln) sents))
+    messages_move : (sents : List (RawMessage × IncomingMessage)) (t : Tables) → Sound register.suppliers t →
+        Moves (parties_of register) s (view s.gln t) (in_row (deliver_named register) sents t).1 (map Message (filter (λ sent. same (named sent.0) s.gln) sents))
     messages_move [] t sound = still t
     messages_move (sent ∷ sents) t sound =
         let apart = message_apart sent t sound in
         let after = (in_row (deliver_named register) (sent ∷ sents) t).1 in
-        let later = filter (λ sent. same (named sent) s.gln) sents in
+        let later = filter (λ sent. same (named sent.0) s.gln) sents in
         let rest = messages_move sents (deliver_named register sent t).1 (message_sound sent t sound) in
-        elim (same (named sent) s.gln) as (λ v. same (named sent) s.gln ≡ v → Moves (parties_of register) s (view s.gln t) after (map Message (cond v (sent ∷ later) later))) [
+        elim (same (named sent.0) s.gln) as (λ v. same (named sent.0) s.gln ≡ v → Moves (parties_of register) s (view s.gln t) after (map Message (cond v (sent ∷ later) later))) [
           | true ↦ λ e.
-              let moves = subst (λ own. Moves (parties_of register) s own after (map Message later)) (named_sees register.suppliers t sound _ apart (named sent) s known e) rest in
+              let moves = subst (λ own. Moves (parties_of register) s own after (map Message later)) (named_sees register.suppliers t sound _ apart (named sent.0) s known e) rest in
               record { seen = moves.seen; silent = moves.silent }
-          | false ↦ λ e. subst (λ own. Moves (parties_of register) s own after (map Message later)) (another_sees register.suppliers t sound _ apart (named sent) s known e) rest
+          | false ↦ λ e. subst (λ own. Moves (parties_of register) s own after (map Message later)) (another_sees register.suppliers t sound _ apart (named sent.0) s known e) rest
         ] refl
 
     stopped_moves : (c : Cancel) (t : Tables) → Moves (parties_of register) s (view s.gln t) t (if same c.supplier s.gln then [] else [])
     stopped_moves c t = elim (same c.supplier s.gln) as (λ v. Moves (parties_of register) s (view s.gln t) t (if v then [] else [])) [ true ↦ still t | false ↦ still t ]
 
     cancelled_moves : (moment : ℕ) (mark : Mark) (c : Cancel) (t : Tables) → Sound register.suppliers t →
-        Moves (parties_of register) s (view s.gln t) (cancelled mark (cancel_named c t) t).1 (if same c.supplier s.gln then cancel_items moment mark c else [])
+        Moves (parties_of register) s (view s.gln t) (cancelled mark (cancel_named register c t) t).1 (if same c.supplier s.gln then all_unless_stopped mark (Cancellation moment c ∷ []) else [])
     cancelled_moves moment Whole c t sound =
-        elim (same c.supplier s.gln) as (λ v. same c.supplier s.gln ≡ v → Moves (parties_of register) s (view s.gln t) (cancel_named c t).1 (if v then Cancellation moment c ∷ [] else [])) [
+        elim (same c.supplier s.gln) as (λ v. same c.supplier s.gln ≡ v → Moves (parties_of register) s (view s.gln t) (cancel_named register c t).1 (if v then Cancellation moment c ∷ [] else [])) [
           | true ↦ λ e. record { seen = named_sees register.suppliers t sound _ (cancel_apart c t sound) c.supplier s known e; silent = refl }
           | false ↦ λ e. record { seen = another_sees register.suppliers t sound _ (cancel_apart c t sound) c.supplier s known e; silent = refl }
         ] refl

@@ -7,11 +7,11 @@ use Rattle.hub_tables.specs.Rows.{same}
 use Rattle.hub_tables.specs.Tables.{Tables, view}
 use Rattle.hub_tables.proofs.Lists.{decide, same_is}
 use Rattle.hub_rules.specs.Sound.{Sound}
-use Rattle.hub_law.specs.Alone.{Item, Own, own_step, fold, retailer_items, items, items_of}
+use Rattle.hub_law.specs.Alone.{Item, Own, own_step, fold, retailer_items, items_of_input, items}
 use Rattle.hub_law.specs.Laws.{RunIsOwn}
 use Rattle.hub_law.specs.Machine.{Inputs, shared_step, shared_run, replies_to}
-use Rattle.hub_law.specs.Mark.{Mark}
-use Rattle.hub_law.specs.Replies.{denied, unless_stopped}
+use Rattle.hub_law.specs.Mark.{Mark, replied}
+use Rattle.hub_law.specs.Replies.{denied}
 use Rattle.hub_law.specs.Requests.{retailer_request}
 use Rattle.hub_law.specs.declared.reply.Reply.{Reply}
 use Rattle.hub_law.specs.declared.request.Input.{Input}
@@ -37,7 +37,7 @@ module _ (register : Rows) (free : PrefixFree (company_prefixes register.supplie
       let whose = gln_of register.suppliers input.caller w h in
       (supplier_alike register.suppliers free (parties_of register) w (ap (supplier_of register.suppliers) whose ∙ h) input mark t sound).apart.sound
   step_sound input mark t sound None h =
-      elim (is_retailers register input) as (λ v. Sound register.suppliers (if v then retailer_request register input.moment mark input.request t else (unless_stopped mark denied, t)).1) [
+      elim (is_retailers register input) as (λ v. Sound register.suppliers (if v then retailer_request register input.moment mark input.request t else replied mark denied t).1) [
         | true ↦ retailer_sound register free input.moment mark input.request t sound
         | false ↦ sound
       ]
@@ -71,7 +71,7 @@ module _ (register : Rows) (free : PrefixFree (company_prefixes register.supplie
         let unseen = (supplier_alike register.suppliers free (parties_of register) w (ap (supplier_of register.suppliers) whose ∙ h) input mark t sound).apart.unseen s.gln (unlike register.suppliers input.caller w s.gln h e) in
         subst (λ v. Moves (parties_of register) s (view s.gln t) (step_by register (Some w) input mark t).1 (if v then Own input mark ∷ [] else [])) (sym e) (record { seen = unseen; silent = refl })
     anothers input mark t sound e None h =
-        elim (is_retailers register input) as (λ v. Moves (parties_of register) s (view s.gln t) (if v then retailer_request register input.moment mark input.request t else (unless_stopped mark denied, t)).1
+        elim (is_retailers register input) as (λ v. Moves (parties_of register) s (view s.gln t) (if v then retailer_request register input.moment mark input.request t else replied mark denied t).1
         (if v then retailer_items s.gln register input.moment mark input.request else [])) [
           | true ↦ retailer_moves register free s known input.moment mark input.request t sound
           | false ↦ still register free s known t
@@ -87,7 +87,7 @@ module _ (register : Rows) (free : PrefixFree (company_prefixes register.supplie
           | inr e ↦ quiet t input _ _ e (anothers input mark t sound e (supplier_of register.suppliers input.caller) refl)
         ]
 
-    pub one_step : (input : Input) (mark : Mark) (t : Tables) → Sound register.suppliers t → OneStep t input (shared_step register t input mark) (items s.gln register input mark)
+    pub one_step : (input : Input) (mark : Mark) (t : Tables) → Sound register.suppliers t → OneStep t input (shared_step register t input mark) (items_of_input s.gln register input mark)
     one_step input mark t sound =
         subst (λ all. OneStep t input (shared_step register t input mark) all) (sym (items_are register input mark s.gln s known))
         (subst (λ after. OneStep t input after (items_by s.gln register (supplier_of register.suppliers input.caller) input mark)) (sym (step_is register input mark t)) (by_its_row input mark t sound))
@@ -99,8 +99,8 @@ module _ (register : Rows) (free : PrefixFree (company_prefixes register.supplie
         let after = shared_step register t x.0 x.1 in
         let rest = whole_run xs after.1 (sound_after t x.0 x.1 sound) in
         let run : List Item → Tables → List Reply × Tables = fold (parties_of register) s in
-        let now = items s.gln register x.0 x.1 in
-        let later = items_of s.gln register xs in
+        let now = items_of_input s.gln register x.0 x.1 in
+        let later = items s.gln register xs in
         let state = view s.gln t in
         let replies = (shared_run register after.1 xs).0 in
         let heard : (run later (run now state).1).0 ≡ replies_to s.gln xs replies = ap (λ rows. (run later rows).0) (sym one.seen) ∙ sym rest.told in

@@ -1,5 +1,6 @@
 -- What is remembered stays so, whatever comes.
 use Rattle.std.proofs.Common.{ℕ, Bool, true, false, cond, List, [], ◌∷◌, codes, Option, Some, None, Result, Ok, Err, sym, subst}
+use Rattle.edi_envelope.specs.declared.interchange.RawMessage.{RawMessage}
 use Rattle.edi_messages.specs.declared.fault.MessageFault.{MessageFault}
 use Rattle.edi_orders.specs.Order.{order_of}
 use Rattle.edi_orders.specs.Response.{response_of}
@@ -11,6 +12,7 @@ use Rattle.hub_tables.specs.Rows.{same}
 use Rattle.hub_tables.specs.Tables.{Tables, view}
 use Rattle.hub_tables.specs.declared.rows.MailRow.{MailRow}
 use Rattle.hub_tables.specs.Sets.{Has}
+use Rattle.hub_rules.specs.declared.incoming.IncomingMessage.{IncomingMessage}
 use Rattle.hub_rules.specs.Rules.{judge_cancel}
 use Rattle.hub_rules.specs.declared.verdict.Verdict.{Verdict}
 use Rattle.hub_rules.specs.declared.verdict.Verdict.TheVariants.{Accept, Refuse}
@@ -20,7 +22,7 @@ use Rattle.hub_law.specs.declared.reply.Reply.{Reply}
 use Rattle.hub_law.specs.Machine.{Inputs, shared_step, shared_run}
 use Rattle.hub_law.specs.MailText.{entry_at}
 use Rattle.hub_law.specs.Mark.{Mark, Whole, StoppedEmpty, StoppedBare, StoppedAfter}
-use Rattle.hub_law.specs.Messages.{Sent, named, deliver_retailers, deliver_suppliers, cancel}
+use Rattle.hub_law.specs.Messages.{named, deliver_retailers, deliver_suppliers, cancel}
 use Rattle.hub_law.specs.Remembered.{StaysRemembered}
 use Rattle.hub_law.specs.Requests.{looked_at, from_supplier, from_retailer, taking, taken, supplier_request, deliver_named, cancelled, retailer_request}
 use Rattle.hub_law.specs.Told.{Told, Act, changed, read_act, in_row}
@@ -48,21 +50,21 @@ in_row_stays : {X : Type 0} (step : X → Act) → ((x : X) (t : Tables) → Sta
 in_row_stays step f [] t = nothing_lost t
 in_row_stays step f (x ∷ xs) t = λ row there. in_row_stays step f xs (step x t).1 row (f x t row there)
 
-retailers_stays : (look : Tables → Tables) (parties : Parties) (supplier : Option SupplierRow) (sent : Sent) (t : Tables) → StaysRemembered t (deliver_retailers look parties supplier sent t).1
+retailers_stays : (look : Tables → Tables) (parties : Parties) (supplier : Option SupplierRow) (sent : RawMessage × IncomingMessage) (t : Tables) → StaysRemembered t (deliver_retailers look parties supplier sent t).1
 retailers_stays look parties supplier sent t =
-    either_stays (same sent.message.kind (codes "ORDERS")) _ _ t (read_stays (order_of sent.message) _ t)
-    (either_stays (same sent.message.kind (codes "RECADV")) _ _ t (read_stays (receipt_of sent.message) _ t) (nothing_lost t))
+    either_stays (same sent.0.kind (codes "ORDERS")) _ _ t (read_stays (order_of sent.0) _ t)
+    (either_stays (same sent.0.kind (codes "RECADV")) _ _ t (read_stays (receipt_of sent.0) _ t) (nothing_lost t))
 
-suppliers_stays : (look : Tables → Tables) (parties : Parties) (s : SupplierRow) (sent : Sent) (t : Tables) → StaysRemembered t (deliver_suppliers look parties s sent t).1
+suppliers_stays : (look : Tables → Tables) (parties : Parties) (s : SupplierRow) (sent : RawMessage × IncomingMessage) (t : Tables) → StaysRemembered t (deliver_suppliers look parties s sent t).1
 suppliers_stays look parties s sent t =
-    either_stays (same sent.message.kind (codes "ORDRSP")) _ _ t (read_stays (response_of sent.message) _ t)
-    (either_stays (same sent.message.kind (codes "DESADV")) _ _ t (read_stays (despatch_of sent.message) _ t) (nothing_lost t))
+    either_stays (same sent.0.kind (codes "ORDRSP")) _ _ t (read_stays (response_of sent.0) _ t)
+    (either_stays (same sent.0.kind (codes "DESADV")) _ _ t (read_stays (despatch_of sent.0) _ t) (nothing_lost t))
 
 -- the messages of an upload
-pub all_retailers_stay : (register : Rows) (sents : List Sent) (t : Tables) → StaysRemembered t (in_row (deliver_named register) sents t).1
-all_retailers_stay register = in_row_stays (deliver_named register) (λ sent. retailers_stays (view (named sent)) (parties_of register) (supplier_of register.suppliers (named sent)) sent)
+pub all_retailers_stay : (register : Rows) (sents : List (RawMessage × IncomingMessage)) (t : Tables) → StaysRemembered t (in_row (deliver_named register) sents t).1
+all_retailers_stay register = in_row_stays (deliver_named register) (λ sent. retailers_stays (view (named sent.0)) (parties_of register) (supplier_of register.suppliers (named sent.0)) sent)
 
-pub all_suppliers_stay : (look : Tables → Tables) (parties : Parties) (s : SupplierRow) (sents : List Sent) (t : Tables) → StaysRemembered t (in_row (deliver_suppliers look parties s) sents t).1
+pub all_suppliers_stay : (look : Tables → Tables) (parties : Parties) (s : SupplierRow) (sents : List (RawMessage × IncomingMessage)) (t : Tables) → StaysRemembered t (in_row (deliver_suppliers look parties s) sents t).1
 all_suppliers_stay look parties s = in_row_stays (deliver_suppliers look parties s) (suppliers_stays look parties s)
 
 taken_stays : (mark : Mark) (entry : Option MailRow) (t : Tables) → StaysRemembered t (taken mark entry t).1

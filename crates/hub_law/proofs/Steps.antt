@@ -9,11 +9,11 @@ use Rattle.hub_tables.specs.declared.rows.MailRow.{MailRow}
 use Rattle.hub_tables.proofs.Lists.{same_is, same_if, all_always, all_found}
 use Rattle.hub_rules.specs.Sound.{Sound}
 use Rattle.hub_law.specs.MailText.{entry_at}
-use Rattle.hub_law.specs.Mark.{Mark, Whole, StoppedEmpty, StoppedBare, StoppedAfter}
+use Rattle.hub_law.specs.Mark.{Mark, Whole, StoppedEmpty, StoppedBare, StoppedAfter, replied}
 use Rattle.hub_law.specs.Messages.{deliver_suppliers}
 use Rattle.hub_law.specs.Opening.{Opened}
-use Rattle.hub_law.specs.Replies.{denied, unknown, stopped, unless_stopped, upload_reply, reply}
-use Rattle.hub_law.specs.Requests.{looked_at, uploaded, from_supplier, taken, supplier_request}
+use Rattle.hub_law.specs.Replies.{denied, stopped, reply}
+use Rattle.hub_law.specs.Requests.{looked_at, upload_reply, uploaded, from_supplier, taken, supplier_request}
 use Rattle.hub_law.specs.Told.{Act, in_row}
 use Rattle.hub_law.specs.declared.reply.Outcome.TheVariants.{Stopped}
 use Rattle.hub_law.specs.declared.request.Input.{Input}
@@ -61,7 +61,7 @@ module _ (suppliers : List SupplierRow) (free : PrefixFree (company_prefixes sup
 
   taken_alike : (mark : Mark) (number : ℕ) (found : Option MailRow) (t : Tables) → Sound suppliers t → entry_at (view s.gln t) number ≡ found →
       Alike suppliers s t (taken mark found t) (taken mark found (view s.gln t))
-  taken_alike mark number None t sound h = idle suppliers s t sound (unless_stopped mark unknown)
+  taken_alike mark number None t sound h = idle suppliers s t sound _
   taken_alike Whole number (Some entry) t sound h = record { told = refl; apart = taking_act suppliers free parties s known number entry t sound h }
   taken_alike StoppedEmpty number (Some entry) t sound h = idle suppliers s t sound (reply Stopped [])
   taken_alike StoppedBare number (Some entry) t sound h = idle suppliers s t sound stopped
@@ -81,8 +81,8 @@ module _ (suppliers : List SupplierRow) (free : PrefixFree (company_prefixes sup
       Alike suppliers s t (supplier_step (view s.gln) parties s input mark t) (supplier_step (λ rows. rows) parties s input mark (view s.gln t))
   supplier_alike input mark t sound =
       elim (same s.key input.key) as (λ v. Alike suppliers s t
-      (if v then supplier_request (view s.gln) parties s input.moment mark input.request t else (unless_stopped mark denied, t))
-      (if v then supplier_request (λ rows. rows) parties s input.moment mark input.request (view s.gln t) else (unless_stopped mark denied, view s.gln t))) [
+      (if v then supplier_request (view s.gln) parties s input.moment mark input.request t else replied mark denied t)
+      (if v then supplier_request (λ rows. rows) parties s input.moment mark input.request (view s.gln t) else replied mark denied (view s.gln t))) [
         | true ↦ request_alike input.moment mark input.request t sound
-        | false ↦ idle suppliers s t sound (unless_stopped mark denied)
+        | false ↦ idle suppliers s t sound _
       ]

@@ -1,18 +1,20 @@
 -- Inputs that are stopped, and what is said of them.
 use Rattle.std.proofs.Common.{◌≡◌, ◌≢◌, ◌↔◌, ℕ, List, Bool, true, false, cond, nat_lt, [], length, Option, Some, None, Ok, Err, refl, sym, subst, ap}
+use Rattle.edi_envelope.specs.declared.interchange.RawMessage.{RawMessage}
 use Rattle.hub_parties.specs.Rows.{Parties, Rows, parties_of, supplier_of}
 use Rattle.hub_parties.specs.declared.row.SupplierRow.{SupplierRow}
 use Rattle.hub_tables.specs.Rows.{same}
 use Rattle.hub_tables.specs.Tables.{Tables, view}
 use Rattle.hub_tables.specs.declared.rows.MailRow.{MailRow}
+use Rattle.hub_rules.specs.declared.incoming.IncomingMessage.{IncomingMessage}
 use Rattle.hub_law.specs.MailText.{entry_at}
 use Rattle.hub_law.specs.Machine.{shared_step}
-use Rattle.hub_law.specs.Mark.{Mark, Whole, StoppedEmpty, StoppedBare, StoppedAfter}
-use Rattle.hub_law.specs.Messages.{Sent, deliver_suppliers, cancel}
+use Rattle.hub_law.specs.Mark.{Mark, Whole, StoppedEmpty, StoppedBare, StoppedAfter, replied, first_done}
+use Rattle.hub_law.specs.Messages.{messages_at, deliver_suppliers, cancel}
 use Rattle.hub_law.specs.Opening.{Opened}
-use Rattle.hub_law.specs.Replies.{reply, denied, stopped, unless_stopped, entry_reply}
-use Rattle.hub_law.specs.Requests.{uploaded, from_supplier, from_retailer, taken, supplier_request, deliver_named, cancelled, report, retailer_request}
-use Rattle.hub_law.specs.Told.{Told, Act}
+use Rattle.hub_law.specs.Replies.{reply, denied, stopped, entry_reply}
+use Rattle.hub_law.specs.Requests.{reply_by_stop, uploaded, from_supplier, from_retailer, taken, supplier_request, deliver_named, cancelled, report, retailer_request}
+use Rattle.hub_law.specs.Told.{Told, Act, in_row}
 use Rattle.hub_law.specs.declared.reply.Outcome.TheVariants.{Stopped}
 use Rattle.hub_law.specs.declared.reply.Reply.{Reply}
 use Rattle.hub_law.specs.declared.request.Input.{Input}
@@ -39,8 +41,8 @@ report_is_whole (Some s) state = λ e. cc
 
 -- A property of what is replied and left, whatever is asked.
 module _ (mark : Mark) (P : Tables → Reply × Tables → Type 0)
-    (unless : (t : Tables) (whole : Reply) → IsWhole whole → P t (unless_stopped mark whole, t))
-    (upload : (deliver : Sent → Act) (moment : ℕ) (opened : Opened) (t : Tables) → P t (uploaded deliver moment mark opened t))
+    (unless : (t : Tables) (whole : Reply) → IsWhole whole → P t (replied mark whole t))
+    (upload : (deliver : RawMessage × IncomingMessage → Act) (moment : ℕ) (opened : Opened) (t : Tables) → P t (uploaded deliver moment mark opened t))
     (entry : (found : Option MailRow) (t : Tables) → P t (taken mark found t))
     (cut : (after : Told × Tables) (t : Tables) → P t (cancelled mark after t)) where
   of_supplier : (look : Tables → Tables) (parties : Parties) (s : SupplierRow) (moment : ℕ) (request : Request) (t : Tables) → P t (supplier_request look parties s moment mark request t)
@@ -69,8 +71,8 @@ module _ (mark : Mark) (P : Tables → Reply × Tables → Type 0)
 
 module _ (register : Rows) (t : Tables) (input : Input) where
   anybody : (mark : Mark) (P : Tables → Reply × Tables → Type 0) →
-      ((t : Tables) (whole : Reply) → IsWhole whole → P t (unless_stopped mark whole, t)) →
-      ((deliver : Sent → Act) (moment : ℕ) (opened : Opened) (t : Tables) → P t (uploaded deliver moment mark opened t)) →
+      ((t : Tables) (whole : Reply) → IsWhole whole → P t (replied mark whole t)) →
+      ((deliver : RawMessage × IncomingMessage → Act) (moment : ℕ) (opened : Opened) (t : Tables) → P t (uploaded deliver moment mark opened t)) →
       ((found : Option MailRow) (t : Tables) → P t (taken mark found t)) →
       ((after : Told × Tables) (t : Tables) → P t (cancelled mark after t)) → P t (shared_step register t input mark)
   anybody mark P unless upload entry cut = subst (P t) (sym (step_is register input mark t)) (of_anybody mark P unless upload entry cut register (supplier_of register.suppliers input.caller) input t)
@@ -78,7 +80,7 @@ module _ (register : Rows) (t : Tables) (input : Input) where
   whole : IsWhole (shared_step register t input Whole).0
   whole = anybody Whole (λ t after. IsWhole after.0) (λ t reply is_whole. is_whole) upload entry (λ after t e. cc)
     where
-      upload : (deliver : Sent → Act) (moment : ℕ) (opened : Opened) (t : Tables) → IsWhole (uploaded deliver moment Whole opened t).0
+      upload : (deliver : RawMessage × IncomingMessage → Act) (moment : ℕ) (opened : Opened) (t : Tables) → IsWhole (uploaded deliver moment Whole opened t).0
       upload deliver moment (Err code) t = λ e. cc
       upload deliver moment (Ok i) t = λ e. cc
 
@@ -89,7 +91,7 @@ module _ (register : Rows) (t : Tables) (input : Input) where
   pub empty_stop : shared_step register t input StoppedEmpty ≡ (reply Stopped [], t)
   empty_stop = anybody StoppedEmpty (λ t after. after ≡ (reply Stopped [], t)) (λ t whole is_whole. refl) upload entry (λ after t. refl)
     where
-      upload : (deliver : Sent → Act) (moment : ℕ) (opened : Opened) (t : Tables) → uploaded deliver moment StoppedEmpty opened t ≡ (reply Stopped [], t)
+      upload : (deliver : RawMessage × IncomingMessage → Act) (moment : ℕ) (opened : Opened) (t : Tables) → uploaded deliver moment StoppedEmpty opened t ≡ (reply Stopped [], t)
       upload deliver moment (Err code) t = refl
       upload deliver moment (Ok i) t = refl
 
@@ -100,7 +102,7 @@ module _ (register : Rows) (t : Tables) (input : Input) where
   pub bare_stop : shared_step register t input StoppedBare ≡ (stopped, t)
   bare_stop = anybody StoppedBare (λ t after. after ≡ (stopped, t)) (λ t whole is_whole. refl) upload entry (λ after t. refl)
     where
-      upload : (deliver : Sent → Act) (moment : ℕ) (opened : Opened) (t : Tables) → uploaded deliver moment StoppedBare opened t ≡ (stopped, t)
+      upload : (deliver : RawMessage × IncomingMessage → Act) (moment : ℕ) (opened : Opened) (t : Tables) → uploaded deliver moment StoppedBare opened t ≡ (stopped, t)
       upload deliver moment (Err code) t = refl
       upload deliver moment (Ok i) t = refl
 
@@ -111,9 +113,11 @@ module _ (register : Rows) (t : Tables) (input : Input) where
   stop_after : (k : ℕ) → (shared_step register t input (StoppedAfter k)).0.outcome ≡ Stopped
   stop_after k = anybody (StoppedAfter k) (λ t after. after.0.outcome ≡ Stopped) (λ t whole is_whole. refl) upload entry (λ after t. refl)
     where
-      upload : (deliver : Sent → Act) (moment : ℕ) (opened : Opened) (t : Tables) → (uploaded deliver moment (StoppedAfter k) opened t).0.outcome ≡ Stopped
+      upload : (deliver : RawMessage × IncomingMessage → Act) (moment : ℕ) (opened : Opened) (t : Tables) → (uploaded deliver moment (StoppedAfter k) opened t).0.outcome ≡ Stopped
       upload deliver moment (Err code) t = refl
-      upload deliver moment (Ok i) t = either (λ (told : Reply). told.outcome ≡ Stopped) (nat_lt k (length i.messages)) _ _ refl refl
+      upload deliver moment (Ok i) t =
+          either (λ (behind : Option ℕ). (reply_by_stop (StoppedAfter k) behind i (in_row deliver (first_done (StoppedAfter k) behind (messages_at moment i)) t).0).outcome ≡ Stopped)
+          (nat_lt k (length i.messages)) (Some k) None refl refl
 
       entry : (found : Option MailRow) (t : Tables) → (taken (StoppedAfter k) found t).0.outcome ≡ Stopped
       entry None t = refl

@@ -1,38 +1,65 @@
 -- What comes again in a run.
-use Rattle.std.specs.Prelude.{◌≡◌, ℕ, ◌<◌, length, slice_get, take, Option, Some, ⊤}
+use Rattle.std.specs.Prelude.{◌≡◌, ℕ, ◌<◌, List, length, slice_get, Option, Some, Ok}
+use Rattle.edi_envelope.specs.declared.interchange.RawMessage.{RawMessage}
 use Rattle.edi_envelope.specs.declared.interchange.Interchange.{Interchange}
-use Rattle.hub_parties.specs.Rows.{Rows}
+use Rattle.hub_parties.specs.Rows.{Rows, role_of}
+use Rattle.hub_parties.specs.declared.role.Role.TheVariants.{Retailer}
+use Rattle.hub_parties.specs.declared.row.SupplierRow.{SupplierRow}
 use Rattle.hub_tables.specs.Tables.{Tables}
+use Rattle.hub_rules.specs.Sound.{Sound}
+use Rattle.hub_rules.specs.declared.cancel.Cancel.{Cancel}
+use Rattle.hub_rules.specs.Laws.{SoundHub}
 use Rattle.hub_law.specs.Machine.{Inputs, shared_run}
-use Rattle.hub_law.specs.Mark.{Mark, Whole, StoppedEmpty, StoppedBare, StoppedAfter}
-use Rattle.hub_law.specs.Messages.{Sent, messages_at}
-use Rattle.hub_law.specs.Stops.{upload_of, act_of}
-use Rattle.hub_law.specs.Told.{Told, in_row}
+use Rattle.hub_law.specs.Mark.{Mark}
+use Rattle.hub_law.specs.Remembered.{StaysRemembered}
+use Rattle.hub_law.specs.Requests.{looked_at}
+use Rattle.hub_law.specs.Stops.{upload_of, all_acts, first_acts}
+use Rattle.hub_law.specs.Told.{Told, Accepted}
 use Rattle.hub_law.specs.declared.request.Input.{Input}
+use Rattle.hub_law.specs.declared.request.Request.TheVariants as requests
 
 -- the message at a place, counted from 0, of an upload that is looked at
-pub record MessageAt (register : Rows) (input : Input) (place : ℕ) (sent : Sent) : Type 0 where
+pub record MessageAt (register : Rows) (input : Input) (place : ℕ) (message : RawMessage) : Type 0 where
   pub upload : Interchange
   pub looked_at : upload_of register input ≡ Some upload
-  pub there : slice_get (messages_at input.moment upload) place ≡ Some sent
+  pub there : slice_get upload.messages place ≡ Some message
 
--- the input was not stopped before the message at the place was done
-abbrev pub Reaches : Mark → Interchange → ℕ → Type 0
-Reaches Whole upload place = ⊤
-Reaches StoppedEmpty upload place = ⊥
-Reaches StoppedBare upload place = ⊥
-Reaches (StoppedAfter k) upload place = (place < k) × (k < length upload.messages)
+-- the message at the place is among those that are looked at: the upload was not stopped before it was done
+abbrev pub Reaches : Mark → Input → Interchange → ℕ → Type 0
+Reaches mark input upload place = place < length (looked_at input.moment mark (Ok upload))
 
 -- the tables when the message at a place of an upload comes, which is behind a run
 abbrev pub tables_before : Rows → Tables → Inputs → Input → Interchange → ℕ → Tables
-tables_before register t before input upload place = (in_row (act_of register input) (take place (messages_at input.moment upload)) (shared_run register t before).1).1
+tables_before register t before input upload place =
+    (first_acts place register input upload (shared_run register t before).1).1
 
 -- what is told of it
 abbrev pub told_at : Rows → Tables → Inputs → Input → Interchange → ℕ → Option Told
-told_at register t before input upload place = slice_get (in_row (act_of register input) (messages_at input.moment upload) (shared_run register t before).1).0 place
+told_at register t before input upload place =
+    slice_get (all_acts register input upload (shared_run register t before).1).0 place
 
--- of the same caller, with the same control reference and the same segments, whenever and in whatever spelling
-pub record SameMessage (first second : Input) (sent again : Sent) : Type 0 where
+-- From sound tables of free prefixes, and behind a run, the message at a place of an upload is accepted, and the upload
+-- is not stopped before it is done.
+pub record AcceptedAt (register : Rows) (t : Tables) (before : Inputs) (input : Input) (mark : Mark) (place : ℕ)
+    (message : RawMessage) : Type 0 where
+  pub start : SoundHub register.suppliers t
+  pub comes : MessageAt register input place message
+  pub reached : Reaches mark input comes.upload place
+  pub accepted : told_at register t before input comes.upload place ≡ Some Accepted
+
+-- of the same caller, and with the same control reference
+pub record SameReference (first second : Input) (one other : Interchange) : Type 0 where
   pub caller : second.caller ≡ first.caller
-  pub control : again.control ≡ sent.control
-  pub message : again.message ≡ sent.message
+  pub control : other.head.reference ≡ one.head.reference
+
+-- what was accepted, and tables to which it comes again: sound ones that still remember all that was remembered after
+-- it
+pub record AcceptedBefore (after : Told × Tables) (suppliers : List SupplierRow) (u : Tables) : Type 0 where
+  pub accepted : after.0 ≡ Accepted
+  pub remembered : StaysRemembered after.1 u
+  pub sound : Sound suppliers u
+
+-- the retailer asks, with its key, for the cancellation
+pub record AsksCancel (register : Rows) (c : Cancel) (input : Input) : Type 0 where
+  pub retailers : role_of register input.caller input.key ≡ Some Retailer
+  pub asks : input.request ≡ requests.Cancel c

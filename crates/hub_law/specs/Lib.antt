@@ -1,6 +1,7 @@
 pub mod Again
 pub mod Alone
 pub mod CancelText
+pub mod InTurn
 pub mod Laws
 pub mod Machine
 pub mod MailText

@@ -6,21 +6,24 @@ use Rattle.hub_parties.specs.declared.role.Role.TheVariants.{Retailer, Supplier}
 use Rattle.hub_parties.specs.declared.row.SupplierRow.{SupplierRow}
 use Rattle.hub_tables.specs.Rows.{same}
 use Rattle.hub_tables.specs.Tables.{Tables, view}
-use Rattle.hub_law.specs.Mark.{Mark}
-use Rattle.hub_law.specs.Replies.{denied, unless_stopped}
+use Rattle.hub_law.specs.InTurn.{single, followed_by}
+use Rattle.hub_law.specs.Mark.{Mark, replied}
+use Rattle.hub_law.specs.Replies.{denied}
 use Rattle.hub_law.specs.Requests.{supplier_request, retailer_request}
 use Rattle.hub_law.specs.declared.reply.Reply.{Reply}
 use Rattle.hub_law.specs.declared.request.Input.{Input}
 
 -- an input of whoever its caller is, by the GLN and the key; the row is that of the supplier with the GLN
 abbrev pub step_as : Rows → Option Role → Option SupplierRow → Input → Mark → Tables → Reply × Tables
-step_as register (Some Supplier) (Some s) input mark t = supplier_request (view s.gln) (parties_of register) s input.moment mark input.request t
-step_as register (Some Supplier) None input mark t = (unless_stopped mark denied, t)
+step_as register (Some Supplier) (Some s) input mark t =
+    supplier_request (view s.gln) (parties_of register) s input.moment mark input.request t
+step_as register (Some Supplier) None input mark t = replied mark denied t
 step_as register (Some Retailer) row input mark t = retailer_request register input.moment mark input.request t
-step_as register None row input mark t = (unless_stopped mark denied, t)
+step_as register None row input mark t = replied mark denied t
 
 abbrev pub shared_step : Rows → Tables → Input → Mark → Reply × Tables
-shared_step register t input mark = step_as register (role_of register input.caller input.key) (row_of register input.caller) input mark t
+shared_step register t input mark =
+    step_as register (role_of register input.caller input.key) (row_of register input.caller) input mark t
 
 -- inputs one after another, each with its mark
 abbrev pub Inputs : Type 0
@@ -28,13 +31,13 @@ Inputs = List (Input × Mark)
 
 abbrev pub shared_run : Rows → Tables → Inputs → List Reply × Tables
 shared_run register t [] = ([], t)
-shared_run register t ((input, mark) ∷ inputs) = (
-  (shared_step register t input mark).0 ∷ (shared_run register (shared_step register t input mark).1 inputs).0,
-  (shared_run register (shared_step register t input mark).1 inputs).1,
-)
+shared_run register t ((input, mark) ∷ inputs) =
+    followed_by (single (shared_step register t input mark)) (λ after. shared_run register after inputs)
 
 -- the replies to the inputs whose caller is the supplier
 abbrev pub replies_to : List ℕ → Inputs → List Reply → List Reply
 replies_to s [] replies = []
 replies_to s ((input, mark) ∷ inputs) [] = []
-replies_to s ((input, mark) ∷ inputs) (reply ∷ replies) = if same input.caller s then reply ∷ replies_to s inputs replies else replies_to s inputs replies
+replies_to s ((input, mark) ∷ inputs) (reply ∷ replies) =
+    if same input.caller s then reply ∷ replies_to s inputs replies
+    else replies_to s inputs replies

@@ -33,4 +33,6 @@ entry_line entry = line (right 14 (decimal entry.number) ∷ type_of entry.kind 
 
 -- the first 100, then whether there are more
 unfoldable pub list_text : List MailRow → List ℕ
-list_text entries = flat_map entry_line (take 100 entries) ++ line ((if nat_lt 100 (length entries) then codes "more" else codes "end") ∷ [])
+list_text entries =
+    flat_map entry_line (take 100 entries)
+    ++ line ((if nat_lt 100 (length entries) then codes "more" else codes "end") ∷ [])

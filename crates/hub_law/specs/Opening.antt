@@ -24,8 +24,8 @@ enveloped (Ok tokens) = framed (interchange_of tokens)
 enveloped (Err fault) = Err (token_faults.code_text fault)
 
 -- the faults of the text, and then those of the envelope
-unfoldable pub opened : List ℕ → Opened
-opened bytes = enveloped (tokens_of bytes)
+unfoldable pub interchange_in : List ℕ → Opened
+interchange_in bytes = enveloped (tokens_of bytes)
 
 -- E08: the sender is not the caller; E09: the recipient is not one of those for whom the hub takes interchanges
 abbrev pub addressed : List ℕ → List (List ℕ) → Opened → Opened

@@ -28,18 +28,21 @@ overlapping = record {
 }
 
 abbrev pub uploads : List ℕ → List ℕ → List ℕ → Input
-uploads caller key bytes = record { moment = 1_748_942_400; caller = caller; key = key; request = requests.Upload bytes }
+uploads caller key bytes =
+    record { moment = 1_748_942_400; caller = caller; key = key; request = requests.Upload bytes }
 
 -- an order of the retailer for a supplier
 abbrev pub order_for : List ℕ → List ℕ → Input
 order_for supplier reference = uploads retailer (codes "retail-key") (
-    codes "UNB+UNOC:3+5412345000013:14+5412345000006:14+250603:0915+" ++ reference ++ codes "'UNH+1+ORDERS:D:01B:UN'BGM+220+128576+9'DTM+137:20250603:102'NAD+BY+5412345000013::9'NAD+SU+"
+    codes "UNB+UNOC:3+5412345000013:14+5412345000006:14+250603:0915+" ++ reference
+    ++ codes "'UNH+1+ORDERS:D:01B:UN'BGM+220+128576+9'DTM+137:20250603:102'NAD+BY+5412345000013::9'NAD+SU+"
     ++ supplier ++ codes "::9'LIN+1++4000862141404:SRV'QTY+21:48'UNS+S'UNT+9+1'UNZ+1+" ++ reference ++ codes "'")
 
 -- a supplier's advice of a pallet
 abbrev pub advice_of : SupplierRow → Input
 advice_of s = uploads s.gln s.key (
-    codes "UNB+UNOC:3+" ++ s.gln ++ codes ":14+5412345000006:14+250604:0800+S2'UNH+1+DESADV:D:01B:UN'BGM+351+DA1+9'DTM+137:20250604:102'RFF+ON:128576'NAD+SU+"
+    codes "UNB+UNOC:3+" ++ s.gln ++ codes ":14+5412345000006:14+250604:0800+S2'"
+    ++ codes "UNH+1+DESADV:D:01B:UN'BGM+351+DA1+9'DTM+137:20250604:102'RFF+ON:128576'NAD+SU+"
     ++ s.gln ++ codes "::9'CPS+1'GIN+BJ+340123455000000012'LIN+1++4000862141404:SRV'QTY+12:12'UNT+10+1'UNZ+1+S2'")
 
 -- each has an order
@@ -59,5 +62,7 @@ abbrev pub advice_reply : Bool → List (List ℕ) → Reply
 advice_reply refused words = record {
   outcome = Done;
   refused = refused;
-  body = line (codes "interchange" ∷ codes "S2" ∷ codes "messages" ∷ codes "1" ∷ []) ++ line (codes "1" ∷ codes "DESADV" ∷ words);
+  body =
+      line (codes "interchange" ∷ codes "S2" ∷ codes "messages" ∷ codes "1" ∷ [])
+      ++ line (codes "1" ∷ codes "DESADV" ∷ words);
 }

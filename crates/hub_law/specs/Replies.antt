@@ -1,13 +1,11 @@
 -- Replies.
-use Rattle.std.specs.Prelude.{ℕ, nat_lt, true, false, List, [], ◌∷◌, ◌++◌, length, if◌then◌else◌, codes, Option, Some, None, Ok, Err}
+use Rattle.std.specs.Prelude.{ℕ, true, false, List, [], ◌∷◌, ◌++◌, length, codes, Option, Some, None}
 use Rattle.std.specs.Fmt.{decimal}
 use Rattle.std.specs.List.{list_any}
 use Rattle.edi_envelope.specs.declared.interchange.Interchange.{Interchange}
 use Rattle.edi_envelope.specs.declared.interchange.RawMessage.{RawMessage}
 use Rattle.hub_tables.specs.declared.rows.MailRow.{MailRow}
 use Rattle.hub_law.specs.MailText.{mail_text}
-use Rattle.hub_law.specs.Mark.{Mark, Whole, StoppedEmpty, StoppedBare, StoppedAfter}
-use Rattle.hub_law.specs.Opening.{Opened}
 use Rattle.hub_law.specs.Told.{Told, Accepted, Repeated, Refused, is_refused}
 use Rattle.hub_law.specs.Widths.{line}
 use Rattle.hub_law.specs.declared.reply.Outcome.{Outcome}
@@ -32,13 +30,6 @@ stopped_line = line (codes "stopped" ∷ [])
 abbrev pub stopped : Reply
 stopped = reply Stopped stopped_line
 
--- the reply, unless the input was stopped
-abbrev pub unless_stopped : Mark → Reply → Reply
-unless_stopped Whole whole = whole
-unless_stopped StoppedEmpty whole = reply Stopped []
-unless_stopped StoppedBare whole = stopped
-unless_stopped (StoppedAfter k) whole = stopped
-
 -- the words for what is told
 abbrev pub told_words : Told → List (List ℕ)
 told_words Accepted = codes "accepted" ∷ []
@@ -53,25 +44,27 @@ interchange_line i = line (codes "interchange" ∷ i.head.reference ∷ codes "m
 abbrev pub message_lines : List RawMessage → List Told → List ℕ
 message_lines [] told = []
 message_lines (message ∷ messages) [] = []
-message_lines (message ∷ messages) (told ∷ others) = line (message.reference ∷ message.kind ∷ told_words told) ++ message_lines messages others
+message_lines (message ∷ messages) (told ∷ others) =
+    line (message.reference ∷ message.kind ∷ told_words told) ++ message_lines messages others
 
 -- and then one for each message of which something is told
-abbrev pub lines_of : Interchange → List Told → List ℕ
-lines_of i told = interchange_line i ++ message_lines i.messages told
+abbrev pub reply_lines : Interchange → List Told → List ℕ
+reply_lines i told = interchange_line i ++ message_lines i.messages told
 
--- the reply to an upload, by what is told of the messages that were looked at
-abbrev pub upload_reply : Mark → Opened → List Told → Reply
-upload_reply Whole (Err code) told = record { outcome = Bad; refused = true; body = line (codes "refused" ∷ code ∷ []) }
-upload_reply StoppedEmpty (Err code) told = reply Stopped []
-upload_reply StoppedBare (Err code) told = stopped
-upload_reply (StoppedAfter k) (Err code) told = stopped
-upload_reply Whole (Ok i) told = record { outcome = Done; refused = list_any is_refused told; body = lines_of i told }
-upload_reply StoppedEmpty (Ok i) told = reply Stopped []
-upload_reply StoppedBare (Ok i) told = stopped
-upload_reply (StoppedAfter k) (Ok i) told =
-    if nat_lt k (length i.messages)
-    then record { outcome = Stopped; refused = list_any is_refused told; body = lines_of i told ++ stopped_line }
-    else stopped
+-- the reply to an upload whose text or envelope has a fault
+abbrev pub refused_reply : List ℕ → Reply
+refused_reply code = record { outcome = Bad; refused = true; body = line (codes "refused" ∷ code ∷ []) }
+
+-- the reply to an upload, by what is told of all its messages, or of those behind which it was stopped
+abbrev pub whole_reply : Interchange → List Told → Reply
+whole_reply i told = record { outcome = Done; refused = list_any is_refused told; body = reply_lines i told }
+
+abbrev pub cut_reply : Interchange → List Told → Reply
+cut_reply i told = record {
+  outcome = Stopped;
+  refused = list_any is_refused told;
+  body = reply_lines i told ++ stopped_line;
+}
 
 -- the reply to a cancellation
 abbrev pub cancel_reply : Told → Reply

@@ -20,11 +20,13 @@ use Rattle.hub_law.specs.Widths.{left, right, line}
 abbrev pub line_text : Tables → LineRow → List ℕ
 line_text state row = line (
     codes "L" ∷ left 35 row.number ∷ right 6 (decimal row.line) ∷ row.gtin ∷ (row.answer ∷ [])
-    ∷ map (λ quantity. right 9 (decimal quantity)) (row.ordered ∷ row.open_qty ∷ row.refused ∷ row.cancelled ∷ despatched state row ∷ []))
+    ∷ map (λ quantity. right 9 (decimal quantity))
+    (row.ordered ∷ row.open_qty ∷ row.refused ∷ row.cancelled ∷ despatched state row ∷ []))
 
 -- the item of a content is that of the line that it names
 abbrev pub item_of : Tables → ContentRow → List ℕ
-item_of state content = unwrap_or (option_map (λ row. row.gtin) (line_of state content.number (Some content.line) [])) []
+item_of state content =
+    unwrap_or (option_map (λ row. row.gtin) (line_of state content.number (Some content.line) [])) []
 
 abbrev pub contents_on : Tables → PalletRow → List ContentRow
 contents_on state pallet = filter (λ content. same content.sscc pallet.sscc) state.contents
@@ -42,11 +44,15 @@ in_digit_order (gtin ∷ items) = with_item gtin (in_digit_order items)
 
 -- the items that are announced or received on a pallet
 abbrev pub items_on : Tables → PalletRow → List (List ℕ)
-items_on state pallet = in_digit_order (map (item_of state) (contents_on state pallet) ++ map (λ receipt. receipt.gtin) (receipts_of state pallet))
+items_on state pallet =
+    in_digit_order (
+    map (item_of state) (contents_on state pallet) ++ map (λ receipt. receipt.gtin) (receipts_of state pallet))
 
 -- what of an item is despatched on a pallet
 abbrev pub despatched_on : Tables → PalletRow → List ℕ → ℕ
-despatched_on state pallet gtin = sum_by (λ content. content.quantity) (filter (λ content. same (item_of state content) gtin) (contents_on state pallet))
+despatched_on state pallet gtin =
+    sum_by (λ content. content.quantity)
+    (filter (λ content. same (item_of state content) gtin) (contents_on state pallet))
 
 -- the sum of one kind that is received of an item on a pallet
 abbrev pub received_on : (ReceiptRow → ℕ) → Tables → PalletRow → List ℕ → ℕ
@@ -54,7 +60,9 @@ received_on kind state pallet gtin = sum_by kind (filter (λ receipt. same recei
 
 -- one number less another, with its sign
 abbrev pub signed : ℕ → ℕ → List ℕ
-signed number less = if nat_le less number then codes "+" ++ decimal (number - less) else codes "-" ++ decimal (less - number)
+signed number less =
+    if nat_le less number then codes "+" ++ decimal (number - less)
+    else codes "-" ++ decimal (less - number)
 
 abbrev pub is_announced : PalletRow → Bool
 is_announced pallet = pallet.received == arrival_number Announced
@@ -63,8 +71,8 @@ is_announced pallet = pallet.received == arrival_number Announced
 abbrev pub difference : PalletRow → ℕ → ℕ → List ℕ
 difference pallet received despatched = if is_announced pallet then signed 0 0 else signed received despatched
 
--- `P`, SSCC, GTIN, `A` announced or `R` received; then despatched, accepted, returned and destroyed, right in 14 places each, and
--- the difference right in 15
+-- `P`, SSCC, GTIN, `A` announced or `R` received; then despatched, accepted, returned and destroyed, right in 14 places
+-- each, and the difference right in 15
 abbrev pub item_text : PalletRow → List ℕ → ℕ → ℕ → ℕ → ℕ → List ℕ
 item_text pallet gtin despatched accepted returned destroyed = line (
     codes "P" ∷ pallet.sscc ∷ gtin ∷ (if is_announced pallet then codes "A" else codes "R")
@@ -73,9 +81,12 @@ item_text pallet gtin despatched accepted returned destroyed = line (
 
 abbrev pub pallet_text : Tables → PalletRow → List ℕ
 pallet_text state pallet = flat_map (λ gtin.
-    item_text pallet gtin (despatched_on state pallet gtin) (received_on (λ receipt. receipt.accepted) state pallet gtin)
-    (received_on (λ receipt. receipt.returned) state pallet gtin) (received_on (λ receipt. receipt.destroyed) state pallet gtin)) (items_on state pallet)
+    item_text pallet gtin (despatched_on state pallet gtin)
+    (received_on (λ receipt. receipt.accepted) state pallet gtin)
+    (received_on (λ receipt. receipt.returned) state pallet gtin)
+    (received_on (λ receipt. receipt.destroyed) state pallet gtin)) (items_on state pallet)
 
 -- lines by order number and line number, then pallets by SSCC and GTIN
 unfoldable pub status_text : Tables → List ℕ
-status_text state = flat_map (line_text state) state.lines ++ flat_map (pallet_text state) state.pallets ++ line (codes "end" ∷ [])
+status_text state =
+    flat_map (line_text state) state.lines ++ flat_map (pallet_text state) state.pallets ++ line (codes "end" ∷ [])

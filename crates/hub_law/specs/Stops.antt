@@ -1,18 +1,20 @@
 -- What a stop behind some messages of an upload replies and leaves.
 use Rattle.std.specs.Prelude.{ℕ, List, ◌++◌, take, Option, Some, None, Ok, Err}
 use Rattle.std.specs.List.{list_any}
+use Rattle.edi_envelope.specs.declared.interchange.RawMessage.{RawMessage}
 use Rattle.edi_envelope.specs.declared.interchange.Interchange.{Interchange}
 use Rattle.hub_parties.specs.Rows.{Rows, parties_of, row_of, role_of}
 use Rattle.hub_parties.specs.declared.role.Role.{Role}
 use Rattle.hub_parties.specs.declared.role.Role.TheVariants.{Retailer, Supplier}
 use Rattle.hub_parties.specs.declared.row.SupplierRow.{SupplierRow}
-use Rattle.hub_tables.specs.Tables.{view}
-use Rattle.hub_law.specs.Messages.{Sent, deliver_suppliers}
+use Rattle.hub_tables.specs.Tables.{Tables, view}
+use Rattle.hub_rules.specs.declared.incoming.IncomingMessage.{IncomingMessage}
+use Rattle.hub_law.specs.Messages.{messages_at, deliver_suppliers}
 use Rattle.hub_law.specs.Opening.{Opened}
 use Rattle.hub_law.specs.Replies.{interchange_line, message_lines, stopped_line}
 use Rattle.hub_law.specs.Requests.{from_supplier, from_retailer, deliver_named}
-use Rattle.hub_law.specs.Told.{Told, Repeated, Act, is_refused}
-use Rattle.hub_law.specs.declared.reply.Outcome.TheVariants.{Done, Stopped}
+use Rattle.hub_law.specs.Told.{Told, Repeated, Act, is_refused, in_row}
+use Rattle.hub_law.specs.declared.reply.Outcome.TheVariants.{Stopped}
 use Rattle.hub_law.specs.declared.reply.Reply.{Reply}
 use Rattle.hub_law.specs.declared.request.Input.{Input}
 use Rattle.hub_law.specs.declared.request.Request.{Request}
@@ -37,25 +39,30 @@ upload_by register (Some Supplier) None request = None
 upload_by register (Some Retailer) row request = upload_from (from_retailer (parties_of register)) request
 upload_by register None row request = None
 
--- the interchange whose messages are looked at, where the input is an upload of somebody who may, opens and is addressed rightly
+-- the interchange whose messages are looked at, where the input is an upload of somebody who may, opens and is
+-- addressed rightly
 abbrev pub upload_of : Rows → Input → Option Interchange
-upload_of register input = upload_by register (role_of register input.caller input.key) (row_of register input.caller) input.request
+upload_of register input =
+    upload_by register (role_of register input.caller input.key) (row_of register input.caller) input.request
 
 -- the act of each of its messages; where nobody may there is none
-abbrev pub act_by : Rows → Option Role → Option SupplierRow → Sent → Act
+abbrev pub act_by : Rows → Option Role → Option SupplierRow → RawMessage × IncomingMessage → Act
 act_by register (Some Supplier) (Some s) sent = deliver_suppliers (view s.gln) (parties_of register) s sent
 act_by register (Some Supplier) None sent = λ t. (Repeated, t)
 act_by register (Some Retailer) row sent = deliver_named register sent
 act_by register None row sent = λ t. (Repeated, t)
 
-abbrev pub act_of : Rows → Input → Sent → Act
+abbrev pub act_of : Rows → Input → RawMessage × IncomingMessage → Act
 act_of register input = act_by register (role_of register input.caller input.key) (row_of register input.caller)
 
--- the reply to the whole of it: a line for each message
-abbrev pub whole_reply : Interchange → List Told → Reply
-whole_reply i told = record { outcome = Done; refused = list_any is_refused told; body = interchange_line i ++ message_lines i.messages told }
+-- the messages of an upload one after another, or the first k of them, and what is told of each
+abbrev pub all_acts : Rows → Input → Interchange → Tables → List Told × Tables
+all_acts register input i = in_row (act_of register input) (messages_at input.moment i)
 
--- the reply where it was stopped behind k messages: the first k of these lines, and that it was stopped
+abbrev pub first_acts : ℕ → Rows → Input → Interchange → Tables → List Told × Tables
+first_acts k register input i = in_row (act_of register input) (take k (messages_at input.moment i))
+
+-- the reply where it was stopped behind k messages: the first k lines of the whole reply, and that it was stopped
 abbrev pub reply_behind : ℕ → Interchange → List Told → Reply
 reply_behind k i told = record {
   outcome = Stopped;

@@ -7,6 +7,7 @@ use Rattle.hub_tables.specs.Tables.{Tables}
 use Rattle.hub_rules.specs.Code as rules
 use Rattle.hub_rules.specs.declared.verdict.Verdict.{Verdict}
 use Rattle.hub_rules.specs.declared.verdict.Verdict.TheVariants.{Accept, Refuse}
+use Rattle.hub_law.specs.InTurn.{single, followed_by}
 
 -- accepted, repeated, or refused with a code
 pub data Told : Type 0 where
@@ -43,4 +44,4 @@ read_act (Ok message) judge t = act (judge message) t
 -- acts one after another, and what is told of each
 abbrev pub in_row : {X : Type 0} → (X → Act) → List X → Tables → List Told × Tables
 in_row step [] t = ([], t)
-in_row step (x ∷ xs) t = ((step x t).0 ∷ (in_row step xs (step x t).1).0, (in_row step xs (step x t).1).1)
+in_row step (x ∷ xs) t = followed_by (single (step x t)) (in_row step xs)

@@ -1,5 +1,5 @@
-//! What a hub does: the machine that all suppliers share, and that of one supplier alone, with the laws by which suppliers are
-//! apart.
+//! What a hub does: the machine that all suppliers share, and that of one supplier alone, with the laws by which
+//! suppliers are apart.
 #![tactic(auto)]
 
 mod laws;

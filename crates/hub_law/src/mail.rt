@@ -1,17 +1,23 @@
 //! Mailbox entries: a law, the contract of a function without a body.
 ghost use Rattle.std.specs.Prelude.{◌≡◌, ℕ, List};
+ghost use Rattle.edi_envelope.specs.declared.interchange.RawMessage.{RawMessage};
 ghost use Rattle.edi_envelope.specs.Mail as messages;
 ghost use Rattle.hub_tables.specs.State.{next_mail};
 ghost use Rattle.hub_tables.specs.Tables.{Tables};
 ghost use Rattle.hub_tables.specs.declared.cases.MailKind.{MailKind};
 ghost use Rattle.hub_tables.specs.declared.change.Change.TheVariants.{AddMail};
 ghost use Rattle.hub_tables.specs.declared.rows.MailRow.{MailRow};
+ghost use Rattle.hub_rules.specs.declared.incoming.IncomingMessage.{IncomingMessage};
 ghost use Rattle.hub_rules.specs.MailboxRules.{new_mail};
 ghost use Rattle.hub_law.specs.MailText.{mail_text};
-ghost use Rattle.hub_law.specs.Messages.{Sent, delivery_of, body_of};
+ghost use Rattle.hub_law.specs.Messages.{body_of};
 
-/// The text of the entry that the rules make of a message is the mail text of that message: to the supplier, with the moment and
-/// the decimal mark with which it came, and the entry's number.
+/// The text of the entry that the rules make of a message is the mail text of that message: to the supplier, with the
+/// moment and the decimal mark with which it came, and the entry's number.
 pub fn entry_is_its_messages_mail()
-    ensures { (hub supplier document : List ℕ) (state : Tables) (sent : Sent) (kind : MailKind) (entry : MailRow) → new_mail supplier state (delivery_of sent) kind document (body_of sent) ≡ AddMail entry → mail_text hub entry ≡ messages.mail_text hub supplier sent.moment sent.decimal (next_mail state) sent.message }
+    ensures { (hub supplier document : List ℕ) (state : Tables) (message : RawMessage) (incoming : IncomingMessage)
+        (kind : MailKind) (entry : MailRow) →
+        new_mail supplier state incoming kind document (body_of message) ≡ AddMail entry →
+        mail_text hub entry ≡
+        messages.mail_text hub supplier incoming.moment incoming.decimal (next_mail state) message }
 {}

@@ -1,46 +1,71 @@
 //! What was accepted and comes again: laws, each the contract of a function without a body.
 ghost use Rattle.std.specs.Prelude.{◌≡◌, ℕ, ◌+◌, List, ◌∷◌, ◌++◌, Some};
-ghost use Rattle.gs1_ids.specs.Overlap.{PrefixFree};
-ghost use Rattle.hub_parties.specs.declared.role.Role.TheVariants.{Retailer};
-ghost use Rattle.hub_parties.specs.Rows.{Parties, Rows, supplier_of, company_prefixes, role_of};
+ghost use Rattle.edi_envelope.specs.declared.interchange.RawMessage.{RawMessage};
+ghost use Rattle.hub_parties.specs.Rows.{Parties, Rows};
 ghost use Rattle.hub_parties.specs.declared.row.SupplierRow.{SupplierRow};
 ghost use Rattle.hub_tables.specs.Tables.{Tables, view};
-ghost use Rattle.hub_rules.specs.declared.delivery.Cancel.{Cancel};
-ghost use Rattle.hub_rules.specs.Sound.{Sound};
-ghost use Rattle.hub_law.specs.Again.{MessageAt, Reaches, SameMessage, tables_before, told_at};
+ghost use Rattle.hub_rules.specs.declared.incoming.IncomingMessage.{IncomingMessage};
+ghost use Rattle.hub_rules.specs.declared.cancel.Cancel.{Cancel};
+ghost use Rattle.hub_law.specs.Again.{MessageAt, AcceptedAt, AcceptedBefore, SameReference, AsksCancel, tables_before, told_at};
+ghost use Rattle.hub_rules.specs.Laws.{SoundHub};
 ghost use Rattle.hub_law.specs.Machine.{Inputs, shared_step, shared_run};
 ghost use Rattle.hub_law.specs.Mark.{Mark, Whole};
-ghost use Rattle.hub_law.specs.Messages.{Sent, deliver_suppliers, cancel};
+ghost use Rattle.hub_law.specs.Messages.{deliver_suppliers};
 ghost use Rattle.hub_law.specs.Remembered.{StaysRemembered};
 ghost use Rattle.hub_law.specs.Replies.{cancel_reply};
 ghost use Rattle.hub_law.specs.declared.request.Input.{Input};
-ghost use Rattle.hub_law.specs.declared.request.Request.TheVariants as requests;
-ghost use Rattle.hub_law.specs.Requests.{deliver_named};
+ghost use Rattle.hub_law.specs.Requests.{deliver_named, cancel_named};
 ghost use Rattle.hub_law.specs.Told.{Accepted, Repeated, in_row};
 
-/// What was accepted and comes again is answered `repeated`, and changes nothing: a message of the retailer or of a supplier
-/// with the same control reference and the same segments, whenever and with whatever decimal mark it comes, and the same
-/// cancellation. The tables that it comes to are any sound ones in which all is still remembered that was remembered when it
-/// had been accepted.
+/// What was accepted and comes again is answered `repeated`, and changes nothing: a message of the retailer or of a
+/// supplier with the same control reference and the same segments, whenever and with whatever decimal mark it comes,
+/// and the same cancellation. The tables that it comes to are any sound ones in which all is still remembered that was
+/// remembered when it had been accepted.
 pub fn accepted_is_repeated()
-    ensures retailers { (register : Rows) (sent : Sent) (moment decimal : ℕ) (t u : Tables) → (deliver_named register sent t).0 ≡ Accepted → StaysRemembered (deliver_named register sent t).1 u → Sound register.suppliers u → deliver_named register (record sent { moment = moment; decimal = decimal }) u ≡ (Repeated, u) }
-    ensures suppliers { (suppliers : List SupplierRow) (parties : Parties) (s : SupplierRow) (sent : Sent) (moment decimal : ℕ) (t u : Tables) → (deliver_suppliers (view s.gln) parties s sent t).0 ≡ Accepted → StaysRemembered (deliver_suppliers (view s.gln) parties s sent t).1 u → Sound suppliers u → deliver_suppliers (view s.gln) parties s (record sent { moment = moment; decimal = decimal }) u ≡ (Repeated, u) }
-    ensures cancellation { (register : Rows) (c : Cancel) (t u : Tables) → (cancel (view c.supplier) (supplier_of register.suppliers c.supplier) c t).0 ≡ Accepted → StaysRemembered (cancel (view c.supplier) (supplier_of register.suppliers c.supplier) c t).1 u → Sound register.suppliers u → cancel (view c.supplier) (supplier_of register.suppliers c.supplier) c u ≡ (Repeated, u) }
+    ensures retailers { (register : Rows) (message : RawMessage) (incoming : IncomingMessage) (moment decimal : ℕ)
+        (t u : Tables) →
+        AcceptedBefore (deliver_named register (message, incoming) t) register.suppliers u →
+        deliver_named register (message, record incoming { moment = moment; decimal = decimal }) u ≡ (Repeated, u) }
+    ensures suppliers { (suppliers : List SupplierRow) (parties : Parties) (s : SupplierRow) (message : RawMessage)
+        (incoming : IncomingMessage) (moment decimal : ℕ) (t u : Tables) →
+        AcceptedBefore (deliver_suppliers (view s.gln) parties s (message, incoming) t) suppliers u →
+        deliver_suppliers (view s.gln) parties s (message, record incoming { moment = moment; decimal = decimal }) u ≡
+        (Repeated, u) }
+    ensures cancellation { (register : Rows) (c : Cancel) (t u : Tables) →
+        AcceptedBefore (cancel_named register c t) register.suppliers u → cancel_named register c u ≡ (Repeated, u) }
 {}
 
-/// What is remembered stays remembered, whatever comes: further messages of an upload, of the retailer or of a supplier, and
-/// any inputs of anybody, stopped or not.
+/// What is remembered stays remembered, whatever comes: further messages of an upload, of the retailer or of a
+/// supplier, and any inputs of anybody, stopped or not.
 pub fn remembered_stays()
-    ensures retailers { (register : Rows) (sents : List Sent) (t : Tables) → StaysRemembered t (in_row (deliver_named register) sents t).1 }
-    ensures suppliers { (parties : Parties) (s : SupplierRow) (sents : List Sent) (t : Tables) → StaysRemembered t (in_row (deliver_suppliers (view s.gln) parties s) sents t).1 }
-    ensures run { (register : Rows) (t : Tables) (inputs : Inputs) → StaysRemembered t (shared_run register t inputs).1 }
+    ensures retailers { (register : Rows) (sents : List (RawMessage × IncomingMessage)) (t : Tables) →
+        StaysRemembered t (in_row (deliver_named register) sents t).1 }
+    ensures suppliers { (parties : Parties) (s : SupplierRow) (sents : List (RawMessage × IncomingMessage))
+        (t : Tables) →
+        StaysRemembered t (in_row (deliver_suppliers (view s.gln) parties s) sents t).1 }
+    ensures run { (register : Rows) (t : Tables) (inputs : Inputs) →
+        StaysRemembered t (shared_run register t inputs).1 }
 {}
 
-/// In a run from sound tables, a message that was accepted and comes again in a later upload that is looked at, is told of as
-/// repeated, and its act leaves the tables as they are; `stops_cut_uploads` says which of what is told is in the reply. And a
-/// cancellation that was accepted and comes again is answered so.
+/// In a run from sound tables, a message that was accepted and comes again in a later upload that is looked at, is told
+/// of as repeated, and its act leaves the tables as they are; `stops_cut_uploads` says which of what is told is in the
+/// reply. And a cancellation that was accepted and comes again is answered so.
 pub fn repeated_in_runs()
-    ensures message { (register : Rows) (t : Tables) (before between : Inputs) (first second : Input) (mark : Mark) (place later : ℕ) (sent again : Sent) (one : MessageAt register first place sent) (other : MessageAt register second later again) → PrefixFree (company_prefixes register.suppliers) → Sound register.suppliers t → SameMessage first second sent again → Reaches mark one.upload place → told_at register t before first one.upload place ≡ Some Accepted → told_at register t (before ++ (first, mark) ∷ between) second other.upload later ≡ Some Repeated }
-    ensures stays { (register : Rows) (t : Tables) (before between : Inputs) (first second : Input) (mark : Mark) (place later : ℕ) (sent again : Sent) (one : MessageAt register first place sent) (other : MessageAt register second later again) → PrefixFree (company_prefixes register.suppliers) → Sound register.suppliers t → SameMessage first second sent again → Reaches mark one.upload place → told_at register t before first one.upload place ≡ Some Accepted → tables_before register t (before ++ (first, mark) ∷ between) second other.upload (later + 1) ≡ tables_before register t (before ++ (first, mark) ∷ between) second other.upload later }
-    ensures cancellation { (register : Rows) (t : Tables) (before between : Inputs) (first second : Input) (c : Cancel) → PrefixFree (company_prefixes register.suppliers) → Sound register.suppliers t → role_of register first.caller first.key ≡ Some Retailer → role_of register second.caller second.key ≡ Some Retailer → first.request ≡ requests.Cancel c → second.request ≡ requests.Cancel c → (cancel (view c.supplier) (supplier_of register.suppliers c.supplier) c (shared_run register t before).1).0 ≡ Accepted → shared_step register (shared_run register t (before ++ (first, Whole) ∷ between)).1 second Whole ≡ (cancel_reply Repeated, (shared_run register t (before ++ (first, Whole) ∷ between)).1) }
+    ensures message { (register : Rows) (t : Tables) (before between : Inputs) (first second : Input) (mark : Mark)
+        (place later : ℕ) (message : RawMessage) (one : AcceptedAt register t before first mark place message)
+        (other : MessageAt register second later message) →
+        SameReference first second one.comes.upload other.upload →
+        told_at register t (before ++ (first, mark) ∷ between) second other.upload later ≡ Some Repeated }
+    ensures stays { (register : Rows) (t : Tables) (before between : Inputs) (first second : Input) (mark : Mark)
+        (place later : ℕ) (message : RawMessage) (one : AcceptedAt register t before first mark place message)
+        (other : MessageAt register second later message) →
+        SameReference first second one.comes.upload other.upload →
+        tables_before register t (before ++ (first, mark) ∷ between) second other.upload (later + 1) ≡
+        tables_before register t (before ++ (first, mark) ∷ between) second other.upload later }
+    ensures cancellation { (register : Rows) (t : Tables) (before between : Inputs) (first second : Input)
+        (c : Cancel) →
+        SoundHub register.suppliers t → AsksCancel register c first → AsksCancel register c second →
+        (cancel_named register c (shared_run register t before).1).0 ≡ Accepted →
+        shared_step register (shared_run register t (before ++ (first, Whole) ∷ between)).1 second Whole ≡
+        (cancel_reply Repeated, (shared_run register t (before ++ (first, Whole) ∷ between)).1) }
 {}

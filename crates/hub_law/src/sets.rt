@@ -1,16 +1,16 @@
 //! Sound tables as sets of rows: laws, each the contract of a function without a body.
 ghost use Rattle.std.specs.Prelude.{◌≡◌, ℕ, List};
-ghost use Rattle.gs1_ids.specs.Overlap.{PrefixFree};
-ghost use Rattle.hub_parties.specs.Rows.{company_prefixes};
 ghost use Rattle.hub_parties.specs.declared.row.SupplierRow.{SupplierRow};
 ghost use Rattle.hub_tables.specs.Sets.{Rising, SameRows};
 ghost use Rattle.hub_tables.specs.Tables.{Tables, view};
 ghost use Rattle.hub_rules.specs.Sound.{Sound};
+ghost use Rattle.hub_rules.specs.Laws.{SoundHub};
 
-/// What a supplier sees of sound tables is its rows and nothing else: where two hubs have the same rows of it, it sees the same
-/// in both, in whatever order the rows came and whoever else has rows. And all rows of sound tables stand in the order of their
-/// keys, no key twice.
+/// What a supplier sees of sound tables is its rows and nothing else: where two hubs have the same rows of it, it sees
+/// the same in both, in whatever order the rows came and whoever else has rows. And all rows of sound tables stand in
+/// the order of their keys, no key twice.
 pub fn views_are_sets()
-    ensures views { (first second : List SupplierRow) (gln : List ℕ) (t u : Tables) → Sound first t → Sound second u → SameRows (view gln t) (view gln u) → view gln t ≡ view gln u }
-    ensures rise { (suppliers : List SupplierRow) (t : Tables) → PrefixFree (company_prefixes suppliers) → Sound suppliers t → Rising t }
+    ensures views { (first second : List SupplierRow) (gln : List ℕ) (t u : Tables) →
+        Sound first t → Sound second u → SameRows (view gln t) (view gln u) → view gln t ≡ view gln u }
+    ensures rise { (suppliers : List SupplierRow) (t : Tables) → SoundHub suppliers t → Rising t }
 {}

@@ -18,7 +18,7 @@ use Rattle.hub_rules.specs.RepeatRules.{Reference, remembered, once, judge_once}
 use Rattle.hub_rules.specs.PartyRules.{is_other_buyer}
 use Rattle.hub_rules.specs.Rules.{referred_by, judge_message, judge_despatch}
 use Rattle.hub_rules.specs.declared.code.Code.TheVariants as codes
-use Rattle.hub_rules.specs.declared.delivery.Delivery.{Delivery}
+use Rattle.hub_rules.specs.declared.incoming.IncomingMessage.{IncomingMessage}
 use Rattle.hub_rules.specs.declared.verdict.Verdict.{Verdict}
 use Rattle.hub_rules.specs.declared.verdict.Verdict.TheVariants.{Accept, Refuse}
 
@@ -41,10 +41,10 @@ once_alike : (r : Reference) (content : List ℕ) (fresh other : Judge) → Alik
 once_alike r content fresh other agree state = ap (once (remembered_of state r.side r.control r.message) content) (goes_on_alike (Accept (Remember (remembered r content) ∷ [])) fresh other agree state)
 
 module _ (s : SupplierRow) where
-  message_alike : (retailer : List ℕ) (side : Side) (delivery : Delivery) (buyer : Option (List ℕ)) (named : List ℕ) (rest other : SupplierRow → Judge) → Alike (rest s) (other s) →
-      Alike (judge_message retailer (Some s) side delivery buyer named rest) (judge_message retailer (Some s) side delivery buyer named other)
-  message_alike retailer side delivery buyer named rest other agree state =
-      ap (λ v. refuse_if (is_other_buyer retailer buyer) codes.Buyer (refuse_if (not (same named s.gln)) codes.Supplier v)) (once_alike (referred_by s side delivery) delivery.content (rest s) (other s) agree state)
+  message_alike : (retailer : List ℕ) (side : Side) (incoming : IncomingMessage) (buyer : Option (List ℕ)) (named : List ℕ) (rest other : SupplierRow → Judge) → Alike (rest s) (other s) →
+      Alike (judge_message retailer (Some s) side incoming buyer named rest) (judge_message retailer (Some s) side incoming buyer named other)
+  message_alike retailer side incoming buyer named rest other agree state =
+      ap (λ v. refuse_if (is_other_buyer retailer buyer) codes.Buyer (refuse_if (not (same named s.gln)) codes.Supplier v)) (once_alike (referred_by s side incoming) incoming.content (rest s) (other s) agree state)
 
   module _ (used other : List ℕ → Bool) (agree : (sscc : List ℕ) → under_some sscc s.prefixes ≡ true → used sscc ≡ other sscc) where
     unit_alike : (advice : List ℕ) (unit : PalletUnit) → Alike (judge_unit s used advice unit) (judge_unit s other advice unit)
@@ -60,6 +60,6 @@ module _ (s : SupplierRow) where
         (goes_on_alike (Accept (AddAdvice (record { supplier = s.gln; number = despatch.number }) ∷ [])) (in_order (judge_unit s used despatch.number) despatch.units) (in_order (judge_unit s other despatch.number) despatch.units)
         (in_order_alike (judge_unit s used despatch.number) (judge_unit s other despatch.number) (unit_alike despatch.number) despatch.units) state)
 
-    pub despatch_alike : (retailer : List ℕ) (delivery : Delivery) (despatch : Despatch) → Alike (judge_despatch retailer (Some s) used delivery despatch) (judge_despatch retailer (Some s) other delivery despatch)
-    despatch_alike retailer delivery despatch =
-        message_alike retailer sides.Supplier delivery despatch.buyer despatch.supplier (λ s. judge_new_despatch s used despatch) (λ s. judge_new_despatch s other despatch) (new_despatch_alike despatch)
+    pub despatch_alike : (retailer : List ℕ) (incoming : IncomingMessage) (despatch : Despatch) → Alike (judge_despatch retailer (Some s) used incoming despatch) (judge_despatch retailer (Some s) other incoming despatch)
+    despatch_alike retailer incoming despatch =
+        message_alike retailer sides.Supplier incoming despatch.buyer despatch.supplier (λ s. judge_new_despatch s used despatch) (λ s. judge_new_despatch s other despatch) (new_despatch_alike despatch)

@@ -28,8 +28,8 @@ use Rattle.hub_rules.specs.ResponseRules.{judge_answer, judge_answers, judge_new
 use Rattle.hub_rules.specs.Rules.{judge_order, judge_response, judge_despatch, judge_receipt, judge_cancel}
 use Rattle.hub_rules.specs.declared.code.Code.{Code}
 use Rattle.hub_rules.specs.declared.code.Code.TheVariants as codes_of
-use Rattle.hub_rules.specs.declared.delivery.Cancel.{Cancel}
-use Rattle.hub_rules.specs.declared.delivery.Delivery.{Delivery}
+use Rattle.hub_rules.specs.declared.cancel.Cancel.{Cancel}
+use Rattle.hub_rules.specs.declared.incoming.IncomingMessage.{IncomingMessage}
 use Rattle.hub_rules.specs.declared.verdict.Verdict.{Verdict}
 use Rattle.hub_rules.specs.declared.verdict.Verdict.TheVariants.{Accept, Refuse}
 
@@ -171,12 +171,12 @@ item_before_open = refl
 sscc_of_an_earlier_unit : despatched_to (codes "DA2") unused (record { sscc = sscc; lines = of_line 1 ∷ [] } ∷ record { sscc = sscc; lines = of_line 1 ∷ [] } ∷ []) ≡ Refuse codes_of.SsccUsed
 sscc_of_an_earlier_unit = refl
 
-abbrev delivery : List ℕ → List ℕ → Delivery
-delivery control content = record { control = control; message = codes "1"; content = content; moment = 1748942400; decimal = 46 }
+abbrev incoming : List ℕ → List ℕ → IncomingMessage
+incoming control content = record { control = control; message = codes "1"; content = content; moment = 1748942400; decimal = 46 }
 
 -- a receipt of units, on what is on the pallet
 abbrev received_of : List ReceiptUnit → Verdict
-received_of units = judge_new_receipt gln (delivery (codes "1005") []) (codes "body") (record { number = codes "G1"; buyer = Some buyer; supplier = gln; units = units }) (with_content 12 (with_lines (line 1 48 24 12 0 Changed ∷ [])))
+received_of units = judge_new_receipt gln (incoming (codes "1005") []) (codes "body") (record { number = codes "G1"; buyer = Some buyer; supplier = gln; units = units }) (with_content 12 (with_lines (line 1 48 24 12 0 Changed ∷ [])))
 
 abbrev received_line : List ℕ → ℕ → ℕ → ReceiptLine
 received_line gtin accepted returned = record { gtin = gtin; accepted = accepted; returned = returned; destroyed = 0 }
@@ -231,7 +231,7 @@ not_registered = refl
 abbrev order : Order
 order = record { number = number; buyer = buyer; supplier = gln; lines = record { line = 1; gtin = item; quantity = 48 } ∷ [] }
 
-new_order : judge_order buyer (Some alpha) (delivery (codes "1001") (codes "content")) (codes "body") order empty ≡ Accept (
+new_order : judge_order buyer (Some alpha) (incoming (codes "1001") (codes "content")) (codes "body") order empty ≡ Accept (
     Remember (record { supplier = gln; side = 0x52; control = codes "1001"; message = codes "1"; content = codes "content" })
     ∷ AddMail (record { supplier = gln; number = 1; moment = 1748942400; decimal = 46; kind = 0x4F; document = number; body = codes "body"; taken = 0 })
     ∷ AddOrder (record { supplier = gln; number = number })
@@ -239,10 +239,10 @@ new_order : judge_order buyer (Some alpha) (delivery (codes "1001") (codes "cont
     ∷ [])
 new_order = refl
 
-order_known : judge_order buyer (Some alpha) (delivery (codes "1002") (codes "content")) (codes "body") order (with_lines []) ≡ Refuse codes_of.OrderKnown
+order_known : judge_order buyer (Some alpha) (incoming (codes "1002") (codes "content")) (codes "body") order (with_lines []) ≡ Refuse codes_of.OrderKnown
 order_known = refl
 
-buyer_before_supplier : judge_order gln None (delivery (codes "1002") (codes "content")) (codes "body") order empty ≡ Refuse codes_of.Buyer
+buyer_before_supplier : judge_order gln None (incoming (codes "1002") (codes "content")) (codes "body") order empty ≡ Refuse codes_of.Buyer
 buyer_before_supplier = refl
 
 -- an advice that is there, under its references and under others
@@ -250,7 +250,7 @@ abbrev advised : Tables
 advised = record (with_lines []) { advices = record { supplier = gln; number = codes "DA1" } ∷ []; remembered = record { supplier = gln; side = 0x53; control = codes "S2"; message = codes "1"; content = codes "content" } ∷ [] }
 
 abbrev advised_again : List ℕ → List ℕ → Verdict
-advised_again control content = judge_despatch buyer (Some alpha) unused (delivery control content) (record { number = codes "DA1"; buyer = None; supplier = gln; units = record { sscc = theirs; lines = of_line 1 ∷ [] } ∷ [] }) advised
+advised_again control content = judge_despatch buyer (Some alpha) unused (incoming control content) (record { number = codes "DA1"; buyer = None; supplier = gln; units = record { sscc = theirs; lines = of_line 1 ∷ [] } ∷ [] }) advised
 
 advice_repeated : advised_again (codes "S2") (codes "content") ≡ Accept []
 advice_repeated = refl
@@ -262,7 +262,7 @@ advice_before_units : advised_again (codes "S3") (codes "content") ≡ Refuse co
 advice_before_units = refl
 
 -- another supplier's response
-not_the_caller : judge_response buyer (Some alpha) (delivery (codes "S1") []) (record { number = codes "R1"; buyer = buyer; supplier = codes "8712345000004"; order = number; answer = answers.AllAccepted }) (with_lines []) ≡ Refuse codes_of.Supplier
+not_the_caller : judge_response buyer (Some alpha) (incoming (codes "S1") []) (record { number = codes "R1"; buyer = buyer; supplier = codes "8712345000004"; order = number; answer = answers.AllAccepted }) (with_lines []) ≡ Refuse codes_of.Supplier
 not_the_caller = refl
 
 -- the letters of lines: one that waits is accepted, refused, and changed
@@ -291,13 +291,13 @@ range_before_item = refl
 abbrev response : Response
 response = record { number = codes "R1"; buyer = buyer; supplier = gln; order = number; answer = answers.AllAccepted }
 
-response_remembered : judge_response buyer (Some alpha) (delivery (codes "1001") (codes "content")) response (with_lines (line 1 48 48 0 0 Waiting ∷ [])) ≡ Accept (
+response_remembered : judge_response buyer (Some alpha) (incoming (codes "1001") (codes "content")) response (with_lines (line 1 48 48 0 0 Waiting ∷ [])) ≡ Accept (
     Remember (record { supplier = gln; side = 0x53; control = codes "1001"; message = codes "1"; content = codes "content" })
     ∷ SetLine (record (line 1 48 48 0 0 Waiting) { answer = 0x41 })
     ∷ [])
 response_remembered = refl
 
-receipt_remembered : judge_receipt buyer (Some alpha) (record (delivery (codes "1005") (codes "content")) { decimal = 44 }) (codes "body") (record { number = codes "G1"; buyer = None; supplier = gln; units = [] }) empty ≡ Accept (
+receipt_remembered : judge_receipt buyer (Some alpha) (record (incoming (codes "1005") (codes "content")) { decimal = 44 }) (codes "body") (record { number = codes "G1"; buyer = None; supplier = gln; units = [] }) empty ≡ Accept (
     Remember (record { supplier = gln; side = 0x52; control = codes "1005"; message = codes "1"; content = codes "content" })
     ∷ AddMail (record { supplier = gln; number = 1; moment = 1748942400; decimal = 44; kind = 0x52; document = codes "G1"; body = codes "body"; taken = 0 })
     ∷ [])
@@ -307,10 +307,10 @@ receipt_remembered = refl
 abbrev remembering : ℕ → List ℕ → Tables
 remembering side message = record empty { remembered = record { supplier = gln; side = side; control = codes "1001"; message = message; content = codes "other" } ∷ [] }
 
-another_message_is_new : judge_order buyer (Some alpha) (delivery (codes "1001") (codes "content")) (codes "body") order (remembering 0x52 (codes "2")) ≡ judge_order buyer (Some alpha) (delivery (codes "1001") (codes "content")) (codes "body") order empty
+another_message_is_new : judge_order buyer (Some alpha) (incoming (codes "1001") (codes "content")) (codes "body") order (remembering 0x52 (codes "2")) ≡ judge_order buyer (Some alpha) (incoming (codes "1001") (codes "content")) (codes "body") order empty
 another_message_is_new = refl
 
-other_side_is_new : judge_order buyer (Some alpha) (delivery (codes "1001") (codes "content")) (codes "body") order (remembering 0x53 (codes "1")) ≡ judge_order buyer (Some alpha) (delivery (codes "1001") (codes "content")) (codes "body") order empty
+other_side_is_new : judge_order buyer (Some alpha) (incoming (codes "1001") (codes "content")) (codes "body") order (remembering 0x53 (codes "1")) ≡ judge_order buyer (Some alpha) (incoming (codes "1001") (codes "content")) (codes "body") order empty
 other_side_is_new = refl
 
 -- the checks of a mailbox that is full, whatever else is there
@@ -322,11 +322,11 @@ passed_at : (test : Bool) (code : Code) (rest : Verdict) → test ≡ false → 
 passed_at true code rest h = cc
 passed_at false code rest h = refl
 
-known_before_full : (state : Tables) → knows_order state number ≡ true → judge_new_order gln (delivery [] []) [] order state ≡ Refuse codes_of.OrderKnown
+known_before_full : (state : Tables) → knows_order state number ≡ true → judge_new_order gln (incoming [] []) [] order state ≡ Refuse codes_of.OrderKnown
 known_before_full state known = refused_at (knows_order state number) codes_of.OrderKnown _ known
 
-full_for_an_order : (state : Tables) → knows_order state number ≡ false → nat_lt 99_999_999_999_999 (length state.mail + 1) ≡ true → judge_new_order gln (delivery [] []) [] order state ≡ Refuse codes_of.MailboxFull
+full_for_an_order : (state : Tables) → knows_order state number ≡ false → nat_lt 99_999_999_999_999 (length state.mail + 1) ≡ true → judge_new_order gln (incoming [] []) [] order state ≡ Refuse codes_of.MailboxFull
 full_for_an_order state new full = passed_at (knows_order state number) codes_of.OrderKnown _ new ∙ refused_at (nat_lt 99_999_999_999_999 (length state.mail + 1)) codes_of.MailboxFull _ full
 
-full_for_a_receipt : (state : Tables) (units : List ReceiptUnit) → nat_lt 99_999_999_999_999 (length state.mail + 1) ≡ true → judge_new_receipt gln (delivery [] []) [] (record { number = codes "G1"; buyer = None; supplier = gln; units = units }) state ≡ Refuse codes_of.MailboxFull
+full_for_a_receipt : (state : Tables) (units : List ReceiptUnit) → nat_lt 99_999_999_999_999 (length state.mail + 1) ≡ true → judge_new_receipt gln (incoming [] []) [] (record { number = codes "G1"; buyer = None; supplier = gln; units = units }) state ≡ Refuse codes_of.MailboxFull
 full_for_a_receipt state units full = refused_at (nat_lt 99_999_999_999_999 (length state.mail + 1)) codes_of.MailboxFull _ full

@@ -23,14 +23,15 @@ use Rattle.hub_tables.specs.declared.rows.LineRow.{LineRow}
 use Rattle.hub_tables.specs.declared.rows.PalletRow.{PalletRow}
 use Rattle.hub_tables.proofs.KeyOrder.{all_put, any_put}
 use Rattle.hub_tables.proofs.Lists.{same_is, same_if, all_weaker, all_itself}
+use Rattle.hub_rules.specs.Laws.{KeptOwn}
 use Rattle.hub_rules.specs.DespatchRules.{placed, judge_despatched, judge_unit, judge_new_despatch}
 use Rattle.hub_rules.specs.Judging.{in_order}
 use Rattle.hub_rules.specs.Sound.{knows_line, same_place}
 use Rattle.hub_rules.specs.Rules.{judge_despatch}
 use Rattle.hub_rules.specs.declared.code.Code.TheVariants as codes
-use Rattle.hub_rules.specs.declared.delivery.Delivery.{Delivery}
+use Rattle.hub_rules.specs.declared.incoming.IncomingMessage.{IncomingMessage}
 use Rattle.hub_rules.proofs.Belonging.{Belongs}
-use Rattle.hub_rules.proofs.GoodRows.{Good, GoodLine, good_after, good_lines, line_found, leaves_good}
+use Rattle.hub_rules.proofs.GoodRows.{GoodLine, good_after, good_lines, line_found, leaves_good}
 use Rattle.hub_rules.proofs.Keeping.{kept_despatched, kept_advice, kept_pallet}
 use Rattle.hub_rules.proofs.KeptByMessages.{leads_message}
 use Rattle.hub_rules.proofs.KeptLists.{none_at}
@@ -42,7 +43,7 @@ balanced_despatched ordered open_qty refused cancelled sent quantity h enough = 
 
 -- while a pallet is filled: it is there, with contents up to a place
 record Filled (s : SupplierRow) (sscc : List ℕ) (n : ℕ) (state : Tables) : Type 0 where
-  pub good : Good s state
+  pub good : KeptOwn s state
   pub there : has_pallet state sscc ≡ true
   pub below : AllByRecursion (λ content. same content.sscc sscc ≡ true → content.place ≤ n) state.contents
 
@@ -74,13 +75,13 @@ module _ (s : SupplierRow) where
       (leaves_next s (Filled s sscc (n + 1)) (apply (SetLine line) state) (AddContent content) [] filled.there
       (leaves_nothing s (Filled s sscc (n + 1)) (apply (AddContent content) (apply (SetLine line) state)) after)))
 
-  leads_placed : (sscc : List ℕ) (lines : List DespatchLine) (n : ℕ) → Leads s (Filled s sscc n) (Good s) (in_order (judge_despatched sscc) (placed n lines))
-  leads_placed sscc [] n state changes filled h = leaves_given s (Good s) state [] changes h (leaves_nothing s (Good s) state filled.good)
+  leads_placed : (sscc : List ℕ) (lines : List DespatchLine) (n : ℕ) → Leads s (Filled s sscc n) (KeptOwn s) (in_order (judge_despatched sscc) (placed n lines))
+  leads_placed sscc [] n state changes filled h = leaves_given s (KeptOwn s) state [] changes h (leaves_nothing s (KeptOwn s) state filled.good)
   leads_placed sscc (line ∷ lines) n state changes filled h =
-      leads_in_turn s (Filled s sscc n) (Filled s sscc (n + 1)) (Good s) (judge_despatched sscc (n + 1, line)) (in_order (judge_despatched sscc) (placed (n + 1) lines))
+      leads_in_turn s (Filled s sscc n) (Filled s sscc (n + 1)) (KeptOwn s) (judge_despatched sscc (n + 1, line)) (in_order (judge_despatched sscc) (placed (n + 1) lines))
       (leads_despatched sscc n line) (leads_placed sscc lines (n + 1)) state changes filled h
 
-  leads_unit : (used : List ℕ → Bool) (advice : List ℕ) (unit : PalletUnit) → Leads s (Good s) (Good s) (judge_unit s used advice unit)
+  leads_unit : (used : List ℕ → Bool) (advice : List ℕ) (unit : PalletUnit) → Leads s (KeptOwn s) (KeptOwn s) (judge_unit s used advice unit)
   leads_unit used advice unit state changes good h =
       let a = not_refused (not (under_some unit.sscc s.prefixes)) codes.OtherPrefix _ changes h in
       let b = not_refused (used unit.sscc || has_pallet state unit.sscc) codes.SsccUsed _ changes a.1 in
@@ -96,17 +97,17 @@ module _ (s : SupplierRow) where
         there = there;
         below = none;
       } in
-      leaves_in_turn s (Filled s unit.sscc 0) (Good s) (AddPallet pallet ∷ []) (in_order (judge_despatched unit.sscc) (placed 0 unit.lines)) state changes
+      leaves_in_turn s (Filled s unit.sscc 0) (KeptOwn s) (AddPallet pallet ∷ []) (in_order (judge_despatched unit.sscc) (placed 0 unit.lines)) state changes
       (leaves_next s (Filled s unit.sscc 0) state (AddPallet pallet) [] belongs (leaves_nothing s (Filled s unit.sscc 0) (apply (AddPallet pallet) state) filled))
       (leads_placed unit.sscc unit.lines 0) b.1
 
-  leads_new_despatch : (used : List ℕ → Bool) (despatch : Despatch) → Leads s (Good s) (Good s) (judge_new_despatch s used despatch)
+  leads_new_despatch : (used : List ℕ → Bool) (despatch : Despatch) → Leads s (KeptOwn s) (KeptOwn s) (judge_new_despatch s used despatch)
   leads_new_despatch used despatch state changes good h =
       let a = not_refused (knows_advice state despatch.number) codes.AdviceKnown _ changes h in
       let advice : AdviceRow = record { supplier = s.gln; number = despatch.number } in
-      leaves_in_turn s (Good s) (Good s) (AddAdvice advice ∷ []) (in_order (judge_unit s used despatch.number) despatch.units) state changes
+      leaves_in_turn s (KeptOwn s) (KeptOwn s) (AddAdvice advice ∷ []) (in_order (judge_unit s used despatch.number) despatch.units) state changes
       (leaves_good s state (AddAdvice advice) refl good.own (kept_advice state good.kept advice a.0))
-      (leads_in_order s (Good s) (judge_unit s used despatch.number) (leads_unit used despatch.number) despatch.units) a.1
+      (leads_in_order s (KeptOwn s) (judge_unit s used despatch.number) (leads_unit used despatch.number) despatch.units) a.1
 
-  pub leads_despatch : (retailer : List ℕ) (used : List ℕ → Bool) (delivery : Delivery) (despatch : Despatch) → Leads s (Good s) (Good s) (judge_despatch retailer (Some s) used delivery despatch)
-  leads_despatch retailer used delivery despatch = leads_message s retailer sides.Supplier delivery despatch.buyer despatch.supplier (λ s. judge_new_despatch s used despatch) (leads_new_despatch used despatch)
+  pub leads_despatch : (retailer : List ℕ) (used : List ℕ → Bool) (incoming : IncomingMessage) (despatch : Despatch) → Leads s (KeptOwn s) (KeptOwn s) (judge_despatch retailer (Some s) used incoming despatch)
+  leads_despatch retailer used incoming despatch = leads_message s retailer sides.Supplier incoming despatch.buyer despatch.supplier (λ s. judge_new_despatch s used despatch) (leads_new_despatch used despatch)

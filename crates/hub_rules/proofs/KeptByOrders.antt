@@ -20,13 +20,14 @@ use Rattle.hub_tables.specs.declared.rows.LineRow.{LineRow}
 use Rattle.hub_tables.specs.declared.rows.OrderRow.{OrderRow}
 use Rattle.hub_tables.proofs.KeyOrder.{any_put}
 use Rattle.hub_tables.proofs.Lists.{decide, same_is, same_if, differ, all_weaker, all_always, filter_none}
+use Rattle.hub_rules.specs.Laws.{KeptOwn}
 use Rattle.hub_rules.specs.Sound.{knows_line, Kept}
 use Rattle.hub_rules.specs.MailboxRules.{mail_limit, new_mail}
 use Rattle.hub_rules.specs.OrderRules.{new_line, judge_new_order}
 use Rattle.hub_rules.specs.Rules.{judge_order}
 use Rattle.hub_rules.specs.declared.code.Code.TheVariants as codes
-use Rattle.hub_rules.specs.declared.delivery.Delivery.{Delivery}
-use Rattle.hub_rules.proofs.GoodRows.{Good, good_after}
+use Rattle.hub_rules.specs.declared.incoming.IncomingMessage.{IncomingMessage}
+use Rattle.hub_rules.proofs.GoodRows.{good_after}
 use Rattle.hub_rules.proofs.Keeping.{kept_order, kept_line, kept_mail}
 use Rattle.hub_rules.proofs.KeptByMessages.{leads_message}
 use Rattle.hub_rules.proofs.Verdicts.{not_refused, Leaves, Leads, leaves_given, leaves_nothing, leaves_next}
@@ -78,33 +79,33 @@ module _ (s : SupplierRow) (number : List ℕ) where
         still_unknown state line others parts.1 fresh.1,
       )
 
-  leaves_new_lines : (lines : List OrderLine) (state : Tables) → Good s state → knows_order state number ≡ true → AllByRecursion (λ content. same content.number number ≡ false) state.contents → has_number_twice (map (λ line. line.line) lines) ≡ false →
-      AllByRecursion (λ line. knows_line state number line.line ≡ false) lines → Leaves s (Good s) state (map (new_line s.gln number) lines)
-  leaves_new_lines [] state good known none single fresh = leaves_nothing s (Good s) state good
+  leaves_new_lines : (lines : List OrderLine) (state : Tables) → KeptOwn s state → knows_order state number ≡ true → AllByRecursion (λ content. same content.number number ≡ false) state.contents → has_number_twice (map (λ line. line.line) lines) ≡ false →
+      AllByRecursion (λ line. knows_line state number line.line ≡ false) lines → Leaves s (KeptOwn s) state (map (new_line s.gln number) lines)
+  leaves_new_lines [] state good known none single fresh = leaves_nothing s (KeptOwn s) state good
   leaves_new_lines (line ∷ lines) state good known none single fresh =
       let row = row_of s.gln number line in
       let nothing : filter (names row) state.contents ≡ [] = filter_none (names row) state.contents (all_weaker (λ c. same c.number number ≡ false) (λ c. names row c ≡ false) (λ c h. and_left (same c.number number) (c.line == line.line) h) state.contents none) in
       let sent : despatched state row ≡ 0 = ap (sum_by (λ c. c.quantity)) nothing in
       let apart = or_parts (list_any (nat_eq line.line) (map (λ other. other.line) lines)) (has_number_twice (map (λ line. line.line) lines)) single in
-      leaves_next s (Good s) state (AddLine row) (map (new_line s.gln number) lines) refl
+      leaves_next s (KeptOwn s) state (AddLine row) (map (new_line s.gln number) lines) refl
       (leaves_new_lines lines (apply (AddLine row) state) (good_after s state (AddLine row) refl good.own (kept_line state good.kept row known (omega (arith, sent)) fresh.0)) known none apart.1 (still_unknown state line lines apart.0 fresh.1))
 
 module _ (s : SupplierRow) where
-  leads_new_order : (delivery : Delivery) (body : List ℕ) (order : Order) → has_number_twice (map (λ line. line.line) order.lines) ≡ false → Leads s (Good s) (Good s) (judge_new_order s.gln delivery body order)
-  leads_new_order delivery body order single state changes good h =
+  leads_new_order : (incoming : IncomingMessage) (body : List ℕ) (order : Order) → has_number_twice (map (λ line. line.line) order.lines) ≡ false → Leads s (KeptOwn s) (KeptOwn s) (judge_new_order s.gln incoming body order)
+  leads_new_order incoming body order single state changes good h =
       let a = not_refused (knows_order state order.number) codes.OrderKnown _ changes h in
       let b = not_refused (nat_lt mail_limit (next_mail state)) codes.MailboxFull _ changes a.1 in
       let row : OrderRow = record { supplier = s.gln; number = order.number } in
-      let mail : Change = new_mail s.gln state delivery kinds.Orders order.number body in
-      let mailed : Good s (apply mail state) = good_after s state mail refl good.own (kept_mail state good.kept s.gln _ good.own.mail refl refl) in
-      let ordered : Good s (apply (AddOrder row) (apply mail state)) = good_after s (apply mail state) (AddOrder row) refl mailed.own (kept_order (apply mail state) mailed.kept row a.0) in
+      let mail : Change = new_mail s.gln state incoming kinds.Orders order.number body in
+      let mailed : KeptOwn s (apply mail state) = good_after s state mail refl good.own (kept_mail state good.kept s.gln _ good.own.mail refl refl) in
+      let ordered : KeptOwn s (apply (AddOrder row) (apply mail state)) = good_after s (apply mail state) (AddOrder row) refl mailed.own (kept_order (apply mail state) mailed.kept row a.0) in
       let known : knows_order (apply (AddOrder row) (apply mail state)) order.number ≡ true =
       any_put order_cmp (λ o. same o.number order.number) state.orders row ∙ or_right (knows_order state order.number) (same order.number order.number || false) (ap (λ v. v || false) (same_if order.number order.number refl)) in
-      leaves_given s (Good s) state (mail ∷ AddOrder row ∷ map (new_line s.gln order.number) order.lines) changes b.1
-      (leaves_next s (Good s) state mail (AddOrder row ∷ map (new_line s.gln order.number) order.lines) refl
-      (leaves_next s (Good s) (apply mail state) (AddOrder row) (map (new_line s.gln order.number) order.lines) refl
+      leaves_given s (KeptOwn s) state (mail ∷ AddOrder row ∷ map (new_line s.gln order.number) order.lines) changes b.1
+      (leaves_next s (KeptOwn s) state mail (AddOrder row ∷ map (new_line s.gln order.number) order.lines) refl
+      (leaves_next s (KeptOwn s) (apply mail state) (AddOrder row) (map (new_line s.gln order.number) order.lines) refl
       (leaves_new_lines s order.number order.lines (apply (AddOrder row) (apply mail state)) ordered known (unnamed state good.kept order.number a.0) single
       (all_always (λ line. knows_line state order.number line.line ≡ false) (λ line. no_lines state good.kept order.number a.0 line.line) order.lines))))
 
-  pub leads_order : (retailer : List ℕ) (delivery : Delivery) (body : List ℕ) (order : Order) → has_number_twice (map (λ line. line.line) order.lines) ≡ false → Leads s (Good s) (Good s) (judge_order retailer (Some s) delivery body order)
-  leads_order retailer delivery body order single = leads_message s retailer sides.Retailer delivery (Some order.buyer) order.supplier (λ s. judge_new_order s.gln delivery body order) (leads_new_order delivery body order single)
+  pub leads_order : (retailer : List ℕ) (incoming : IncomingMessage) (body : List ℕ) (order : Order) → has_number_twice (map (λ line. line.line) order.lines) ≡ false → Leads s (KeptOwn s) (KeptOwn s) (judge_order retailer (Some s) incoming body order)
+  leads_order retailer incoming body order single = leads_message s retailer sides.Retailer incoming (Some order.buyer) order.supplier (λ s. judge_new_order s.gln incoming body order) (leads_new_order incoming body order single)

@@ -22,14 +22,15 @@ use Rattle.hub_tables.specs.declared.rows.ReceiptRow.{ReceiptRow}
 use Rattle.hub_tables.proofs.KeyOrder.{any_put, filter_put_in}
 use Rattle.hub_tables.proofs.KindOrders.{receipt_total}
 use Rattle.hub_tables.proofs.Lists.{decide, same_is, same_if, differ, all_weaker, all_always, all_found, any_if_found, filter_none}
+use Rattle.hub_rules.specs.Laws.{KeptOwn}
 use Rattle.hub_rules.specs.Judging.{in_order}
 use Rattle.hub_rules.specs.Sound.{Single, was_received}
 use Rattle.hub_rules.specs.MailboxRules.{mail_limit, new_mail}
-use Rattle.hub_rules.specs.ReceiptRules.{items, total, new_receipt, judge_received, judge_new_receipt}
+use Rattle.hub_rules.specs.ReceiptRules.{gtins, total, new_receipt, judge_received, judge_new_receipt}
 use Rattle.hub_rules.specs.Rules.{judge_receipt}
 use Rattle.hub_rules.specs.declared.code.Code.TheVariants as codes
-use Rattle.hub_rules.specs.declared.delivery.Delivery.{Delivery}
-use Rattle.hub_rules.proofs.GoodRows.{Good, good_after, leaves_good}
+use Rattle.hub_rules.specs.declared.incoming.IncomingMessage.{IncomingMessage}
+use Rattle.hub_rules.proofs.GoodRows.{good_after, leaves_good}
 use Rattle.hub_rules.proofs.Keeping.{kept_received, kept_receipt, kept_mail}
 use Rattle.hub_rules.proofs.KeptByMessages.{leads_message}
 use Rattle.hub_rules.proofs.KeptLists.{is_received, received_now, found_unreceived}
@@ -58,9 +59,9 @@ gone gtin (other ∷ others) =
     elim (decide (same other gtin)) [ inl e ↦ grind (arith, e, ih) | inr e ↦ grind (arith, e, turn, ih) ]
 
 -- each item comes once
-items_single : (lines : List ReceiptLine) → Single same (items lines)
-items_single [] = tt
-items_single (line ∷ lines) = (gone line.gtin (items lines), single_filter same (λ gtin. not (same gtin line.gtin)) (items lines) (items_single lines))
+gtins_single : (lines : List ReceiptLine) → Single same (gtins lines)
+gtins_single [] = tt
+gtins_single (line ∷ lines) = (gone line.gtin (gtins lines), single_filter same (λ gtin. not (same gtin line.gtin)) (gtins lines) (gtins_single lines))
 
 abbrev receipt_of : List ℕ → List ReceiptLine → List ℕ → ReceiptRow
 receipt_of sscc lines gtin = record {
@@ -76,7 +77,7 @@ abbrev Lacks : List ℕ → Tables → List ℕ → Type 0
 Lacks sscc state gtin = list_any (λ y. same y.gtin gtin) (filter (λ y. same y.sscc sscc) state.receipts) ≡ false
 
 module _ (s : SupplierRow) where
-  still_lacking : (sscc : List ℕ) (lines : List ReceiptLine) (gtin : List ℕ) (state : Tables) → Good s state → (others : List (List ℕ)) → list_any (same gtin) others ≡ false → AllByRecursion (Lacks sscc state) others → AllByRecursion (Lacks sscc (apply (AddReceipt (receipt_of sscc lines gtin)) state)) others
+  still_lacking : (sscc : List ℕ) (lines : List ReceiptLine) (gtin : List ℕ) (state : Tables) → KeptOwn s state → (others : List (List ℕ)) → list_any (same gtin) others ≡ false → AllByRecursion (Lacks sscc state) others → AllByRecursion (Lacks sscc (apply (AddReceipt (receipt_of sscc lines gtin)) state)) others
   still_lacking sscc lines gtin state good [] apart lacking = tt
   still_lacking sscc lines gtin state good (other ∷ others) apart lacking =
       let parts = or_parts (same gtin other) (list_any (same gtin) others) apart in (
@@ -87,15 +88,15 @@ module _ (s : SupplierRow) where
       )
 
   -- receipts of items that are all different, on a received pallet that has none of them
-  leaves_receipts : (sscc : List ℕ) (lines : List ReceiptLine) (gtins : List (List ℕ)) (state : Tables) → Good s state → has_pallet state sscc ≡ true → was_received state sscc ≡ true → Single same gtins → AllByRecursion (Lacks sscc state) gtins →
-      Leaves s (Good s) state (map (new_receipt sscc lines) gtins)
-  leaves_receipts sscc lines [] state good there received single lacking = leaves_nothing s (Good s) state good
+  leaves_receipts : (sscc : List ℕ) (lines : List ReceiptLine) (gtins : List (List ℕ)) (state : Tables) → KeptOwn s state → has_pallet state sscc ≡ true → was_received state sscc ≡ true → Single same gtins → AllByRecursion (Lacks sscc state) gtins →
+      Leaves s (KeptOwn s) state (map (new_receipt sscc lines) gtins)
+  leaves_receipts sscc lines [] state good there received single lacking = leaves_nothing s (KeptOwn s) state good
   leaves_receipts sscc lines (gtin ∷ gtins) state good there received single lacking =
       let row = receipt_of sscc lines gtin in
-      leaves_next s (Good s) state (AddReceipt row) (map (new_receipt sscc lines) gtins) there
+      leaves_next s (KeptOwn s) state (AddReceipt row) (map (new_receipt sscc lines) gtins) there
       (leaves_receipts sscc lines gtins (apply (AddReceipt row) state) (good_after s state (AddReceipt row) there good.own (kept_receipt state good.kept row good.own.ordered.receipts received lacking.0)) there received single.1 (still_lacking sscc lines gtin state good gtins single.0 lacking.1))
 
-  leads_received : (unit : ReceiptUnit) → Leads s (Good s) (Good s) (judge_received unit)
+  leads_received : (unit : ReceiptUnit) → Leads s (KeptOwn s) (KeptOwn s) (judge_received unit)
   leads_received unit state changes good h =
       let p = was_given (pallet_of state unit.sscc) codes.NoPallet _ changes h in
       let a = not_refused (is_received p.0) codes.PalletReceived _ changes p.2 in
@@ -109,19 +110,19 @@ module _ (s : SupplierRow) where
       let not_yet = found_unreceived unit.sscc state.pallets p.0 good.kept.pallets p.1 a.0 in
       let none : filter (λ y. same y.sscc unit.sscc) state.receipts ≡ [] =
       filter_none (λ y. same y.sscc unit.sscc) state.receipts (all_weaker (λ r. was_received state r.sscc ≡ true) (λ r. same r.sscc unit.sscc ≡ false) (λ r was. differ r.sscc unit.sscc (λ e. let both = ap (was_received state) e in (cc))) state.receipts good.kept.receipt_pallets) in
-      let lacking : AllByRecursion (Lacks unit.sscc after) (items unit.lines) = all_always (Lacks unit.sscc after) (λ gtin. ap (list_any (λ (y : ReceiptRow). same y.gtin gtin)) none) (items unit.lines) in
+      let lacking : AllByRecursion (Lacks unit.sscc after) (gtins unit.lines) = all_always (Lacks unit.sscc after) (λ gtin. ap (list_any (λ (y : ReceiptRow). same y.gtin gtin)) none) (gtins unit.lines) in
       let belongs : (row.supplier ≡ s.gln) × (has_pallet state row.sscc ≡ true) = (found.0, here) in
-      leaves_given s (Good s) state (SetPallet row ∷ map (new_receipt unit.sscc unit.lines) (items unit.lines)) changes a.1
-      (leaves_next s (Good s) state (SetPallet row) (map (new_receipt unit.sscc unit.lines) (items unit.lines)) belongs
-      (leaves_receipts unit.sscc unit.lines (items unit.lines) after (good_after s state (SetPallet row) belongs good.own (kept_received state good.kept row refl)) (pallet_stays unit.sscc state (SetPallet row) there) received (items_single unit.lines) lacking))
+      leaves_given s (KeptOwn s) state (SetPallet row ∷ map (new_receipt unit.sscc unit.lines) (gtins unit.lines)) changes a.1
+      (leaves_next s (KeptOwn s) state (SetPallet row) (map (new_receipt unit.sscc unit.lines) (gtins unit.lines)) belongs
+      (leaves_receipts unit.sscc unit.lines (gtins unit.lines) after (good_after s state (SetPallet row) belongs good.own (kept_received state good.kept row refl)) (pallet_stays unit.sscc state (SetPallet row) there) received (gtins_single unit.lines) lacking))
 
-  leads_new_receipt : (delivery : Delivery) (body : List ℕ) (receipt : Receipt) → Leads s (Good s) (Good s) (judge_new_receipt s.gln delivery body receipt)
-  leads_new_receipt delivery body receipt state changes good h =
+  leads_new_receipt : (incoming : IncomingMessage) (body : List ℕ) (receipt : Receipt) → Leads s (KeptOwn s) (KeptOwn s) (judge_new_receipt s.gln incoming body receipt)
+  leads_new_receipt incoming body receipt state changes good h =
       let a = not_refused (nat_lt mail_limit (next_mail state)) codes.MailboxFull _ changes h in
-      let mail : Change = new_mail s.gln state delivery kinds.Receipt receipt.number body in
-      leaves_in_turn s (Good s) (Good s) (mail ∷ []) (in_order judge_received receipt.units) state changes
+      let mail : Change = new_mail s.gln state incoming kinds.Receipt receipt.number body in
+      leaves_in_turn s (KeptOwn s) (KeptOwn s) (mail ∷ []) (in_order judge_received receipt.units) state changes
       (leaves_good s state mail refl good.own (kept_mail state good.kept s.gln _ good.own.mail refl refl))
-      (leads_in_order s (Good s) judge_received leads_received receipt.units) a.1
+      (leads_in_order s (KeptOwn s) judge_received leads_received receipt.units) a.1
 
-  pub leads_receipt : (retailer : List ℕ) (delivery : Delivery) (body : List ℕ) (receipt : Receipt) → Leads s (Good s) (Good s) (judge_receipt retailer (Some s) delivery body receipt)
-  leads_receipt retailer delivery body receipt = leads_message s retailer sides.Retailer delivery receipt.buyer receipt.supplier (λ s. judge_new_receipt s.gln delivery body receipt) (leads_new_receipt delivery body receipt)
+  pub leads_receipt : (retailer : List ℕ) (incoming : IncomingMessage) (body : List ℕ) (receipt : Receipt) → Leads s (KeptOwn s) (KeptOwn s) (judge_receipt retailer (Some s) incoming body receipt)
+  leads_receipt retailer incoming body receipt = leads_message s retailer sides.Retailer incoming receipt.buyer receipt.supplier (λ s. judge_new_receipt s.gln incoming body receipt) (leads_new_receipt incoming body receipt)

@@ -8,16 +8,16 @@ use Rattle.hub_tables.specs.Rows.{same}
 use Rattle.hub_tables.specs.Tables.{Tables, view}
 use Rattle.hub_tables.specs.declared.change.Change.{Change}
 use Rattle.hub_tables.proofs.Lists.{decide, same_is, same_if}
-use Rattle.hub_rules.specs.Laws.{KeepsApart}
+use Rattle.hub_rules.specs.Laws.{KeptOwn, KeepsApart}
 use Rattle.hub_rules.specs.Sound.{Kept, Sound}
 use Rattle.hub_rules.proofs.Belonging.{Keeps}
 use Rattle.hub_rules.proofs.Changes.{follows}
-use Rattle.hub_rules.proofs.GoodRows.{Good, keeps_from}
+use Rattle.hub_rules.proofs.GoodRows.{keeps_from}
 use Rattle.hub_rules.proofs.Verdicts.{Leaves}
 use Rattle.hub_rules.proofs.Views.{view_own}
 
 -- what a supplier sees of sound tables is its own, and as it is to be
-pub good_view : (suppliers : List SupplierRow) (s : SupplierRow) (t : Tables) → Sound suppliers t → Good s (view s.gln t)
+pub good_view : (suppliers : List SupplierRow) (s : SupplierRow) (t : Tables) → Sound suppliers t → KeptOwn s (view s.gln t)
 good_view suppliers s t sound = record { own = view_own s t (sound.rooted).ordered; kept = sound.kept s.gln }
 
 module _ (suppliers : List SupplierRow) (free : PrefixFree (company_prefixes suppliers)) (s : SupplierRow) (known : supplier_of suppliers s.gln ≡ Some s) (t : Tables) (sound : Sound suppliers t) where
@@ -36,5 +36,5 @@ module _ (suppliers : List SupplierRow) (free : PrefixFree (company_prefixes sup
         };
       }
 
-  pub apart_from : (changes : List Change) → Leaves s (Good s) (view s.gln t) changes → KeepsApart suppliers s t changes
+  pub apart_from : (changes : List Change) → Leaves s (KeptOwn s) (view s.gln t) changes → KeepsApart suppliers s t changes
   apart_from changes left = after_changes changes (keeps_from s (view s.gln t) changes left)

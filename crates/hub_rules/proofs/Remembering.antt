@@ -17,7 +17,7 @@ use Rattle.hub_rules.specs.RepeatRules.{Reference, remembered, once, judge_once}
 use Rattle.hub_rules.specs.Rules.{referred_by, judge_message}
 use Rattle.hub_rules.specs.declared.code.Code.{Code}
 use Rattle.hub_rules.specs.declared.code.Code.TheVariants as codes
-use Rattle.hub_rules.specs.declared.delivery.Delivery.{Delivery}
+use Rattle.hub_rules.specs.declared.incoming.IncomingMessage.{IncomingMessage}
 use Rattle.hub_rules.specs.declared.verdict.Verdict.{Verdict}
 use Rattle.hub_rules.specs.declared.verdict.Verdict.TheVariants.{Accept, Refuse}
 
@@ -68,8 +68,8 @@ module _ (r : Reference) (content : List ℕ) (state : Tables) where
       not_false false h = cc
 
 -- a message
-pub message_remembers : (s : SupplierRow) (state : Tables) (retailer : List ℕ) (side : Side) (delivery : Delivery) (buyer : Option (List ℕ)) (named : List ℕ) (rest : SupplierRow → Judge) →
-    Remembers (referred_by s side delivery) delivery.content ((is_other_buyer retailer buyer ≡ false) × (named ≡ s.gln)) state (judge_message retailer (Some s) side delivery buyer named rest state)
-message_remembers s state retailer side delivery buyer named rest =
-    checked_remembers (referred_by s side delivery) delivery.content state (named ≡ s.gln) (is_other_buyer retailer buyer) codes.Buyer _
-    (registered_remembers (referred_by s side delivery) delivery.content state s named (rest s))
+pub message_remembers : (s : SupplierRow) (state : Tables) (retailer : List ℕ) (side : Side) (incoming : IncomingMessage) (buyer : Option (List ℕ)) (named : List ℕ) (rest : SupplierRow → Judge) →
+    Remembers (referred_by s side incoming) incoming.content ((is_other_buyer retailer buyer ≡ false) × (named ≡ s.gln)) state (judge_message retailer (Some s) side incoming buyer named rest state)
+message_remembers s state retailer side incoming buyer named rest =
+    checked_remembers (referred_by s side incoming) incoming.content state (named ≡ s.gln) (is_other_buyer retailer buyer) codes.Buyer _
+    (registered_remembers (referred_by s side incoming) incoming.content state s named (rest s))

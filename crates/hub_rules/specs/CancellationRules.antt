@@ -4,7 +4,7 @@ use Rattle.hub_tables.specs.State.{knows_order, line_of}
 use Rattle.hub_tables.specs.declared.change.Change.TheVariants.{SetLine}
 use Rattle.hub_rules.specs.Judging.{Judge, refuse_if, given}
 use Rattle.hub_rules.specs.declared.code.Code.TheVariants.{NoOrder, NoLine, CancelsMoreThanOpen}
-use Rattle.hub_rules.specs.declared.delivery.Cancel.{Cancel}
+use Rattle.hub_rules.specs.declared.cancel.Cancel.{Cancel}
 use Rattle.hub_rules.specs.declared.verdict.Verdict.TheVariants.{Accept}
 
 -- B05, B06, B17; then the quantity moves from open to cancelled

@@ -7,19 +7,19 @@ use Rattle.hub_tables.specs.Tables.{Tables}
 use Rattle.hub_tables.specs.declared.cases.MailKind.{MailKind}
 use Rattle.hub_tables.specs.declared.change.Change.{Change}
 use Rattle.hub_tables.specs.declared.change.Change.TheVariants.{AddMail}
-use Rattle.hub_rules.specs.declared.delivery.Delivery.{Delivery}
+use Rattle.hub_rules.specs.declared.incoming.IncomingMessage.{IncomingMessage}
 
 -- the greatest number of an entry
 abbrev pub mail_limit : ℕ
 mail_limit = last_number
 
 -- an entry with a number
-abbrev pub mail_entry : List ℕ → ℕ → Delivery → MailKind → List ℕ → List ℕ → Change
-mail_entry supplier number delivery kind document body = AddMail (record {
+abbrev pub mail_entry : List ℕ → ℕ → IncomingMessage → MailKind → List ℕ → List ℕ → Change
+mail_entry supplier number incoming kind document body = AddMail (record {
   supplier = supplier;
   number = number;
-  moment = delivery.moment;
-  decimal = delivery.decimal;
+  moment = incoming.moment;
+  decimal = incoming.decimal;
   kind = kind_letter kind;
   document = document;
   body = body;
@@ -27,5 +27,5 @@ mail_entry supplier number delivery kind document body = AddMail (record {
 })
 
 -- the next entry of the supplier's mailbox
-abbrev pub new_mail : List ℕ → Tables → Delivery → MailKind → List ℕ → List ℕ → Change
-new_mail supplier state delivery kind document body = mail_entry supplier (next_mail state) delivery kind document body
+abbrev pub new_mail : List ℕ → Tables → IncomingMessage → MailKind → List ℕ → List ℕ → Change
+new_mail supplier state incoming kind document body = mail_entry supplier (next_mail state) incoming kind document body

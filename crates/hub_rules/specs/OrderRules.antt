@@ -11,7 +11,7 @@ use Rattle.hub_tables.specs.declared.change.Change.TheVariants.{AddOrder, AddLin
 use Rattle.hub_rules.specs.Judging.{Judge, refuse_if}
 use Rattle.hub_rules.specs.MailboxRules.{mail_limit, new_mail}
 use Rattle.hub_rules.specs.declared.code.Code.TheVariants.{OrderKnown, MailboxFull}
-use Rattle.hub_rules.specs.declared.delivery.Delivery.{Delivery}
+use Rattle.hub_rules.specs.declared.incoming.IncomingMessage.{IncomingMessage}
 use Rattle.hub_rules.specs.declared.verdict.Verdict.TheVariants.{Accept}
 
 -- a line of an order: all of it is open, and it waits
@@ -29,11 +29,11 @@ new_line supplier number line = AddLine (record {
 })
 
 -- B04, B16; then the mailbox entry, the order and its lines
-abbrev pub judge_new_order : List ℕ → Delivery → List ℕ → Order → Judge
-judge_new_order supplier delivery body order state =
+abbrev pub judge_new_order : List ℕ → IncomingMessage → List ℕ → Order → Judge
+judge_new_order supplier incoming body order state =
     refuse_if (knows_order state order.number) OrderKnown (
     refuse_if (nat_lt mail_limit (next_mail state)) MailboxFull (
     Accept (
-    new_mail supplier state delivery kinds.Orders order.number body
+    new_mail supplier state incoming kinds.Orders order.number body
     ∷ AddOrder (record { supplier = supplier; number = order.number })
     ∷ map (new_line supplier order.number) order.lines)))

@@ -13,13 +13,13 @@ use Rattle.hub_tables.specs.declared.change.Change.TheVariants.{SetPallet, AddRe
 use Rattle.hub_rules.specs.Judging.{Judge, gives, refuse_if, given, in_turn, in_order}
 use Rattle.hub_rules.specs.MailboxRules.{mail_limit, new_mail}
 use Rattle.hub_rules.specs.declared.code.Code.TheVariants.{NoPallet, PalletReceived, MailboxFull}
-use Rattle.hub_rules.specs.declared.delivery.Delivery.{Delivery}
+use Rattle.hub_rules.specs.declared.incoming.IncomingMessage.{IncomingMessage}
 use Rattle.hub_rules.specs.declared.verdict.Verdict.TheVariants.{Accept}
 
 -- the items of lines, each once, in the order in which they first come
-abbrev pub items : List ReceiptLine → List (List ℕ)
-items [] = []
-items (line ∷ lines) = line.gtin ∷ filter (λ gtin. not (same gtin line.gtin)) (items lines)
+abbrev pub gtins : List ReceiptLine → List (List ℕ)
+gtins [] = []
+gtins (line ∷ lines) = line.gtin ∷ filter (λ gtin. not (same gtin line.gtin)) (gtins lines)
 
 -- the sum of one kind of quantity over the lines of an item
 abbrev pub total : (ReceiptLine → ℕ) → List ℕ → List ReceiptLine → ℕ
@@ -40,11 +40,11 @@ abbrev pub judge_received : ReceiptUnit → Judge
 judge_received unit state =
     given (pallet_of state unit.sscc) NoPallet (λ pallet.
     refuse_if (not (pallet.received == arrival_number Announced)) PalletReceived (
-    Accept (SetPallet (record pallet { received = arrival_number Received }) ∷ map (new_receipt unit.sscc unit.lines) (items unit.lines))))
+    Accept (SetPallet (record pallet { received = arrival_number Received }) ∷ map (new_receipt unit.sscc unit.lines) (gtins unit.lines))))
 
 -- B16; then the mailbox entry, and the units
-abbrev pub judge_new_receipt : List ℕ → Delivery → List ℕ → Receipt → Judge
-judge_new_receipt supplier delivery body receipt state =
+abbrev pub judge_new_receipt : List ℕ → IncomingMessage → List ℕ → Receipt → Judge
+judge_new_receipt supplier incoming body receipt state =
     refuse_if (nat_lt mail_limit (next_mail state)) MailboxFull (
-    in_turn (gives (new_mail supplier state delivery kinds.Receipt receipt.number body ∷ []))
+    in_turn (gives (new_mail supplier state incoming kinds.Receipt receipt.number body ∷ []))
     (in_order judge_received receipt.units) state)

@@ -17,37 +17,37 @@ use Rattle.hub_rules.specs.ReceiptRules.{judge_new_receipt}
 use Rattle.hub_rules.specs.RepeatRules.{Reference, judge_once}
 use Rattle.hub_rules.specs.ResponseRules.{judge_new_response}
 use Rattle.hub_rules.specs.declared.code.Code.TheVariants as codes
-use Rattle.hub_rules.specs.declared.delivery.Cancel.{Cancel}
-use Rattle.hub_rules.specs.declared.delivery.Delivery.{Delivery}
+use Rattle.hub_rules.specs.declared.cancel.Cancel.{Cancel}
+use Rattle.hub_rules.specs.declared.incoming.IncomingMessage.{IncomingMessage}
 
-abbrev pub referred_by : SupplierRow → Side → Delivery → Reference
-referred_by s side delivery = record { supplier = s.gln; side = side; control = delivery.control; message = delivery.message }
+abbrev pub referred_by : SupplierRow → Side → IncomingMessage → Reference
+referred_by s side incoming = record { supplier = s.gln; side = side; control = incoming.control; message = incoming.message }
 
 -- B01, B02, B03; then the checks of the message
-abbrev pub judge_message : List ℕ → Option SupplierRow → Side → Delivery → Option (List ℕ) → List ℕ → (SupplierRow → Judge) → Judge
-judge_message retailer supplier side delivery buyer named rest state =
+abbrev pub judge_message : List ℕ → Option SupplierRow → Side → IncomingMessage → Option (List ℕ) → List ℕ → (SupplierRow → Judge) → Judge
+judge_message retailer supplier side incoming buyer named rest state =
     refuse_if (is_other_buyer retailer buyer) codes.Buyer (
-    registered supplier named (λ s. judge_once (referred_by s side delivery) delivery.content (rest s) state))
+    registered supplier named (λ s. judge_once (referred_by s side incoming) incoming.content (rest s) state))
 
 -- ORDERS: B01 B02 B03 B04 B16
-abbrev pub judge_order : List ℕ → Option SupplierRow → Delivery → List ℕ → Order → Judge
-judge_order retailer supplier delivery body order =
-    judge_message retailer supplier sides.Retailer delivery (Some order.buyer) order.supplier (λ s. judge_new_order s.gln delivery body order)
+abbrev pub judge_order : List ℕ → Option SupplierRow → IncomingMessage → List ℕ → Order → Judge
+judge_order retailer supplier incoming body order =
+    judge_message retailer supplier sides.Retailer incoming (Some order.buyer) order.supplier (λ s. judge_new_order s.gln incoming body order)
 
 -- ORDRSP: B01 B02 B03 B05, for all lines B07; at a line B06 B07 B08 B09
-abbrev pub judge_response : List ℕ → Option SupplierRow → Delivery → Response → Judge
-judge_response retailer supplier delivery response =
-    judge_message retailer supplier sides.Supplier delivery (Some response.buyer) response.supplier (λ s. judge_new_response response)
+abbrev pub judge_response : List ℕ → Option SupplierRow → IncomingMessage → Response → Judge
+judge_response retailer supplier incoming response =
+    judge_message retailer supplier sides.Supplier incoming (Some response.buyer) response.supplier (λ s. judge_new_response response)
 
 -- DESADV: B01 B02 B03 B13; at a unit B11 B12; at a line B05 B06 B09 B10
-abbrev pub judge_despatch : List ℕ → Option SupplierRow → (List ℕ → Bool) → Delivery → Despatch → Judge
-judge_despatch retailer supplier used delivery despatch =
-    judge_message retailer supplier sides.Supplier delivery despatch.buyer despatch.supplier (λ s. judge_new_despatch s used despatch)
+abbrev pub judge_despatch : List ℕ → Option SupplierRow → (List ℕ → Bool) → IncomingMessage → Despatch → Judge
+judge_despatch retailer supplier used incoming despatch =
+    judge_message retailer supplier sides.Supplier incoming despatch.buyer despatch.supplier (λ s. judge_new_despatch s used despatch)
 
 -- RECADV: B01 B02 B03 B16; at a unit B14 B15
-abbrev pub judge_receipt : List ℕ → Option SupplierRow → Delivery → List ℕ → Receipt → Judge
-judge_receipt retailer supplier delivery body receipt =
-    judge_message retailer supplier sides.Retailer delivery receipt.buyer receipt.supplier (λ s. judge_new_receipt s.gln delivery body receipt)
+abbrev pub judge_receipt : List ℕ → Option SupplierRow → IncomingMessage → List ℕ → Receipt → Judge
+judge_receipt retailer supplier incoming body receipt =
+    judge_message retailer supplier sides.Retailer incoming receipt.buyer receipt.supplier (λ s. judge_new_receipt s.gln incoming body receipt)
 
 abbrev pub cancelled_by : SupplierRow → Cancel → Reference
 cancelled_by s cancel = record { supplier = s.gln; side = sides.Cancellation; control = cancel.reference; message = [] }

@@ -9,20 +9,24 @@ ghost use Rattle.edi_goods.specs.declared.despatch.Despatch.{Despatch};
 ghost use Rattle.edi_goods.specs.declared.receipt.Receipt.{Receipt};
 ghost use Rattle.hub_parties.specs.Rows.{company_prefixes, supplier_of};
 ghost use Rattle.hub_parties.specs.declared.row.SupplierRow.{SupplierRow};
+ghost use Rattle.hub_tables.specs.Change.{apply_all};
 ghost use Rattle.hub_tables.specs.Tables.{Tables, has_pallet, view, empty};
 ghost use Rattle.hub_tables.specs.declared.cases.Side.TheVariants as sides;
 ghost use Rattle.hub_tables.specs.declared.change.Change.{Change};
-ghost use Rattle.hub_rules.specs.Laws.{StaysKept, KeepsApart, Remembers};
+ghost use Rattle.hub_rules.specs.Laws.{KeptOwn, Registered, KeepsApart, Remembers};
 ghost use Rattle.hub_rules.specs.PartyRules.{is_other_buyer};
-ghost use Rattle.hub_rules.specs.Rules.{referred_by, cancelled_by, judge_order, judge_response, judge_despatch, judge_receipt, judge_cancel};
-ghost use Rattle.hub_rules.specs.Sound.{IsOwn, Kept, Rooted, Sound};
-ghost use Rattle.hub_rules.specs.declared.delivery.Cancel.{Cancel};
-ghost use Rattle.hub_rules.specs.declared.delivery.Delivery.{Delivery};
+ghost use Rattle.hub_rules.specs.Rules.{referred_by, cancelled_by, judge_order, judge_response, judge_despatch};
+ghost use Rattle.hub_rules.specs.Rules.{judge_receipt, judge_cancel};
+ghost use Rattle.hub_rules.specs.Sound.{Rooted};
+ghost use Rattle.hub_rules.specs.declared.cancel.Cancel.{Cancel};
+ghost use Rattle.hub_rules.specs.declared.incoming.IncomingMessage.{IncomingMessage};
 ghost use Rattle.hub_rules.specs.declared.verdict.Verdict.TheVariants.{Accept};
 
 /// An SSCC under a supplier's prefixes is that of a pallet exactly where it is that of a pallet of this supplier.
 pub fn pallet_is_its_prefixes_suppliers()
-    ensures { (suppliers : List SupplierRow) (s : SupplierRow) (t : Tables) (sscc : List ℕ) → PrefixFree (company_prefixes suppliers) → supplier_of suppliers s.gln ≡ Some s → Rooted suppliers t → under_some sscc s.prefixes ≡ true → has_pallet t sscc ≡ has_pallet (view s.gln t) sscc }
+    ensures { (suppliers : List SupplierRow) (s : SupplierRow) (t : Tables) (sscc : List ℕ) →
+        PrefixFree (company_prefixes suppliers) → supplier_of suppliers s.gln ≡ Some s → Rooted suppliers t →
+        under_some sscc s.prefixes ≡ true → has_pallet t sscc ≡ has_pallet (view s.gln t) sscc }
 {}
 
 /// Empty tables keep suppliers apart.
@@ -30,33 +34,85 @@ pub fn empty_tables_are_rooted()
     ensures { (suppliers : List SupplierRow) → Rooted suppliers empty }
 {}
 
-/// What the rules accept leaves the supplier's rows its own and sound: each key stands once; the order of a line, the line of a
-/// content and the pallet of a receipt are there; numbers go on; and on every line ordered is open, refused, cancelled and
-/// despatched together.
+/// What the rules accept leaves the supplier's rows its own and sound: each key stands once; the order of a line, the
+/// line of a content and the pallet of a receipt are there; numbers go on; and on every line ordered is open, refused,
+/// cancelled and despatched together.
 pub fn rules_keep_rows()
-    ensures order { (s : SupplierRow) (state : Tables) (retailer : List ℕ) (delivery : Delivery) (body : List ℕ) (order : Order) (changes : List Change) → IsOwn s state → Kept state → has_number_twice (map (λ line. line.line) order.lines) ≡ false → judge_order retailer (Some s) delivery body order state ≡ Accept changes → StaysKept s state changes }
-    ensures response { (s : SupplierRow) (state : Tables) (retailer : List ℕ) (delivery : Delivery) (response : Response) (changes : List Change) → IsOwn s state → Kept state → judge_response retailer (Some s) delivery response state ≡ Accept changes → StaysKept s state changes }
-    ensures despatch { (s : SupplierRow) (state : Tables) (retailer : List ℕ) (used : List ℕ → Bool) (delivery : Delivery) (despatch : Despatch) (changes : List Change) → IsOwn s state → Kept state → judge_despatch retailer (Some s) used delivery despatch state ≡ Accept changes → StaysKept s state changes }
-    ensures receipt { (s : SupplierRow) (state : Tables) (retailer : List ℕ) (delivery : Delivery) (body : List ℕ) (receipt : Receipt) (changes : List Change) → IsOwn s state → Kept state → judge_receipt retailer (Some s) delivery body receipt state ≡ Accept changes → StaysKept s state changes }
-    ensures cancel { (s : SupplierRow) (state : Tables) (content : List ℕ) (cancel : Cancel) (changes : List Change) → IsOwn s state → Kept state → judge_cancel (Some s) content cancel state ≡ Accept changes → StaysKept s state changes }
+    ensures order { (s : SupplierRow) (state : Tables) (retailer : List ℕ) (incoming : IncomingMessage) (body : List ℕ)
+        (order : Order) (changes : List Change) →
+        KeptOwn s state → has_number_twice (map (λ line. line.line) order.lines) ≡ false →
+        judge_order retailer (Some s) incoming body order state ≡ Accept changes →
+        KeptOwn s (apply_all changes state) }
+    ensures response { (s : SupplierRow) (state : Tables) (retailer : List ℕ) (incoming : IncomingMessage)
+        (response : Response) (changes : List Change) →
+        KeptOwn s state → judge_response retailer (Some s) incoming response state ≡ Accept changes →
+        KeptOwn s (apply_all changes state) }
+    ensures despatch { (s : SupplierRow) (state : Tables) (retailer : List ℕ) (used : List ℕ → Bool)
+        (incoming : IncomingMessage) (despatch : Despatch) (changes : List Change) →
+        KeptOwn s state → judge_despatch retailer (Some s) used incoming despatch state ≡ Accept changes →
+        KeptOwn s (apply_all changes state) }
+    ensures receipt { (s : SupplierRow) (state : Tables) (retailer : List ℕ) (incoming : IncomingMessage)
+        (body : List ℕ) (receipt : Receipt) (changes : List Change) →
+        KeptOwn s state → judge_receipt retailer (Some s) incoming body receipt state ≡ Accept changes →
+        KeptOwn s (apply_all changes state) }
+    ensures cancel { (s : SupplierRow) (state : Tables) (content : List ℕ) (cancel : Cancel) (changes : List Change) →
+        KeptOwn s state → judge_cancel (Some s) content cancel state ≡ Accept changes →
+        KeptOwn s (apply_all changes state) }
 {}
 
-/// What the rules accept of what a supplier sees of sound tables are changes of this supplier's rows: the supplier sees them done
-/// to what it saw, what another sees stays, and the tables are sound after them.
+/// What the rules accept of what a supplier sees of sound tables are changes of this supplier's rows: the supplier sees
+/// them done to what it saw, what another sees stays, and the tables are sound after them.
 pub fn rules_keep_suppliers_apart()
-    ensures order { (suppliers : List SupplierRow) (s : SupplierRow) (t : Tables) (retailer : List ℕ) (delivery : Delivery) (body : List ℕ) (order : Order) (changes : List Change) → PrefixFree (company_prefixes suppliers) → supplier_of suppliers s.gln ≡ Some s → Sound suppliers t → has_number_twice (map (λ line. line.line) order.lines) ≡ false → judge_order retailer (Some s) delivery body order (view s.gln t) ≡ Accept changes → KeepsApart suppliers s t changes }
-    ensures response { (suppliers : List SupplierRow) (s : SupplierRow) (t : Tables) (retailer : List ℕ) (delivery : Delivery) (response : Response) (changes : List Change) → PrefixFree (company_prefixes suppliers) → supplier_of suppliers s.gln ≡ Some s → Sound suppliers t → judge_response retailer (Some s) delivery response (view s.gln t) ≡ Accept changes → KeepsApart suppliers s t changes }
-    ensures despatch { (suppliers : List SupplierRow) (s : SupplierRow) (t : Tables) (retailer : List ℕ) (used : List ℕ → Bool) (delivery : Delivery) (despatch : Despatch) (changes : List Change) → PrefixFree (company_prefixes suppliers) → supplier_of suppliers s.gln ≡ Some s → Sound suppliers t → judge_despatch retailer (Some s) used delivery despatch (view s.gln t) ≡ Accept changes → KeepsApart suppliers s t changes }
-    ensures receipt { (suppliers : List SupplierRow) (s : SupplierRow) (t : Tables) (retailer : List ℕ) (delivery : Delivery) (body : List ℕ) (receipt : Receipt) (changes : List Change) → PrefixFree (company_prefixes suppliers) → supplier_of suppliers s.gln ≡ Some s → Sound suppliers t → judge_receipt retailer (Some s) delivery body receipt (view s.gln t) ≡ Accept changes → KeepsApart suppliers s t changes }
-    ensures cancel { (suppliers : List SupplierRow) (s : SupplierRow) (t : Tables) (content : List ℕ) (cancel : Cancel) (changes : List Change) → PrefixFree (company_prefixes suppliers) → supplier_of suppliers s.gln ≡ Some s → Sound suppliers t → judge_cancel (Some s) content cancel (view s.gln t) ≡ Accept changes → KeepsApart suppliers s t changes }
+    ensures order { (suppliers : List SupplierRow) (s : SupplierRow) (t : Tables) (retailer : List ℕ)
+        (incoming : IncomingMessage) (body : List ℕ) (order : Order) (changes : List Change) →
+        Registered suppliers s t → has_number_twice (map (λ line. line.line) order.lines) ≡ false →
+        judge_order retailer (Some s) incoming body order (view s.gln t) ≡ Accept changes →
+        KeepsApart suppliers s t changes }
+    ensures response { (suppliers : List SupplierRow) (s : SupplierRow) (t : Tables) (retailer : List ℕ)
+        (incoming : IncomingMessage) (response : Response) (changes : List Change) →
+        Registered suppliers s t →
+        judge_response retailer (Some s) incoming response (view s.gln t) ≡ Accept changes →
+        KeepsApart suppliers s t changes }
+    ensures despatch { (suppliers : List SupplierRow) (s : SupplierRow) (t : Tables) (retailer : List ℕ)
+        (used : List ℕ → Bool) (incoming : IncomingMessage) (despatch : Despatch) (changes : List Change) →
+        Registered suppliers s t →
+        judge_despatch retailer (Some s) used incoming despatch (view s.gln t) ≡ Accept changes →
+        KeepsApart suppliers s t changes }
+    ensures receipt { (suppliers : List SupplierRow) (s : SupplierRow) (t : Tables) (retailer : List ℕ)
+        (incoming : IncomingMessage) (body : List ℕ) (receipt : Receipt) (changes : List Change) →
+        Registered suppliers s t →
+        judge_receipt retailer (Some s) incoming body receipt (view s.gln t) ≡ Accept changes →
+        KeepsApart suppliers s t changes }
+    ensures cancel { (suppliers : List SupplierRow) (s : SupplierRow) (t : Tables) (content : List ℕ)
+        (cancel : Cancel) (changes : List Change) →
+        Registered suppliers s t →
+        judge_cancel (Some s) content cancel (view s.gln t) ≡ Accept changes → KeepsApart suppliers s t changes }
 {}
 
-/// What the rules accept with changes is remembered, by the first of these. They accept without any change exactly what is
-/// remembered with the same content, of no other buyer (B01) and of the supplier itself (B02).
+/// What the rules accept with changes is remembered, by the first of these. They accept without any change exactly what
+/// is remembered with the same content, of no other buyer (B01) and of the supplier itself (B02).
 pub fn accepted_is_remembered()
-    ensures order { (s : SupplierRow) (state : Tables) (retailer : List ℕ) (delivery : Delivery) (body : List ℕ) (order : Order) → Remembers (referred_by s sides.Retailer delivery) delivery.content ((is_other_buyer retailer (Some order.buyer) ≡ false) × (order.supplier ≡ s.gln)) state (judge_order retailer (Some s) delivery body order state) }
-    ensures response { (s : SupplierRow) (state : Tables) (retailer : List ℕ) (delivery : Delivery) (response : Response) → Remembers (referred_by s sides.Supplier delivery) delivery.content ((is_other_buyer retailer (Some response.buyer) ≡ false) × (response.supplier ≡ s.gln)) state (judge_response retailer (Some s) delivery response state) }
-    ensures despatch { (s : SupplierRow) (state : Tables) (retailer : List ℕ) (used : List ℕ → Bool) (delivery : Delivery) (despatch : Despatch) → Remembers (referred_by s sides.Supplier delivery) delivery.content ((is_other_buyer retailer despatch.buyer ≡ false) × (despatch.supplier ≡ s.gln)) state (judge_despatch retailer (Some s) used delivery despatch state) }
-    ensures receipt { (s : SupplierRow) (state : Tables) (retailer : List ℕ) (delivery : Delivery) (body : List ℕ) (receipt : Receipt) → Remembers (referred_by s sides.Retailer delivery) delivery.content ((is_other_buyer retailer receipt.buyer ≡ false) × (receipt.supplier ≡ s.gln)) state (judge_receipt retailer (Some s) delivery body receipt state) }
-    ensures cancel { (s : SupplierRow) (state : Tables) (content : List ℕ) (cancel : Cancel) → Remembers (cancelled_by s cancel) content (cancel.supplier ≡ s.gln) state (judge_cancel (Some s) content cancel state) }
+    ensures order { (s : SupplierRow) (state : Tables) (retailer : List ℕ) (incoming : IncomingMessage) (body : List ℕ)
+        (order : Order) →
+        Remembers (referred_by s sides.Retailer incoming) incoming.content
+        ((is_other_buyer retailer (Some order.buyer) ≡ false) × (order.supplier ≡ s.gln)) state
+        (judge_order retailer (Some s) incoming body order state) }
+    ensures response { (s : SupplierRow) (state : Tables) (retailer : List ℕ) (incoming : IncomingMessage)
+        (response : Response) →
+        Remembers (referred_by s sides.Supplier incoming) incoming.content
+        ((is_other_buyer retailer (Some response.buyer) ≡ false) × (response.supplier ≡ s.gln)) state
+        (judge_response retailer (Some s) incoming response state) }
+    ensures despatch { (s : SupplierRow) (state : Tables) (retailer : List ℕ) (used : List ℕ → Bool)
+        (incoming : IncomingMessage) (despatch : Despatch) →
+        Remembers (referred_by s sides.Supplier incoming) incoming.content
+        ((is_other_buyer retailer despatch.buyer ≡ false) × (despatch.supplier ≡ s.gln)) state
+        (judge_despatch retailer (Some s) used incoming despatch state) }
+    ensures receipt { (s : SupplierRow) (state : Tables) (retailer : List ℕ) (incoming : IncomingMessage)
+        (body : List ℕ) (receipt : Receipt) →
+        Remembers (referred_by s sides.Retailer incoming) incoming.content
+        ((is_other_buyer retailer receipt.buyer ≡ false) × (receipt.supplier ≡ s.gln)) state
+        (judge_receipt retailer (Some s) incoming body receipt state) }
+    ensures cancel { (s : SupplierRow) (state : Tables) (content : List ℕ) (cancel : Cancel) →
+        Remembers (cancelled_by s cancel) content (cancel.supplier ≡ s.gln) state
+        (judge_cancel (Some s) content cancel state) }
 {}

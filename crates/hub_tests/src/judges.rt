@@ -16,7 +16,7 @@ use edi_tokens::{Tokens, read_all};
 use gs1_ids::Prefix;
 use hub_judges::Known;
 use hub_parties::{Key, SupplierRow};
-use hub_rules::{Delivery, Verdict};
+use hub_rules::{IncomingMessage, Verdict};
 use hub_tables::Answered;
 use std::alloc::Global;
 use std::test::Fail;
@@ -45,8 +45,8 @@ fn alpha(alloc: Global) -> Result<SupplierRow, Fail> {
 }
 
 // Message 7 of interchange 1001.
-fn delivery(alloc: Global) -> Result<Delivery, Fail> {
-    Ok(Delivery {
+fn delivery(alloc: Global) -> Result<IncomingMessage, Fail> {
+    Ok(IncomingMessage {
         control: copied(alloc, b"1001")?,
         message: copied(alloc, b"7")?,
         content: copied(alloc, SAID.as_bytes())?,

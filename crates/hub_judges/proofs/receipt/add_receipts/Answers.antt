@@ -18,7 +18,7 @@ loop-line-init c =
     let are : (item : List ℕ) → totals item ≡ total_from None item unit.lines = λ item. c.in_ok-totals.ensures item ∙ ap (total_from None item) c.as_slice-lines.ensures in
     record {
       receipts = ap (λ gtins. c.args.changes.now ++ map (new_receipt unit.sscc unit.lines) gtins) (sym (all_left totals unit.lines are));
-      told = λ item sum e. sym (are item) ∙ e;
+      sums = λ item sum e. sym (are item) ∙ e;
     }
 
 pub loop-line-preserved : goal.loop-line-preserved
@@ -40,7 +40,7 @@ loop-line-preserved c =
         | in-Some+in_ok-push w ↦
             let there : old line.gtin ≡ Some w.in-Some.total = sym c.remove.ensures.value ∙ w.in-Some.is in
             let added : c.match-remove.changes ≡ so_far ++ receipt line.gtin ∷ [] =
-            w.changes-is ∙ w.in_ok-push.ensures.ok ∙ ap (λ one. so_far ++ one ∷ []) (receipt_is unit.sscc unit.lines line.gtin w.in-Some.total (c.loop-line.invariant.told line.gtin w.in-Some.total there)) in
+            w.changes-is ∙ w.in_ok-push.ensures.ok ∙ ap (λ one. so_far ++ one ∷ []) (receipt_is unit.sscc unit.lines line.gtin w.in-Some.total (c.loop-line.invariant.sums line.gtin w.in-Some.total there)) in
             c.loop-line.invariant.receipts
             ∙ ap (λ gtins. so_far ++ map receipt gtins) (left_taken unit.lines i line inside at old new becomes w.in-Some.total there)
             ∙ sym (append_assoc so_far (receipt line.gtin ∷ []) rest)
@@ -50,5 +50,5 @@ loop-line-preserved c =
             ∙ ap (λ gtins. so_far ++ map receipt gtins) (left_passed unit.lines i line inside at old new becomes (sym c.remove.ensures.value ∙ w.in_default.is))
             ∙ ap (λ changes. changes ++ rest) (sym w.changes-is)
       ];
-      told = still_told old new line.gtin becomes unit.lines c.loop-line.invariant.told;
+      sums = still_told old new line.gtin becomes unit.lines c.loop-line.invariant.sums;
     }

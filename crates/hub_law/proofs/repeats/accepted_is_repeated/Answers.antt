@@ -2,10 +2,13 @@ use Rattle.hub_law.proofs.Repeated.{named_repeated, suppliers_repeated, cancella
 use Rattle.hub_law.proofs.repeats.accepted_is_repeated.Goals as goal
 
 pub returns-clause-retailers : goal.returns-clause-retailers
-returns-clause-retailers c = named_repeated
+returns-clause-retailers c register message incoming moment decimal t u was =
+    named_repeated register (message, incoming) moment decimal t u was.accepted was.remembered was.sound
 
 pub returns-clause-suppliers : goal.returns-clause-suppliers
-returns-clause-suppliers c = suppliers_repeated
+returns-clause-suppliers c suppliers parties s message incoming moment decimal t u was =
+    suppliers_repeated suppliers parties s (message, incoming) moment decimal t u was.accepted was.remembered was.sound
 
 pub returns-clause-cancellation : goal.returns-clause-cancellation
-returns-clause-cancellation c = cancellation_repeated
+returns-clause-cancellation c register cancellation t u was =
+    cancellation_repeated register cancellation t u was.accepted was.remembered was.sound

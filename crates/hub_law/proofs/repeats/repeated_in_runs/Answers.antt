@@ -2,10 +2,13 @@ use Rattle.hub_law.proofs.Recurring.{told_again, left_again, cancelled_again}
 use Rattle.hub_law.proofs.repeats.repeated_in_runs.Goals as goal
 
 pub returns-clause-message : goal.returns-clause-message
-returns-clause-message c = told_again
+returns-clause-message c register t before between first second mark place later message one other alike =
+    told_again register t before between first second mark place later message one.comes other one.start.free one.start.sound alike one.reached one.accepted
 
 pub returns-clause-stays : goal.returns-clause-stays
-returns-clause-stays c = left_again
+returns-clause-stays c register t before between first second mark place later message one other alike =
+    left_again register t before between first second mark place later message one.comes other one.start.free one.start.sound alike one.reached one.accepted
 
 pub returns-clause-cancellation : goal.returns-clause-cancellation
-returns-clause-cancellation c register t before between first second cancellation free sound = cancelled_again register cancellation t before between first second free sound
+returns-clause-cancellation c register t before between first second cancellation here one other =
+    cancelled_again register cancellation t before between first second here.free here.sound one.retailers other.retailers one.asks other.asks

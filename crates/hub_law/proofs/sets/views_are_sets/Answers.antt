@@ -6,4 +6,4 @@ pub returns-clause-views : goal.returns-clause-views
 returns-clause-views c = views_alike
 
 pub returns-clause-rise : goal.returns-clause-rise
-returns-clause-rise c suppliers t free sound = all_rise suppliers t free sound.rooted sound.kept
+returns-clause-rise c suppliers t here = all_rise suppliers t here.free here.sound.rooted here.sound.kept

@@ -15,13 +15,15 @@ stay : (suppliers : List SupplierRow) (t : Tables) → PrefixFree (company_prefi
 stay suppliers t free sound = record { sound = sound; rising = all_rise suppliers t free sound.rooted sound.kept }
 
 pub returns-clause-suppliers : goal.returns-clause-suppliers
-returns-clause-suppliers c register s sent t free known sound = stay register.suppliers _ free (suppliers_act register.suppliers free (parties_of register) s known sent t sound).apart.sound
+returns-clause-suppliers c register s message incoming t here =
+    stay register.suppliers _ here.free (suppliers_act register.suppliers here.free (parties_of register) s here.known (message, incoming) t here.sound).apart.sound
 
 pub returns-clause-retailers : goal.returns-clause-retailers
-returns-clause-retailers c register sent t free sound = stay register.suppliers _ free (message_sound register free sent t sound)
+returns-clause-retailers c register message incoming t here = stay register.suppliers _ here.free (message_sound register here.free (message, incoming) t here.sound)
 
 pub returns-clause-cancellation : goal.returns-clause-cancellation
-returns-clause-cancellation c register cancellation t free sound = stay register.suppliers _ free (cancelled_sound register free Whole cancellation t sound)
+returns-clause-cancellation c register cancellation t here = stay register.suppliers _ here.free (cancelled_sound register here.free Whole cancellation t here.sound)
 
 pub returns-clause-taken : goal.returns-clause-taken
-returns-clause-taken c register s number entry t free known sound found = stay register.suppliers _ free (taking_act register.suppliers free (parties_of register) s known number entry t sound found).sound
+returns-clause-taken c register s number entry t here found =
+    stay register.suppliers _ here.free (taking_act register.suppliers here.free (parties_of register) s here.known number entry t here.sound found).sound
