@@ -1,6 +1,6 @@
-ghost use Rattle.std.specs.Prelude.{◌≡◌, ◌+◌, ◌<◌, true, false, length, drop, slice_index_or, IfOk, MatchOption};
+ghost use Rattle.std.specs.Prelude.{◌≡◌, ◌<◌, false, IfOk, MatchOption};
 ghost use Rattle.std.specs.List.{list_any};
-ghost use Rattle.edi_envelope.specs.Segments.{is_unh, no_segment};
+ghost use Rattle.edi_envelope.specs.Segments.{is_unh};
 ghost use Rattle.edi_envelope.specs.Blocks as spec;
 
 use edi_tokens::{Items, MemoryFault, Segment};

@@ -1,5 +1,5 @@
-ghost use Rattle.std.specs.Prelude.{◌≡◌, length, map, OnOk, IfOk, Ok};
-ghost use Rattle.std.specs.List.{list_any, list_all};
+ghost use Rattle.std.specs.Prelude.{◌≡◌, map, IfOk, Ok};
+ghost use Rattle.std.specs.List.{list_any};
 ghost use Rattle.edi_base.specs.Seen.{has_twice};
 ghost use Rattle.edi_envelope.specs.Segments.{component, first_segment, last_segment};
 ghost use Rattle.edi_envelope.specs.Message as spec;

@@ -1,5 +1,5 @@
 //! The units and lines of a despatch advice, read one condition after another.
-ghost use Rattle.std.specs.Prelude.{◌≡◌, ◌≢◌, IfOk, IfErr, true, false, map, is_some, option_map, option_and_then};
+ghost use Rattle.std.specs.Prelude.{◌≡◌, ◌≢◌, IfOk, IfErr, true, false, is_some, option_map, option_and_then};
 ghost use Rattle.std.specs.List.{list_all};
 ghost use Rattle.edi_messages.specs.References.{group_order, group_line};
 ghost use Rattle.edi_goods.specs.Despatch as spec;

@@ -1,6 +1,6 @@
 //! The units of a message: CPS and what follows it.
 ghost use Rattle.std.specs.Prelude.{◌≡◌, ◌≢◌, ◌≤◌, true, false, not, length, map, IfOk, IfErr};
-ghost use Rattle.std.specs.List.{list_all, list_any, prefix_len};
+ghost use Rattle.std.specs.List.{list_all, prefix_len};
 ghost use Rattle.edi_base.specs.Seen as twice;
 ghost use Rattle.edi_messages.specs.Parts.{is_lin, is_cps, line_groups};
 ghost use Rattle.edi_goods.specs.Units as spec;

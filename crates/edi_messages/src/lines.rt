@@ -1,5 +1,5 @@
 //! What a line group says: LIN and QTY.
-ghost use Rattle.std.specs.Prelude.{◌≡◌, ◌≢◌, ℕ, List, IfOk, IfErr, Some, true, false, map};
+ghost use Rattle.std.specs.Prelude.{◌≡◌, ◌≢◌, List, IfOk, IfErr, Some, true, false, map};
 ghost use Rattle.std.specs.List.{list_all};
 ghost use Rattle.std.specs.Option.{IfSome, IfNone};
 ghost use Rattle.edi_base.specs.Seen.{has_number_twice};

@@ -1,5 +1,5 @@
 //! The parts of a message, and the segments of a kind in a part.
-ghost use Rattle.std.specs.Prelude.{◌≡◌, ◌≢◌, ◌≤◌, length, drop, map, not, IfOk, IfErr, option_map};
+ghost use Rattle.std.specs.Prelude.{◌≡◌, ◌≤◌, length, not, option_map};
 ghost use Rattle.std.specs.List.{list_any, prefix_len};
 ghost use Rattle.edi_messages.specs.Parts as spec;
 

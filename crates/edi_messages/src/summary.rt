@@ -1,5 +1,5 @@
 //! What stands in the summary of a message.
-ghost use Rattle.std.specs.Prelude.{◌≡◌, length, filter, option_map};
+ghost use Rattle.std.specs.Prelude.{◌≡◌, filter, option_map};
 ghost use Rattle.edi_messages.specs.Parts as parts;
 ghost use Rattle.edi_messages.specs.Summary as spec;
 

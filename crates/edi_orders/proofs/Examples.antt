@@ -1,8 +1,8 @@
 -- The definitions at small messages.
-use Rattle.std.proofs.Common.{◌≡◌, ℕ, List, [], ◌∷◌, Some, None, Ok, Err, codes, refl}
+use Rattle.std.proofs.Common.{◌≡◌, ℕ, List, [], ◌∷◌, None, Ok, Err, codes, refl}
 use Rattle.edi_tokens.specs.declared.segment.Segment.{Segment}
 use Rattle.edi_envelope.specs.declared.interchange.RawMessage.{RawMessage}
-use Rattle.edi_messages.proofs.Examples.{segment, one, unh, bgm, nad, lin, uns, unt, buyer, supplier}
+use Rattle.edi_messages.proofs.Examples.{segment, one, unh, bgm, lin, uns, unt, buyer, supplier}
 use Rattle.edi_orders.specs.Order.{order_of}
 use Rattle.edi_orders.specs.Response.{response_of}
 use Rattle.edi_orders.specs.declared.response.Answer.{Answer}
@@ -10,7 +10,6 @@ use Rattle.edi_orders.specs.declared.response.Answer.TheVariants.{Lines, AllAcce
 use Rattle.edi_orders.specs.declared.response.LineAnswer.TheVariants.{Changed}
 use Rattle.edi_orders.specs.declared.response.Response.{Response}
 use Rattle.edi_messages.specs.declared.fault.MessageFault.TheVariants.{Beginning, Date, Parties, Summary, Line, Quantity, Reference, Control, NoLine}
-use Rattle.std.specs.Prelude.{true, false}
 
 abbrev dtm : List ℕ → Segment
 dtm day = segment (codes "DTM") ((codes "137" ∷ day ∷ codes "102" ∷ []) ∷ [])

@@ -1,7 +1,6 @@
 //! Responses to orders (ORDRSP).
-ghost use Rattle.std.specs.Prelude.{◌≡◌, ◌≢◌, IfOk, IfErr, Ok, Err, Some, true, false, map, is_some};
+ghost use Rattle.std.specs.Prelude.{◌≡◌, ◌≢◌, IfOk, IfErr, Ok, Err, Some, true, false};
 ghost use Rattle.std.specs.List.{list_all};
-ghost use Rattle.std.specs.Option.{IfSome, IfNone};
 ghost use Rattle.edi_messages.specs.Lines.{is_line};
 ghost use Rattle.edi_orders.specs.Response as spec;
 

@@ -1,5 +1,5 @@
 //! The lines of messages.
-ghost use Rattle.std.specs.Prelude.{◌≡◌, ◌++◌, ◌≤◌, length, OnOk};
+ghost use Rattle.std.specs.Prelude.{◌≡◌, ◌++◌, OnOk};
 ghost use Rattle.edi_show.specs.Messages as spec;
 
 use crate::content::{Content, ShownMessage};

@@ -1,12 +1,6 @@
-<<<<<<< HEAD
 use crate::texts::last_message;
 use edi_envelope::RawMessage;
-use edi_messages::{MessageFault, supplier_of};
-=======
-use edi_envelope::{RawMessage, open};
 use edi_messages::{MessageFault, named_supplier};
-use edi_tokens::read_all;
->>>>>>> 2c5438de837452bee27c45f3dd422d0ec76acbce
 use std::alloc::{AllocError, Global};
 use std::test::Fail;
 
@@ -53,26 +47,15 @@ fn message(alloc: Global, kind: &str, behind: &str) -> Result<RawMessage, Fail> 
 }
 
 fn supplier_digits(message: &RawMessage) -> Option<[u8; 13]> {
-    Some(*supplier_of(message)?.digits())
+    Some(*named_supplier(message)?.digits())
 }
 
 #[test]
 fn the_header_names_the_supplier(rt: HostRuntime) -> Result<(), Fail> {
-<<<<<<< HEAD
     for (kind, behind, names) in &MESSAGES {
         let message = message(rt.alloc(), kind, behind)?;
         let want = if *names { Some(*SUPPLIER) } else { None };
         assert_eq!(rt; supplier_digits(&message), want, "{behind}");
-=======
-    let alloc = rt.alloc();
-    for (kind, behind, names) in MESSAGES {
-        let segments = format!(in alloc; "UNH+1+{kind}:D:01B:UN:EAN010'{behind}")?;
-        let message = message(alloc, segments.as_str())?;
-        match named_supplier(&message) {
-            Some(gln) => assert_eq!(rt; (names, *gln.digits()), (true, *SUPPLIER), "{behind}"),
-            None => assert!(rt; !names, "{behind}"),
-        }
->>>>>>> 2c5438de837452bee27c45f3dd422d0ec76acbce
     }
     Ok(())
 }

@@ -1,10 +1,9 @@
 //! The laws of the token grammar. Each is the contract of a function without a body.
 
-ghost use Rattle.std.specs.Prelude.{◌≡◌, ◌⊎◌, ◌↔◌, ◌≤◌, ℕ, List, ◌++◌, length, Result};
+ghost use Rattle.std.specs.Prelude.{◌≡◌, ◌⊎◌, ◌↔◌, ◌≤◌, ℕ, List, ◌++◌, length};
 ghost use Rattle.std.specs.List.{AllByRecursion};
 ghost use Rattle.edi_tokens.specs.declared.segment.Service.{Service};
 ghost use Rattle.edi_tokens.specs.declared.segment.Segment.{Segment};
-ghost use Rattle.edi_tokens.specs.declared.segment.Tokens.{Tokens};
 ghost use Rattle.edi_tokens.specs.declared.fault.TokenFault.{TokenFault};
 ghost use Rattle.edi_tokens.specs.Spelling.{Spells, text_limit, segment_limit};
 ghost use Rattle.edi_tokens.specs.Fault.{Shows, ByteShows};

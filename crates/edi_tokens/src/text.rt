@@ -1,7 +1,6 @@
 //! The canonical text of segments (ISO 9735, sections 5 and 8).
 
-ghost use Rattle.std.specs.Prelude.{◌≡◌, ◌≤◌, ◌<◌, [], ◌∷◌, ◌++◌, length, take, drop, IsTrue, OnOk, OnErr, IfOk, true, slice_index};
-ghost use Rattle.std.specs.List.{flat_map};
+ghost use Rattle.std.specs.Prelude.{◌≡◌, ◌≤◌, ◌<◌, [], ◌++◌, length, take, IsTrue, OnOk, OnErr, IfOk, true, slice_index};
 ghost use Rattle.std.specs.Io.KnownBytes.{Appends};
 ghost use Rattle.edi_tokens.specs.Text.{is_usual, component_text, element_text, segment_text, text, una};
 ghost use Rattle.edi_base.specs.Buffer.{Puts, Flags, AppendsFront};

@@ -1,8 +1,7 @@
 //! A run of `show` between a reader and two writers.
 
 ghost use Rattle.std.specs.Prelude.{◌≡◌, ◌≢◌, ◌⊎◌, true, take, codes, IfOk, IfSome};
-ghost use Rattle.std.specs.Io.KnownBytes.{Appends, Consumes, Keeps};
-ghost use Rattle.edi_base.specs.Buffer.{AppendsFront};
+ghost use Rattle.std.specs.Io.KnownBytes.{Consumes, Keeps};
 ghost use Rattle.edi_base.specs.Source.{TakesAtMost};
 ghost use Rattle.hub_app.specs.Exit.{Tells};
 ghost use Rattle.hub_app.specs.Show.{Shows, ShowsFront, lines_shown, status_of};

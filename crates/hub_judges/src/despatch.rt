@@ -1,7 +1,7 @@
 //! The rules of DESADV.
 ghost use Rattle.std.specs.Prelude.{◌≡◌, ◌≤◌, ℕ, Bool, List, false, length, map, IfOk, option_copied};
 ghost use Rattle.std.specs.Option.{IfSome, IfNone};
-ghost use Rattle.edi_base.specs.Seen.{is_among, has_twice};
+ghost use Rattle.edi_base.specs.Seen.{has_twice};
 ghost use Rattle.gs1_ids.specs.Sscc.{under_some};
 ghost use Rattle.hub_tables.specs.Tables.{Tables};
 ghost use Rattle.hub_lines.specs.Book.{Rise};

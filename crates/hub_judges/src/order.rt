@@ -1,5 +1,5 @@
 //! The rules of ORDERS.
-ghost use Rattle.std.specs.Prelude.{◌≡◌, ◌++◌, ◌∷◌, [], map, IfOk, option_copied};
+ghost use Rattle.std.specs.Prelude.{◌≡◌, ◌++◌, map, IfOk, option_copied};
 ghost use Rattle.hub_tables.specs.Tables.{Tables};
 ghost use Rattle.hub_rules.specs.OrderRules.{new_line};
 ghost use Rattle.hub_rules.specs.Rules as rules;

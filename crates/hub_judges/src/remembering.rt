@@ -1,5 +1,5 @@
 //! Remembering (B03).
-ghost use Rattle.std.specs.Prelude.{◌≡◌, List, Option, option_map};
+ghost use Rattle.std.specs.Prelude.{◌≡◌, Option, option_map};
 ghost use Rattle.std.specs.Option.{IfSome, IfNone};
 ghost use Rattle.hub_tables.specs.declared.change.Change.TheVariants.{Remember};
 ghost use Rattle.hub_tables.specs.declared.rows.RememberedRow.{RememberedRow};

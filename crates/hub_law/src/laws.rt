@@ -6,7 +6,7 @@
 //!
 //! A supplier is `Registered` where the register has it, no prefix of a supplier begins a prefix of another, and the
 //! tables are sound; empty ones are, and each step leaves them so.
-ghost use Rattle.std.specs.Prelude.{◌≡◌, ◌≢◌, ◌↔◌, true, false, List, [], ◌∷◌, ◌++◌, length, codes, Some};
+ghost use Rattle.std.specs.Prelude.{◌≡◌, true, false, List, [], ◌∷◌, codes, Some};
 ghost use Rattle.std.specs.List.{AllByRecursion};
 ghost use Rattle.gs1_ids.specs.Overlap.{PrefixFree};
 ghost use Rattle.hub_parties.specs.Rows.{Rows, parties_of, company_prefixes};
@@ -17,7 +17,7 @@ ghost use Rattle.hub_law.specs.Alone.{items, fold};
 ghost use Rattle.hub_rules.specs.Laws.{SoundHub, Registered};
 ghost use Rattle.hub_law.specs.Laws.{StepIsOwn, RunIsOwn, AsksStatus, Agree, AgreeBefore, alone, reply_between};
 ghost use Rattle.hub_law.specs.Machine.{Inputs, shared_step, shared_run, replies_to};
-ghost use Rattle.hub_law.specs.Mark.{Mark, Whole, StoppedEmpty, StoppedBare};
+ghost use Rattle.hub_law.specs.Mark.{Mark};
 ghost use Rattle.hub_law.specs.Overlap.{long_supplier, overlapping, both_announce, one_announces, advice_reply};
 ghost use Rattle.hub_law.specs.Replies.{done};
 ghost use Rattle.hub_law.specs.StatusText.{status_text};

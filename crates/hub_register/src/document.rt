@@ -2,12 +2,12 @@
 
 ghost use Rattle.toml.specs.Data.{get_member};
 ghost use Rattle.toml.specs.View.{table_view, items_view, view};
-ghost use Rattle.std.specs.Prelude.{◌≡◌, ◌≢◌, Some, None, IfOk, IfErr, map, option_map, is_some, codes};
+ghost use Rattle.std.specs.Prelude.{◌≡◌, ◌≢◌, Some, None, IfOk, IfErr, map, option_map, codes};
 ghost use Rattle.hub_register.specs.Document as spec;
 ghost use Rattle.hub_register.specs.Entries.{row_in, rows_from};
 
 use crate::fault::RegisterFault;
-use std::alloc::{AllocError, Global};
+use std::alloc::Global;
 use toml::{Table, Value};
 
 /// A supplier's table.
