@@ -92,27 +92,33 @@ def run(words, folder):
 
 @dataclass(frozen=True)
 class Function:
-    """A function of a crate, by its file, the type whose it is, and its name, with the lines on which it stands."""
+    """A function of a crate, by its file, the type or the type and trait whose it is, and its name, with the lines on which it stands."""
 
     file: str
     owner: str
     name: str
     lines: range
 
-    def is_refused(self, crate, unproved):
-        """Whether it, or a closure in it, is among the names of the functions that are not proved."""
-        within = "".join(f"{re.escape(it)}::" for it in self.modules())
-        own = rf"{re.escape(self.owner)}\w*::" if self.owner else ""
-        path = rf"{crate}::{within}({own}{self.name}|{own}fn::{self.name}::.*)"
-        return any(re.fullmatch(path, it) for it in unproved)
-
     def modules(self):
         return [it for it in self.file.removeprefix("src/").removesuffix(".rt").split("/") if it != "lib"]
 
-    def has_error(self, file, line):
+    def is_called(self, crate, path):
+        """Whether this is its name in what a check says, or that of a closure in it."""
+        within = "".join(f"{it}::" for it in self.modules())
+        own = rf"{self.owner}\w*::" if self.owner else ""
+        return bool(re.fullmatch(rf"{crate}::{within}{own}({self.name}|fn::{self.name}::.*)", path))
+
+    def has_place(self, file, line):
         """Whether a place that a check names is in its text or in its proofs."""
-        proofs = "/".join(["proofs", *self.modules(), *[it for it in [self.owner] if it], self.name, ""])
-        return file == self.file and line in self.lines or file.startswith(proofs)
+        proofs = "/".join(["proofs", *self.modules(), *([rf"{self.owner}\w*"] if self.owner else []), self.name, ".*"])
+        return file == self.file and line in self.lines or bool(re.fullmatch(proofs, file))
+
+
+def owner_of(header):
+    """What the functions of an impl or a trait are called by: its type, and the trait where there is one."""
+    of_trait = re.match(r"impl(?:<[^{]*?>)? (?:\w+::)*(\w+)(?:<.*>)? for (?:&\S* ?)?(\w+)", header)
+    own = re.match(r"impl(?:<[^{]*?>)? (\w+)|(?:pub )?trait (\w+)", header)
+    return of_trait[2] + of_trait[1] if of_trait else (own[1] or own[2]) if own else ""
 
 
 def function_at(file, text, place):
@@ -126,9 +132,8 @@ def function_at(file, text, place):
     last = next((it for it in range(first, len(lines)) if lines[it] == indent + "}"), len(lines))
     if last < at:
         return None
-    owner = next((lines[it] for it in range(first, -1, -1) if re.match(r"(impl|trait|pub trait)\b", lines[it])), "") if indent else ""
-    of_type = re.search(r"(?:for |impl(?:<[^>]*>)? |trait )(\w+)[^(]*$", owner)
-    return Function(file, of_type[1] if of_type else "", name, range(first + 1, last + 2))
+    above = next((lines[it] for it in range(first, -1, -1) if re.match(r"(impl|trait|pub trait)\b", lines[it])), "")
+    return Function(file, owner_of(above) if indent else "", name, range(first + 1, last + 2))
 
 
 def pairs_of(text):
@@ -162,52 +167,61 @@ def functions_of(wrong, folder):
     return found
 
 
-def batches(bodies, folder):
-    """Wrong bodies that touch different functions stand together; what touches more than functions stands in none."""
-    found = []
+def different(bodies):
+    """As many of the bodies, with their functions, as touch different ones."""
+    batch = []
     for it in bodies:
-        functions = functions_of(it, folder)
-        if functions:
-            batch = next((batch for batch in found if not any(functions & others for _, others in batch)), None)
-            if batch is None:
-                found.append(batch := [])
-            batch.append((it, functions))
-    return found
+        if not any(it[1] & others for _, others in batch):
+            batch.append(it)
+    return batch
 
 
-def refused_together(room, crate, batch):
-    """The names of those of a batch that one check refuses, each by an error of its own functions that is not one of names alone."""
+def checked_with(room, crate, bodies):
+    """What a check says of a crate with these bodies in place of its own."""
     folder = os.path.join(room, "crates", crate)
     kept = {}
-    for path in {path for it, _ in batch for path, _, _ in pairs_of(it.text)}:
+    for path in {path for it in bodies for path, _, _ in pairs_of(it.text)}:
         with open(os.path.join(folder, path), encoding="utf-8") as file:
             kept[path] = file.read()
-    for it, _ in batch:
+    for it in bodies:
         applied(it.text, folder)
     lines = run(["check", "--jobs", "1"], folder)[1]
     for path, text in kept.items():
         with open(os.path.join(folder, path), "w", encoding="utf-8") as file:
             file.write(text)
+    return lines
+
+
+def refused_together(room, crate, batch):
+    """Those of a batch that one check refuses, each by an error of its own functions, and those whose functions wait for others of it."""
+    lines = checked_with(room, crate, [it for it, _ in batch])
+    refused, waiting = [], []
     if not any(it.startswith("logic=not-proved") for it in lines):
-        return set()
-    unproved = [it[1] for it in (re.fullmatch(r"fn (\S+): not proved", line) for line in lines) if it]
-    told = [it for it in (re.match(r"(?:note: )?(?:\./)?(\S+?):(\d+):\d+: ", line) for line in lines) if it and not re.match(BY_NAMES, it.string)]
-    return {
-        it.name
-        for it, functions in batch
-        if any(f.is_refused(crate, unproved) and any(f.has_error(at[1], int(at[2])) for at in told) for f in functions)
-    }
+        return refused, waiting
+    unproved = [it for it in (re.match(r"fn (\S+): (?:not proved|no proof)(.*)", line) for line in lines) if it]
+    places = [re.match(r"(?:note: )?(?:\./)?(\S+?):(\d+):\d+: ", line) for line in lines if not re.match(BY_NAMES, line)]
+    for it in batch:
+        own = [(f, told) for f in it[1] for told in unproved if f.is_called(crate, told[1])]
+        if any(re.search("which (is|are) not proved", told[2]) for _, told in own):
+            waiting.append(it)
+        elif any(f.has_place(at[1], int(at[2])) for f, _ in own for at in places if at):
+            refused.append(it)
+    return refused, waiting
 
 
 def bodies_tried(crate, bodies):
     """What becomes of a crate's wrong bodies: triples of the edit, the verdict and a line that says why."""
     with room_beside() as room:
         copied(room, {crate})
-        refused = set()
-        for batch in batches(bodies, os.path.join(room, "crates", crate)):
-            refused |= refused_together(room, crate, batch)
-        alone = [it for it in bodies if it.name not in refused]
-        return [(it, REFUSED, "") for it in bodies if it.name in refused] + tried_alone(room, crate, alone)
+        folder, done, refused = os.path.join(room, "crates", crate), [], [None]
+        left = [(it, functions) for it, functions in ((it, functions_of(it, folder)) for it in bodies) if functions]
+        while left and refused:
+            batch = different(left)
+            refused, waiting = refused_together(room, crate, batch)
+            done += [it for it, _ in refused]
+            left = waiting + [it for it in left if it not in batch]
+        alone = [it for it in bodies if it not in done]
+        return [(it, REFUSED, "") for it in done] + tried_alone(room, crate, alone)
 
 
 def tried_alone(room, crate, bodies):
