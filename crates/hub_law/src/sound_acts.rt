@@ -4,12 +4,12 @@ ghost use Rattle.gs1_ids.specs.Overlap.{PrefixFree};
 ghost use Rattle.hub_parties.specs.Rows.{Rows, parties_of, company_prefixes, supplier_of};
 ghost use Rattle.hub_parties.specs.declared.row.SupplierRow.{SupplierRow};
 ghost use Rattle.hub_tables.specs.Change.{apply_all};
+ghost use Rattle.hub_tables.specs.State.{entry_at};
 ghost use Rattle.hub_tables.specs.Tables.{Tables, view};
 ghost use Rattle.hub_tables.specs.declared.rows.MailRow.{MailRow};
 ghost use Rattle.hub_rules.specs.Sound.{Sound};
 ghost use Rattle.hub_rules.specs.declared.delivery.Cancel.{Cancel};
 ghost use Rattle.hub_law.specs.Laws.{StaySound};
-ghost use Rattle.hub_law.specs.MailText.{entry_at};
 ghost use Rattle.hub_law.specs.Messages.{Sent, deliver_suppliers, cancel};
 ghost use Rattle.hub_law.specs.Requests.{deliver_named, taking};
 
