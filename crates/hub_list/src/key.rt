@@ -125,15 +125,22 @@ impl<'a> Key<MailRow> for OfSupplier<'a> {
     ghost kept = { λ key. first_part _ _ _ (by_key nat_list_cmp_total (λ row. row.supplier) key.supplier.now) };
 }
 
+impl<'a> Numbered<'a> {
+    // Where a supplier's number stands.
+    fn compare(&self, supplier: &Gln, number: &[u8]) -> Ordering
+        ensures { result ≡ ordering_then (bytes_cmp supplier.now self.now.supplier.now) (bytes_cmp number.now self.now.number.now) }
+    {
+        supplier.cmp(self.supplier).then(number.cmp(self.number))
+    }
+}
+
 impl<'a> Key<OrderRow> for Numbered<'a> {
     ghost place = { λ key row. ordering_then (bytes_cmp row.supplier key.supplier.now) (bytes_cmp row.number key.number.now) };
 
     ghost wanted = { λ key row. same row.supplier key.supplier.now && same row.number key.number.now };
 
     fn place_of(&self, row: &OrderRow) -> Ordering {
-        row.supplier
-            .cmp(self.supplier)
-            .then(row.number.as_slice().cmp(self.number))
+        self.compare(&row.supplier, row.number.as_slice())
     }
 
     ghost exact = { λ key row. both (bytes_cmp row.supplier key.supplier.now) (bytes_cmp row.number key.number.now) (same_bytes row.supplier key.supplier.now) (same_bytes row.number key.number.now) };
@@ -147,9 +154,7 @@ impl<'a> Key<LineRow> for Numbered<'a> {
     ghost wanted = { λ key row. same row.supplier key.supplier.now && same row.number key.number.now };
 
     fn place_of(&self, row: &LineRow) -> Ordering {
-        row.supplier
-            .cmp(self.supplier)
-            .then(row.number.as_slice().cmp(self.number))
+        self.compare(&row.supplier, row.number.as_slice())
     }
 
     ghost exact = { λ key row. both (bytes_cmp row.supplier key.supplier.now) (bytes_cmp row.number key.number.now) (same_bytes row.supplier key.supplier.now) (same_bytes row.number key.number.now) };
@@ -163,9 +168,7 @@ impl<'a> Key<AdviceRow> for Numbered<'a> {
     ghost wanted = { λ key row. same row.supplier key.supplier.now && same row.number key.number.now };
 
     fn place_of(&self, row: &AdviceRow) -> Ordering {
-        row.supplier
-            .cmp(self.supplier)
-            .then(row.number.as_slice().cmp(self.number))
+        self.compare(&row.supplier, row.number.as_slice())
     }
 
     ghost exact = { λ key row. both (bytes_cmp row.supplier key.supplier.now) (bytes_cmp row.number key.number.now) (same_bytes row.supplier key.supplier.now) (same_bytes row.number key.number.now) };
@@ -238,9 +241,8 @@ impl<'a> Key<MailRow> for Entry<'a> {
     ghost wanted = { λ key row. same row.supplier key.supplier.now && (row.number == key.number) };
 
     fn place_of(&self, row: &MailRow) -> Ordering {
-        row.supplier
-            .cmp(self.supplier)
-            .then(row.number.cmp(&self.number))
+        let place = row.number.cmp(&self.number);
+        row.supplier.cmp(self.supplier).then(place)
     }
 
     ghost exact = { λ key row. both (bytes_cmp row.supplier key.supplier.now) _ (same_bytes row.supplier key.supplier.now) (same_numbers row.number key.number) };
