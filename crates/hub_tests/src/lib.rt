@@ -12,4 +12,6 @@ mod register;
 #[cfg(test)]
 mod rules;
 #[cfg(test)]
+mod store;
+#[cfg(test)]
 mod tables;

@@ -11,6 +11,7 @@ use std::marker::Model;
 
 /// A store that counts the calls of another one, and that can fail at one of them. Contracts see it as the store below and the fault
 /// that each call answers from now on.
+#[derive(Drop)]
 pub struct TrialStore<S: Store> {
     store: S,
     gate: Gate,
