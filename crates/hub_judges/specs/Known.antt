@@ -1,5 +1,5 @@
 -- When what is known tells the truth of a state, as far as a judge asks.
-use Rattle.std.specs.Prelude.{◌≡◌, ℕ, Bool, true, List, [], length, map, option_map}
+use Rattle.std.specs.Prelude.{◌≡◌, ℕ, Bool, true, List, [], length, map}
 use Rattle.std.specs.List.{AllByRecursion, list_any}
 use Rattle.edi_base.specs.Seen.{is_among}
 use Rattle.edi_orders.specs.declared.order.Order.{Order}
@@ -8,7 +8,7 @@ use Rattle.edi_goods.specs.declared.despatch.Despatch.{Despatch}
 use Rattle.edi_goods.specs.declared.despatch.Unit.{Unit}
 use Rattle.edi_goods.specs.declared.receipt.Receipt.{Receipt}
 use Rattle.hub_tables.specs.Rows.{same}
-use Rattle.hub_tables.specs.State.{knows_order, knows_advice, lines_of, despatched, pallet_of, remembered_of}
+use Rattle.hub_tables.specs.State.{knows_order, knows_advice, lines_of, despatched, pallet_of, remembered_content}
 use Rattle.hub_tables.specs.Tables.{Tables, has_pallet}
 use Rattle.hub_tables.specs.declared.cases.Side.{Side}
 use Rattle.hub_tables.specs.declared.cases.Side.TheVariants.{Retailer, Supplier, Cancellation}
@@ -24,7 +24,7 @@ rows lines = map (λ line. line.row) lines
 
 -- the content that is remembered of a side under two references
 abbrev pub TellsRemembered : Known → Side → List ℕ → List ℕ → Tables → Type 0
-TellsRemembered known side control message state = option_map (λ row. row.content) (remembered_of state side control message) ≡ known.remembered
+TellsRemembered known side control message state = remembered_content state side control message ≡ known.remembered
 
 -- whether an order is there
 abbrev pub TellsOrder : Known → Tables → List ℕ → Type 0

@@ -15,6 +15,7 @@ use Rattle.hub_parties.specs.declared.row.SupplierRow.{SupplierRow}
 use Rattle.hub_tables.specs.Cases.{truth_number}
 use Rattle.hub_tables.specs.Change.{apply_all}
 use Rattle.hub_tables.specs.Rows.{same}
+use Rattle.hub_tables.specs.State.{entry_at, is_taken}
 use Rattle.hub_tables.specs.Tables.{Tables, has_pallet, view, empty}
 use Rattle.hub_tables.specs.declared.change.Change.TheVariants.{SetMail}
 use Rattle.hub_tables.specs.declared.rows.MailRow.{MailRow}
@@ -42,7 +43,6 @@ use Rattle.hub_rules.proofs.KeptMail.{kept_set_mail}
 use Rattle.hub_rules.proofs.Owned.{own_after}
 use Rattle.hub_rules.proofs.OwnChanges.{good_view, after_changes}
 use Rattle.hub_law.specs.CancelText.{cancel_text}
-use Rattle.hub_law.specs.MailText.{entry_at, is_taken}
 use Rattle.hub_law.specs.Messages.{body_of, deliver_retailers, deliver_suppliers, cancel}
 use Rattle.hub_law.specs.Requests.{taking}
 use Rattle.hub_law.specs.Told.{Told, Refused, changed, read_act}

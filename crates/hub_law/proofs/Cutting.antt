@@ -8,11 +8,11 @@ use Rattle.hub_parties.specs.Rows.{Rows, parties_of, row_of, role_of}
 use Rattle.hub_parties.specs.declared.role.Role.{Role}
 use Rattle.hub_parties.specs.declared.role.Role.TheVariants.{Retailer, Supplier}
 use Rattle.hub_parties.specs.declared.row.SupplierRow.{SupplierRow}
+use Rattle.hub_tables.specs.State.{entry_at}
 use Rattle.hub_tables.specs.Tables.{Tables, view}
 use Rattle.hub_tables.specs.declared.rows.MailRow.{MailRow}
 use Rattle.hub_rules.specs.declared.incoming.IncomingMessage.{IncomingMessage}
 use Rattle.hub_law.specs.Machine.{shared_step, step_as}
-use Rattle.hub_law.specs.MailText.{entry_at}
 use Rattle.hub_law.specs.Mark.{Mark, Whole, StoppedAfter, first_done}
 use Rattle.hub_law.specs.Messages.{messages_at, deliver_suppliers}
 use Rattle.hub_law.specs.Opening.{Opened}

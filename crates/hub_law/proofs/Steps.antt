@@ -4,11 +4,11 @@ use Rattle.gs1_ids.specs.Overlap.{PrefixFree}
 use Rattle.hub_parties.specs.Rows.{Parties, company_prefixes, supplier_of}
 use Rattle.hub_parties.specs.declared.row.SupplierRow.{SupplierRow}
 use Rattle.hub_tables.specs.Rows.{same}
+use Rattle.hub_tables.specs.State.{entry_at}
 use Rattle.hub_tables.specs.Tables.{Tables, view}
 use Rattle.hub_tables.specs.declared.rows.MailRow.{MailRow}
 use Rattle.hub_tables.proofs.Lists.{same_is, same_if, all_always, all_found}
 use Rattle.hub_rules.specs.Sound.{Sound}
-use Rattle.hub_law.specs.MailText.{entry_at}
 use Rattle.hub_law.specs.Mark.{Mark, Whole, StoppedEmpty, StoppedBare, StoppedAfter, replied}
 use Rattle.hub_law.specs.Messages.{deliver_suppliers}
 use Rattle.hub_law.specs.Opening.{Opened}

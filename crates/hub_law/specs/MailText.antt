@@ -1,11 +1,10 @@
 -- Mailbox entries: the interchange of one, and the list of those that are not taken.
-use Rattle.std.specs.Prelude.{ℕ, ◌==◌, nat_lt, Bool, true, not, ◌&&◌, List, [], ◌∷◌, ◌++◌, filter, find, length, take, if◌then◌else◌, codes, Option}
+use Rattle.std.specs.Prelude.{ℕ, ◌==◌, nat_lt, List, [], ◌∷◌, ◌++◌, length, take, if◌then◌else◌, codes}
 use Rattle.std.specs.Fmt.{decimal}
 use Rattle.std.specs.List.{flat_map}
 use Rattle.edi_tokens.specs.Text.{una}
 use Rattle.edi_envelope.specs.Mail.{text_around}
-use Rattle.hub_tables.specs.Cases.{kind_letter, truth_number}
-use Rattle.hub_tables.specs.Tables.{Tables}
+use Rattle.hub_tables.specs.Cases.{kind_letter}
 use Rattle.hub_tables.specs.declared.cases.MailKind.TheVariants as kinds
 use Rattle.hub_tables.specs.declared.rows.MailRow.{MailRow}
 use Rattle.hub_law.specs.Widths.{right, line}
@@ -13,16 +12,6 @@ use Rattle.hub_law.specs.Widths.{right, line}
 -- an entry as the hub's interchange for its owner, with the decimal mark with which its message came
 unfoldable pub mail_text : List ℕ → MailRow → List ℕ
 mail_text hub entry = una entry.decimal ++ text_around hub entry.supplier entry.moment entry.number entry.body
-
-abbrev pub entry_at : Tables → ℕ → Option MailRow
-entry_at state number = find (λ entry. entry.number == number) state.mail
-
-abbrev pub is_taken : MailRow → Bool
-is_taken entry = entry.taken == truth_number true
-
--- the entries above a number that are not taken
-abbrev pub untaken_after : Tables → ℕ → List MailRow
-untaken_after state number = filter (λ entry. nat_lt number entry.number && not (is_taken entry)) state.mail
 
 abbrev pub type_of : ℕ → List ℕ
 type_of kind = if kind == kind_letter kinds.Orders then codes "ORDERS" else codes "RECADV"

@@ -8,13 +8,14 @@ use Rattle.hub_parties.specs.Rows.{Parties, Rows, parties_of, supplier_of}
 use Rattle.hub_parties.specs.declared.row.SupplierRow.{SupplierRow}
 use Rattle.hub_tables.specs.Cases.{truth_number}
 use Rattle.hub_tables.specs.Change.{apply_all}
+use Rattle.hub_tables.specs.State.{entry_at, is_taken, untaken_after}
 use Rattle.hub_tables.specs.Tables.{Tables, view}
 use Rattle.hub_tables.specs.declared.change.Change.{Change}
 use Rattle.hub_tables.specs.declared.change.Change.TheVariants.{SetMail}
 use Rattle.hub_tables.specs.declared.rows.MailRow.{MailRow}
 use Rattle.hub_rules.specs.declared.incoming.IncomingMessage.{IncomingMessage}
 use Rattle.hub_rules.specs.declared.cancel.Cancel.{Cancel}
-use Rattle.hub_law.specs.MailText.{entry_at, is_taken, untaken_after, list_text}
+use Rattle.hub_law.specs.MailText.{list_text}
 use Rattle.hub_law.specs.Mark.{Mark, stop_reply, stopped_behind, replied, unless_stopped, first_done}
 use Rattle.hub_law.specs.Messages.{messages_at, named, deliver_retailers, deliver_suppliers, cancel}
 use Rattle.hub_law.specs.Opening.{Opened, interchange_in, addressed}

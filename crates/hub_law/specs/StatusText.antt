@@ -6,7 +6,7 @@ use Rattle.std.specs.Option.{unwrap_or}
 use Rattle.hub_tables.specs.Cases.{arrival_number}
 use Rattle.hub_tables.specs.Keys.{bytes_cmp, put}
 use Rattle.hub_tables.specs.Rows.{same}
-use Rattle.hub_tables.specs.State.{line_of, despatched}
+use Rattle.hub_tables.specs.State.{line_of, despatched, contents_of, receipts_of}
 use Rattle.hub_tables.specs.Tables.{Tables}
 use Rattle.hub_tables.specs.declared.cases.Arrival.TheVariants.{Announced}
 use Rattle.hub_tables.specs.declared.rows.ContentRow.{ContentRow}
@@ -28,12 +28,6 @@ abbrev pub item_of : Tables → ContentRow → List ℕ
 item_of state content =
     unwrap_or (option_map (λ row. row.gtin) (line_of state content.number (Some content.line) [])) []
 
-abbrev pub contents_on : Tables → PalletRow → List ContentRow
-contents_on state pallet = filter (λ content. same content.sscc pallet.sscc) state.contents
-
-abbrev pub receipts_of : Tables → PalletRow → List ReceiptRow
-receipts_of state pallet = filter (λ receipt. same receipt.sscc pallet.sscc) state.receipts
-
 -- items in the order of their digits, with one more where it is not among them
 abbrev pub with_item : List ℕ → List (List ℕ) → List (List ℕ)
 with_item gtin items = if list_any (same gtin) items then items else put bytes_cmp gtin items
@@ -46,17 +40,17 @@ in_digit_order (gtin ∷ items) = with_item gtin (in_digit_order items)
 abbrev pub items_on : Tables → PalletRow → List (List ℕ)
 items_on state pallet =
     in_digit_order (
-    map (item_of state) (contents_on state pallet) ++ map (λ receipt. receipt.gtin) (receipts_of state pallet))
+    map (item_of state) (contents_of state pallet.sscc) ++ map (λ receipt. receipt.gtin) (receipts_of state pallet.sscc))
 
 -- what of an item is despatched on a pallet
 abbrev pub despatched_on : Tables → PalletRow → List ℕ → ℕ
 despatched_on state pallet gtin =
     sum_by (λ content. content.quantity)
-    (filter (λ content. same (item_of state content) gtin) (contents_on state pallet))
+    (filter (λ content. same (item_of state content) gtin) (contents_of state pallet.sscc))
 
 -- the sum of one kind that is received of an item on a pallet
 abbrev pub received_on : (ReceiptRow → ℕ) → Tables → PalletRow → List ℕ → ℕ
-received_on kind state pallet gtin = sum_by kind (filter (λ receipt. same receipt.gtin gtin) (receipts_of state pallet))
+received_on kind state pallet gtin = sum_by kind (filter (λ receipt. same receipt.gtin gtin) (receipts_of state pallet.sscc))
 
 -- one number less another, with its sign
 abbrev pub signed : ℕ → ℕ → List ℕ

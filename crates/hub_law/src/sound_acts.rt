@@ -4,13 +4,13 @@ ghost use Rattle.edi_envelope.specs.declared.interchange.RawMessage.{RawMessage}
 ghost use Rattle.hub_parties.specs.Rows.{Rows, parties_of};
 ghost use Rattle.hub_parties.specs.declared.row.SupplierRow.{SupplierRow};
 ghost use Rattle.hub_tables.specs.Change.{apply_all};
+ghost use Rattle.hub_tables.specs.State.{entry_at};
 ghost use Rattle.hub_tables.specs.Tables.{Tables, view};
 ghost use Rattle.hub_tables.specs.declared.rows.MailRow.{MailRow};
 ghost use Rattle.hub_rules.specs.declared.incoming.IncomingMessage.{IncomingMessage};
 ghost use Rattle.hub_rules.specs.declared.cancel.Cancel.{Cancel};
 ghost use Rattle.hub_rules.specs.Laws.{SoundHub, Registered};
 ghost use Rattle.hub_law.specs.Laws.{StaySound};
-ghost use Rattle.hub_law.specs.MailText.{entry_at};
 ghost use Rattle.hub_law.specs.Messages.{deliver_suppliers};
 ghost use Rattle.hub_law.specs.Requests.{deliver_named, cancel_named, taking};
 

@@ -1,7 +1,8 @@
 -- What is looked up in a supplier's rows.
-use Rattle.std.specs.Prelude.{ℕ, ◌+◌, ◌==◌, Bool, ◌&&◌, List, [], ◌∷◌, filter, find, sum_by, length, Option, Some, None}
-use Rattle.std.specs.List.{list_any}
-use Rattle.hub_tables.specs.Cases.{answer_letter, side_letter}
+use Rattle.std.specs.Prelude.{ℕ, ◌+◌, ◌==◌, nat_lt, Bool, true, not, ◌&&◌, List, [], ◌∷◌, filter, find, sum_by, length, Option, Some, None, option_map}
+use Rattle.std.specs.List.{list_any, last_or}
+use Rattle.std.specs.Option.{unwrap_or}
+use Rattle.hub_tables.specs.Cases.{answer_letter, side_letter, truth_number}
 use Rattle.hub_tables.specs.Rows.{same}
 use Rattle.hub_tables.specs.Tables.{Tables}
 use Rattle.hub_tables.specs.declared.cases.Answered.TheVariants.{Waiting}
@@ -9,7 +10,9 @@ use Rattle.hub_tables.specs.declared.cases.Side.{Side}
 use Rattle.hub_tables.specs.declared.rows.LineRow.{LineRow}
 use Rattle.hub_tables.specs.declared.rows.ContentRow.{ContentRow}
 use Rattle.hub_tables.specs.declared.rows.PalletRow.{PalletRow}
+use Rattle.hub_tables.specs.declared.rows.ReceiptRow.{ReceiptRow}
 use Rattle.hub_tables.specs.declared.rows.RememberedRow.{RememberedRow}
+use Rattle.hub_tables.specs.declared.rows.MailRow.{MailRow}
 
 abbrev pub knows_order : Tables → List ℕ → Bool
 knows_order state number = list_any (λ order. same order.number number) state.orders
@@ -50,6 +53,28 @@ waits line = line.answer == answer_letter Waiting
 abbrev pub pallet_of : Tables → List ℕ → Option PalletRow
 pallet_of state sscc = find (λ pallet. same pallet.sscc sscc) state.pallets
 
+-- what is on a pallet, and what of it was received
+abbrev pub contents_of : Tables → List ℕ → List ContentRow
+contents_of state sscc = filter (λ content. same content.sscc sscc) state.contents
+
+abbrev pub receipts_of : Tables → List ℕ → List ReceiptRow
+receipts_of state sscc = filter (λ receipt. same receipt.sscc sscc) state.receipts
+
+-- the mailbox entry of a number
+abbrev pub entry_at : Tables → ℕ → Option MailRow
+entry_at state number = find (λ entry. entry.number == number) state.mail
+
+abbrev pub is_taken : MailRow → Bool
+is_taken entry = entry.taken == truth_number true
+
+-- the entries above a number that are not taken
+abbrev pub untaken_after : Tables → ℕ → List MailRow
+untaken_after state number = filter (λ entry. nat_lt number entry.number && not (is_taken entry)) state.mail
+
+-- the number of the last entry, 0 where there is none
+abbrev pub last_mail : Tables → ℕ
+last_mail state = unwrap_or (option_map (λ entry. entry.number) (last_or None state.mail)) 0
+
 -- the number of the next entry of the mailbox
 abbrev pub next_mail : Tables → ℕ
 next_mail state = length state.mail + 1
@@ -58,3 +83,7 @@ next_mail state = length state.mail + 1
 abbrev pub remembered_of : Tables → Side → List ℕ → List ℕ → Option RememberedRow
 remembered_of state side control message =
     find (λ row. (row.side == side_letter side) && (same row.control control && same row.message message)) state.remembered
+
+-- its content
+abbrev pub remembered_content : Tables → Side → List ℕ → List ℕ → Option (List ℕ)
+remembered_content state side control message = option_map (λ row. row.content) (remembered_of state side control message)

@@ -14,4 +14,6 @@ mod rising;
 #[cfg(test)]
 mod rules;
 #[cfg(test)]
+mod store;
+#[cfg(test)]
 mod tables;

@@ -1,0 +1,4 @@
+pub mod Back
+pub mod Filters
+pub mod Searching
+pub mod Setting

@@ -1,0 +1,28 @@
+-- How a store of lists keeps its rows.
+use Rattle.std.specs.Prelude.{ℕ, ◌+◌, ◌≤◌, vec_len, vec_capacity}
+use Rattle.hub_tables.specs.Tables.{Tables}
+use Rattle.hub_list.specs.declared.lists.Lists.{Lists}
+
+-- what the lists hold
+abbrev pub tables_in : Lists → Tables
+tables_in s = record {
+  orders = s.orders.items;
+  lines = s.lines.items;
+  advices = s.advices.items;
+  pallets = s.pallets.items;
+  contents = s.contents.items;
+  receipts = s.receipts.items;
+  remembered = s.remembered.items;
+  mail = s.mail.items;
+}
+
+-- each list has room for so many rows more
+pub record Room (n : ℕ) (s : Lists) : Type 0 where
+  pub orders : vec_len s.orders + n ≤ vec_capacity s.orders
+  pub lines : vec_len s.lines + n ≤ vec_capacity s.lines
+  pub advices : vec_len s.advices + n ≤ vec_capacity s.advices
+  pub pallets : vec_len s.pallets + n ≤ vec_capacity s.pallets
+  pub contents : vec_len s.contents + n ≤ vec_capacity s.contents
+  pub receipts : vec_len s.receipts + n ≤ vec_capacity s.receipts
+  pub remembered : vec_len s.remembered + n ≤ vec_capacity s.remembered
+  pub mail : vec_len s.mail + n ≤ vec_capacity s.mail

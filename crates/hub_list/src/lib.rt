@@ -1,0 +1,12 @@
+//! A store of plain lists, in memory.
+#![tactic(auto)]
+
+mod key;
+mod lists;
+mod look;
+mod row;
+mod search;
+mod table;
+mod vec_store;
+
+pub use vec_store::VecStore;

@@ -1,0 +1,166 @@
+//! A store of plain lists.
+ghost use Rattle.std.specs.Prelude.{◌≡◌};
+ghost use Rattle.hub_tables.specs.Tables.{empty};
+
+use crate::key::Reference;
+use crate::lists::{Lists, apply_each, copies_of, take_room};
+use crate::look;
+use edi_base::Items;
+use gs1_ids::{Gln, Sscc};
+use hub_store::{Store, StoreFault};
+use hub_tables::{Change, ContentRow, LineRow, MailRow, PalletRow, ReceiptRow, Side};
+use std::alloc::Global;
+use std::marker::Model;
+
+/// A store of plain lists, in memory. Of the changes of a commit, a row that is added under a key that is there is left out, and so
+/// is a row that is set where none has its key.
+#[derive(Debug, Drop)]
+pub struct VecStore {
+    alloc: Global,
+    lists: Lists,
+}
+
+impl Model for VecStore {
+    ghost use Rattle.hub_tables.specs.Sets.{Rising};
+    ghost use Rattle.hub_tables.specs.Tables.{Tables};
+    ghost use Rattle.hub_list.specs.Lists.{tables_in};
+
+    ghost Value = { Tables };
+
+    ghost view = { λ store. tables_in store.lists };
+
+    ghost invariant = { λ store. Rising (tables_in store.lists) };
+}
+
+impl VecStore {
+    /// No rows. Takes no memory.
+    pub fn new(alloc: Global) -> Self
+        ensures { result ≡ empty }
+    {
+        VecStore {
+            alloc,
+            lists: Lists {
+                orders: Vec::new(alloc),
+                lines: Vec::new(alloc),
+                advices: Vec::new(alloc),
+                pallets: Vec::new(alloc),
+                contents: Vec::new(alloc),
+                receipts: Vec::new(alloc),
+                remembered: Vec::new(alloc),
+                mail: Vec::new(alloc),
+            },
+        }
+    }
+}
+
+impl Store for VecStore {
+    ghost use Rattle.std.specs.Prelude.{◌≡◌, true, None, ⊤};
+
+    ghost content = { λ t. t };
+
+    ghost honest = { λ t. ⊤ };
+
+    ghost left = { λ t u. u ≡ t };
+
+    ghost broken = { λ t. None };
+
+    ghost plain = { true };
+
+    fn remembered(
+        &mut self,
+        supplier: &Gln,
+        side: Side,
+        control: &[u8],
+        message: &[u8],
+    ) -> Result<Option<Items<u8>>, StoreFault> {
+        let rows = self.lists.remembered.as_slice();
+        let reference = Reference {
+            supplier,
+            side,
+            control,
+            message,
+        };
+        Ok(look::remembered_with(self.alloc, rows, &reference)?)
+    }
+
+    fn order_known(&mut self, supplier: &Gln, number: &[u8]) -> Result<bool, StoreFault> {
+        let orders = self.lists.orders.as_slice();
+        Ok(look::has_order(orders, supplier, number))
+    }
+
+    fn lines_of(&mut self, supplier: &Gln, number: &[u8]) -> Result<Items<LineRow>, StoreFault> {
+        let lines = self.lists.lines.as_slice();
+        Ok(look::lines_with(self.alloc, lines, supplier, number)?)
+    }
+
+    fn advice_known(&mut self, supplier: &Gln, number: &[u8]) -> Result<bool, StoreFault> {
+        let advices = self.lists.advices.as_slice();
+        Ok(look::has_advice(advices, supplier, number))
+    }
+
+    fn pallet(&mut self, supplier: &Gln, sscc: &Sscc) -> Result<Option<PalletRow>, StoreFault> {
+        let pallets = self.lists.pallets.as_slice();
+        Ok(look::pallet_with(self.alloc, pallets, supplier, sscc)?)
+    }
+
+    fn last_mail(&mut self, supplier: &Gln) -> Result<u64, StoreFault> {
+        let mail = self.lists.mail.as_slice();
+        Ok(look::last_number(mail, supplier))
+    }
+
+    fn mail_item(&mut self, supplier: &Gln, number: u64) -> Result<Option<MailRow>, StoreFault> {
+        let mail = self.lists.mail.as_slice();
+        Ok(look::entry_with(self.alloc, mail, supplier, number)?)
+    }
+
+    fn mail_after(
+        &mut self,
+        supplier: &Gln,
+        number: u64,
+        limit: usize,
+    ) -> Result<Items<MailRow>, StoreFault> {
+        let mail = self.lists.mail.as_slice();
+        Ok(look::entries_after(self.alloc, mail, supplier, number, limit)?)
+    }
+
+    fn all_lines(&mut self, supplier: &Gln) -> Result<Items<LineRow>, StoreFault> {
+        let lines = self.lists.lines.as_slice();
+        Ok(look::lines_from(self.alloc, lines, supplier)?)
+    }
+
+    fn all_pallets(&mut self, supplier: &Gln) -> Result<Items<PalletRow>, StoreFault> {
+        let pallets = self.lists.pallets.as_slice();
+        Ok(look::pallets_from(self.alloc, pallets, supplier)?)
+    }
+
+    fn contents_of(
+        &mut self,
+        supplier: &Gln,
+        sscc: &Sscc,
+    ) -> Result<Items<ContentRow>, StoreFault> {
+        let contents = self.lists.contents.as_slice();
+        let pallets = self.lists.pallets.as_slice();
+        Ok(look::contents_on(self.alloc, contents, pallets, supplier, sscc)?)
+    }
+
+    fn receipts_of(
+        &mut self,
+        supplier: &Gln,
+        sscc: &Sscc,
+    ) -> Result<Items<ReceiptRow>, StoreFault> {
+        let receipts = self.lists.receipts.as_slice();
+        let pallets = self.lists.pallets.as_slice();
+        Ok(look::receipts_on(self.alloc, receipts, pallets, supplier, sscc)?)
+    }
+
+    fn used(&mut self, sscc: &Sscc) -> Result<bool, StoreFault> {
+        Ok(look::has_sscc(self.lists.pallets.as_slice(), sscc))
+    }
+
+    fn commit(&mut self, changes: &[Change]) -> Result<(), StoreFault> {
+        let copies = copies_of(self.alloc, changes)?;
+        take_room(&mut self.lists, copies.len())?;
+        apply_each(&mut self.lists, copies);
+        Ok(())
+    }
+}

@@ -1,0 +1,26 @@
+//! Why a store did not answer.
+ghost use Rattle.std.specs.Prelude.{◌≡◌};
+ghost use Rattle.hub_store.specs.declared.fault.StoreFault.TheVariants.{Memory};
+
+use edi_base::MemoryFault;
+
+/// Why a store did not answer. After `Disk` and `Unclean` it answers the same until it is opened anew.
+#[derive(Clone, Copy, Debug, PartialEq, Eq)]
+pub enum StoreFault {
+    /// Out of memory.
+    Memory,
+    /// A call of the store below failed for another cause.
+    Disk,
+    /// A stored row is none of the kinds that a hub keeps, or changes do not fit to the rows.
+    Unclean,
+    /// The stored tables are of an unknown version. Answered by opening alone.
+    Version,
+}
+
+impl From<MemoryFault> for StoreFault {
+    ghost from_gives = { λ _ fault. fault ≡ Memory };
+
+    fn from(_refused: MemoryFault) -> StoreFault {
+        StoreFault::Memory
+    }
+}

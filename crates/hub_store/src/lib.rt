@@ -1,0 +1,8 @@
+//! What every store of a hub answers: the trait of stores, and why one did not answer.
+#![tactic(auto)]
+
+mod fault;
+mod store;
+
+pub use fault::StoreFault;
+pub use store::Store;

@@ -1,0 +1,114 @@
+//! What every store answers.
+ghost use Rattle.std.specs.Prelude.{◌≡◌, ◌≢◌, IsTrue, IsOk, Bool, [], take, Option};
+ghost use Rattle.hub_tables.specs.State.{knows_order, knows_advice, lines_of, pallet_of, contents_of, receipts_of, entry_at, untaken_after, last_mail, remembered_content};
+ghost use Rattle.hub_tables.specs.Tables.{Tables, view, has_pallet};
+ghost use Rattle.hub_store.specs.Calls.{Fails, Looks, Commits};
+ghost use Rattle.hub_store.specs.declared.fault.StoreFault.{StoreFault as Fault};
+
+use crate::fault::StoreFault;
+use edi_base::Items;
+use gs1_ids::{Gln, Sscc};
+use hub_tables::{Change, ContentRow, LineRow, MailRow, PalletRow, ReceiptRow, Side};
+
+/// Where the rows of a hub are kept. Look-ups are for one supplier: each answers from the rows that this supplier sees, in the order
+/// of their keys. Each call can answer out of memory, and then nothing has changed.
+pub trait Store {
+    /// The rows.
+    ghost content: { Self → Tables };
+
+    /// That what is below has returned what was written, so far.
+    ghost honest: { Self → Type 0 };
+
+    /// What a crash now may leave.
+    ghost left: { Self → Tables → Type 0 };
+
+    /// The fault that each call answers from now on.
+    ghost broken: { Self → Option Fault };
+
+    /// Whether it is plain: in memory, with no store below it.
+    ghost plain: { Bool };
+
+    /// The content that is remembered of a side under two references; a cancellation has no message reference.
+    fn remembered(
+        &mut self,
+        supplier: &Gln,
+        side: Side,
+        control: &[u8],
+        message: &[u8],
+    ) -> Result<Option<Items<u8>>, StoreFault>
+        ensures looks { Looks content honest left broken self.old self.new (remembered_content (view supplier.now (content self.old)) side control.now message.now) result }
+        ensures fails { Fails plain (broken self.old) (broken self.new) result };
+
+    /// Whether the supplier has an order of this number.
+    fn order_known(&mut self, supplier: &Gln, number: &[u8]) -> Result<bool, StoreFault>
+        ensures looks { Looks content honest left broken self.old self.new (knows_order (view supplier.now (content self.old)) number.now) result }
+        ensures fails { Fails plain (broken self.old) (broken self.new) result };
+
+    /// The lines of an order, by line number.
+    fn lines_of(&mut self, supplier: &Gln, number: &[u8]) -> Result<Items<LineRow>, StoreFault>
+        ensures looks { Looks content honest left broken self.old self.new (lines_of (view supplier.now (content self.old)) number.now) result }
+        ensures fails { Fails plain (broken self.old) (broken self.new) result };
+
+    /// Whether the supplier has a despatch advice of this number.
+    fn advice_known(&mut self, supplier: &Gln, number: &[u8]) -> Result<bool, StoreFault>
+        ensures looks { Looks content honest left broken self.old self.new (knows_advice (view supplier.now (content self.old)) number.now) result }
+        ensures fails { Fails plain (broken self.old) (broken self.new) result };
+
+    /// The supplier's pallet of an SSCC.
+    fn pallet(&mut self, supplier: &Gln, sscc: &Sscc) -> Result<Option<PalletRow>, StoreFault>
+        ensures looks { Looks content honest left broken self.old self.new (pallet_of (view supplier.now (content self.old)) sscc.now) result }
+        ensures fails { Fails plain (broken self.old) (broken self.new) result };
+
+    /// The number of the last entry of the supplier's mailbox, 0 where there is none.
+    fn last_mail(&mut self, supplier: &Gln) -> Result<u64, StoreFault>
+        ensures looks { Looks content honest left broken self.old self.new (last_mail (view supplier.now (content self.old))) result }
+        ensures fails { Fails plain (broken self.old) (broken self.new) result };
+
+    /// The mailbox entry of a number.
+    fn mail_item(&mut self, supplier: &Gln, number: u64) -> Result<Option<MailRow>, StoreFault>
+        ensures looks { Looks content honest left broken self.old self.new (entry_at (view supplier.now (content self.old)) number) result }
+        ensures fails { Fails plain (broken self.old) (broken self.new) result };
+
+    /// The mailbox entries above a number that are not taken, by number, and at most so many of them.
+    fn mail_after(
+        &mut self,
+        supplier: &Gln,
+        number: u64,
+        limit: usize,
+    ) -> Result<Items<MailRow>, StoreFault>
+        ensures looks { Looks content honest left broken self.old self.new (take limit (untaken_after (view supplier.now (content self.old)) number)) result }
+        ensures fails { Fails plain (broken self.old) (broken self.new) result };
+
+    /// The lines of all orders of the supplier, by order number and line number.
+    fn all_lines(&mut self, supplier: &Gln) -> Result<Items<LineRow>, StoreFault>
+        ensures looks { Looks content honest left broken self.old self.new ((view supplier.now (content self.old)).lines) result }
+        ensures fails { Fails plain (broken self.old) (broken self.new) result };
+
+    /// The pallets of the supplier, by SSCC.
+    fn all_pallets(&mut self, supplier: &Gln) -> Result<Items<PalletRow>, StoreFault>
+        ensures looks { Looks content honest left broken self.old self.new ((view supplier.now (content self.old)).pallets) result }
+        ensures fails { Fails plain (broken self.old) (broken self.new) result };
+
+    /// The contents of a pallet, by place. None where the pallet is another supplier's.
+    fn contents_of(&mut self, supplier: &Gln, sscc: &Sscc) -> Result<Items<ContentRow>, StoreFault>
+        ensures looks { Looks content honest left broken self.old self.new (contents_of (view supplier.now (content self.old)) sscc.now) result }
+        ensures fails { Fails plain (broken self.old) (broken self.new) result };
+
+    /// What was received of a pallet, by item. None where the pallet is another supplier's.
+    fn receipts_of(&mut self, supplier: &Gln, sscc: &Sscc) -> Result<Items<ReceiptRow>, StoreFault>
+        ensures looks { Looks content honest left broken self.old self.new (receipts_of (view supplier.now (content self.old)) sscc.now) result }
+        ensures fails { Fails plain (broken self.old) (broken self.new) result };
+
+    /// Whether any supplier has a pallet of this SSCC. A plain store takes no memory for it, and answers.
+    fn used(&mut self, sscc: &Sscc) -> Result<bool, StoreFault>
+        ensures looks { Looks content honest left broken self.old self.new (has_pallet (content self.old) sscc.now) result }
+        ensures fails { Fails plain (broken self.old) (broken self.new) result }
+        ensures plain { IsTrue plain → IsOk result };
+
+    /// Makes the changes, one after another: all of them, or at a fault none. Changes that do not fit to the rows, as a new row under
+    /// a key that is there, may be made in part or be refused as `Unclean`.
+    fn commit(&mut self, changes: &[Change]) -> Result<(), StoreFault>
+        requires { changes.now ≢ [] }
+        ensures commits { Commits content honest left broken self.old self.new changes.now result }
+        ensures fails { Fails plain (broken self.old) (broken self.new) result };
+}

@@ -1,0 +1,218 @@
+//! A store that counts the calls of another one, and fails at one of them.
+ghost use Rattle.std.specs.Prelude.{◌≡◌, ◌≢◌, None};
+ghost use Rattle.hub_store.specs.declared.fault.StoreFault.TheVariants.{Unclean, Version};
+
+use crate::gate::{Gate, Stop};
+use edi_base::Items;
+use gs1_ids::{Gln, Sscc};
+use hub_store::{Store, StoreFault};
+use hub_tables::{Change, ContentRow, LineRow, MailRow, PalletRow, ReceiptRow, Side};
+use std::marker::Model;
+
+/// A store that counts the calls of another one, and that can fail at one of them. Contracts see it as the store below and the fault
+/// that each call answers from now on.
+#[derive(Drop)]
+pub struct TrialStore<S: Store> {
+    store: S,
+    gate: Gate,
+}
+
+impl<S: Store> Model for TrialStore<S> {
+    ghost use Rattle.std.specs.Prelude.{◌≡◌, Option, None};
+    ghost use Rattle.hub_store.specs.declared.fault.StoreFault.{StoreFault as Fault};
+
+    ghost Value = { S × Option Fault };
+
+    ghost view = { λ trial. (trial.store, trial.gate.broken) };
+
+    ghost invariant = { λ trial. trial.gate.broken ≡ None → S.broken trial.store ≡ None };
+}
+
+impl<S: Store> TrialStore<S> {
+    /// Counts the calls of a store.
+    pub fn new(store: S) -> Self
+        requires { S.broken store ≡ None }
+        ensures store { result.0 ≡ store }
+        ensures broken { result.1 ≡ None }
+    {
+        TrialStore {
+            store,
+            gate: Gate {
+                look_ups: 0,
+                commits: 0,
+                stop: None,
+                broken: None,
+            },
+        }
+    }
+
+    /// Counts the calls of a store, and fails with `fault` at the call behind so many others: look-ups and commits, those counted
+    /// that fail. `Unclean` and `Version` would not be true of a store.
+    pub fn failing(store: S, calls: u64, fault: StoreFault) -> Self
+        requires whole { S.broken store ≡ None }
+        requires unclean { fault ≢ Unclean }
+        requires version { fault ≢ Version }
+        ensures store { result.0 ≡ store }
+        ensures broken { result.1 ≡ None }
+    {
+        TrialStore {
+            store,
+            gate: Gate {
+                look_ups: 0,
+                commits: 0,
+                stop: Some(Stop { calls, fault }),
+                broken: None,
+            },
+        }
+    }
+
+    /// How many look-ups there were.
+    pub fn look_ups(&self) -> u64 {
+        self.gate.look_ups
+    }
+
+    /// How many commits there were.
+    pub fn commits(&self) -> u64 {
+        self.gate.commits
+    }
+
+    /// The store below.
+    pub fn into_store(self) -> S
+        ensures { result ≡ self.0 }
+    {
+        let TrialStore { store, gate } = self;
+        drop(gate);
+        store
+    }
+}
+
+impl<S: Store> Store for TrialStore<S> {
+    ghost use Rattle.std.specs.Prelude.{false};
+
+    ghost content = { λ trial. S.content trial.0 };
+
+    ghost honest = { λ trial. S.honest trial.0 };
+
+    ghost left = { λ trial. S.left trial.0 };
+
+    ghost broken = { λ trial. trial.1 };
+
+    ghost plain = { false };
+
+    fn remembered(
+        &mut self,
+        supplier: &Gln,
+        side: Side,
+        control: &[u8],
+        message: &[u8],
+    ) -> Result<Option<Items<u8>>, StoreFault> {
+        self.gate.look_up()?;
+        let found = self.store.remembered(supplier, side, control, message);
+        self.gate.seen(&found);
+        found
+    }
+
+    fn order_known(&mut self, supplier: &Gln, number: &[u8]) -> Result<bool, StoreFault> {
+        self.gate.look_up()?;
+        let found = self.store.order_known(supplier, number);
+        self.gate.seen(&found);
+        found
+    }
+
+    fn lines_of(&mut self, supplier: &Gln, number: &[u8]) -> Result<Items<LineRow>, StoreFault> {
+        self.gate.look_up()?;
+        let found = self.store.lines_of(supplier, number);
+        self.gate.seen(&found);
+        found
+    }
+
+    fn advice_known(&mut self, supplier: &Gln, number: &[u8]) -> Result<bool, StoreFault> {
+        self.gate.look_up()?;
+        let found = self.store.advice_known(supplier, number);
+        self.gate.seen(&found);
+        found
+    }
+
+    fn pallet(&mut self, supplier: &Gln, sscc: &Sscc) -> Result<Option<PalletRow>, StoreFault> {
+        self.gate.look_up()?;
+        let found = self.store.pallet(supplier, sscc);
+        self.gate.seen(&found);
+        found
+    }
+
+    fn last_mail(&mut self, supplier: &Gln) -> Result<u64, StoreFault> {
+        self.gate.look_up()?;
+        let found = self.store.last_mail(supplier);
+        self.gate.seen(&found);
+        found
+    }
+
+    fn mail_item(&mut self, supplier: &Gln, number: u64) -> Result<Option<MailRow>, StoreFault> {
+        self.gate.look_up()?;
+        let found = self.store.mail_item(supplier, number);
+        self.gate.seen(&found);
+        found
+    }
+
+    fn mail_after(
+        &mut self,
+        supplier: &Gln,
+        number: u64,
+        limit: usize,
+    ) -> Result<Items<MailRow>, StoreFault> {
+        self.gate.look_up()?;
+        let found = self.store.mail_after(supplier, number, limit);
+        self.gate.seen(&found);
+        found
+    }
+
+    fn all_lines(&mut self, supplier: &Gln) -> Result<Items<LineRow>, StoreFault> {
+        self.gate.look_up()?;
+        let found = self.store.all_lines(supplier);
+        self.gate.seen(&found);
+        found
+    }
+
+    fn all_pallets(&mut self, supplier: &Gln) -> Result<Items<PalletRow>, StoreFault> {
+        self.gate.look_up()?;
+        let found = self.store.all_pallets(supplier);
+        self.gate.seen(&found);
+        found
+    }
+
+    fn contents_of(
+        &mut self,
+        supplier: &Gln,
+        sscc: &Sscc,
+    ) -> Result<Items<ContentRow>, StoreFault> {
+        self.gate.look_up()?;
+        let found = self.store.contents_of(supplier, sscc);
+        self.gate.seen(&found);
+        found
+    }
+
+    fn receipts_of(
+        &mut self,
+        supplier: &Gln,
+        sscc: &Sscc,
+    ) -> Result<Items<ReceiptRow>, StoreFault> {
+        self.gate.look_up()?;
+        let found = self.store.receipts_of(supplier, sscc);
+        self.gate.seen(&found);
+        found
+    }
+
+    fn used(&mut self, sscc: &Sscc) -> Result<bool, StoreFault> {
+        self.gate.look_up()?;
+        let found = self.store.used(sscc);
+        self.gate.seen(&found);
+        found
+    }
+
+    fn commit(&mut self, changes: &[Change]) -> Result<(), StoreFault> {
+        self.gate.commit()?;
+        let done = self.store.commit(changes);
+        self.gate.seen(&done);
+        done
+    }
+}
