@@ -29,6 +29,7 @@ wrong:
 bench: edihub
 	rustc --edition 2021 -O -o crates/edihub/out/plain bench/plain.rs
 	python3 bench/run.py ./edihub crates/edihub/out/plain
+	python3 bench/store.py
 
 clean:
 	rm -rf edihub crates/*/out

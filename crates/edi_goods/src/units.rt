@@ -198,7 +198,7 @@ fn has_twice(alloc: Global, ssccs: &[Sscc]) -> Result<bool, MessageFault>
 }
 
 /// The SSCC of each unit that is read; the fault `Unit` where a LIN stands outside of units, a unit has no identifier or
-/// not just one SSCC, or one SSCC stands in two units.
+/// not exactly one SSCC, or one SSCC stands in two units.
 pub(crate) fn ssccs(
     alloc: Global,
     units: &[ItemUnit<'_>],

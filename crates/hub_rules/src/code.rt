@@ -4,7 +4,7 @@ ghost use Rattle.hub_rules.specs.Code.{code_text};
 
 use std::fmt;
 
-/// The rule against which a message or a cancellation is.
+/// The rule that a message or a cancellation breaks.
 #[derive(Clone, Copy, Debug, PartialEq, Eq)]
 pub enum Code {
     /// B01: the buyer that is named is not the retailer.
@@ -17,7 +17,7 @@ pub enum Code {
     OrderKnown,
     /// B05: the supplier has no such order.
     NoOrder,
-    /// B06: the order has no such line, or not just one of the item.
+    /// B06: the order has no such line, or not exactly one of the item.
     NoLine,
     /// B07: the line does not wait for an answer, or no line of the order does.
     NotWaiting,

@@ -29,7 +29,7 @@ pub fn pallet_is_its_prefixes_suppliers()
         under_some sscc s.prefixes ≡ true → has_pallet t sscc ≡ has_pallet (view s.gln t) sscc }
 {}
 
-/// Empty tables keep suppliers apart.
+/// In empty tables each pallet, content and receipt has what it names: there is none.
 pub fn empty_tables_are_rooted()
     ensures { (suppliers : List SupplierRow) → Rooted suppliers empty }
 {}
