@@ -1,5 +1,5 @@
 -- The hub's machine at the messages of two suppliers: what is replied to each input, byte by byte.
-use Rattle.std.proofs.Common.{◌≡◌, ℕ, true, List, [], ◌∷◌, ◌++◌, codes, refl}
+use Rattle.std.proofs.Common.{◌≡◌, ℕ, true, false, List, [], ◌∷◌, ◌++◌, codes, replicate, refl}
 use Rattle.std.specs.Fmt.{digits}
 use Rattle.std.specs.List.{flat_map}
 use Rattle.edi_envelope.specs.Interchange.{interchange_of, fault_of, contents_of, is_framed, is_row_of_messages, is_outside_set}
@@ -10,7 +10,10 @@ use Rattle.edi_goods.specs.Despatch.{despatch_of}
 use Rattle.edi_goods.specs.Receipt.{receipt_of}
 use Rattle.hub_parties.specs.declared.row.SupplierRow.{SupplierRow}
 use Rattle.hub_parties.specs.Rows.{Rows}
+use Rattle.hub_tables.specs.Cases.{kind_letter, truth_number}
 use Rattle.hub_tables.specs.Tables.{empty}
+use Rattle.hub_tables.specs.declared.cases.MailKind.TheVariants as kinds
+use Rattle.hub_tables.specs.declared.rows.MailRow.{MailRow}
 use Rattle.hub_law.specs.Machine.{Inputs, shared_run}
 use Rattle.hub_law.specs.MailText.{mail_text, list_text}
 use Rattle.hub_law.specs.Mark.{Mark, Whole, StoppedEmpty, StoppedBare, StoppedAfter}
@@ -290,3 +293,26 @@ the_mailbox_has_the_orders : replies (
     ∷ done (codes "UNA:+,? 'UNB+UNOC:3+5412345000006:14+4012345500004:14+250603:0920+2'UNH+1+ORDERS:D:01B:UN:EAN010'BGM+220+128577+9'DTM+137:20250603:102'FTX+AAI+++Dock 3?+4, O?'Neill??'NAD+BY+5412345000013::9'NAD+SU+4012345500004::9'LIN+1++4000862141404:SRV'QTY+21:30'UNS+S'CNT+2:1'UNT+11+1'UNZ+1+2'") ∷ [])
 unfolding interchange_in interchange_of fault_of contents_of is_framed is_row_of_messages is_outside_set order_of response_of despatch_of receipt_of mail_text list_text status_text digits day_at
 the_mailbox_has_the_orders = refl
+
+-- a mailbox of so many entries that are not taken, as its list: the first 100 of them
+abbrev mailbox_entry : MailRow
+mailbox_entry = record {
+  supplier = alpha.gln;
+  number = 7;
+  moment = 1_748_942_400;
+  decimal = 0x2E;
+  kind = kind_letter kinds.Orders;
+  document = codes "128576";
+  body = [];
+  taken = truth_number false;
+}
+
+hundred_entries_are_all : list_text (replicate 100 mailbox_entry) ≡
+    lines (replicate 100 (codes "             7 ORDERS 128576") ++ codes "end" ∷ [])
+unfolding list_text digits
+hundred_entries_are_all = refl
+
+one_entry_more_is_told : list_text (replicate 101 mailbox_entry) ≡
+    lines (replicate 100 (codes "             7 ORDERS 128576") ++ codes "more" ∷ [])
+unfolding list_text digits
+one_entry_more_is_told = refl

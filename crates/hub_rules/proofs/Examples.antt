@@ -167,6 +167,16 @@ order_before_line = refl
 item_before_open : despatched_to (codes "DA2") unused (record { sscc = sscc; lines = record (of_line 99) { order_line = Some 1; gtin = other_item } ∷ [] } ∷ []) ≡ Refuse codes_of.OtherItem
 item_before_open = refl
 
+-- a line number that the order does not have; and an item of two of its lines, where none is given
+no_line_of_the_number : despatched_to (codes "DA2") unused (
+    record { sscc = sscc; lines = record (of_line 1) { order_line = Some 2 } ∷ [] } ∷ []) ≡ Refuse codes_of.NoLine
+no_line_of_the_number = refl
+
+two_lines_of_the_item : judge_new_despatch alpha unused (
+    record { number = codes "DA2"; buyer = None; supplier = gln; units = record { sscc = sscc; lines = of_line 1 ∷ [] } ∷ [] }) (
+    with_lines (line 1 48 24 24 0 Changed ∷ line 2 48 24 24 0 Changed ∷ [])) ≡ Refuse codes_of.NoLine
+two_lines_of_the_item = refl
+
 -- one SSCC in two units of a message
 sscc_of_an_earlier_unit : despatched_to (codes "DA2") unused (record { sscc = sscc; lines = of_line 1 ∷ [] } ∷ record { sscc = sscc; lines = of_line 1 ∷ [] } ∷ []) ≡ Refuse codes_of.SsccUsed
 sscc_of_an_earlier_unit = refl
