@@ -1,7 +1,7 @@
-"""Times each look-up of a store of plain lists over 10 rows of each kind and over 100,000, and prints both and their ratio. The
-program, store/main.rt, is proved and built in a folder of its own, over copies of this repository's crates with what earlier
-checks kept. Where a look-up but `all_pallets`, which goes over all pallets, takes more than five times as long, it says so and
-ends with status 1."""
+"""Times each look-up of a store of plain lists over 10 rows of each kind and over 100,000, and prints both and
+their ratio. The program, store/main.rt, is proved and built in a folder of its own, over copies of this
+repository's crates with what earlier checks kept. Where a look-up but `all_pallets`, which goes over all
+pallets, takes more than five times as long, it says so and ends with status 1."""
 import os
 import re
 import shutil

@@ -213,7 +213,8 @@ fn finds(store: &mut VecStore, name: &str, keys: &Keys) -> Result<bool, StoreFau
     })
 }
 
-// Nanoseconds of one look-up: of ten rows all over the store, again and again, so that few rows and many are alike to the caches.
+// Nanoseconds of one look-up: of ten rows all over the store, again and again, so that few rows and many are alike to
+// the caches.
 fn timed(rt: &HostRuntime, store: &mut VecStore, name: &str, count: u64) -> Result<u128, Stuck> {
     let rounds = if name == "all_pallets" {
         FEW_ROUNDS

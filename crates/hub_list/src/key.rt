@@ -28,8 +28,10 @@ pub(crate) trait Key<T: Row> {
     fn place_of(&self, row: &T) -> Ordering
         ensures { result ≡ place self.now row.now };
 
+    /// The rows at it are those that are looked for.
     ghost exact: { (key : Self) (row : T) → is_eq (place key row) ≡ wanted key row };
 
+    /// Rows in the order of their keys stand in that of their places.
     ghost kept: { (key : Self) → KeepsPlaces T.compared (place key) };
 }
 

@@ -256,6 +256,7 @@ pub(crate) trait Settable: Row {
     fn is_alike(&self, old: &Self) -> bool
         ensures { result ≡ alike self.now old.now };
 
+    /// They have one key where they are compared as equal.
     ghost same_key: { (new old : Self) → is_eq (Self.compared old new) ≡ alike new old };
 }
 

@@ -12,8 +12,8 @@ use hub_tables::{Change, ContentRow, LineRow, MailRow, PalletRow, ReceiptRow, Si
 use std::alloc::Global;
 use std::marker::Model;
 
-/// A store of plain lists, in memory. Of the changes of a commit, a row that is added under a key that is there is left out, and so
-/// is a row that is set where none has its key.
+/// A store of plain lists, in memory. Of the changes of a commit, a row that is added under a key that is there is
+/// left out, and so is a row that is set where none has its key.
 #[derive(Debug, Drop)]
 pub struct VecStore {
     alloc: Global,

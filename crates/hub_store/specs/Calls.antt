@@ -1,6 +1,6 @@
--- What calls of a store do. A store is seen by five functions of its value: its content; whether what is below it has been honest,
--- that is has returned what was written; what a crash now may leave; the fault for which it is broken, if any; and whether it is
--- plain, with nothing below it.
+-- What calls of a store do. A store is seen by five functions of its value: its content; whether what is below it has
+-- been honest, that is has returned what was written; what a crash now may leave; the fault for which it is broken,
+-- if any; and whether it is plain, with nothing below it.
 use Rattle.std.specs.Prelude.{◌≡◌, ◌≢◌, ◌⊎◌, Bool, false, IsTrue, List, Option, None, Some, Result, Ok, Err, IfOk, IfErr, OnOk, OnErr}
 use Rattle.std.specs.Option.{IfSome}
 use Rattle.hub_tables.specs.Change.{apply_all}
@@ -22,18 +22,19 @@ abbrev pub broken_after : {X : Type 0} → Option StoreFault → Result X StoreF
 broken_after before (Ok x) = before
 broken_after before (Err fault) = broken_by before fault
 
--- how a call fails: a broken store answers its fault again; out of memory breaks none; `Version` is a fault of opening; and a
--- plain store has no other fault than out of memory
-pub record Fails {X : Type 0} (plain : Bool) (old new : Option StoreFault) (result : Result X StoreFault) : Type 0 where
+-- how a call fails: a broken store answers its fault again; out of memory breaks none; `Version` is a fault of
+-- opening; and a plain store has no other fault than out of memory
+pub record Fails {X : Type 0} (plain : Bool) (old new : Option StoreFault) (result : Result X StoreFault)
+    : Type 0 where
   pub again : IfSome old (λ fault. result ≡ Err fault)
   pub after : new ≡ broken_after old result
   pub opened : IfErr result (λ fault. fault ≢ Version)
   pub only_memory : IsTrue plain → IfErr result (λ fault. fault ≡ Memory)
 
--- a look-up: what it answers, that the content stays, and that a crash may leave no more than before. A store that is not broken
--- answers `Unclean` only where some row is none of the kinds.
-pub record Looks {S X : Type 0} (content : S → Tables) (honest : S → Type 0) (left : S → Tables → Type 0) (broken : S → Option StoreFault)
-    (old new : S) (answer : X) (result : Result X StoreFault) : Type 0 where
+-- a look-up: what it answers, that the content stays, and that a crash may leave no more than before. A store that is
+-- not broken answers `Unclean` only where some row is none of the kinds.
+pub record Looks {S X : Type 0} (content : S → Tables) (honest : S → Type 0) (left : S → Tables → Type 0)
+    (broken : S → Option StoreFault) (old new : S) (answer : X) (result : Result X StoreFault) : Type 0 where
   pub answers : honest new → IfOk result (λ x. x ≡ answer)
   pub content_stays : honest new → content new ≡ content old
   pub left_stays : honest new → (t : Tables) → left new t → left old t
@@ -44,13 +45,16 @@ pub record Looks {S X : Type 0} (content : S → Tables) (honest : S → Type 0)
 abbrev pub Fit : List Change → Tables → Type 0
 Fit changes t = Rising (apply_all changes t)
 
--- a commit: changes that fit are all made at Ok, and at a fault none is made, whether they fit or not. After Ok a crash leaves the
--- content alone; after a fault it leaves what it did before, or the content with all changes.
-pub record Commits {S X : Type 0} (content : S → Tables) (honest : S → Type 0) (left : S → Tables → Type 0) (broken : S → Option StoreFault)
-    (old new : S) (changes : List Change) (result : Result X StoreFault) : Type 0 where
+-- a commit: changes that fit are all made at Ok, and at a fault none is made, whether they fit or not. After Ok a
+-- crash leaves the content alone; after a fault it leaves what it did before, or the content with all changes.
+pub record Commits {S X : Type 0} (content : S → Tables) (honest : S → Type 0) (left : S → Tables → Type 0)
+    (broken : S → Option StoreFault) (old new : S) (changes : List Change)
+    (result : Result X StoreFault) : Type 0 where
   pub done : honest new → Fit changes (content old) → OnOk result (content new ≡ apply_all changes (content old))
   pub kept : honest new → OnErr result (content new ≡ content old)
   pub durable : honest new → OnOk result ((t : Tables) → left new t → t ≡ content new)
-  pub crash : honest new → OnErr result ((t : Tables) → left new t → left old t ⊎ (t ≡ apply_all changes (content old)))
+  pub crash : honest new →
+      OnErr result ((t : Tables) → left new t → left old t ⊎ (t ≡ apply_all changes (content old)))
   pub was_honest : honest new → honest old
-  pub unclean : honest new → broken old ≡ None → result ≡ Err Unclean → Fit changes (content old) → are_clean (content old) ≡ false
+  pub unclean : honest new → broken old ≡ None → result ≡ Err Unclean → Fit changes (content old) →
+      are_clean (content old) ≡ false

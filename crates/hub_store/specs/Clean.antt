@@ -1,5 +1,5 @@
--- Rows of the kinds that a hub keeps: identifiers are right, texts and numbers are within their limits, and a column of cases has
--- the number of one.
+-- Rows of the kinds that a hub keeps: identifiers are right, texts and numbers are within their limits, and a column
+-- of cases has the number of one.
 use Rattle.std.specs.Prelude.{ℕ, ◌+◌, ◌==◌, nat_le, Bool, true, false, ◌&&◌, List, [], ◌∷◌, length, if◌then◌else◌}
 use Rattle.std.specs.List.{list_all, list_any}
 use Rattle.edi_base.specs.Limits.{has_length, is_printable, greatest}
@@ -41,7 +41,9 @@ abbrev pub is_quantity : ℕ → Bool
 is_quantity = is_within 1 greatest
 
 abbrev pub is_answer : ℕ → Bool
-is_answer n = list_any (λ answer. n == answer_letter answer) (answers.Waiting ∷ answers.Accepted ∷ answers.NotAccepted ∷ answers.Changed ∷ [])
+is_answer n =
+    list_any (λ answer. n == answer_letter answer)
+    (answers.Waiting ∷ answers.Accepted ∷ answers.NotAccepted ∷ answers.Changed ∷ [])
 
 abbrev pub is_side : ℕ → Bool
 is_side n = list_any (λ side. n == side_letter side) (sides.Retailer ∷ sides.Supplier ∷ sides.Cancellation ∷ [])
@@ -67,7 +69,8 @@ clean_order row = is_gln row.supplier && is_number row.number
 -- no more is open, refused and cancelled than is ordered
 abbrev pub clean_line : LineRow → Bool
 clean_line row =
-    is_gln row.supplier && (is_number row.number && (is_line row.line && (is_key 14 row.gtin && (is_quantity row.ordered
+    is_gln row.supplier && (is_number row.number && (is_line row.line && (is_key 14 row.gtin
+    && (is_quantity row.ordered
     && (nat_le (row.open_qty + row.refused + row.cancelled) row.ordered && is_answer row.answer)))))
 
 abbrev pub clean_advice : AdviceRow → Bool
@@ -77,21 +80,28 @@ abbrev pub clean_pallet : PalletRow → Bool
 clean_pallet row = is_key 18 row.sscc && (is_gln row.supplier && (is_number row.advice && is_arrival row.received))
 
 abbrev pub clean_content : ContentRow → Bool
-clean_content row = is_key 18 row.sscc && (is_within 1 999_999 row.place && (is_number row.number && (is_line row.line && is_quantity row.quantity)))
+clean_content row =
+    is_key 18 row.sscc && (is_within 1 999_999 row.place && (is_number row.number
+    && (is_line row.line && is_quantity row.quantity)))
 
 abbrev pub clean_receipt : ReceiptRow → Bool
-clean_receipt row = is_key 18 row.sscc && (is_key 14 row.gtin && (nat_le row.accepted greatest && (nat_le row.returned greatest && nat_le row.destroyed greatest)))
+clean_receipt row =
+    is_key 18 row.sscc && (is_key 14 row.gtin && (nat_le row.accepted greatest
+    && (nat_le row.returned greatest && nat_le row.destroyed greatest)))
 
 abbrev pub clean_remembered : RememberedRow → Bool
-clean_remembered row = is_gln row.supplier && (is_side row.side && (is_reference row.control && is_message row.side row.message))
+clean_remembered row =
+    is_gln row.supplier && (is_side row.side && (is_reference row.control && is_message row.side row.message))
 
 abbrev pub clean_mail : MailRow → Bool
 clean_mail row =
-    is_gln row.supplier && (is_within 1 last_number row.number && (nat_le row.moment last_moment && (is_decimal row.decimal
+    is_gln row.supplier && (is_within 1 last_number row.number && (nat_le row.moment last_moment
+    && (is_decimal row.decimal
     && (is_kind row.kind && (is_number row.document && is_truth row.taken)))))
 
 -- each row is of its kind
 abbrev pub are_clean : Tables → Bool
 are_clean t =
-    list_all clean_order t.orders && (list_all clean_line t.lines && (list_all clean_advice t.advices && (list_all clean_pallet t.pallets
-    && (list_all clean_content t.contents && (list_all clean_receipt t.receipts && (list_all clean_remembered t.remembered && list_all clean_mail t.mail))))))
+    list_all clean_order t.orders && (list_all clean_line t.lines && (list_all clean_advice t.advices
+    && (list_all clean_pallet t.pallets && (list_all clean_content t.contents && (list_all clean_receipt t.receipts
+    && (list_all clean_remembered t.remembered && list_all clean_mail t.mail))))))

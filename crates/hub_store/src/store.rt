@@ -10,8 +10,8 @@ use edi_base::Items;
 use gs1_ids::{Gln, Sscc};
 use hub_tables::{Change, ContentRow, LineRow, MailRow, PalletRow, ReceiptRow, Side};
 
-/// Where the rows of a hub are kept. Look-ups are for one supplier: each answers from the rows that this supplier sees, in the order
-/// of their keys. Each call can answer out of memory, and then nothing has changed.
+/// Where the rows of a hub are kept. Look-ups are for one supplier: each answers from the rows that this supplier
+/// sees, in the order of their keys. Each call can answer out of memory, and then nothing has changed.
 pub trait Store {
     /// The rows.
     ghost content: { Self → Tables };
@@ -105,8 +105,8 @@ pub trait Store {
         ensures fails { Fails plain (broken self.old) (broken self.new) result }
         ensures plain { IsTrue plain → IsOk result };
 
-    /// Makes the changes, one after another: all of them, or at a fault none. Changes that do not fit to the rows, as a new row under
-    /// a key that is there, may be made in part or be refused as `Unclean`.
+    /// Makes the changes, one after another: all of them, or at a fault none. Changes that do not fit to the rows, as
+    /// a new row under a key that is there, may be made in part or be refused as `Unclean`.
     fn commit(&mut self, changes: &[Change]) -> Result<(), StoreFault>
         requires { changes.now ≢ [] }
         ensures commits { Commits content honest left broken self.old self.new changes.now result }

@@ -9,8 +9,8 @@ use hub_store::{Store, StoreFault};
 use hub_tables::{Change, ContentRow, LineRow, MailRow, PalletRow, ReceiptRow, Side};
 use std::marker::Model;
 
-/// A store that counts the calls of another one, and that can fail at one of them. Contracts see it as the store below and the fault
-/// that each call answers from now on.
+/// A store that counts the calls of another one, and that can fail at one of them. Contracts see it as the store
+/// below and the fault that each call answers from now on.
 #[derive(Drop)]
 pub struct TrialStore<S: Store> {
     store: S,
@@ -46,8 +46,8 @@ impl<S: Store> TrialStore<S> {
         }
     }
 
-    /// Counts the calls of a store, and fails with `fault` at the call behind so many others: look-ups and commits, those counted
-    /// that fail. `Unclean` and `Version` would not be true of a store.
+    /// Counts the calls of a store, and fails once with `fault`, at the call behind so many others, look-ups and
+    /// commits alike. `Unclean` would say something of the rows, and `Version` is a fault of opening.
     pub fn failing(store: S, calls: u64, fault: StoreFault) -> Self
         requires whole { S.broken store ≡ None }
         requires unclean { fault ≢ Unclean }
