@@ -2,7 +2,7 @@
 use Rattle.std.proofs.Common.{◌≡◌, ℕ, List, [], ◌∷◌, Some, None, codes, refl}
 use Rattle.std.specs.Prelude.{true, false}
 use Rattle.edi_tokens.specs.declared.segment.Segment.{Segment}
-use Rattle.edi_messages.specs.Header.{named_supplier}
+use Rattle.edi_messages.specs.Header.{supplier_of}
 use Rattle.edi_messages.specs.Values.{is_date, quantity}
 
 abbrev pub segment : List ℕ → List (List (List ℕ)) → Segment
@@ -35,10 +35,10 @@ buyer = nad (codes "BY") (codes "5412345000013")
 abbrev pub supplier : Segment
 supplier = nad (codes "SU") (codes "4012345500004")
 
-its_supplier : named_supplier (unh ∷ bgm ∷ buyer ∷ supplier ∷ uns ∷ unt ∷ []) ≡ Some (codes "4012345500004")
+its_supplier : supplier_of (unh ∷ bgm ∷ buyer ∷ supplier ∷ uns ∷ unt ∷ []) ≡ Some (codes "4012345500004")
 its_supplier = refl
 
-supplier_in_a_line : named_supplier (unh ∷ bgm ∷ buyer ∷ lin (codes "1") ∷ supplier ∷ uns ∷ unt ∷ []) ≡ None
+supplier_in_a_line : supplier_of (unh ∷ bgm ∷ buyer ∷ lin (codes "1") ∷ supplier ∷ uns ∷ unt ∷ []) ≡ None
 supplier_in_a_line = refl
 
 leap_year_0 : is_date (codes "102") (codes "00000229") ≡ true

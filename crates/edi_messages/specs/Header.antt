@@ -52,5 +52,5 @@ named_by party = if is_gln (component party 1 0) && bytes_eq (component party 1 
 abbrev pub party : List ℕ → List Segment → Option (List ℕ)
 party role message = option_and_then named_by (only_qualified (codes "NAD") role (header message))
 
-abbrev pub named_supplier : List Segment → Option (List ℕ)
-named_supplier = party (codes "SU")
+abbrev pub supplier_of : List Segment → Option (List ℕ)
+supplier_of = party (codes "SU")

@@ -104,8 +104,8 @@ pub fn party(role: &[u8], message: &[Segment]) -> Option<Gln>
 
 /// The supplier that the header of a message names: there is just one NAD with 3035 SU, and it has a right GLN (3039)
 /// with 3055 9. Works for each type of message, and takes no memory.
-pub fn named_supplier(message: &RawMessage) -> Option<Gln>
-    ensures { result ≡ spec.named_supplier message.now.segments }
+pub fn supplier_of(message: &RawMessage) -> Option<Gln>
+    ensures { result ≡ spec.supplier_of message.now.segments }
 {
     party(b"SU", message.segments.as_slice())
 }

@@ -11,4 +11,4 @@ pub mod summary;
 pub mod values;
 
 pub use fault::MessageFault;
-pub use header::named_supplier;
+pub use header::supplier_of;

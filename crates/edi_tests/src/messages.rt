@@ -1,6 +1,6 @@
 use crate::texts::last_message;
 use edi_envelope::RawMessage;
-use edi_messages::{MessageFault, named_supplier};
+use edi_messages::{MessageFault, supplier_of};
 use std::alloc::{AllocError, Global};
 use std::test::Fail;
 
@@ -47,7 +47,7 @@ fn message(alloc: Global, kind: &str, behind: &str) -> Result<RawMessage, Fail> 
 }
 
 fn supplier_digits(message: &RawMessage) -> Option<[u8; 13]> {
-    Some(*named_supplier(message)?.digits())
+    Some(*supplier_of(message)?.digits())
 }
 
 #[test]

@@ -10,7 +10,7 @@ use Rattle.edi_orders.specs.Response.{response_of}
 use Rattle.edi_orders.proofs.Read.{order_apart}
 use Rattle.edi_goods.specs.Despatch.{despatch_of}
 use Rattle.edi_goods.specs.Receipt.{receipt_of}
-use Rattle.hub_parties.specs.Rows.{Parties, company_prefixes, supplier_of}
+use Rattle.hub_parties.specs.Rows.{Parties, company_prefixes, supplier_row}
 use Rattle.hub_parties.specs.declared.row.SupplierRow.{SupplierRow}
 use Rattle.hub_tables.specs.Cases.{truth_number}
 use Rattle.hub_tables.specs.Change.{apply_all}
@@ -49,7 +49,7 @@ use Rattle.hub_law.specs.Told.{Told, Refused, changed, read_act}
 use Rattle.hub_law.proofs.Acting.{Alike}
 use Rattle.hub_law.proofs.Judged.{unchanged, nothing_done, either, same_verdict, same_reading}
 
-module _ (suppliers : List SupplierRow) (free : PrefixFree (company_prefixes suppliers)) (parties : Parties) (s : SupplierRow) (known : supplier_of suppliers s.gln ≡ Some s) where
+module _ (suppliers : List SupplierRow) (free : PrefixFree (company_prefixes suppliers)) (parties : Parties) (s : SupplierRow) (known : supplier_row suppliers s.gln ≡ Some s) where
   response_act : (sent : RawMessage × IncomingMessage) (t : Tables) → Sound suppliers t →
       Alike suppliers s t (read_act (response_of sent.0) (λ response. judge_response parties.retailer (Some s) sent.1 response (view s.gln t)) t)
       (read_act (response_of sent.0) (λ response. judge_response parties.retailer (Some s) sent.1 response (view s.gln t)) (view s.gln t))

@@ -2,7 +2,7 @@
 use Rattle.std.proofs.Common.{◌≡◌, ℕ, List, [], ◌∷◌, ◌++◌, length, slice_get, take, Some, refl, sym, ◌∙◌, ap}
 use Rattle.std.proofs.Math.Seq.{take-append_seam}
 use Rattle.std.proofs.lemmas.List.{append_assoc}
-use Rattle.hub_parties.specs.Rows.{Rows, parties_of, supplier_of, row_of}
+use Rattle.hub_parties.specs.Rows.{Rows, parties_of, supplier_row, row_of}
 use Rattle.hub_parties.specs.declared.row.SupplierRow.{SupplierRow}
 use Rattle.hub_tables.specs.Sets.{SameRows}
 use Rattle.hub_tables.specs.Tables.{Tables, view}
@@ -24,7 +24,7 @@ pub own_run : (register : Rows) (s : SupplierRow) (t : Tables) (inputs : Inputs)
 own_run register s t inputs here = whole_run register here.free s here.known inputs t here.sound
 
 -- a status for which the retailer asks is the text of what the supplier sees
-status_seen : (register : Rows) (s : SupplierRow) (t : Tables) (input : Input) → supplier_of register.suppliers s.gln ≡ Some s → AsksStatus register s input → (shared_step register t input Whole).0 ≡ done (status_text (view s.gln t))
+status_seen : (register : Rows) (s : SupplierRow) (t : Tables) (input : Input) → supplier_row register.suppliers s.gln ≡ Some s → AsksStatus register s input → (shared_step register t input Whole).0 ≡ done (status_text (view s.gln t))
 status_seen register s t input known asked =
     ap (λ role. (step_as register role (row_of register input.caller) input Whole t).0) asked.retailers
     ∙ ap (λ request. (retailer_request register input.moment Whole request t).0) asked.asks
@@ -36,7 +36,7 @@ reply_at : (register : Rows) (t : Tables) (before : Inputs) (input : Input) (mar
 reply_at register t [] input mark later = refl
 reply_at register t ((first, first_mark) ∷ before) input mark later = reply_at register (shared_step register t first first_mark).1 before input mark later
 
-status_between : (register : Rows) (s : SupplierRow) (t : Tables) (before : Inputs) (input : Input) (later : Inputs) → supplier_of register.suppliers s.gln ≡ Some s → AsksStatus register s input →
+status_between : (register : Rows) (s : SupplierRow) (t : Tables) (before : Inputs) (input : Input) (later : Inputs) → supplier_row register.suppliers s.gln ≡ Some s → AsksStatus register s input →
     reply_between register t before input later ≡ Some (done (status_text (view s.gln (shared_run register t before).1)))
 status_between register s t before input later known asked = reply_at register t before input Whole later ∙ ap (λ reply. Some reply) (status_seen register s (shared_run register t before).1 input known asked)
 

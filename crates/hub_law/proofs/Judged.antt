@@ -3,7 +3,7 @@ use Rattle.std.proofs.Common.{◌≡◌, Bool, true, false, cond, List, Some, Re
 use Rattle.gs1_ids.specs.Overlap.{PrefixFree}
 use Rattle.edi_messages.specs.Fault as message_faults
 use Rattle.edi_messages.specs.declared.fault.MessageFault.{MessageFault}
-use Rattle.hub_parties.specs.Rows.{company_prefixes, supplier_of}
+use Rattle.hub_parties.specs.Rows.{company_prefixes, supplier_row}
 use Rattle.hub_parties.specs.declared.row.SupplierRow.{SupplierRow}
 use Rattle.hub_tables.specs.Tables.{Tables, view}
 use Rattle.hub_tables.specs.declared.change.Change.{Change}
@@ -28,7 +28,7 @@ module _ (suppliers : List SupplierRow) (s : SupplierRow) (t : Tables) (sound : 
   either true one other own_one own_other first second = first
   either false one other own_one own_other first second = second
 
-module _ (suppliers : List SupplierRow) (free : PrefixFree (company_prefixes suppliers)) (s : SupplierRow) (known : supplier_of suppliers s.gln ≡ Some s) (t : Tables) (sound : Sound suppliers t) where
+module _ (suppliers : List SupplierRow) (free : PrefixFree (company_prefixes suppliers)) (s : SupplierRow) (known : supplier_row suppliers s.gln ≡ Some s) (t : Tables) (sound : Sound suppliers t) where
   -- one verdict, in the tables and in the supplier's rows
   pub same_verdict : (shared own : Verdict) → shared ≡ own → ((changes : List Change) → own ≡ Accept changes → Keeps s (view s.gln t) changes) → Alike suppliers s t (act shared t) (act own (view s.gln t))
   same_verdict (Refuse code) own e keeps = subst (λ v. Alike suppliers s t (act (Refuse code) t) (act v (view s.gln t))) e (nothing_done suppliers s t sound (told (Refuse code)))

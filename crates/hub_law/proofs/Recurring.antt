@@ -5,7 +5,7 @@ use Rattle.std.proofs.lemmas.List.{length-take}
 use Rattle.edi_envelope.specs.declared.interchange.RawMessage.{RawMessage}
 use Rattle.edi_envelope.specs.declared.interchange.Interchange.{Interchange}
 use Rattle.gs1_ids.specs.Overlap.{PrefixFree}
-use Rattle.hub_parties.specs.Rows.{Rows, parties_of, company_prefixes, supplier_of, row_of, role_by, role_of}
+use Rattle.hub_parties.specs.Rows.{Rows, parties_of, company_prefixes, supplier_row, row_of, role_by, role_of}
 use Rattle.hub_parties.specs.declared.role.Role.TheVariants.{Retailer, Supplier}
 use Rattle.hub_parties.specs.declared.row.SupplierRow.{SupplierRow}
 use Rattle.hub_tables.specs.Rows.{same}
@@ -113,7 +113,7 @@ module _ (register : Rows) where
   module _ (free : PrefixFree (company_prefixes register.suppliers)) where
     act_sound : (gln : List ℕ) (o : Option SupplierRow) → row_of register gln ≡ o → (sent : RawMessage × IncomingMessage) (t : Tables) → Sound register.suppliers t → Sound register.suppliers (act_at register o sent t).1
     act_sound gln (Some s) known sent t sound =
-        (suppliers_act register.suppliers free (parties_of register) s (ap (supplier_of register.suppliers) (gln_of register.suppliers gln s known) ∙ known) sent t sound).apart.sound
+        (suppliers_act register.suppliers free (parties_of register) s (ap (supplier_row register.suppliers) (gln_of register.suppliers gln s known) ∙ known) sent t sound).apart.sound
     act_sound gln None known sent t sound = message_sound register free sent t sound
 
     act_again : (o : Option SupplierRow) (message : RawMessage) (one other : IncomingMessage) (t u : Tables) → record one { moment = other.moment; decimal = other.decimal } ≡ other → (act_at register o (message, one) t).0 ≡ Accepted → StaysRemembered (act_at register o (message, one) t).1 u → Sound register.suppliers u → act_at register o (message, other) u ≡ (Repeated, u)
@@ -226,7 +226,7 @@ module _ (register : Rows) (t : Tables) (before between : Inputs) (first second 
 -- The cancellation that comes again.
 module _ (register : Rows) (c : Cancel) where
   abbrev cancels : Act
-  cancels = cancel (view c.supplier) (supplier_of register.suppliers c.supplier) c
+  cancels = cancel (view c.supplier) (supplier_row register.suppliers c.supplier) c
 
   step_cancels : (input : Input) (u : Tables) → role_of register input.caller input.key ≡ Some Retailer → input.request ≡ requests.Cancel c → shared_step register u input Whole ≡ (cancel_reply (cancels u).0, (cancels u).1)
   step_cancels input u role asks = ap (λ role. step_as register role (row_of register input.caller) input Whole u) role ∙ ap (λ request. retailer_request register input.moment Whole request u) asks

@@ -6,7 +6,7 @@ use Rattle.edi_orders.specs.Order.{order_of}
 use Rattle.edi_orders.specs.Response.{response_of}
 use Rattle.edi_goods.specs.Despatch.{despatch_of}
 use Rattle.edi_goods.specs.Receipt.{receipt_of}
-use Rattle.hub_parties.specs.Rows.{Parties, Rows, parties_of, supplier_of}
+use Rattle.hub_parties.specs.Rows.{Parties, Rows, parties_of, supplier_row}
 use Rattle.hub_parties.specs.declared.row.SupplierRow.{SupplierRow}
 use Rattle.hub_tables.specs.Change.{apply_all}
 use Rattle.hub_tables.specs.Rows.{same}
@@ -114,12 +114,12 @@ module _ (suppliers : List SupplierRow) where
 
 pub named_repeated : (register : Rows) (sent : RawMessage × IncomingMessage) (moment decimal : ℕ) (t u : Tables) → (deliver_named register sent t).0 ≡ Accepted → StaysRemembered (deliver_named register sent t).1 u → Sound register.suppliers u → deliver_named register (sent.0, record sent.1 { moment = moment; decimal = decimal }) u ≡ (Repeated, u)
 named_repeated register sent moment decimal t u told stays sound =
-    retailers_repeats register.suppliers (named sent.0) t (parties_of register) (supplier_of register.suppliers (named sent.0)) (gln_of register.suppliers (named sent.0)) sent moment decimal told u stays sound
+    retailers_repeats register.suppliers (named sent.0) t (parties_of register) (supplier_row register.suppliers (named sent.0)) (gln_of register.suppliers (named sent.0)) sent moment decimal told u stays sound
 
 pub suppliers_repeated : (suppliers : List SupplierRow) (parties : Parties) (s : SupplierRow) (sent : RawMessage × IncomingMessage) (moment decimal : ℕ) (t u : Tables) → (deliver_suppliers (view s.gln) parties s sent t).0 ≡ Accepted → StaysRemembered (deliver_suppliers (view s.gln) parties s sent t).1 u → Sound suppliers u → deliver_suppliers (view s.gln) parties s (sent.0, record sent.1 { moment = moment; decimal = decimal }) u ≡ (Repeated, u)
 suppliers_repeated suppliers parties s sent moment decimal t u told stays sound =
     suppliers_repeats suppliers s.gln t parties s refl sent moment decimal told u stays sound
 
-pub cancellation_repeated : (register : Rows) (c : Cancel) (t u : Tables) → (cancel (view c.supplier) (supplier_of register.suppliers c.supplier) c t).0 ≡ Accepted → StaysRemembered (cancel (view c.supplier) (supplier_of register.suppliers c.supplier) c t).1 u → Sound register.suppliers u → cancel (view c.supplier) (supplier_of register.suppliers c.supplier) c u ≡ (Repeated, u)
+pub cancellation_repeated : (register : Rows) (c : Cancel) (t u : Tables) → (cancel (view c.supplier) (supplier_row register.suppliers c.supplier) c t).0 ≡ Accepted → StaysRemembered (cancel (view c.supplier) (supplier_row register.suppliers c.supplier) c t).1 u → Sound register.suppliers u → cancel (view c.supplier) (supplier_row register.suppliers c.supplier) c u ≡ (Repeated, u)
 cancellation_repeated register c t u told stays sound =
-    cancel_repeats register.suppliers c.supplier t (supplier_of register.suppliers c.supplier) (gln_of register.suppliers c.supplier) c told u stays sound
+    cancel_repeats register.suppliers c.supplier t (supplier_row register.suppliers c.supplier) (gln_of register.suppliers c.supplier) c told u stays sound

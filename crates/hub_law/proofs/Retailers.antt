@@ -2,7 +2,7 @@
 use Rattle.std.proofs.Common.{◌≡◌, ℕ, true, false, cond, if◌then◌else◌, List, [], ◌∷◌, map, filter, Option, Some, None, refl, sym, ◌∙◌, ap, subst}
 use Rattle.edi_envelope.specs.declared.interchange.RawMessage.{RawMessage}
 use Rattle.gs1_ids.specs.Overlap.{PrefixFree}
-use Rattle.hub_parties.specs.Rows.{Parties, Rows, parties_of, company_prefixes, supplier_of}
+use Rattle.hub_parties.specs.Rows.{Parties, Rows, parties_of, company_prefixes, supplier_row}
 use Rattle.hub_parties.specs.declared.row.SupplierRow.{SupplierRow}
 use Rattle.hub_tables.specs.Rows.{same}
 use Rattle.hub_tables.specs.Tables.{Tables, view}
@@ -27,24 +27,24 @@ ActFor = (Tables → Tables) → Option SupplierRow → Act
 
 -- it is the supplier's alone whose it is, and does nothing where it is nobody's
 pub record IsApart (suppliers : List SupplierRow) (t : Tables) (act : ActFor) : Type 0 where
-  pub ones : (w : SupplierRow) → supplier_of suppliers w.gln ≡ Some w → Alike suppliers w t (act (view w.gln) (Some w) t) (act (λ rows. rows) (Some w) (view w.gln t))
+  pub ones : (w : SupplierRow) → supplier_row suppliers w.gln ≡ Some w → Alike suppliers w t (act (view w.gln) (Some w) t) (act (λ rows. rows) (Some w) (view w.gln t))
   pub nobodys : (look : Tables → Tables) → (act look None t).1 ≡ t
 
 -- the act for the one that has the GLN
 abbrev pub by_name : List SupplierRow → List ℕ → ActFor → Act
-by_name suppliers gln act = act (view gln) (supplier_of suppliers gln)
+by_name suppliers gln act = act (view gln) (supplier_row suppliers gln)
 
 module _ (suppliers : List SupplierRow) (t : Tables) (sound : Sound suppliers t) (act : ActFor) (apart : IsApart suppliers t act) (gln : List ℕ) where
   named_sound : Sound suppliers (by_name suppliers gln act t).1
-  named_sound = by_whom (supplier_of suppliers gln) refl
+  named_sound = by_whom (supplier_row suppliers gln) refl
     where
-      by_whom : (o : Option SupplierRow) → supplier_of suppliers gln ≡ o → Sound suppliers (act (view gln) o t).1
+      by_whom : (o : Option SupplierRow) → supplier_row suppliers gln ≡ o → Sound suppliers (act (view gln) o t).1
       by_whom None h = subst (Sound suppliers) (sym (apart.nobodys (view gln))) sound
       by_whom (Some w) h =
           let whose = gln_of suppliers gln w h in
-          subst (λ n. Sound suppliers (act (view n) (Some w) t).1) whose (apart.ones w (ap (supplier_of suppliers) whose ∙ h)).apart.sound
+          subst (λ n. Sound suppliers (act (view n) (Some w) t).1) whose (apart.ones w (ap (supplier_row suppliers) whose ∙ h)).apart.sound
 
-  module _ (s : SupplierRow) (known : supplier_of suppliers s.gln ≡ Some s) where
+  module _ (s : SupplierRow) (known : supplier_row suppliers s.gln ≡ Some s) where
     -- the supplier that is named sees the act as its own, and another sees nothing of it
     named_sees : same gln s.gln ≡ true → view s.gln (by_name suppliers gln act t).1 ≡ (act (λ rows. rows) (Some s) (view s.gln t)).1
     named_sees e =
@@ -53,13 +53,13 @@ module _ (suppliers : List SupplierRow) (t : Tables) (sound : Sound suppliers t)
         ∙ (apart.ones s known).apart.seen
 
     another_sees : same gln s.gln ≡ false → view s.gln (by_name suppliers gln act t).1 ≡ view s.gln t
-    another_sees e = by_whom (supplier_of suppliers gln) refl
+    another_sees e = by_whom (supplier_row suppliers gln) refl
       where
-        by_whom : (o : Option SupplierRow) → supplier_of suppliers gln ≡ o → view s.gln (act (view gln) o t).1 ≡ view s.gln t
+        by_whom : (o : Option SupplierRow) → supplier_row suppliers gln ≡ o → view s.gln (act (view gln) o t).1 ≡ view s.gln t
         by_whom None h = ap (view s.gln) (apart.nobodys (view gln))
         by_whom (Some w) h =
             let whose = gln_of suppliers gln w h in
-            let unseen = (apart.ones w (ap (supplier_of suppliers) whose ∙ h)).apart.unseen s.gln (unlike suppliers gln w s.gln h e) in
+            let unseen = (apart.ones w (ap (supplier_row suppliers) whose ∙ h)).apart.unseen s.gln (unlike suppliers gln w s.gln h e) in
             subst (λ n. view s.gln (act (view n) (Some w) t).1 ≡ view s.gln t) whose unseen
 
 -- from its own rows the supplier sees its items done, and nothing is told to it
@@ -104,7 +104,7 @@ module _ (register : Rows) (free : PrefixFree (company_prefixes register.supplie
   retailer_sound moment mark (requests.Cancel c) t sound = cancelled_sound mark c t sound
 
   -- What one supplier sees.
-  module _ (s : SupplierRow) (known : supplier_of register.suppliers s.gln ≡ Some s) where
+  module _ (s : SupplierRow) (known : supplier_row register.suppliers s.gln ≡ Some s) where
     pub still : (t : Tables) → Moves (parties_of register) s (view s.gln t) t []
     still t = record { seen = refl; silent = refl }
 

@@ -1,7 +1,7 @@
 -- Each step and each run, as one supplier sees it.
 use Rattle.std.proofs.Common.{◌≡◌, true, false, if◌then◌else◌, inl, inr, List, [], ◌∷◌, ◌++◌, Option, Some, None, refl, sym, ◌∙◌, ap, subst, append_assoc}
 use Rattle.gs1_ids.specs.Overlap.{PrefixFree}
-use Rattle.hub_parties.specs.Rows.{Parties, Rows, parties_of, company_prefixes, supplier_of}
+use Rattle.hub_parties.specs.Rows.{Parties, Rows, parties_of, company_prefixes, supplier_row}
 use Rattle.hub_parties.specs.declared.row.SupplierRow.{SupplierRow}
 use Rattle.hub_tables.specs.Rows.{same}
 use Rattle.hub_tables.specs.Tables.{Tables, view}
@@ -32,10 +32,10 @@ fold_append_after parties s (item ∷ first) second state = fold_append_after pa
 
 module _ (register : Rows) (free : PrefixFree (company_prefixes register.suppliers)) where
   -- Tables stay sound.
-  step_sound : (input : Input) (mark : Mark) (t : Tables) → Sound register.suppliers t → (o : Option SupplierRow) → supplier_of register.suppliers input.caller ≡ o → Sound register.suppliers (step_by register o input mark t).1
+  step_sound : (input : Input) (mark : Mark) (t : Tables) → Sound register.suppliers t → (o : Option SupplierRow) → supplier_row register.suppliers input.caller ≡ o → Sound register.suppliers (step_by register o input mark t).1
   step_sound input mark t sound (Some w) h =
       let whose = gln_of register.suppliers input.caller w h in
-      (supplier_alike register.suppliers free (parties_of register) w (ap (supplier_of register.suppliers) whose ∙ h) input mark t sound).apart.sound
+      (supplier_alike register.suppliers free (parties_of register) w (ap (supplier_row register.suppliers) whose ∙ h) input mark t sound).apart.sound
   step_sound input mark t sound None h =
       elim (is_retailers register input) as (λ v. Sound register.suppliers (if v then retailer_request register input.moment mark input.request t else replied mark denied t).1) [
         | true ↦ retailer_sound register free input.moment mark input.request t sound
@@ -43,13 +43,13 @@ module _ (register : Rows) (free : PrefixFree (company_prefixes register.supplie
       ]
 
   pub sound_after : (t : Tables) (input : Input) (mark : Mark) → Sound register.suppliers t → Sound register.suppliers (shared_step register t input mark).1
-  sound_after t input mark sound = subst (λ (after : Reply × Tables). Sound register.suppliers after.1) (sym (step_is register input mark t)) (step_sound input mark t sound (supplier_of register.suppliers input.caller) refl)
+  sound_after t input mark sound = subst (λ (after : Reply × Tables). Sound register.suppliers after.1) (sym (step_is register input mark t)) (step_sound input mark t sound (supplier_row register.suppliers input.caller) refl)
 
   pub run_sound : (t : Tables) (inputs : Inputs) → Sound register.suppliers t → Sound register.suppliers (shared_run register t inputs).1
   run_sound t [] sound = sound
   run_sound t (x ∷ xs) sound = run_sound (shared_step register t x.0 x.1).1 xs (sound_after t x.0 x.1 sound)
 
-  module _ (s : SupplierRow) (known : supplier_of register.suppliers s.gln ≡ Some s) where
+  module _ (s : SupplierRow) (known : supplier_row register.suppliers s.gln ≡ Some s) where
     -- after a step the supplier sees its items done, and only to its own input it is told something, and that
     pub record OneStep (t : Tables) (input : Input) (after : Reply × Tables) (items : List Item) : Type 0 where
       pub seen : view s.gln after.1 ≡ (fold (parties_of register) s items (view s.gln t)).1
@@ -64,11 +64,11 @@ module _ (register : Rows) (free : PrefixFree (company_prefixes register.supplie
         let alike = supplier_alike register.suppliers free (parties_of register) s known input mark t sound in
         record { seen = alike.apart.seen; told = λ _. ap (λ reply. reply ∷ []) (sym alike.told); silent = λ differs. let both : true ≡ false = sym e ∙ differs in absurd (cc) }
 
-    anothers : (input : Input) (mark : Mark) (t : Tables) → Sound register.suppliers t → same input.caller s.gln ≡ false → (o : Option SupplierRow) → supplier_of register.suppliers input.caller ≡ o →
+    anothers : (input : Input) (mark : Mark) (t : Tables) → Sound register.suppliers t → same input.caller s.gln ≡ false → (o : Option SupplierRow) → supplier_row register.suppliers input.caller ≡ o →
         Moves (parties_of register) s (view s.gln t) (step_by register o input mark t).1 (items_by s.gln register o input mark)
     anothers input mark t sound e (Some w) h =
         let whose = gln_of register.suppliers input.caller w h in
-        let unseen = (supplier_alike register.suppliers free (parties_of register) w (ap (supplier_of register.suppliers) whose ∙ h) input mark t sound).apart.unseen s.gln (unlike register.suppliers input.caller w s.gln h e) in
+        let unseen = (supplier_alike register.suppliers free (parties_of register) w (ap (supplier_row register.suppliers) whose ∙ h) input mark t sound).apart.unseen s.gln (unlike register.suppliers input.caller w s.gln h e) in
         subst (λ v. Moves (parties_of register) s (view s.gln t) (step_by register (Some w) input mark t).1 (if v then Own input mark ∷ [] else [])) (sym e) (record { seen = unseen; silent = refl })
     anothers input mark t sound e None h =
         elim (is_retailers register input) as (λ v. Moves (parties_of register) s (view s.gln t) (if v then retailer_request register input.moment mark input.request t else replied mark denied t).1
@@ -77,20 +77,20 @@ module _ (register : Rows) (free : PrefixFree (company_prefixes register.supplie
           | false ↦ still register free s known t
         ]
 
-    by_its_row : (input : Input) (mark : Mark) (t : Tables) → Sound register.suppliers t → OneStep t input (step_by register (supplier_of register.suppliers input.caller) input mark t) (items_by s.gln register (supplier_of register.suppliers input.caller) input mark)
+    by_its_row : (input : Input) (mark : Mark) (t : Tables) → Sound register.suppliers t → OneStep t input (step_by register (supplier_row register.suppliers input.caller) input mark t) (items_by s.gln register (supplier_row register.suppliers input.caller) input mark)
     by_its_row input mark t sound =
         elim (decide (same input.caller s.gln)) [
           | inl e ↦
-              let there : supplier_of register.suppliers input.caller ≡ Some s = ap (supplier_of register.suppliers) (same_is input.caller s.gln e) ∙ known in
+              let there : supplier_row register.suppliers input.caller ≡ Some s = ap (supplier_row register.suppliers) (same_is input.caller s.gln e) ∙ known in
               subst (λ o. OneStep t input (step_by register o input mark t) (items_by s.gln register o input mark)) (sym there)
               (subst (λ v. OneStep t input (step_by register (Some s) input mark t) (if v then Own input mark ∷ [] else [])) (sym e) (its_own input mark t sound e))
-          | inr e ↦ quiet t input _ _ e (anothers input mark t sound e (supplier_of register.suppliers input.caller) refl)
+          | inr e ↦ quiet t input _ _ e (anothers input mark t sound e (supplier_row register.suppliers input.caller) refl)
         ]
 
     pub one_step : (input : Input) (mark : Mark) (t : Tables) → Sound register.suppliers t → OneStep t input (shared_step register t input mark) (items_of_input s.gln register input mark)
     one_step input mark t sound =
         subst (λ all. OneStep t input (shared_step register t input mark) all) (sym (items_are register input mark s.gln s known))
-        (subst (λ after. OneStep t input after (items_by s.gln register (supplier_of register.suppliers input.caller) input mark)) (sym (step_is register input mark t)) (by_its_row input mark t sound))
+        (subst (λ after. OneStep t input after (items_by s.gln register (supplier_row register.suppliers input.caller) input mark)) (sym (step_is register input mark t)) (by_its_row input mark t sound))
 
     pub whole_run : (inputs : Inputs) (t : Tables) → Sound register.suppliers t → RunIsOwn register s t inputs
     whole_run [] t sound = record { seen = refl; told = refl }

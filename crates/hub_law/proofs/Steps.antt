@@ -1,7 +1,7 @@
 -- An input of a supplier, in the tables of all and in its own rows alone.
 use Rattle.std.proofs.Common.{◌≡◌, ◌≢◌, ℕ, true, false, if◌then◌else◌, List, [], ◌∷◌, Option, Some, None, refl, sym, ◌∙◌, ap}
 use Rattle.gs1_ids.specs.Overlap.{PrefixFree}
-use Rattle.hub_parties.specs.Rows.{Parties, company_prefixes, supplier_of}
+use Rattle.hub_parties.specs.Rows.{Parties, company_prefixes, supplier_row}
 use Rattle.hub_parties.specs.declared.row.SupplierRow.{SupplierRow}
 use Rattle.hub_tables.specs.Rows.{same}
 use Rattle.hub_tables.specs.State.{entry_at}
@@ -23,12 +23,12 @@ use Rattle.hub_law.specs.Alone.{supplier_step}
 use Rattle.hub_law.proofs.Acting.{Alike}
 use Rattle.hub_law.proofs.Acts.{suppliers_act, taking_act}
 
-pub gln_of : (suppliers : List SupplierRow) (gln : List ℕ) (s : SupplierRow) → supplier_of suppliers gln ≡ Some s → s.gln ≡ gln
+pub gln_of : (suppliers : List SupplierRow) (gln : List ℕ) (s : SupplierRow) → supplier_row suppliers gln ≡ Some s → s.gln ≡ gln
 gln_of suppliers gln s known =
     same_is s.gln gln (all_found (λ _. Unit {0}) (λ supplier. same supplier.gln gln) suppliers s (all_always (λ _. Unit {0}) (λ _. tt) suppliers) known).1
 
 -- who has another GLN than is named is another supplier
-pub unlike : (suppliers : List SupplierRow) (gln : List ℕ) (w : SupplierRow) (other : List ℕ) → supplier_of suppliers gln ≡ Some w → same gln other ≡ false → other ≢ w.gln
+pub unlike : (suppliers : List SupplierRow) (gln : List ℕ) (w : SupplierRow) (other : List ℕ) → supplier_row suppliers gln ≡ Some w → same gln other ≡ false → other ≢ w.gln
 unlike suppliers gln w other known e i = let matches = same_if gln other (sym (i ∙ gln_of suppliers gln w known)) in (cc)
 
 module _ (suppliers : List SupplierRow) (s : SupplierRow) where
@@ -52,7 +52,7 @@ module _ (suppliers : List SupplierRow) (s : SupplierRow) where
         };
       }
 
-module _ (suppliers : List SupplierRow) (free : PrefixFree (company_prefixes suppliers)) (parties : Parties) (s : SupplierRow) (known : supplier_of suppliers s.gln ≡ Some s) where
+module _ (suppliers : List SupplierRow) (free : PrefixFree (company_prefixes suppliers)) (parties : Parties) (s : SupplierRow) (known : supplier_row suppliers s.gln ≡ Some s) where
   uploaded_alike : (moment : ℕ) (mark : Mark) (upload : Opened) (t : Tables) → Sound suppliers t →
       Alike suppliers s t (uploaded (deliver_suppliers (view s.gln) parties s) moment mark upload t) (uploaded (deliver_suppliers (λ rows. rows) parties s) moment mark upload (view s.gln t))
   uploaded_alike moment mark upload t sound =

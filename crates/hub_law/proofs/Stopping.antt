@@ -1,7 +1,7 @@
 -- Inputs that are stopped, and what is said of them.
 use Rattle.std.proofs.Common.{◌≡◌, ◌≢◌, ◌↔◌, ℕ, List, Bool, true, false, cond, nat_lt, [], length, Option, Some, None, Ok, Err, refl, sym, subst, ap}
 use Rattle.edi_envelope.specs.declared.interchange.RawMessage.{RawMessage}
-use Rattle.hub_parties.specs.Rows.{Parties, Rows, parties_of, supplier_of}
+use Rattle.hub_parties.specs.Rows.{Parties, Rows, parties_of, supplier_row}
 use Rattle.hub_parties.specs.declared.row.SupplierRow.{SupplierRow}
 use Rattle.hub_tables.specs.Rows.{same}
 use Rattle.hub_tables.specs.State.{entry_at}
@@ -60,8 +60,8 @@ module _ (mark : Mark) (P : Tables → Reply × Tables → Type 0)
   of_retailer register moment (requests.MailItem number) t = unless t _ (λ e. cc)
   of_retailer register moment (requests.MailTaken number) t = unless t _ (λ e. cc)
   of_retailer register moment requests.Status t = unless t _ (λ e. cc)
-  of_retailer register moment (requests.StatusOf gln) t = unless t _ (report_is_whole (supplier_of register.suppliers gln) (view gln t))
-  of_retailer register moment (requests.Cancel c) t = cut (cancel (view c.supplier) (supplier_of register.suppliers c.supplier) c t) t
+  of_retailer register moment (requests.StatusOf gln) t = unless t _ (report_is_whole (supplier_row register.suppliers gln) (view gln t))
+  of_retailer register moment (requests.Cancel c) t = cut (cancel (view c.supplier) (supplier_row register.suppliers c.supplier) c t) t
 
   of_anybody : (register : Rows) (o : Option SupplierRow) (input : Input) (t : Tables) → P t (step_by register o input mark t)
   of_anybody register (Some s) input t =
@@ -75,7 +75,7 @@ module _ (register : Rows) (t : Tables) (input : Input) where
       ((deliver : RawMessage × IncomingMessage → Act) (moment : ℕ) (opened : Opened) (t : Tables) → P t (uploaded deliver moment mark opened t)) →
       ((found : Option MailRow) (t : Tables) → P t (taken mark found t)) →
       ((after : Told × Tables) (t : Tables) → P t (cancelled mark after t)) → P t (shared_step register t input mark)
-  anybody mark P unless upload entry cut = subst (P t) (sym (step_is register input mark t)) (of_anybody mark P unless upload entry cut register (supplier_of register.suppliers input.caller) input t)
+  anybody mark P unless upload entry cut = subst (P t) (sym (step_is register input mark t)) (of_anybody mark P unless upload entry cut register (supplier_row register.suppliers input.caller) input t)
 
   whole : IsWhole (shared_step register t input Whole).0
   whole = anybody Whole (λ t after. IsWhole after.0) (λ t reply is_whole. is_whole) upload entry (λ after t e. cc)

@@ -7,7 +7,7 @@ use Rattle.edi_envelope.specs.Mail.{renumbered}
 use Rattle.edi_envelope.specs.declared.interchange.Interchange.{Interchange}
 use Rattle.edi_envelope.specs.declared.interchange.RawMessage.{RawMessage}
 use Rattle.edi_messages.specs.Fault as message_faults
-use Rattle.edi_messages.specs.Header.{named_supplier}
+use Rattle.edi_messages.specs.Header.{supplier_of}
 use Rattle.edi_messages.specs.declared.fault.MessageFault.TheVariants.{MessageType}
 use Rattle.edi_orders.specs.Order.{order_of}
 use Rattle.edi_orders.specs.Response.{response_of}
@@ -44,7 +44,7 @@ body_of message = text (map renumbered message.segments)
 
 -- the supplier that a message names, and no digits where it names none
 abbrev pub named : RawMessage → List ℕ
-named message = unwrap_or (named_supplier message.segments) []
+named message = unwrap_or (supplier_of message.segments) []
 
 -- M01: the side does not send messages of this type
 abbrev pub other_type : Act

@@ -4,7 +4,7 @@ use Rattle.std.specs.Prelude.{ℕ, true, List, [], ◌∷◌, length, if◌then�
 use Rattle.std.specs.Option.{unwrap_or}
 use Rattle.edi_envelope.specs.declared.interchange.RawMessage.{RawMessage}
 use Rattle.edi_envelope.specs.declared.interchange.Interchange.{Interchange}
-use Rattle.hub_parties.specs.Rows.{Parties, Rows, parties_of, supplier_of}
+use Rattle.hub_parties.specs.Rows.{Parties, Rows, parties_of, supplier_row}
 use Rattle.hub_parties.specs.declared.row.SupplierRow.{SupplierRow}
 use Rattle.hub_tables.specs.Cases.{truth_number}
 use Rattle.hub_tables.specs.Change.{apply_all}
@@ -83,11 +83,11 @@ supplier_request look parties s moment mark (requests.Cancel cancellation) t = r
 -- What the retailer asks. A message, a cancellation and a report see what the supplier sees that they name.
 abbrev pub deliver_named : Rows → RawMessage × IncomingMessage → Act
 deliver_named register (message, incoming) =
-    deliver_retailers (view (named message)) (parties_of register) (supplier_of register.suppliers (named message))
+    deliver_retailers (view (named message)) (parties_of register) (supplier_row register.suppliers (named message))
     (message, incoming)
 
 abbrev pub cancel_named : Rows → Cancel → Act
-cancel_named register c = cancel (view c.supplier) (supplier_of register.suppliers c.supplier) c
+cancel_named register c = cancel (view c.supplier) (supplier_row register.suppliers c.supplier) c
 
 abbrev pub cancelled : Mark → Told × Tables → Tables → Reply × Tables
 cancelled mark after t = unless_stopped mark (replied_by cancel_reply after) t
@@ -104,5 +104,5 @@ retailer_request register moment mark (requests.MailItem number) t = replied mar
 retailer_request register moment mark (requests.MailTaken number) t = replied mark denied t
 retailer_request register moment mark requests.Status t = replied mark denied t
 retailer_request register moment mark (requests.StatusOf gln) t =
-    replied mark (report (supplier_of register.suppliers gln) (view gln t)) t
+    replied mark (report (supplier_row register.suppliers gln) (view gln t)) t
 retailer_request register moment mark (requests.Cancel c) t = cancelled mark (cancel_named register c t) t

@@ -45,11 +45,11 @@ abbrev pub keys : Rows → List (List ℕ)
 keys rows = rows.retailer_key ∷ map (λ row. row.key) rows.suppliers
 
 -- the row of a supplier, by its GLN
-abbrev pub supplier_of : List SupplierRow → List ℕ → Option SupplierRow
-supplier_of suppliers gln = find (λ supplier. bytes_eq supplier.gln gln) suppliers
+abbrev pub supplier_row : List SupplierRow → List ℕ → Option SupplierRow
+supplier_row suppliers gln = find (λ supplier. bytes_eq supplier.gln gln) suppliers
 
 abbrev pub row_of : Rows → List ℕ → Option SupplierRow
-row_of rows gln = supplier_of rows.suppliers gln
+row_of rows gln = supplier_row rows.suppliers gln
 
 -- who asks with a GLN and a key, where that is the row of a supplier with the GLN
 abbrev pub role_by : Rows → Option SupplierRow → List ℕ → List ℕ → Option Role

@@ -5,7 +5,7 @@ use Rattle.std.proofs.lemmas.Bool.{and_parts}
 use Rattle.std.proofs.lemmas.Bool.Decides.{nat_tests}
 use Rattle.gs1_ids.specs.Sscc.{under_some}
 use Rattle.gs1_ids.specs.Overlap.{PrefixFree}
-use Rattle.hub_parties.specs.Rows.{company_prefixes, supplier_of}
+use Rattle.hub_parties.specs.Rows.{company_prefixes, supplier_row}
 use Rattle.hub_parties.specs.declared.row.SupplierRow.{SupplierRow}
 use Rattle.hub_tables.specs.Keys.{put, replace}
 use Rattle.hub_tables.specs.Rows.{same, order_cmp, line_cmp, advice_cmp, pallet_cmp, content_cmp, receipt_cmp, remembered_cmp, mail_cmp, same_line, same_pallet, same_mail}
@@ -61,7 +61,7 @@ key_line r y h = same_is y.supplier r.supplier ((and_parts (same y.supplier r.su
 key_mail : (r y : MailRow) → same_mail r y ≡ true → y.supplier ≡ r.supplier
 key_mail r y h = same_is y.supplier r.supplier ((and_parts (same y.supplier r.supplier) (y.number == r.number) h).0)
 
-module _ (suppliers : List SupplierRow) (free : PrefixFree (company_prefixes suppliers)) (s : SupplierRow) (known : supplier_of suppliers s.gln ≡ Some s) (t : Tables) (rooted : Rooted suppliers t) where
+module _ (suppliers : List SupplierRow) (free : PrefixFree (company_prefixes suppliers)) (s : SupplierRow) (known : supplier_row suppliers s.gln ≡ Some s) (t : Tables) (rooted : Rooted suppliers t) where
   mine : (x : List ℕ) → under_some x s.prefixes ≡ true → AllByRecursion (λ q. same q.sscc x ≡ true → q.supplier ≡ s.gln) t.pallets
   mine x below = ours suppliers free s.gln s known t x rooted.pallets below
 
@@ -148,7 +148,7 @@ module _ (suppliers : List SupplierRow) (free : PrefixFree (company_prefixes sup
   in_all x h = used_seen x (below_held x h) ∙ h
 
   rooted_row : (r : PalletRow) → r.supplier ≡ s.gln → under_some r.sscc s.prefixes ≡ true → IsRooted suppliers r
-  rooted_row r who below = record { supplier = s; known = ap (supplier_of suppliers) who ∙ known; is_under = below }
+  rooted_row r who below = record { supplier = s; known = ap (supplier_row suppliers) who ∙ known; is_under = below }
 
   -- and the tables stay rooted
   pub rooted_after : (c : Change) → Belongs s (view s.gln t) c → Rooted suppliers (apply c t)
@@ -174,7 +174,7 @@ module _ (suppliers : List SupplierRow) (free : PrefixFree (company_prefixes sup
   rooted_after (AddMail r) h = record { ordered = ordered_after (AddMail r) t rooted.ordered; pallets = rooted.pallets; contents = rooted.contents; receipts = rooted.receipts }
   rooted_after (SetMail r) h = record { ordered = ordered_after (SetMail r) t rooted.ordered; pallets = rooted.pallets; contents = rooted.contents; receipts = rooted.receipts }
 
-module _ (suppliers : List SupplierRow) (free : PrefixFree (company_prefixes suppliers)) (s : SupplierRow) (known : supplier_of suppliers s.gln ≡ Some s) where
+module _ (suppliers : List SupplierRow) (free : PrefixFree (company_prefixes suppliers)) (s : SupplierRow) (known : supplier_row suppliers s.gln ≡ Some s) where
   pub follows : (cs : List Change) (t : Tables) → Rooted suppliers t → BelongAll s (view s.gln t) cs → Follows suppliers s t (apply_all cs t) cs
   follows [] t rooted belong = record { seen = refl; unseen = λ other ne. refl; rooted = rooted }
   follows (c ∷ cs) t rooted belong =

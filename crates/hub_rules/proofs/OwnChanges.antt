@@ -1,7 +1,7 @@
 -- Changes that keep a supplier's rows, in the tables of all.
 use Rattle.std.proofs.Common.{◌≡◌, inl, inr, List, Some, sym, subst}
 use Rattle.gs1_ids.specs.Overlap.{PrefixFree}
-use Rattle.hub_parties.specs.Rows.{company_prefixes, supplier_of}
+use Rattle.hub_parties.specs.Rows.{company_prefixes, supplier_row}
 use Rattle.hub_parties.specs.declared.row.SupplierRow.{SupplierRow}
 use Rattle.hub_tables.specs.Change.{apply_all}
 use Rattle.hub_tables.specs.Rows.{same}
@@ -20,7 +20,7 @@ use Rattle.hub_rules.proofs.Views.{view_own}
 pub good_view : (suppliers : List SupplierRow) (s : SupplierRow) (t : Tables) → Sound suppliers t → KeptOwn s (view s.gln t)
 good_view suppliers s t sound = record { own = view_own s t (sound.rooted).ordered; kept = sound.kept s.gln }
 
-module _ (suppliers : List SupplierRow) (free : PrefixFree (company_prefixes suppliers)) (s : SupplierRow) (known : supplier_of suppliers s.gln ≡ Some s) (t : Tables) (sound : Sound suppliers t) where
+module _ (suppliers : List SupplierRow) (free : PrefixFree (company_prefixes suppliers)) (s : SupplierRow) (known : supplier_row suppliers s.gln ≡ Some s) (t : Tables) (sound : Sound suppliers t) where
   pub after_changes : (changes : List Change) → Keeps s (view s.gln t) changes → KeepsApart suppliers s t changes
   after_changes changes keeps =
       let all = follows suppliers free s known changes t sound.rooted keeps.belong in

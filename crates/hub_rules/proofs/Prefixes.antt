@@ -6,7 +6,7 @@ use Rattle.std.proofs.lemmas.List.{get_or-map, length-map}
 use Rattle.gs1_ids.specs.Sscc.{under_some}
 use Rattle.gs1_ids.specs.Overlap.{PrefixFree}
 use Rattle.gs1_ids.proofs.Overlaps.{one_supplier}
-use Rattle.hub_parties.specs.Rows.{company_prefixes, supplier_of}
+use Rattle.hub_parties.specs.Rows.{company_prefixes, supplier_row}
 use Rattle.hub_parties.specs.declared.row.SupplierRow.{SupplierRow}
 use Rattle.hub_tables.specs.Rows.{same}
 use Rattle.hub_tables.specs.Tables.{Tables, holds}
@@ -28,25 +28,25 @@ get_or_default [] i d e h = absurd (omega arith)
 get_or_default (x ∷ xs) zero d e h = refl
 get_or_default (x ∷ xs) (suc i) d e h = get_or_default xs i d e (omega arith)
 
-pub gln_found : (suppliers : List SupplierRow) (gln : List ℕ) (s : SupplierRow) → supplier_of suppliers gln ≡ Some s → s.gln ≡ gln
+pub gln_found : (suppliers : List SupplierRow) (gln : List ℕ) (s : SupplierRow) → supplier_row suppliers gln ≡ Some s → s.gln ≡ gln
 gln_found [] gln s h = cc
 gln_found (first ∷ suppliers) gln s h =
-    elim (same first.gln gln) as (λ v. same first.gln gln ≡ v → cond v (Some first) (supplier_of suppliers gln) ≡ Some s → s.gln ≡ gln) [
+    elim (same first.gln gln) as (λ v. same first.gln gln ≡ v → cond v (Some first) (supplier_row suppliers gln) ≡ Some s → s.gln ≡ gln) [
       | true ↦ λ e found. let is : first ≡ s = cc in ap (λ (r : SupplierRow). r.gln) (sym is) ∙ same_is first.gln gln e
       | false ↦ λ e found. gln_found suppliers gln s found
     ] refl h
 
 -- a supplier that is found stands at a place
-place_of : (suppliers : List SupplierRow) (gln : List ℕ) (s : SupplierRow) → supplier_of suppliers gln ≡ Some s → (i : ℕ) × (i < length suppliers) × (get_or suppliers i s ≡ s)
+place_of : (suppliers : List SupplierRow) (gln : List ℕ) (s : SupplierRow) → supplier_row suppliers gln ≡ Some s → (i : ℕ) × (i < length suppliers) × (get_or suppliers i s ≡ s)
 place_of [] gln s h = cc
 place_of (first ∷ suppliers) gln s h =
-    elim (same first.gln gln) as (λ v. cond v (Some first) (supplier_of suppliers gln) ≡ Some s → (i : ℕ) × (i < suc (length suppliers)) × (get_or (first ∷ suppliers) i s ≡ s)) [
+    elim (same first.gln gln) as (λ v. cond v (Some first) (supplier_row suppliers gln) ≡ Some s → (i : ℕ) × (i < suc (length suppliers)) × (get_or (first ∷ suppliers) i s ≡ s)) [
       | true ↦ λ e. (0, omega arith, cc)
       | false ↦ λ e. let later = place_of suppliers gln s e in (suc later.0, omega (arith, later.1), later.2)
     ] h
 
 -- an SSCC under prefixes of two suppliers is under those of one
-one_supplier_of : (suppliers : List SupplierRow) → PrefixFree (company_prefixes suppliers) → (one other sscc : List ℕ) (a b : SupplierRow) → supplier_of suppliers one ≡ Some a → supplier_of suppliers other ≡ Some b →
+one_supplier_of : (suppliers : List SupplierRow) → PrefixFree (company_prefixes suppliers) → (one other sscc : List ℕ) (a b : SupplierRow) → supplier_row suppliers one ≡ Some a → supplier_row suppliers other ≡ Some b →
     under_some sscc a.prefixes ≡ true → under_some sscc b.prefixes ≡ true → one ≡ other
 one_supplier_of suppliers free one other sscc a b first second of_first of_second =
     let i = place_of suppliers one a first in
@@ -59,7 +59,7 @@ one_supplier_of suppliers free one other sscc a b first second of_first of_secon
     let same_row : a ≡ b = sym i.2 ∙ get_or_default suppliers i.0 a b i.1 ∙ ap (λ k. get_or suppliers k b) same_place ∙ j.2 in
     sym (gln_found suppliers one a first) ∙ ap (λ (r : SupplierRow). r.gln) same_row ∙ gln_found suppliers other b second
 
-module _ (suppliers : List SupplierRow) (free : PrefixFree (company_prefixes suppliers)) (gln : List ℕ) (s : SupplierRow) (known : supplier_of suppliers gln ≡ Some s) where
+module _ (suppliers : List SupplierRow) (free : PrefixFree (company_prefixes suppliers)) (gln : List ℕ) (s : SupplierRow) (known : supplier_row suppliers gln ≡ Some s) where
   -- a pallet whose SSCC is under the supplier's prefixes is the supplier's
   pub owner : (q : PalletRow) → IsRooted suppliers q → under_some q.sscc s.prefixes ≡ true → q.supplier ≡ gln
   owner q rooted below = one_supplier_of suppliers free q.supplier gln q.sscc rooted.supplier s rooted.known known rooted.is_under below
@@ -76,7 +76,7 @@ module _ (suppliers : List SupplierRow) (free : PrefixFree (company_prefixes sup
             let parts = and_parts (same p.supplier gln) (same p.sscc x) e in
             let who : p.supplier ≡ gln = same_is p.supplier gln parts.0 in
             let what : p.sscc ≡ x = same_is p.sscc x parts.1 in
-            let there : supplier_of suppliers gln ≡ Some (all.0).supplier = ap (supplier_of suppliers) (sym who) ∙ (all.0).known in
+            let there : supplier_row suppliers gln ≡ Some (all.0).supplier = ap (supplier_row suppliers) (sym who) ∙ (all.0).known in
             let one : (all.0).supplier ≡ s = cc in
             ap (λ (r : SupplierRow). under_some x r.prefixes) (sym one) ∙ ap (λ v. under_some v (all.0).supplier.prefixes) (sym what) ∙ (all.0).is_under
         | inr e ↦ under_held ps x all.1 (ap (λ v. v || holds gln ps x) (sym e) ∙ h)

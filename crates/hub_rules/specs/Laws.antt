@@ -1,7 +1,7 @@
 -- What comes of changes that the rules accept.
 use Rattle.std.specs.Prelude.{◌≡◌, ◌≢◌, ◌↔◌, ℕ, List, [], ◌∷◌, Some}
 use Rattle.gs1_ids.specs.Overlap.{PrefixFree}
-use Rattle.hub_parties.specs.Rows.{company_prefixes, supplier_of}
+use Rattle.hub_parties.specs.Rows.{company_prefixes, supplier_row}
 use Rattle.hub_parties.specs.declared.row.SupplierRow.{SupplierRow}
 use Rattle.hub_tables.specs.Change.{apply_all}
 use Rattle.hub_tables.specs.Tables.{Tables, view}
@@ -27,7 +27,7 @@ pub record SoundHub (suppliers : List SupplierRow) (t : Tables) : Type 0 where
 -- the same, and the supplier is registered
 pub record Registered (suppliers : List SupplierRow) (s : SupplierRow) (t : Tables) : Type 0 where
   pub free : PrefixFree (company_prefixes suppliers)
-  pub known : supplier_of suppliers s.gln ≡ Some s
+  pub known : supplier_row suppliers s.gln ≡ Some s
   pub sound : Sound suppliers t
 
 -- the supplier sees its own rows after it, nobody else sees anything of it, and the tables are sound after it

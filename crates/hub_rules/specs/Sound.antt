@@ -2,7 +2,7 @@
 use Rattle.std.specs.Prelude.{◌≡◌, ℕ, ◌+◌, ◌==◌, Bool, true, false, not, ◌&&◌, List, [], ◌∷◌, filter, Some, ⊤}
 use Rattle.std.specs.List.{AllByRecursion, list_any}
 use Rattle.gs1_ids.specs.Sscc.{under_some}
-use Rattle.hub_parties.specs.Rows.{supplier_of}
+use Rattle.hub_parties.specs.Rows.{supplier_row}
 use Rattle.hub_parties.specs.declared.row.SupplierRow.{SupplierRow}
 use Rattle.hub_tables.specs.Cases.{arrival_number}
 use Rattle.hub_tables.specs.Rows.{same}
@@ -92,7 +92,7 @@ pub record Kept (state : Tables) : Type 0 where
 -- a pallet's supplier is known, and its SSCC is under a prefix of that supplier
 pub record IsRooted (suppliers : List SupplierRow) (pallet : PalletRow) : Type 0 where
   pub supplier : SupplierRow
-  pub known : supplier_of suppliers pallet.supplier ≡ Some supplier
+  pub known : supplier_row suppliers pallet.supplier ≡ Some supplier
   pub is_under : under_some pallet.sscc supplier.prefixes ≡ true
 
 -- rows are in key order, each pallet is its supplier's, and each content and receipt has its pallet

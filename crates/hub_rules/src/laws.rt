@@ -7,7 +7,7 @@ ghost use Rattle.edi_orders.specs.declared.order.Order.{Order};
 ghost use Rattle.edi_orders.specs.declared.response.Response.{Response};
 ghost use Rattle.edi_goods.specs.declared.despatch.Despatch.{Despatch};
 ghost use Rattle.edi_goods.specs.declared.receipt.Receipt.{Receipt};
-ghost use Rattle.hub_parties.specs.Rows.{company_prefixes, supplier_of};
+ghost use Rattle.hub_parties.specs.Rows.{company_prefixes, supplier_row};
 ghost use Rattle.hub_parties.specs.declared.row.SupplierRow.{SupplierRow};
 ghost use Rattle.hub_tables.specs.Change.{apply_all};
 ghost use Rattle.hub_tables.specs.Tables.{Tables, has_pallet, view, empty};
@@ -25,7 +25,7 @@ ghost use Rattle.hub_rules.specs.declared.verdict.Verdict.TheVariants.{Accept};
 /// An SSCC under a supplier's prefixes is that of a pallet exactly where it is that of a pallet of this supplier.
 pub fn pallet_is_its_prefixes_suppliers()
     ensures { (suppliers : List SupplierRow) (s : SupplierRow) (t : Tables) (sscc : List ℕ) →
-        PrefixFree (company_prefixes suppliers) → supplier_of suppliers s.gln ≡ Some s → Rooted suppliers t →
+        PrefixFree (company_prefixes suppliers) → supplier_row suppliers s.gln ≡ Some s → Rooted suppliers t →
         under_some sscc s.prefixes ≡ true → has_pallet t sscc ≡ has_pallet (view s.gln t) sscc }
 {}
 
