@@ -1,6 +1,6 @@
 """Times each look-up of a store of plain lists over 10 rows of each kind and over 100,000, and prints both and
-their ratio. The program, store/main.rt, is proved and built in a folder of its own, over copies of this
-repository's crates with what earlier checks kept. Where a look-up but `all_pallets`, which goes over all
+their ratio. The program, store.rt.in, is proved and built in a folder of its own, over copies of this
+repository's crates with what earlier checks kept: the gate reads every .rt file here as a crate's. Where a look-up but `all_pallets`, which goes over all
 pallets, takes more than five times as long, it says so and ends with status 1."""
 import os
 import re
@@ -22,7 +22,8 @@ def build(folder):
     for name in NEEDS:
         shutil.copytree(os.path.join(ROOT, "crates", name), os.path.join(folder, "crates", name))
     program = os.path.join(folder, "crates", "bench_store")
-    shutil.copytree(os.path.join(ROOT, "bench", "store"), os.path.join(program, "src"))
+    os.makedirs(os.path.join(program, "src"))
+    shutil.copy(os.path.join(ROOT, "bench", "store.rt.in"), os.path.join(program, "src", "main.rt"))
     with open(os.path.join(folder, "crates.txt"), "w", encoding="utf-8") as target:
         target.writelines([*needed, "bench_store: " + " ".join(NEEDS) + "\n"])
     return program
