@@ -3,6 +3,7 @@ use Rattle.std.specs.Prelude.{ℕ, ◌≤◌, List, ◌++◌, length, codes, IsU
 use Rattle.std.specs.Fmt.{decimal}
 use Rattle.edi_base.specs.declared.source.ReadFault.{ReadFault}
 use Rattle.edi_base.specs.declared.source.ReadFault.TheVariants as read
+use Rattle.edi_tokens.specs.Spelling.{text_limit}
 use Rattle.hub_app.specs.declared.check.TextFault.{TextFault}
 use Rattle.hub_app.specs.declared.check.TextFault.TheVariants.{File, Memory}
 use Rattle.hub_parties.specs.Rows.{Rows}
@@ -19,11 +20,7 @@ abbrev pub verdict_status : Result Rows RegisterFault → ℕ
 verdict_status (Ok rows) = 0
 verdict_status (Err fault) = 1
 
--- the longest text of a register, in bytes
-abbrev pub text_limit : ℕ
-text_limit = 1_048_576
-
--- bytes that are the text of a register
+-- bytes that are the text of a register: it is no longer than that of an interchange
 pub record IsRegisterText (bytes : List ℕ) : Type 0 where
   pub fits : length bytes ≤ text_limit
   pub utf8 : IsUtf8 bytes

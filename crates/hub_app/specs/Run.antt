@@ -1,14 +1,15 @@
 -- What a run of `relay` between a reader and two writers does, by the bytes that are known of each.
-use Rattle.std.specs.Prelude.{◌≡◌, ℕ, List, ◌++◌, take, codes, Option, IfSome, Ok, Err}
+use Rattle.std.specs.Prelude.{◌≡◌, ℕ, ◌+◌, List, ◌++◌, take, codes, Option, IfSome, Ok, Err}
 use Rattle.std.specs.Io.KnownBytes.{Appends}
 use Rattle.edi_base.specs.Buffer.{AppendsFront}
+use Rattle.edi_tokens.specs.Spelling.{text_limit}
 use Rattle.hub_app.specs.declared.relay.RelayWords.{RelayWords}
 use Rattle.hub_app.specs.declared.relay.RelayFault.{RelayFault}
 use Rattle.hub_app.specs.Relay.{relayed, code_of}
 
 -- one byte more than the longest text is read, so that a longer one shows
 abbrev pub read_limit : ℕ
-read_limit = 1_048_577
+read_limit = text_limit + 1
 
 -- what was read is relayed, and the mail texts were written
 abbrev pub Delivers : Option (List ℕ) → RelayWords → Option (List ℕ) → Option (List ℕ) → Type 0

@@ -5,6 +5,7 @@ ghost use Rattle.std.specs.Io.KnownBytes.{Appends, Keeps};
 ghost use Rattle.edi_base.specs.Buffer.{AppendsFront};
 ghost use Rattle.edi_base.specs.Source.{TakesAtMost};
 ghost use Rattle.hub_app.specs.Check.{IsRegisterText, verdict_line, verdict_status};
+ghost use Rattle.hub_app.specs.Run.{read_limit};
 ghost use Rattle.hub_app.specs.Exit.{Tells};
 ghost use Rattle.hub_register.specs.Register.{register_of};
 
@@ -57,7 +58,7 @@ impl From<ReadFault> for TextFault {
 /// The text of a register: all that a source holds, where that is UTF-8 of at most 1,048,576 bytes. At most one byte
 /// more is read.
 pub fn read_register_text<R: Source>(alloc: Global, input: &mut R) -> Result<String, TextFault>
-    ensures taken { TakesAtMost (R.remaining input.old) (R.remaining input.new) 1_048_577 }
+    ensures taken { TakesAtMost (R.remaining input.old) (R.remaining input.new) read_limit }
     ensures text { IfOk result (λ text. IsRegisterText (string_bytes text)) }
     ensures whole { IfOk result (λ text. IfSome (R.remaining input.old) (λ bytes. bytes ≡ string_bytes text)) }
     ensures file { result ≡ Err TextFault.File → (R.failed input.new ≡ true) ⊎ IfSome (R.remaining input.old) (λ bytes. ¬ IsRegisterText bytes) }

@@ -7,7 +7,7 @@ ghost use Rattle.edi_base.specs.Source.{TakesAtMost};
 ghost use Rattle.hub_app.specs.declared.relay.RelayFault.{RelayFault};
 ghost use Rattle.hub_app.specs.Relay.{AreRelayWords};
 ghost use Rattle.hub_app.specs.Exit.{Tells};
-ghost use Rattle.hub_app.specs.Run.{Delivers, DeliversFront, IsRefused, refusal};
+ghost use Rattle.hub_app.specs.Run.{Delivers, DeliversFront, IsRefused, read_limit, refusal};
 
 use crate::exit::{DONE, FAILED, REFUSED, tell};
 use crate::relay::{RelayFault, RelayWords, relay_text};
@@ -46,11 +46,11 @@ pub fn relay_run<R: Source, W: Sink, E: Sink>(
     err: &mut E,
 ) -> u8
     requires { AreRelayWords words.now }
-    ensures taken { TakesAtMost (R.remaining input.old) (R.remaining input.new) 1_048_577 }
+    ensures taken { TakesAtMost (R.remaining input.old) (R.remaining input.new) read_limit }
     ensures status { (result ≡ 0) ⊎ ((result ≡ 1) ⊎ (result ≡ 3)) }
     ensures read { (R.failed input.new ≡ R.failed input.old) ⊎ ((result ≡ 3) × Tells (E.contents err.old) (E.contents err.new) (E.failed err.new) (codes "file\n")) }
     ensures written { (W.failed out.new ≡ W.failed out.old) ⊎ ((result ≡ 3) × Tells (E.contents err.old) (E.contents err.new) (E.failed err.new) (codes "file\n")) }
-    ensures stands { ((result ≡ 0) ⊎ (result ≡ 1)) → IfSome (R.remaining input.old) (λ known. Consumes (R.remaining input.old) (R.remaining input.new) (take 1_048_577 known)) }
+    ensures stands { ((result ≡ 0) ⊎ (result ≡ 1)) → IfSome (R.remaining input.old) (λ known. Consumes (R.remaining input.old) (R.remaining input.new) (take read_limit known)) }
     ensures done { result ≡ 0 →
         Delivers (R.remaining input.old) words.now (W.contents out.old) (W.contents out.new)
         × Keeps (E.contents err.old) (E.contents err.new) }
