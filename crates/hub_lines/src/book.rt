@@ -45,12 +45,12 @@ impl Book {
     }
 
     /// The place of the line of an order: of the number, or where none is given of the only one with the item.
-    pub fn place_of(&self, order: &[u8], number: Option<u32>, gtin: &Gtin) -> Option<usize>
-        ensures some { IfSome result (λ place. (place < length self.now) × (facts_among (facts_of self.now order.now) number gtin.now ≡ slice_get self.now place)) }
-        ensures none { IfNone result (facts_among (facts_of self.now order.now) number gtin.now ≡ None) }
+    pub fn place_of(&self, order: &[u8], line_number: Option<u32>, gtin: &Gtin) -> Option<usize>
+        ensures some { IfSome result (λ place. (place < length self.now) × (facts_among (facts_of self.now order.now) line_number gtin.now ≡ slice_get self.now place)) }
+        ensures none { IfNone result (facts_among (facts_of self.now order.now) line_number gtin.now ≡ None) }
     {
-        match number {
-            Some(number) => place_by_number(self.lines.as_slice(), order, number),
+        match line_number {
+            Some(line_number) => place_by_number(self.lines.as_slice(), order, line_number),
             None => place_by_item(self.lines.as_slice(), &self.items, order, gtin),
         }
     }
