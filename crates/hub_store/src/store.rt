@@ -11,7 +11,7 @@ use gs1_ids::{Gln, Sscc};
 use hub_tables::{Change, ContentRow, LineRow, MailRow, PalletRow, ReceiptRow, Side};
 
 /// Where the rows of a hub are kept. Look-ups are for one supplier: each answers from the rows that this supplier
-/// sees, in the order of their keys. Each call can answer out of memory, and then nothing has changed.
+/// sees, in the order of their keys. A call can answer out of memory, and then the content has not changed.
 pub trait Store {
     /// The rows.
     ghost content: { Self → Tables };
