@@ -15,6 +15,6 @@ mod opening;
 pub use fault::EnvelopeFault;
 pub use interchange::{Head, Interchange, RawMessage};
 pub use law::lowest_condition;
-pub use mail::{LAST_MAIL_NUMBER, wrap};
+pub use mail::{LAST_MAIL_NUMBER, mail_message_text, wrap};
 pub use moment::Moment;
 pub use opening::open;

@@ -7,8 +7,9 @@ ghost use Rattle.edi_envelope.specs.Mail.{unb_from, unz_of, with_one, renumbered
 use crate::interchange::RawMessage;
 use crate::moment::{Moment, date_digits, time_digits};
 use edi_base::copied;
-use edi_tokens::{Elements, Items, MemoryFault, Segment};
+use edi_tokens::{Elements, Items, MemoryFault, Segment, append_text};
 use std::alloc::Global;
+use std::array;
 
 /// The greatest number of a mail text: 14 digits, as many as a control reference has.
 pub const LAST_MAIL_NUMBER: u64 = 99_999_999_999_999;
@@ -149,4 +150,21 @@ pub fn wrap(
     }
     segments.push(trailer(alloc, reference.as_bytes())?)?;
     Ok(segments)
+}
+
+/// The canonical text of a message from UNH to UNT, with the message reference number `1` in both, as it stands in a
+/// mailbox. Fails only for memory.
+pub fn mail_message_text(alloc: Global, message: &RawMessage) -> Result<Items<u8>, MemoryFault>
+    ensures { IfOk result (λ body. body ≡ text (map renumbered message.now.segments)) }
+{
+    let mut body = Vec::new(alloc);
+    for segment in message.segments.as_slice() {
+        if segment.tag == *b"UNH" || segment.tag == *b"UNT" {
+            let numbered = [numbered_segment(alloc, segment)?];
+            append_text(&mut body, &numbered)?;
+        } else {
+            append_text(&mut body, array::from_ref(segment))?;
+        }
+    }
+    Ok(Items::from_vec(body))
 }

@@ -1,0 +1,13 @@
+use Rattle.std.proofs.Common.{◌≡◌, ◌++◌, length, map, drop}
+use Rattle.hub_tables.specs.Tables.{has_pallet}
+use Rattle.hub_acts.specs.Acts.{Stays}
+use Rattle.hub_acts.proofs.despatches.used_of.Given as goal
+
+abbrev pub invariant-loop-unit : goal.invariant-loop-unit
+invariant-loop-unit g l = record {
+  stays : Stays g.S.Store.content g.S.Store.honest g.S.Store.left l.fn.store l.store;
+  each : length l.used ≡ l.unit-index;
+  found : g.S.Store.honest l.store →
+      l.used ++ map (λ unit. has_pallet (g.S.Store.content l.fn.store) unit.sscc) (drop l.unit-index l.units)
+      ≡ map (λ unit. has_pallet (g.S.Store.content l.fn.store) unit.sscc) l.units;
+}

@@ -1,0 +1,4 @@
+pub mod Acts
+pub mod Facts
+pub mod Judged
+pub mod Named

@@ -1,0 +1,57 @@
+//! A cancellation.
+ghost use Rattle.std.specs.Prelude.{◌≡◌};
+ghost use Rattle.hub_tables.specs.Sets.{Rising};
+ghost use Rattle.hub_rules.specs.Laws.{SoundHub};
+ghost use Rattle.hub_law.specs.Mark.{Whole};
+ghost use Rattle.hub_law.specs.Replies.{cancel_reply};
+ghost use Rattle.hub_law.specs.Requests.{cancel_named, cancelled, replied_by};
+ghost use Rattle.hub_law.specs.Told.{act, changed, told};
+ghost use Rattle.hub_acts.specs.Acts.{Carried, Unharmed, as_told};
+
+use crate::carrying::{carry_out, told_of_verdict};
+use crate::knowing::known_for_cancel;
+use hub_judges::{Cancel, Verdict, judge_cancel};
+use hub_law::{Outcome, Reply, acts_stay_sound};
+use hub_register::Register;
+use hub_store::{Store, StoreFault};
+use hub_texts::{cancel_text, told_line};
+use std::alloc::Global;
+
+// Carries out what comes of a cancellation, to which this is the reply.
+fn finish<S: Store>(
+    store: &mut S,
+    verdict: &Verdict,
+    reply: Reply,
+) -> Result<Reply, StoreFault>
+    requires { reply ≡ cancel_reply (told verdict.now) }
+    ensures carried { Rising (changed verdict.now (S.content store.old)) → Carried S.content S.honest S.left store.old store.new (λ t. replied_by cancel_reply (act verdict.now t)) as_told result }
+    ensures unharmed { Unharmed S.content S.honest store.old store.new result }
+{
+    carry_out(store, verdict)?;
+    Ok(reply)
+}
+
+/// Takes a cancellation of the retailer: judges it, and commits what comes of it as one act. The reply is made before.
+/// At a fault nothing was done.
+pub fn take_cancel<S: Store>(
+    alloc: Global,
+    register: &Register,
+    store: &mut S,
+    cancel: &Cancel,
+) -> Result<Reply, StoreFault>
+    ensures carried { SoundHub register.now.suppliers (S.content store.old) → Carried S.content S.honest S.left store.old store.new (λ t. cancelled Whole (cancel_named register.now cancel.now t) t) as_told result }
+    ensures unharmed { Unharmed S.content S.honest store.old store.new result }
+{
+    acts_stay_sound();
+    let supplier = register.supplier(&cancel.supplier);
+    let content = cancel_text(alloc, cancel)?;
+    let known = known_for_cancel(alloc, store, cancel)?;
+    let verdict = judge_cancel(alloc, supplier, &known, content, cancel)?;
+    let told = told_of_verdict(&verdict);
+    let reply = Reply {
+        outcome: Outcome::Done,
+        refused: told.is_refused(),
+        body: told_line(alloc, told)?,
+    };
+    finish(store, &verdict, reply)
+}

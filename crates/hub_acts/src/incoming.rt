@@ -1,0 +1,28 @@
+//! What the rules ask of a message, beside what is read of it.
+ghost use Rattle.std.specs.Prelude.{◌≡◌, IfOk};
+ghost use Rattle.hub_law.specs.Messages.{incoming};
+
+use edi_base::{Items, MemoryFault, copied};
+use edi_envelope::{Interchange, Moment, RawMessage};
+use edi_tokens::body_text;
+use hub_judges::IncomingMessage;
+use std::alloc::Global;
+
+/// A message of an interchange that comes at a moment, as the rules see it.
+pub(crate) fn incoming_of(
+    alloc: Global,
+    moment: Moment,
+    interchange: &Interchange,
+    message: &RawMessage,
+) -> Result<IncomingMessage, MemoryFault>
+    ensures { IfOk result (λ came. came ≡ incoming moment interchange.now message.now) }
+{
+    let content = body_text(alloc, message.segments.as_slice())?;
+    Ok(IncomingMessage {
+        control: copied(alloc, interchange.head.reference.as_slice())?,
+        message: copied(alloc, message.reference.as_slice())?,
+        content: Items::from_vec(content),
+        moment,
+        decimal: interchange.decimal,
+    })
+}

@@ -1,0 +1,20 @@
+//! What one message, cancellation or mailbox mark does over a store: what of it is known is looked up, it is judged, and
+//! what comes of it is committed as one act.
+#![tactic(auto)]
+
+mod cancel;
+mod carrying;
+mod despatches;
+mod facts;
+mod incoming;
+mod judged;
+mod knowing;
+mod mailbox;
+mod messages;
+mod naming;
+mod status;
+
+pub use cancel::take_cancel;
+pub use mailbox::{mailbox_entry, mailbox_list, take_entry};
+pub use status::status_report;
+pub use messages::{take_retailers_message, take_suppliers_message};

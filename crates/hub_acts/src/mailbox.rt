@@ -1,0 +1,112 @@
+//! A supplier's mailbox.
+ghost use Rattle.std.specs.Prelude.{◌≡◌, [], ◌∷◌, IfOk, Some};
+ghost use Rattle.hub_tables.specs.State.{entry_at, untaken_after};
+ghost use Rattle.hub_tables.specs.Tables.{view};
+ghost use Rattle.hub_parties.specs.declared.row.SupplierRow.{SupplierRow};
+ghost use Rattle.hub_rules.specs.Laws.{Registered};
+ghost use Rattle.hub_law.specs.MailText.{list_text};
+ghost use Rattle.hub_law.specs.Mark.{Whole};
+ghost use Rattle.hub_law.specs.Replies.{unknown, done, entry_reply};
+ghost use Rattle.hub_law.specs.Requests.{taken};
+ghost use Rattle.hub_acts.specs.Acts.{Carried, Unharmed, Stays, as_told};
+
+use edi_base::{Items, MemoryFault, copied};
+use gs1_ids::Gln;
+use hub_law::{Outcome, Reply, acts_stay_sound};
+use hub_register::Register;
+use hub_store::{Store, StoreFault};
+use hub_tables::{Change, Column};
+use hub_texts::{entry_text, list_text};
+use std::alloc::Global;
+
+// How many entries are looked up for a list: those that it shows, and one that tells that there are more.
+const LISTED_AND_ONE: usize = 101;
+
+/// A reply that something was done, with this text.
+pub(crate) fn done_reply(body: Items<u8>) -> Reply
+    ensures { result ≡ done body }
+{
+    Reply {
+        outcome: Outcome::Done,
+        refused: false,
+        body,
+    }
+}
+
+// A reply that there is no such thing.
+fn unknown_reply(alloc: Global) -> Result<Reply, MemoryFault>
+    ensures { IfOk result (λ reply. reply ≡ unknown) }
+{
+    Ok(Reply {
+        outcome: Outcome::Unknown,
+        refused: false,
+        body: copied(alloc, b"unknown\n")?,
+    })
+}
+
+/// The list of the mailbox entries above a number that are not taken.
+pub fn mailbox_list<S: Store>(
+    alloc: Global,
+    store: &mut S,
+    supplier: &Gln,
+    number: u64,
+) -> Result<Reply, StoreFault>
+    ensures reply { S.honest store.new → IfOk result (λ reply. reply ≡ done (list_text (untaken_after (view supplier.now (S.content store.old)) number))) }
+    ensures stays { Stays S.content S.honest S.left store.old store.new }
+{
+    let entries = store.mail_after(supplier, number, LISTED_AND_ONE)?;
+    let text = list_text(alloc, entries.as_slice())?;
+    Ok(done_reply(text))
+}
+
+/// The mailbox entry of a number, as an interchange of the hub.
+pub fn mailbox_entry<S: Store>(
+    alloc: Global,
+    hub: &Gln,
+    store: &mut S,
+    supplier: &Gln,
+    number: u64,
+) -> Result<Reply, StoreFault>
+    ensures reply { S.honest store.new → IfOk result (λ reply. reply ≡ entry_reply hub.now (entry_at (view supplier.now (S.content store.old)) number)) }
+    ensures stays { Stays S.content S.honest S.left store.old store.new }
+{
+    let Some(entry) = store.mail_item(supplier, number)? else {
+        return Ok(unknown_reply(alloc)?);
+    };
+    let text = entry_text(alloc, hub, &entry)?;
+    Ok(done_reply(text))
+}
+
+// A change alone.
+fn only(alloc: Global, change: Change) -> Result<Items<Change>, MemoryFault>
+    ensures { IfOk result (λ changes. changes ≡ change ∷ []) }
+{
+    let mut changes = Items::new(alloc);
+    changes.push(change)?;
+    Ok(changes)
+}
+
+/// Marks a mailbox entry as taken; one that is taken stays so, and is not written again. The reply is made before. At a
+/// fault nothing was done.
+pub fn take_entry<S: Store>(
+    alloc: Global,
+    register: &Register,
+    store: &mut S,
+    supplier: &Gln,
+    number: u64,
+) -> Result<Reply, StoreFault>
+    ensures carried { (s : SupplierRow) → s.gln ≡ supplier.now → Registered register.now.suppliers s (S.content store.old) → Carried S.content S.honest S.left store.old store.new (λ t. taken Whole (entry_at (view supplier.now t) number) t) as_told result }
+    ensures unharmed { Unharmed S.content S.honest store.old store.new result }
+{
+    acts_stay_sound();
+    let Some(mut entry) = store.mail_item(supplier, number)? else {
+        return Ok(unknown_reply(alloc)?);
+    };
+    let reply = done_reply(copied(alloc, b"taken\n")?);
+    if !entry.taken.case() {
+        entry.taken = Column::of(true);
+        let changes = only(alloc, Change::SetMail(entry))?;
+        store.commit(changes.as_slice())?;
+    }
+    Ok(reply)
+}

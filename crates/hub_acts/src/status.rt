@@ -1,0 +1,89 @@
+//! The status report of a supplier.
+ghost use Rattle.std.specs.Prelude.{◌≡◌, ◌++◌, IfOk, OnOk};
+ghost use Rattle.std.specs.List.{flat_map};
+ghost use Rattle.hub_tables.specs.Sets.{Rises};
+ghost use Rattle.hub_tables.specs.State.{contents_of, receipts_of};
+ghost use Rattle.hub_tables.specs.Tables.{Tables, view};
+ghost use Rattle.hub_rules.specs.Sound.{Kept};
+ghost use Rattle.hub_law.specs.Replies.{done};
+ghost use Rattle.hub_law.specs.StatusText.{pallet_text, status_text};
+ghost use Rattle.hub_texts.specs.Items.{place_cmp};
+ghost use Rattle.hub_acts.specs.Acts.{Stays};
+
+use crate::facts::rise;
+use crate::mailbox::done_reply;
+use edi_base::Items;
+use gs1_ids::Gln;
+use hub_law::Reply;
+use hub_store::{Store, StoreFault};
+use hub_tables::{ContentRow, LineRow, PalletRow, ReceiptRow};
+use hub_texts::{TextFault, put_lines, put_pallet};
+use std::alloc::Global;
+
+// Appends the lines of a pallet.
+fn put_text(
+    alloc: Global,
+    lines: &[LineRow],
+    pallet: &PalletRow,
+    contents: &[ContentRow],
+    receipts: &[ReceiptRow],
+    out: &mut Vec<u8>,
+) -> Result<(), StoreFault>
+    requires { Rises place_cmp lines.now }
+    ensures { (state : Tables) → state.lines ≡ lines.now → contents_of state pallet.now.sscc ≡ contents.now → receipts_of state pallet.now.sscc ≡ receipts.now →
+        OnOk result (out.new.items ≡ out.old.items ++ pallet_text state pallet.now) }
+{
+    match put_pallet(alloc, lines, pallet, contents, receipts, out) {
+        Ok(()) => Ok(()),
+        Err(TextFault::Memory) => Err(StoreFault::Memory),
+        Err(TextFault::Unclean) => Err(StoreFault::Unclean),
+    }
+}
+
+// Appends the lines of pallets, with what is looked up of each.
+fn put_pallets<S: Store>(
+    alloc: Global,
+    store: &mut S,
+    supplier: &Gln,
+    lines: &[LineRow],
+    pallets: &[PalletRow],
+    out: &mut Vec<u8>,
+) -> Result<(), StoreFault>
+    requires { Rises place_cmp lines.now }
+    ensures text { S.honest store.new → (view supplier.now (S.content store.old)).lines ≡ lines.now → OnOk result (out.new.items ≡ out.old.items ++ flat_map (pallet_text (view supplier.now (S.content store.old))) pallets.now) }
+    ensures stays { Stays S.content S.honest S.left store.old store.new }
+{
+    for pallet in pallets {
+        let announced = store.contents_of(supplier, &pallet.sscc)?;
+        let received = store.receipts_of(supplier, &pallet.sscc)?;
+        let contents = announced.as_slice();
+        let receipts = received.as_slice();
+        put_text(alloc, lines, pallet, contents, receipts, out)?;
+    }
+    Ok(())
+}
+
+/// The status report of a supplier: its lines, then its pallets, by two look-ups and two for each pallet. Where rows do
+/// not rise by order number and line number, or a content names no line, there is none: `Unclean`.
+pub fn status_report<S: Store>(
+    alloc: Global,
+    store: &mut S,
+    supplier: &Gln,
+) -> Result<Reply, StoreFault>
+    ensures reply { S.honest store.new → Kept (view supplier.now (S.content store.old)) → IfOk result (λ reply. reply ≡ done (status_text (view supplier.now (S.content store.old)))) }
+    ensures stays { Stays S.content S.honest S.left store.old store.new }
+{
+    let ordered = store.all_lines(supplier)?;
+    let lines = ordered.as_slice();
+    if !rise(lines) {
+        return Err(StoreFault::Unclean);
+    }
+    let despatched = store.all_pallets(supplier)?;
+    let pallets = despatched.as_slice();
+    let mut text = Vec::new(alloc);
+    put_lines(lines, &mut text)?;
+    put_pallets(alloc, store, supplier, lines, pallets, &mut text)?;
+    text.extend_from_slice(b"end\n")?;
+    let body = Items::from_vec(text);
+    Ok(done_reply(body))
+}
