@@ -7,13 +7,18 @@ use crate::lists::{Lists, apply_each, copies_of, take_room};
 use crate::look;
 use edi_base::Items;
 use gs1_ids::{Gln, Sscc};
-use hub_store::{Store, StoreFault};
+use hub_store::{LastingFault, Store, StoreFault};
 use hub_tables::{Change, ContentRow, LineRow, MailRow, PalletRow, ReceiptRow, Side};
 use std::alloc::Global;
 use std::marker::Model;
 
-/// A store of plain lists, in memory. Of the changes of a commit, a row that is added under a key that is there is
-/// left out, and so is a row that is set where none has its key.
+/// A store of plain lists, in memory. It has no fault but `StoreFault::Memory`: of look-ups where the rows that are
+/// answered find no memory, of a commit where the copies of its changes find none. Of the changes of a commit, a row
+/// that is added under a key that is there is left out, and so is a row that is set where none has its key.
+///
+/// A look-up takes two binary searches and a copy of what it answers. `all_pallets` goes over the pallets of all
+/// suppliers, and `mail_after` also over the taken entries that stand between those that it answers or, where these
+/// are fewer than the limit, behind them. A commit moves the rows that stand behind a new one.
 #[derive(Debug, Drop)]
 pub struct VecStore {
     alloc: Global,
@@ -54,7 +59,7 @@ impl VecStore {
 }
 
 impl Store for VecStore {
-    ghost use Rattle.std.specs.Prelude.{◌≡◌, true, None, ⊤};
+    ghost use Rattle.std.specs.Prelude.{◌≡◌, true, None, ⊤, refl};
 
     ghost content = { λ t. t };
 
@@ -65,6 +70,10 @@ impl Store for VecStore {
     ghost broken = { λ t. None };
 
     ghost plain = { true };
+
+    fn fault(&self) -> Option<LastingFault> {
+        None
+    }
 
     fn remembered(
         &mut self,
@@ -163,4 +172,10 @@ impl Store for VecStore {
         apply_each(&mut self.lists, copies);
         Ok(())
     }
+
+    ghost there = { λ store _. refl };
+
+    ghost plainly = { λ _ store. tt };
+
+    ghost kept = { λ _ store t same. same };
 }

@@ -8,25 +8,32 @@ use Rattle.hub_tables.specs.Sets.{Rising}
 use Rattle.hub_tables.specs.Tables.{Tables}
 use Rattle.hub_tables.specs.declared.change.Change.{Change}
 use Rattle.hub_store.specs.Clean.{are_clean}
+use Rattle.hub_store.specs.declared.fault.LastingFault.{LastingFault}
+use Rattle.hub_store.specs.declared.fault.LastingFault.TheVariants as lasting
 use Rattle.hub_store.specs.declared.fault.StoreFault.{StoreFault}
 use Rattle.hub_store.specs.declared.fault.StoreFault.TheVariants.{Memory, Disk, Unclean, Version}
 
--- the fault for which a store is broken, after it answered one
-abbrev pub broken_by : Option StoreFault → StoreFault → Option StoreFault
-broken_by before Memory = before
-broken_by before Disk = Some Disk
-broken_by before Unclean = Some Unclean
-broken_by before Version = Some Version
+-- what a broken store answers
+abbrev pub fault_of : LastingFault → StoreFault
+fault_of lasting.Disk = Disk
+fault_of lasting.Unclean = Unclean
 
-abbrev pub broken_after : {X : Type 0} → Option StoreFault → Result X StoreFault → Option StoreFault
+-- the fault for which a store is broken, after it answered one
+abbrev pub broken_by : Option LastingFault → StoreFault → Option LastingFault
+broken_by before Memory = before
+broken_by before Disk = Some lasting.Disk
+broken_by before Unclean = Some lasting.Unclean
+broken_by before Version = before
+
+abbrev pub broken_after : {X : Type 0} → Option LastingFault → Result X StoreFault → Option LastingFault
 broken_after before (Ok x) = before
 broken_after before (Err fault) = broken_by before fault
 
 -- how a call fails: a broken store answers its fault again; out of memory breaks none; `Version` is a fault of
 -- opening; and a plain store has no other fault than out of memory
-pub record Fails {X : Type 0} (plain : Bool) (old new : Option StoreFault) (result : Result X StoreFault)
+pub record Fails {X : Type 0} (plain : Bool) (old new : Option LastingFault) (result : Result X StoreFault)
     : Type 0 where
-  pub again : IfSome old (λ fault. result ≡ Err fault)
+  pub again : IfSome old (λ fault. result ≡ Err (fault_of fault))
   pub after : new ≡ broken_after old result
   pub opened : IfErr result (λ fault. fault ≢ Version)
   pub only_memory : IsTrue plain → IfErr result (λ fault. fault ≡ Memory)
@@ -34,7 +41,7 @@ pub record Fails {X : Type 0} (plain : Bool) (old new : Option StoreFault) (resu
 -- a look-up: what it answers, that the content stays, and that a crash may leave no more than before. A store that is
 -- not broken answers `Unclean` only where some row is none of the kinds.
 pub record Looks {S X : Type 0} (content : S → Tables) (honest : S → Type 0) (left : S → Tables → Type 0)
-    (broken : S → Option StoreFault) (old new : S) (answer : X) (result : Result X StoreFault) : Type 0 where
+    (broken : S → Option LastingFault) (old new : S) (answer : X) (result : Result X StoreFault) : Type 0 where
   pub answers : honest new → IfOk result (λ x. x ≡ answer)
   pub content_stays : honest new → content new ≡ content old
   pub left_stays : honest new → (t : Tables) → left new t → left old t
@@ -46,15 +53,18 @@ abbrev pub Fit : List Change → Tables → Type 0
 Fit changes t = Rising (apply_all changes t)
 
 -- a commit: changes that fit are all made at Ok, and at a fault none is made, whether they fit or not. After Ok a
--- crash leaves the content alone; after a fault it leaves what it did before, or the content with all changes.
+-- crash leaves the content alone; after a fault it leaves what it did before or, where the changes fit, the content
+-- with all of them. A store that is not broken answers `Unclean` only where some row is none of the kinds, before the
+-- changes or after them, or where they do not fit.
 pub record Commits {S X : Type 0} (content : S → Tables) (honest : S → Type 0) (left : S → Tables → Type 0)
-    (broken : S → Option StoreFault) (old new : S) (changes : List Change)
+    (broken : S → Option LastingFault) (old new : S) (changes : List Change)
     (result : Result X StoreFault) : Type 0 where
   pub done : honest new → Fit changes (content old) → OnOk result (content new ≡ apply_all changes (content old))
   pub kept : honest new → OnErr result (content new ≡ content old)
   pub durable : honest new → OnOk result ((t : Tables) → left new t → t ≡ content new)
   pub crash : honest new →
-      OnErr result ((t : Tables) → left new t → left old t ⊎ (t ≡ apply_all changes (content old)))
+      OnErr result ((t : Tables) → left new t →
+      left old t ⊎ (Fit changes (content old) × (t ≡ apply_all changes (content old))))
   pub was_honest : honest new → honest old
   pub unclean : honest new → broken old ≡ None → result ≡ Err Unclean → Fit changes (content old) →
-      are_clean (content old) ≡ false
+      (are_clean (content old) ≡ false) ⊎ (are_clean (apply_all changes (content old)) ≡ false)

@@ -1,6 +1,6 @@
 -- Rows of the kinds that a hub keeps: identifiers are right, texts and numbers are within their limits, and a column
 -- of cases has the number of one.
-use Rattle.std.specs.Prelude.{ℕ, ◌+◌, ◌==◌, nat_le, Bool, true, false, ◌&&◌, List, [], ◌∷◌, length, if◌then◌else◌}
+use Rattle.std.specs.Prelude.{ℕ, ◌+◌, ◌==◌, nat_lt, nat_le, Bool, true, false, ◌&&◌, List, [], ◌∷◌, length, if◌then◌else◌}
 use Rattle.std.specs.List.{list_all, list_any}
 use Rattle.edi_base.specs.Limits.{has_length, is_printable, greatest}
 use Rattle.edi_tokens.specs.Service.{is_decimal}
@@ -28,6 +28,10 @@ use Rattle.hub_tables.specs.declared.rows.MailRow.{MailRow}
 
 abbrev pub is_within : ℕ → ℕ → ℕ → Bool
 is_within low high n = nat_le low n && nat_le n high
+
+-- any bytes
+abbrev pub are_bytes : List ℕ → Bool
+are_bytes = list_all (λ byte. nat_lt byte 256)
 
 -- the number of a document: 1 to 35 bytes of 0x20 to 0x7E
 abbrev pub is_number : List ℕ → Bool
@@ -91,13 +95,14 @@ clean_receipt row =
 
 abbrev pub clean_remembered : RememberedRow → Bool
 clean_remembered row =
-    is_gln row.supplier && (is_side row.side && (is_reference row.control && is_message row.side row.message))
+    is_gln row.supplier && (is_side row.side && (is_reference row.control
+    && (is_message row.side row.message && are_bytes row.content)))
 
 abbrev pub clean_mail : MailRow → Bool
 clean_mail row =
     is_gln row.supplier && (is_within 1 last_number row.number && (nat_le row.moment last_moment
     && (is_decimal row.decimal
-    && (is_kind row.kind && (is_number row.document && is_truth row.taken)))))
+    && (is_kind row.kind && (is_number row.document && (are_bytes row.body && is_truth row.taken))))))
 
 -- each row is of its kind
 abbrev pub are_clean : Tables → Bool

@@ -7,11 +7,11 @@ use edi_base::MemoryFault;
 /// Why a store did not answer. After `Disk` and `Unclean` it answers the same until it is opened anew.
 #[derive(Clone, Copy, Debug, PartialEq, Eq)]
 pub enum StoreFault {
-    /// Out of memory.
+    /// Out of memory. The store stays as it is, and the same call may succeed later.
     Memory,
     /// A call of the store below failed for another cause.
     Disk,
-    /// A stored row is none of the kinds that a hub keeps, or changes do not fit to the rows.
+    /// A stored row is none of the kinds that a hub keeps, or changes would make one, or do not fit to the rows.
     Unclean,
     /// The stored tables are of an unknown version. Answered by opening alone.
     Version,
@@ -23,4 +23,13 @@ impl From<MemoryFault> for StoreFault {
     fn from(_refused: MemoryFault) -> StoreFault {
         StoreFault::Memory
     }
+}
+
+/// A fault that each call answers until the store is opened anew.
+#[derive(Clone, Copy, Debug, PartialEq, Eq)]
+pub enum LastingFault {
+    /// `StoreFault::Disk`.
+    Disk,
+    /// `StoreFault::Unclean`.
+    Unclean,
 }

@@ -4,5 +4,5 @@
 mod fault;
 mod store;
 
-pub use fault::StoreFault;
+pub use fault::{LastingFault, StoreFault};
 pub use store::Store;

@@ -3,15 +3,22 @@ ghost use Rattle.std.specs.Prelude.{◌≡◌, ◌≢◌, IsTrue, IsOk, Bool, []
 ghost use Rattle.hub_tables.specs.State.{knows_order, knows_advice, lines_of, pallet_of, contents_of, receipts_of, entry_at, untaken_after, last_mail, remembered_content};
 ghost use Rattle.hub_tables.specs.Tables.{Tables, view, has_pallet};
 ghost use Rattle.hub_store.specs.Calls.{Fails, Looks, Commits};
-ghost use Rattle.hub_store.specs.declared.fault.StoreFault.{StoreFault as Fault};
+ghost use Rattle.hub_store.specs.declared.fault.LastingFault.{LastingFault as Lasting};
 
-use crate::fault::StoreFault;
+use crate::fault::{LastingFault, StoreFault};
 use edi_base::Items;
 use gs1_ids::{Gln, Sscc};
 use hub_tables::{Change, ContentRow, LineRow, MailRow, PalletRow, ReceiptRow, Side};
 
 /// Where the rows of a hub are kept. Look-ups are for one supplier: each answers from the rows that this supplier
-/// sees, in the order of their keys. A call can answer out of memory, and then the content has not changed.
+/// sees, in the order of their keys.
+///
+/// Numbers of documents and references are their bytes, as messages write them without release characters. Numbers of
+/// mailbox entries count from 1.
+///
+/// Faults: a look-up or commit can answer `Memory`, and the content stays. `Disk` comes of a store below alone.
+/// `Unclean` comes where a row is none of the kinds, and of a commit also where its changes would make such a row or
+/// do not fit. After `Disk` and `Unclean` each look-up and commit answers that fault. None answers `Version`.
 pub trait Store {
     /// The rows.
     ghost content: { Self → Tables };
@@ -23,10 +30,14 @@ pub trait Store {
     ghost left: { Self → Tables → Type 0 };
 
     /// The fault that each call answers from now on.
-    ghost broken: { Self → Option Fault };
+    ghost broken: { Self → Option Lasting };
 
     /// Whether it is plain: in memory, with no store below it.
     ghost plain: { Bool };
+
+    /// The fault that each call answers from now on, if there is one.
+    fn fault(&self) -> Option<LastingFault>
+        ensures { result ≡ broken self.now };
 
     /// The content that is remembered of a side under two references; a cancellation has no message reference.
     fn remembered(
@@ -69,7 +80,7 @@ pub trait Store {
         ensures looks { Looks content honest left broken self.old self.new (entry_at (view supplier.now (content self.old)) number) result }
         ensures fails { Fails plain (broken self.old) (broken self.new) result };
 
-    /// The mailbox entries above a number that are not taken, by number, and at most so many of them.
+    /// The mailbox entries above a number that are not taken, by number: the first so many of them.
     fn mail_after(
         &mut self,
         supplier: &Gln,
@@ -106,9 +117,19 @@ pub trait Store {
         ensures plain { IsTrue plain → IsOk result };
 
     /// Makes the changes, one after another: all of them, or at a fault none. Changes that do not fit to the rows, as
-    /// a new row under a key that is there, may be made in part or be refused as `Unclean`.
+    /// a new row under a key that is there, may be made in part or be refused as `Unclean`. Where the store could not
+    /// go on after a fault, a crash may leave all changes that fit, though the content is without them.
     fn commit(&mut self, changes: &[Change]) -> Result<(), StoreFault>
         requires { changes.now ≢ [] }
         ensures commits { Commits content honest left broken self.old self.new changes.now result }
         ensures fails { Fails plain (broken self.old) (broken self.new) result };
+
+    /// The content is among what a crash now may leave.
+    ghost there: { (store : Self) → honest store → left store (content store) };
+
+    /// What is below a plain store is honest at all times, as there is nothing.
+    ghost plainly: { IsTrue plain → (store : Self) → honest store };
+
+    /// A crash leaves of a plain store its content.
+    ghost kept: { IsTrue plain → (store : Self) (t : Tables) → left store t → t ≡ content store };
 }

@@ -1,13 +1,17 @@
-ghost use Rattle.std.specs.Prelude.{◌≡◌, IfOk, OnErr};
+ghost use Rattle.std.specs.Prelude.{◌≡◌, ◌∷◌, [], IsTrue, IfOk, IfErr, OnOk, OnErr};
 ghost use Rattle.std.specs.Option.{is_some};
+ghost use Rattle.hub_tables.specs.Change.{apply_all};
 ghost use Rattle.hub_tables.specs.State.{entry_at};
-ghost use Rattle.hub_tables.specs.Tables.{view};
+ghost use Rattle.hub_tables.specs.Tables.{Tables, view, has_pallet};
+ghost use Rattle.hub_store.specs.Calls.{Fit};
+ghost use Rattle.hub_store.specs.declared.fault.StoreFault.TheVariants.{Memory};
+ghost use Rattle.hub_tests.specs.Taking.{Takes, as_taken, taking};
 
 use edi_base::{Items, MemoryFault, copied};
 use edi_envelope::Moment;
 use gs1_ids::{Gln, Gtin, Sscc};
 use hub_list::VecStore;
-use hub_store::{Store, StoreFault};
+use hub_store::{LastingFault, Store, StoreFault};
 use hub_tables::{
     AdviceRow, Answered, Arrival, Change, Column, ContentRow, LineRow, MailKind, MailRow, OrderRow,
     PalletRow, ReceiptRow, RememberedRow, Side,
@@ -25,6 +29,8 @@ const ITEM: &[u8] = b"4000862141404";
 const PALLET: &[u8] = b"340123455000000012";
 
 const ORDER: &[u8] = b"128575";
+
+const SAID: &[u8] = b"said";
 
 // The identifiers that rows name.
 #[derive(Clone, Copy)]
@@ -80,7 +86,7 @@ fn ordered(alloc: Global, ids: Ids) -> Result<Items<Change>, MemoryFault> {
         side: Column::of(Side::Retailer),
         control: copied(alloc, b"1001")?,
         message: copied(alloc, b"7")?,
-        content: copied(alloc, b"said")?,
+        content: copied(alloc, SAID)?,
     }))?;
     changes.push(Change::AddOrder(OrderRow {
         supplier: ids.supplier,
@@ -123,97 +129,157 @@ fn despatched(alloc: Global, ids: Ids) -> Result<Items<Change>, MemoryFault> {
     Ok(changes)
 }
 
-// What the look-ups of one supplier gave.
+// What the look-ups of one supplier gave: of several rows their numbers as digits, and of one row a number of it.
 #[derive(Clone, Copy, Debug, PartialEq, Eq)]
 struct Seen {
-    remembered: usize,
+    remembered: bool,
     order: bool,
-    lines: usize,
+    lines: u64,
     advice: bool,
     pallet: bool,
     last: u64,
-    entry: bool,
-    untaken: usize,
-    all_lines: usize,
+    entry: u64,
+    untaken: u64,
+    all_lines: u64,
     all_pallets: usize,
-    contents: usize,
-    receipts: usize,
+    contents: (usize, u32),
+    receipts: (usize, u32),
     used: bool,
 }
 
 // Alpha's order and pallet.
 const ALL: Seen = Seen {
-    remembered: 4,
+    remembered: true,
     order: true,
-    lines: 2,
+    lines: 12,
     advice: true,
     pallet: true,
     last: 2,
-    entry: true,
-    untaken: 1,
-    all_lines: 2,
+    entry: 2,
+    untaken: 12,
+    all_lines: 12,
     all_pallets: 1,
-    contents: 1,
-    receipts: 1,
+    contents: (1, 48),
+    receipts: (1, 40),
     used: true,
 };
 
 // Beta, of whom no row is.
 const NOTHING: Seen = Seen {
-    remembered: 0,
+    remembered: false,
     order: false,
     lines: 0,
     advice: false,
     pallet: false,
     last: 0,
-    entry: false,
+    entry: 0,
     untaken: 0,
     all_lines: 0,
     all_pallets: 0,
-    contents: 0,
-    receipts: 0,
+    contents: (0, 0),
+    receipts: (0, 0),
     used: true,
 };
+
+// The numbers of lines, one after another.
+fn line_numbers(lines: &[LineRow]) -> u64 {
+    let mut digits = 0_u64;
+    for line in lines {
+        digits = digits.wrapping_mul(10).wrapping_add(u64::from(line.line));
+    }
+    digits
+}
+
+// The numbers of entries, one after another.
+fn entry_numbers(entries: &[MailRow]) -> u64 {
+    let mut digits = 0_u64;
+    for entry in entries {
+        digits = digits.wrapping_mul(10).wrapping_add(entry.number);
+    }
+    digits
+}
+
+// How many contents there are, and the quantity of the first.
+fn quantity(contents: &[ContentRow]) -> (usize, u32) {
+    let first = contents.first().map_or(0, |content| content.quantity);
+    (contents.len(), first)
+}
+
+// How many receipts there are, and what was accepted by the first.
+fn accepted(receipts: &[ReceiptRow]) -> (usize, u32) {
+    let first = receipts.first().map_or(0, |receipt| receipt.accepted);
+    (receipts.len(), first)
+}
 
 fn look_ups<S: Store>(store: &mut S, ids: Ids) -> Result<Seen, StoreFault> {
     let supplier = &ids.supplier;
     let content = store.remembered(supplier, Side::Retailer, b"1001", b"7")?;
+    let pallet = store.pallet(supplier, &ids.pallet)?;
+    let entry = store.mail_item(supplier, 2)?;
     Ok(Seen {
-        remembered: content.map_or(0, |content| content.len()),
+        remembered: content.map_or(false, |content| content.as_slice() == SAID),
         order: store.order_known(supplier, ORDER)?,
-        lines: store.lines_of(supplier, ORDER)?.len(),
+        lines: line_numbers(store.lines_of(supplier, ORDER)?.as_slice()),
         advice: store.advice_known(supplier, b"DES1")?,
-        pallet: store.pallet(supplier, &ids.pallet)?.is_some(),
+        pallet: pallet.map_or(false, |pallet| pallet.sscc == ids.pallet),
         last: store.last_mail(supplier)?,
-        entry: store.mail_item(supplier, 2)?.is_some(),
-        untaken: store.mail_after(supplier, 0, 1)?.len(),
-        all_lines: store.all_lines(supplier)?.len(),
+        entry: entry.map_or(0, |entry| entry.number),
+        untaken: entry_numbers(store.mail_after(supplier, 0, 2)?.as_slice()),
+        all_lines: line_numbers(store.all_lines(supplier)?.as_slice()),
         all_pallets: store.all_pallets(supplier)?.len(),
-        contents: store.contents_of(supplier, &ids.pallet)?.len(),
-        receipts: store.receipts_of(supplier, &ids.pallet)?.len(),
+        contents: quantity(store.contents_of(supplier, &ids.pallet)?.as_slice()),
+        receipts: accepted(store.receipts_of(supplier, &ids.pallet)?.as_slice()),
         used: store.used(&ids.pallet)?,
     })
+}
+
+// Sets an entry of a mailbox as taken.
+fn set_taken<S: Store>(store: &mut S, mut entry: MailRow) -> Result<(), StoreFault>
+    ensures takes { Takes S.content S.honest S.left store.old store.new (as_taken entry ∷ []) result }
+    ensures only_memory { IsTrue S.plain → IfErr result (λ fault. fault ≡ Memory) }
+{
+    entry.taken = Column::of(true);
+    store.commit(&[Change::SetMail(entry)])
 }
 
 // Marks an entry of a mailbox as taken, where it is there.
 fn take_entry<S: Store>(store: &mut S, supplier: &Gln, number: u64) -> Result<bool, StoreFault>
     ensures found { S.honest store.new → IfOk result (λ found. found ≡ is_some (entry_at (view supplier.now (S.content store.old)) number)) }
-    ensures kept { S.honest store.new → OnErr result (S.content store.new ≡ S.content store.old) }
+    ensures takes { Takes S.content S.honest S.left store.old store.new (taking supplier.now number (S.content store.old)) result }
+    ensures only_memory { IsTrue S.plain → IfErr result (λ fault. fault ≡ Memory) }
 {
-    let Some(mut entry) = store.mail_item(supplier, number)? else {
+    let Some(entry) = store.mail_item(supplier, number)? else {
         return Ok(false);
     };
-    entry.taken = Column::of(true);
-    store.commit(&[Change::SetMail(entry)])?;
+    set_taken(store, entry)?;
     Ok(true)
 }
 
-// The same in lists, where nothing else can fail and no premise is left.
+// The same in lists, where only memory can be short and no premise is left but that the change fits.
 fn take_listed(store: &mut VecStore, supplier: &Gln, number: u64) -> Result<bool, StoreFault>
     ensures found { IfOk result (λ found. found ≡ is_some (entry_at (view supplier.now store.old) number)) }
+    ensures done { Fit (taking supplier.now number store.old) store.old → OnOk result (store.new ≡ apply_all (taking supplier.now number store.old) store.old) }
     ensures kept { OnErr result (store.new ≡ store.old) }
+    ensures only_memory { IfErr result (λ fault. fault ≡ Memory) }
 {
     take_entry(store, supplier, number)
+}
+
+// Whether any supplier has the pallet: lists always answer.
+fn used_listed(store: &mut VecStore, sscc: &Sscc) -> bool
+    ensures answer { result ≡ has_pallet store.old sscc.now }
+    ensures same { store.new ≡ store.old }
+{
+    store.used(sscc).unwrap()
+}
+
+// What a crash may leave of a store between two calls.
+fn between_calls<S: Store>(store: &S)
+    ensures there { S.honest store.now → S.left store.now (S.content store.now) }
+    ensures honest { IsTrue S.plain → S.honest store.now }
+    ensures alone { IsTrue S.plain → (t : Tables) → S.left store.now t → t ≡ S.content store.now }
+{
+    let _ = store;
 }
 
 // Commits changes, of which there are some.
@@ -236,7 +302,7 @@ fn lists_answer_each_look_up(rt: HostRuntime) -> Result<(), Fail> {
     assert_eq!(rt; look_ups(&mut store, beta), Ok(NOTHING), "beta");
     assert_eq!(rt; (store.look_ups(), store.commits()), (26, 2), "calls");
     let mut list = store.into_store();
-    for (number, is_there, untaken) in [(1, true, 1), (2, true, 0), (3, false, 0)] {
+    for (number, is_there, untaken) in [(1, true, 2), (2, true, 0), (3, false, 0)] {
         assert_eq!(rt;
             take_listed(&mut list, &alpha.supplier, number),
             Ok(is_there),
@@ -249,6 +315,24 @@ fn lists_answer_each_look_up(rt: HostRuntime) -> Result<(), Fail> {
             "after entry {number} was taken"
         );
     }
+    between_calls(&list);
+    assert_eq!(rt; used_listed(&mut list, &alpha.pallet), true, "used");
+    Ok(())
+}
+
+#[test]
+fn rows_under_keys_that_are_there_are_left_out(rt: HostRuntime) -> Result<(), Fail> {
+    let alpha = ids_of(ALPHA)?;
+    let mut store = VecStore::new(rt.alloc());
+    for round in ["new", "there"] {
+        for changes in [ordered(rt.alloc(), alpha)?, despatched(rt.alloc(), alpha)?] {
+            assert_eq!(rt; commit(&mut store, changes.as_slice()), Ok(()), "{round}");
+        }
+        assert_eq!(rt; look_ups(&mut store, alpha), Ok(ALL), "{round}");
+    }
+    let none = [Change::SetLine(line(rt.alloc(), alpha, 3, 0)?)];
+    assert_eq!(rt; commit(&mut store, &none), Ok(()), "no such line");
+    assert_eq!(rt; look_ups(&mut store, alpha), Ok(ALL), "no such line");
     Ok(())
 }
 
@@ -274,6 +358,16 @@ fn a_store_that_fails_keeps_its_rows(rt: HostRuntime) -> Result<(), Fail> {
             let found = store.order_known(&alpha.supplier, ORDER);
             assert_eq!(rt; found, known, "{what}: {look_up} look-up");
         }
+        let lasting = if fault == disk {
+            Some(LastingFault::Disk)
+        } else {
+            None
+        };
+        assert_eq!(rt; store.fault(), lasting, "{what}: for good");
+        let mut outer = TrialStore::failing(store, 0, memory);
+        let found = outer.order_known(&alpha.supplier, ORDER);
+        let first = if fault == disk { disk } else { memory };
+        assert_eq!(rt; found, Err(first), "{what}: round it");
     }
     Ok(())
 }

@@ -1,9 +1,9 @@
 //! What each call passes before it comes to the store below.
-ghost use Rattle.std.specs.Prelude.{◌≡◌, ◌≢◌, false, None, Some, Err, IfOk, OnOk, IfErr};
+ghost use Rattle.std.specs.Prelude.{◌≡◌, ◌≢◌, ◌+◌, ◌-◌, ◌^◌, min, false, None, Err, OnOk};
 ghost use Rattle.hub_store.specs.Calls.{Fails, broken_by, broken_after};
 ghost use Rattle.hub_store.specs.declared.fault.StoreFault.TheVariants.{Unclean, Version};
 
-use hub_store::StoreFault;
+use hub_store::{LastingFault, StoreFault};
 
 /// A call that fails, after so many others.
 #[derive(Clone, Copy, Debug)]
@@ -19,8 +19,7 @@ pub(crate) struct Gate {
     pub(crate) look_ups: u64,
     pub(crate) commits: u64,
     pub(crate) stop: Option<Stop>,
-    pub(crate) broken: Option<StoreFault>,
-    ghost opened: { broken ≢ Some Version },
+    pub(crate) broken: Option<LastingFault>,
 }
 
 impl Gate {
@@ -29,6 +28,8 @@ impl Gate {
         ensures open { OnOk result ((self.old.broken ≡ None) × (self.new.broken ≡ None)) }
         ensures fails { Fails false self.old.broken self.new.broken result }
         ensures clean { self.old.broken ≡ None → result ≢ Err Unclean }
+        ensures look_ups { self.new.look_ups ≡ min (self.old.look_ups + 1) (2 ^ 64 - 1) }
+        ensures commits { self.new.commits ≡ self.old.commits }
     {
         self.look_ups = self.look_ups.saturating_add(1);
         self.pass()
@@ -39,6 +40,8 @@ impl Gate {
         ensures open { OnOk result ((self.old.broken ≡ None) × (self.new.broken ≡ None)) }
         ensures fails { Fails false self.old.broken self.new.broken result }
         ensures clean { self.old.broken ≡ None → result ≢ Err Unclean }
+        ensures look_ups { self.new.look_ups ≡ self.old.look_ups }
+        ensures commits { self.new.commits ≡ min (self.old.commits + 1) (2 ^ 64 - 1) }
     {
         self.commits = self.commits.saturating_add(1);
         self.pass()
@@ -49,9 +52,13 @@ impl Gate {
         ensures open { OnOk result ((self.old.broken ≡ None) × (self.new.broken ≡ None)) }
         ensures fails { Fails false self.old.broken self.new.broken result }
         ensures clean { self.old.broken ≡ None → result ≢ Err Unclean }
+        ensures look_ups { self.new.look_ups ≡ self.old.look_ups }
+        ensures commits { self.new.commits ≡ self.old.commits }
     {
-        if let Some(fault) = self.broken {
-            return Err(fault);
+        match self.broken {
+            Some(LastingFault::Disk) => return Err(StoreFault::Disk),
+            Some(LastingFault::Unclean) => return Err(StoreFault::Unclean),
+            None => {}
         }
         match self.stop {
             None => Ok(()),
@@ -72,21 +79,22 @@ impl Gate {
 
     /// Keeps a fault that is for good.
     pub(crate) fn note(&mut self, fault: StoreFault)
-        requires { fault ≢ Version }
-        ensures { self.new.broken ≡ broken_by self.old.broken fault }
+        ensures broken { self.new.broken ≡ broken_by self.old.broken fault }
+        ensures look_ups { self.new.look_ups ≡ self.old.look_ups }
+        ensures commits { self.new.commits ≡ self.old.commits }
     {
         match fault {
-            StoreFault::Memory => {}
-            StoreFault::Disk | StoreFault::Unclean | StoreFault::Version => {
-                self.broken = Some(fault);
-            }
+            StoreFault::Disk => self.broken = Some(LastingFault::Disk),
+            StoreFault::Unclean => self.broken = Some(LastingFault::Unclean),
+            StoreFault::Memory | StoreFault::Version => {}
         }
     }
 
     /// Keeps the fault of a call of the store below, where that is for good.
     pub(crate) fn seen<X>(&mut self, found: &Result<X, StoreFault>)
-        requires { IfErr found.now (λ fault. fault ≢ Version) }
-        ensures { self.new.broken ≡ broken_after self.old.broken found.now }
+        ensures broken { self.new.broken ≡ broken_after self.old.broken found.now }
+        ensures look_ups { self.new.look_ups ≡ self.old.look_ups }
+        ensures commits { self.new.commits ≡ self.old.commits }
     {
         if let Err(fault) = found {
             self.note(*fault);

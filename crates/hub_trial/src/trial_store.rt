@@ -1,16 +1,17 @@
 //! A store that counts the calls of another one, and fails at one of them.
-ghost use Rattle.std.specs.Prelude.{◌≡◌, ◌≢◌, None};
+ghost use Rattle.std.specs.Prelude.{◌≡◌, ◌≢◌};
 ghost use Rattle.hub_store.specs.declared.fault.StoreFault.TheVariants.{Unclean, Version};
 
 use crate::gate::{Gate, Stop};
 use edi_base::Items;
 use gs1_ids::{Gln, Sscc};
-use hub_store::{Store, StoreFault};
+use hub_store::{LastingFault, Store, StoreFault};
 use hub_tables::{Change, ContentRow, LineRow, MailRow, PalletRow, ReceiptRow, Side};
 use std::marker::Model;
 
 /// A store that counts the calls of another one, and that can fail at one of them. Contracts see it as the store
-/// below and the fault that each call answers from now on.
+/// below, the fault that each call answers from now on, and how many look-ups and commits there were. Of the calls
+/// of a store, `fault` alone is not counted.
 #[derive(Drop)]
 pub struct TrialStore<S: Store> {
     store: S,
@@ -18,61 +19,71 @@ pub struct TrialStore<S: Store> {
 }
 
 impl<S: Store> Model for TrialStore<S> {
-    ghost use Rattle.std.specs.Prelude.{◌≡◌, Option, None};
-    ghost use Rattle.hub_store.specs.declared.fault.StoreFault.{StoreFault as Fault};
+    ghost use Rattle.std.specs.Prelude.{◌≡◌, ℕ, Option, None};
+    ghost use Rattle.hub_store.specs.declared.fault.LastingFault.{LastingFault as Lasting};
 
-    ghost Value = { S × Option Fault };
+    ghost Value = { S × Option Lasting × ℕ × ℕ };
 
-    ghost view = { λ trial. (trial.store, trial.gate.broken) };
+    ghost view = { λ trial. (trial.store, trial.gate.broken, trial.gate.look_ups, trial.gate.commits) };
 
     ghost invariant = { λ trial. trial.gate.broken ≡ None → S.broken trial.store ≡ None };
 }
 
 impl<S: Store> TrialStore<S> {
-    /// Counts the calls of a store.
+    /// Counts the calls of a store. Where that is broken, so is this one.
     pub fn new(store: S) -> Self
-        requires { S.broken store ≡ None }
         ensures store { result.0 ≡ store }
-        ensures broken { result.1 ≡ None }
+        ensures broken { result.1 ≡ S.broken store }
+        ensures look_ups { result.2 ≡ 0 }
+        ensures commits { result.3 ≡ 0 }
     {
-        TrialStore {
-            store,
-            gate: Gate {
-                look_ups: 0,
-                commits: 0,
-                stop: None,
-                broken: None,
-            },
-        }
+        Self::with_stop(store, None)
     }
 
     /// Counts the calls of a store, and fails once with `fault`, at the call behind so many others, look-ups and
     /// commits alike. `Unclean` would say something of the rows, and `Version` is a fault of opening.
     pub fn failing(store: S, calls: u64, fault: StoreFault) -> Self
-        requires whole { S.broken store ≡ None }
         requires unclean { fault ≢ Unclean }
         requires version { fault ≢ Version }
         ensures store { result.0 ≡ store }
-        ensures broken { result.1 ≡ None }
+        ensures broken { result.1 ≡ S.broken store }
+        ensures look_ups { result.2 ≡ 0 }
+        ensures commits { result.3 ≡ 0 }
     {
+        Self::with_stop(store, Some(Stop { calls, fault }))
+    }
+
+    // Before any call.
+    fn with_stop(store: S, stop: Option<Stop>) -> Self
+        ensures store { result.0 ≡ store }
+        ensures broken { result.1 ≡ S.broken store }
+        ensures look_ups { result.2 ≡ 0 }
+        ensures commits { result.3 ≡ 0 }
+    {
+        let broken = store.fault();
+        let (look_ups, commits) = (0, 0);
         TrialStore {
             store,
             gate: Gate {
-                look_ups: 0,
-                commits: 0,
-                stop: Some(Stop { calls, fault }),
-                broken: None,
+                look_ups,
+                commits,
+                stop,
+                broken,
             },
         }
     }
 
-    /// How many look-ups there were.
-    pub fn look_ups(&self) -> u64 {
+    /// How many look-ups there were, at most 2^64 - 1.
+    pub fn look_ups(&self) -> u64
+        ensures { result ≡ self.now.2 }
+    {
         self.gate.look_ups
     }
 
-    /// How many commits there were.
-    pub fn commits(&self) -> u64 {
+    /// How many commits there were, at most 2^64 - 1.
+    pub fn commits(&self) -> u64
+        ensures { result ≡ self.now.3 }
+    {
         self.gate.commits
     }
 
@@ -88,6 +99,7 @@ impl<S: Store> TrialStore<S> {
 
 impl<S: Store> Store for TrialStore<S> {
     ghost use Rattle.std.specs.Prelude.{false};
+    ghost use Rattle.std.proofs.lemmas.Bool.{false≢true};
 
     ghost content = { λ trial. S.content trial.0 };
 
@@ -98,6 +110,10 @@ impl<S: Store> Store for TrialStore<S> {
     ghost broken = { λ trial. trial.1 };
 
     ghost plain = { false };
+
+    fn fault(&self) -> Option<LastingFault> {
+        self.gate.broken
+    }
 
     fn remembered(
         &mut self,
@@ -215,4 +231,10 @@ impl<S: Store> Store for TrialStore<S> {
         self.gate.seen(&done);
         done
     }
+
+    ghost there = { λ trial honest. S.there trial.0 honest };
+
+    ghost plainly = { λ is trial. absurd (false≢true is) };
+
+    ghost kept = { λ is trial t _. absurd (false≢true is) };
 }
