@@ -1,0 +1,9 @@
+pub mod Appended
+pub mod CancelTexts
+pub mod Cutting
+pub mod Digits
+pub mod LineTexts
+pub mod Lists
+pub mod NamedLines
+pub mod PalletTexts
+pub mod Tables

@@ -1,0 +1,21 @@
+//! Laws of the body of a cancellation, each the contract of a function without a body.
+ghost use Rattle.std.specs.Prelude.{◌≡◌, ◌↔◌, ℕ, List, Some};
+ghost use Rattle.hub_law.specs.CancelText.{cancel_text};
+ghost use Rattle.hub_rules.specs.declared.cancel.Cancel.{Cancel};
+ghost use Rattle.hub_texts.specs.Cancel.{cancel_of};
+ghost use Rattle.hub_texts.specs.CancelLaw.{Says};
+
+/// A body says a cancellation exactly where it is five lines within their limits that give the cancellation's fields,
+/// the numbers perhaps with leading zeros.
+pub fn cancel_is_five_lines()
+    ensures read { (body : List ℕ) (c : Cancel) → Says body c → cancel_of body ≡ Some c }
+    ensures said { (body : List ℕ) (c : Cancel) → cancel_of body ≡ Some c → Says body c }
+{}
+
+/// The text of a cancellation that some body says is read as that cancellation. So two bodies have the same content
+/// exactly where they say the same.
+pub fn cancel_is_written_back()
+    ensures back { (body : List ℕ) (c : Cancel) → cancel_of body ≡ Some c → cancel_of (cancel_text c) ≡ Some c }
+    ensures content { (first second : List ℕ) (c d : Cancel) → cancel_of first ≡ Some c → cancel_of second ≡ Some d →
+        (cancel_text c ≡ cancel_text d) ↔ (c ≡ d) }
+{}
