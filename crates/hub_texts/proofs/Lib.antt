@@ -6,4 +6,5 @@ pub mod LineTexts
 pub mod Lists
 pub mod NamedLines
 pub mod PalletTexts
+pub mod SeenLines
 pub mod Tables
