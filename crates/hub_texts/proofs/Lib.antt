@@ -2,6 +2,7 @@ pub mod Appended
 pub mod CancelTexts
 pub mod Cutting
 pub mod Digits
+mod Examples
 pub mod LineTexts
 pub mod Lists
 pub mod NamedLines

@@ -177,7 +177,7 @@ sum_without : {X : Type 0} (test : X → Bool) (size : X → ℕ) (row : X) (row
 sum_without test size row rows h = ap (λ v. sum_by size (cond v (row ∷ filter test rows) (filter test rows))) h
 
 -- a table with one content more
-pub content_counted : (lines : List LineRow) (content : ContentRow) (contents : List ContentRow) (receipts : List ReceiptRow) → count_content lines content (table_of lines contents receipts) ≡ table_of lines (content ∷ contents) receipts
+content_counted : (lines : List LineRow) (content : ContentRow) (contents : List ContentRow) (receipts : List ReceiptRow) → count_content lines content (table_of lines contents receipts) ≡ table_of lines (content ∷ contents) receipts
 content_counted lines content contents receipts =
     let x = item_in lines content in
     let old = totals_of lines contents receipts in
@@ -190,7 +190,7 @@ content_counted lines content contents receipts =
     ∙ put_totals x (with_content content (old x)) old new here others keys (order_rises (map (item_in lines) contents ++ map (λ (receipt : ReceiptRow). receipt.gtin) receipts))
 
 -- a table with one receipt more
-pub receipt_counted : (lines : List LineRow) (receipt : ReceiptRow) (receipts : List ReceiptRow) → count_receipt receipt (table_of lines [] receipts) ≡ table_of lines [] (receipt ∷ receipts)
+receipt_counted : (lines : List LineRow) (receipt : ReceiptRow) (receipts : List ReceiptRow) → count_receipt receipt (table_of lines [] receipts) ≡ table_of lines [] (receipt ∷ receipts)
 receipt_counted lines receipt receipts =
     let x = receipt.gtin in
     let old = totals_of lines [] receipts in

@@ -19,7 +19,13 @@ positive most digits = if are_digits 1 most digits && not (number_of digits == 0
 -- to 0x7E, and whose line number and quantity are there
 abbrev pub cancel_with : List ℕ → List ℕ → List ℕ → Option ℕ → Option ℕ → Option Cancel
 cancel_with supplier reference order (Some line) (Some quantity) =
-    if is_gln supplier && (is_reference reference && is_document_number order) then Some (record { supplier = supplier; reference = reference; order = order; line = line; quantity = quantity })
+    if is_gln supplier && (is_reference reference && is_document_number order) then Some (record {
+      supplier = supplier;
+      reference = reference;
+      order = order;
+      line = line;
+      quantity = quantity;
+    })
     else None
 cancel_with supplier reference order _ _ = None
 

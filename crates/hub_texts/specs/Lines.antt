@@ -20,7 +20,8 @@ place_text row =
 -- its quantities, of which the last is despatched
 abbrev pub quantities_text : LineRow → ℕ → List ℕ
 quantities_text row despatched =
-    number_text 9 row.ordered ++ (number_text 9 row.open_qty ++ (number_text 9 row.refused ++ (number_text 9 row.cancelled ++ number_text 9 despatched)))
+    number_text 9 row.ordered ++ (number_text 9 row.open_qty ++ (number_text 9 row.refused
+    ++ (number_text 9 row.cancelled ++ number_text 9 despatched)))
 
 -- the text of a line of which so much is despatched
 abbrev pub text_with : LineRow → ℕ → List ℕ

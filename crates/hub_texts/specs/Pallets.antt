@@ -16,4 +16,5 @@ item_start pallet gtin = codes "P" ++ (0x20 ∷ pallet.sscc ++ (0x20 ∷ gtin ++
 -- what of it is despatched, accepted, returned and destroyed
 abbrev pub totals_text : Totals → List ℕ
 totals_text totals =
-    number_text 14 totals.despatched ++ (number_text 14 totals.accepted ++ (number_text 14 totals.returned ++ number_text 14 totals.destroyed))
+    number_text 14 totals.despatched
+    ++ (number_text 14 totals.accepted ++ (number_text 14 totals.returned ++ number_text 14 totals.destroyed))
