@@ -1,4 +1,5 @@
 pub mod Appended
+pub mod Bounds
 pub mod CancelTexts
 pub mod Cutting
 pub mod Digits

@@ -165,6 +165,10 @@ no_totals lines contents receipts x none =
       destroyed = sum_by (λ (receipt : ReceiptRow). receipt.destroyed) (received i);
     }
 
+-- what a table has of an item
+pub totals_known : (lines : List LineRow) (contents : List ContentRow) (receipts : List ReceiptRow) (x : List ℕ) → totals_at (table_of lines contents receipts) x ≡ totals_of lines contents receipts x
+totals_known lines contents receipts x = found x (totals_of lines contents receipts) (items_of lines contents receipts) (no_totals lines contents receipts x)
+
 -- the sum of what passes with one row more
 sum_with : {X : Type 0} (test : X → Bool) (size : X → ℕ) (row : X) (rows : List X) → test row ≡ true → sum_by size (filter test (row ∷ rows)) ≡ sum_by size (filter test rows) + size row
 sum_with test size row rows h =
@@ -186,7 +190,7 @@ content_counted lines content contents receipts =
     let size = λ (content : ContentRow). content.quantity in
     let here : new x ≡ with_content content (old x) = λ i. record (old x) { despatched = sum_with (λ content. same (item_in lines content) x) size content contents (same_if x x refl) i } in
     let others : (key : List ℕ) → same x key ≡ false → new key ≡ old key = λ key h. λ i. record (old key) { despatched = sum_without (λ content. same (item_in lines content) key) size content contents h i } in
-    ap (λ t. insert_entry bytes_cmp (entries old keys) x (with_content content t)) (found x old keys (no_totals lines contents receipts x))
+    ap (λ t. insert_entry bytes_cmp (entries old keys) x (with_content content t)) (totals_known lines contents receipts x)
     ∙ put_totals x (with_content content (old x)) old new here others keys (order_rises (map (item_in lines) contents ++ map (λ (receipt : ReceiptRow). receipt.gtin) receipts))
 
 -- a table with one receipt more
@@ -208,11 +212,11 @@ receipt_counted lines receipt receipts =
       returned = sum_without (λ (r : ReceiptRow). same r.gtin key) (λ r. r.returned) receipt receipts h i;
       destroyed = sum_without (λ (r : ReceiptRow). same r.gtin key) (λ r. r.destroyed) receipt receipts h i;
     } in
-    ap (λ t. insert_entry bytes_cmp (entries old keys) x (with_receipt receipt t)) (found x old keys (no_totals lines [] receipts x))
+    ap (λ t. insert_entry bytes_cmp (entries old keys) x (with_receipt receipt t)) (totals_known lines [] receipts x)
     ∙ put_totals x (with_receipt receipt (old x)) old new here others keys (order_rises (map (λ (receipt : ReceiptRow). receipt.gtin) receipts))
 
 -- one row more, from the end of the rows
-drop_before : {X : Type 0} (xs : List X) (left : ℕ) (x : X) → 0 < left → left ≤ length xs → x ≡ get_or xs (left - 1) x → drop (left - 1) xs ≡ x ∷ drop left xs
+pub drop_before : {X : Type 0} (xs : List X) (left : ℕ) (x : X) → 0 < left → left ≤ length xs → x ≡ get_or xs (left - 1) x → drop (left - 1) xs ≡ x ∷ drop left xs
 drop_before xs left x some within is =
     let inside : left - 1 < length xs = omega arith in
     let again : left - 1 + 1 ≡ left = omega arith in

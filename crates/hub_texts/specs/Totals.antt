@@ -1,8 +1,9 @@
 -- What is announced and received of the items on a pallet.
-use Rattle.std.specs.Prelude.{ℕ, ◌+◌, List, ◌++◌, map, filter, sum_by}
+use Rattle.std.specs.Prelude.{◌≡◌, ◌⊎◌, ℕ, ◌+◌, ◌^◌, ◌≤◌, true, not, List, ◌++◌, map, filter, sum_by, None}
+use Rattle.std.specs.List.{list_any}
 use Rattle.std.specs.BTreeMap.{insert_entry}
 use Rattle.std.specs.Map.{lookup}
-use Rattle.std.specs.Option.{unwrap_or}
+use Rattle.std.specs.Option.{unwrap_or, is_some}
 use Rattle.std.specs.Ordering.{is_eq}
 use Rattle.hub_tables.specs.Keys.{bytes_cmp}
 use Rattle.hub_tables.specs.Rows.{same}
@@ -11,7 +12,7 @@ use Rattle.hub_tables.specs.declared.rows.LineRow.{LineRow}
 use Rattle.hub_tables.specs.declared.rows.PalletRow.{PalletRow}
 use Rattle.hub_tables.specs.declared.rows.ReceiptRow.{ReceiptRow}
 use Rattle.hub_law.specs.StatusText.{in_digit_order, item_text}
-use Rattle.hub_texts.specs.Items.{item_in}
+use Rattle.hub_texts.specs.Items.{item_among, item_in}
 use Rattle.hub_texts.specs.declared.totals.Totals.{Totals}
 
 abbrev pub Table : Type 0
@@ -46,6 +47,24 @@ count_content lines content table = with_totals table (item_in lines content) (w
 
 abbrev pub count_receipt : ReceiptRow → Table → Table
 count_receipt receipt table = with_totals table receipt.gtin (with_receipt receipt)
+
+-- what is received of an item in all, and by one receipt
+abbrev pub received : Totals → ℕ
+received t = t.accepted + t.returned + t.destroyed
+
+abbrev pub pieces_of : ReceiptRow → ℕ
+pieces_of receipt = receipt.accepted + receipt.returned + receipt.destroyed
+
+-- a content cannot be counted: it names no line, or the sum of its item is past 64 bits
+abbrev pub Uncounted : List LineRow → ContentRow → Table → Type 0
+Uncounted lines content table =
+    (item_among lines content ≡ None) ⊎ (2 ^ 64 ≤ (totals_at table (item_in lines content)).despatched + content.quantity)
+
+-- a content names no line, or the pieces of contents or receipts together are past 64 bits
+abbrev pub IsUnclean : List LineRow → List ContentRow → List ReceiptRow → Type 0
+IsUnclean lines contents receipts =
+    (list_any (λ content. not (is_some (item_among lines content))) contents ≡ true)
+    ⊎ ((2 ^ 64 ≤ sum_by (λ content. content.quantity) contents) ⊎ (2 ^ 64 ≤ sum_by pieces_of receipts))
 
 -- what of an item is despatched by contents
 abbrev pub despatched_by : List LineRow → List ContentRow → List ℕ → ℕ

@@ -10,7 +10,7 @@ use std::alloc::AllocFailed;
 pub enum TextFault {
     /// Out of memory.
     Memory,
-    /// A content names no line, or a sum is past 64 bits.
+    /// A content names no line, or a sum of pieces is past 64 bits.
     Unclean,
 }
 

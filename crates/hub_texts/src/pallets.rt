@@ -1,5 +1,5 @@
 //! The pallets in the status report.
-ghost use Rattle.std.specs.Prelude.{◌≡◌, ◌+◌, ◌++◌, ◌∷◌, [], ℕ, List, IfOk, OnOk};
+ghost use Rattle.std.specs.Prelude.{◌≡◌, ◌+◌, ◌++◌, ◌∷◌, Err, OnOk};
 ghost use Rattle.std.specs.Fmt.{decimal};
 ghost use Rattle.std.specs.List.{flat_map};
 ghost use Rattle.hub_tables.specs.Sets.{Rises};
@@ -9,12 +9,13 @@ ghost use Rattle.hub_law.specs.StatusText as law;
 ghost use Rattle.hub_law.specs.Widths.{right};
 ghost use Rattle.hub_texts.specs.Items.{place_cmp};
 ghost use Rattle.hub_texts.specs.Pallets as spec;
-ghost use Rattle.hub_texts.specs.Totals.{entry_text};
+ghost use Rattle.hub_texts.specs.Totals.{entry_text, IsUnclean};
+ghost use Rattle.hub_texts.specs.declared.fault.TextFault.TheVariants.{Unclean};
 ghost use Rattle.hub_texts.specs.declared.totals.Totals.{Totals};
 
 use crate::fault::TextFault;
 use crate::fields::{put_blanks, put_end, put_next, put_number};
-use crate::totals::{ItemTotals, Totals, item_totals, sum_of};
+use crate::totals::{ItemTotals, Totals, item_totals};
 use edi_base::MemoryFault;
 use gs1_ids::Gtin;
 use hub_tables::{Arrival, ContentRow, LineRow, PalletRow, ReceiptRow};
@@ -36,7 +37,7 @@ fn letter_of(pallet: &PalletRow) -> &'static str
 }
 
 // Appends a number with its sign at the right of 15 places, behind a field.
-fn put_signed(out: &mut Vec<u8>, sign: u8, number: u64) -> Result<(), MemoryFault>
+fn put_signed(out: &mut Vec<u8>, sign: u8, number: u128) -> Result<(), MemoryFault>
     ensures { OnOk result (out.new.items ≡ out.old.items ++ 0x20 ∷ right 15 (sign ∷ decimal number)) }
 {
     let mut digits = Buffer::new();
@@ -52,8 +53,8 @@ fn put_signed(out: &mut Vec<u8>, sign: u8, number: u64) -> Result<(), MemoryFaul
 fn put_difference(
     out: &mut Vec<u8>,
     pallet: &PalletRow,
-    received: u64,
-    despatched: u64,
+    received: u128,
+    despatched: u128,
 ) -> Result<(), MemoryFault>
     ensures { OnOk result (out.new.items ≡ out.old.items ++ 0x20 ∷ right 15 (law.difference pallet.now received despatched)) }
 {
@@ -89,11 +90,10 @@ fn put_totals(out: &mut Vec<u8>, totals: &Totals) -> Result<(), MemoryFault>
 }
 
 // What is received of an item in all.
-fn received(totals: &Totals) -> Result<u64, TextFault>
-    ensures { IfOk result (λ sum. sum ≡ totals.now.accepted + totals.now.returned + totals.now.destroyed) }
+fn received(totals: &Totals) -> u128
+    ensures { result ≡ totals.now.accepted + totals.now.returned + totals.now.destroyed }
 {
-    let kept = sum_of(totals.accepted, totals.returned)?;
-    sum_of(kept, totals.destroyed)
+    totals.accepted as u128 + totals.returned as u128 + totals.destroyed as u128
 }
 
 // Appends the line of an item.
@@ -102,19 +102,18 @@ fn put_item(
     pallet: &PalletRow,
     gtin: &Gtin,
     totals: &Totals,
-) -> Result<(), TextFault>
+) -> Result<(), MemoryFault>
     ensures { OnOk result (out.new.items ≡ out.old.items ++ entry_text pallet.now (gtin.now, totals.now)) }
 {
-    let received = received(totals)?;
     put_item_start(out, pallet, gtin)?;
     put_totals(out, totals)?;
-    put_difference(out, pallet, received, totals.despatched)?;
+    put_difference(out, pallet, received(totals), totals.despatched as u128)?;
     put_end(out)?;
     Ok(())
 }
 
 // Appends the lines of items.
-fn put_items(out: &mut Vec<u8>, pallet: &PalletRow, items: &ItemTotals) -> Result<(), TextFault>
+fn put_items(out: &mut Vec<u8>, pallet: &PalletRow, items: &ItemTotals) -> Result<(), MemoryFault>
     ensures { OnOk result (out.new.items ≡ out.old.items ++ flat_map (entry_text pallet.now) items.now.entries) }
 {
     for (gtin, totals) in items {
@@ -124,7 +123,7 @@ fn put_items(out: &mut Vec<u8>, pallet: &PalletRow, items: &ItemTotals) -> Resul
 }
 
 /// Appends the lines of the status report for a pallet with its contents and receipts, among all lines of its supplier.
-/// `Unclean` where a content names none of the lines, or a sum is past 64 bits.
+/// `Unclean` where a content names none of the lines, or a sum of pieces is past 64 bits.
 pub fn put_pallet(
     alloc: Global,
     lines: &[LineRow],
@@ -134,9 +133,11 @@ pub fn put_pallet(
     out: &mut Vec<u8>,
 ) -> Result<(), TextFault>
     requires { Rises place_cmp lines.now }
-    ensures { (state : Tables) → state.lines ≡ lines.now → contents_of state pallet.now.sscc ≡ contents.now → receipts_of state pallet.now.sscc ≡ receipts.now →
+    ensures text { (state : Tables) → state.lines ≡ lines.now → contents_of state pallet.now.sscc ≡ contents.now → receipts_of state pallet.now.sscc ≡ receipts.now →
         OnOk result (out.new.items ≡ out.old.items ++ law.pallet_text state pallet.now) }
+    ensures unclean { result ≡ Err Unclean → IsUnclean lines.now contents.now receipts.now }
 {
     let items = item_totals(alloc, lines, contents, receipts)?;
-    put_items(out, pallet, &items)
+    put_items(out, pallet, &items)?;
+    Ok(())
 }

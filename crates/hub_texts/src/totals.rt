@@ -1,11 +1,12 @@
 //! What is announced and received of the items on a pallet.
-ghost use Rattle.std.specs.Prelude.{◌≡◌, ◌+◌, List, [], IfOk, OnOk};
+ghost use Rattle.std.specs.Prelude.{◌≡◌, ◌+◌, ◌^◌, ◌≤◌, List, [], Err, sum_by, IfOk, IfErr, OnOk, OnErr};
 ghost use Rattle.std.specs.BTreeMap.{insert_entry};
 ghost use Rattle.hub_tables.specs.Keys.{bytes_cmp};
 ghost use Rattle.hub_tables.specs.Sets.{Rises};
 ghost use Rattle.hub_tables.specs.declared.rows.LineRow.{LineRow};
 ghost use Rattle.hub_texts.specs.Items.{place_cmp};
 ghost use Rattle.hub_texts.specs.Totals as spec;
+ghost use Rattle.hub_texts.specs.declared.fault.TextFault.TheVariants.{Memory, Unclean};
 
 use crate::fault::TextFault;
 use crate::items::item_of;
@@ -41,9 +42,10 @@ fn totals_of(table: &ItemTotals, gtin: &Gtin) -> Totals
     }
 }
 
-/// A sum, where it fits in 64 bits.
-pub(crate) fn sum_of(first: u64, second: u64) -> Result<u64, TextFault>
-    ensures { IfOk result (λ sum. sum ≡ first + second) }
+// A sum, where it fits in 64 bits.
+fn sum_of(first: u64, second: u64) -> Result<u64, TextFault>
+    ensures ok { IfOk result (λ sum. sum ≡ first + second) }
+    ensures err { OnErr result (2 ^ 64 ≤ first + second) }
 {
     match first.checked_add(second) {
         Some(sum) => Ok(sum),
@@ -53,7 +55,8 @@ pub(crate) fn sum_of(first: u64, second: u64) -> Result<u64, TextFault>
 
 // Totals with one content more.
 fn with_content(totals: Totals, content: &ContentRow) -> Result<Totals, TextFault>
-    ensures { IfOk result (λ more. more ≡ spec.with_content content.now totals) }
+    ensures ok { IfOk result (λ more. more ≡ spec.with_content content.now totals) }
+    ensures err { OnErr result (2 ^ 64 ≤ totals.despatched + content.now.quantity) }
 {
     Ok(Totals {
         despatched: sum_of(totals.despatched, content.quantity as u64)?,
@@ -65,7 +68,8 @@ fn with_content(totals: Totals, content: &ContentRow) -> Result<Totals, TextFaul
 
 // Totals with one receipt more.
 fn with_receipt(totals: Totals, receipt: &ReceiptRow) -> Result<Totals, TextFault>
-    ensures { IfOk result (λ more. more ≡ spec.with_receipt receipt.now totals) }
+    ensures ok { IfOk result (λ more. more ≡ spec.with_receipt receipt.now totals) }
+    ensures err { OnErr result (2 ^ 64 ≤ spec.received totals + spec.pieces_of receipt.now) }
 {
     Ok(Totals {
         despatched: totals.despatched,
@@ -77,7 +81,8 @@ fn with_receipt(totals: Totals, receipt: &ReceiptRow) -> Result<Totals, TextFaul
 
 // Sets the totals of an item.
 fn set_totals(table: &mut ItemTotals, gtin: Gtin, totals: Totals) -> Result<(), TextFault>
-    ensures { OnOk result (table.new.entries ≡ insert_entry bytes_cmp table.old.entries gtin totals) }
+    ensures ok { OnOk result (table.new.entries ≡ insert_entry bytes_cmp table.old.entries gtin totals) }
+    ensures err { IfErr result (λ fault. fault ≡ Memory) }
 {
     table.insert(gtin, totals)?;
     Ok(())
@@ -90,7 +95,8 @@ fn count_content(
     content: &ContentRow,
 ) -> Result<(), TextFault>
     requires { Rises place_cmp lines.now }
-    ensures { OnOk result (table.new.entries ≡ spec.count_content lines.now content.now table.old.entries) }
+    ensures ok { OnOk result (table.new.entries ≡ spec.count_content lines.now content.now table.old.entries) }
+    ensures unclean { result ≡ Err Unclean → spec.Uncounted lines.now content.now table.old.entries }
 {
     let Some(gtin) = item_of(lines, content) else {
         return Err(TextFault::Unclean);
@@ -101,7 +107,8 @@ fn count_content(
 
 // Counts a receipt.
 fn count_receipt(table: &mut ItemTotals, receipt: &ReceiptRow) -> Result<(), TextFault>
-    ensures { OnOk result (table.new.entries ≡ spec.count_receipt receipt.now table.old.entries) }
+    ensures ok { OnOk result (table.new.entries ≡ spec.count_receipt receipt.now table.old.entries) }
+    ensures unclean { result ≡ Err Unclean → 2 ^ 64 ≤ spec.received (spec.totals_at table.old.entries receipt.now.gtin) + spec.pieces_of receipt.now }
 {
     let gtin = receipt.gtin;
     let totals = with_receipt(totals_of(table, &gtin), receipt)?;
@@ -111,7 +118,8 @@ fn count_receipt(table: &mut ItemTotals, receipt: &ReceiptRow) -> Result<(), Tex
 // Counts receipts of a pallet, from the last one on.
 fn count_receipts(table: &mut ItemTotals, receipts: &[ReceiptRow]) -> Result<(), TextFault>
     requires { table.old.entries ≡ [] }
-    ensures { (lines : List LineRow) → OnOk result (table.new.entries ≡ spec.table_of lines [] receipts.now) }
+    ensures ok { (lines : List LineRow) → OnOk result (table.new.entries ≡ spec.table_of lines [] receipts.now) }
+    ensures unclean { result ≡ Err Unclean → 2 ^ 64 ≤ sum_by spec.pieces_of receipts.now }
 {
     let mut left = receipts.len();
     while left > 0 {
@@ -130,7 +138,8 @@ fn count_contents(
 ) -> Result<(), TextFault>
     requires rise { Rises place_cmp lines.now }
     requires receipts { table.old.entries ≡ spec.table_of lines.now [] receipts.now }
-    ensures { OnOk result (table.new.entries ≡ spec.table_of lines.now contents.now receipts.now) }
+    ensures ok { OnOk result (table.new.entries ≡ spec.table_of lines.now contents.now receipts.now) }
+    ensures unclean { result ≡ Err Unclean → spec.IsUnclean lines.now contents.now receipts.now }
 {
     let mut left = contents.len();
     while left > 0 {
@@ -149,7 +158,8 @@ pub(crate) fn item_totals(
     receipts: &[ReceiptRow],
 ) -> Result<ItemTotals, TextFault>
     requires { Rises place_cmp lines.now }
-    ensures { IfOk result (λ table. table.entries ≡ spec.table_of lines.now contents.now receipts.now) }
+    ensures ok { IfOk result (λ table. table.entries ≡ spec.table_of lines.now contents.now receipts.now) }
+    ensures unclean { result ≡ Err Unclean → spec.IsUnclean lines.now contents.now receipts.now }
 {
     let mut table = BTreeMap::new(alloc);
     count_receipts(&mut table, receipts)?;
