@@ -119,7 +119,6 @@ fn put_trailer(out: &mut Vec<u8>, number: &[u8]) -> Result<(), MemoryFault>
 }
 
 /// The text of a mailbox entry: the hub's interchange to its owner, with its moment, number and decimal mark.
-#[tactic(auto, unfolding(hub_law::specs::MailText::mail_text))]
 pub fn entry_text(alloc: Global, hub: &Gln, entry: &MailRow) -> Result<Items<u8>, MemoryFault>
     ensures { IfOk result (λ text. text ≡ spec.mail_text hub.now entry.now) }
 {
