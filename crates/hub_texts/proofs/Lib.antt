@@ -5,7 +5,7 @@ pub mod Cutting
 pub mod Digits
 mod Examples
 pub mod LineTexts
-pub mod Lists
+pub mod MailTexts
 pub mod NamedLines
 pub mod PalletTexts
 pub mod SeenLines

@@ -15,7 +15,7 @@ pub enum Told {
     Repeated,
     /// It is against a rule.
     Refused(Code),
-    /// It is no message of its type.
+    /// The message has a fault.
     Unread(MessageFault),
 }
 

@@ -3,7 +3,7 @@ use Rattle.std.specs.List.{flat_map}
 use Rattle.hub_tables.specs.declared.rows.MailRow.{MailRow}
 use Rattle.hub_law.specs.MailText.{entry_line}
 use Rattle.hub_law.specs.Widths.{line}
-use Rattle.hub_texts.proofs.Lists.{list_of_first}
+use Rattle.hub_texts.proofs.MailTexts.{list_of_first}
 use Rattle.hub_texts.proofs.mail.list_text.Goals as goal
 
 pub returns : goal.returns
