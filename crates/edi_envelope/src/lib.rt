@@ -16,5 +16,5 @@ pub use fault::EnvelopeFault;
 pub use interchange::{Head, Interchange, RawMessage};
 pub use law::lowest_condition;
 pub use mail::{LAST_MAIL_NUMBER, mail_message_text, wrap};
-pub use moment::Moment;
+pub use moment::{Moment, date_digits, time_digits};
 pub use opening::open;

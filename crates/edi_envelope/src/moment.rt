@@ -66,7 +66,7 @@ fn two_digits(number: u16) -> [u8; 2]
 }
 
 /// The date of a moment at UTC, YYMMDD.
-pub(crate) fn date_digits(moment: Moment) -> [u8; 6]
+pub fn date_digits(moment: Moment) -> [u8; 6]
     ensures { result ≡ date_text moment }
 {
     let date = utc(moment).date();
@@ -77,7 +77,7 @@ pub(crate) fn date_digits(moment: Moment) -> [u8; 6]
 }
 
 /// The time of day of a moment at UTC, HHMM.
-pub(crate) fn time_digits(moment: Moment) -> [u8; 4]
+pub fn time_digits(moment: Moment) -> [u8; 4]
     ensures { result ≡ time_text moment }
 {
     let time = utc(moment).time();

@@ -1,0 +1,12 @@
+pub mod Appended
+pub mod Bounds
+pub mod CancelTexts
+pub mod Cutting
+pub mod Digits
+mod Examples
+pub mod LineTexts
+pub mod MailTexts
+pub mod NamedLines
+pub mod PalletTexts
+pub mod SeenLines
+pub mod Tables

@@ -1,0 +1,26 @@
+-- When a body says a cancellation, apart from any way to read it.
+use Rattle.std.specs.Prelude.{◌≡◌, ℕ, true, List, [], ◌∷◌, Some}
+use Rattle.std.specs.List.{flat_map}
+use Rattle.edi_envelope.specs.Limits.{is_reference}
+use Rattle.edi_messages.specs.Values.{is_document_number}
+use Rattle.gs1_ids.specs.Gln.{is_gln}
+use Rattle.hub_law.specs.Widths.{line}
+use Rattle.hub_rules.specs.declared.cancel.Cancel.{Cancel}
+use Rattle.hub_texts.specs.Cancel.{positive}
+
+-- five fields, each a line
+abbrev pub five_lines : List ℕ → List ℕ → List ℕ → List ℕ → List ℕ → List ℕ
+five_lines supplier reference order number quantity =
+    flat_map (λ field. line (field ∷ [])) (supplier ∷ reference ∷ order ∷ number ∷ quantity ∷ [])
+
+-- the body is five lines: the supplier, a GLN; the cancellation's own reference; the order number; and 1 to 6 digits of the
+-- line number and 1 to 9 digits of the quantity, neither of them zero
+pub record Says (body : List ℕ) (c : Cancel) : Type 0 where
+  pub number : List ℕ
+  pub quantity : List ℕ
+  pub lines : body ≡ five_lines c.supplier c.reference c.order number quantity
+  pub supplier : is_gln c.supplier ≡ true
+  pub reference : is_reference c.reference ≡ true
+  pub order : is_document_number c.order ≡ true
+  pub is_line : positive 6 number ≡ Some c.line
+  pub is_quantity : positive 9 quantity ≡ Some c.quantity

@@ -1,0 +1,46 @@
+//! The item that a content of a pallet has.
+ghost use Rattle.std.specs.Prelude.{◌≡◌, ◌==◌, ◌&&◌};
+ghost use Rattle.std.specs.List.{prefix_len};
+ghost use Rattle.hub_tables.specs.Rows.{same};
+ghost use Rattle.hub_tables.specs.Sets.{Rises};
+ghost use Rattle.hub_texts.specs.Items as spec;
+
+use gs1_ids::Gtin;
+use hub_tables::{ContentRow, LineRow};
+
+// Whether a line is below the one that a content names.
+fn is_below(row: &LineRow, content: &ContentRow) -> bool
+    ensures { result ≡ spec.is_below content.now row.now }
+{
+    row.number
+        .as_slice()
+        .cmp(content.number.as_slice())
+        .then(row.line.cmp(&content.line))
+        .is_lt()
+}
+
+// How many lines are below the one that a content names.
+fn count_below(lines: &[LineRow], content: &ContentRow) -> usize
+    requires { Rises spec.place_cmp lines.now }
+    ensures { result ≡ prefix_len (spec.is_below content.now) lines.now }
+{
+    lines.partition_point(|row| is_below(row, content))
+}
+
+// Whether a line is the one that a content names.
+fn is_named(row: &LineRow, content: &ContentRow) -> bool
+    ensures { result ≡ (same row.now.number content.now.number && (row.now.line == content.now.line)) }
+{
+    row.number.as_slice() == content.number.as_slice() && row.line == content.line
+}
+
+/// The item of the line that a content names.
+pub(crate) fn item_of(lines: &[LineRow], content: &ContentRow) -> Option<Gtin>
+    requires { Rises spec.place_cmp lines.now }
+    ensures { result ≡ spec.item_among lines.now content.now }
+{
+    match lines.get(count_below(lines, content)) {
+        Some(row) if is_named(row, content) => Some(row.gtin),
+        _ => None,
+    }
+}

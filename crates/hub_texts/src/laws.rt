@@ -1,0 +1,37 @@
+//! Laws of the body of a cancellation, and of the lines in a status report, each the contract of a function without a
+//! body.
+ghost use Rattle.std.specs.Prelude.{◌≡◌, ◌↔◌, ℕ, List, Some};
+ghost use Rattle.std.specs.List.{AllByRecursion};
+ghost use Rattle.hub_parties.specs.declared.row.SupplierRow.{SupplierRow};
+ghost use Rattle.hub_tables.specs.Sets.{Rises};
+ghost use Rattle.hub_tables.specs.Tables.{Tables, view};
+ghost use Rattle.hub_rules.specs.Sound.{Balanced, Sound};
+ghost use Rattle.hub_law.specs.CancelText.{cancel_text};
+ghost use Rattle.hub_rules.specs.declared.cancel.Cancel.{Cancel};
+ghost use Rattle.hub_texts.specs.Cancel.{cancel_of};
+ghost use Rattle.hub_texts.specs.CancelLaw.{Says};
+ghost use Rattle.hub_texts.specs.Items.{place_cmp};
+
+/// A body says a cancellation exactly where it is five lines within their limits that give the cancellation's fields,
+/// the numbers perhaps with leading zeros.
+pub fn cancel_is_five_lines()
+    ensures read { (body : List ℕ) (c : Cancel) → Says body c → cancel_of body ≡ Some c }
+    ensures said { (body : List ℕ) (c : Cancel) → cancel_of body ≡ Some c → Says body c }
+{}
+
+/// The text of a cancellation that some body says is read as that cancellation. So two bodies have the same content
+/// exactly where they say the same.
+pub fn cancel_is_written_back()
+    ensures back { (body : List ℕ) (c : Cancel) → cancel_of body ≡ Some c → cancel_of (cancel_text c) ≡ Some c }
+    ensures content { (first second : List ℕ) (c d : Cancel) → cancel_of first ≡ Some c → cancel_of second ≡ Some d →
+        (cancel_text c ≡ cancel_text d) ↔ (c ≡ d) }
+{}
+
+/// What `put_lines` and `put_pallet` ask of lines is there: of sound tables, the lines that a supplier sees rise by order
+/// number and line number, and each is balanced.
+pub fn status_is_given_what_it_asks()
+    ensures rise { (suppliers : List SupplierRow) (gln : List ℕ) (t : Tables) →
+        Sound suppliers t → Rises place_cmp (view gln t).lines }
+    ensures balanced { (suppliers : List SupplierRow) (gln : List ℕ) (t : Tables) →
+        Sound suppliers t → AllByRecursion (Balanced (view gln t)) (view gln t).lines }
+{}

@@ -1,0 +1,24 @@
+//! The texts of a hub's replies, from rows and records: lines of replies, mailbox entries and lists of them, the status report,
+//! and cancellations, which are read here too.
+#![tactic(auto)]
+
+mod cancel;
+mod fault;
+mod fields;
+mod items;
+mod laws;
+mod lines;
+mod mail;
+mod pallets;
+mod replies;
+mod told;
+mod totals;
+
+pub use cancel::{cancel_text, read_cancel};
+pub use fault::TextFault;
+pub use laws::{cancel_is_five_lines, cancel_is_written_back, status_is_given_what_it_asks};
+pub use lines::put_lines;
+pub use mail::{entry_text, list_text};
+pub use pallets::put_pallet;
+pub use replies::{interchange_line, message_line, refused_line, told_line};
+pub use told::Told;

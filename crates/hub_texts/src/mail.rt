@@ -1,0 +1,135 @@
+//! Mailbox entries, and lists of them.
+ghost use Rattle.std.specs.Prelude.{◌≡◌, ◌++◌, List, codes, length, nat_lt, take, if◌then◌else◌, IfOk, OnOk};
+ghost use Rattle.std.specs.List.{flat_map};
+ghost use Rattle.edi_envelope.specs.Moment.{date_text, time_text};
+ghost use Rattle.hub_tables.specs.declared.rows.MailRow.{MailRow};
+ghost use Rattle.hub_law.specs.MailText as spec;
+
+use crate::fields::{put_end, put_first_number, put_line, put_next};
+use edi_base::{Items, MemoryFault};
+use edi_envelope::{Moment, date_digits, time_digits};
+use edi_tokens::service_string;
+use gs1_ids::Gln;
+use hub_tables::{MailKind, MailRow};
+use itoa::Buffer;
+use std::alloc::Global;
+
+/// How many entries a list has at most.
+const LISTED: usize = 100;
+
+/// How many bytes of an entry stand round its message at most: the service string, UNB and UNZ.
+const FRAME: usize = 114;
+
+// The type of an entry's message.
+fn type_of(entry: &MailRow) -> &'static str
+    ensures { result.now ≡ spec.type_of entry.now.kind }
+{
+    match entry.kind.case() {
+        MailKind::Orders => "ORDERS",
+        MailKind::Receipt => "RECADV",
+    }
+}
+
+// Appends the line of an entry.
+fn put_entry(out: &mut Vec<u8>, entry: &MailRow) -> Result<(), MemoryFault>
+    ensures { OnOk result (out.new.items ≡ out.old.items ++ spec.entry_line entry.now) }
+{
+    put_first_number(out, 14, entry.number)?;
+    put_next(out, type_of(entry).as_bytes())?;
+    put_next(out, entry.document.as_slice())?;
+    put_end(out)?;
+    Ok(())
+}
+
+// Appends the lines of entries.
+fn put_entries(out: &mut Vec<u8>, entries: &[MailRow]) -> Result<(), MemoryFault>
+    ensures { OnOk result (out.new.items ≡ out.old.items ++ flat_map spec.entry_line entries.now) }
+{
+    for entry in entries {
+        put_entry(out, entry)?;
+    }
+    Ok(())
+}
+
+// The entries that a list has.
+fn listed(entries: &[MailRow]) -> &[MailRow]
+    ensures { result.now ≡ take 100 entries.now }
+{
+    if entries.len() > LISTED {
+        &entries[..LISTED]
+    } else {
+        entries
+    }
+}
+
+// The word that ends a list.
+fn last_word(entries: &[MailRow]) -> &'static str
+    ensures { result.now ≡ (if nat_lt 100 (length entries.now) then codes "more" else codes "end") }
+{
+    if entries.len() > LISTED {
+        "more"
+    } else {
+        "end"
+    }
+}
+
+/// The list of the entries of a mailbox that are not taken, by the first 101 of them.
+pub fn list_text(alloc: Global, entries: &[MailRow]) -> Result<Items<u8>, MemoryFault>
+    ensures { IfOk result (λ text. (all : List MailRow) → take 101 all ≡ entries.now → text ≡ spec.list_text all) }
+{
+    let mut out = Vec::new(alloc);
+    put_entries(&mut out, listed(entries))?;
+    put_line(&mut out, last_word(entries).as_bytes())?;
+    Ok(Items::from_vec(out))
+}
+
+// Appends the beginning of UNB, up to the owner.
+fn put_partners(out: &mut Vec<u8>, hub: &Gln, owner: &Gln) -> Result<(), MemoryFault>
+    ensures { OnOk result (out.new.items ≡ out.old.items ++ (codes "UNB+UNOC:3+" ++ hub.now ++ codes ":14+" ++ owner.now ++ codes ":14+")) }
+{
+    out.extend_from_slice(b"UNB+UNOC:3+")?;
+    out.extend_from_slice(hub.digits())?;
+    out.extend_from_slice(b":14+")?;
+    out.extend_from_slice(owner.digits())?;
+    out.extend_from_slice(b":14+")?;
+    Ok(())
+}
+
+// Appends the rest of UNB, from the date on.
+fn put_date(out: &mut Vec<u8>, moment: Moment, number: &[u8]) -> Result<(), MemoryFault>
+    ensures { OnOk result (out.new.items ≡ out.old.items ++ (date_text moment ++ codes ":" ++ time_text moment ++ codes "+" ++ number.now ++ codes "'")) }
+{
+    out.extend_from_slice(&date_digits(moment))?;
+    out.extend_from_slice(b":")?;
+    out.extend_from_slice(&time_digits(moment))?;
+    out.extend_from_slice(b"+")?;
+    out.extend_from_slice(number)?;
+    out.extend_from_slice(b"'")?;
+    Ok(())
+}
+
+// Appends UNZ.
+fn put_trailer(out: &mut Vec<u8>, number: &[u8]) -> Result<(), MemoryFault>
+    ensures { OnOk result (out.new.items ≡ out.old.items ++ (codes "UNZ+1+" ++ number.now ++ codes "'")) }
+{
+    out.extend_from_slice(b"UNZ+1+")?;
+    out.extend_from_slice(number)?;
+    out.extend_from_slice(b"'")?;
+    Ok(())
+}
+
+/// The text of a mailbox entry: the hub's interchange to its owner, with its moment, number and decimal mark.
+pub fn entry_text(alloc: Global, hub: &Gln, entry: &MailRow) -> Result<Items<u8>, MemoryFault>
+    ensures { IfOk result (λ text. text ≡ spec.mail_text hub.now entry.now) }
+{
+    let body = entry.body.as_slice();
+    let mut digits = Buffer::new();
+    let number = digits.format(entry.number).as_bytes();
+    let mut out = Vec::with_capacity(alloc, body.len().saturating_add(FRAME))?;
+    out.extend_from_slice(&service_string(entry.decimal))?;
+    put_partners(&mut out, hub, &entry.supplier)?;
+    put_date(&mut out, entry.moment, number)?;
+    out.extend_from_slice(body)?;
+    put_trailer(&mut out, number)?;
+    Ok(Items::from_vec(out))
+}

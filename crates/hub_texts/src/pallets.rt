@@ -1,0 +1,143 @@
+//! The pallets in the status report.
+ghost use Rattle.std.specs.Prelude.{◌≡◌, ◌+◌, ◌++◌, ◌∷◌, Err, OnOk};
+ghost use Rattle.std.specs.Fmt.{decimal};
+ghost use Rattle.std.specs.List.{flat_map};
+ghost use Rattle.hub_tables.specs.Sets.{Rises};
+ghost use Rattle.hub_tables.specs.State.{contents_of, receipts_of};
+ghost use Rattle.hub_tables.specs.Tables.{Tables};
+ghost use Rattle.hub_law.specs.StatusText as law;
+ghost use Rattle.hub_law.specs.Widths.{right};
+ghost use Rattle.hub_texts.specs.Items.{place_cmp};
+ghost use Rattle.hub_texts.specs.Pallets as spec;
+ghost use Rattle.hub_texts.specs.Totals.{entry_text, IsUnclean};
+ghost use Rattle.hub_texts.specs.declared.fault.TextFault.TheVariants.{Unclean};
+ghost use Rattle.hub_texts.specs.declared.totals.Totals.{Totals};
+
+use crate::fault::TextFault;
+use crate::fields::{put_blanks, put_end, put_next, put_number};
+use crate::totals::{ItemTotals, Totals, item_totals};
+use edi_base::MemoryFault;
+use gs1_ids::Gtin;
+use hub_tables::{Arrival, ContentRow, LineRow, PalletRow, ReceiptRow};
+use itoa::Buffer;
+use std::alloc::Global;
+
+// Whether a pallet is announced.
+fn is_announced(pallet: &PalletRow) -> bool
+    ensures { result ≡ law.is_announced pallet.now }
+{
+    pallet.received.case() == Arrival::Announced
+}
+
+// The letter of a pallet's arrival.
+fn letter_of(pallet: &PalletRow) -> &'static str
+    ensures { result.now ≡ spec.letter_of pallet.now }
+{
+    if is_announced(pallet) { "A" } else { "R" }
+}
+
+// Appends a number with its sign at the right of 15 places, behind a field.
+fn put_signed(out: &mut Vec<u8>, sign: u8, number: u128) -> Result<(), MemoryFault>
+    ensures { OnOk result (out.new.items ≡ out.old.items ++ 0x20 ∷ right 15 (sign ∷ decimal number)) }
+{
+    let mut digits = Buffer::new();
+    let text = digits.format(number).as_bytes();
+    out.push(b' ')?;
+    put_blanks(out, 15usize.saturating_sub(text.len() + 1))?;
+    out.push(sign)?;
+    out.extend_from_slice(text)?;
+    Ok(())
+}
+
+// Appends the difference of what is received and what is despatched.
+fn put_difference(
+    out: &mut Vec<u8>,
+    pallet: &PalletRow,
+    received: u128,
+    despatched: u128,
+) -> Result<(), MemoryFault>
+    ensures { OnOk result (out.new.items ≡ out.old.items ++ 0x20 ∷ right 15 (law.difference pallet.now received despatched)) }
+{
+    if is_announced(pallet) {
+        put_signed(out, b'+', 0)
+    } else if despatched <= received {
+        put_signed(out, b'+', received - despatched)
+    } else {
+        put_signed(out, b'-', despatched - received)
+    }
+}
+
+// Appends the beginning of an item's line, up to the arrival.
+fn put_item_start(out: &mut Vec<u8>, pallet: &PalletRow, gtin: &Gtin) -> Result<(), MemoryFault>
+    ensures { OnOk result (out.new.items ≡ out.old.items ++ spec.item_start pallet.now gtin.now) }
+{
+    out.push(b'P')?;
+    put_next(out, pallet.sscc.digits())?;
+    put_next(out, gtin.digits())?;
+    put_next(out, letter_of(pallet).as_bytes())?;
+    Ok(())
+}
+
+// Appends the totals of an item's line.
+fn put_totals(out: &mut Vec<u8>, totals: &Totals) -> Result<(), MemoryFault>
+    ensures { OnOk result (out.new.items ≡ out.old.items ++ spec.totals_text totals.now) }
+{
+    put_number(out, 14, totals.despatched)?;
+    put_number(out, 14, totals.accepted)?;
+    put_number(out, 14, totals.returned)?;
+    put_number(out, 14, totals.destroyed)?;
+    Ok(())
+}
+
+// What is received of an item in all.
+fn received(totals: &Totals) -> u128
+    ensures { result ≡ totals.now.accepted + totals.now.returned + totals.now.destroyed }
+{
+    totals.accepted as u128 + totals.returned as u128 + totals.destroyed as u128
+}
+
+// Appends the line of an item.
+fn put_item(
+    out: &mut Vec<u8>,
+    pallet: &PalletRow,
+    gtin: &Gtin,
+    totals: &Totals,
+) -> Result<(), MemoryFault>
+    ensures { OnOk result (out.new.items ≡ out.old.items ++ entry_text pallet.now (gtin.now, totals.now)) }
+{
+    put_item_start(out, pallet, gtin)?;
+    put_totals(out, totals)?;
+    put_difference(out, pallet, received(totals), totals.despatched as u128)?;
+    put_end(out)?;
+    Ok(())
+}
+
+// Appends the lines of items.
+fn put_items(out: &mut Vec<u8>, pallet: &PalletRow, items: &ItemTotals) -> Result<(), MemoryFault>
+    ensures { OnOk result (out.new.items ≡ out.old.items ++ flat_map (entry_text pallet.now) items.now.entries) }
+{
+    for (gtin, totals) in items {
+        put_item(out, pallet, gtin, totals)?;
+    }
+    Ok(())
+}
+
+/// Appends the lines of the status report for a pallet with its contents and receipts, among all lines of its supplier.
+/// `Unclean` where a content names none of the lines, or a sum of pieces is past 64 bits.
+pub fn put_pallet(
+    alloc: Global,
+    lines: &[LineRow],
+    pallet: &PalletRow,
+    contents: &[ContentRow],
+    receipts: &[ReceiptRow],
+    out: &mut Vec<u8>,
+) -> Result<(), TextFault>
+    requires { Rises place_cmp lines.now }
+    ensures text { (state : Tables) → state.lines ≡ lines.now → contents_of state pallet.now.sscc ≡ contents.now → receipts_of state pallet.now.sscc ≡ receipts.now →
+        OnOk result (out.new.items ≡ out.old.items ++ law.pallet_text state pallet.now) }
+    ensures unclean { result ≡ Err Unclean → IsUnclean lines.now contents.now receipts.now }
+{
+    let items = item_totals(alloc, lines, contents, receipts)?;
+    put_items(out, pallet, &items)?;
+    Ok(())
+}

@@ -1,0 +1,78 @@
+//! The lines of replies to uploads and cancellations.
+ghost use Rattle.std.specs.Prelude.{◌≡◌, ◌++◌, ◌∷◌, [], codes, IfOk, OnOk};
+ghost use Rattle.hub_law.specs.Replies as spec;
+ghost use Rattle.hub_law.specs.Replies.{told_words};
+ghost use Rattle.hub_law.specs.Widths.{line};
+ghost use Rattle.hub_texts.specs.Told.{told_of};
+
+use crate::fields::{put_end, put_line, put_next};
+use crate::told::Told;
+use edi_base::{Items, MemoryFault};
+use edi_envelope::{Interchange, RawMessage};
+use itoa::Buffer;
+use std::alloc::Global;
+
+// Appends the line that tells a refusal with its code.
+fn put_refused(out: &mut Vec<u8>, code: &str) -> Result<(), MemoryFault>
+    ensures { OnOk result (out.new.items ≡ out.old.items ++ line (codes "refused" ∷ code.now ∷ [])) }
+{
+    out.extend_from_slice(b"refused")?;
+    put_next(out, code.as_bytes())?;
+    put_end(out)?;
+    Ok(())
+}
+
+// Appends the line of what is told.
+fn put_told(out: &mut Vec<u8>, told: Told) -> Result<(), MemoryFault>
+    ensures { OnOk result (out.new.items ≡ out.old.items ++ line (told_words (told_of told))) }
+{
+    match told {
+        Told::Accepted => put_line(out, b"accepted"),
+        Told::Repeated => put_line(out, b"repeated"),
+        Told::Refused(code) => put_refused(out, code.code()),
+        Told::Unread(fault) => put_refused(out, fault.code()),
+    }
+}
+
+/// The first line of the reply to an upload: the reference of its interchange, and how many messages it has.
+pub fn interchange_line(alloc: Global, interchange: &Interchange) -> Result<Vec<u8>, MemoryFault>
+    ensures { IfOk result (λ text. text.items ≡ spec.interchange_line interchange.now) }
+{
+    let mut digits = Buffer::new();
+    let count = digits.format(interchange.messages.len());
+    let mut out = Vec::from_slice(alloc, b"interchange")?;
+    put_next(&mut out, interchange.head.reference.as_slice())?;
+    put_next(&mut out, b"messages")?;
+    put_next(&mut out, count.as_bytes())?;
+    put_end(&mut out)?;
+    Ok(out)
+}
+
+/// The line of a message in the reply to its upload: its reference, its type, and what is told of it.
+pub fn message_line(alloc: Global, message: &RawMessage, told: Told) -> Result<Vec<u8>, MemoryFault>
+    ensures { IfOk result (λ text. text.items ≡ line (message.now.reference ∷ message.now.kind ∷ told_words (told_of told))) }
+{
+    let mut out = Vec::from_slice(alloc, message.reference.as_slice())?;
+    put_next(&mut out, message.kind.as_slice())?;
+    out.push(b' ')?;
+    put_told(&mut out, told)?;
+    Ok(out)
+}
+
+/// The line that tells what becomes of a cancellation.
+pub fn told_line(alloc: Global, told: Told) -> Result<Items<u8>, MemoryFault>
+    ensures { IfOk result (λ text. text ≡ line (told_words (told_of told))) }
+{
+    let mut text = Vec::new(alloc);
+    put_told(&mut text, told)?;
+    Ok(Items::from_vec(text))
+}
+
+/// The line that tells a refusal with its code.
+pub fn refused_line(alloc: Global, code: &str) -> Result<Items<u8>, MemoryFault>
+    ensures { IfOk result (λ text. text ≡ line (codes "refused" ∷ code.now ∷ [])) }
+{
+    let mut out = Vec::new(alloc);
+    put_refused(&mut out, code)?;
+    Ok(Items::from_vec(out))
+}
