@@ -3,8 +3,9 @@ ghost use Rattle.std.specs.Prelude.{◌≡◌, ◌≤◌, ℕ, Bool, List, false
 ghost use Rattle.std.specs.Option.{IfSome, IfNone};
 ghost use Rattle.edi_base.specs.Seen.{has_twice};
 ghost use Rattle.gs1_ids.specs.Sscc.{under_some};
+ghost use Rattle.hub_tables.specs.Sets.{Rises};
 ghost use Rattle.hub_tables.specs.Tables.{Tables};
-ghost use Rattle.hub_lines.specs.Book.{Rise};
+ghost use Rattle.hub_lines.specs.Book.{facts_cmp};
 ghost use Rattle.hub_lines.specs.declared.facts.LineFacts.{LineFacts};
 ghost use Rattle.hub_rules.specs.Judging.{joined};
 ghost use Rattle.hub_rules.specs.Rules as rules;
@@ -171,7 +172,7 @@ pub fn judge_despatch(
     despatch: &Despatch,
 ) -> Result<Verdict, MemoryFault>
     requires each_unit { length known.used ≡ length despatch.now.units }
-    requires rise { Rise known.lines }
+    requires rise { Rises facts_cmp known.lines }
     requires apart { has_twice (map (λ unit. unit.sscc) despatch.now.units) ≡ false }
     ensures { IfOk result (λ verdict. (used : List ℕ → Bool) (state : Tables) → TellsForDespatch known used incoming despatch.now state → verdict ≡ rules.judge_despatch retailer.now (option_copied supplier.entry) used incoming despatch.now state) }
 {

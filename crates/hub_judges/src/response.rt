@@ -3,7 +3,8 @@ ghost use Rattle.std.specs.Prelude.{◌≡◌, ℕ, false, IfOk, option_copied};
 ghost use Rattle.std.specs.List.{AllByRecursion};
 ghost use Rattle.hub_tables.specs.Tables.{Tables};
 ghost use Rattle.hub_tables.specs.declared.rows.LineRow.{LineRow};
-ghost use Rattle.hub_lines.specs.Book.{Rise, IsCovered};
+ghost use Rattle.hub_tables.specs.Sets.{Rises};
+ghost use Rattle.hub_lines.specs.Book.{facts_cmp, IsCovered};
 ghost use Rattle.hub_rules.specs.Judging.{joined};
 ghost use Rattle.hub_rules.specs.ResponseRules.{is_out_of_range};
 ghost use Rattle.hub_rules.specs.Rules as rules;
@@ -50,7 +51,7 @@ fn respond(
     response: &Response,
     changes: Items<Change>,
 ) -> Result<Verdict, MemoryFault>
-    requires rise { Rise known.lines }
+    requires rise { Rises facts_cmp known.lines }
     requires covered { AllByRecursion IsCovered known.lines }
     ensures { IfOk result (λ verdict. verdict ≡ joined changes (response_from response.now known)) }
 {
@@ -91,7 +92,7 @@ pub fn judge_response(
     incoming: IncomingMessage,
     response: &Response,
 ) -> Result<Verdict, MemoryFault>
-    requires rise { Rise known.lines }
+    requires rise { Rises facts_cmp known.lines }
     requires covered { AllByRecursion IsCovered known.lines }
     ensures { IfOk result (λ verdict. (state : Tables) → TellsForResponse known incoming response.now state → verdict ≡ rules.judge_response retailer.now (option_copied supplier.entry) incoming response.now state) }
 {
