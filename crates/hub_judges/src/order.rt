@@ -6,7 +6,7 @@ ghost use Rattle.hub_rules.specs.Rules as rules;
 ghost use Rattle.hub_judges.specs.Known.{TellsForOrder};
 
 use crate::known::Known;
-use crate::mail::{MAIL_LIMIT, new_mail};
+use crate::mail::{is_full, new_mail};
 use crate::party::admitted;
 use crate::remembering::{remember, repeats};
 use edi_base::{Items, MemoryFault, copied};
@@ -64,7 +64,7 @@ pub fn judge_order(
     if known.number_known {
         return Ok(Verdict::Refuse(Code::OrderKnown));
     }
-    if known.mails >= MAIL_LIMIT {
+    if is_full(known.mails) {
         return Ok(Verdict::Refuse(Code::MailboxFull));
     }
     let mail = new_mail(

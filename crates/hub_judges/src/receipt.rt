@@ -11,7 +11,7 @@ ghost use Rattle.hub_judges.specs.FromFacts.{received, receipts_from};
 ghost use Rattle.hub_judges.specs.Known.{TellsForReceipt};
 
 use crate::known::Known;
-use crate::mail::{MAIL_LIMIT, new_mail};
+use crate::mail::{is_full, new_mail};
 use crate::party::admitted;
 use crate::remembering::{remember, repeats};
 use crate::totals::totals_of;
@@ -114,7 +114,7 @@ pub fn judge_receipt(
     if let Some(verdict) = repeats(alloc, &known.remembered, incoming.content.as_slice()) {
         return Ok(verdict);
     }
-    if known.mails >= MAIL_LIMIT {
+    if is_full(known.mails) {
         return Ok(Verdict::Refuse(Code::MailboxFull));
     }
     let number = receipt.number.as_slice();

@@ -1,14 +1,12 @@
 -- The status report of a supplier's rows.
-use Rattle.std.specs.Prelude.{ℕ, ◌+◌, ◌-◌, ◌==◌, nat_le, Bool, List, [], ◌∷◌, ◌++◌, filter, map, sum_by, if◌then◌else◌, codes, Some, option_map}
+use Rattle.std.specs.Prelude.{ℕ, ◌+◌, ◌-◌, nat_le, List, [], ◌∷◌, ◌++◌, filter, map, sum_by, if◌then◌else◌, codes, Some, option_map}
 use Rattle.std.specs.Fmt.{decimal}
 use Rattle.std.specs.List.{flat_map, list_any}
 use Rattle.std.specs.Option.{unwrap_or}
-use Rattle.hub_tables.specs.Cases.{arrival_number}
 use Rattle.hub_tables.specs.Keys.{bytes_cmp, put}
 use Rattle.hub_tables.specs.Rows.{same}
-use Rattle.hub_tables.specs.State.{line_of, despatched, contents_of, receipts_of}
+use Rattle.hub_tables.specs.State.{line_of, despatched, contents_of, receipts_of, is_announced}
 use Rattle.hub_tables.specs.Tables.{Tables}
-use Rattle.hub_tables.specs.declared.cases.Arrival.TheVariants.{Announced}
 use Rattle.hub_tables.specs.declared.rows.ContentRow.{ContentRow}
 use Rattle.hub_tables.specs.declared.rows.LineRow.{LineRow}
 use Rattle.hub_tables.specs.declared.rows.PalletRow.{PalletRow}
@@ -57,9 +55,6 @@ abbrev pub signed : ℕ → ℕ → List ℕ
 signed number less =
     if nat_le less number then codes "+" ++ decimal (number - less)
     else codes "-" ++ decimal (less - number)
-
-abbrev pub is_announced : PalletRow → Bool
-is_announced pallet = pallet.received == arrival_number Announced
 
 -- received in all minus despatched, and `+0` while the pallet is announced
 abbrev pub difference : PalletRow → ℕ → ℕ → List ℕ

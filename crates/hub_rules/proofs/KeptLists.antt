@@ -8,14 +8,13 @@ use Rattle.std.proofs.lemmas.Bool.{and_parts, or_parts, or_cases, or_left, or_ri
 use Rattle.std.proofs.lemmas.Bool.Decides.{nat_tests}
 use Rattle.std.proofs.lemmas.Cmp.{tied_itself, nat_list_cmp_total}
 use Rattle.edi_base.proofs.Twice.{bytes_eq-sym}
-use Rattle.hub_tables.specs.Cases.{arrival_number}
 use Rattle.hub_tables.specs.Keys.{InOrder, put, replace, bytes_cmp}
 use Rattle.hub_tables.specs.Rows.{same, content_cmp, receipt_cmp, mail_cmp, same_pallet}
-use Rattle.hub_tables.specs.declared.cases.Arrival.TheVariants.{Announced}
 use Rattle.hub_tables.specs.declared.rows.ContentRow.{ContentRow}
 use Rattle.hub_tables.specs.declared.rows.MailRow.{MailRow}
 use Rattle.hub_tables.specs.declared.rows.PalletRow.{PalletRow}
 use Rattle.hub_tables.specs.declared.rows.ReceiptRow.{ReceiptRow}
+use Rattle.hub_tables.specs.State.{is_announced}
 use Rattle.hub_tables.proofs.KeyOrder.{any_put, filter_put_in, filter_put_out, sum_put, put_last}
 use Rattle.hub_tables.proofs.KindOrders.{content_total, receipt_total}
 use Rattle.hub_tables.proofs.Lists.{decide, same_is, same_if}
@@ -126,7 +125,7 @@ receipts_put sscc rs r ordered single fresh =
 
 -- the pallet was received
 abbrev pub is_received : PalletRow → Bool
-is_received pallet = not (pallet.received == arrival_number Announced)
+is_received pallet = not (is_announced pallet)
 
 pub received_more : (r : PalletRow) (ps : List PalletRow) (x : List ℕ) → is_received r ≡ true → list_any (λ p. same p.sscc x && is_received p) ps ≡ true → list_any (λ p. same p.sscc x && is_received p) (replace (same_pallet r) r ps) ≡ true
 received_more r [] x now h = h

@@ -4,11 +4,9 @@ use Rattle.std.specs.List.{AllByRecursion, list_any}
 use Rattle.gs1_ids.specs.Sscc.{under_some}
 use Rattle.hub_parties.specs.Rows.{supplier_row}
 use Rattle.hub_parties.specs.declared.row.SupplierRow.{SupplierRow}
-use Rattle.hub_tables.specs.Cases.{arrival_number}
 use Rattle.hub_tables.specs.Rows.{same}
-use Rattle.hub_tables.specs.State.{knows_order, despatched}
+use Rattle.hub_tables.specs.State.{knows_order, despatched, is_announced}
 use Rattle.hub_tables.specs.Tables.{Tables, Ordered, has_pallet, view}
-use Rattle.hub_tables.specs.declared.cases.Arrival.TheVariants.{Announced}
 use Rattle.hub_tables.specs.declared.rows.OrderRow.{OrderRow}
 use Rattle.hub_tables.specs.declared.rows.LineRow.{LineRow}
 use Rattle.hub_tables.specs.declared.rows.AdviceRow.{AdviceRow}
@@ -54,7 +52,7 @@ knows_line state number n = list_any (λ line. same line.number number && (line.
 
 -- a pallet with the SSCC was received
 abbrev pub was_received : Tables → List ℕ → Bool
-was_received state sscc = list_any (λ pallet. same pallet.sscc sscc && not (pallet.received == arrival_number Announced)) state.pallets
+was_received state sscc = list_any (λ pallet. same pallet.sscc sscc && not (is_announced pallet)) state.pallets
 
 -- the numbers of mailbox entries go on from n
 abbrev pub Numbered : ℕ → List MailRow → Type 0
