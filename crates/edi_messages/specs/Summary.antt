@@ -5,7 +5,7 @@ use Rattle.std.specs.Str.{bytes_eq}
 use Rattle.edi_base.specs.Limits.{is_count_of}
 use Rattle.edi_tokens.specs.declared.segment.Segment.{Segment}
 use Rattle.edi_envelope.specs.Segments.{component}
-use Rattle.edi_messages.specs.Parts.{is_lin, is_uns, only, has_qualified, only_qualified}
+use Rattle.edi_messages.specs.Parts.{is_lin, is_uns, only, none_or_one}
 
 -- what follows the first UNS
 abbrev pub behind_uns : List Segment → List Segment
@@ -32,6 +32,4 @@ is_control_of count (Some control) = is_count_of (component control 0 1) count
 
 -- no control of the number of line items (CNT with 6069 2), or one, with the number of LIN
 abbrev pub is_controlled : List Segment → Bool
-is_controlled message =
-    not (has_qualified (codes "CNT") (codes "2") message)
-    || is_control_of (line_count message) (only_qualified (codes "CNT") (codes "2") message)
+is_controlled message = none_or_one (is_control_of (line_count message)) (codes "CNT") (codes "2") message
