@@ -6,19 +6,19 @@ use Rattle.edi_tokens.specs.declared.segment.Segment.{Segment}
 use Rattle.edi_envelope.specs.declared.interchange.RawMessage.{RawMessage}
 use Rattle.edi_messages.specs.declared.fault.MessageFault.{MessageFault}
 use Rattle.edi_messages.specs.declared.fault.MessageFault.TheVariants.{MessageType, Beginning, Function, Date, Parties, Summary, Line, Quantity, Reference, Unit, Control, NoLine, Memory}
+use Rattle.edi_messages.specs.Parts.{is_qualified}
 use Rattle.edi_goods.specs.declared.receipt.Receipt.{Receipt}
 use Rattle.edi_goods.specs.declared.receipt.ReceiptLine.{ReceiptLine}
 use Rattle.edi_goods.specs.declared.receipt.ReceiptUnit.{ReceiptUnit}
 use Rattle.edi_law.specs.Header.{IsOfType, Begins, HasFunction, IsDated, NamesParty, NamesBuyer}
 use Rattle.edi_law.specs.Lines.{IsLine, IsAmount}
 use Rattle.edi_law.specs.Parts.{OfLines, OneOrNone}
-use Rattle.edi_law.specs.Segments.{says}
 use Rattle.edi_law.specs.Summary.{IsControlled, HasLine}
 use Rattle.edi_law.specs.Units.{OfUnits, AreLines, HasUnits, HasSscc}
 
 -- there is no QTY of the kind in the group, or just one, with this quantity
 abbrev pub HasKind : List ℕ → List Segment → Option ℕ → Type 0
-HasKind kind group quantity = OneOrNone (says (codes "QTY") kind) (IsAmount 0) group quantity
+HasKind kind group quantity = OneOrNone (is_qualified (codes "QTY") kind) (IsAmount 0) group quantity
 
 -- the quantities of a group: 194 accepted, 195 to be returned, 196 to be destroyed; one of them is there
 pub record HasReceived (group : List Segment) (accepted returned destroyed : Option ℕ) : Type 0 where
