@@ -56,7 +56,7 @@ fn is_no_fraction(bytes: &[u8]) -> bool
 
 /// The quantity that these write: digits, perhaps with a decimal mark and one or more zeros behind them, 35 bytes and
 /// 999,999,999 at most.
-pub fn quantity(bytes: &[u8]) -> Option<u32>
+pub(crate) fn quantity(bytes: &[u8]) -> Option<u32>
     ensures { result ≡ spec.quantity bytes.now }
 {
     let (digits, fraction) = bytes.split_at(digits_len(bytes));

@@ -63,7 +63,7 @@ impl Service {
 
     /// What six characters say: component separator, element separator, decimal mark, release character
     /// or a blank where there is none, reserved position, terminator. None where they are against the rules.
-    pub fn of(six: &[u8; 6]) -> Option<Self>
+    pub(crate) fn of(six: &[u8; 6]) -> Option<Self>
         ensures { result ≡ spec.service_of six.now }
     {
         let [component, element, decimal, release, reserved, terminator] = *six;
