@@ -3,9 +3,32 @@ use Rattle.std.specs.Prelude.{ℕ, Bool, true, ◌==◌, ◌&&◌, ◌||◌, not
 use Rattle.edi_tokens.specs.declared.segment.Service.{Service}
 use Rattle.edi_tokens.specs.Characters.{is_capital, is_small, is_digit}
 
--- the characters of a text without a service string: `:` `+` `.` `?` `'`
+-- the usual service characters: `:` `+` `?` `'`
+abbrev pub usual_component : ℕ
+usual_component = 58
+
+abbrev pub usual_element : ℕ
+usual_element = 43
+
+abbrev pub usual_release : ℕ
+usual_release = 63
+
+abbrev pub usual_terminator : ℕ
+usual_terminator = 39
+
+-- these, with a decimal mark
+abbrev pub with_decimal : ℕ → Service
+with_decimal decimal = record {
+  component = usual_component;
+  element = usual_element;
+  decimal = decimal;
+  release = Some usual_release;
+  terminator = usual_terminator;
+}
+
+-- the characters of a text without a service string: these, with `.`
 abbrev pub usual : Service
-usual = record { component = 58; element = 43; decimal = 46; release = Some 63; terminator = 39 }
+usual = with_decimal 46
 
 -- the tag that announces six service characters
 abbrev pub una_tag : List ℕ

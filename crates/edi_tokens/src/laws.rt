@@ -8,7 +8,8 @@ ghost use Rattle.edi_tokens.specs.declared.fault.TokenFault.{TokenFault};
 ghost use Rattle.edi_tokens.specs.Spelling.{Spells, text_limit, segment_limit};
 ghost use Rattle.edi_tokens.specs.Fault.{Shows, ByteShows, EndShows};
 ghost use Rattle.edi_tokens.specs.Reading.{tokens_of};
-ghost use Rattle.edi_tokens.specs.Text.{text, una, segment_text, with_decimal};
+ghost use Rattle.edi_tokens.specs.Service.{with_decimal};
+ghost use Rattle.edi_tokens.specs.Text.{text, una, segment_text};
 
 /// A text spells at most one list of segments, with one set of service characters.
 pub fn text_spells_one_list()

@@ -8,6 +8,18 @@ ghost use Rattle.edi_tokens.specs.Plain.{are_plain};
 use crate::characters::{is_capital, is_data, is_digit, is_small};
 use crate::segment::Service;
 
+/// The usual component separator.
+pub(crate) const COMPONENT: u8 = b':';
+
+/// The usual element separator.
+pub(crate) const ELEMENT: u8 = b'+';
+
+/// The usual release character.
+pub(crate) const RELEASE: u8 = b'?';
+
+/// The usual terminator.
+pub(crate) const TERMINATOR: u8 = b'\'';
+
 fn is_mark(byte: u8) -> bool
     ensures { result ≡ spec.is_mark byte }
 {
@@ -53,11 +65,11 @@ impl Service {
         ensures { result ≡ spec.usual }
     {
         Service {
-            component: b':',
-            element: b'+',
+            component: COMPONENT,
+            element: ELEMENT,
             decimal: b'.',
-            release: Some(b'?'),
-            terminator: b'\'',
+            release: Some(RELEASE),
+            terminator: TERMINATOR,
         }
     }
 
