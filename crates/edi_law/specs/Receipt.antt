@@ -2,6 +2,7 @@
 use Rattle.std.specs.Prelude.{◌≡◌, ◌≤◌, ◌||◌, ⊤, ℕ, true, List, filter, sum_by, is_some, unwrap_or, codes, Option}
 use Rattle.std.specs.List.{AllByRecursion, AllZip}
 use Rattle.std.specs.Str.{bytes_eq}
+use Rattle.edi_base.specs.Limits.{greatest}
 use Rattle.edi_tokens.specs.declared.segment.Segment.{Segment}
 use Rattle.edi_envelope.specs.declared.interchange.RawMessage.{RawMessage}
 use Rattle.edi_messages.specs.declared.fault.MessageFault.{MessageFault}
@@ -45,9 +46,9 @@ total quantity item lines = sum_by quantity (filter (λ line. bytes_eq line.gtin
 
 -- no sum of a kind is above 999,999,999 for any item
 pub record AreWithin (lines : List ReceiptLine) : Type 0 where
-  pub accepted : (item : List ℕ) → total (λ line. line.accepted) item lines ≤ 999_999_999
-  pub returned : (item : List ℕ) → total (λ line. line.returned) item lines ≤ 999_999_999
-  pub destroyed : (item : List ℕ) → total (λ line. line.destroyed) item lines ≤ 999_999_999
+  pub accepted : (item : List ℕ) → total (λ line. line.accepted) item lines ≤ greatest
+  pub returned : (item : List ℕ) → total (λ line. line.returned) item lines ≤ greatest
+  pub destroyed : (item : List ℕ) → total (λ line. line.destroyed) item lines ≤ greatest
 
 -- the groups of a unit have right quantities, and these right sums
 pub record AreReceived (groups : List (List Segment)) : Type 0 where
