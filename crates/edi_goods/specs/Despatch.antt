@@ -9,7 +9,7 @@ use Rattle.edi_messages.specs.Fault.{judged}
 use Rattle.edi_messages.specs.Header.{is_type, begins_as, document_number, function, has_date, party}
 use Rattle.edi_messages.specs.Lines.{gtin, quantity_of}
 use Rattle.edi_messages.specs.Parts.{header, line_groups, is_read}
-use Rattle.edi_messages.specs.References.{has_reference, reference, none_or_one_reference, order_named, is_reference, order, group_order, group_line}
+use Rattle.edi_messages.specs.References.{has_reference, reference, none_or_one_reference, order_named, is_order_reference, order, group_order, group_line}
 use Rattle.edi_messages.specs.Summary.{line_count, is_controlled}
 use Rattle.edi_messages.specs.declared.fault.MessageFault.{MessageFault}
 use Rattle.edi_messages.specs.declared.fault.MessageFault.TheVariants.{MessageType, Beginning, Function, Date, Parties, Summary, Line, Quantity, Reference, Unit, Control, NoLine, Memory}
@@ -36,7 +36,7 @@ has_header_reference_or_none message = none_or_one_reference (is_read order_name
 
 -- The one reference of a group is right. Where there is not just one, the group has none at all, and the header has one.
 abbrev pub is_referred_by : Bool → Bool → Option Segment → Bool
-is_referred_by there inherited (Some rff) = is_reference rff
+is_referred_by there inherited (Some rff) = is_order_reference rff
 is_referred_by there inherited None = not there && inherited
 
 abbrev pub is_referred : Bool → List Segment → Bool

@@ -10,7 +10,7 @@ use Rattle.edi_law.specs.Parts.{OfOnly}
 use Rattle.edi_law.specs.Values.{IsLineNumber, IsQuantity}
 
 -- LIN has a right GTIN, said to be one, which is these fourteen digits
-pub record HasItem (lin : Segment) (gtin : List ℕ) : Type 0 where
+pub record HasGtin (lin : Segment) (gtin : List ℕ) : Type 0 where
   pub said : component lin 2 1 ≡ codes "SRV"
   pub right : IsGtin (component lin 2 0)
   pub gtin_is : in_fourteen (component lin 2 0) ≡ gtin
@@ -21,7 +21,7 @@ pub record IsLine (group : List Segment) (number : ℕ) (gtin : List ℕ) : Type
   pub body : List Segment
   pub place : group ≡ lin ∷ body
   pub number_is : IsLineNumber (component lin 0 0) number
-  pub item : HasItem lin gtin
+  pub item : HasGtin lin gtin
   pub no_sub_line : element_at lin.elements 3 ≡ []
 
 -- a QTY has a right quantity from a least one on, in pieces

@@ -16,7 +16,7 @@ use Rattle.edi_orders.specs.declared.response.Response.{Response}
 use Rattle.edi_law.specs.Header.{IsOfType, Begins, HasFunction, IsDated, NamesParty}
 use Rattle.edi_law.specs.Lines.{IsLine, HasQuantity}
 use Rattle.edi_law.specs.Parts.{HasNone, OfLines, OfOnly}
-use Rattle.edi_law.specs.References.{is_reference, NamesOrder, NamesLineOrNone, HeaderNames, NamesLine}
+use Rattle.edi_law.specs.References.{is_rff_on, NamesOrder, NamesLineOrNone, HeaderNames, NamesLine}
 use Rattle.edi_law.specs.Summary.{IsClosed, IsControlled, HasLine}
 
 -- what a response answers: lines one by one, or all of them
@@ -68,7 +68,7 @@ IsChangeRight group = HasAction group Change → (quantity : ℕ) × HasChange g
 
 -- a group has no reference, or just one, which names the order of the header and a line or none
 abbrev pub IsReferred : List ℕ → List Segment → Type 0
-IsReferred order group = HasNone is_reference group ⊎ OfOnly is_reference group (λ rff. NamesOrder order rff × NamesLineOrNone rff)
+IsReferred order group = HasNone is_rff_on group ⊎ OfOnly is_rff_on group (λ rff. NamesOrder order rff × NamesLineOrNone rff)
 
 abbrev pub IsRight : RawMessage → MessageFault → Type 0
 IsRight m MessageType = IsOfType (codes "ORDRSP") m

@@ -40,5 +40,5 @@ abbrev pub has_line_or_none : Segment → Bool
 has_line_or_none rff = length (component rff 0 2) == 0 || is_some (line_named rff)
 
 -- an order number, and a line number or none
-abbrev pub is_reference : Segment → Bool
-is_reference rff = is_some (order_named rff) && has_line_or_none rff
+abbrev pub is_order_reference : Segment → Bool
+is_order_reference rff = is_some (order_named rff) && has_line_or_none rff

@@ -9,7 +9,7 @@ use Rattle.edi_envelope.specs.declared.interchange.RawMessage.{RawMessage}
 use Rattle.edi_messages.specs.Parts.{line_groups, has_qualified}
 use Rattle.edi_messages.specs.Header.{is_type, begins_as, document_number, function, has_date, party}
 use Rattle.edi_messages.specs.Lines.{line, gtin, is_line, quantity_of}
-use Rattle.edi_messages.specs.References.{none_or_one_reference, order_named, is_reference, order, group_line}
+use Rattle.edi_messages.specs.References.{none_or_one_reference, order_named, is_order_reference, order, group_line}
 use Rattle.edi_messages.specs.Summary.{has_summary, line_count, is_controlled}
 use Rattle.edi_orders.specs.declared.action.Action.{Action}
 use Rattle.edi_orders.specs.declared.action.Action.TheVariants as actions
@@ -79,7 +79,7 @@ is_of_order _ _ = false
 -- a right reference to the order of the header
 abbrev pub is_referred_by : Option (List ℕ) → Option Segment → Bool
 is_referred_by order None = false
-is_referred_by order (Some rff) = is_reference rff && is_of_order (order_named rff) order
+is_referred_by order (Some rff) = is_order_reference rff && is_of_order (order_named rff) order
 
 -- a group has no reference, or one
 abbrev pub is_referred : Option (List ℕ) → List Segment → Bool

@@ -5,7 +5,7 @@ use Rattle.std.specs.List.{list_any}
 use Rattle.edi_envelope.specs.declared.interchange.Interchange.{Interchange}
 use Rattle.edi_envelope.specs.declared.interchange.RawMessage.{RawMessage}
 use Rattle.hub_tables.specs.declared.rows.MailRow.{MailRow}
-use Rattle.hub_law.specs.MailText.{mail_text}
+use Rattle.hub_law.specs.MailText.{entry_text}
 use Rattle.hub_law.specs.Told.{Told, Accepted, Repeated, Refused, is_refused}
 use Rattle.hub_law.specs.Widths.{line}
 use Rattle.hub_law.specs.declared.reply.Outcome.{Outcome}
@@ -73,4 +73,4 @@ cancel_reply told = record { outcome = Done; refused = is_refused told; body = l
 -- the reply to a mailbox entry that is asked for
 abbrev pub entry_reply : List ℕ → Option MailRow → Reply
 entry_reply hub None = unknown
-entry_reply hub (Some entry) = done (mail_text hub entry)
+entry_reply hub (Some entry) = done (entry_text hub entry)

@@ -29,8 +29,8 @@ Single alike (x ∷ xs) = (list_any (alike x) xs ≡ false) × Single alike xs
 abbrev pub same_order : OrderRow → OrderRow → Bool
 same_order a b = same a.number b.number
 
-abbrev pub same_place : LineRow → LineRow → Bool
-same_place a b = same a.number b.number && (a.line == b.line)
+abbrev pub same_line_number : LineRow → LineRow → Bool
+same_line_number a b = same a.number b.number && (a.line == b.line)
 
 abbrev pub same_advice : AdviceRow → AdviceRow → Bool
 same_advice a b = same a.number b.number
@@ -38,8 +38,8 @@ same_advice a b = same a.number b.number
 abbrev pub same_sscc : PalletRow → PalletRow → Bool
 same_sscc a b = same a.sscc b.sscc
 
-abbrev pub same_spot : ContentRow → ContentRow → Bool
-same_spot a b = a.place == b.place
+abbrev pub same_place : ContentRow → ContentRow → Bool
+same_place a b = a.place == b.place
 
 abbrev pub same_gtin : ReceiptRow → ReceiptRow → Bool
 same_gtin a b = same a.gtin b.gtin
@@ -75,10 +75,10 @@ pub record IsOwn (s : SupplierRow) (state : Tables) : Type 0 where
 -- 1; and every line is balanced
 pub record Kept (state : Tables) : Type 0 where
   pub orders : Single same_order state.orders
-  pub lines : Single same_place state.lines
+  pub lines : Single same_line_number state.lines
   pub advices : Single same_advice state.advices
   pub pallets : Single same_sscc state.pallets
-  pub contents : (sscc : List ℕ) → Single same_spot (filter (λ content. same content.sscc sscc) state.contents)
+  pub contents : (sscc : List ℕ) → Single same_place (filter (λ content. same content.sscc sscc) state.contents)
   pub receipts : (sscc : List ℕ) → Single same_gtin (filter (λ receipt. same receipt.sscc sscc) state.receipts)
   pub remembered : Single same_reference state.remembered
   pub mail : Numbered 0 state.mail
