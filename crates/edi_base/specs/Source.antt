@@ -4,7 +4,7 @@ use Rattle.std.specs.Io.KnownBytes.{Consumes, IsAtEnd}
 use Rattle.edi_base.specs.declared.source.ReadFault.{ReadFault}
 use Rattle.edi_base.specs.declared.source.ReadFault.TheVariants.{Read, Memory}
 
--- so many bytes of the source, none only at its end or where there is no room, stand behind those before
+-- so many bytes of the source, none only at its end or where there is no room, stand after those before
 pub record TakesPiece (old new : Option (List ℕ)) (before after : List ℕ) (room count : ℕ) : Type 0 where
   pub bytes : List ℕ
   pub consumed : Consumes old new bytes

@@ -120,7 +120,7 @@ impl From<AllocError> for ReadFault {
 /// How many bytes are asked for at once.
 const PIECE: usize = 65_536;
 
-/// Reads once, and puts what came behind what was read before.
+/// Reads once, and puts what came after what was read before.
 fn read_piece<R: Source>(
     source: &mut R,
     piece: &mut [u8],

@@ -147,7 +147,7 @@ fn all_closed(blocks: &[Items<Segment>]) -> bool
         .all(|block| message::is_closed(block.as_slice()))
 }
 
-// The lowest fault behind E07. `outside` says whether a byte is outside the character set.
+// The lowest fault after E07. `outside` says whether a byte is outside the character set.
 fn later_fault(
     alloc: Global,
     parts: &Parts,

@@ -34,7 +34,7 @@ inherits message = has_reference (header message)
 abbrev pub has_header_reference_or_none : List Segment → Bool
 has_header_reference_or_none message = none_or_one_reference (is_read order_named) (header message)
 
--- The one reference of a group is right. Where there is not just one, the group has none at all, and the header has one.
+-- The one reference of a group is valid. Where there is not just one, the group has none at all, and the header has one.
 abbrev pub is_referred_by : Bool → Bool → Option Segment → Bool
 is_referred_by there inherited (Some rff) = is_order_reference rff
 is_referred_by there inherited None = not there && inherited

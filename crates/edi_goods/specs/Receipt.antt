@@ -32,7 +32,7 @@ returned group = quantity_of (codes "195") 0 group
 abbrev pub destroyed : List Segment → Option ℕ
 destroyed group = quantity_of (codes "196") 0 group
 
--- a kind stands nowhere in a group, or once and right
+-- a kind stands nowhere in a group, or once and valid
 abbrev pub is_once_or_none : List ℕ → List Segment → Bool
 is_once_or_none kind group = none_or_one (is_read (amount 0)) (codes "QTY") kind group
 

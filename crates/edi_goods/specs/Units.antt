@@ -37,7 +37,7 @@ head unit = take_while (λ segment. not (is_lin segment)) unit
 abbrev pub has_identifier : List Segment → Bool
 has_identifier unit = not (length (component (first_segment unit) 0 0) == 0)
 
--- the one SSCC of a GIN (7402), which stands alone behind the qualifier
+-- the one SSCC of a GIN (7402), which stands alone after the qualifier
 abbrev pub sscc_in : Segment → Option (List ℕ)
 sscc_in gin = if length gin.elements == 2 && length (element_at gin.elements 1) == 1 then sscc_of (component gin 1 0) else None
 

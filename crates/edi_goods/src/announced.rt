@@ -124,7 +124,7 @@ impl<'a, 'b> Model for ReferredUnit<'a, 'b> {
     ghost invariant = { λ lined. lined.items.items ≡ line_groups lined.unit.now };
 }
 
-// What the one reference of a group names; the fault `Reference` where it is not right, there are several, or there is
+// What the one reference of a group names; the fault `Reference` where it is not valid, there are several, or there is
 // none and none is inherited.
 fn group_reference(
     inherited: bool,

@@ -1,4 +1,4 @@
--- What is read of a header is what is right in it.
+-- What is read of a header is what is valid in it.
 use Rattle.std.proofs.Common.{◌≡◌, ◌≢◌, ℕ, suc, Bool, true, false, List, [], ◌∷◌, length, filter, inl, inr, refl, sym, ap, subst, ◌∙◌, arith}
 use Rattle.std.specs.Prelude.{is_some, ◌==◌, codes, Decides}
 use Rattle.std.specs.Str.{bytes_eq}

@@ -1,4 +1,4 @@
--- What is read of a line group is what is right in it.
+-- What is read of a line group is what is valid in it.
 use Rattle.std.proofs.Common.{◌≡◌, ◌≢◌, ℕ, ◌≤◌, Bool, true, false, not, List, [], ◌∷◌, length, ◌⊎◌, refl, sym, ap, subst, ◌∙◌}
 use Rattle.std.specs.Prelude.{◌==◌, nat_le, nat_eq, codes, unwrap_or, option_and_then, Decides}
 use Rattle.std.specs.Str.{bytes_eq}

@@ -111,7 +111,7 @@ all_received (group ∷ groups) [] h = absurd h
 all_received (group ∷ groups) (line ∷ lines) h =
     and_from (is_received group) (list_all is_received groups) (received_is group h.0.accepted h.0.returned h.0.destroyed h.0.received) (all_received groups lines h.1)
 
--- the quantities of a unit, whose lines are right
+-- the quantities of a unit, whose lines are valid
 Decides-groups : (groups : List (List Segment)) → AllByRecursion IsSomeLine groups → Decides (list_all is_received groups && has_sums (map line_of groups)) (AreReceived groups)
 Decides-groups groups line = (
   (λ e. let both = and_parts (list_all is_received groups) (has_sums (map line_of groups)) e in

@@ -1,4 +1,4 @@
--- What is read of references is what is right in them.
+-- What is read of references is what is valid in them.
 use Rattle.std.proofs.Common.{◌≡◌, ℕ, List, [], Option, Some, None, ◌⊎◌, inl, inr, refl, sym, ap, subst, ◌∙◌}
 use Rattle.std.specs.Prelude.{option_and_then, Decides}
 use Rattle.std.proofs.lemmas.Bool.Decides.{Decides-or}

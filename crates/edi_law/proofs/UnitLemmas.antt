@@ -1,4 +1,4 @@
--- What is read of the units of a message is what is right in them.
+-- What is read of the units of a message is what is valid in them.
 use Rattle.std.proofs.Common.{◌≡◌, ℕ, Bool, true, false, cond, not, ◌&&◌, List, [], ◌∷◌, length, filter, map, inl, inr, refl, sym, ap, subst, ◌∙◌, arith}
 use Rattle.std.specs.Prelude.{◌==◌, codes, unwrap_or, option_and_then, Decides}
 use Rattle.std.specs.List.{list_all, list_any, take_while, AllByRecursion, AllZip}

@@ -1,4 +1,4 @@
--- What is right in a despatch advice (DESADV) under the number of each fault, and what an advice says.
+-- What is valid in a despatch advice (DESADV) under the number of each fault, and what an advice says.
 use Rattle.std.specs.Prelude.{◌≡◌, ◌⊎◌, ⊤, ℕ, List, codes, Option, Some}
 use Rattle.std.specs.List.{AllByRecursion, AllZip}
 use Rattle.edi_tokens.specs.declared.segment.Segment.{Segment}
@@ -23,7 +23,7 @@ Inherits message order = OfHeader (λ header. OneOrNone is_rff_on NamesOrder hea
 abbrev pub IsOfOrder : Option (List ℕ) → List Segment → List ℕ → Type 0
 IsOfOrder inherited group order = OfOnly is_rff_on group (NamesOrder order) ⊎ (HasNone is_rff_on group × (inherited ≡ Some order))
 
--- the one reference of a group is right, or the group has none and the header has one
+-- the one reference of a group is valid, or the group has none and the header has one
 abbrev pub IsReferred : Option (List ℕ) → List Segment → Type 0
 IsReferred inherited group =
     OfOnly is_rff_on group (λ rff. ((order : List ℕ) × NamesOrder order rff) × NamesLineOrNone rff)

@@ -1,4 +1,4 @@
--- What is right in the header of a message: its type, its beginning, its function, its date and its parties.
+-- What is valid in the header of a message: its type, its beginning, its function, its date and its parties.
 use Rattle.std.specs.Prelude.{◌≡◌, ℕ, true, false, List, ◌∷◌, codes, Option}
 use Rattle.gs1_ids.specs.Gln.{IsGln}
 use Rattle.edi_tokens.specs.declared.segment.Segment.{Segment}
@@ -15,7 +15,7 @@ pub record IsOfType (type : List ℕ) (message : RawMessage) : Type 0 where
   pub release_is : message.release ≡ codes "01B"
   pub agency_is : message.agency ≡ codes "UN"
 
--- BGM stands behind UNH and nowhere else, with this code and this document number, which is right
+-- BGM stands after UNH and nowhere else, with this code and this document number, which is valid
 pub record Begins (code : List ℕ) (message : List Segment) (number : List ℕ) : Type 0 where
   pub unh : Segment
   pub bgm : Segment
@@ -28,7 +28,7 @@ pub record Begins (code : List ℕ) (message : List Segment) (number : List ℕ)
   pub number_is : component bgm 1 0 ≡ number
   pub number_right : IsDocumentNumber number
 
--- the segment behind UNH has this message function
+-- the segment after UNH has this message function
 pub record HasFunction (message : List Segment) (function : List ℕ) : Type 0 where
   pub unh : Segment
   pub bgm : Segment

@@ -1,4 +1,4 @@
--- What is right in a line group.
+-- What is valid in a line group.
 use Rattle.std.specs.Prelude.{◌≡◌, ◌≢◌, ◌≤◌, ◌⊎◌, ℕ, List, [], ◌∷◌, codes, ⊤}
 use Rattle.std.specs.List.{AllByRecursion}
 use Rattle.gs1_ids.specs.Gtin.{IsGtin, in_fourteen}
@@ -9,7 +9,7 @@ use Rattle.edi_messages.specs.Parts.{is_qualified}
 use Rattle.edi_law.specs.Parts.{OfOnly}
 use Rattle.edi_law.specs.Values.{IsLineNumber, IsQuantity}
 
--- LIN has a right GTIN, said to be one, which is these fourteen digits
+-- LIN has a valid GTIN, said to be one, which is these fourteen digits
 pub record HasGtin (lin : Segment) (gtin : List ℕ) : Type 0 where
   pub said : component lin 2 1 ≡ codes "SRV"
   pub right : IsGtin (component lin 2 0)
@@ -24,7 +24,7 @@ pub record IsLine (group : List Segment) (number : ℕ) (gtin : List ℕ) : Type
   pub item : HasGtin lin gtin
   pub no_sub_line : element_at lin.elements 3 ≡ []
 
--- a QTY has a right quantity from a least one on, in pieces
+-- a QTY has a valid quantity from a least one on, in pieces
 pub record IsAmount (least number : ℕ) (qty : Segment) : Type 0 where
   pub unit : (component qty 0 2 ≡ []) ⊎ (component qty 0 2 ≡ codes "PCE")
   pub number_is : IsQuantity (component qty 0 1) number

@@ -30,7 +30,7 @@ pub record IsOnly (kind : Segment → Bool) (part : List Segment) (segment : Seg
   pub none_before : HasNone kind before
   pub none_after : HasNone kind after
 
--- the header is what stands behind UNH and in front of the first LIN, CPS, UNS or UNT
+-- the header is what stands after UNH and in front of the first LIN, CPS, UNS or UNT
 abbrev pub IsHeader : List Segment → List Segment → Type 0
 IsHeader header [] = header ≡ []
 IsHeader header (unh ∷ segments) = IsFront ends_part header segments

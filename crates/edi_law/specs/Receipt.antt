@@ -1,4 +1,4 @@
--- What is right in a receiving advice (RECADV) under the number of each fault, and what an advice says.
+-- What is valid in a receiving advice (RECADV) under the number of each fault, and what an advice says.
 use Rattle.std.specs.Prelude.{◌≡◌, ◌≤◌, ◌||◌, ⊤, ℕ, true, List, filter, sum_by, is_some, unwrap_or, codes, Option}
 use Rattle.std.specs.List.{AllByRecursion, AllZip}
 use Rattle.std.specs.Str.{bytes_eq}
@@ -50,7 +50,7 @@ pub record AreWithin (lines : List ReceiptLine) : Type 0 where
   pub returned : (item : List ℕ) → total (λ line. line.returned) item lines ≤ greatest
   pub destroyed : (item : List ℕ) → total (λ line. line.destroyed) item lines ≤ greatest
 
--- the groups of a unit have right quantities, and these right sums
+-- the groups of a unit have valid quantities, and these valid sums
 pub record AreReceived (groups : List (List Segment)) : Type 0 where
   pub lines : List ReceiptLine
   pub lines_are : AllZip IsReceiptLine groups lines

@@ -9,12 +9,12 @@ use Rattle.edi_law.specs.Values.{IsDocumentNumber, IsLineNumber}
 abbrev pub is_rff_on : Segment → Bool
 is_rff_on = is_qualified (codes "RFF") (codes "ON")
 
--- the reference names an order of this number, which is right
+-- the reference names an order of this number, which is valid
 pub record NamesOrder (number : List ℕ) (rff : Segment) : Type 0 where
   pub number_is : component rff 0 1 ≡ number
   pub right : IsDocumentNumber number
 
--- the reference names no line, or one by a right number
+-- the reference names no line, or one by a valid number
 abbrev pub NamesLineOrNone : Segment → Type 0
 NamesLineOrNone rff = (component rff 0 2 ≡ []) ⊎ ((line : ℕ) × IsLineNumber (component rff 0 2) line)
 

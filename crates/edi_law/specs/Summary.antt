@@ -1,4 +1,4 @@
--- What is right in the summary of a message, and the count of its lines.
+-- What is valid in the summary of a message, and the count of its lines.
 use Rattle.std.specs.Prelude.{◌≡◌, ◌⊎◌, true, List, ◌∷◌, ◌++◌, length, filter, codes}
 use Rattle.edi_tokens.specs.declared.segment.Segment.{Segment}
 use Rattle.edi_envelope.specs.Segments.{component}
@@ -6,7 +6,7 @@ use Rattle.edi_messages.specs.Parts.{is_lin, is_uns, is_qualified}
 use Rattle.edi_law.specs.Parts.{HasNone, IsOnly, OfOnly}
 use Rattle.edi_law.specs.Values.{IsCount}
 
--- there is just one UNS, which says S, and no LIN behind it
+-- there is just one UNS, which says S, and no LIN after it
 pub record IsClosed (message : List Segment) : Type 0 where
   pub uns : Segment
   pub is_only : IsOnly is_uns message uns

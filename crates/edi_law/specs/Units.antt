@@ -1,4 +1,4 @@
--- What is right in the units of a despatch advice or a receiving advice.
+-- What is valid in the units of a despatch advice or a receiving advice.
 use Rattle.std.specs.Prelude.{◌≡◌, ◌≢◌, ℕ, List, [], ◌∷◌, filter, codes}
 use Rattle.std.specs.List.{list_any, AllZip, AllByRecursion}
 use Rattle.gs1_ids.specs.Sscc.{IsSscc}
@@ -34,7 +34,7 @@ pub record NoLineOutside (message : List Segment) : Type 0 where
   pub is_front : IsFront is_cps outside message
   pub no_line : HasNone is_lin outside
 
--- a GIN has the SSCC alone behind its qualifier, and the SSCC is right
+-- a GIN has the SSCC alone after its qualifier, and the SSCC is valid
 pub record IsMarked (sscc : List ℕ) (gin : Segment) : Type 0 where
   pub qualifier : List (List ℕ)
   pub place : gin.elements ≡ qualifier ∷ ((sscc ∷ []) ∷ [])
@@ -54,13 +54,13 @@ pub record IsUnit (unit : List Segment) (sscc : List ℕ) : Type 0 where
   pub identifier : component cps 0 0 ≢ []
   pub sscc_is : HasSscc unit sscc
 
--- each of the units is right, and no SSCC comes twice
+-- each of the units is valid, and no SSCC comes twice
 pub record AreMarked (units : List (List Segment)) : Type 0 where
   pub ssccs : List (List ℕ)
   pub marked : AllZip IsUnit units ssccs
   pub apart : NoneTwice ssccs
 
--- the units of a message are right
+-- the units of a message are valid
 pub record HasUnits (message : List Segment) : Type 0 where
   pub outside : NoLineOutside message
   pub units : OfUnits AreMarked message

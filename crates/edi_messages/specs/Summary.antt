@@ -17,7 +17,7 @@ abbrev pub is_summary : Option Segment → Bool
 is_summary None = false
 is_summary (Some uns) = bytes_eq (component uns 0 0) (codes "S")
 
--- there is one UNS, and no LIN behind it
+-- there is one UNS, and no LIN after it
 abbrev pub has_summary : List Segment → Bool
 has_summary message = is_summary (only (filter is_uns message)) && not (list_any is_lin (behind_uns message))
 

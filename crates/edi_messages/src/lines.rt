@@ -58,7 +58,7 @@ impl<'a> LineItem<'a> {
     }
 }
 
-// The item of a LIN, where it is right and said to be one.
+// The item of a LIN, where it is valid and said to be one.
 fn gtin_of(lin: &Segment) -> Option<Gtin>
     ensures { result ≡ spec.gtin_in lin.now }
 {

@@ -76,7 +76,7 @@ abbrev pub is_of_order : Option (List ℕ) → Option (List ℕ) → Bool
 is_of_order (Some one) (Some other) = bytes_eq one other
 is_of_order _ _ = false
 
--- a right reference to the order of the header
+-- a valid reference to the order of the header
 abbrev pub is_referred_by : Option (List ℕ) → Option Segment → Bool
 is_referred_by order None = false
 is_referred_by order (Some rff) = is_order_reference rff && is_of_order (order_named rff) order

@@ -147,7 +147,7 @@ is_shown bytes (Err fault) e = λ other. subst (IsRead bytes) (failed_as fault (
 
 -- ---- the byte that shows the fault is one
 
--- of two fronts of one text the longer begins with the shorter and the byte behind it
+-- of two fronts of one text the longer begins with the shorter and the byte after it
 longer_front : (f g r q : List ℕ) (a b : ℕ) → f ++ a ∷ r ≡ g ++ b ∷ q → length f < length g → (more : List ℕ) × (g ≡ f ++ a ∷ more)
 longer_front [] [] r q a b e lt = absurd (omega arith)
 longer_front [] (y ∷ g) r q a b e lt = let same : a ≡ y = cc in (g, ap (λ (x : ℕ). x ∷ g) (sym same))
@@ -158,7 +158,7 @@ longer_front (x ∷ f) (y ∷ g) r q a b e lt =
     let others = longer_front f g r q a b rest (omega arith) in
     (others.0, ap (λ (z : ℕ). z ∷ g) (sym same) ∙ ap (λ (t : List ℕ). x ∷ t) others.1)
 
--- where one byte shows a fault, no later byte stands behind a right front
+-- where one byte shows a fault, no later byte stands after a valid front
 not_later : (bytes : List ℕ) (fault other : TokenFault) (e : ByteShows bytes fault) (h : ByteShows bytes other) → length e.front < length h.front → ⊥
 not_later bytes fault other e h lt =
     let stops : step e.reading e.byte ≡ Err fault = stops_at bytes fault e (omega (arith, h.is_first)) in

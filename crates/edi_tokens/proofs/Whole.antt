@@ -1,4 +1,4 @@
--- Each right front of a text is run through, and its run ends where the front does.
+-- Each valid front of a text is run through, and its run ends where the front does.
 use Rattle.std.proofs.Common.{◌≡◌, ◌≢◌, ℕ, suc, ◌+◌, ◌<◌, ◌≤◌, Bool, true, false, cond, eqb, ltb, leb, List, [], ◌∷◌, ◌++◌, length, map, Option, Some, None, Result, Ok, Err, refl, sym, ap, subst, ◌∙◌, append_assoc, append-nil, add-one, arith, inl, inr}
 use Rattle.std.specs.Prelude.{IsTrue, ◌&&◌, ◌||◌, not, ◌⊎◌}
 use Rattle.std.proofs.lemmas.List.{length-append}
@@ -379,7 +379,7 @@ six_end _ s h = absurd cc
 advice_runs : (a : Advice) (s : Service) → LineEnds a.before → service_of a.six ≡ Some s → Goes start (a.before ++ (una_tag ++ a.six)) (outside s [] false)
 advice_runs a s ends right = run_then (line_ends_run a.before usual [] true ends) (run_then una_runs (six_end a.six s right))
 
--- ---- whole segments, and right fronts
+-- ---- whole segments, and valid fronts
 
 fresh_first : (advice : Option Advice) (segments : List Segment) → Bool
 fresh_first advice segments = is_fresh advice segments
@@ -449,7 +449,7 @@ released_runs text s segments o e =
     let last = release_step s segments d.tag d.elements d.element d.component d.length e.release apart (omega (arith, longer, e.is_short)) e.release_is in
     goes_as text _ (run_then before last) e.text_is (ap (λ (x : Open). record { service = s; segments = segments; place = Released x }) (sym e.open_is))
 
--- a right front of a text is run through, to the place where it ends
+-- a valid front of a text is run through, to the place where it ends
 pub front_runs : (text : List ℕ) (s : Service) (segments : List Segment) (place : Place) → EndsAt text s segments place → Goes start text (record { service = s; segments = segments; place = place })
 front_runs text s segments (Outside fresh) e = goes_as text _ (whole_runs text s segments e.whole) refl (ap (outside s segments) (sym e.fresh_is))
 front_runs text s segments (InService six) e =

@@ -45,7 +45,7 @@ abbrev pub differs : ℕ → List ℕ → Bool
 differs b [] = true
 differs b (c ∷ cs) = not (b == c) && differs b cs
 
--- whether six characters are right, in their order: component separator, element separator, decimal mark,
+-- whether six characters are valid, in their order: component separator, element separator, decimal mark,
 -- release character or a blank, reserved position, terminator
 abbrev pub are_right : ℕ → ℕ → ℕ → ℕ → ℕ → ℕ → Bool
 are_right component element decimal release reserved terminator =
@@ -54,7 +54,7 @@ are_right component element decimal release reserved terminator =
     && ((differs component (element ∷ terminator ∷ release ∷ decimal ∷ []) && differs element (terminator ∷ release ∷ decimal ∷ []))
     && (differs terminator (release ∷ decimal ∷ []) && differs release (decimal ∷ []))))
 
--- what six characters say, where they are right; a blank for the release character says that there is none
+-- what six characters say, where they are valid; a blank for the release character says that there is none
 abbrev pub service_of : List ℕ → Option Service
 service_of (component ∷ element ∷ decimal ∷ release ∷ reserved ∷ terminator ∷ []) =
     if are_right component element decimal release reserved terminator

@@ -40,7 +40,7 @@ pub fn reading_is_the_grammar()
         Shows bytes fault ↔ (tokens_of bytes ≡ Err fault) }
 {}
 
-/// The canonical text of segments that some text spells, behind a service string, spells them again,
+/// The canonical text of segments that some text spells, after a service string, spells them again,
 /// where it keeps within the longest text and the longest segment.
 pub fn canonical_text_spells_again()
     ensures { (bytes : List ℕ) (s : Service) (xs : List Segment) (decimal : ℕ) →

@@ -101,7 +101,7 @@ fn put_text<W: Sink>(
     Ok(())
 }
 
-/// Writes a front and the text of segments behind it.
+/// Writes a front and the text of segments after it.
 fn put_all<W: Sink>(out: &mut W, front: &[u8], segments: &[Segment]) -> Result<(), WriteFault>
     ensures bytes { Puts result (W.contents out.old) (W.contents out.new) [] [] (front.now ++ text segments.now) }
     ensures flag { Flags result (W.failed out.old) (W.failed out.new) }

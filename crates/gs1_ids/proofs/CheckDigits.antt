@@ -3,7 +3,7 @@ use Rattle.std.proofs.Common.{◌≡◌, ℕ, ◌+◌, ◌-◌, ◌*◌, ◌%◌
 use Rattle.std.proofs.lemmas.List.{at_drop_more, at_drop_all}
 use Rattle.gs1_ids.specs.Digits.{digit_value, weight, weighted_sum, check}
 
--- the digit at a place of the walk weighs by what is left behind it
+-- the digit at a place of the walk weighs by what is left after it
 weighted_sum-drop : (xs : List ℕ) (i : ℕ) → i < length xs → weighted_sum (drop i xs) ≡ digit_value (get_or xs i 0) * weight (length xs - 1 - i) + weighted_sum (drop (i + 1) xs)
 weighted_sum-drop xs i h =
     let e : length (drop (i + 1) xs) ≡ length xs - 1 - i = omega (arith, length-drop (i + 1) xs) in

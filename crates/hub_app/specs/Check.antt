@@ -25,7 +25,7 @@ pub record IsRegisterText (bytes : List ℕ) : Type 0 where
   pub fits : length bytes ≤ text_limit
   pub utf8 : IsUtf8 bytes
 
--- what a failed read of a text is told as
+-- what a failed read of a text is reported as
 abbrev pub told_read_fault : ReadFault → TextFault
 told_read_fault read.Read = File
 told_read_fault read.Memory = Memory

@@ -13,7 +13,7 @@ use edi_show::show_text;
 use edi_tokens::{MemoryFault, Sink, Source, read_to_limit, write_bytes};
 use std::alloc::Global;
 
-// What a text says, as it is told.
+// What a text says, as it is reported.
 #[derive(Drop)]
 struct Told {
     lines: Vec<u8>,

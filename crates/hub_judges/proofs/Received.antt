@@ -86,7 +86,7 @@ joined_joined : (first second : List Change) (rest : Verdict) → joined first (
 joined_joined first second (Refuse code) = refl
 joined_joined first second (Accept rest) = ap Accept (sym (append_assoc first second rest))
 
--- what comes of a RECADV that is new, behind a first change, where the mailbox has a number left
+-- what comes of a RECADV that is new, after a first change, where the mailbox has a number left
 pub new_receipt_alike : (first : Change) (supplier : List ℕ) (incoming : IncomingMessage) (body : List ℕ) (receipt : Receipt) (state : Tables) (mails : ℕ) (pallets : List (Option PalletRow))
     → is_full mails ≡ false → length state.mail ≡ mails → map (λ unit. pallet_of state unit.sscc) receipt.units ≡ pallets → has_twice (map (λ unit. unit.sscc) receipt.units) ≡ false
     → joined (first ∷ []) (judge_new_receipt supplier incoming body receipt state) ≡ joined (first ∷ mail_entry supplier (mails + 1) incoming kinds.Receipt receipt.number body ∷ []) (receipts_from receipt.units pallets)

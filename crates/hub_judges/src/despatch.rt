@@ -41,7 +41,7 @@ fn line_fault(said: &DespatchLine, line: &LineFacts) -> Option<Code>
     None
 }
 
-// Puts the lines of a unit behind the changes, and into the book; or the rule that one of them is against: B05, B06, B09, B10.
+// Puts the lines of a unit after the changes, and into the book; or the rule that one of them is against: B05, B06, B09, B10.
 fn load<'a>(
     alloc: Global,
     unit: &'a Unit,
@@ -129,7 +129,7 @@ fn announced_pallet(
     }))
 }
 
-// What comes of the units behind these changes: of each B11 and B12 are asked, and then its lines, on what the earlier ones
+// What comes of the units after these changes: of each B11 and B12 are asked, and then its lines, on what the earlier ones
 // left.
 fn judge_units<'a>(
     alloc: Global,
@@ -162,7 +162,8 @@ fn judge_units<'a>(
 
 /// What comes of a DESADV: B01, B02, B03 and B13 are asked in this order; then of each unit B11 and B12, and of each of its
 /// lines B05, B06, B09 and B10, on what the earlier lines left. Asks that it is known of each unit whether its SSCC is used, that
-/// the lines that are known rise by order number and line number, and that no SSCC stands in two units.
+/// the lines that are known rise by order number and line number, and that no SSCC stands in two units. `MemoryFault` where
+/// memory ran out.
 pub fn judge_despatch(
     alloc: Global,
     retailer: &Gln,

@@ -1,4 +1,4 @@
--- Uploads that are whole, and those that are stopped behind some of their messages.
+-- Uploads that are whole, and those that are stopped after some of their messages.
 use Rattle.std.proofs.Common.{◌≡◌, ℕ, zero, suc, ◌<◌, ◌≤◌, nat_lt, true, false, if◌then◌else◌, List, [], ◌∷◌, ◌++◌, length, take, Option, Some, None, Ok, Err, refl, sym, ◌∙◌, ap, subst, arith}
 use Rattle.std.specs.List.{list_any}
 use Rattle.std.proofs.lemmas.Bool.Decides.{nat_tests}
@@ -58,7 +58,7 @@ module _ (deliver : RawMessage × IncomingMessage → Act) (moment : ℕ) (t : T
       ap (λ told. cut k i told (in_row deliver (take k (messages_at moment i)) t).1) (told_first deliver k (messages_at moment i) t)
       ∙ ap (λ lines. (record { outcome = Stopped; refused = list_any is_refused (take k (told_of i)); body = (interchange_line i ++ lines) ++ stopped_line }, (in_row deliver (take k (messages_at moment i)) t).1)) (lines_first k i.messages (told_of i))
 
-  -- by the messages behind which it was stopped
+  -- by the messages after which it was stopped
   abbrev by_stop : Option ℕ → ℕ → Interchange → Reply × Tables
   by_stop behind k i =
       let looked : List (RawMessage × IncomingMessage) = first_done (StoppedAfter k) behind (messages_at moment i) in

@@ -126,7 +126,7 @@ orders_come : replies (
 unfolding interchange_in interchange_of fault_of contents_of is_framed is_row_of_messages is_outside_set order_of response_of despatch_of receipt_of entry_text list_text status_text digits
 orders_come = refl
 
--- answers, despatches and a receipt over these two orders; the status behind them; and cancellations
+-- answers, despatches and a receipt over these two orders; the status after them; and cancellations
 goods_come : replies (
     by_retailer (requests.Upload (first_order))
     ∷ by_retailer (requests.Upload (second_order))
@@ -205,7 +205,7 @@ suppliers_have_their_own_orders : replies (
 unfolding interchange_in interchange_of fault_of contents_of is_framed is_row_of_messages is_outside_set order_of response_of despatch_of receipt_of entry_text list_text status_text digits
 suppliers_have_their_own_orders = refl
 
--- a wrong message beside a right one; and a wrong envelope, which refuses both
+-- a wrong message beside a valid one; and a wrong envelope, which refuses both
 each_message_is_by_itself : replies (
     by_retailer (requests.Upload (codes "UNA:+.? 'UNB+UNOC:3+5412345000013:14+5412345000006:14+250603:0915+1001'UNH+1+ORDERS:D:01B:UN:EAN010'BGM+220+128576+9'DTM+137:20250603:102'NAD+BY+5412345000013::9'NAD+SU+8712345000004::9'LIN+1++4000862141404:SRV'QTY+21:0'UNS+S'CNT+2:1'UNT+9+1'UNH+2+ORDERS:D:01B:UN:EAN010'BGM+220+128576+9'DTM+137:20250603:102'NAD+BY+5412345000013::9'NAD+SU+4012345500004::9'LIN+1++4000862141404:SRV'QTY+21:48'UNS+S'CNT+2:1'UNT+10+2'UNZ+2+1001'"))
     ∷ by alpha requests.Status
@@ -216,7 +216,7 @@ each_message_is_by_itself : replies (
 unfolding interchange_in interchange_of fault_of contents_of is_framed is_row_of_messages is_outside_set order_of response_of despatch_of receipt_of entry_text list_text status_text digits
 each_message_is_by_itself = refl
 
--- before anything, behind its first message, behind as many as it has, and not
+-- before anything, after its first message, after as many as it has, and not
 an_upload_is_stopped : replies (
     ((record { moment = 1_748_942_400; caller = retailer; key = codes "retail-key"; request = requests.Upload two_orders }), StoppedEmpty)
     ∷ ((record { moment = 1_748_942_400; caller = retailer; key = codes "retail-key"; request = requests.Upload two_orders }), StoppedBare)

@@ -28,7 +28,7 @@ pub record MessageAt (register : RegisterRows) (input : Input) (place : ℕ) (me
 abbrev pub Reaches : Mark → Input → Interchange → ℕ → Type 0
 Reaches mark input upload place = place < length (looked_at input.moment mark (Ok upload))
 
--- the tables when the message at a place of an upload comes, which is behind a run
+-- the tables when the message at a place of an upload comes, which is after a run
 abbrev pub tables_before : RegisterRows → Tables → Inputs → Input → Interchange → ℕ → Tables
 tables_before register t before input upload place =
     (first_acts place register input upload (shared_run register t before).1).1
@@ -38,7 +38,7 @@ abbrev pub told_at : RegisterRows → Tables → Inputs → Input → Interchang
 told_at register t before input upload place =
     slice_get (all_acts register input upload (shared_run register t before).1).0 place
 
--- From sound tables of free prefixes, and behind a run, the message at a place of an upload is accepted, and the upload
+-- From sound tables of free prefixes, and after a run, the message at a place of an upload is accepted, and the upload
 -- is not stopped before it is done.
 pub record AcceptedAt (register : RegisterRows) (t : Tables) (before : Inputs) (input : Input) (mark : Mark) (place : ℕ)
     (message : RawMessage) : Type 0 where

@@ -37,7 +37,7 @@ pub record AsksStatus (register : RegisterRows) (s : SupplierRow) (input : Input
   pub retailers : role_of register input.caller input.key ≡ Some Retailer
   pub asks : input.request ≡ StatusOf s.gln
 
--- the reply to an input that is not stopped, at its place in a run: behind some inputs and before others
+-- the reply to an input that is not stopped, at its place in a run: after some inputs and before others
 abbrev pub reply_between : RegisterRows → Tables → Inputs → Input → Inputs → Option Reply
 reply_between register t before input later =
     slice_get (shared_run register t (before ++ (input, Whole) ∷ later)).0 (length before)
@@ -51,7 +51,7 @@ pub record Agree (s : SupplierRow) (first second : RegisterRows) (t u : Tables) 
   pub rows : SameRows (view s.gln t) (view s.gln u)
   pub items : items s.gln first xs ≡ items s.gln second ys
 
--- The retailer asks for the status of the supplier behind each of two runs that agree on it, whatever comes later, and
+-- The retailer asks for the status of the supplier after each of two runs that agree on it, whatever comes later, and
 -- there are as many of its items before it.
 pub record AgreeBefore (s : SupplierRow) (first second : RegisterRows) (t u : Tables) (xs xs_later ys ys_later : Inputs)
     (x y : Input) : Type 0 where

@@ -55,7 +55,7 @@ reply_lines i told = interchange_line i ++ message_lines i.messages told
 abbrev pub refused_reply : List ℕ → Reply
 refused_reply code = record { outcome = Bad; refused = true; body = line (codes "refused" ∷ code ∷ []) }
 
--- the reply to an upload, by what is told of all its messages, or of those behind which it was stopped
+-- the reply to an upload, by what is told of all its messages, or of those after which it was stopped
 abbrev pub whole_reply : Interchange → List Told → Reply
 whole_reply i told = record { outcome = Done; refused = list_any is_refused told; body = reply_lines i told }
 

@@ -29,7 +29,7 @@ use Rattle.hub_law.specs.declared.request.Request.TheVariants as requests
 
 -- Uploads.
 
--- the messages that are looked at: all, or the first so many of more where it was stopped behind them, or none
+-- the messages that are looked at: all, or the first so many of more where it was stopped after them, or none
 abbrev pub looked_at : ℕ → Mark → Opened → List (RawMessage × IncomingMessage)
 looked_at moment mark (Err code) = []
 looked_at moment mark (Ok i) = first_done mark (stopped_behind mark (length i.messages)) (messages_at moment i)

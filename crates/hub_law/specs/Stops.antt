@@ -1,4 +1,4 @@
--- What a stop behind some messages of an upload replies and leaves.
+-- What a stop after some messages of an upload replies and leaves.
 use Rattle.std.specs.Prelude.{ℕ, List, ◌++◌, take, Option, Some, None, Ok, Err}
 use Rattle.std.specs.List.{list_any}
 use Rattle.edi_envelope.specs.declared.interchange.RawMessage.{RawMessage}
@@ -62,7 +62,7 @@ all_acts register input i = in_row (act_of register input) (messages_at input.mo
 abbrev pub first_acts : ℕ → RegisterRows → Input → Interchange → Tables → List Told × Tables
 first_acts k register input i = in_row (act_of register input) (take k (messages_at input.moment i))
 
--- the reply where it was stopped behind k messages: the first k lines of the whole reply, and that it was stopped
+-- the reply where it was stopped after k messages: the first k lines of the whole reply, and that it was stopped
 abbrev pub reply_behind : ℕ → Interchange → List Told → Reply
 reply_behind k i told = record {
   outcome = Stopped;

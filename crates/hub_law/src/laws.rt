@@ -43,7 +43,7 @@ pub fn run_is_own()
 {}
 
 /// Two runs that agree on a supplier are alike for it: it sees the same in the end and is told the same, and a status
-/// of it for which the retailer asks behind as many of its items in the one as in the other is the same. They agree on
+/// of it for which the retailer asks after as many of its items in the one as in the other is the same. They agree on
 /// its GLN, prefixes and key, on the GLNs of hub and retailer, on its rows at the start, and on its items. The other
 /// suppliers, the retailer's key, all other rows and all other inputs may differ.
 pub fn runs_alike()

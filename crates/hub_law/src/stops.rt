@@ -23,8 +23,8 @@ pub fn stops_are_told()
 {}
 
 /// An upload whose messages are looked at is replied to by the line of its interchange and a line for each message, and
-/// each is one act, in their order. Stopped behind k of more messages, its reply is the first k of these lines and the
-/// word, and the tables are those after the first k acts. A stop behind k messages of anything else, or of no more than
+/// each is one act, in their order. Stopped after k of more messages, its reply is the first k of these lines and the
+/// word, and the tables are those after the first k acts. A stop after k messages of anything else, or of no more than
 /// k, is one before anything was done.
 pub fn stops_cut_uploads()
     ensures whole { (register : RegisterRows) (t : Tables) (input : Input) (i : Interchange) →

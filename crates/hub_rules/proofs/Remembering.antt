@@ -48,7 +48,7 @@ module _ (r : Reference) (content : List ℕ) (state : Tables) where
   judged_remembers : (fresh : Judge) → Remembers r content ⊤ state (judge_once r content fresh state)
   judged_remembers fresh = once_remembers fresh (remembered_of state r.side r.control r.message) refl
 
-  -- behind a check
+  -- after a check
   checked_remembers : (A : Type 0) (b : Bool) (code : Code) (rest : Verdict) → Remembers r content A state rest → Remembers r content ((b ≡ false) × A) state (refuse_if b code rest)
   checked_remembers A true code rest there = record { first = λ change changes h. cc; again = (λ h. cc, λ both. let no = (both.0).0 in absurd (cc)) }
   checked_remembers A false code rest there = record { first = there.first; again = (λ h. let found = (there.again).0 h in ((refl, found.0), found.1), λ both. (there.again).1 ((both.0).1, both.1)) }
