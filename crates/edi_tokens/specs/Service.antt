@@ -1,4 +1,4 @@
--- The service characters of a text, and the service string advice UNA (ISO 9735 section 7.1).
+-- The service characters of a text, and the service string advice UNA (ISO 9735).
 use Rattle.std.specs.Prelude.{ℕ, Bool, true, ◌==◌, ◌&&◌, ◌||◌, not, nat_le, List, [], ◌∷◌, Option, Some, None, if◌then◌else◌}
 use Rattle.edi_tokens.specs.declared.segment.Service.{Service}
 use Rattle.edi_tokens.specs.Characters.{is_capital, is_small, is_digit}

@@ -1,4 +1,4 @@
--- What a text spells (ISO 9735 syntax version 3, sections 5 to 8): the token grammar, as a relation.
+-- What a text spells (ISO 9735 syntax version 3: character sets, structures, compression): the token grammar, as a relation.
 use Rattle.std.specs.Prelude.{◌≡◌, ◌≢◌, ◌⊎◌, ◌≤◌, ℕ, IsTrue, ◌||◌, not, List, [], ◌∷◌, ◌++◌, length, map, Option, Some, None}
 use Rattle.std.specs.List.{AllByRecursion}
 use Rattle.edi_tokens.specs.declared.segment.Service.{Service}

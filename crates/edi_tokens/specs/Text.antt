@@ -1,4 +1,4 @@
--- The canonical text of segments (ISO 9735 sections 5 and 8): the usual service characters `:` `+` `?` `'`,
+-- The canonical text of segments (ISO 9735, character sets and structures): the usual service characters `:` `+` `?` `'`,
 -- a release character before each of them in data and nowhere else, no line ends.
 use Rattle.std.specs.Prelude.{ℕ, Bool, ◌==◌, ◌||◌, List, [], ◌∷◌, ◌++◌, if◌then◌else◌}
 use Rattle.std.specs.List.{flat_map}

@@ -1,4 +1,4 @@
-//! The service characters of a text (ISO 9735, section 7.1).
+//! The service characters of a text (ISO 9735, service string advice).
 
 ghost use Rattle.std.specs.Prelude.{◌≡◌, ◌≤◌, IsTrue, length, take};
 ghost use Rattle.edi_tokens.specs.Service as spec;

@@ -1,4 +1,4 @@
-//! The canonical text of segments (ISO 9735, sections 5 and 8).
+//! The canonical text of segments (ISO 9735, character sets and structures).
 
 ghost use Rattle.std.specs.Prelude.{◌≡◌, ◌≤◌, ◌<◌, [], ◌++◌, length, take, IsTrue, OnOk, OnErr, IfOk, true, slice_index};
 ghost use Rattle.std.specs.Io.KnownBytes.{Appends};
@@ -112,7 +112,7 @@ fn put_all<W: Sink>(out: &mut W, front: &[u8], segments: &[Segment]) -> Result<(
     buffer.flush(out)
 }
 
-/// The service string `UNA:+.? '`, with this decimal mark (ISO 9735, section 7.1).
+/// The service string `UNA:+.? '`, with this decimal mark (ISO 9735, service string advice).
 pub fn service_string(decimal: u8) -> [u8; 9]
     ensures { result ≡ una decimal }
 {
@@ -121,8 +121,8 @@ pub fn service_string(decimal: u8) -> [u8; 9]
     ]
 }
 
-/// Writes the service string `UNA:+.? '`, with this decimal mark, and the canonical text of segments
-/// (ISO 9735, sections 5, 7.1 and 8). It takes no memory. At `WriteFault` a front of the text was written.
+/// Writes the service string `UNA:+.? '`, with this decimal mark, and the canonical text of segments (ISO 9735, character
+/// sets, service string advice and structures). It takes no memory. At `WriteFault` a front of the text was written.
 pub fn write_text<W: Sink>(segments: &[Segment], decimal: u8, out: &mut W) -> Result<(), WriteFault>
     ensures ok { OnOk result (Appends (W.contents out.old) (W.contents out.new) (una decimal ++ text segments.now)) }
     ensures err { OnErr result (AppendsFront (W.contents out.old) (W.contents out.new) (una decimal ++ text segments.now)) }
@@ -152,7 +152,7 @@ pub fn append_text(out: &mut Vec<u8>, segments: &[Segment]) -> Result<(), Memory
     Ok(())
 }
 
-/// The canonical text of segments, with no service string (ISO 9735, sections 5 and 8).
+/// The canonical text of segments, with no service string (ISO 9735, character sets and structures).
 pub fn body_text(alloc: Global, segments: &[Segment]) -> Result<Vec<u8>, MemoryFault>
     ensures { IfOk result (λ text_of. text_of.items ≡ text segments.now) }
 {
