@@ -1,5 +1,5 @@
 -- The despatch advice that a message is (DESADV), or its message fault.
-use Rattle.std.specs.Prelude.{ℕ, ◌==◌, Bool, false, not, ◌&&◌, ◌||◌, List, [], map, is_some, codes, Option, Some, None, Result}
+use Rattle.std.specs.Prelude.{ℕ, ◌==◌, Bool, false, not, ◌&&◌, List, [], map, is_some, codes, Option, Some, None, Result}
 use Rattle.std.specs.List.{list_all}
 use Rattle.std.specs.Option.{unwrap_or}
 use Rattle.std.specs.Str.{bytes_eq}

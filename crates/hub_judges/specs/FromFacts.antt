@@ -1,7 +1,7 @@
 -- The rules of lines and units once more, without a state: what comes of what is known. The loops of the judges meet these by their
 -- invariants, and a lemma for each says that they are the rules' cases. They are steps of those proofs; no public clause rests
 -- on them.
-use Rattle.std.specs.Prelude.{ℕ, Bool, ◌+◌, ◌-◌, ◌==◌, nat_lt, not, List, [], ◌∷◌, map, filter, Option, Some, Result, Ok, Err}
+use Rattle.std.specs.Prelude.{ℕ, Bool, ◌+◌, ◌-◌, nat_lt, not, List, [], ◌∷◌, map, filter, Option, Some, Result, Ok, Err}
 use Rattle.edi_base.specs.Seen.{is_among}
 use Rattle.gs1_ids.specs.Sscc.{under_some}
 use Rattle.edi_orders.specs.declared.response.Answer.{Answer}
