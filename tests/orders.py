@@ -4,7 +4,7 @@ from shown import RETAILER, SUPPLIER, Interchange, both, edited, edits, refusal,
 # A right order and a right response, from UNH up to where UNT stands.
 ORDER = "UNH+1+ORDERS:D:01B:UN:EAN010'BGM+220+128576+9'DTM+137:20250603:102'NAD+BY+5412345000013::9'NAD+SU+4012345500004::9'LIN+1++4000862141404:SRV'QTY+21:48'UNS+S'CNT+2:1'"
 
-RESPONSE = "UNH+1+ORDRSP:D:01B:UN:EAN009'BGM+231+R1+4'DTM+137:20250603:102'RFF+ON:128576'NAD+BY+5412345000013::9'NAD+SU+4012345500004::9'LIN+1+3+4000862141404:SRV'QTY+113:36'UNS+S'"
+RESPONSE = "UNH+1+ORDRSP:D:01B:UN:EAN009'BGM+231+AB128+4'DTM+137:20250603:102'RFF+ON:128576'NAD+BY+5412345000013::9'NAD+SU+4012345500004::9'LIN+1+3+4000862141404:SRV'QTY+113:36'UNS+S'"
 
 
 def order(number="128576", supplier=SUPPLIER, lines=("1 item 04000862141404 ordered 48",)):
@@ -12,7 +12,7 @@ def order(number="128576", supplier=SUPPLIER, lines=("1 item 04000862141404 orde
     return [f"order {number}", f"buyer {RETAILER}", f"supplier {supplier}", *(f"line {line}" for line in lines)]
 
 
-def response(*answers, number="R1", answered="128576"):
+def response(*answers, number="AB128", answered="128576"):
     """The lines of a response."""
     return [f"response {number}", f"buyer {RETAILER}", f"supplier {SUPPLIER}", f"answers {answered}", *answers]
 
@@ -364,15 +364,15 @@ RESPONSE_HEADERS = [
     ("M01", ":D:", ":S:"),
     ("M01", ":01B:", ":01A:"),
     ("M01", ":UN:", ":UM:"),
-    ("M02", "BGM+231+R1+4'", ""),
+    ("M02", "BGM+231+AB128+4'", ""),
     ("M02", "BGM", "FTX'BGM"),
-    ("M02", "QTY", "BGM+231+R1+4'QTY"),
+    ("M02", "QTY", "BGM+231+AB128+4'QTY"),
     ("M02", "BGM+231", "BGM+220"),
     ("M02", "BGM+231", "BGM+"),
-    ("M02", "+R1+", "++"),
-    ("M02", "+R1+", "+123456789012345678901234567890123456+"),
-    ("M02", "+R1+", "+é+"),
-    ("ok", "+R1+", "+12345678901234567890123456789012345+"),
+    ("M02", "+AB128+", "++"),
+    ("M02", "+AB128+", "+123456789012345678901234567890123456+"),
+    ("M02", "+AB128+", "+é+"),
+    ("ok", "+AB128+", "+12345678901234567890123456789012345+"),
     ("ok", "+4'", "+9'"),
     ("ok", "+4'", "+27'"),
     ("ok", "+4'", "+29'"),
@@ -536,7 +536,7 @@ RESPONSES = [
 # wrong.
 ROOMY_ORDER = "UNH+1+ORDERS:D:01B:UN'BGM+220+128576+9'FTX+AAI'NAD+SU+4012345500004::9'NAD+BY+5412345000013::9'DTM+137:20250603:102'LIN+1++4000862141404:SRV'QTY+21:48'LIN+2++4000862141411:SRV'QTY+21:9'UNS+S'MOA+86'"
 
-ROOMY_RESPONSE = "UNH+1+ORDRSP:D:01B:UN'BGM+231+R1+4'FTX+AAI'RFF+ON:128576'NAD+SU+4012345500004::9'NAD+BY+5412345000013::9'DTM+137:20250603:102'LIN+1+5+4000862141404:SRV'RFF+ON:128576:1'LIN+2+3+4000862141411:SRV'QTY+113:36'LIN+3+7+4000862141404:SRV'UNS+S'MOA+86'"
+ROOMY_RESPONSE = "UNH+1+ORDRSP:D:01B:UN'BGM+231+AB128+4'FTX+AAI'RFF+ON:128576'NAD+SU+4012345500004::9'NAD+BY+5412345000013::9'DTM+137:20250603:102'LIN+1+5+4000862141404:SRV'RFF+ON:128576:1'LIN+2+3+4000862141411:SRV'QTY+113:36'LIN+3+7+4000862141404:SRV'UNS+S'MOA+86'"
 
 # An edit for each fault of an order, by rising code. Higher ones stand earlier in the text wherever they can.
 ORDER_FAULTS = [
@@ -555,8 +555,8 @@ ORDER_FAULTS = [
 # The same for a response, with a wrong reference in a line and in the header.
 RESPONSE_FAULTS = [
     ("M01", "ORDRSP:D:", "ORDRSP:S:"),
-    ("M02", "MOA+86'", "BGM+231+R1+4'"),
-    ("M03", "BGM+231+R1+4'", "BGM+231+R1+5'"),
+    ("M02", "MOA+86'", "BGM+231+AB128+4'"),
+    ("M03", "BGM+231+AB128+4'", "BGM+231+AB128+5'"),
     ("M04", "DTM+137:20250603:102'", "DTM+137:20250229:102'"),
     ("M05", "NAD+SU+4012345500004::9'", "NAD+SU+4012345500005::9'"),
     ("M06", "UNS+S'", "UNS+D'"),

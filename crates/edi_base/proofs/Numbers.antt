@@ -11,7 +11,7 @@ pub number_grows : (n : ℕ) (digits : List ℕ) → n ≤ fold with_digit n dig
 number_grows n [] = omega arith
 number_grows n (d ∷ ds) = let more = number_grows (with_digit n d) ds in omega (arith, more)
 
--- a number past the greatest, with the digits that are left behind it
+-- a number past the greatest, with the digits that are left after it
 pub past_greatest : (n : ℕ) (digits : List ℕ) (i d : ℕ) → number_of digits ≡ fold with_digit n (drop i digits) → i < length digits → greatest < with_digit n (get_or digits i d) → None ≡ value_of digits
 past_greatest n digits i d value within past =
     let more : number_of digits ≡ fold with_digit (with_digit n (get_or digits i d)) (drop (i + 1) digits) = value ∙ ap (fold with_digit n) (drop_more digits i d within) in
@@ -19,7 +19,7 @@ past_greatest n digits i d value within past =
     let above : greatest < number_of digits = omega (arith, more, grown, past) in
     rw (lt-leb (number_of digits) greatest above) refl
 
--- so many digits behind a number
+-- so many digits after a number
 pub digits_below : (n : ℕ) (digits : List ℕ) → list_all is_digit digits ≡ true → fold with_digit n digits < (n + 1) * 10 ^ length digits
 digits_below n [] h = omega arith
 digits_below n (d ∷ ds) h =

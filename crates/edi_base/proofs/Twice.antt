@@ -44,7 +44,7 @@ module _ {K X : Type 0} (item : K → X) (order : K → K → Ordering) (same : 
   contains-among q [] = refl
   contains-among q (k ∷ keys) = rw (tells q k, contains-among q keys) refl
 
--- the text behind a reference, and the order of references
+-- the text after a reference, and the order of references
 abbrev pub text_of : Bor (List ℕ) → List ℕ
 text_of key = key.now
 

@@ -21,7 +21,7 @@ are_digits low high bytes = has_length low high bytes && list_all is_digit bytes
 abbrev pub is_count : List ℕ → Bool
 is_count = are_digits 1 6
 
--- a number, and one more digit behind it
+-- a number, and one more digit after it
 abbrev pub with_digit : ℕ → ℕ → ℕ
 with_digit number digit = 10 * number + (digit - 48)
 

@@ -1,8 +1,10 @@
--- What reading does to the bytes of a source and to those that were read.
-use Rattle.std.specs.Prelude.{◌≡◌, ℕ, ◌<◌, ◌≤◌, List, ◌++◌, length, Option}
+-- What reading does to the bytes of a source and to those that were read, and what is printed where it fails.
+use Rattle.std.specs.Prelude.{◌≡◌, ℕ, ◌<◌, ◌≤◌, List, ◌++◌, length, codes, Option}
 use Rattle.std.specs.Io.KnownBytes.{Consumes, IsAtEnd}
+use Rattle.edi_base.specs.declared.source.ReadFault.{ReadFault}
+use Rattle.edi_base.specs.declared.source.ReadFault.TheVariants.{Read, Memory}
 
--- so many bytes of the source, none only at its end or where there is no room, stand behind those before
+-- so many bytes of the source, none only at its end or where there is no room, stand after those before
 pub record TakesPiece (old new : Option (List ℕ)) (before after : List ℕ) (room count : ℕ) : Type 0 where
   pub bytes : List ℕ
   pub consumed : Consumes old new bytes
@@ -16,3 +18,7 @@ pub record TakesAtMost (old new : Option (List ℕ)) (limit : ℕ) : Type 0 wher
   pub front : List ℕ
   pub taken : Consumes old new front
   pub within : length front ≤ limit
+
+abbrev pub read_fault_text : ReadFault → List ℕ
+read_fault_text Read = codes "read"
+read_fault_text Memory = codes "memory"

@@ -10,7 +10,7 @@ use std::marker::Model;
 const ROOM: usize = 1024;
 
 /// Bytes that wait to be written together, 1,024 at most. Contracts see them as a list. It takes no memory of an
-/// allocator. What is put into it is written in its order, behind what waited, and is lost where no `flush` follows.
+/// allocator. What is put into it is written in its order, after what waited, and is lost where no `flush` follows.
 #[derive(Drop)]
 pub struct Buffer {
     bytes: [u8; ROOM],
@@ -68,7 +68,7 @@ impl Buffer {
         Ok(())
     }
 
-    /// Puts bytes behind those that wait, and writes as many as there is no room for. At `WriteFault` a front of
+    /// Puts bytes after those that wait, and writes as many as there is no room for. At `WriteFault` a front of
     /// those that waited and these was written, and what then waits is not promised.
     pub fn put<W: Sink>(&mut self, out: &mut W, bytes: &[u8]) -> Result<(), WriteFault>
         ensures bytes { Puts result (W.contents out.old) (W.contents out.new) self.old self.new bytes.now }

@@ -32,8 +32,13 @@ pub trait Sink {
 pub struct WriteFault;
 
 impl fmt::Display for WriteFault {
+    ghost use Rattle.std.specs.Prelude.{Some};
+    ghost use Rattle.edi_base.specs.Sink.{write_fault_text};
+
+    ghost output = { λ _. Some write_fault_text };
+
     fn fmt<W: fmt::Write>(&self, f: &mut fmt::Formatter<W>) -> fmt::Result {
-        write!(f, "write")
+        f.write_str("write")
     }
 }
 

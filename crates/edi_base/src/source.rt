@@ -94,12 +94,16 @@ pub enum ReadFault {
 }
 
 impl fmt::Display for ReadFault {
+    ghost use Rattle.std.specs.Prelude.{Some};
+    ghost use Rattle.edi_base.specs.Source.{read_fault_text};
+
+    ghost output = { λ fault. Some (read_fault_text fault) };
+
     fn fmt<W: fmt::Write>(&self, f: &mut fmt::Formatter<W>) -> fmt::Result {
-        let text = match self {
-            ReadFault::Read => "read",
-            ReadFault::Memory => "memory",
-        };
-        write!(f, "{text}")
+        match self {
+            ReadFault::Read => f.write_str("read"),
+            ReadFault::Memory => f.write_str("memory"),
+        }
     }
 }
 
@@ -116,7 +120,7 @@ impl From<AllocError> for ReadFault {
 /// How many bytes are asked for at once.
 const PIECE: usize = 65_536;
 
-/// Reads once, and puts what came behind what was read before.
+/// Reads once, and puts what came after what was read before.
 fn read_piece<R: Source>(
     source: &mut R,
     piece: &mut [u8],

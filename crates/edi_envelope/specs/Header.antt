@@ -1,4 +1,4 @@
--- The interchange header UNB (ISO 9735 annex A). Its elements and their components are counted from 0.
+-- The interchange header UNB (ISO 9735, service segments). Its elements and their components are counted from 0.
 use Rattle.std.specs.Prelude.{ℕ, Bool, ◌==◌, ◌&&◌, ◌||◌, codes, length}
 use Rattle.std.specs.Str.{bytes_eq}
 use Rattle.edi_tokens.specs.declared.segment.Segment.{Segment}

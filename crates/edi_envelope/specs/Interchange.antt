@@ -1,4 +1,4 @@
--- The interchange that a list of segments is, or its envelope fault (ISO 9735 section 8).
+-- The interchange that a list of segments is, or its envelope fault (ISO 9735, structures).
 use Rattle.std.specs.Prelude.{ℕ, Bool, false, not, ◌==◌, ◌&&◌, ◌||◌, nat_le, nat_lt, List, [], ◌∷◌, map, length, find, Option, Some, None, Result, Ok, Err}
 use Rattle.std.specs.List.{list_any, list_all}
 use Rattle.std.specs.Str.{bytes_eq}

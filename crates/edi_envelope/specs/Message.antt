@@ -1,4 +1,4 @@
--- A message, UNH to UNT (ISO 9735 annex A). Elements and components are counted from 0.
+-- A message, UNH to UNT (ISO 9735, service segments). Elements and components are counted from 0.
 use Rattle.std.specs.Prelude.{ℕ, Bool, not, ◌&&◌, ◌||◌, List, length}
 use Rattle.std.specs.List.{list_any}
 use Rattle.std.specs.Str.{bytes_eq}

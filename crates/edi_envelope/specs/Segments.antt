@@ -1,4 +1,4 @@
--- The service segments of an interchange (ISO 9735 section 8, and annex A), and places in a list of segments.
+-- The service segments of an interchange (ISO 9735, structures and service segments), and places in a list of segments.
 use Rattle.std.specs.Prelude.{ℕ, ◌-◌, Bool, List, [], codes, length, take, drop, slice_index_or}
 use Rattle.std.specs.Str.{bytes_eq}
 use Rattle.edi_tokens.specs.declared.segment.Segment.{Segment}

@@ -1,6 +1,6 @@
 use edi_tokens::{Items, Segment};
 
-/// What the interchange header UNB says (ISO 9735, section 8, and annex A).
+/// What the interchange header UNB says (ISO 9735, structures and service segments).
 #[derive(Debug, Drop)]
 pub struct Head {
     /// The syntax identifier, `UNOA`, `UNOB` or `UNOC`.

@@ -127,7 +127,7 @@ fn numbered_segment(alloc: Global, segment: &Segment) -> Result<Segment, MemoryF
 
 /// The segments of the hub's interchange to a supplier that carries one message: UNB from `hub` to `owner` (GLNs of
 /// 13 digits) with date and time of `moment` at UTC and `number` as control reference, the message with the message
-/// reference number `1`, and UNZ. Written behind a service string they are the mail text. Fails only for memory.
+/// reference number `1`, and UNZ. Written after a service string they are the mail text. Fails only for memory.
 pub fn wrap(
     alloc: Global,
     hub: &[u8; 13],

@@ -1,5 +1,5 @@
 ghost use Rattle.std.specs.Prelude.{◌≡◌, ◌≤◌, ◌↔◌, IsSome, IfSome};
-ghost use Rattle.edi_envelope.specs.Moment.{date_text, time_text, Shows, two_digits as decimals};
+ghost use Rattle.edi_envelope.specs.Moment.{last_moment, date_text, time_text, Shows, two_digits as decimals};
 
 use jiff::Timestamp;
 use jiff::civil::DateTime;
@@ -31,7 +31,7 @@ impl Moment {
 
     /// The moment so many seconds after 1970-01-01T00:00:00Z, where it is in the range.
     pub fn new(seconds: u64) -> Option<Moment>
-        ensures valid { IsSome result ↔ (seconds ≤ 4_102_444_799) }
+        ensures valid { IsSome result ↔ (seconds ≤ last_moment) }
         ensures value { IfSome result (λ moment. moment ≡ seconds) }
     {
         if seconds <= Moment::LAST {
@@ -44,7 +44,7 @@ impl Moment {
     /// Seconds since 1970-01-01T00:00:00Z.
     pub fn seconds(self) -> u64
         ensures value { result ≡ self }
-        ensures bound { result ≤ 4_102_444_799 }
+        ensures bound { result ≤ last_moment }
     {
         self.seconds
     }

@@ -147,7 +147,7 @@ fn all_closed(blocks: &[Items<Segment>]) -> bool
         .all(|block| message::is_closed(block.as_slice()))
 }
 
-// The lowest fault behind E07. `outside` says whether a byte is outside the character set.
+// The lowest fault after E07. `outside` says whether a byte is outside the character set.
 fn later_fault(
     alloc: Global,
     parts: &Parts,
@@ -191,7 +191,7 @@ fn has_header(segments: &[Segment]) -> bool
     }
 }
 
-/// The interchange of the segments of a text, which are moved into it (ISO 9735, section 8), or the fault with the
+/// The interchange of the segments of a text, which are moved into it (ISO 9735, structures), or the fault with the
 /// lowest number that they have anywhere. After a refusal they are gone.
 pub fn open(alloc: Global, tokens: Tokens) -> Result<Interchange, EnvelopeFault>
     ensures interchange { IfOk result (λ interchange. spec.interchange_of tokens ≡ Ok interchange) }

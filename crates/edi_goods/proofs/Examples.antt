@@ -154,7 +154,7 @@ no_quantity : receipt_of (receipt (lin (codes "1") item ∷ qty (codes "12") (co
 unfolding receipt_of
 no_quantity = refl
 
--- a UNS ends the line group, not the unit, and a LIN behind it is of the unit
+-- a UNS ends the line group, not the unit, and a LIN after it is of the unit
 section_in_a_unit : receipt_of (receipt (lin (codes "1") item ∷ qty (codes "194") (codes "10") ∷ segment (codes "UNS") [] ∷ qty (codes "194") (codes "1") ∷ lin (codes "2") item ∷ unt ∷ [])) ≡ Err Quantity
 unfolding receipt_of
 section_in_a_unit = refl

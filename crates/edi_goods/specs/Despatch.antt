@@ -1,5 +1,5 @@
 -- The despatch advice that a message is (DESADV), or its message fault.
-use Rattle.std.specs.Prelude.{ℕ, ◌==◌, Bool, false, not, ◌&&◌, ◌||◌, List, [], map, is_some, codes, Option, Some, None, Result}
+use Rattle.std.specs.Prelude.{ℕ, ◌==◌, Bool, false, not, ◌&&◌, List, [], map, is_some, codes, Option, Some, None, Result}
 use Rattle.std.specs.List.{list_all}
 use Rattle.std.specs.Option.{unwrap_or}
 use Rattle.std.specs.Str.{bytes_eq}
@@ -8,8 +8,8 @@ use Rattle.edi_envelope.specs.declared.interchange.RawMessage.{RawMessage}
 use Rattle.edi_messages.specs.Fault.{judged}
 use Rattle.edi_messages.specs.Header.{is_type, begins_as, document_number, function, has_date, party}
 use Rattle.edi_messages.specs.Lines.{gtin, quantity_of}
-use Rattle.edi_messages.specs.Parts.{header, line_groups}
-use Rattle.edi_messages.specs.References.{has_reference, reference, is_reference, order, group_order, group_line}
+use Rattle.edi_messages.specs.Parts.{header, line_groups, is_read}
+use Rattle.edi_messages.specs.References.{has_reference, reference, none_or_one_reference, order_named, is_order_reference, order, group_order, group_line}
 use Rattle.edi_messages.specs.Summary.{line_count, is_controlled}
 use Rattle.edi_messages.specs.declared.fault.MessageFault.{MessageFault}
 use Rattle.edi_messages.specs.declared.fault.MessageFault.TheVariants.{MessageType, Beginning, Function, Date, Parties, Summary, Line, Quantity, Reference, Unit, Control, NoLine, Memory}
@@ -32,11 +32,11 @@ inherits message = has_reference (header message)
 
 -- none, or one, with an order number
 abbrev pub has_header_reference_or_none : List Segment → Bool
-has_header_reference_or_none message = not (inherits message) || is_some (order message)
+has_header_reference_or_none message = none_or_one_reference (is_read order_named) (header message)
 
--- The one reference of a group is right. Where there is not just one, the group has none at all, and the header has one.
+-- The one reference of a group is valid. Where there is not just one, the group has none at all, and the header has one.
 abbrev pub is_referred_by : Bool → Bool → Option Segment → Bool
-is_referred_by there inherited (Some rff) = is_reference rff
+is_referred_by there inherited (Some rff) = is_order_reference rff
 is_referred_by there inherited None = not there && inherited
 
 abbrev pub is_referred : Bool → List Segment → Bool

@@ -7,8 +7,8 @@ use Rattle.edi_tokens.specs.declared.segment.Segment.{Segment}
 use Rattle.edi_envelope.specs.declared.interchange.RawMessage.{RawMessage}
 use Rattle.edi_messages.specs.Fault.{judged}
 use Rattle.edi_messages.specs.Header.{is_type, begins_as, document_number, function, has_date, party}
-use Rattle.edi_messages.specs.Lines.{gtin, quantity_of}
-use Rattle.edi_messages.specs.Parts.{line_groups, has_qualified}
+use Rattle.edi_messages.specs.Lines.{gtin, amount, quantity_of}
+use Rattle.edi_messages.specs.Parts.{line_groups, none_or_one, is_read}
 use Rattle.edi_messages.specs.Summary.{line_count, is_controlled}
 use Rattle.edi_messages.specs.declared.fault.MessageFault.{MessageFault}
 use Rattle.edi_messages.specs.declared.fault.MessageFault.TheVariants.{MessageType, Beginning, Function, Date, Parties, Summary, Line, Quantity, Reference, Unit, Control, NoLine, Memory}
@@ -32,9 +32,9 @@ returned group = quantity_of (codes "195") 0 group
 abbrev pub destroyed : List Segment → Option ℕ
 destroyed group = quantity_of (codes "196") 0 group
 
--- a kind stands nowhere in a group, or once and right
+-- a kind stands nowhere in a group, or once and valid
 abbrev pub is_once_or_none : List ℕ → List Segment → Bool
-is_once_or_none kind group = not (has_qualified (codes "QTY") kind group) || is_some (quantity_of kind 0 group)
+is_once_or_none kind group = none_or_one (is_read (amount 0)) (codes "QTY") kind group
 
 -- each kind at most once, and one of them at least
 abbrev pub is_received : List Segment → Bool

@@ -1,7 +1,7 @@
 -- The units of a despatch advice or a receiving advice (EANCOM 2002, the segment tables of DESADV and RECADV): CPS and what
 -- follows it.
-use Rattle.std.specs.Prelude.{ℕ, ◌==◌, Bool, not, ◌&&◌, ◌||◌, if◌then◌else◌, List, [], ◌∷◌, length, map, filter, is_some, codes, Option, None, option_and_then}
-use Rattle.std.specs.List.{list_all, list_any, take_while}
+use Rattle.std.specs.Prelude.{ℕ, ◌==◌, Bool, not, ◌&&◌, ◌||◌, if◌then◌else◌, List, [], length, map, filter, is_some, codes, Option, None, option_and_then}
+use Rattle.std.specs.List.{list_all, list_any}
 use Rattle.std.specs.Option.{unwrap_or}
 use Rattle.edi_base.specs.Seen.{has_twice}
 use Rattle.gs1_ids.specs.Sscc.{sscc_of}
@@ -9,7 +9,7 @@ use Rattle.edi_tokens.specs.declared.segment.Segment.{Segment}
 use Rattle.edi_tokens.specs.Segment.{element_at}
 use Rattle.edi_envelope.specs.Segments.{component, first_segment, is_unt}
 use Rattle.edi_messages.specs.Lines.{is_line}
-use Rattle.edi_messages.specs.Parts.{is_lin, is_cps, line_groups, only_qualified}
+use Rattle.edi_messages.specs.Parts.{is_lin, is_cps, before_first, up_to_next, parts_of, line_groups, only_qualified}
 
 -- a segment before which a unit ends
 abbrev pub ends_unit : Segment → Bool
@@ -17,13 +17,11 @@ ends_unit segment = is_cps segment || is_unt segment
 
 -- the segment that a unit begins with, and what follows it up to the next CPS or UNT
 abbrev pub unit_of : List Segment → List Segment
-unit_of [] = []
-unit_of (segment ∷ rest) = segment ∷ take_while (λ later. not (ends_unit later)) rest
+unit_of segments = up_to_next ends_unit segments
 
 -- the units: each CPS, with what follows it up to the next CPS or UNT
 abbrev pub units : List Segment → List (List Segment)
-units [] = []
-units (segment ∷ rest) = if is_cps segment then unit_of (segment ∷ rest) ∷ units rest else units rest
+units segments = parts_of is_cps ends_unit segments
 
 -- those that are read have a LIN
 abbrev pub read_units : List Segment → List (List Segment)
@@ -31,13 +29,13 @@ read_units message = filter (list_any is_lin) (units message)
 
 -- what stands before the first LIN of a unit
 abbrev pub head : List Segment → List Segment
-head unit = take_while (λ segment. not (is_lin segment)) unit
+head unit = before_first is_lin unit
 
 -- CPS has an identifier (7164)
 abbrev pub has_identifier : List Segment → Bool
 has_identifier unit = not (length (component (first_segment unit) 0 0) == 0)
 
--- the one SSCC of a GIN (7402), which stands alone behind the qualifier
+-- the one SSCC of a GIN (7402), which stands alone after the qualifier
 abbrev pub sscc_in : Segment → Option (List ℕ)
 sscc_in gin = if length gin.elements == 2 && length (element_at gin.elements 1) == 1 then sscc_of (component gin 1 0) else None
 
@@ -51,7 +49,7 @@ sscc_or_none unit = unwrap_or (sscc unit) []
 
 -- a LIN before the first CPS
 abbrev pub has_line_outside : List Segment → Bool
-has_line_outside message = list_any is_lin (take_while (λ segment. not (is_cps segment)) message)
+has_line_outside message = list_any is_lin (before_first is_cps message)
 
 -- an identifier, and an SSCC
 abbrev pub is_unit : List Segment → Bool

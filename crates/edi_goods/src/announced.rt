@@ -96,13 +96,13 @@ pub(crate) struct ReferredItem<'a, 'b> {
 impl<'a, 'b> Model for ReferredItem<'a, 'b> {
     ghost use Rattle.std.specs.Prelude.{List, option_map};
     ghost use Rattle.edi_tokens.specs.declared.segment.Segment.{Segment};
-    ghost use Rattle.edi_goods.specs.Referred.{IsReferred};
+    ghost use Rattle.edi_goods.specs.Referred.{IsReferredItem};
 
     ghost Value = { List Segment };
 
     ghost view = { λ line. line.item.now };
 
-    ghost invariant = { λ line. IsReferred line.item.now (option_map (λ number. number.now) line.order) line.order_line line.quantity };
+    ghost invariant = { λ line. IsReferredItem line.item.now (option_map (λ number. number.now) line.order) line.order_line line.quantity };
 }
 
 /// A unit with the references of its lines.
@@ -124,7 +124,7 @@ impl<'a, 'b> Model for ReferredUnit<'a, 'b> {
     ghost invariant = { λ lined. lined.items.items ≡ line_groups lined.unit.now };
 }
 
-// What the one reference of a group names; the fault `Reference` where it is not right, there are several, or there is
+// What the one reference of a group names; the fault `Reference` where it is not valid, there are several, or there is
 // none and none is inherited.
 fn group_reference(
     inherited: bool,

@@ -53,7 +53,7 @@ pub struct DespatchLine {
     pub quantity: u32,
 }
 
-// The order that the header names, or nothing; the fault `Reference` where it names several or none that is right.
+// The order that the header names, or nothing; the fault `Reference` where it names several or none that is valid.
 fn header_order(message: &[Segment]) -> Result<&[u8], MessageFault>
     ensures ok { IfOk result (λ order. (order.now ≡ spec.header_order message.now) × (spec.has_header_reference_or_none message.now ≡ true)) }
     ensures err { IfErr result (λ fault. (fault ≡ MessageFault.Reference) × (spec.has_header_reference_or_none message.now ≡ false)) }

@@ -17,7 +17,7 @@ pub(crate) struct Parties {
     pub(crate) supplier: Gln,
 }
 
-// The buyer, where there is one; the fault `Parties` where there are several or it is not right.
+// The buyer, where there is one; the fault `Parties` where there are several or it is not valid.
 fn buyer(message: &[Segment]) -> Result<Option<Gln>, MessageFault>
     ensures ok { IfOk result (λ buyer. (buyer ≡ spec.buyer message.now) × (spec.has_buyer_or_none message.now ≡ true)) }
     ensures err { IfErr result (λ fault. (fault ≡ MessageFault.Parties) × (spec.has_buyer_or_none message.now ≡ false)) }
@@ -34,7 +34,7 @@ fn buyer(message: &[Segment]) -> Result<Option<Gln>, MessageFault>
     }
 }
 
-/// The parties of a message; the fault `Parties` where one of them is not right.
+/// The parties of a message; the fault `Parties` where one of them is not valid.
 pub(crate) fn read_parties(message: &[Segment]) -> Result<Parties, MessageFault>
     ensures ok { IfOk result (λ parties. (parties.buyer ≡ spec.buyer message.now) × (party (codes "SU") message.now ≡ Some parties.supplier) × (spec.has_parties message.now ≡ true)) }
     ensures err { IfErr result (λ fault. (fault ≡ MessageFault.Parties) × (spec.has_parties message.now ≡ false)) }

@@ -43,7 +43,7 @@ impl<'a, 'b> ReceivedUnit<'a, 'b> {
     }
 }
 
-// The quantity of a kind, where there is one; the fault `Quantity` where it stands twice or is not right.
+// The quantity of a kind, where there is one; the fault `Quantity` where it stands twice or is not valid.
 fn received(kind: &[u8], group: &[Segment]) -> Result<Option<u32>, MessageFault>
     ensures ok { IfOk result (λ quantity. (quantity ≡ quantity_of kind.now 0 group.now) × (spec.is_once_or_none kind.now group.now ≡ true)) }
     ensures err { IfErr result (λ fault. (fault ≡ MessageFault.Quantity) × (spec.is_once_or_none kind.now group.now ≡ false)) }

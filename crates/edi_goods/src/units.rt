@@ -111,7 +111,7 @@ fn head(unit: &[Segment]) -> &[Segment]
     head
 }
 
-// The one SSCC of a GIN, which stands alone behind the qualifier.
+// The one SSCC of a GIN, which stands alone after the qualifier.
 fn sscc_in(gin: &Segment) -> Option<Sscc>
     ensures { result ≡ spec.sscc_in gin.now }
 {

@@ -24,7 +24,7 @@ use Rattle.edi_law.specs.Header.{NamesParty}
 use Rattle.edi_law.specs.Lines.{IsLine, HasQuantity}
 use Rattle.edi_law.specs.Lowest.{IsLowest, IsFaultless}
 use Rattle.edi_law.specs.Parts.{HasNone, OfLines, OfOnly, OneOrNone}
-use Rattle.edi_law.specs.References.{is_reference, NamesOrder, NamesLineOrNone}
+use Rattle.edi_law.specs.References.{is_rff_on, NamesOrder, NamesLineOrNone}
 use Rattle.edi_law.specs.Units.{OfUnitLines, HasSscc, IsUnit, AreMarked}
 use Rattle.edi_law.proofs.Deciding.{Refutes, Refutes-not, Refutes-false, Decides-all, Decides-is_some, said_of, unwrap_of}
 use Rattle.edi_law.proofs.GoodsLemmas.{Decides-parties, buyer-from_NamesBuyer, NamesBuyer-buyer, zip_is}
@@ -38,43 +38,43 @@ use Rattle.edi_law.proofs.UnitLemmas.{Decides-unit_lines, Decides-each_line, Dec
 
 -- the reference of the header
 order_is : (message : List Segment) (o : Option (List ℕ)) → Inherits message o → order message ≡ o
-order_is message o h = found-from_OneOrNone is_reference order_named NamesOrder Says-order_named (header message) o (at_header (λ part. OneOrNone is_reference NamesOrder part o) message h)
+order_is message o h = found-from_OneOrNone is_rff_on order_named NamesOrder Says-order_named (header message) o (at_header (λ part. OneOrNone is_rff_on NamesOrder part o) message h)
 
 inherits_is : (message : List Segment) (o : Option (List ℕ)) → Inherits message o → inherits message ≡ is_some o
-inherits_is message o h = there-from_OneOrNone is_reference order_named NamesOrder Says-order_named (header message) o (at_header (λ part. OneOrNone is_reference NamesOrder part o) message h)
+inherits_is message o h = there-from_OneOrNone is_rff_on order_named NamesOrder Says-order_named (header message) o (at_header (λ part. OneOrNone is_rff_on NamesOrder part o) message h)
 
 Decides-inherited : (message : List Segment) → Decides (has_header_reference_or_none message) ((o : Option (List ℕ)) × Inherits message o)
 Decides-inherited message =
-    let d = Decides-one_or_none is_reference order_named NamesOrder Says-order_named (header message) in (
+    let d = Decides-one_or_none is_rff_on order_named NamesOrder Says-order_named (header message) in (
       (λ e. let h = d.0 e in (h.0, record { header = header message; is_header = IsHeader-header message; is = h.1 })),
-      (λ h. d.1 (h.0, at_header (λ part. OneOrNone is_reference NamesOrder part h.0) message h.1)),
+      (λ h. d.1 (h.0, at_header (λ part. OneOrNone is_rff_on NamesOrder part h.0) message h.1)),
     )
 
 -- the references of the groups
-Decides-right : (rff : Segment) → Decides (references.is_reference rff) (((number : List ℕ) × NamesOrder number rff) × NamesLineOrNone rff)
+Decides-right : (rff : Segment) → Decides (references.is_order_reference rff) (((number : List ℕ) × NamesOrder number rff) × NamesLineOrNone rff)
 Decides-right rff = Decides-and _ _ (Decides-is_some (order_named rff) (λ number. NamesOrder number rff) (Says-order_named rff)) (Decides-line_or_none rff)
 
 Decides-there : (o : Option (List ℕ)) → Decides (is_some o) ((number : List ℕ) × (o ≡ Some number))
 Decides-there o = Decides-is_some o (λ number. o ≡ Some number) (λ number. ((λ e. e), (λ e. e)))
 
-one_referred : (o : Option (List ℕ)) (group : List Segment) (rff : Segment) → reference group ≡ Some rff → Decides (references.is_reference rff) (IsReferred o group)
+one_referred : (o : Option (List ℕ)) (group : List Segment) (rff : Segment) → reference group ≡ Some rff → Decides (references.is_order_reference rff) (IsReferred o group)
 one_referred o group rff there = (
-  (λ e. inl (record { segment = rff; is_only = (Says-only is_reference group rff).0 there; is = (Decides-right rff).0 e })),
+  (λ e. inl (record { segment = rff; is_only = (Says-only is_rff_on group rff).0 there; is = (Decides-right rff).0 e })),
   (λ h. elim h [
     | inl one ↦
-        let same : Some one.segment ≡ Some rff = sym ((Says-only is_reference group one.segment).1 one.is_only) ∙ there in
+        let same : Some one.segment ≡ Some rff = sym ((Says-only is_rff_on group one.segment).1 one.is_only) ∙ there in
         let is : one.segment ≡ rff = cc in
-        ap references.is_reference (sym is) ∙ (Decides-right one.segment).1 one.is
-    | inr none ↦ absurd (only_some is_reference group rff ((Says-only is_reference group rff).0 there) none.0)
+        ap references.is_order_reference (sym is) ∙ (Decides-right one.segment).1 one.is
+    | inr none ↦ absurd (only_some is_rff_on group rff ((Says-only is_rff_on group rff).0 there) none.0)
   ]),
 )
 
 none_referred : (o : Option (List ℕ)) (group : List Segment) → reference group ≡ None → Decides (not (has_reference group) && is_some o) (IsReferred o group)
 none_referred o group there =
-    let d = Decides-and (not (has_reference group)) (is_some o) (Decides-none is_reference group) (Decides-there o) in (
+    let d = Decides-and (not (has_reference group)) (is_some o) (Decides-none is_rff_on group) (Decides-there o) in (
       (λ e. inr (d.0 e)),
       (λ h. elim h [
-        | inl one ↦ let some : None ≡ Some one.segment = sym there ∙ (Says-only is_reference group one.segment).1 one.is_only in absurd cc
+        | inl one ↦ let some : None ≡ Some one.segment = sym there ∙ (Says-only is_rff_on group one.segment).1 one.is_only in absurd cc
         | inr none ↦ d.1 none
       ]),
     )
@@ -118,11 +118,11 @@ refutes m faults.NoLine = Refutes-no_line m.segments
 refutes m faults.Memory = Refutes-false
 
 -- what a line says
-order_of_none : (group : List Segment) → HasNone is_reference group → group_order group ≡ None
-order_of_none group none = ap (λ passing. option_and_then order_named (only passing)) (none_passes is_reference group none)
+order_of_none : (group : List Segment) → HasNone is_rff_on group → group_order group ≡ None
+order_of_none group none = ap (λ passing. option_and_then order_named (only passing)) (none_passes is_rff_on group none)
 
-order_of_one : (group : List Segment) (number : List ℕ) → OfOnly is_reference group (NamesOrder number) → group_order group ≡ Some number
-order_of_one group number h = ap (option_and_then order_named) ((Says-only is_reference group h.segment).1 h.is_only) ∙ (Says-order_named h.segment number).1 h.is
+order_of_one : (group : List Segment) (number : List ℕ) → OfOnly is_rff_on group (NamesOrder number) → group_order group ≡ Some number
+order_of_one group number h = ap (option_and_then order_named) ((Says-only is_rff_on group h.segment).1 h.is_only) ∙ (Says-order_named h.segment number).1 h.is
 
 of_order_is : (o : Option (List ℕ)) (group : List Segment) (number : List ℕ) → IsOfOrder o group number → order_of_line (unwrap_or o []) group ≡ number
 of_order_is o group number (inl one) = ap (λ found. unwrap_or found (unwrap_or o [])) (order_of_one group number one)
@@ -132,7 +132,7 @@ of_order_there : (o : Option (List ℕ)) (group : List Segment) → IsReferred o
 of_order_there o group (inl h) = (h.is.0.0, inl (record { segment = h.segment; is_only = h.is_only; is = h.is.0.1 }))
 of_order_there o group (inr h) = (h.1.0, inr (h.0, h.1.1))
 
-line_or_none : (o : Option (List ℕ)) (group : List Segment) → IsReferred o group → HasNone is_reference group ⊎ OfOnly is_reference group NamesLineOrNone
+line_or_none : (o : Option (List ℕ)) (group : List Segment) → IsReferred o group → HasNone is_rff_on group ⊎ OfOnly is_rff_on group NamesLineOrNone
 line_or_none o group (inl h) = inr (record { segment = h.segment; is_only = h.is_only; is = h.is.1 })
 line_or_none o group (inr h) = inl h.0
 

@@ -1,4 +1,4 @@
--- What is read of a line group is what is right in it.
+-- What is read of a line group is what is valid in it.
 use Rattle.std.proofs.Common.{◌≡◌, ◌≢◌, ℕ, ◌≤◌, Bool, true, false, not, List, [], ◌∷◌, length, ◌⊎◌, refl, sym, ap, subst, ◌∙◌}
 use Rattle.std.specs.Prelude.{◌==◌, nat_le, nat_eq, codes, unwrap_or, option_and_then, Decides}
 use Rattle.std.specs.Str.{bytes_eq}
@@ -13,9 +13,9 @@ use Rattle.edi_tokens.specs.declared.segment.Segment.{Segment}
 use Rattle.edi_tokens.specs.Segment.{element_at}
 use Rattle.edi_envelope.specs.Segments.{component}
 use Rattle.edi_messages.specs.Lines.{number, number_or_zero, gtin_in, gtin, is_line, is_piece, from_least, amount, quantity_of}
+use Rattle.edi_messages.specs.Parts.{is_qualified}
 use Rattle.edi_messages.specs.Values.{quantity}
-use Rattle.edi_law.specs.Lines.{HasItem, IsLine, IsAmount, HasQuantity, NoneTwice}
-use Rattle.edi_law.specs.Segments.{says}
+use Rattle.edi_law.specs.Lines.{HasGtin, IsLine, IsAmount, HasQuantity, NoneTwice}
 use Rattle.edi_law.specs.Values.{IsLineNumber, IsQuantity}
 use Rattle.edi_law.proofs.Deciding.{Says, Refutes, Refutes-false, Refutes-or, Refutes-any, Refutes-ne, Decides-leb, Decides-is_some, Says-like, Says-if, Says-when, Says-then}
 use Rattle.edi_law.proofs.PartLemmas.{Says-of_only}
@@ -28,9 +28,9 @@ Decides-nothing xs = Decides-like (length xs == 0) (nil_from_length xs) (λ e. a
 gtin_there : (text : List ℕ) → Says (gtin_of text) (λ digits. IsGtin text × (in_fourteen text ≡ digits))
 gtin_there text = Says-if _ (IsGtin text) (in_fourteen text) (Decides-is_gtin text)
 
-pub Says-item : (lin : Segment) → Says (gtin_in lin) (HasItem lin)
+pub Says-item : (lin : Segment) → Says (gtin_in lin) (HasGtin lin)
 Says-item lin =
-    Says-like (gtin_in lin) (λ digits. (component lin 2 1 ≡ codes "SRV") × (IsGtin (component lin 2 0) × (in_fourteen (component lin 2 0) ≡ digits))) (HasItem lin)
+    Says-like (gtin_in lin) (λ digits. (component lin 2 1 ≡ codes "SRV") × (IsGtin (component lin 2 0) × (in_fourteen (component lin 2 0) ≡ digits))) (HasGtin lin)
     (λ digits h. record { said = h.0; right = h.1.0; gtin_is = h.1.1 })
     (λ digits h. (h.said, (h.right, h.gtin_is)))
     (Says-when (bytes_eq (component lin 2 1) (codes "SRV")) _ (component lin 2 1 ≡ codes "SRV") _ (bytes_eq-Decides (component lin 2 1) (codes "SRV")) (gtin_there (component lin 2 0)))
@@ -46,14 +46,14 @@ Decides-no_sub_line elements =
     ((λ e. d.0 (sym (twice_not (length elements == 0)) ∙ e)), (λ h. twice_not (length elements == 0) ∙ d.1 h))
 
 abbrev IsLineBy : Segment → Type 0
-IsLineBy lin = (((n : ℕ) × IsLineNumber (component lin 0 0) n) × ((digits : List ℕ) × HasItem lin digits)) × (element_at lin.elements 3 ≡ [])
+IsLineBy lin = (((n : ℕ) × IsLineNumber (component lin 0 0) n) × ((digits : List ℕ) × HasGtin lin digits)) × (element_at lin.elements 3 ≡ [])
 
 Decides-line_by : (lin : Segment) (body : List Segment) → Decides (is_line (lin ∷ body)) (IsLineBy lin)
 Decides-line_by lin body =
     Decides-and _ _
     (Decides-and _ _
     (Decides-is_some (number (lin ∷ body)) (IsLineNumber (component lin 0 0)) (Says-line_number (component lin 0 0)))
-    (Decides-is_some (gtin_in lin) (HasItem lin) (Says-item lin)))
+    (Decides-is_some (gtin_in lin) (HasGtin lin) (Says-item lin)))
     (Decides-no_sub_line (element_at lin.elements 3))
 
 -- a line, with its number and its item
@@ -68,7 +68,7 @@ line_there (lin ∷ body) e =
       body = body;
       place = refl;
       number_is = subst (IsLineNumber (component lin 0 0)) (sym (ap (λ o. unwrap_or o 0) n)) h.0.0.1;
-      item = subst (HasItem lin) (sym (ap (λ o. unwrap_or o []) item)) h.0.1.1;
+      item = subst (HasGtin lin) (sym (ap (λ o. unwrap_or o []) item)) h.0.1.1;
       no_sub_line = h.1;
     }
 
@@ -100,7 +100,7 @@ Says-amount least qty =
     (λ m. Says-if (nat_le least m) (least ≤ m) m (Decides-leb least m))))
 
 pub Says-quantity_of : (kind : List ℕ) (least : ℕ) (group : List Segment) → Says (quantity_of kind least group) (HasQuantity kind least group)
-Says-quantity_of kind least group = Says-of_only (says (codes "QTY") kind) (amount least) (IsAmount least) (Says-amount least) group
+Says-quantity_of kind least group = Says-of_only (is_qualified (codes "QTY") kind) (amount least) (IsAmount least) (Says-amount least) group
 
 -- what comes twice
 module _ {X : Type 0} (same : X → X → Bool) (decides : (x y : X) → Decides (same x y) (x ≡ y)) where

@@ -119,7 +119,7 @@ module _ {X : Type 0} where
   content_found None content right h = (refl, cc)
   content_found (Some g) content right h = absurd cc
 
-  -- Where all is right under lower numbers, the test of a fault is false exactly where what is right under its number holds.
+  -- Where all is valid under lower numbers, the test of a fault is false exactly where what is valid under its number holds.
   module _ (p : MessageFault → Bool) (IsRight : MessageFault → Type 0) (refutes : (f : MessageFault) → ((g : MessageFault) → number g < number f → IsRight g) → Refutes (p f) (IsRight f)) (no_memory : p faulty.Memory ≡ false) (content : X) where
     lower_right : (n : ℕ) → ((g : MessageFault) → number g < n → p g ≡ false) → (g : MessageFault) → number g < n → IsRight g
     lower_right zero h g lt = absurd (omega (arith, lt))

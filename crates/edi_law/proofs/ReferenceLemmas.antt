@@ -1,4 +1,4 @@
--- What is read of references is what is right in them.
+-- What is read of references is what is valid in them.
 use Rattle.std.proofs.Common.{◌≡◌, ℕ, List, [], Option, Some, None, ◌⊎◌, inl, inr, refl, sym, ap, subst, ◌∙◌}
 use Rattle.std.specs.Prelude.{option_and_then, Decides}
 use Rattle.std.proofs.lemmas.Bool.Decides.{Decides-or}
@@ -8,7 +8,7 @@ use Rattle.edi_messages.specs.Parts.{only}
 use Rattle.edi_messages.specs.References.{reference, order_named, order, line_named, group_line, has_line_or_none}
 use Rattle.edi_messages.specs.Values.{is_document_number}
 use Rattle.edi_law.specs.Parts.{HasNone, OfOnly}
-use Rattle.edi_law.specs.References.{is_reference, NamesOrder, NamesLineOrNone, HeaderNames, NamesLine}
+use Rattle.edi_law.specs.References.{is_rff_on, NamesOrder, NamesLineOrNone, HeaderNames, NamesLine}
 use Rattle.edi_law.specs.Values.{IsDocumentNumber, IsLineNumber}
 use Rattle.edi_law.proofs.Deciding.{Says, Says-like, Says-if, Decides-is_some}
 use Rattle.edi_law.proofs.LineLemmas.{Decides-nothing}
@@ -24,28 +24,28 @@ Says-order_named rff =
     (Says-if (is_document_number bytes) (IsDocumentNumber bytes) bytes (Decides-document_number bytes))
 
 pub Says-order : (message : List Segment) → Says (order message) (HeaderNames message)
-Says-order message = Says-header _ (λ number header. OfOnly is_reference header (NamesOrder number)) (Says-of_only is_reference order_named NamesOrder Says-order_named) message
+Says-order message = Says-header _ (λ number header. OfOnly is_rff_on header (NamesOrder number)) (Says-of_only is_rff_on order_named NamesOrder Says-order_named) message
 
 pub Decides-line_or_none : (rff : Segment) → Decides (has_line_or_none rff) (NamesLineOrNone rff)
 Decides-line_or_none rff =
     Decides-or _ _ (Decides-nothing (component rff 0 2)) (Decides-is_some (line_named rff) (IsLineNumber (component rff 0 2)) (Says-line_number (component rff 0 2)))
 
 Says-group_line : (group : List Segment) → Says (group_line group) (λ line. NamesLine group (Some line))
-Says-group_line = Says-of_only is_reference line_named (λ line rff. IsLineNumber (component rff 0 2) line) (λ rff. Says-line_number (component rff 0 2))
+Says-group_line = Says-of_only is_rff_on line_named (λ line rff. IsLineNumber (component rff 0 2) line) (λ rff. Says-line_number (component rff 0 2))
 
 -- where a group has no reference, or one that names a line or none, its line is the one that it names
 line_or_none : (group : List Segment) (rff : Segment) → reference group ≡ Some rff → component rff 0 2 ≡ [] → group_line group ≡ None
 line_or_none group rff there none = ap (option_and_then line_named) there ∙ rw none refl
 
-no_reference : (group : List Segment) → HasNone is_reference group → group_line group ≡ None
-no_reference group none = ap (λ found. option_and_then line_named (only found)) (none_passes is_reference group none)
+no_reference : (group : List Segment) → HasNone is_rff_on group → group_line group ≡ None
+no_reference group none = ap (λ found. option_and_then line_named (only found)) (none_passes is_rff_on group none)
 
 pub group_line-from_NamesLine : (group : List Segment) (line : Option ℕ) → NamesLine group line → group_line group ≡ line
 group_line-from_NamesLine group None (inl none) = no_reference group none
-group_line-from_NamesLine group None (inr h) = line_or_none group h.segment ((Says-only is_reference group h.segment).1 h.is_only) h.is
+group_line-from_NamesLine group None (inr h) = line_or_none group h.segment ((Says-only is_rff_on group h.segment).1 h.is_only) h.is
 group_line-from_NamesLine group (Some line) h = (Says-group_line group line).1 h
 
-pub NamesLine-group_line : (group : List Segment) → HasNone is_reference group ⊎ OfOnly is_reference group NamesLineOrNone → NamesLine group (group_line group)
+pub NamesLine-group_line : (group : List Segment) → HasNone is_rff_on group ⊎ OfOnly is_rff_on group NamesLineOrNone → NamesLine group (group_line group)
 NamesLine-group_line group (inl none) = subst (NamesLine group) (sym (no_reference group none)) (inl none)
 NamesLine-group_line group (inr h) =
     elim (h.is) [

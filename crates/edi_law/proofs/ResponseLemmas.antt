@@ -11,7 +11,7 @@ use Rattle.edi_envelope.specs.Segments.{component}
 use Rattle.edi_envelope.specs.declared.interchange.RawMessage.{RawMessage}
 use Rattle.edi_messages.specs.Header.{function, party}
 use Rattle.edi_messages.specs.Lines.{line, gtin, is_line, quantity_of}
-use Rattle.edi_messages.specs.Parts.{line_groups}
+use Rattle.edi_messages.specs.Parts.{line_groups, is_qualified}
 use Rattle.edi_messages.specs.References.{order, has_line_or_none}
 use Rattle.edi_messages.specs.Values.{is_document_number}
 use Rattle.edi_messages.specs.declared.fault.MessageFault.{MessageFault}
@@ -28,9 +28,8 @@ use Rattle.edi_law.specs.Header.{NamesParty}
 use Rattle.edi_law.specs.Lines.{IsLine}
 use Rattle.edi_law.specs.Lowest.{IsLowest, IsFaultless}
 use Rattle.edi_law.specs.Parts.{HasNone, OfLines, OfOnly}
-use Rattle.edi_law.specs.References.{is_reference, NamesOrder, NamesLineOrNone, HeaderNames}
+use Rattle.edi_law.specs.References.{is_rff_on, NamesOrder, NamesLineOrNone, HeaderNames}
 use Rattle.edi_law.specs.Response.{Extent, EachLine, NoneOfAll, AllOfAll, Action, Accept, Refuse, Change, HasExtent, OfReadLines, IsAction, HasAction, AreAnswered, HasChange, IsChangeRight, IsReferred, IsRight, HasAnswer, IsAnswerLine, HasAnswers, IsResponse}
-use Rattle.edi_law.specs.Segments.{says}
 use Rattle.edi_law.specs.Values.{IsDocumentNumber}
 use Rattle.edi_law.proofs.Deciding.{Says, Refutes, Refutes-not, Refutes-and, Refutes-false, Decides-all, Decides-is_some, Decides-of, Decides-read, chosen, said_of, unwrap_of}
 use Rattle.edi_law.proofs.HeaderLemmas.{Decides-type, Decides-begins, Decides-function, function-from_HasFunction, Decides-dated, Decides-party, Says-party, Begins-begins_as, begins_as-from_Begins, document_number-from_Begins}
@@ -181,7 +180,7 @@ Decides-answered groups =
 
 -- the quantities
 abbrev is_changed : Segment → Bool
-is_changed = says (codes "QTY") (codes "113")
+is_changed = is_qualified (codes "QTY") (codes "113")
 
 change_by : (group : List Segment) (some : Bool) → list_any is_changed group ≡ some → Says (cond some (quantity_of (codes "113") 0 group) (quantity_of (codes "21") 0 group)) (HasChange group)
 change_by group true e n = (
@@ -242,8 +241,8 @@ Decides-referred_by number rff =
 
 Decides-referred : (number : List ℕ) (group : List Segment) → Decides (is_referred (Some number) group) (IsReferred number group)
 Decides-referred number group =
-    Decides-or _ _ (Decides-none is_reference group)
-    (Decides-of_only is_reference (is_referred_by (Some number)) (λ rff. NamesOrder number rff × NamesLineOrNone rff) refl (Decides-referred_by number) group)
+    Decides-or _ _ (Decides-none is_rff_on group)
+    (Decides-of_only is_rff_on (is_referred_by (Some number)) (λ rff. NamesOrder number rff × NamesLineOrNone rff) refl (Decides-referred_by number) group)
 
 Decides-references : (message : List Segment) → Decides (is_some (order message) && list_all (is_referred (order message)) (read_groups message)) ((number : List ℕ) × HeaderNames message number × OfReadLines (AllByRecursion (IsReferred number)) message)
 Decides-references message =
@@ -287,7 +286,7 @@ answer_is group line_answers.Refused h = answer_same group ∙ ap (λ o. answer_
 answer_is group (line_answers.Changed n) h =
     answer_same group ∙ ap (λ o. answer_to_line o group) ((Says-action group Change).1 h.0) ∙ ap (option_map line_answers.Changed) ((Says-changed group n).1 h.1)
 
-line_or_none : (number : List ℕ) (group : List Segment) → IsReferred number group → HasNone is_reference group ⊎ OfOnly is_reference group NamesLineOrNone
+line_or_none : (number : List ℕ) (group : List Segment) → IsReferred number group → HasNone is_rff_on group ⊎ OfOnly is_rff_on group NamesLineOrNone
 line_or_none number group (inl none) = inl none
 line_or_none number group (inr h) = inr (record { segment = h.segment; is_only = h.is_only; is = h.is.1 })
 

@@ -36,20 +36,20 @@ module _ (q : ReceiptLine → ℕ) where
         | inr not_ ↦ rw not_ (other_items T item lines h.1)
       ]
 
-  each_item : (lines : List ReceiptLine) → AllByRecursion (λ line. summed line.gtin lines ≤ greatest) lines → (item : List ℕ) → total q item lines ≤ 999_999_999
+  each_item : (lines : List ReceiptLine) → AllByRecursion (λ line. summed line.gtin lines ≤ greatest) lines → (item : List ℕ) → total q item lines ≤ greatest
   each_item lines h item =
       elim (other_items (λ one. summed one lines) item lines h) [
         | inl none ↦ omega (arith, none)
-        | inr small ↦ subst (λ n. n ≤ 999_999_999) (summed_is item lines) small
+        | inr small ↦ subst (λ n. n ≤ greatest) (summed_is item lines) small
       ]
 
   each_line : (T : List ℕ → ℕ) → ((item : List ℕ) → T item ≤ greatest) → (lines : List ReceiptLine) → AllByRecursion (λ line. T line.gtin ≤ greatest) lines
   each_line T h [] = tt
   each_line T h (line ∷ lines) = (h line.gtin, each_line T h lines)
 
-  Decides-sums : (lines : List ReceiptLine) → Decides (sums_within (map (λ (line : ReceiptLine). record { gtin = line.gtin; quantity = q line }) lines)) ((item : List ℕ) → total q item lines ≤ 999_999_999)
+  Decides-sums : (lines : List ReceiptLine) → Decides (sums_within (map (λ (line : ReceiptLine). record { gtin = line.gtin; quantity = q line }) lines)) ((item : List ℕ) → total q item lines ≤ greatest)
   Decides-sums lines =
-      Decides-like _ (each_item lines) (λ h. each_line (λ item. summed item lines) (λ item. subst (λ n. n ≤ 999_999_999) (sym (summed_is item lines)) (h item)) lines)
+      Decides-like _ (each_item lines) (λ h. each_line (λ item. summed item lines) (λ item. subst (λ n. n ≤ greatest) (sym (summed_is item lines)) (h item)) lines)
       (Decides-at _ _ (list_all-map _ _ lines)
       (Decides-all (λ line. nat_le (summed line.gtin lines) greatest) (λ line. summed line.gtin lines ≤ greatest) (λ line. Decides-leb (summed line.gtin lines) greatest) lines))
 

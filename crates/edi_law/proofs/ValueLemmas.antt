@@ -141,7 +141,7 @@ quantity_there bytes n text small e = record {
   digits = whole_digits bytes;
   no_fraction = text.1;
   number_is = e;
-  at_most = subst (λ m. m ≤ 999_999_999) e small;
+  at_most = subst (λ m. m ≤ greatest) e small;
 }
 
 abbrev IsQuantityRead : List ℕ → ℕ → Type 0
@@ -153,7 +153,7 @@ quantity_read bytes n h =
     let rest = fraction_is bytes h.whole h.fraction h.place whole in
     let number = ap number_of whole ∙ h.number_is in (
       ((h.short, subst (λ part. 1 ≤ length part) (sym whole) h.from_one), subst IsNoFraction (sym rest) h.no_fraction),
-      (subst (λ m. m ≤ 999_999_999) (sym number) h.at_most, number),
+      (subst (λ m. m ≤ greatest) (sym number) h.at_most, number),
     )
 
 pub Says-quantity : (bytes : List ℕ) → Says (quantity bytes) (IsQuantity bytes)

@@ -1,4 +1,4 @@
--- What is right in a despatch advice (DESADV) under the number of each fault, and what an advice says.
+-- What is valid in a despatch advice (DESADV) under the number of each fault, and what an advice says.
 use Rattle.std.specs.Prelude.{◌≡◌, ◌⊎◌, ⊤, ℕ, List, codes, Option, Some}
 use Rattle.std.specs.List.{AllByRecursion, AllZip}
 use Rattle.edi_tokens.specs.declared.segment.Segment.{Segment}
@@ -11,23 +11,23 @@ use Rattle.edi_goods.specs.declared.despatch.Unit.{Unit as DespatchUnit}
 use Rattle.edi_law.specs.Header.{IsOfType, Begins, HasFunction, IsDated, NamesParty, NamesBuyer}
 use Rattle.edi_law.specs.Lines.{IsLine, HasQuantity}
 use Rattle.edi_law.specs.Parts.{HasNone, OfHeader, OfLines, OfOnly, OneOrNone}
-use Rattle.edi_law.specs.References.{is_reference, NamesOrder, NamesLineOrNone, NamesLine}
+use Rattle.edi_law.specs.References.{is_rff_on, NamesOrder, NamesLineOrNone, NamesLine}
 use Rattle.edi_law.specs.Summary.{IsControlled, HasLine}
 use Rattle.edi_law.specs.Units.{OfUnits, OfUnitLines, AreLines, HasUnits, HasSscc}
 
 -- there is no reference in the header, or just one, which names this order
 abbrev pub Inherits : List Segment → Option (List ℕ) → Type 0
-Inherits message order = OfHeader (λ header. OneOrNone is_reference NamesOrder header order) message
+Inherits message order = OfHeader (λ header. OneOrNone is_rff_on NamesOrder header order) message
 
 -- the order of a line: the one that the one reference of its group names, and that of the header where the group has none
 abbrev pub IsOfOrder : Option (List ℕ) → List Segment → List ℕ → Type 0
-IsOfOrder inherited group order = OfOnly is_reference group (NamesOrder order) ⊎ (HasNone is_reference group × (inherited ≡ Some order))
+IsOfOrder inherited group order = OfOnly is_rff_on group (NamesOrder order) ⊎ (HasNone is_rff_on group × (inherited ≡ Some order))
 
--- the one reference of a group is right, or the group has none and the header has one
+-- the one reference of a group is valid, or the group has none and the header has one
 abbrev pub IsReferred : Option (List ℕ) → List Segment → Type 0
 IsReferred inherited group =
-    OfOnly is_reference group (λ rff. ((order : List ℕ) × NamesOrder order rff) × NamesLineOrNone rff)
-    ⊎ (HasNone is_reference group × ((order : List ℕ) × (inherited ≡ Some order)))
+    OfOnly is_rff_on group (λ rff. ((order : List ℕ) × NamesOrder order rff) × NamesLineOrNone rff)
+    ⊎ (HasNone is_rff_on group × ((order : List ℕ) × (inherited ≡ Some order)))
 
 abbrev pub IsRight : RawMessage → MessageFault → Type 0
 IsRight m MessageType = IsOfType (codes "DESADV") m

@@ -1,16 +1,16 @@
--- What is right in a line group.
+-- What is valid in a line group.
 use Rattle.std.specs.Prelude.{◌≡◌, ◌≢◌, ◌≤◌, ◌⊎◌, ℕ, List, [], ◌∷◌, codes, ⊤}
 use Rattle.std.specs.List.{AllByRecursion}
 use Rattle.gs1_ids.specs.Gtin.{IsGtin, in_fourteen}
 use Rattle.edi_tokens.specs.declared.segment.Segment.{Segment}
 use Rattle.edi_tokens.specs.Segment.{element_at}
 use Rattle.edi_envelope.specs.Segments.{component}
+use Rattle.edi_messages.specs.Parts.{is_qualified}
 use Rattle.edi_law.specs.Parts.{OfOnly}
-use Rattle.edi_law.specs.Segments.{says}
 use Rattle.edi_law.specs.Values.{IsLineNumber, IsQuantity}
 
--- LIN has a right GTIN, said to be one, which is these fourteen digits
-pub record HasItem (lin : Segment) (gtin : List ℕ) : Type 0 where
+-- LIN has a valid GTIN, said to be one, which is these fourteen digits
+pub record HasGtin (lin : Segment) (gtin : List ℕ) : Type 0 where
   pub said : component lin 2 1 ≡ codes "SRV"
   pub right : IsGtin (component lin 2 0)
   pub gtin_is : in_fourteen (component lin 2 0) ≡ gtin
@@ -21,10 +21,10 @@ pub record IsLine (group : List Segment) (number : ℕ) (gtin : List ℕ) : Type
   pub body : List Segment
   pub place : group ≡ lin ∷ body
   pub number_is : IsLineNumber (component lin 0 0) number
-  pub item : HasItem lin gtin
+  pub item : HasGtin lin gtin
   pub no_sub_line : element_at lin.elements 3 ≡ []
 
--- a QTY has a right quantity from a least one on, in pieces
+-- a QTY has a valid quantity from a least one on, in pieces
 pub record IsAmount (least number : ℕ) (qty : Segment) : Type 0 where
   pub unit : (component qty 0 2 ≡ []) ⊎ (component qty 0 2 ≡ codes "PCE")
   pub number_is : IsQuantity (component qty 0 1) number
@@ -32,7 +32,7 @@ pub record IsAmount (least number : ℕ) (qty : Segment) : Type 0 where
 
 -- there is just one QTY of the kind in the group, with this quantity
 abbrev pub HasQuantity : List ℕ → ℕ → List Segment → ℕ → Type 0
-HasQuantity kind least group number = OfOnly (says (codes "QTY") kind) group (IsAmount least number)
+HasQuantity kind least group number = OfOnly (is_qualified (codes "QTY") kind) group (IsAmount least number)
 
 -- none comes twice
 abbrev pub NoneTwice : {X : Type 0} → List X → Type 0

@@ -19,11 +19,11 @@ number Control = 11
 number NoLine = 12
 number Memory = 0
 
--- by what is right under each number: this is not right, and all is under each lower number
+-- by what is valid under each number: this is not valid, and all is under each lower number
 pub record IsLowest (IsRight : MessageFault → Type 0) (fault : MessageFault) : Type 0 where
   pub here : IsRight fault → ⊥
   pub lower : (other : MessageFault) → number other < number fault → IsRight other
 
--- all is right
+-- all is valid
 abbrev pub IsFaultless : (MessageFault → Type 0) → Type 0
 IsFaultless IsRight = (fault : MessageFault) → IsRight fault

@@ -1,4 +1,4 @@
--- What is right in an order (ORDERS) under the number of each fault, and what an order says.
+-- What is valid in an order (ORDERS) under the number of each fault, and what an order says.
 use Rattle.std.specs.Prelude.{ℕ, List, codes, ⊤}
 use Rattle.std.specs.List.{AllByRecursion, AllZip}
 use Rattle.edi_tokens.specs.declared.segment.Segment.{Segment}

@@ -1,4 +1,4 @@
--- What is right in an order response (ORDRSP) under the number of each fault, and what a response says.
+-- What is valid in an order response (ORDRSP) under the number of each fault, and what a response says.
 use Rattle.std.specs.Prelude.{◌≡◌, ◌⊎◌, ⊤, ℕ, List, ◌∷◌, codes}
 use Rattle.std.specs.List.{AllByRecursion, AllZip}
 use Rattle.edi_tokens.specs.declared.segment.Segment.{Segment}
@@ -6,6 +6,7 @@ use Rattle.edi_envelope.specs.Segments.{component}
 use Rattle.edi_envelope.specs.declared.interchange.RawMessage.{RawMessage}
 use Rattle.edi_messages.specs.declared.fault.MessageFault.{MessageFault}
 use Rattle.edi_messages.specs.declared.fault.MessageFault.TheVariants.{MessageType, Beginning, Function, Date, Parties, Summary, Line, Quantity, Reference, Unit, Control, NoLine, Memory}
+use Rattle.edi_messages.specs.Parts.{is_qualified}
 use Rattle.edi_orders.specs.declared.response.Answer.{Answer}
 use Rattle.edi_orders.specs.declared.response.Answer.TheVariants as answers
 use Rattle.edi_orders.specs.declared.response.AnswerLine.{AnswerLine}
@@ -15,8 +16,7 @@ use Rattle.edi_orders.specs.declared.response.Response.{Response}
 use Rattle.edi_law.specs.Header.{IsOfType, Begins, HasFunction, IsDated, NamesParty}
 use Rattle.edi_law.specs.Lines.{IsLine, HasQuantity}
 use Rattle.edi_law.specs.Parts.{HasNone, OfLines, OfOnly}
-use Rattle.edi_law.specs.References.{is_reference, NamesOrder, NamesLineOrNone, HeaderNames, NamesLine}
-use Rattle.edi_law.specs.Segments.{says}
+use Rattle.edi_law.specs.References.{is_rff_on, NamesOrder, NamesLineOrNone, HeaderNames, NamesLine}
 use Rattle.edi_law.specs.Summary.{IsClosed, IsControlled, HasLine}
 
 -- what a response answers: lines one by one, or all of them
@@ -60,7 +60,7 @@ pub record AreAnswered (groups : List (List Segment)) : Type 0 where
 
 -- the quantity of a change: the one QTY with 113, or where there is none the one with 21
 abbrev pub HasChange : List Segment → ℕ → Type 0
-HasChange group quantity = HasQuantity (codes "113") 0 group quantity ⊎ (HasNone (says (codes "QTY") (codes "113")) group × HasQuantity (codes "21") 0 group quantity)
+HasChange group quantity = HasQuantity (codes "113") 0 group quantity ⊎ (HasNone (is_qualified (codes "QTY") (codes "113")) group × HasQuantity (codes "21") 0 group quantity)
 
 -- a line that is changed has a quantity
 abbrev pub IsChangeRight : List Segment → Type 0
@@ -68,7 +68,7 @@ IsChangeRight group = HasAction group Change → (quantity : ℕ) × HasChange g
 
 -- a group has no reference, or just one, which names the order of the header and a line or none
 abbrev pub IsReferred : List ℕ → List Segment → Type 0
-IsReferred order group = HasNone is_reference group ⊎ OfOnly is_reference group (λ rff. NamesOrder order rff × NamesLineOrNone rff)
+IsReferred order group = HasNone is_rff_on group ⊎ OfOnly is_rff_on group (λ rff. NamesOrder order rff × NamesLineOrNone rff)
 
 abbrev pub IsRight : RawMessage → MessageFault → Type 0
 IsRight m MessageType = IsOfType (codes "ORDRSP") m

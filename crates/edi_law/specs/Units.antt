@@ -1,18 +1,18 @@
--- What is right in the units of a despatch advice or a receiving advice.
+-- What is valid in the units of a despatch advice or a receiving advice.
 use Rattle.std.specs.Prelude.{◌≡◌, ◌≢◌, ℕ, List, [], ◌∷◌, filter, codes}
 use Rattle.std.specs.List.{list_any, AllZip, AllByRecursion}
 use Rattle.gs1_ids.specs.Sscc.{IsSscc}
 use Rattle.edi_tokens.specs.declared.segment.Segment.{Segment}
 use Rattle.edi_envelope.specs.Segments.{component}
+use Rattle.edi_messages.specs.Parts.{is_lin, is_cps, is_qualified}
 use Rattle.edi_law.specs.Lines.{IsLine, NoneTwice}
 use Rattle.edi_law.specs.Parts.{HasNone, IsFront, AreUnits, OfLines, OfOnly}
-use Rattle.edi_law.specs.Segments.{is_line_item, is_packing, says}
 
 -- the units that are read, in their order: of all units, those with a LIN
 pub record AreReadUnits (message : List Segment) (units : List (List Segment)) : Type 0 where
   pub all : List (List Segment)
   pub are_all : AreUnits message all
-  pub are_read : units ≡ filter (list_any is_line_item) all
+  pub are_read : units ≡ filter (list_any is_lin) all
 
 -- the units that are read are such
 pub record OfUnits (Are : List (List Segment) → Type 0) (message : List Segment) : Type 0 where
@@ -31,10 +31,10 @@ AreLines message = OfUnitLines (AllByRecursion (λ group. (number : ℕ) × (gti
 -- no LIN stands in front of the first CPS
 pub record NoLineOutside (message : List Segment) : Type 0 where
   pub outside : List Segment
-  pub is_front : IsFront is_packing outside message
-  pub no_line : HasNone is_line_item outside
+  pub is_front : IsFront is_cps outside message
+  pub no_line : HasNone is_lin outside
 
--- a GIN has the SSCC alone behind its qualifier, and the SSCC is right
+-- a GIN has the SSCC alone after its qualifier, and the SSCC is valid
 pub record IsMarked (sscc : List ℕ) (gin : Segment) : Type 0 where
   pub qualifier : List (List ℕ)
   pub place : gin.elements ≡ qualifier ∷ ((sscc ∷ []) ∷ [])
@@ -43,8 +43,8 @@ pub record IsMarked (sscc : List ℕ) (gin : Segment) : Type 0 where
 -- in front of the first LIN of a unit stands just one GIN with BJ, and it has this SSCC
 pub record HasSscc (unit : List Segment) (sscc : List ℕ) : Type 0 where
   pub head : List Segment
-  pub is_head : IsFront is_line_item head unit
-  pub gin : OfOnly (says (codes "GIN") (codes "BJ")) head (IsMarked sscc)
+  pub is_head : IsFront is_lin head unit
+  pub gin : OfOnly (is_qualified (codes "GIN") (codes "BJ")) head (IsMarked sscc)
 
 -- the CPS of a unit has an identifier, and the unit has this SSCC
 pub record IsUnit (unit : List Segment) (sscc : List ℕ) : Type 0 where
@@ -54,13 +54,13 @@ pub record IsUnit (unit : List Segment) (sscc : List ℕ) : Type 0 where
   pub identifier : component cps 0 0 ≢ []
   pub sscc_is : HasSscc unit sscc
 
--- each of the units is right, and no SSCC comes twice
+-- each of the units is valid, and no SSCC comes twice
 pub record AreMarked (units : List (List Segment)) : Type 0 where
   pub ssccs : List (List ℕ)
   pub marked : AllZip IsUnit units ssccs
   pub apart : NoneTwice ssccs
 
--- the units of a message are right
+-- the units of a message are valid
 pub record HasUnits (message : List Segment) : Type 0 where
   pub outside : NoLineOutside message
   pub units : OfUnits AreMarked message

@@ -2,7 +2,7 @@
 use Rattle.std.specs.Prelude.{◌≡◌, ℕ, ◌≤◌, ◌<◌, ◌⊎◌, List, [], ◌∷◌, ◌++◌, length, codes, pos, ⊤}
 use Rattle.std.specs.List.{AllByRecursion}
 use Rattle.jiff.specs.Words.{days_in_month}
-use Rattle.edi_base.specs.Limits.{number_of}
+use Rattle.edi_base.specs.Limits.{number_of, greatest}
 
 abbrev pub IsDigit : ℕ → Type 0
 IsDigit byte = (48 ≤ byte) × (byte ≤ 57)
@@ -40,7 +40,7 @@ pub record IsQuantity (bytes : List ℕ) (number : ℕ) : Type 0 where
   pub digits : AllByRecursion IsDigit whole
   pub no_fraction : IsNoFraction fraction
   pub number_is : number_of whole ≡ number
-  pub at_most : number ≤ 999_999_999
+  pub at_most : number ≤ greatest
 
 -- a day of the Gregorian calendar
 pub record IsInCalendar (year month day : ℕ) : Type 0 where

@@ -1,4 +1,4 @@
-//! Laws of messages: what makes an order, an order response, a despatch advice and a receiving advice right, said of where
+//! Laws of messages: what makes an order, an order response, a despatch advice and a receiving advice valid, said of where
 //! segments stand and what they say, apart from how a message is read.
 #![tactic(auto)]
 

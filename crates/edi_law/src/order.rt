@@ -6,8 +6,8 @@ ghost use Rattle.edi_messages.specs.declared.fault.MessageFault.{MessageFault};
 ghost use Rattle.edi_orders.specs.Order.{order_of};
 ghost use Rattle.edi_orders.specs.declared.order.Order.{Order};
 
-/// A law of the definition that an order is read by: a message has a fault exactly where what is right under its number
-/// does not hold and all that is right under lower numbers does. It is an order exactly where all is right and the order is
+/// A law of the definition that an order is read by: a message has a fault exactly where what is valid under its number
+/// does not hold and all that is valid under lower numbers does. It is an order exactly where all is valid and the order is
 /// what the message says.
 pub fn order_law()
     ensures fault { (message : RawMessage) (fault : MessageFault) →

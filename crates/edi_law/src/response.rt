@@ -6,8 +6,8 @@ ghost use Rattle.edi_messages.specs.declared.fault.MessageFault.{MessageFault};
 ghost use Rattle.edi_orders.specs.Response.{response_of};
 ghost use Rattle.edi_orders.specs.declared.response.Response.{Response};
 
-/// A law of the definition that an order response is read by: a message has a fault exactly where what is right under its
-/// number does not hold and all that is right under lower numbers does. It is a response exactly where all is right and the
+/// A law of the definition that an order response is read by: a message has a fault exactly where what is valid under its
+/// number does not hold and all that is valid under lower numbers does. It is a response exactly where all is valid and the
 /// response is what the message says.
 pub fn response_law()
     ensures fault { (message : RawMessage) (fault : MessageFault) →

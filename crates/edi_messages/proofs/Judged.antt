@@ -1,4 +1,4 @@
--- What is known of a message whose record is right.
+-- What is known of a message whose record is valid.
 use Rattle.std.proofs.Common.{◌≡◌, ℕ, zero, suc, Bool, true, false, List, [], ◌∷◌, cond, slice_get, Option, Some, None, Ok, refl}
 use Rattle.std.specs.List.{find}
 use Rattle.edi_messages.specs.Fault.{faults, unless, judged}

@@ -18,11 +18,11 @@ is_type type message =
 abbrev pub is_bgm : Segment → Bool
 is_bgm = has_tag (codes "BGM")
 
--- what stands behind UNH
+-- what stands after UNH
 abbrev pub beginning : List Segment → Segment
 beginning message = slice_index_or message 1 no_segment
 
--- BGM stands behind UNH and nowhere else, has this code (1001) and a document number (1004)
+-- BGM stands after UNH and nowhere else, has this code (1001) and a document number (1004)
 abbrev pub begins_as : List ℕ → List Segment → Bool
 begins_as code message =
     is_bgm (beginning message) && (length (filter is_bgm message) == 1)
@@ -44,7 +44,7 @@ is_dated (Some date) = is_date (component date 0 2) (component date 0 1)
 abbrev pub has_date : List Segment → Bool
 has_date message = is_dated (only_qualified (codes "DTM") (codes "137") (header message))
 
--- the GLN of a party (3039), if it is right, and 3055 says by 9 that it is one
+-- the GLN of a party (3039), if it is valid, and 3055 says by 9 that it is one
 abbrev pub named_by : Segment → Option (List ℕ)
 named_by party = if is_gln (component party 1 0) && bytes_eq (component party 1 2) (codes "9") then Some (component party 1 0) else None
 

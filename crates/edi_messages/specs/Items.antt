@@ -4,6 +4,6 @@ use Rattle.edi_tokens.specs.declared.segment.Segment.{Segment}
 use Rattle.edi_messages.specs.Lines as lines
 
 -- the number and the item are those of the group
-pub record HasItem (group : List Segment) (number : ℕ) (gtin : List ℕ) : Type 0 where
+pub record IsLineItem (group : List Segment) (number : ℕ) (gtin : List ℕ) : Type 0 where
   pub number_is : lines.number group ≡ Some number
   pub gtin_is : lines.gtin group ≡ Some gtin

@@ -16,11 +16,11 @@ line group = first_segment group
 abbrev pub number : List Segment → Option ℕ
 number group = line_number (component (line group) 0 0)
 
--- the same, and 0 where it is not right
+-- the same, and 0 where it is not valid
 abbrev pub number_or_zero : List Segment → ℕ
 number_or_zero group = unwrap_or (number group) 0
 
--- the item: a right GTIN (7140), said to be one by SRV (7143)
+-- the item: a valid GTIN (7140), said to be one by SRV (7143)
 abbrev pub gtin_in : Segment → Option (List ℕ)
 gtin_in lin = if bytes_eq (component lin 2 1) (codes "SRV") then gtin_of (component lin 2 0) else None
 

@@ -2,7 +2,7 @@
 use Rattle.std.specs.Prelude.{ℕ, ◌==◌, Bool, ◌&&◌, ◌||◌, if◌then◌else◌, List, length, is_some, codes, Option, Some, None, option_and_then}
 use Rattle.edi_tokens.specs.declared.segment.Segment.{Segment}
 use Rattle.edi_envelope.specs.Segments.{component}
-use Rattle.edi_messages.specs.Parts.{header, has_qualified, only_qualified}
+use Rattle.edi_messages.specs.Parts.{header, has_qualified, only_qualified, none_or_one}
 use Rattle.edi_messages.specs.Values.{is_document_number, line_number}
 
 -- there is a reference in a part
@@ -12,6 +12,10 @@ has_reference part = has_qualified (codes "RFF") (codes "ON") part
 -- the one reference in a part
 abbrev pub reference : List Segment → Option Segment
 reference part = only_qualified (codes "RFF") (codes "ON") part
+
+-- there is none in a part, or what is asked of the one holds
+abbrev pub none_or_one_reference : (Option Segment → Bool) → List Segment → Bool
+none_or_one_reference holds part = none_or_one holds (codes "RFF") (codes "ON") part
 
 -- the order number of a reference (1154)
 abbrev pub order_named : Segment → Option (List ℕ)
@@ -36,5 +40,5 @@ abbrev pub has_line_or_none : Segment → Bool
 has_line_or_none rff = length (component rff 0 2) == 0 || is_some (line_named rff)
 
 -- an order number, and a line number or none
-abbrev pub is_reference : Segment → Bool
-is_reference rff = is_some (order_named rff) && has_line_or_none rff
+abbrev pub is_order_reference : Segment → Bool
+is_order_reference rff = is_some (order_named rff) && has_line_or_none rff

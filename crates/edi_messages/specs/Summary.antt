@@ -1,11 +1,11 @@
 -- What stands in the summary of a message: UNS and CNT.
-use Rattle.std.specs.Prelude.{ℕ, Bool, false, not, ◌&&◌, ◌||◌, if◌then◌else◌, List, [], ◌∷◌, length, filter, codes, Option, Some, None}
+use Rattle.std.specs.Prelude.{ℕ, Bool, false, not, ◌&&◌, if◌then◌else◌, List, [], ◌∷◌, length, filter, codes, Option, Some, None}
 use Rattle.std.specs.List.{list_any}
 use Rattle.std.specs.Str.{bytes_eq}
 use Rattle.edi_base.specs.Limits.{is_count_of}
 use Rattle.edi_tokens.specs.declared.segment.Segment.{Segment}
 use Rattle.edi_envelope.specs.Segments.{component}
-use Rattle.edi_messages.specs.Parts.{is_lin, is_uns, only, has_qualified, only_qualified}
+use Rattle.edi_messages.specs.Parts.{is_lin, is_uns, only, none_or_one}
 
 -- what follows the first UNS
 abbrev pub behind_uns : List Segment → List Segment
@@ -17,7 +17,7 @@ abbrev pub is_summary : Option Segment → Bool
 is_summary None = false
 is_summary (Some uns) = bytes_eq (component uns 0 0) (codes "S")
 
--- there is one UNS, and no LIN behind it
+-- there is one UNS, and no LIN after it
 abbrev pub has_summary : List Segment → Bool
 has_summary message = is_summary (only (filter is_uns message)) && not (list_any is_lin (behind_uns message))
 
@@ -32,6 +32,4 @@ is_control_of count (Some control) = is_count_of (component control 0 1) count
 
 -- no control of the number of line items (CNT with 6069 2), or one, with the number of LIN
 abbrev pub is_controlled : List Segment → Bool
-is_controlled message =
-    not (has_qualified (codes "CNT") (codes "2") message)
-    || is_control_of (line_count message) (only_qualified (codes "CNT") (codes "2") message)
+is_controlled message = none_or_one (is_control_of (line_count message)) (codes "CNT") (codes "2") message

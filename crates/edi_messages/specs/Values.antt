@@ -53,7 +53,7 @@ is_day_of _ _ _ = false
 abbrev pub is_day : List ℕ → Bool
 is_day bytes = is_day_of (number_at 0 4 bytes) (number_at 4 2 bytes) (number_at 6 2 bytes)
 
--- HHMM, behind CCYYMMDD: a minute of a day
+-- HHMM, after CCYYMMDD: a minute of a day
 abbrev pub is_minute_of : Option ℕ → Option ℕ → Bool
 is_minute_of (Some hour) (Some minute) = nat_lt hour 24 && nat_lt minute 60
 is_minute_of _ _ = false

@@ -61,6 +61,11 @@ impl MessageFault {
 }
 
 impl fmt::Display for MessageFault {
+    ghost use Rattle.edi_messages.specs.Fault.{code_text};
+    ghost use Rattle.std.specs.Prelude.{Some};
+
+    ghost output = { λ fault. Some (code_text fault) };
+
     fn fmt<W: fmt::Write>(&self, f: &mut fmt::Formatter<W>) -> fmt::Result {
         f.write_str(self.code())
     }

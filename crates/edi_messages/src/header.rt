@@ -33,7 +33,7 @@ fn beginning_count(message: &[Segment]) -> usize
     message.iter().filter(|segment| is_bgm(segment)).count()
 }
 
-// A component of the segment behind UNH.
+// A component of the segment after UNH.
 fn beginning_component(message: &[Segment], element: usize) -> &[u8]
     ensures { result.now ≡ component (spec.beginning message.now) element 0 }
 {
@@ -57,7 +57,7 @@ pub fn function(message: &[Segment]) -> &[u8]
     beginning_component(message, 2)
 }
 
-/// Whether BGM stands behind UNH and nowhere else, with this code (1001) and a document number (1004).
+/// Whether BGM stands after UNH and nowhere else, with this code (1001) and a document number (1004).
 pub fn begins_as(code: &[u8], message: &[Segment]) -> bool
     ensures { result ≡ spec.begins_as code.now message.now }
 {
@@ -82,7 +82,7 @@ pub fn has_date(message: &[Segment]) -> bool
     }
 }
 
-// The GLN of a party, where it is right and said to be one.
+// The GLN of a party, where it is valid and said to be one.
 fn named_by(party: &Segment) -> Option<Gln>
     ensures { result ≡ spec.named_by party.now }
 {
@@ -94,7 +94,7 @@ fn named_by(party: &Segment) -> Option<Gln>
     }
 }
 
-/// The party that the header names in a role (NAD with 3035): there is just one such NAD, and it has a right GLN (3039)
+/// The party that the header names in a role (NAD with 3035): there is just one such NAD, and it has a valid GLN (3039)
 /// with 3055 9. `BY` is the buyer, `SU` the supplier.
 pub fn party(role: &[u8], message: &[Segment]) -> Option<Gln>
     ensures { result ≡ spec.party role.now message.now }
@@ -102,7 +102,7 @@ pub fn party(role: &[u8], message: &[Segment]) -> Option<Gln>
     named_by(only_qualified(b"NAD", role, header(message))?)
 }
 
-/// The supplier that the header of a message names: there is just one NAD with 3035 SU, and it has a right GLN (3039)
+/// The supplier that the header of a message names: there is just one NAD with 3035 SU, and it has a valid GLN (3039)
 /// with 3055 9. Works for each type of message, and takes no memory.
 pub fn supplier_of(message: &RawMessage) -> Option<Gln>
     ensures { result ≡ spec.supplier_of message.now.segments }

@@ -8,7 +8,7 @@ pub mod lines;
 pub mod parts;
 pub mod references;
 pub mod summary;
-pub mod values;
+mod values;
 
 pub use fault::MessageFault;
 pub use header::supplier_of;

@@ -26,13 +26,13 @@ pub struct LineItem<'a> {
 impl<'a> Model for LineItem<'a> {
     ghost use Rattle.std.specs.Prelude.{List};
     ghost use Rattle.edi_tokens.specs.declared.segment.Segment.{Segment};
-    ghost use Rattle.edi_messages.specs.Items.{HasItem};
+    ghost use Rattle.edi_messages.specs.Items.{IsLineItem};
 
     ghost Value = { List Segment };
 
     ghost view = { λ item. item.group.now };
 
-    ghost invariant = { λ item. HasItem item.group.now item.number item.gtin };
+    ghost invariant = { λ item. IsLineItem item.group.now item.number item.gtin };
 }
 
 impl<'a> LineItem<'a> {
@@ -58,7 +58,7 @@ impl<'a> LineItem<'a> {
     }
 }
 
-// The item of a LIN, where it is right and said to be one.
+// The item of a LIN, where it is valid and said to be one.
 fn gtin_of(lin: &Segment) -> Option<Gtin>
     ensures { result ≡ spec.gtin_in lin.now }
 {

@@ -35,7 +35,7 @@ fn behind_uns(message: &[Segment]) -> &[Segment]
     &[]
 }
 
-/// Whether there is one UNS, whose element (0081) is S, and no LIN behind it.
+/// Whether there is one UNS, whose element (0081) is S, and no LIN after it.
 pub fn has_summary(message: &[Segment]) -> bool
     ensures { result ≡ spec.has_summary message.now }
 {

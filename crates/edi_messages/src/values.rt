@@ -54,9 +54,9 @@ fn is_no_fraction(bytes: &[u8]) -> bool
     }
 }
 
-/// The quantity that these write: digits, perhaps with a decimal mark and one or more zeros behind them, 35 bytes and
+/// The quantity that these write: digits, perhaps with a decimal mark and one or more zeros after them, 35 bytes and
 /// 999,999,999 at most.
-pub fn quantity(bytes: &[u8]) -> Option<u32>
+pub(crate) fn quantity(bytes: &[u8]) -> Option<u32>
     ensures { result ≡ spec.quantity bytes.now }
 {
     let (digits, fraction) = bytes.split_at(digits_len(bytes));
@@ -100,7 +100,7 @@ fn is_day(bytes: &[u8]) -> bool
     }
 }
 
-// Whether the four bytes behind them are a minute of a day, HHMM.
+// Whether the four bytes after them are a minute of a day, HHMM.
 fn is_minute(bytes: &[u8]) -> bool
     requires { 12 ≤ length bytes.now }
     ensures { result ≡ spec.is_minute bytes.now }

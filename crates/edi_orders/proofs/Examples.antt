@@ -81,7 +81,7 @@ no_line : order_of (message (unh ∷ bgm ∷ dtm (codes "20250603") ∷ buyer �
 unfolding order_of
 no_line = refl
 
--- a response with this function and these segments behind its header
+-- a response with this function and these segments after its header
 abbrev response : List ℕ → List Segment → RawMessage
 response function segments = record (message (unh ∷ segment (codes "BGM") (one (codes "231") ∷ one (codes "R1") ∷ one function ∷ []) ∷ dtm (codes "20250603") ∷ segment (codes "RFF") ((codes "ON" ∷ codes "128576" ∷ []) ∷ []) ∷ buyer ∷ supplier ∷ segments)) { kind = codes "ORDRSP" }
 

@@ -9,7 +9,7 @@ use Rattle.edi_envelope.specs.declared.interchange.RawMessage.{RawMessage}
 use Rattle.edi_messages.specs.Parts.{line_groups, has_qualified}
 use Rattle.edi_messages.specs.Header.{is_type, begins_as, document_number, function, has_date, party}
 use Rattle.edi_messages.specs.Lines.{line, gtin, is_line, quantity_of}
-use Rattle.edi_messages.specs.References.{has_reference, reference, order_named, is_reference, order, group_line}
+use Rattle.edi_messages.specs.References.{none_or_one_reference, order_named, is_order_reference, order, group_line}
 use Rattle.edi_messages.specs.Summary.{has_summary, line_count, is_controlled}
 use Rattle.edi_orders.specs.declared.action.Action.{Action}
 use Rattle.edi_orders.specs.declared.action.Action.TheVariants as actions
@@ -76,14 +76,14 @@ abbrev pub is_of_order : Option (List ℕ) → Option (List ℕ) → Bool
 is_of_order (Some one) (Some other) = bytes_eq one other
 is_of_order _ _ = false
 
--- a right reference to the order of the header
+-- a valid reference to the order of the header
 abbrev pub is_referred_by : Option (List ℕ) → Option Segment → Bool
 is_referred_by order None = false
-is_referred_by order (Some rff) = is_reference rff && is_of_order (order_named rff) order
+is_referred_by order (Some rff) = is_order_reference rff && is_of_order (order_named rff) order
 
 -- a group has no reference, or one
 abbrev pub is_referred : Option (List ℕ) → List Segment → Bool
-is_referred order group = not (has_reference group) || is_referred_by order (reference group)
+is_referred order group = none_or_one_reference (is_referred_by order) group
 
 -- Each condition, of the whole message. Each is defined also where another one holds.
 abbrev pub holds : MessageFault → RawMessage → Bool

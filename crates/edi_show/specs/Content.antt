@@ -35,5 +35,5 @@ abbrev pub refuses : Content → Bool
 refuses (Refused fault) = true
 refuses _ = false
 
-abbrev pub is_refused : ShownMessage → Bool
-is_refused message = refuses message.content
+abbrev pub is_refused_message : ShownMessage → Bool
+is_refused_message message = refuses message.content

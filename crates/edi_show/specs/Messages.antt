@@ -12,15 +12,15 @@ use Rattle.edi_show.specs.Lines.{line}
 use Rattle.edi_show.specs.Orders.{order_lines, response_lines}
 
 -- the line of a message that is refused
-unfoldable pub fault_line : MessageFault → List ℕ
-fault_line fault = codes "  refused " ++ (code_text fault ++ (codes " " ++ (message_words fault ++ codes "\n")))
+unfoldable pub message_fault_line : MessageFault → List ℕ
+message_fault_line fault = codes "  refused " ++ (code_text fault ++ (codes " " ++ (message_words fault ++ codes "\n")))
 
 abbrev pub content_lines : Content → List ℕ
 content_lines (Order order) = order_lines order
 content_lines (Response response) = response_lines response
 content_lines (Despatch despatch) = despatch_lines despatch
 content_lines (Receipt receipt) = receipt_lines receipt
-content_lines (Refused fault) = fault_line fault
+content_lines (Refused fault) = message_fault_line fault
 
 unfoldable pub message_lines : ℕ → ShownMessage → List ℕ
 message_lines number message =

@@ -11,7 +11,7 @@ use Rattle.edi_envelope.specs.Interchange.{interchange_of}
 use Rattle.edi_show.specs.declared.fault.WholeFault.TheVariants.{Token, Envelope}
 use Rattle.edi_show.specs.declared.shown.Shown.{Shown}
 use Rattle.edi_show.specs.declared.shown.Shown.TheVariants as shown
-use Rattle.edi_show.specs.Content.{shown_message, is_refused as is_refused_message}
+use Rattle.edi_show.specs.Content.{shown_message, is_refused_message}
 
 -- an interchange in these service characters, or its fault
 abbrev pub shown_interchange : Service → Result Interchange EnvelopeFault → Shown

@@ -52,9 +52,9 @@ interchange_lines interchange =
     ++ (header_lines interchange.head ++ (count_line (length interchange.messages) ++ messages_lines 1 interchange.messages))
 
 -- the one line of a text that is refused as a whole
-unfoldable pub fault_line : WholeFault → List ℕ
-fault_line fault = codes "refused " ++ (whole_code fault ++ (codes " " ++ (whole_words fault ++ codes "\n")))
+unfoldable pub whole_fault_line : WholeFault → List ℕ
+whole_fault_line fault = codes "refused " ++ (whole_code fault ++ (codes " " ++ (whole_words fault ++ codes "\n")))
 
 abbrev pub shown_lines : Shown → List ℕ
-shown_lines (Refused fault) = fault_line fault
+shown_lines (Refused fault) = whole_fault_line fault
 shown_lines (Interchange interchange) = interchange_lines interchange

@@ -127,7 +127,7 @@ pub(crate) fn shown_messages(
 impl ShownMessage {
     /// Whether the message is refused.
     pub fn is_refused(&self) -> bool
-        ensures { result ≡ spec.is_refused self.now }
+        ensures { result ≡ spec.is_refused_message self.now }
     {
         matches!(&self.content, Content::Refused(_))
     }

@@ -12,9 +12,9 @@ use edi_tokens::MemoryFault;
 use std::alloc::Global;
 
 // Appends the line of a message that is refused.
-#[tactic(auto, unfolding(crate::specs::Messages::fault_line))]
+#[tactic(auto, unfolding(crate::specs::Messages::message_fault_line))]
 fn put_fault(alloc: Global, out: &mut Vec<u8>, fault: MessageFault) -> Result<(), MemoryFault>
-    ensures { OnOk result (out.new.items ≡ out.old.items ++ spec.fault_line fault) }
+    ensures { OnOk result (out.new.items ≡ out.old.items ++ spec.message_fault_line fault) }
 {
     let code = fault.code();
     let words = message_words(fault);

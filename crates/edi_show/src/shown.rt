@@ -1,7 +1,7 @@
 //! What the text of an interchange says.
 ghost use Rattle.std.specs.Prelude.{◌≡◌, IfOk};
 ghost use Rattle.std.specs.List.{list_any};
-ghost use Rattle.edi_show.specs.Content.{is_refused};
+ghost use Rattle.edi_show.specs.Content.{is_refused_message};
 ghost use Rattle.edi_show.specs.Shown as spec;
 
 use crate::content::{ShownMessage, shown_messages};
@@ -78,7 +78,7 @@ impl Shown {
 
 // Whether one of the messages is refused.
 fn has_refused(messages: &[ShownMessage]) -> bool
-    ensures { result ≡ list_any is_refused messages.now }
+    ensures { result ≡ list_any is_refused_message messages.now }
 {
     messages.iter().any(|message| message.is_refused())
 }

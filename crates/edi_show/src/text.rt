@@ -115,9 +115,9 @@ fn put_interchange(
 }
 
 // Appends the line of a text that is refused as a whole.
-#[tactic(auto, unfolding(crate::specs::Text::fault_line))]
+#[tactic(auto, unfolding(crate::specs::Text::whole_fault_line))]
 fn put_fault(alloc: Global, out: &mut Vec<u8>, fault: WholeFault) -> Result<(), MemoryFault>
-    ensures { OnOk result (out.new.items ≡ out.old.items ++ spec.fault_line fault) }
+    ensures { OnOk result (out.new.items ≡ out.old.items ++ spec.whole_fault_line fault) }
 {
     let code = fault.code();
     let words = fault.words();

@@ -48,7 +48,7 @@ fn a_failed_write_leaves_a_front_of_the_bytes(rt: HostRuntime) -> Result<(), Fai
     Ok(())
 }
 
-/// Puts bytes behind those that wait in a buffer.
+/// Puts bytes after those that wait in a buffer.
 fn put(buffer: &mut Buffer, bytes: &[u8], out: &mut OfWrite<Dribble>) -> Result<(), WriteFault> {
     buffer.put(out, bytes)
 }

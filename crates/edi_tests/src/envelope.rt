@@ -5,7 +5,7 @@ use edi_tokens::{Segment, body_text};
 use std::alloc::{AllocError, Global};
 use std::test::Fail;
 
-// The interchange of an order and of a despatch advice behind a service string with a comma, and the fields of its head and of
+// The interchange of an order and of a despatch advice after a service string with a comma, and the fields of its head and of
 // its messages.
 const BOTH: &[u8] =
     b"UNA:+,? 'UNB+UNOC:3+5412345000013:14+5412345000006:14+250603:0915+1001'UNH+1+ORDERS:D:01B:UN:EAN010'BGM+220+128576+9'DTM+137:20250603:102'NAD+BY+5412345000013::9'NAD+SU+4012345500004::9'LIN+1++4000862141404:SRV'QTY+21:48'UNS+S'CNT+2:1'UNT+10+1'UNH+2+DESADV:D:01B:UN'UNT+2+2'UNZ+2+1001'";
@@ -13,7 +13,7 @@ const BOTH: &[u8] =
 const TOLD: &[u8] =
     b"UNOC 5412345000013 5412345000006 250603 0915 1001 1 ORDERS D 01B UN EAN010 UNH+1+ORDERS:D:01B:UN:EAN010'BGM+220+128576+9'DTM+137:20250603:102'NAD+BY+5412345000013::9'NAD+SU+4012345500004::9'LIN+1++4000862141404:SRV'QTY+21:48'UNS+S'CNT+2:1'UNT+10+1' 2 DESADV D 01B UN  UNH+2+DESADV:D:01B:UN'UNT+2+2' ";
 
-// The fields, with a blank behind each.
+// The fields, with a blank after each.
 fn joined(alloc: Global, fields: &[&[u8]]) -> Result<Vec<u8>, AllocError> {
     let mut joined = Vec::new(alloc);
     for field in fields {

@@ -17,7 +17,7 @@ fn order_of<T: Ord>(a: &T, b: &T) -> (Ordering, bool) {
     (a.cmp(b), a == b)
 }
 
-// Digits, and the check digit that is published behind them.
+// Digits, and the check digit that is published after them.
 static CHECK_DIGITS: [(&str, Option<u8>); 11] = [
     ("629104150021", Some(3)),
     ("37610425002123456", Some(9)),

@@ -6,7 +6,7 @@ use std::test::Fail;
 
 const SUPPLIER: &[u8; 13] = b"4012345500004";
 
-// The type of a message and its segments behind UNH, and whether the header names the supplier.
+// The type of a message and its segments after UNH, and whether the header names the supplier.
 static MESSAGES: [(&str, &str, bool); 11] = [
     ("ORDERS", "NAD+SU+4012345500004:x:9:y+z'", true),
     (

@@ -20,7 +20,7 @@ fn again(alloc: Global, text: &[u8]) -> Result<Vec<u8>, Fail> {
     Ok(body_text(alloc, tokens.segments.as_slice())?)
 }
 
-/// The text of segments, behind a service string.
+/// The text of segments, after a service string.
 fn whole_text(alloc: Global, segments: &[Segment]) -> Result<Vec<u8>, Fail> {
     let mut sink = OfWrite::new(Vec::new(alloc));
     write_text(segments, b'.', &mut sink)?;
@@ -142,7 +142,7 @@ fn a_failed_write_leaves_a_front_of_the_text(rt: HostRuntime) -> Result<(), Fail
     Ok(())
 }
 
-/// A segment of 8,000 bytes behind a line end, and nine orders.
+/// A segment of 8,000 bytes after a line end, and nine orders.
 fn long_text(alloc: Global) -> Result<Vec<u8>, Fail> {
     let mut text = Vec::from_slice(alloc, b"\r\nFTX+?+")?;
     text.resize(8001, b'a')?;

@@ -40,6 +40,13 @@ fault_is (Err f) fault e = let same : f ≡ fault = cc in ap (λ (y : TokenFault
 front_at : (front : List ℕ) (r : Reading) → Ends front r → run start front ≡ Ok r
 front_at front r e = (front_runs front r.service r.segments r.place e).is
 
+-- a byte that shows a fault within the longest text is not read
+stops_at : (bytes : List ℕ) (fault : TokenFault) (e : ByteShows bytes fault) → length e.front < text_limit → step e.reading e.byte ≡ Err fault
+stops_at bytes fault e short =
+    let early : eqb (length e.front) text_limit ≡ false = ne_eqb (length e.front) text_limit (λ same. absurd (omega arith)) in
+    let shows : shown_at e.reading.service e.reading.place e.byte ≡ Some fault = sym (ap (λ (t : Bool). cond t (Some TooLong) (shown_at e.reading.service e.reading.place e.byte)) early) ∙ e.shows in
+    fault_is (step e.reading e.byte) fault (sym (shown_is e.front e.reading e.reading.place e.byte e.front_ends) ∙ shows)
+
 shown_at_byte : (bytes : List ℕ) (fault : TokenFault) → ByteShows bytes fault → tokens_of bytes ≡ Err fault
 shown_at_byte bytes fault e =
     let whole : length bytes ≡ length e.front + length (e.byte ∷ e.rest) = ap length e.text_is ∙ length-append e.front (e.byte ∷ e.rest) in
@@ -53,8 +60,7 @@ shown_at_byte bytes fault e =
           ap (λ (x : Result Reading TokenFault). x >>= λ r. cond (ltb text_limit (length bytes)) (Err TooLong) (finish r)) runs ∙ rw (lt-ltb text_limit (length bytes) (omega (arith, whole, n))) (ap (λ (y : TokenFault). Err y) same)
       | inr early ↦
           let short : length e.front < text_limit = omega (arith, eqb-false _ _ early, e.is_first) in
-          let shows : shown_at e.reading.service e.reading.place e.byte ≡ Some fault = sym (ap (λ (t : Bool). cond t (Some TooLong) (shown_at e.reading.service e.reading.place e.byte)) early) ∙ e.shows in
-          let stops : step e.reading e.byte ≡ Err fault = fault_is (step e.reading e.byte) fault (sym (shown_is e.front e.reading e.reading.place e.byte e.front_ends) ∙ shows) in
+          let stops : step e.reading e.byte ≡ Err fault = stops_at bytes fault e short in
           let parts = cut_behind e.front (e.byte) e.rest text_limit short in
           let runs : run start (take text_limit bytes) ≡ Err fault = ap (λ (t : List ℕ). run start (take text_limit t)) e.text_is ∙ ap (run start) parts.1 ∙ run_stops e.front parts.0 start e.reading e.byte fault (front_at e.front e.reading e.front_ends) stops in
           ap (λ (x : Result Reading TokenFault). x >>= λ r. cond (ltb text_limit (length bytes)) (Err TooLong) (finish r)) runs
@@ -141,7 +147,7 @@ is_shown bytes (Err fault) e = λ other. subst (IsRead bytes) (failed_as fault (
 
 -- ---- the byte that shows the fault is one
 
--- of two fronts of one text the longer begins with the shorter and the byte behind it
+-- of two fronts of one text the longer begins with the shorter and the byte after it
 longer_front : (f g r q : List ℕ) (a b : ℕ) → f ++ a ∷ r ≡ g ++ b ∷ q → length f < length g → (more : List ℕ) × (g ≡ f ++ a ∷ more)
 longer_front [] [] r q a b e lt = absurd (omega arith)
 longer_front [] (y ∷ g) r q a b e lt = let same : a ≡ y = cc in (g, ap (λ (x : ℕ). x ∷ g) (sym same))
@@ -152,12 +158,10 @@ longer_front (x ∷ f) (y ∷ g) r q a b e lt =
     let others = longer_front f g r q a b rest (omega arith) in
     (others.0, ap (λ (z : ℕ). z ∷ g) (sym same) ∙ ap (λ (t : List ℕ). x ∷ t) others.1)
 
--- where one byte shows a fault, no later byte stands behind a right front
+-- where one byte shows a fault, no later byte stands after a valid front
 not_later : (bytes : List ℕ) (fault other : TokenFault) (e : ByteShows bytes fault) (h : ByteShows bytes other) → length e.front < length h.front → ⊥
 not_later bytes fault other e h lt =
-    let early : eqb (length e.front) text_limit ≡ false = ne_eqb (length e.front) text_limit (λ same. absurd (omega (arith, h.is_first))) in
-    let shows : shown_at e.reading.service e.reading.place e.byte ≡ Some fault = sym (ap (λ (t : Bool). cond t (Some TooLong) (shown_at e.reading.service e.reading.place e.byte)) early) ∙ e.shows in
-    let stops : step e.reading e.byte ≡ Err fault = fault_is (step e.reading e.byte) fault (sym (shown_is e.front e.reading e.reading.place e.byte e.front_ends) ∙ shows) in
+    let stops : step e.reading e.byte ≡ Err fault = stops_at bytes fault e (omega (arith, h.is_first)) in
     let longer = longer_front e.front h.front e.rest h.rest e.byte h.byte (sym e.text_is ∙ h.text_is) lt in
     let stopped : run start h.front ≡ Err fault = ap (run start) longer.1 ∙ run_stops e.front longer.0 start e.reading e.byte fault (front_at e.front e.reading e.front_ends) stops in
     let goes : run start h.front ≡ Ok h.reading = front_at h.front h.reading h.front_ends in
@@ -170,3 +174,12 @@ shows_at_one_byte bytes fault other e h =
       | inr (inl lt) ↦ absurd (not_later bytes fault other e h lt)
       | inr (inr gt) ↦ absurd (not_later bytes other fault h e gt)
     ]
+
+-- where the end of a text shows a fault, none of its bytes does
+pub end_shows_alone : (bytes : List ℕ) (fault other : TokenFault) → EndShows bytes fault → ByteShows bytes other → ⊥
+end_shows_alone bytes fault other e h =
+    let whole : length bytes ≡ length h.front + length (h.byte ∷ h.rest) = ap length h.text_is ∙ length-append h.front (h.byte ∷ h.rest) in
+    let stops : step h.reading h.byte ≡ Err other = stops_at bytes other h (omega (arith, whole, e.is_short)) in
+    let stopped : run start bytes ≡ Err other = ap (run start) h.text_is ∙ run_stops h.front h.rest start h.reading h.byte other (front_at h.front h.reading h.front_ends) stops in
+    let goes : run start bytes ≡ Ok e.reading = front_at bytes e.reading e.text_ends in
+    cc

@@ -1,4 +1,4 @@
--- A byte that shows nothing leads from one right front of a text to the next.
+-- A byte that shows nothing leads from one valid front of a text to the next.
 use Rattle.std.proofs.Common.{◌≡◌, ◌≢◌, ℕ, ◌+◌, ◌<◌, ◌≤◌, Bool, true, false, List, [], ◌∷◌, ◌++◌, length, map, Option, Some, None, refl, sym, ap, subst, ◌∙◌, append_assoc, append-nil, arith, inl, inr}
 use Rattle.std.specs.Prelude.{IsTrue, ◌||◌, not}
 use Rattle.std.proofs.lemmas.List.{map-append, length-append, length_push}
@@ -162,7 +162,7 @@ segment_opens text s segments fresh tag b e long is_element =
       };
     }
 
--- a segment's text and value behind whole ones
+-- a segment's text and value after whole ones
 adds_segment : (before segment : List ℕ) (s : Service) (segments : List Segment) (x : Segment) (whole : SpellsWhole before s segments) → Advises whole.advice s (tags segments ++ x.tag ∷ []) → SpellsSegment s segment x
     → EndsOutside (before ++ segment) s (segments ++ x ∷ []) false
 adds_segment before segment s segments x whole advises spelled = record {

@@ -12,7 +12,7 @@ use Rattle.edi_tokens.specs.Reading.{Place, Outside, InService, InTag, InData, R
 use Rattle.edi_tokens.specs.Fault.{EndsAt, Ends, Shows}
 use Rattle.edi_tokens.proofs.Steps.{Runs, Stops, run_leads}
 
--- the empty text is a right front
+-- the empty text is a valid front
 pub start_ends : Ends [] start
 start_ends = record {
   whole = record { advice = None; body = []; tail = []; text_is = refl; advises = (refl, tt); body_spells = refl; tail_is = tt };

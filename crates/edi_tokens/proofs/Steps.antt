@@ -1,4 +1,4 @@
--- What a run of bytes reaches is a right front of the text, and a byte at which it stops shows the fault.
+-- What a run of bytes reaches is a valid front of the text, and a byte at which it stops shows the fault.
 use Rattle.std.proofs.Common.{◌≡◌, ◌≢◌, ℕ, ◌<◌, ◌≤◌, Bool, true, false, cond, eqb, ltb, List, [], ◌∷◌, ◌++◌, length, Option, Some, None, Result, Ok, Err, refl, sym, ap, subst, ◌∙◌, append_assoc, append-nil, arith, inl, inr}
 use Rattle.std.specs.Prelude.{IsTrue, ◌&&◌, ◌||◌, not, ◌⊎◌}
 use Rattle.std.proofs.lemmas.Bool.{cases_Bool, cases_lt, true≢false, false≢true, eqb-true, eqb-false, ltb-true, ltb-false, lt-ltb, le-ltb, eq-eqb, ne_eqb, and_parts}
@@ -164,7 +164,7 @@ shown_is text r (Released o) b e = full_test (eqb o.length segment_limit) _ _ (k
 
 -- ---- a run
 
--- behind a right front of the text a byte shows the fault
+-- after a valid front of the text a byte shows the fault
 pub record Stops (text : List ℕ) (fault : TokenFault) : Type 0 where
   pub front : List ℕ
   pub byte : ℕ

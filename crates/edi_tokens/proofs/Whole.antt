@@ -1,4 +1,4 @@
--- Each right front of a text is run through, and its run ends where the front does.
+-- Each valid front of a text is run through, and its run ends where the front does.
 use Rattle.std.proofs.Common.{◌≡◌, ◌≢◌, ℕ, suc, ◌+◌, ◌<◌, ◌≤◌, Bool, true, false, cond, eqb, ltb, leb, List, [], ◌∷◌, ◌++◌, length, map, Option, Some, None, Result, Ok, Err, refl, sym, ap, subst, ◌∙◌, append_assoc, append-nil, add-one, arith, inl, inr}
 use Rattle.std.specs.Prelude.{IsTrue, ◌&&◌, ◌||◌, not, ◌⊎◌}
 use Rattle.std.proofs.lemmas.List.{length-append}
@@ -77,13 +77,15 @@ pub record Goes (r : Reading) (bytes : List ℕ) (n : Reading) : Type 0 where
 pub run_then : {r m n : Reading} {xs ys : List ℕ} → Goes r xs m → Goes m ys n → Goes r (xs ++ ys) n
 run_then {r} {m} {n} {xs} {ys} first second = record { is = joined xs ys r m n first.is second.is }
   where
-    through : (xs ys : List ℕ) (m n : Reading) (x : Result Reading TokenFault) → (x >>= λ next. run next xs) ≡ Ok m → ((next : Reading) → run next xs ≡ Ok m → run next (xs ++ ys) ≡ Ok n) → (x >>= λ next. run next (xs ++ ys)) ≡ Ok n
+    through : (xs ys : List ℕ) (m n : Reading) (x : Result Reading TokenFault) → (x >>= λ next. run next xs) ≡ Ok m
+        → ((next : Reading) → run next xs ≡ Ok m → run next (xs ++ ys) ≡ Ok n) → (x >>= λ next. run next (xs ++ ys)) ≡ Ok n
     through xs ys m n (Ok next) e others = others next e
     through xs ys m n (Err fault) e others = absurd cc
 
     joined : (xs ys : List ℕ) (r m n : Reading) → run r xs ≡ Ok m → run m ys ≡ Ok n → run r (xs ++ ys) ≡ Ok n
     joined [] ys r m n first second = let same : r ≡ m = cc in subst (λ (x : Reading). run x ys ≡ Ok n) (sym same) second
-    joined (b ∷ xs) ys r m n first second = through xs ys m n (step r b) first (λ (next : Reading) (e : run next xs ≡ Ok m). joined xs ys next m n e second)
+    joined (b ∷ xs) ys r m n first second =
+        through xs ys m n (step r b) first (λ (next : Reading) (e : run next xs ≡ Ok m). joined xs ys next m n e second)
 
 -- the same bytes, spelled in another way, and the same place
 pub goes_as : {r n : Reading} {xs : List ℕ} (ys : List ℕ) (m : Reading) → Goes r xs n → ys ≡ xs → n ≡ m → Goes r ys m
@@ -109,7 +111,8 @@ released s segments tag elements element component n = record { service = s; seg
 
 -- ---- line ends and tags
 
-pub line_ends_run : (text : List ℕ) (s : Service) (segments : List Segment) (fresh : Bool) → LineEnds text → Goes (outside s segments fresh) text (outside s segments fresh)
+pub line_ends_run : (text : List ℕ) (s : Service) (segments : List Segment) (fresh : Bool) → LineEnds text
+    → Goes (outside s segments fresh) text (outside s segments fresh)
 line_ends_run [] s segments fresh ends = record { is = refl }
 line_ends_run (b ∷ text) s segments fresh ends = record { is = rw ends.0 (line_ends_run text s segments fresh ends.1).is }
 
@@ -119,10 +122,12 @@ no_line_end b h =
     let big : 65 ≤ b = leb-true _ _ p.0 in
     rw (ne_eqb b 13 (λ e. absurd (omega arith)), ne_eqb b 10 (λ e. absurd (omega arith))) refl
 
-first_tag_byte : (a : ℕ) (s : Service) (segments : List Segment) (fresh : Bool) → is_capital a ≡ true → Goes (outside s segments fresh) (a ∷ []) (in_tag s segments fresh (a ∷ []))
+first_tag_byte : (a : ℕ) (s : Service) (segments : List Segment) (fresh : Bool) → is_capital a ≡ true
+    → Goes (outside s segments fresh) (a ∷ []) (in_tag s segments fresh (a ∷ []))
 first_tag_byte a s segments fresh h = one_step _ a _ (rw (no_line_end a h, h) refl)
 
-next_tag_byte : (tag : List ℕ) (b : ℕ) (s : Service) (segments : List Segment) (fresh : Bool) → length tag < 3 → (is_capital b || is_digit b) ≡ true → (fresh && is_una (tag ++ b ∷ [])) ≡ false
+next_tag_byte : (tag : List ℕ) (b : ℕ) (s : Service) (segments : List Segment) (fresh : Bool) → length tag < 3
+    → (is_capital b || is_digit b) ≡ true → (fresh && is_una (tag ++ b ∷ [])) ≡ false
     → Goes (in_tag s segments fresh tag) (b ∷ []) (in_tag s segments fresh (tag ++ b ∷ []))
 next_tag_byte tag b s segments fresh short h other = one_step _ b _ (rw (lt-ltb _ _ short, h, other) refl)
 
@@ -130,7 +135,8 @@ una_false : (fresh : Bool) (tag : List ℕ) → (fresh ≡ true → tag ≢ una_
 una_false false tag h = refl
 una_false true tag h = false_from_ne_true (is_una tag) (λ e. h refl (is_una_true tag e))
 
-pub tag_front_runs : (tag : List ℕ) (s : Service) (segments : List Segment) (fresh : Bool) → IsTagFront tag → (fresh ≡ true → tag ≢ una_tag) → Goes (outside s segments fresh) tag (in_tag s segments fresh tag)
+pub tag_front_runs : (tag : List ℕ) (s : Service) (segments : List Segment) (fresh : Bool) → IsTagFront tag
+    → (fresh ≡ true → tag ≢ una_tag) → Goes (outside s segments fresh) tag (in_tag s segments fresh tag)
 tag_front_runs [] s segments fresh is not_una = absurd is
 tag_front_runs (a ∷ []) s segments fresh is not_una = first_tag_byte a s segments fresh is
 tag_front_runs (a ∷ b ∷ []) s segments fresh is not_una =
@@ -146,10 +152,13 @@ tag_front_runs (a ∷ b ∷ c ∷ d ∷ others) s segments fresh is not_una = ab
 not_full : (n : ℕ) → n < segment_limit → eqb n segment_limit ≡ false
 not_full n h = ne_eqb n segment_limit (λ e. absurd (omega arith))
 
-special_by : (s : Service) (b : ℕ) → ((eqb b s.component ≡ true) ⊎ ((eqb b s.element ≡ true) ⊎ ((eqb b s.terminator ≡ true) ⊎ (is_release s.release b ≡ true)))) → is_special s b ≡ true
+special_by : (s : Service) (b : ℕ)
+    → ((eqb b s.component ≡ true) ⊎ ((eqb b s.element ≡ true) ⊎ ((eqb b s.terminator ≡ true) ⊎ (is_release s.release b ≡ true))))
+    → is_special s b ≡ true
 special_by s b (inl h) = or_left (eqb b s.component || eqb b s.element || eqb b s.terminator) _ (or_left (eqb b s.component || eqb b s.element) _ (or_left (eqb b s.component) _ h))
 special_by s b (inr (inl h)) = or_left (eqb b s.component || eqb b s.element || eqb b s.terminator) _ (or_left (eqb b s.component || eqb b s.element) _ (or_right (eqb b s.component) _ h))
-special_by s b (inr (inr (inl h))) = or_left (eqb b s.component || eqb b s.element || eqb b s.terminator) _ (or_right (eqb b s.component || eqb b s.element) _ h)
+special_by s b (inr (inr (inl h))) =
+    or_left (eqb b s.component || eqb b s.element || eqb b s.terminator) _ (or_right (eqb b s.component || eqb b s.element) _ h)
 special_by s b (inr (inr (inr h))) = or_right (eqb b s.component || eqb b s.element || eqb b s.terminator) _ h
 
 same_number : (n : ℕ) → eqb n n ≡ true
@@ -178,7 +187,8 @@ module _ (s : Service) (segments : List Segment) (tag : List ℕ) (elements : Li
       one_step _ s.component _ (rw (not_full n short, special, same_number s.component) refl)
 
   -- a byte as it is spelled
-  byte_runs : (element : List (List ℕ)) (component part : List ℕ) (n b : ℕ) → Apart s → SpellsByte s part b → n + length part ≤ segment_limit
+  byte_runs : (element : List (List ℕ)) (component part : List ℕ) (n b : ℕ) → Apart s → SpellsByte s part b
+      → n + length part ≤ segment_limit
       → Goes (in_data s segments tag elements element component n) part (in_data s segments tag elements element (component ++ b ∷ []) (n + length part))
   byte_runs element component part n b apart spelled fits = go spelled.1
     where
@@ -194,7 +204,8 @@ module _ (s : Service) (segments : List Segment) (tag : List ℕ) (elements : Li
           let second = released_step element component (n + 1) b (omega (arith, two, fits)) spelled.0 in
           goes_as part _ (run_then first second) behind.2 (ap (λ (k : ℕ). in_data s segments tag elements element (component ++ b ∷ []) k) sum)
 
-  pub component_runs : (element : List (List ℕ)) (component text more : List ℕ) (n : ℕ) → Apart s → SpellsComponent s text more → n + length text ≤ segment_limit
+  pub component_runs : (element : List (List ℕ)) (component text more : List ℕ) (n : ℕ) → Apart s → SpellsComponent s text more
+      → n + length text ≤ segment_limit
       → Goes (in_data s segments tag elements element component n) text (in_data s segments tag elements element (component ++ more) (n + length text))
   component_runs element component text [] n apart spelled fits =
       let none : length text ≡ 0 = ap length spelled in
@@ -212,7 +223,8 @@ module _ (s : Service) (segments : List Segment) (tag : List ℕ) (elements : Li
       (ap (λ (k : ℕ). in_data s segments tag elements element ((component ++ b ∷ []) ++ more) k) sum ∙ ap (λ (c : List ℕ). in_data s segments tag elements element c (n + length text)) (append_assoc component (b ∷ []) more))
 
   -- closed components
-  pub components_run : (element closed : List (List ℕ)) (text : List ℕ) (n : ℕ) → Apart s → Each (Before s.component (SpellsComponent s)) text closed → n + length text ≤ segment_limit
+  pub components_run : (element closed : List (List ℕ)) (text : List ℕ) (n : ℕ) → Apart s
+      → Each (Before s.component (SpellsComponent s)) text closed → n + length text ≤ segment_limit
       → Goes (in_data s segments tag elements element [] n) text (in_data s segments tag elements (element ++ closed) [] (n + length text))
   components_run element [] text n apart spelled fits =
       let none : length text ≡ 0 = ap length spelled in
@@ -238,7 +250,8 @@ module _ (s : Service) (segments : List Segment) (tag : List ℕ) (elements : Li
 -- a place where an element separator or the terminator may come, with the elements that are closed then
 pub record Ready (r : Reading) (s : Service) (segments : List Segment) (tag : List ℕ) (elements : List (List (List ℕ))) (n : ℕ) : Type 0 where
   pub opens : n < segment_limit → Goes r (s.element ∷ []) (in_data s segments tag elements [] [] (n + 1))
-  pub ends : n < segment_limit → Goes r (s.terminator ∷ []) (outside s (segments ++ record { tag = tag; elements = without_empty_end elements } ∷ []) false)
+  pub ends : n < segment_limit
+      → Goes r (s.terminator ∷ []) (outside s (segments ++ record { tag = tag; elements = without_empty_end elements } ∷ []) false)
 
 three_long : (tag : List ℕ) → IsTag tag → length tag ≡ 3
 three_long [] is = absurd is
@@ -247,7 +260,8 @@ three_long (a ∷ b ∷ []) is = absurd is
 three_long (a ∷ b ∷ c ∷ []) is = refl
 three_long (a ∷ b ∷ c ∷ d ∷ others) is = absurd is
 
-pub tag_is_ready : (s : Service) (segments : List Segment) (fresh : Bool) (tag : List ℕ) → Apart s → IsTag tag → Ready (in_tag s segments fresh tag) s segments tag [] 3
+pub tag_is_ready : (s : Service) (segments : List Segment) (fresh : Bool) (tag : List ℕ) → Apart s → IsTag tag
+    → Ready (in_tag s segments fresh tag) s segments tag [] 3
 tag_is_ready s segments fresh tag apart is =
     let three = three_long tag is in
     let long : ltb (length tag) 3 ≡ false = le-ltb _ _ (omega arith) in
@@ -286,7 +300,9 @@ element_runs s segments tag elements components text n apart e fits =
       ready = subst (λ (c : List (List ℕ)). Ready there s segments tag (elements ++ without_empty_end c ∷ []) (n + length text)) (sym e.components_are) (data_is_ready s segments tag elements e.closed e.last (n + length text) apart);
     }
 
-pub elements_run : (s : Service) (segments : List Segment) (tag : List ℕ) (written elements : List (List (List ℕ))) (text : List ℕ) (n : ℕ) (r : Reading) → Apart s → Ready r s segments tag elements n → Each (Behind s.element (SpellsElement s)) text written → n + length text ≤ segment_limit
+pub elements_run : (s : Service) (segments : List Segment) (tag : List ℕ) (written elements : List (List (List ℕ))) (text : List ℕ) (n : ℕ) (r : Reading)
+    → Apart s → Ready r s segments tag elements n → Each (Behind s.element (SpellsElement s)) text written
+    → n + length text ≤ segment_limit
     → Reached r s segments tag text (elements ++ map without_empty_end written) (n + length text)
 elements_run s segments tag [] elements text n r apart ready spelled fits =
     let none : length text ≡ 0 = ap length spelled in
@@ -323,7 +339,8 @@ tag_front (a ∷ b ∷ []) is = absurd is
 tag_front (a ∷ b ∷ c ∷ []) is = is
 tag_front (a ∷ b ∷ c ∷ d ∷ others) is = absurd is
 
-segment_runs : (s : Service) (segments : List Segment) (fresh : Bool) (text : List ℕ) (x : Segment) → Apart s → SpellsSegment s text x → (fresh ≡ true → x.tag ≢ una_tag) → Goes (outside s segments fresh) text (outside s (segments ++ x ∷ []) false)
+segment_runs : (s : Service) (segments : List Segment) (fresh : Bool) (text : List ℕ) (x : Segment) → Apart s → SpellsSegment s text x
+    → (fresh ≡ true → x.tag ≢ una_tag) → Goes (outside s segments fresh) text (outside s (segments ++ x ∷ []) false)
 segment_runs s segments fresh text x apart e not_una =
     let three = three_long x.tag e.tag_is in
     let joined : length text ≡ 3 + length e.body + 1 = ap length e.text_is ∙ length-append (x.tag ++ e.body) (s.terminator ∷ []) ∙ ap (λ (k : ℕ). k + 1) (length-append x.tag e.body ∙ ap (λ (k : ℕ). k + length e.body) three) in
@@ -337,8 +354,11 @@ abbrev still : Bool → List Segment → Bool
 still fresh [] = fresh
 still fresh (x ∷ xs) = false
 
-segments_run : (s : Service) (before segments : List Segment) (fresh : Bool) (text : List ℕ) → Apart s → Each (SpellsNext s) text segments → (fresh ≡ true → IsNoAdvice (tags segments)) → Goes (outside s before fresh) text (outside s (before ++ segments) (still fresh segments))
-segments_run s before [] fresh text apart spelled not_una = goes_as {xs = []} text _ (record { is = refl }) spelled (ap (λ (x : List Segment). outside s x fresh) (sym (append-nil before)))
+segments_run : (s : Service) (before segments : List Segment) (fresh : Bool) (text : List ℕ) → Apart s
+    → Each (SpellsNext s) text segments → (fresh ≡ true → IsNoAdvice (tags segments))
+    → Goes (outside s before fresh) text (outside s (before ++ segments) (still fresh segments))
+segments_run s before [] fresh text apart spelled not_una =
+    goes_as {xs = []} text _ (record { is = refl }) spelled (ap (λ (x : List Segment). outside s x fresh) (sym (append-nil before)))
 segments_run s before (x ∷ segments) fresh text apart spelled not_una =
     let first = spelled.0 in
     let rest = spelled.1 in
@@ -376,18 +396,22 @@ six_end (c ∷ e ∷ d ∷ r ∷ reserved ∷ t ∷ []) s h =
     run_then five last
 six_end _ s h = absurd cc
 
-advice_runs : (a : Advice) (s : Service) → LineEnds a.before → service_of a.six ≡ Some s → Goes start (a.before ++ (una_tag ++ a.six)) (outside s [] false)
+advice_runs : (a : Advice) (s : Service) → LineEnds a.before → service_of a.six ≡ Some s
+    → Goes start (a.before ++ (una_tag ++ a.six)) (outside s [] false)
 advice_runs a s ends right = run_then (line_ends_run a.before usual [] true ends) (run_then una_runs (six_end a.six s right))
 
--- ---- whole segments, and right fronts
+-- ---- whole segments, and valid fronts
 
 fresh_first : (advice : Option Advice) (segments : List Segment) → Bool
 fresh_first advice segments = is_fresh advice segments
 
-pub whole_runs : (text : List ℕ) (s : Service) (segments : List Segment) (e : SpellsWhole text s segments) → Goes start text (outside s segments (is_fresh e.advice segments))
+pub whole_runs : (text : List ℕ) (s : Service) (segments : List Segment) (e : SpellsWhole text s segments)
+    → Goes start text (outside s segments (is_fresh e.advice segments))
 whole_runs text s segments e = go e.advice e.text_is e.advises
   where
-    body_from : (fresh : Bool) (front : List ℕ) (advice : Option Advice) → Apart s → Goes start front (outside s [] fresh) → (fresh ≡ true → IsNoAdvice (tags segments)) → still fresh segments ≡ is_fresh advice segments → text ≡ (front ++ e.body) ++ e.tail
+    body_from : (fresh : Bool) (front : List ℕ) (advice : Option Advice) → Apart s → Goes start front (outside s [] fresh)
+        → (fresh ≡ true → IsNoAdvice (tags segments)) → still fresh segments ≡ is_fresh advice segments
+        → text ≡ (front ++ e.body) ++ e.tail
         → Goes start text (outside s segments (is_fresh advice segments))
     body_from fresh front advice apart begins not_una same text_is =
         let bodies = segments_run s [] segments fresh e.body apart e.body_spells not_una in
@@ -402,7 +426,8 @@ whole_runs text s segments e = go e.advice e.text_is e.advises
     later_still a [] = refl
     later_still a (x ∷ xs) = refl
 
-    go : (advice : Option Advice) → text ≡ (advice_text advice ++ e.body) ++ e.tail → Advises advice s (tags segments) → Goes start text (outside s segments (is_fresh advice segments))
+    go : (advice : Option Advice) → text ≡ (advice_text advice ++ e.body) ++ e.tail → Advises advice s (tags segments)
+        → Goes start text (outside s segments (is_fresh advice segments))
     go None text_is advises =
         let begins : Goes start [] (outside s [] true) = goes_as {xs = []} [] _ (record { is = refl }) refl (ap (λ (x : Service). outside x [] true) (sym advises.0)) in
         body_from true [] None (advised_apart None s (tags segments) advises) begins (λ _. advises.1) (first_still segments) text_is
@@ -410,12 +435,15 @@ whole_runs text s segments e = go e.advice e.text_is e.advises
         body_from false (advice_text (Some a)) (Some a) (advised_apart (Some a) s (tags segments) advises) (advice_runs a s advises.0 advises.1) (λ x. absurd (false≢true x)) (later_still a segments) text_is
 
 -- the first tag, where it is the open one
-opens_no_advice : (advice : Option Advice) (s : Service) (segments : List Segment) (tag : List ℕ) → Advises advice s (tags segments ++ tag ∷ []) → is_fresh advice segments ≡ true → tag ≢ una_tag
+opens_no_advice : (advice : Option Advice) (s : Service) (segments : List Segment) (tag : List ℕ)
+    → Advises advice s (tags segments ++ tag ∷ []) → is_fresh advice segments ≡ true → tag ≢ una_tag
 opens_no_advice None s [] tag advises fresh = advises.1
 opens_no_advice None s (x ∷ xs) tag advises fresh = absurd (false≢true fresh)
 opens_no_advice (Some a) s segments tag advises fresh = absurd (false≢true fresh)
 
-open_runs : (s : Service) (segments : List Segment) (fresh : Bool) (text : List ℕ) (o : Open) → Apart s → (fresh ≡ true → o.tag ≢ una_tag) → SpellsOpen s text o → Goes (outside s segments fresh) text (record { service = s; segments = segments; place = InData o })
+open_runs : (s : Service) (segments : List Segment) (fresh : Bool) (text : List ℕ) (o : Open) → Apart s
+    → (fresh ≡ true → o.tag ≢ una_tag) → SpellsOpen s text o
+    → Goes (outside s segments fresh) text (record { service = s; segments = segments; place = InData o })
 open_runs s segments fresh text o apart not_una e =
     let three = three_long o.tag e.tag_is in
     let inner : List ℕ = e.front ++ e.back in
@@ -432,14 +460,16 @@ open_runs s segments fresh text o apart not_una e =
     goes_as text (record { service = s; segments = segments; place = InData o }) (run_then (run_then tag_part closed_part.goes) (run_then opens (run_then fronts backs))) regrouped
     (ap (λ (k : ℕ). in_data s segments o.tag (map without_empty_end e.written) o.element o.component k) sum ∙ ap (λ (x : List (List (List ℕ))). in_data s segments o.tag x o.element o.component o.length) (sym e.elements_are))
 
-data_runs : (text : List ℕ) (s : Service) (segments : List Segment) (o : Open) → EndsInData text s segments o → Goes start text (record { service = s; segments = segments; place = InData o })
+data_runs : (text : List ℕ) (s : Service) (segments : List Segment) (o : Open) → EndsInData text s segments o
+    → Goes start text (record { service = s; segments = segments; place = InData o })
 data_runs text s segments o e =
     let apart = advised_apart e.whole.advice s (tags segments ++ o.tag ∷ []) e.no_advice in
     let before = whole_runs e.before s segments e.whole in
     let open_part = open_runs s segments (is_fresh e.whole.advice segments) e.segment o apart (opens_no_advice e.whole.advice s segments o.tag e.no_advice) e.segment_spells in
     goes_as text _ (run_then before open_part) e.text_is refl
 
-released_runs : (text : List ℕ) (s : Service) (segments : List Segment) (o : Open) → EndsReleased text s segments o → Goes start text (record { service = s; segments = segments; place = Released o })
+released_runs : (text : List ℕ) (s : Service) (segments : List Segment) (o : Open) → EndsReleased text s segments o
+    → Goes start text (record { service = s; segments = segments; place = Released o })
 released_runs text s segments o e =
     let f = e.front_ends in
     let d = e.data_before in
@@ -449,9 +479,11 @@ released_runs text s segments o e =
     let last = release_step s segments d.tag d.elements d.element d.component d.length e.release apart (omega (arith, longer, e.is_short)) e.release_is in
     goes_as text _ (run_then before last) e.text_is (ap (λ (x : Open). record { service = s; segments = segments; place = Released x }) (sym e.open_is))
 
--- a right front of a text is run through, to the place where it ends
-pub front_runs : (text : List ℕ) (s : Service) (segments : List Segment) (place : Place) → EndsAt text s segments place → Goes start text (record { service = s; segments = segments; place = place })
-front_runs text s segments (Outside fresh) e = goes_as text _ (whole_runs text s segments e.whole) refl (ap (outside s segments) (sym e.fresh_is))
+-- a valid front of a text is run through, to the place where it ends
+pub front_runs : (text : List ℕ) (s : Service) (segments : List Segment) (place : Place) → EndsAt text s segments place
+    → Goes start text (record { service = s; segments = segments; place = place })
+front_runs text s segments (Outside fresh) e =
+    goes_as text _ (whole_runs text s segments e.whole) refl (ap (outside s segments) (sym e.fresh_is))
 front_runs text s segments (InService six) e =
     let runs = run_then (line_ends_run e.before usual [] true e.before_is) (run_then una_runs (six_go_on [] six (omega (arith, e.is_cut)))) in
     goes_as text _ runs e.text_is (ap (λ (x : Service). record { service = x; segments = []; place = InService six }) (sym e.service_is) ∙ ap (λ (x : List Segment). record { service = s; segments = x; place = InService six }) (sym e.none_yet))

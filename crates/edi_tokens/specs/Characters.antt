@@ -1,4 +1,4 @@
--- The characters of a text (ISO 9735 section 5, character sets UNOA to UNOC).
+-- The characters of a text (ISO 9735, character sets UNOA to UNOC).
 use Rattle.std.specs.Prelude.{ℕ, Bool, false, ◌==◌, nat_le, ◌&&◌, ◌||◌, Option, Some, None}
 use Rattle.edi_base.specs.Limits as limits
 use Rattle.edi_tokens.specs.declared.segment.Service.{Service}

@@ -79,7 +79,7 @@ pub record EndsReleased (text : List ℕ) (s : Service) (segments : List Segment
   pub open_is : o ≡ with_release data_before
   pub is_short : o.length ≤ segment_limit
 
--- the text is a front of a right one, and ends at this place
+-- the text is a front of a valid one, and ends at this place
 abbrev pub EndsAt : List ℕ → Service → List Segment → Place → Type 0
 EndsAt text s segments (Outside fresh) = EndsOutside text s segments fresh
 EndsAt text s segments (InService six) = EndsInService text s segments six
@@ -111,7 +111,7 @@ shown_by_end (InTag fresh tag) = Some Cut
 shown_by_end (InData o) = Some Cut
 shown_by_end (Released o) = Some Cut
 
--- behind a front that shows nothing, the next byte shows the fault
+-- after a front that shows nothing, the next byte shows the fault
 pub record ByteShows (text : List ℕ) (fault : TokenFault) : Type 0 where
   pub front : List ℕ
   pub byte : ℕ

@@ -19,7 +19,7 @@ pub record Open : Type 0 where
   pub length : ℕ
 
 -- where the bytes so far end: outside of segments (and whether a service string may still stand here), among
--- the six characters of a service string, in a tag or right after it, in data, behind a release character
+-- the six characters of a service string, in a tag or right after it, in data, after a release character
 pub data Place : Type 0 where
   Outside : (fresh : Bool) → Place
   InService : (six : List ℕ) → Place
@@ -78,7 +78,7 @@ abbrev pub adopt : Reading → Option Service → Result Reading TokenFault
 adopt r None = Err ServiceString
 adopt r (Some s) = Ok (record { service = s; segments = r.segments; place = Outside false })
 
--- the next of six service characters; the sixth shows whether they are right
+-- the next of six service characters; the sixth shows whether they are valid
 abbrev pub step_service : Reading → List ℕ → ℕ → Result Reading TokenFault
 step_service r six b = if nat_lt (length six) 5 then Ok (at r (InService (six ++ b ∷ []))) else adopt r (service_of (six ++ b ∷ []))
 
@@ -110,7 +110,7 @@ step_data r o b =
 abbrev pub step_released : Reading → Open → ℕ → Result Reading TokenFault
 step_released r o b = if is_data b then Ok (at r (InData (with_byte o b))) else Err Byte
 
--- no byte stands behind as many as a segment may have
+-- no byte stands after as many as a segment may have
 abbrev pub within : Open → Result Reading TokenFault → Result Reading TokenFault
 within o next = if o.length == segment_limit then Err LongSegment else next
 

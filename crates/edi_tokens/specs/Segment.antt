@@ -1,4 +1,4 @@
--- The places of a segment (ISO 9735 section 8).
+-- The places of a segment (ISO 9735, structures).
 use Rattle.std.specs.Prelude.{ℕ, List, [], slice_index_or}
 
 -- the components of an element, counted from 0: none where it is absent

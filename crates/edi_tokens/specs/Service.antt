@@ -1,11 +1,34 @@
--- The service characters of a text, and the service string advice UNA (ISO 9735 section 7.1).
+-- The service characters of a text, and the service string advice UNA (ISO 9735).
 use Rattle.std.specs.Prelude.{ℕ, Bool, true, ◌==◌, ◌&&◌, ◌||◌, not, nat_le, List, [], ◌∷◌, Option, Some, None, if◌then◌else◌}
 use Rattle.edi_tokens.specs.declared.segment.Service.{Service}
 use Rattle.edi_tokens.specs.Characters.{is_capital, is_small, is_digit}
 
--- the characters of a text without a service string: `:` `+` `.` `?` `'`
+-- the usual service characters: `:` `+` `?` `'`
+abbrev pub usual_component : ℕ
+usual_component = 58
+
+abbrev pub usual_element : ℕ
+usual_element = 43
+
+abbrev pub usual_release : ℕ
+usual_release = 63
+
+abbrev pub usual_terminator : ℕ
+usual_terminator = 39
+
+-- these, with a decimal mark
+abbrev pub with_decimal : ℕ → Service
+with_decimal decimal = record {
+  component = usual_component;
+  element = usual_element;
+  decimal = decimal;
+  release = Some usual_release;
+  terminator = usual_terminator;
+}
+
+-- the characters of a text without a service string: these, with `.`
 abbrev pub usual : Service
-usual = record { component = 58; element = 43; decimal = 46; release = Some 63; terminator = 39 }
+usual = with_decimal 46
 
 -- the tag that announces six service characters
 abbrev pub una_tag : List ℕ
@@ -22,7 +45,7 @@ abbrev pub differs : ℕ → List ℕ → Bool
 differs b [] = true
 differs b (c ∷ cs) = not (b == c) && differs b cs
 
--- whether six characters are right, in their order: component separator, element separator, decimal mark,
+-- whether six characters are valid, in their order: component separator, element separator, decimal mark,
 -- release character or a blank, reserved position, terminator
 abbrev pub are_right : ℕ → ℕ → ℕ → ℕ → ℕ → ℕ → Bool
 are_right component element decimal release reserved terminator =
@@ -31,7 +54,7 @@ are_right component element decimal release reserved terminator =
     && ((differs component (element ∷ terminator ∷ release ∷ decimal ∷ []) && differs element (terminator ∷ release ∷ decimal ∷ []))
     && (differs terminator (release ∷ decimal ∷ []) && differs release (decimal ∷ []))))
 
--- what six characters say, where they are right; a blank for the release character says that there is none
+-- what six characters say, where they are valid; a blank for the release character says that there is none
 abbrev pub service_of : List ℕ → Option Service
 service_of (component ∷ element ∷ decimal ∷ release ∷ reserved ∷ terminator ∷ []) =
     if are_right component element decimal release reserved terminator

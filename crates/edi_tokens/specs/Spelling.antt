@@ -1,4 +1,4 @@
--- What a text spells (ISO 9735 syntax version 3, sections 5 to 8): the token grammar, as a relation.
+-- What a text spells (ISO 9735 syntax version 3: character sets, structures, compression): the token grammar, as a relation.
 use Rattle.std.specs.Prelude.{◌≡◌, ◌≢◌, ◌⊎◌, ◌≤◌, ℕ, IsTrue, ◌||◌, not, List, [], ◌∷◌, ◌++◌, length, map, Option, Some, None}
 use Rattle.std.specs.List.{AllByRecursion}
 use Rattle.edi_tokens.specs.declared.segment.Service.{Service}
@@ -18,7 +18,7 @@ abbrev pub Each : {A : Type 0} → (List ℕ → A → Type 0) → List ℕ → 
 Each R text [] = text ≡ []
 Each R text (x ∷ xs) = (first rest : List ℕ) × (text ≡ first ++ rest) × R first x × Each R rest xs
 
--- behind a separator, and before one
+-- after a separator, and before one
 abbrev pub Behind : {A : Type 0} → ℕ → (List ℕ → A → Type 0) → List ℕ → A → Type 0
 Behind separator R text x = (rest : List ℕ) × (text ≡ separator ∷ rest) × R rest x
 
@@ -63,7 +63,7 @@ abbrev pub IsTag : List ℕ → Type 0
 IsTag (a ∷ b ∷ c ∷ []) = IsTrue (is_capital a) × IsTrue (is_capital b || is_digit b) × IsTrue (is_capital c || is_digit c)
 IsTag _ = ⊥
 
--- a segment: the tag, each element behind an element separator, the terminator
+-- a segment: the tag, each element after an element separator, the terminator
 pub record SpellsSegment (s : Service) (text : List ℕ) (segment : Segment) : Type 0 where
   pub body : List ℕ
   pub written : List (List (List ℕ))

@@ -1,4 +1,4 @@
-//! The characters of a text (ISO 9735, section 5, character sets UNOA to UNOC).
+//! The characters of a text (ISO 9735, character sets UNOA to UNOC).
 
 ghost use Rattle.std.specs.Prelude.{◌≡◌};
 ghost use Rattle.edi_tokens.specs.Characters as set;

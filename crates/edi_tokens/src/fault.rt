@@ -47,6 +47,11 @@ impl TokenFault {
 }
 
 impl fmt::Display for TokenFault {
+    ghost use Rattle.edi_tokens.specs.Code.{code_text};
+    ghost use Rattle.std.specs.Prelude.{Some};
+
+    ghost output = { λ fault. Some (code_text fault) };
+
     fn fmt<W: fmt::Write>(&self, f: &mut fmt::Formatter<W>) -> fmt::Result {
         f.write_str(self.code())
     }

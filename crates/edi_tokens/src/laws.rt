@@ -6,9 +6,10 @@ ghost use Rattle.edi_tokens.specs.declared.segment.Service.{Service};
 ghost use Rattle.edi_tokens.specs.declared.segment.Segment.{Segment};
 ghost use Rattle.edi_tokens.specs.declared.fault.TokenFault.{TokenFault};
 ghost use Rattle.edi_tokens.specs.Spelling.{Spells, text_limit, segment_limit};
-ghost use Rattle.edi_tokens.specs.Fault.{Shows, ByteShows};
+ghost use Rattle.edi_tokens.specs.Fault.{Shows, ByteShows, EndShows};
 ghost use Rattle.edi_tokens.specs.Reading.{tokens_of};
-ghost use Rattle.edi_tokens.specs.Text.{text, una, segment_text, with_decimal};
+ghost use Rattle.edi_tokens.specs.Service.{with_decimal};
+ghost use Rattle.edi_tokens.specs.Text.{text, una, segment_text};
 
 /// A text spells at most one list of segments, with one set of service characters.
 pub fn text_spells_one_list()
@@ -17,7 +18,7 @@ pub fn text_spells_one_list()
 {}
 
 /// A text spells segments or shows a fault, and never both; the fault that it shows is one, and so is the byte
-/// that shows it.
+/// that shows it. Where the end shows it, no byte does.
 pub fn text_spells_or_shows_a_fault()
     ensures either { (bytes : List ℕ) →
         ((s : Service) × (xs : List Segment) × Spells bytes s xs) ⊎ ((fault : TokenFault) × Shows bytes fault) }
@@ -27,6 +28,8 @@ pub fn text_spells_or_shows_a_fault()
         Shows bytes fault → Shows bytes other → fault ≡ other }
     ensures one_byte { (bytes : List ℕ) (fault other : TokenFault)
         (here : ByteShows bytes fault) (there : ByteShows bytes other) → length here.front ≡ length there.front }
+    ensures byte_or_end { (bytes : List ℕ) (fault other : TokenFault) →
+        EndShows bytes fault → ¬ ByteShows bytes other }
 {}
 
 /// What is read of a text is what it spells, or the fault that it shows.
@@ -37,7 +40,7 @@ pub fn reading_is_the_grammar()
         Shows bytes fault ↔ (tokens_of bytes ≡ Err fault) }
 {}
 
-/// The canonical text of segments that some text spells, behind a service string, spells them again,
+/// The canonical text of segments that some text spells, after a service string, spells them again,
 /// where it keeps within the longest text and the longest segment.
 pub fn canonical_text_spells_again()
     ensures { (bytes : List ℕ) (s : Service) (xs : List Segment) (decimal : ℕ) →

@@ -2,7 +2,7 @@ ghost use Rattle.std.specs.Prelude.{◌≡◌};
 
 use edi_base::Items;
 
-/// The service characters of a text (ISO 9735, section 5, and the service string advice UNA).
+/// The service characters of a text (ISO 9735, character sets and service string advice).
 #[derive(Clone, Copy, Debug, PartialEq, Eq)]
 pub struct Service {
     /// Parts the components of an element.

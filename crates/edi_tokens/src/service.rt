@@ -1,4 +1,4 @@
-//! The service characters of a text (ISO 9735, section 7.1).
+//! The service characters of a text (ISO 9735, service string advice).
 
 ghost use Rattle.std.specs.Prelude.{◌≡◌, ◌≤◌, IsTrue, length, take};
 ghost use Rattle.edi_tokens.specs.Service as spec;
@@ -7,6 +7,18 @@ ghost use Rattle.edi_tokens.specs.Plain.{are_plain};
 
 use crate::characters::{is_capital, is_data, is_digit, is_small};
 use crate::segment::Service;
+
+/// The usual component separator.
+pub(crate) const COMPONENT: u8 = b':';
+
+/// The usual element separator.
+pub(crate) const ELEMENT: u8 = b'+';
+
+/// The usual release character.
+pub(crate) const RELEASE: u8 = b'?';
+
+/// The usual terminator.
+pub(crate) const TERMINATOR: u8 = b'\'';
 
 fn is_mark(byte: u8) -> bool
     ensures { result ≡ spec.is_mark byte }
@@ -53,17 +65,17 @@ impl Service {
         ensures { result ≡ spec.usual }
     {
         Service {
-            component: b':',
-            element: b'+',
+            component: COMPONENT,
+            element: ELEMENT,
             decimal: b'.',
-            release: Some(b'?'),
-            terminator: b'\'',
+            release: Some(RELEASE),
+            terminator: TERMINATOR,
         }
     }
 
     /// What six characters say: component separator, element separator, decimal mark, release character
     /// or a blank where there is none, reserved position, terminator. None where they are against the rules.
-    pub fn of(six: &[u8; 6]) -> Option<Self>
+    pub(crate) fn of(six: &[u8; 6]) -> Option<Self>
         ensures { result ≡ spec.service_of six.now }
     {
         let [component, element, decimal, release, reserved, terminator] = *six;

@@ -1,4 +1,4 @@
-//! The canonical text of segments (ISO 9735, sections 5 and 8).
+//! The canonical text of segments (ISO 9735, character sets and structures).
 
 ghost use Rattle.std.specs.Prelude.{◌≡◌, ◌≤◌, ◌<◌, [], ◌++◌, length, take, IsTrue, OnOk, OnErr, IfOk, true, slice_index};
 ghost use Rattle.std.specs.Io.KnownBytes.{Appends};
@@ -6,6 +6,7 @@ ghost use Rattle.edi_tokens.specs.Text.{is_usual, component_text, element_text, 
 ghost use Rattle.edi_base.specs.Buffer.{Puts, Flags, AppendsFront};
 
 use crate::segment::Segment;
+use crate::service::{COMPONENT, ELEMENT, RELEASE, TERMINATOR};
 use edi_base::{Buffer, Items, MemoryFault, OfWrite, Sink, WriteFault};
 use std::alloc::{AllocError, Global};
 use std::mem;
@@ -14,7 +15,7 @@ use std::mem;
 fn is_usual(byte: u8) -> bool
     ensures { result ≡ is_usual byte }
 {
-    matches!(byte, b':' | b'+' | b'\'' | b'?')
+    byte == COMPONENT || byte == ELEMENT || byte == TERMINATOR || byte == RELEASE
 }
 
 /// How many bytes at the front stand for themselves.
@@ -46,7 +47,7 @@ fn put_component<W: Sink>(
         let Some((byte, after)) = after.split_first() else {
             return Ok(());
         };
-        buffer.put(out, &[b'?', *byte])?;
+        buffer.put(out, &[RELEASE, *byte])?;
         rest = after;
     }
 }
@@ -59,13 +60,13 @@ fn put_element<W: Sink>(
     ensures bytes { Puts result (W.contents out.old) (W.contents out.new) buffer.old buffer.new (element_text components.now) }
     ensures flag { Flags result (W.failed out.old) (W.failed out.new) }
 {
-    buffer.put(out, b"+")?;
+    buffer.put(out, &[ELEMENT])?;
     let Some((first, others)) = components.split_first() else {
         return Ok(());
     };
     put_component(out, buffer, first.as_slice())?;
     for component in others {
-        buffer.put(out, b":")?;
+        buffer.put(out, &[COMPONENT])?;
         put_component(out, buffer, component.as_slice())?;
     }
     Ok(())
@@ -83,7 +84,7 @@ fn put_segment<W: Sink>(
     for components in segment.elements.as_slice() {
         put_element(out, buffer, components.as_slice())?;
     }
-    buffer.put(out, b"'")
+    buffer.put(out, &[TERMINATOR])
 }
 
 fn put_text<W: Sink>(
@@ -100,7 +101,7 @@ fn put_text<W: Sink>(
     Ok(())
 }
 
-/// Writes a front and the text of segments behind it.
+/// Writes a front and the text of segments after it.
 fn put_all<W: Sink>(out: &mut W, front: &[u8], segments: &[Segment]) -> Result<(), WriteFault>
     ensures bytes { Puts result (W.contents out.old) (W.contents out.new) [] [] (front.now ++ text segments.now) }
     ensures flag { Flags result (W.failed out.old) (W.failed out.new) }
@@ -111,15 +112,17 @@ fn put_all<W: Sink>(out: &mut W, front: &[u8], segments: &[Segment]) -> Result<(
     buffer.flush(out)
 }
 
-/// The service string `UNA:+.? '`, with this decimal mark (ISO 9735, section 7.1).
+/// The service string `UNA:+.? '`, with this decimal mark (ISO 9735, service string advice).
 pub fn service_string(decimal: u8) -> [u8; 9]
     ensures { result ≡ una decimal }
 {
-    [b'U', b'N', b'A', b':', b'+', decimal, b'?', b' ', b'\'']
+    [
+        b'U', b'N', b'A', COMPONENT, ELEMENT, decimal, RELEASE, b' ', TERMINATOR,
+    ]
 }
 
-/// Writes the service string `UNA:+.? '`, with this decimal mark, and the canonical text of segments
-/// (ISO 9735, sections 5, 7.1 and 8). It takes no memory. At `WriteFault` a front of the text was written.
+/// Writes the service string `UNA:+.? '`, with this decimal mark, and the canonical text of segments (ISO 9735, character
+/// sets, service string advice and structures). It takes no memory. At `WriteFault` a front of the text was written.
 pub fn write_text<W: Sink>(segments: &[Segment], decimal: u8, out: &mut W) -> Result<(), WriteFault>
     ensures ok { OnOk result (Appends (W.contents out.old) (W.contents out.new) (una decimal ++ text segments.now)) }
     ensures err { OnErr result (AppendsFront (W.contents out.old) (W.contents out.new) (una decimal ++ text segments.now)) }
@@ -149,7 +152,7 @@ pub fn append_text(out: &mut Vec<u8>, segments: &[Segment]) -> Result<(), Memory
     Ok(())
 }
 
-/// The canonical text of segments, with no service string (ISO 9735, sections 5 and 8).
+/// The canonical text of segments, with no service string (ISO 9735, character sets and structures).
 pub fn body_text(alloc: Global, segments: &[Segment]) -> Result<Vec<u8>, MemoryFault>
     ensures { IfOk result (λ text_of. text_of.items ≡ text segments.now) }
 {

@@ -4,7 +4,7 @@
 use clap::Error;
 use clap::error::ErrorKind;
 use edi_tokens::{OfRead, OfWrite};
-use hub_app::{Words, check_run, read_register_text, read_words, relay_run, show_run};
+use hub_app::{FAILED, Words, check_run, read_register_text, read_words, relay_run, show_run};
 use std::fmt::Display;
 use std::fs::File;
 use std::process::ExitCode;
@@ -12,9 +12,6 @@ use std::{env, io};
 
 /// The exit status of a usage error.
 const USAGE: u8 = 2;
-
-/// The exit status of a failed read or write, and of out of memory.
-const FAILED: u8 = 3;
 
 // Prints a line on standard error. Where that fails, the exit status alone tells.
 fn tell<T: Display + Drop>(rt: &HostRuntime, line: T, status: u8) -> u8 {

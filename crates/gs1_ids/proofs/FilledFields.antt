@@ -1,10 +1,10 @@
--- Digits in a field that is longer: zeros before a GTIN, zero bytes behind a prefix.
+-- Digits in a field that is longer: zeros before a GTIN, zero bytes after a prefix.
 use Rattle.std.proofs.Common.{◌≡◌, ℕ, zero, suc, ◌+◌, ◌-◌, ◌%◌, ◌<◌, ◌≤◌, List, [], ◌∷◌, ◌++◌, length, get_or, take, drop, replicate, refl, sym, ap, ◌∙◌, subst, arith, length-append, length-drop}
 use Rattle.std.specs.Char.{IsAsciiDigit}
 use Rattle.std.proofs.lemmas.List.{append-nil, take-replicate, drop-replicate, drop_all, take_at, drop_at, length-replicate}
 use Rattle.std.proofs.lemmas.List.Elements.{All-cons}
 use borrow.Rule.Slice.PartMut.{put_mid}
-use Rattle.gs1_ids.specs.Digits.{IsKey, check, number_of, weighted_sum}
+use Rattle.gs1_ids.specs.Digits.{IsKey, check, digit_value, weighted_sum}
 use Rattle.gs1_ids.specs.Prefix.{IsPrefix}
 use Rattle.gs1_ids.specs.StoredPrefix.{HoldsPrefix}
 
@@ -32,13 +32,13 @@ IsKey-zero m xs key = record {
   checked = checked_at (suc (suc m) - 1) (omega arith);
 }
   where
-    before : (j : ℕ) → j ≡ suc m - 1 → number_of (get_or xs j 0) ≡ check (take j xs)
+    before : (j : ℕ) → j ≡ suc m - 1 → digit_value (get_or xs j 0) ≡ check (take j xs)
     before j e = rw e key.checked
 
-    checked_at : (j : ℕ) → j ≡ suc m → number_of (get_or (48 ∷ xs) j 0) ≡ check (take j (48 ∷ xs))
+    checked_at : (j : ℕ) → j ≡ suc m → digit_value (get_or (48 ∷ xs) j 0) ≡ check (take j (48 ∷ xs))
     checked_at j e = rw e (before m (omega arith) ∙ sym (check-zero (take m xs)))
 
--- a key behind zeros is a longer key
+-- a key after zeros is a longer key
 pub IsKey-zeros : (k m n : ℕ) (xs : List ℕ) → n ≡ k + suc m → IsKey (suc m) xs → IsKey n (replicate k 48 ++ xs)
 IsKey-zeros zero m n xs e key = let same : suc m ≡ n = omega arith in subst (λ t. IsKey t xs) same key
 IsKey-zeros (suc k) m n xs e key =

@@ -19,7 +19,7 @@ no_answer : (b : Bool) (k : ℕ) → cond b (Some k) None ≡ None → b ≡ fal
 no_answer true k e = cc
 no_answer false k e = refl
 
--- the prefixes behind the one at a place
+-- the prefixes after the one at a place
 module _ (ps : List (List ℕ)) (i : ℕ) where
   behind : (k : ℕ) → get_or (drop (i + 1) ps) k [] ≡ get_or ps (i + 1 + k) []
   behind k = get_or-drop (i + 1) ps k []
@@ -52,7 +52,7 @@ module _ (ps : List (List ℕ)) (i : ℕ) where
       let w = later l o in
       both_ways _ (fails_before_first (overlap p) rest w.0 [] (omega (arith, w.2, past))) w.3
 
--- what the search behind a place answers, of the prefix that was read there and of the rest of the slice
+-- what the search after a place answers, of the prefix that was read there and of the rest of the slice
 pub search_behind : (ps : List (List ℕ)) (i : ℕ) (p : List ℕ) (answer : Option ℕ) → i < length ps → p ≡ get_or ps i p → answer ≡ position (overlap p) (between (i + 1) (length ps) ps) → answer ≡ position (overlap (get_or ps i [])) (drop (i + 1) ps)
 search_behind ps i p answer within read e =
     e ∙ ap (λ q. position (overlap q) (between (i + 1) (length ps) ps)) (get_or_read ps i p within read []) ∙ ap (position (overlap (get_or ps i []))) (between_to_end ps (i + 1) (length ps) (omega arith))
@@ -70,7 +70,7 @@ moved_by-more : (n : ℕ) (o : Option (ℕ × ℕ)) → moved_by n (overlap_from
 moved_by-more n None = refl
 moved_by-more n (Some places) = ap₂ (λ i j. Some (i, j)) (omega arith) (omega arith)
 
--- the first overlap from a place on, by what the search behind that place answers
+-- the first overlap from a place on, by what the search after that place answers
 pub found_next : (ps : List (List ℕ)) (i k : ℕ) → i < length ps → position (overlap (get_or ps i [])) (drop (i + 1) ps) ≡ Some k → moved_by i (first_overlap_of (drop i ps)) ≡ Some (i, i + 1 + k)
 found_next ps i k within e =
     ap (λ rest. moved_by i (first_overlap_of rest)) (drop_more ps i [] within)

@@ -33,7 +33,7 @@ fn is_gtin(text: &[u8]) -> bool
     matches!(text.len(), 8 | 12 | 13 | 14) && ends_in_check_digit(text)
 }
 
-// The digits in a field of fourteen, behind zeros.
+// The digits in a field of fourteen, after zeros.
 fn in_fourteen(text: &[u8]) -> [u8; 14]
     requires { length text.now ≤ 14 }
     ensures { result ≡ in_fourteen text.now }

@@ -45,7 +45,7 @@ impl Sscc {
         &self.digits
     }
 
-    /// Whether `prefix` begins the digits from the second on, those behind the extension digit.
+    /// Whether `prefix` begins the digits from the second on, those after the extension digit.
     pub fn under(&self, prefix: &Prefix) -> bool
         ensures value { result ≡ under self.now prefix.now }
         ensures exact { IsTrue result ↔ Begins prefix.now (drop 1 self.now) }

@@ -1,10 +1,12 @@
 -- Lines and mail texts on their way to writers.
-use Rattle.std.proofs.Common.{subst, ◌≡◌, ℕ, true, false, List, ◌++◌, take, Option, Some, None, Result, Ok, Err, sym, ap, ◌∙◌, append_assoc}
-use Rattle.std.specs.Prelude.{IfSome, OnOk, OnErr, is_ok}
+use Rattle.std.proofs.Common.{subst, ◌≡◌, ℕ, true, false, List, ◌++◌, take, Option, Some, None, Result, Ok, Err, inl, inr, refl, sym, ap, ◌∙◌, append_assoc}
+use Rattle.std.specs.Prelude.{◌≢◌, ◌⊎◌, IfSome, OnOk, OnErr, is_ok}
 use Rattle.std.proofs.lemmas.Bool.{true≢false, false≢true}
 use Rattle.std.specs.Io.KnownBytes.{Appends, Consumes}
 use Rattle.std.proofs.KnownBytes.{Appends-trans}
 use Rattle.edi_base.specs.Buffer.{AppendsFront}
+use Rattle.edi_base.specs.declared.source.ReadFault.{ReadFault}
+use Rattle.edi_base.specs.declared.source.ReadFault.TheVariants as read_faults
 use Rattle.hub_app.specs.declared.relay.RelayWords.{RelayWords}
 use Rattle.hub_app.specs.declared.relay.RelayFault.{RelayFault}
 use Rattle.hub_app.specs.Relay.{relayed}
@@ -61,3 +63,9 @@ is_shown (Some k) status old new read bytes lines whole same told said written =
 pub is_front_shown : (known : Option (List ℕ)) (old new : Option (List ℕ)) (read bytes lines : List ℕ) → IfSome known (λ k. read ≡ take read_limit k) → bytes ≡ read → lines ≡ lines_shown bytes → AppendsFront old new lines → ShowsFront known old new
 is_front_shown None old new read bytes lines whole same said written = tt
 is_front_shown (Some k) old new read bytes lines whole same said written = subst (λ (t : List ℕ). AppendsFront old new t) (said ∙ ap lines_shown (same ∙ whole)) written
+
+-- why nothing was read
+pub not_read : {T File Memory Up Same : Type 0} (fault : ReadFault) → (fault ≡ read_faults.Read → File) → (fault ≡ read_faults.Memory → Memory)
+    → (◌≡◌ {A = Result T ReadFault} (Err fault) (Err read_faults.Read) → Up) → (◌≢◌ {A = Result T ReadFault} (Err fault) (Err read_faults.Read) → Same) → (File × Up) ⊎ (Memory × Same)
+not_read read_faults.Read file memory up same = inl (file refl, up refl)
+not_read read_faults.Memory file memory up same = inr (memory refl, same (λ e. cc))

@@ -2,7 +2,7 @@
 use Rattle.std.proofs.Common.{◌≡◌, ℕ, ◌+◌, ◌<◌, ◌≤◌, List, length, take, Option, Some, None, Result, Ok, Err, IsUtf8, sym, ap, ◌∙◌, subst, arith}
 use Rattle.std.specs.Prelude.{IfSome}
 use Rattle.std.proofs.lemmas.List.{length-take, take_all}
-use Rattle.hub_parties.specs.Rows.{Rows}
+use Rattle.hub_parties.specs.Rows.{RegisterRows}
 use Rattle.hub_register.specs.declared.fault.RegisterFault.{RegisterFault}
 use Rattle.hub_app.specs.Check.{IsRegisterText, verdict_status}
 
@@ -23,6 +23,6 @@ no_utf8 None read is fits none = tt
 no_utf8 (Some bytes) read is fits none = λ text. none (subst IsUtf8 (sym (all_read 1_048_576 bytes read is fits)) text.utf8)
 
 -- a verdict ends with 0 or 1
-pub never_failed : (verdict : Result Rows RegisterFault) → verdict_status verdict ≡ 3 → ⊥
+pub never_failed : (verdict : Result RegisterRows RegisterFault) → verdict_status verdict ≡ 3 → ⊥
 never_failed (Ok rows) e = cc
 never_failed (Err fault) e = cc

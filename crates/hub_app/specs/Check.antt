@@ -6,17 +6,17 @@ use Rattle.edi_base.specs.declared.source.ReadFault.TheVariants as read
 use Rattle.edi_tokens.specs.Spelling.{text_limit}
 use Rattle.hub_app.specs.declared.check.TextFault.{TextFault}
 use Rattle.hub_app.specs.declared.check.TextFault.TheVariants.{File, Memory}
-use Rattle.hub_parties.specs.Rows.{Rows}
+use Rattle.hub_parties.specs.Rows.{RegisterRows}
 use Rattle.hub_register.specs.Text.{fault_text}
 use Rattle.hub_register.specs.declared.fault.RegisterFault.{RegisterFault}
 
 -- the line, by the register or the fault of the text
-abbrev pub verdict_line : Result Rows RegisterFault → List ℕ
+abbrev pub verdict_line : Result RegisterRows RegisterFault → List ℕ
 verdict_line (Ok rows) = codes "ok " ++ (decimal (length rows.suppliers) ++ codes " suppliers\n")
 verdict_line (Err fault) = codes "fault " ++ (fault_text fault ++ codes "\n")
 
 -- the exit status
-abbrev pub verdict_status : Result Rows RegisterFault → ℕ
+abbrev pub verdict_status : Result RegisterRows RegisterFault → ℕ
 verdict_status (Ok rows) = 0
 verdict_status (Err fault) = 1
 
@@ -25,7 +25,7 @@ pub record IsRegisterText (bytes : List ℕ) : Type 0 where
   pub fits : length bytes ≤ text_limit
   pub utf8 : IsUtf8 bytes
 
--- what a failed read of a text is told as
+-- what a failed read of a text is reported as
 abbrev pub told_read_fault : ReadFault → TextFault
 told_read_fault read.Read = File
 told_read_fault read.Memory = Memory

@@ -74,7 +74,7 @@ pub fn read_register_text<R: Source>(alloc: Global, input: &mut R) -> Result<Str
     }
 }
 
-// What a text is, as it is told.
+// What a text is, as it is reported.
 #[derive(Drop)]
 struct Verdict {
     line: String,

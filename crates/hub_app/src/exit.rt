@@ -11,7 +11,7 @@ pub(crate) const DONE: u8 = 0;
 pub(crate) const REFUSED: u8 = 1;
 
 /// A failed read or write, or out of memory.
-pub(crate) const FAILED: u8 = 3;
+pub const FAILED: u8 = 3;
 
 /// Prints a line. Where the writer fails, the exit status alone tells.
 pub(crate) fn tell<E: Sink>(line: &[u8], err: &mut E)

@@ -9,6 +9,7 @@ mod show;
 mod words;
 
 pub use check::{TextFault, check_run, read_register_text};
+pub use exit::FAILED;
 pub use relay::{RelayFault, RelayWords, relay_text};
 pub use run::relay_run;
 pub use show::show_run;

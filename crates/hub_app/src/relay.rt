@@ -102,6 +102,11 @@ impl RelayFault {
 }
 
 impl fmt::Display for RelayFault {
+    ghost use Rattle.hub_app.specs.Relay.{code_of};
+    ghost use Rattle.std.specs.Prelude.{Some};
+
+    ghost output = { λ fault. Some (code_of fault) };
+
     fn fmt<W: fmt::Write>(&self, f: &mut fmt::Formatter<W>) -> fmt::Result {
         f.write_str(self.code())
     }

@@ -35,6 +35,19 @@ fn tell_refusal<E: Sink>(fault: RelayFault, err: &mut E)
     let _ = write_refusal(fault, err);
 }
 
+/// Prints why an interchange was not read, and answers the exit status.
+pub(crate) fn tell_read_fault<E: Sink>(fault: ReadFault, err: &mut E) -> u8
+    ensures status { result ≡ 3 }
+    ensures file { fault ≡ ReadFault.Read → Tells (E.contents err.old) (E.contents err.new) (E.failed err.new) (codes "file\n") }
+    ensures memory { fault ≡ ReadFault.Memory → Tells (E.contents err.old) (E.contents err.new) (E.failed err.new) (codes "memory\n") }
+{
+    match fault {
+        ReadFault::Read => tell(b"file\n", err),
+        ReadFault::Memory => tell(b"memory\n", err),
+    }
+    FAILED
+}
+
 /// Reads an interchange, at most 1,048,577 bytes, and writes its mail texts to `out`. Answers the exit status: 0 where
 /// they were written; 1 where the interchange is refused, and then `refused` with the code is a line on `err`; 3 where
 /// a read or write failed, with the line `file`, or memory ran out, with the line `memory`.
@@ -67,14 +80,7 @@ pub fn relay_run<R: Source, W: Sink, E: Sink>(
 {
     let text = match read_to_limit(alloc, input, READ_LIMIT) {
         Ok(text) => text,
-        Err(ReadFault::Read) => {
-            tell(b"file\n", err);
-            return FAILED;
-        }
-        Err(ReadFault::Memory) => {
-            tell(b"memory\n", err);
-            return FAILED;
-        }
+        Err(fault) => return tell_read_fault(fault, err),
     };
     match relay_text(alloc, text.as_slice(), words) {
         Ok(mail) => {

@@ -8,12 +8,12 @@ ghost use Rattle.hub_app.specs.Exit.{Tells};
 ghost use Rattle.hub_app.specs.Show.{Shows, ShowsFront, lines_shown, status_of};
 
 use crate::exit::{DONE, FAILED, REFUSED, tell};
-use crate::run::READ_LIMIT;
+use crate::run::{READ_LIMIT, tell_read_fault};
 use edi_show::show_text;
-use edi_tokens::{MemoryFault, ReadFault, Sink, Source, read_to_limit, write_bytes};
+use edi_tokens::{MemoryFault, Sink, Source, read_to_limit, write_bytes};
 use std::alloc::Global;
 
-// What a text says, as it is told.
+// What a text says, as it is reported.
 #[derive(Drop)]
 struct Told {
     lines: Vec<u8>,
@@ -57,14 +57,7 @@ pub fn show_run<R: Source, W: Sink, E: Sink>(
 {
     let text = match read_to_limit(alloc, input, READ_LIMIT) {
         Ok(text) => text,
-        Err(ReadFault::Read) => {
-            tell(b"file\n", err);
-            return FAILED;
-        }
-        Err(ReadFault::Memory) => {
-            tell(b"memory\n", err);
-            return FAILED;
-        }
+        Err(fault) => return tell_read_fault(fault, err),
     };
     let Ok(told) = told_text(alloc, text.as_slice()) else {
         tell(b"memory\n", err);

@@ -12,7 +12,7 @@ use Rattle.hub_tables.specs.Sets.{Rises}
 use Rattle.hub_tables.specs.Tables.{Tables, view}
 use Rattle.hub_tables.specs.declared.rows.LineRow.{LineRow}
 use Rattle.hub_tables.proofs.Lists.{all_filter}
-use Rattle.hub_lines.specs.Book.{facts_cmp, Rise, IsCovered}
+use Rattle.hub_lines.specs.Book.{facts_cmp, IsCovered}
 use Rattle.hub_rules.specs.Sound.{Balanced, Sound}
 use Rattle.hub_rules.proofs.OwnChanges.{good_view}
 use Rattle.hub_rules.proofs.Rising.{rises_filter, view_rises}
@@ -30,7 +30,7 @@ module _ (state : Tables) where
   all_below gln row [] own owns less = tt
   all_below gln row (later ∷ rows) own owns less = (below row later (own ∙ sym owns.0) less.0, all_below gln row rows own owns.1 less.1)
 
-  facts_rise : (gln : List ℕ) (rows : List LineRow) → AllByRecursion (λ row. row.supplier ≡ gln) rows → Rises line_cmp rows → Rise (facts_in state rows)
+  facts_rise : (gln : List ℕ) (rows : List LineRow) → AllByRecursion (λ row. row.supplier ≡ gln) rows → Rises line_cmp rows → Rises facts_cmp (facts_in state rows)
   facts_rise gln [] owns rises = tt
   facts_rise gln (row ∷ rows) owns rises = (all_below gln row rows owns.0 owns.1 rises.0, facts_rise gln rows owns.1 rises.1)
 
@@ -39,7 +39,7 @@ module _ (state : Tables) where
   facts_covered (row ∷ rows) all = (omega (arith, all.0), facts_covered rows all.1)
 
 module _ (suppliers : List SupplierRow) (gln : List ℕ) (t : Tables) (test : LineRow → Bool) (sound : Sound suppliers t) where
-  pub seen_rise : Rise (facts_in (view gln t) (filter test (view gln t).lines))
+  pub seen_rise : Rises facts_cmp (facts_in (view gln t) (filter test (view gln t).lines))
   seen_rise =
       let whose : SupplierRow = record { gln = gln; prefixes = []; key = [] } in
       let good = good_view suppliers whose t sound in

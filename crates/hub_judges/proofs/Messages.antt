@@ -9,7 +9,7 @@ use Rattle.hub_tables.specs.declared.change.Change.{Change}
 use Rattle.hub_tables.specs.declared.change.Change.TheVariants.{Remember}
 use Rattle.hub_rules.specs.Judging.{Judge, gives, in_turn, joined, refuse_if}
 use Rattle.hub_rules.specs.RepeatRules.{remembered, once, judge_once}
-use Rattle.hub_rules.specs.PartyRules.{is_other_buyer, registered}
+use Rattle.hub_rules.specs.PartyRules.{is_other_buyer, if_registered}
 use Rattle.hub_rules.specs.Rules.{referred_by, judge_message}
 use Rattle.hub_rules.specs.declared.code.Code.TheVariants.{Buyer}
 use Rattle.hub_rules.specs.declared.incoming.IncomingMessage.{IncomingMessage}
@@ -20,7 +20,7 @@ abbrev pub first_of : SupplierRow → Side → IncomingMessage → List Change
 first_of s side incoming = Remember (remembered (referred_by s side incoming) incoming.content) ∷ []
 
 pub judged_message : (retailer : List ℕ) (supplier : Option SupplierRow) (side : Side) (incoming : IncomingMessage) (buyer : Option (List ℕ)) (named : List ℕ) (rest : SupplierRow → Judge) (s : SupplierRow) (state : Tables) (content : List ℕ) (verdict : Verdict) →
-    ((next : SupplierRow → Verdict) → refuse_if (is_other_buyer retailer buyer) Buyer (registered supplier named next) ≡ next s) → content ≡ incoming.content →
+    ((next : SupplierRow → Verdict) → refuse_if (is_other_buyer retailer buyer) Buyer (if_registered supplier named next) ≡ next s) → content ≡ incoming.content →
     ((fresh : Verdict) → once (remembered_of state side incoming.control incoming.message) content fresh ≡ fresh) → rest s (apply_all (first_of s side incoming) state) ≡ verdict →
     judge_message retailer supplier side incoming buyer named rest state ≡ joined (first_of s side incoming) verdict
 judged_message retailer supplier side incoming buyer named rest s state content verdict admitted is new judged =

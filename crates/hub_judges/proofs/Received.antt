@@ -1,6 +1,6 @@
 -- Units judged from their pallets are judged as from the state that has them.
-use Rattle.std.proofs.Common.{◌≡◌, ℕ, ◌+◌, ◌==◌, ◌<◌, nat_lt, Bool, true, false, not, inl, inr, List, [], ◌∷◌, ◌++◌, length, map, find, Option, Some, None, refl, sym, ◌∙◌, ap, ap₂, append_assoc, arith}
-use Rattle.std.proofs.lemmas.Bool.{or_parts, lt-leb}
+use Rattle.std.proofs.Common.{◌≡◌, ℕ, ◌+◌, Bool, true, false, not, inl, inr, List, [], ◌∷◌, ◌++◌, length, map, find, Option, Some, None, refl, sym, ◌∙◌, ap, ap₂, append_assoc, arith}
+use Rattle.std.proofs.lemmas.Bool.{or_parts}
 use Rattle.edi_base.specs.Seen.{is_among, has_twice}
 use Rattle.edi_goods.specs.declared.receipt.Receipt.{Receipt}
 use Rattle.edi_goods.specs.declared.receipt.ReceiptLine.{ReceiptLine}
@@ -9,16 +9,16 @@ use Rattle.hub_tables.specs.Cases.{arrival_number}
 use Rattle.hub_tables.specs.Change.{apply, apply_all}
 use Rattle.hub_tables.specs.Keys.{replace}
 use Rattle.hub_tables.specs.Rows.{same, same_pallet}
-use Rattle.hub_tables.specs.State.{pallet_of}
+use Rattle.hub_tables.specs.State.{pallet_of, is_announced}
 use Rattle.hub_tables.specs.Tables.{Tables}
-use Rattle.hub_tables.specs.declared.cases.Arrival.TheVariants.{Announced, Received}
+use Rattle.hub_tables.specs.declared.cases.Arrival.TheVariants.{Received}
 use Rattle.hub_tables.specs.declared.cases.MailKind.TheVariants as kinds
 use Rattle.hub_tables.specs.declared.change.Change.{Change}
 use Rattle.hub_tables.specs.declared.change.Change.TheVariants.{SetPallet}
 use Rattle.hub_tables.specs.declared.rows.PalletRow.{PalletRow}
 use Rattle.hub_tables.proofs.Lists.{decide, same_is, all_always, all_found}
 use Rattle.hub_rules.specs.Judging.{refuse_if, given, joined, goes_on, in_order}
-use Rattle.hub_rules.specs.MailboxRules.{mail_limit, mail_entry}
+use Rattle.hub_rules.specs.MailboxRules.{is_full, mail_entry}
 use Rattle.hub_rules.specs.ReceiptRules.{gtins, new_receipt, judge_received, judge_new_receipt}
 use Rattle.hub_rules.specs.declared.code.Code.TheVariants.{NoPallet, PalletReceived, MailboxFull}
 use Rattle.hub_rules.specs.declared.incoming.IncomingMessage.{IncomingMessage}
@@ -68,10 +68,10 @@ module _ (unit : ReceiptUnit) (rest : List ReceiptUnit) (state : Tables) (apart 
   through row false found = ap (joined (received row unit)) (ih (apply_all (received row unit) state) ∙ ap (receipts_from rest) (pallets_kept unit state row found rest apart))
 
   one : (pallet : Option PalletRow) → pallet_of state unit.sscc ≡ pallet →
-      goes_on (given pallet NoPallet (λ row. refuse_if (not (row.received == arrival_number Announced)) PalletReceived (Accept (received row unit)))) (in_order judge_received rest) state
+      goes_on (given pallet NoPallet (λ row. refuse_if (not (is_announced row)) PalletReceived (Accept (received row unit)))) (in_order judge_received rest) state
       ≡ receipts_from (unit ∷ rest) (pallet ∷ pallets_of state rest)
   one None found = refl
-  one (Some row) found = through row (not (row.received == arrival_number Announced)) found
+  one (Some row) found = through row (not (is_announced row)) found
 
 units_alike : (units : List ReceiptUnit) (state : Tables) → has_twice (map (λ unit. unit.sscc) units) ≡ false → in_order judge_received units state ≡ receipts_from units (pallets_of state units)
 units_alike [] state apart = refl
@@ -86,14 +86,14 @@ joined_joined : (first second : List Change) (rest : Verdict) → joined first (
 joined_joined first second (Refuse code) = refl
 joined_joined first second (Accept rest) = ap Accept (sym (append_assoc first second rest))
 
--- what comes of a RECADV that is new, behind a first change, where the mailbox has a number left
+-- what comes of a RECADV that is new, after a first change, where the mailbox has a number left
 pub new_receipt_alike : (first : Change) (supplier : List ℕ) (incoming : IncomingMessage) (body : List ℕ) (receipt : Receipt) (state : Tables) (mails : ℕ) (pallets : List (Option PalletRow))
-    → mails < mail_limit → length state.mail ≡ mails → map (λ unit. pallet_of state unit.sscc) receipt.units ≡ pallets → has_twice (map (λ unit. unit.sscc) receipt.units) ≡ false
+    → is_full mails ≡ false → length state.mail ≡ mails → map (λ unit. pallet_of state unit.sscc) receipt.units ≡ pallets → has_twice (map (λ unit. unit.sscc) receipt.units) ≡ false
     → joined (first ∷ []) (judge_new_receipt supplier incoming body receipt state) ≡ joined (first ∷ mail_entry supplier (mails + 1) incoming kinds.Receipt receipt.number body ∷ []) (receipts_from receipt.units pallets)
 new_receipt_alike first supplier incoming body receipt state mails pallets room counted told apart =
     let entry : ℕ → Change = λ n. mail_entry supplier (n + 1) incoming kinds.Receipt receipt.number body in
     let behind : ℕ → Verdict = λ n. joined (entry n ∷ []) (in_order judge_received receipt.units (apply (entry n) state)) in
-    ap (λ n. joined (first ∷ []) (refuse_if (nat_lt mail_limit (n + 1)) MailboxFull (behind n))) counted
-    ∙ ap (λ full. joined (first ∷ []) (refuse_if full MailboxFull (behind mails))) (lt-leb (mail_limit + 1) (mails + 1) (omega arith))
+    ap (λ n. joined (first ∷ []) (refuse_if (is_full n) MailboxFull (behind n))) counted
+    ∙ ap (λ full. joined (first ∷ []) (refuse_if full MailboxFull (behind mails))) room
     ∙ ap (λ rest. joined (first ∷ []) (joined (entry mails ∷ []) rest)) (received_alike receipt.units (apply (entry mails) state) pallets told apart)
     ∙ joined_joined (first ∷ []) (entry mails ∷ []) (receipts_from receipt.units pallets)

@@ -1,7 +1,7 @@
 -- The rules of lines and units once more, without a state: what comes of what is known. The loops of the judges meet these by their
 -- invariants, and a lemma for each says that they are the rules' cases. They are steps of those proofs; no public clause rests
 -- on them.
-use Rattle.std.specs.Prelude.{ℕ, Bool, ◌+◌, ◌-◌, ◌==◌, nat_lt, not, List, [], ◌∷◌, map, filter, Option, Some, Result, Ok, Err}
+use Rattle.std.specs.Prelude.{ℕ, Bool, ◌+◌, ◌-◌, nat_lt, not, List, [], ◌∷◌, map, filter, Option, Some, Result, Ok, Err}
 use Rattle.edi_base.specs.Seen.{is_among}
 use Rattle.gs1_ids.specs.Sscc.{under_some}
 use Rattle.edi_orders.specs.declared.response.Answer.{Answer}
@@ -17,7 +17,7 @@ use Rattle.edi_goods.specs.declared.receipt.ReceiptUnit.{ReceiptUnit}
 use Rattle.hub_parties.specs.declared.row.SupplierRow.{SupplierRow}
 use Rattle.hub_tables.specs.Cases.{arrival_number}
 use Rattle.hub_tables.specs.Rows.{same}
-use Rattle.hub_tables.specs.State.{waits}
+use Rattle.hub_tables.specs.State.{waits, is_announced}
 use Rattle.hub_tables.specs.declared.change.Change.TheVariants.{SetLine, SetPallet, AddAdvice, AddPallet, AddContent}
 use Rattle.hub_tables.specs.declared.change.Change.{Change}
 use Rattle.hub_tables.specs.declared.cases.Arrival.TheVariants.{Announced, Received}
@@ -97,7 +97,7 @@ receipts_from [] pallets = Accept []
 receipts_from (unit ∷ units) [] = Accept []
 receipts_from (unit ∷ units) (pallet ∷ pallets) =
     given pallet NoPallet (λ row.
-    refuse_if (not (row.received == arrival_number Announced)) PalletReceived (
+    refuse_if (not (is_announced row)) PalletReceived (
     joined (received row unit) (receipts_from units pallets)))
 
 -- a line after so much of it is despatched

@@ -97,7 +97,7 @@ fn answered_line(
     Ok(row)
 }
 
-/// Puts the same answer to every line of an order that waits behind the changes.
+/// Adds to the changes the same answer for each line of an order that waits.
 pub(crate) fn answer_all(
     alloc: Global,
     lines: &[LineFacts],
@@ -117,7 +117,7 @@ pub(crate) fn answer_all(
     Ok(())
 }
 
-/// What comes of answers to lines of an order, behind the changes: B06 to B09 are asked of each, on what the earlier ones left.
+/// What comes of answers to lines of an order, after the changes: B06 to B09 are asked of each, on what the earlier ones left.
 pub(crate) fn answer_lines(
     alloc: Global,
     book: Book,

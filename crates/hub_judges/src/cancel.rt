@@ -44,7 +44,7 @@ fn cancelled_line(
 }
 
 /// What comes of a cancellation: B02, B03, B05, B06 and B17 are asked in this order. Asks that of each line no more is open,
-/// refused and cancelled than is ordered.
+/// refused and cancelled than is ordered. `MemoryFault` where memory ran out.
 #[tactic(auto, using(crate::proofs::Cancelled::cancel_alike))]
 pub fn judge_cancel(
     alloc: Global,

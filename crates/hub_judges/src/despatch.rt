@@ -3,8 +3,9 @@ ghost use Rattle.std.specs.Prelude.{◌≡◌, ◌≤◌, ℕ, Bool, List, false
 ghost use Rattle.std.specs.Option.{IfSome, IfNone};
 ghost use Rattle.edi_base.specs.Seen.{has_twice};
 ghost use Rattle.gs1_ids.specs.Sscc.{under_some};
+ghost use Rattle.hub_tables.specs.Sets.{Rises};
 ghost use Rattle.hub_tables.specs.Tables.{Tables};
-ghost use Rattle.hub_lines.specs.Book.{Rise};
+ghost use Rattle.hub_lines.specs.Book.{facts_cmp};
 ghost use Rattle.hub_lines.specs.declared.facts.LineFacts.{LineFacts};
 ghost use Rattle.hub_rules.specs.Judging.{joined};
 ghost use Rattle.hub_rules.specs.Rules as rules;
@@ -40,7 +41,7 @@ fn line_fault(said: &DespatchLine, line: &LineFacts) -> Option<Code>
     None
 }
 
-// Puts the lines of a unit behind the changes, and into the book; or the rule that one of them is against: B05, B06, B09, B10.
+// Puts the lines of a unit after the changes, and into the book; or the rule that one of them is against: B05, B06, B09, B10.
 fn load<'a>(
     alloc: Global,
     unit: &'a Unit,
@@ -128,7 +129,7 @@ fn announced_pallet(
     }))
 }
 
-// What comes of the units behind these changes: of each B11 and B12 are asked, and then its lines, on what the earlier ones
+// What comes of the units after these changes: of each B11 and B12 are asked, and then its lines, on what the earlier ones
 // left.
 fn judge_units<'a>(
     alloc: Global,
@@ -161,7 +162,8 @@ fn judge_units<'a>(
 
 /// What comes of a DESADV: B01, B02, B03 and B13 are asked in this order; then of each unit B11 and B12, and of each of its
 /// lines B05, B06, B09 and B10, on what the earlier lines left. Asks that it is known of each unit whether its SSCC is used, that
-/// the lines that are known rise by order number and line number, and that no SSCC stands in two units.
+/// the lines that are known rise by order number and line number, and that no SSCC stands in two units. `MemoryFault` where
+/// memory ran out.
 pub fn judge_despatch(
     alloc: Global,
     retailer: &Gln,
@@ -171,7 +173,7 @@ pub fn judge_despatch(
     despatch: &Despatch,
 ) -> Result<Verdict, MemoryFault>
     requires each_unit { length known.used ≡ length despatch.now.units }
-    requires rise { Rise known.lines }
+    requires rise { Rises facts_cmp known.lines }
     requires apart { has_twice (map (λ unit. unit.sscc) despatch.now.units) ≡ false }
     ensures { IfOk result (λ verdict. (used : List ℕ → Bool) (state : Tables) → TellsForDespatch known used incoming despatch.now state → verdict ≡ rules.judge_despatch retailer.now (option_copied supplier.entry) used incoming despatch.now state) }
 {

@@ -10,7 +10,8 @@ ghost use Rattle.edi_goods.specs.declared.receipt.Receipt.{Receipt};
 ghost use Rattle.hub_parties.specs.declared.row.SupplierRow.{SupplierRow};
 ghost use Rattle.hub_tables.specs.Tables.{Tables, view};
 ghost use Rattle.hub_tables.specs.declared.rows.LineRow.{LineRow};
-ghost use Rattle.hub_lines.specs.Book.{Rise, IsCovered};
+ghost use Rattle.hub_tables.specs.Sets.{Rises};
+ghost use Rattle.hub_lines.specs.Book.{facts_cmp, IsCovered};
 ghost use Rattle.hub_rules.specs.Sound.{Sound};
 ghost use Rattle.hub_judges.specs.Facts.{facts_in};
 
@@ -19,7 +20,7 @@ ghost use Rattle.hub_judges.specs.Facts.{facts_in};
 /// and no sum of a receiving advice is past its limit.
 pub fn judges_are_given_what_they_ask()
     ensures rise { (suppliers : List SupplierRow) (gln : List ℕ) (t : Tables) (test : LineRow → Bool) →
-        Sound suppliers t → Rise (facts_in (view gln t) (filter test (view gln t).lines)) }
+        Sound suppliers t → Rises facts_cmp (facts_in (view gln t) (filter test (view gln t).lines)) }
     ensures covered { (suppliers : List SupplierRow) (gln : List ℕ) (t : Tables) (test : LineRow → Bool) →
         Sound suppliers t → AllByRecursion IsCovered (facts_in (view gln t) (filter test (view gln t).lines)) }
     ensures despatch { (message : RawMessage) (despatch : Despatch) →

@@ -6,7 +6,7 @@ ghost use Rattle.hub_rules.specs.Rules as rules;
 ghost use Rattle.hub_judges.specs.Known.{TellsForOrder};
 
 use crate::known::Known;
-use crate::mail::{MAIL_LIMIT, new_mail};
+use crate::mail::{is_full, new_mail};
 use crate::party::admitted;
 use crate::remembering::{remember, repeats};
 use edi_base::{Items, MemoryFault, copied};
@@ -17,7 +17,7 @@ use hub_rules::{Code, IncomingMessage, Verdict};
 use hub_tables::{Answered, Change, Column, LineRow, MailKind, OrderRow, Side};
 use std::alloc::Global;
 
-// Puts the lines of a new order behind the changes.
+// Puts the lines of a new order after the changes.
 fn add_lines(
     alloc: Global,
     supplier: Gln,
@@ -42,7 +42,8 @@ fn add_lines(
     Ok(())
 }
 
-/// What comes of an ORDERS: B01, B02, B03, B04 and B16 are asked in this order.
+/// What comes of an ORDERS: B01, B02, B03, B04 and B16 are asked in this order. `body` is the canonical text of the message's
+/// segments, UNH to UNT, with `1` for its reference, as the mailbox entry keeps it. `MemoryFault` where memory ran out.
 pub fn judge_order(
     alloc: Global,
     retailer: &Gln,
@@ -64,7 +65,7 @@ pub fn judge_order(
     if known.number_known {
         return Ok(Verdict::Refuse(Code::OrderKnown));
     }
-    if known.mails >= MAIL_LIMIT {
+    if is_full(known.mails) {
         return Ok(Verdict::Refuse(Code::MailboxFull));
     }
     let mail = new_mail(

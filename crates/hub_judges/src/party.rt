@@ -2,7 +2,7 @@
 ghost use Rattle.std.specs.Prelude.{◌≡◌, IfOk, IfErr, option_copied};
 ghost use Rattle.hub_parties.specs.declared.row.SupplierRow.{SupplierRow};
 ghost use Rattle.hub_rules.specs.Judging.{refuse_if};
-ghost use Rattle.hub_rules.specs.PartyRules.{is_other_buyer, registered};
+ghost use Rattle.hub_rules.specs.PartyRules.{is_other_buyer, if_registered};
 ghost use Rattle.hub_rules.specs.declared.code.Code.TheVariants.{Buyer};
 ghost use Rattle.hub_rules.specs.declared.verdict.Verdict.{Verdict};
 ghost use Rattle.hub_rules.specs.declared.verdict.Verdict.TheVariants.{Refuse};
@@ -16,8 +16,8 @@ pub(crate) fn registered_supplier<'a>(
     supplier: Option<&'a SupplierRow>,
     named: &Gln,
 ) -> Result<&'a SupplierRow, Code>
-    ensures ok { IfOk result (λ row. (rest : SupplierRow → Verdict) → registered (option_copied supplier.entry) named.now rest ≡ rest row.now) }
-    ensures err { IfErr result (λ code. (rest : SupplierRow → Verdict) → registered (option_copied supplier.entry) named.now rest ≡ Refuse code) }
+    ensures ok { IfOk result (λ row. (rest : SupplierRow → Verdict) → if_registered (option_copied supplier.entry) named.now rest ≡ rest row.now) }
+    ensures err { IfErr result (λ code. (rest : SupplierRow → Verdict) → if_registered (option_copied supplier.entry) named.now rest ≡ Refuse code) }
 {
     match supplier {
         Some(row) => {
@@ -38,8 +38,8 @@ pub(crate) fn admitted<'a>(
     buyer: Option<Gln>,
     named: &Gln,
 ) -> Result<&'a SupplierRow, Code>
-    ensures ok { IfOk result (λ row. (rest : SupplierRow → Verdict) → refuse_if (is_other_buyer retailer.now buyer) Buyer (registered (option_copied supplier.entry) named.now rest) ≡ rest row.now) }
-    ensures err { IfErr result (λ code. (rest : SupplierRow → Verdict) → refuse_if (is_other_buyer retailer.now buyer) Buyer (registered (option_copied supplier.entry) named.now rest) ≡ Refuse code) }
+    ensures ok { IfOk result (λ row. (rest : SupplierRow → Verdict) → refuse_if (is_other_buyer retailer.now buyer) Buyer (if_registered (option_copied supplier.entry) named.now rest) ≡ rest row.now) }
+    ensures err { IfErr result (λ code. (rest : SupplierRow → Verdict) → refuse_if (is_other_buyer retailer.now buyer) Buyer (if_registered (option_copied supplier.entry) named.now rest) ≡ Refuse code) }
 {
     if let Some(buyer) = buyer
         && buyer != *retailer

@@ -11,7 +11,7 @@ ghost use Rattle.hub_judges.specs.FromFacts.{received, receipts_from};
 ghost use Rattle.hub_judges.specs.Known.{TellsForReceipt};
 
 use crate::known::Known;
-use crate::mail::{MAIL_LIMIT, new_mail};
+use crate::mail::{is_full, new_mail};
 use crate::party::admitted;
 use crate::remembering::{remember, repeats};
 use crate::totals::totals_of;
@@ -23,7 +23,7 @@ use hub_rules::{Code, IncomingMessage, Verdict};
 use hub_tables::{Arrival, Change, Column, MailKind, PalletRow, ReceiptRow, Side};
 use std::alloc::Global;
 
-// Puts what is received of the items of a unit behind the changes, each item once, in the order in which they first come.
+// Puts what is received of the items of a unit after the changes, each item once, in the order in which they first come.
 fn add_receipts(
     alloc: Global,
     unit: &ReceiptUnit,
@@ -48,7 +48,7 @@ fn add_receipts(
     Ok(())
 }
 
-// Puts what comes of a unit on a pallet behind the changes.
+// Puts what comes of a unit on a pallet after the changes.
 fn receive(
     alloc: Global,
     pallet: &PalletRow,
@@ -67,7 +67,7 @@ fn receive(
     add_receipts(alloc, unit, changes)
 }
 
-// What comes of the units behind these changes: of each B14 and B15 are asked.
+// What comes of the units after these changes: of each B14 and B15 are asked.
 fn judge_units(
     alloc: Global,
     units: &[ReceiptUnit],
@@ -92,7 +92,8 @@ fn judge_units(
 
 /// What comes of a RECADV: B01, B02, B03 and B16 are asked in this order, and then of each unit B14 and B15. Asks that the pallet
 /// of each unit is known, or that there is none; and that no SSCC stands in two units, and no sum of an item in a unit is past its
-/// limit, as `Receipt::read` promises.
+/// limit, as `Receipt::read` promises. `body` is the canonical text of the message's segments, UNH to UNT, with `1` for its
+/// reference, as the mailbox entry keeps it. `MemoryFault` where memory ran out.
 pub fn judge_receipt(
     alloc: Global,
     retailer: &Gln,
@@ -114,7 +115,7 @@ pub fn judge_receipt(
     if let Some(verdict) = repeats(alloc, &known.remembered, incoming.content.as_slice()) {
         return Ok(verdict);
     }
-    if known.mails >= MAIL_LIMIT {
+    if is_full(known.mails) {
         return Ok(Verdict::Refuse(Code::MailboxFull));
     }
     let number = receipt.number.as_slice();

@@ -3,7 +3,8 @@ ghost use Rattle.std.specs.Prelude.{◌≡◌, ℕ, false, IfOk, option_copied};
 ghost use Rattle.std.specs.List.{AllByRecursion};
 ghost use Rattle.hub_tables.specs.Tables.{Tables};
 ghost use Rattle.hub_tables.specs.declared.rows.LineRow.{LineRow};
-ghost use Rattle.hub_lines.specs.Book.{Rise, IsCovered};
+ghost use Rattle.hub_tables.specs.Sets.{Rises};
+ghost use Rattle.hub_lines.specs.Book.{facts_cmp, IsCovered};
 ghost use Rattle.hub_rules.specs.Judging.{joined};
 ghost use Rattle.hub_rules.specs.ResponseRules.{is_out_of_range};
 ghost use Rattle.hub_rules.specs.Rules as rules;
@@ -23,7 +24,7 @@ use hub_rules::{Code, IncomingMessage, Verdict};
 use hub_tables::{Change, Side};
 use std::alloc::Global;
 
-// The same answer to every line of an order that waits, behind the changes; B07 where none does.
+// The same answer to every line of an order that waits, after the changes; B07 where none does.
 fn respond_to_all(
     alloc: Global,
     lines: &[LineFacts],
@@ -43,14 +44,14 @@ fn respond_to_all(
     Ok(Verdict::Accept(changes))
 }
 
-// What an answer changes of what is known, behind the changes; or the first of B05 to B09 that it is against.
+// What an answer changes of what is known, after the changes; or the first of B05 to B09 that it is against.
 fn respond(
     alloc: Global,
     known: Known,
     response: &Response,
     changes: Items<Change>,
 ) -> Result<Verdict, MemoryFault>
-    requires rise { Rise known.lines }
+    requires rise { Rises facts_cmp known.lines }
     requires covered { AllByRecursion IsCovered known.lines }
     ensures { IfOk result (λ verdict. verdict ≡ joined changes (response_from response.now known)) }
 {
@@ -82,7 +83,7 @@ fn respond(
 
 /// What comes of an ORDRSP: B01, B02, B03 and B05 are asked in this order; then for 27 and 29 B07, and else of each line B06,
 /// B07, B08 and B09, on what the earlier lines left. Asks that the lines that are known rise by order number and line
-/// number, and that of each no more is open, refused and cancelled than is ordered.
+/// number, and that of each no more is open, refused and cancelled than is ordered. `MemoryFault` where memory ran out.
 pub fn judge_response(
     alloc: Global,
     retailer: &Gln,
@@ -91,7 +92,7 @@ pub fn judge_response(
     incoming: IncomingMessage,
     response: &Response,
 ) -> Result<Verdict, MemoryFault>
-    requires rise { Rise known.lines }
+    requires rise { Rises facts_cmp known.lines }
     requires covered { AllByRecursion IsCovered known.lines }
     ensures { IfOk result (λ verdict. (state : Tables) → TellsForResponse known incoming response.now state → verdict ≡ rules.judge_response retailer.now (option_copied supplier.entry) incoming response.now state) }
 {

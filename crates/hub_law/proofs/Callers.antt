@@ -1,6 +1,6 @@
 -- Who a caller is, by the row that its GLN has: a supplier, or else the retailer, or else nobody.
 use Rattle.std.proofs.Common.{◌≡◌, ℕ, true, false, ◌&&◌, if◌then◌else◌, List, [], ◌∷◌, inl, inr, Option, Some, None, refl, sym, ◌∙◌, ap, Bool}
-use Rattle.hub_parties.specs.Rows.{Rows, parties_of, supplier_row, row_of, role_by}
+use Rattle.hub_parties.specs.Rows.{RegisterRows, parties_of, supplier_row, row_of, role_by}
 use Rattle.hub_parties.specs.declared.role.Role.TheVariants.{Retailer, Supplier}
 use Rattle.hub_parties.specs.declared.row.SupplierRow.{SupplierRow}
 use Rattle.hub_tables.specs.Rows.{same}
@@ -14,21 +14,21 @@ use Rattle.hub_law.specs.Requests.{supplier_request, retailer_request}
 use Rattle.hub_law.specs.declared.reply.Reply.{Reply}
 use Rattle.hub_law.specs.declared.request.Input.{Input}
 
-abbrev pub is_retailers : Rows → Input → Bool
+abbrev pub is_retailers : RegisterRows → Input → Bool
 is_retailers register input = same register.retailer input.caller && same register.retailer_key input.key
 
 -- the step and the items, by the row
-abbrev pub step_by : Rows → Option SupplierRow → Input → Mark → Tables → Reply × Tables
+abbrev pub step_by : RegisterRows → Option SupplierRow → Input → Mark → Tables → Reply × Tables
 step_by register (Some s) input mark t = supplier_step (view s.gln) (parties_of register) s input mark t
 step_by register None input mark t =
     if is_retailers register input then retailer_request register input.moment mark input.request t
     else replied mark denied t
 
-abbrev pub items_by : List ℕ → Rows → Option SupplierRow → Input → Mark → List Item
+abbrev pub items_by : List ℕ → RegisterRows → Option SupplierRow → Input → Mark → List Item
 items_by gln register (Some s) input mark = own_items gln input mark
 items_by gln register None input mark = if is_retailers register input then retailer_items gln register input.moment mark input.request else []
 
-module _ (register : Rows) (input : Input) (mark : Mark) where
+module _ (register : RegisterRows) (input : Input) (mark : Mark) where
   by_row : (t : Tables) (o : Option SupplierRow) → step_as register (role_by register o input.caller input.key) o input mark t ≡ step_by register o input mark t
   by_row t (Some s) =
       elim (same s.key input.key) as (λ v. step_as register (if v then Some Supplier else None) (Some s) input mark t ≡ (if v then supplier_request (view s.gln) (parties_of register) s input.moment mark input.request t else replied mark denied t)) [ true ↦ refl | false ↦ refl ]

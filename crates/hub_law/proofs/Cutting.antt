@@ -1,10 +1,10 @@
--- Uploads that are whole, and those that are stopped behind some of their messages.
+-- Uploads that are whole, and those that are stopped after some of their messages.
 use Rattle.std.proofs.Common.{◌≡◌, ℕ, zero, suc, ◌<◌, ◌≤◌, nat_lt, true, false, if◌then◌else◌, List, [], ◌∷◌, ◌++◌, length, take, Option, Some, None, Ok, Err, refl, sym, ◌∙◌, ap, subst, arith}
 use Rattle.std.specs.List.{list_any}
 use Rattle.std.proofs.lemmas.Bool.Decides.{nat_tests}
 use Rattle.edi_envelope.specs.declared.interchange.Interchange.{Interchange}
 use Rattle.edi_envelope.specs.declared.interchange.RawMessage.{RawMessage}
-use Rattle.hub_parties.specs.Rows.{Rows, parties_of, row_of, role_of}
+use Rattle.hub_parties.specs.Rows.{RegisterRows, parties_of, row_of, role_of}
 use Rattle.hub_parties.specs.declared.role.Role.{Role}
 use Rattle.hub_parties.specs.declared.role.Role.TheVariants.{Retailer, Supplier}
 use Rattle.hub_parties.specs.declared.row.SupplierRow.{SupplierRow}
@@ -58,7 +58,7 @@ module _ (deliver : RawMessage × IncomingMessage → Act) (moment : ℕ) (t : T
       ap (λ told. cut k i told (in_row deliver (take k (messages_at moment i)) t).1) (told_first deliver k (messages_at moment i) t)
       ∙ ap (λ lines. (record { outcome = Stopped; refused = list_any is_refused (take k (told_of i)); body = (interchange_line i ++ lines) ++ stopped_line }, (in_row deliver (take k (messages_at moment i)) t).1)) (lines_first k i.messages (told_of i))
 
-  -- by the messages behind which it was stopped
+  -- by the messages after which it was stopped
   abbrev by_stop : Option ℕ → ℕ → Interchange → Reply × Tables
   by_stop behind k i =
       let looked : List (RawMessage × IncomingMessage) = first_done (StoppedAfter k) behind (messages_at moment i) in
@@ -88,7 +88,7 @@ module _ (deliver : RawMessage × IncomingMessage → Act) (moment : ℕ) (t : T
   upload_none k (Ok j) h = cc
 
 -- A fact of an upload that is looked at holds of whoever sends it.
-module _ (register : Rows) (t : Tables) (mark : Mark) (P : Interchange → Type 0) (after : (RawMessage × IncomingMessage → Act) → ℕ → Interchange → Reply × Tables)
+module _ (register : RegisterRows) (t : Tables) (mark : Mark) (P : Interchange → Type 0) (after : (RawMessage × IncomingMessage → Act) → ℕ → Interchange → Reply × Tables)
     (of_upload : (deliver : RawMessage × IncomingMessage → Act) (moment : ℕ) (opened : Opened) (i : Interchange) → opened_well opened ≡ Some i → P i → uploaded deliver moment mark opened t ≡ after deliver moment i) where
   suppliers : (s : SupplierRow) (moment : ℕ) (request : Request) (i : Interchange) → upload_from (from_supplier (parties_of register) s) request ≡ Some i → P i → supplier_request (view s.gln) (parties_of register) s moment mark request t ≡ after (deliver_suppliers (view s.gln) (parties_of register) s) moment i
   suppliers s moment (requests.Upload bytes) i h p = of_upload (deliver_suppliers (view s.gln) (parties_of register) s) moment (from_supplier (parties_of register) s bytes) i h p
@@ -118,7 +118,7 @@ module _ (register : Rows) (t : Tables) (mark : Mark) (P : Interchange → Type 
   by_anybody input i h p = by_role (role_of register input.caller input.key) (row_of register input.caller) input i h p
 
 -- Whatever is no such upload is stopped before anything was done.
-module _ (register : Rows) (t : Tables) (k : ℕ) where
+module _ (register : RegisterRows) (t : Tables) (k : ℕ) where
   suppliers_none : (s : SupplierRow) (moment : ℕ) (request : Request) → upload_from (from_supplier (parties_of register) s) request ≡ None → supplier_request (view s.gln) (parties_of register) s moment (StoppedAfter k) request t ≡ (stopped, t)
   suppliers_none s moment (requests.Upload bytes) h = upload_none (deliver_suppliers (view s.gln) (parties_of register) s) moment t k (from_supplier (parties_of register) s bytes) h
   suppliers_none s moment (requests.MailAfter number) h = refl
@@ -150,14 +150,14 @@ module _ (register : Rows) (t : Tables) (k : ℕ) where
   pub no_upload : (input : Input) → upload_of register input ≡ None → shared_step register t input (StoppedAfter k) ≡ (stopped, t)
   no_upload input h = none_by_role (role_of register input.caller input.key) (row_of register input.caller) input h
 
-pub whole_upload : (register : Rows) (t : Tables) (input : Input) (i : Interchange) → upload_of register input ≡ Some i → shared_step register t input Whole ≡ (whole_reply i (in_row (act_of register input) (messages_at input.moment i) t).0, (in_row (act_of register input) (messages_at input.moment i) t).1)
+pub whole_upload : (register : RegisterRows) (t : Tables) (input : Input) (i : Interchange) → upload_of register input ≡ Some i → shared_step register t input Whole ≡ (whole_reply i (in_row (act_of register input) (messages_at input.moment i) t).0, (in_row (act_of register input) (messages_at input.moment i) t).1)
 whole_upload register t input i h =
     by_anybody register t Whole (λ i. Unit {0}) (λ deliver moment i. (whole_reply i (in_row deliver (messages_at moment i) t).0, (in_row deliver (messages_at moment i) t).1)) (λ deliver moment opened i there _. upload_whole deliver moment t opened i there) input i h tt
 
-pub behind_some : (register : Rows) (t : Tables) (input : Input) (k : ℕ) (i : Interchange) → upload_of register input ≡ Some i → k < length i.messages → shared_step register t input (StoppedAfter k) ≡ (reply_behind k i (in_row (act_of register input) (messages_at input.moment i) t).0, (in_row (act_of register input) (take k (messages_at input.moment i)) t).1)
+pub behind_some : (register : RegisterRows) (t : Tables) (input : Input) (k : ℕ) (i : Interchange) → upload_of register input ≡ Some i → k < length i.messages → shared_step register t input (StoppedAfter k) ≡ (reply_behind k i (in_row (act_of register input) (messages_at input.moment i) t).0, (in_row (act_of register input) (take k (messages_at input.moment i)) t).1)
 behind_some register t input k i h less =
     by_anybody register t (StoppedAfter k) (λ (i : Interchange). k < length i.messages) (λ deliver moment i. (reply_behind k i (in_row deliver (messages_at moment i) t).0, (in_row deliver (take k (messages_at moment i)) t).1)) (λ deliver moment opened i there p. upload_behind deliver moment t k opened i there p) input i h less
 
-pub too_far_behind : (register : Rows) (t : Tables) (input : Input) (k : ℕ) (i : Interchange) → upload_of register input ≡ Some i → length i.messages ≤ k → shared_step register t input (StoppedAfter k) ≡ (stopped, t)
+pub too_far_behind : (register : RegisterRows) (t : Tables) (input : Input) (k : ℕ) (i : Interchange) → upload_of register input ≡ Some i → length i.messages ≤ k → shared_step register t input (StoppedAfter k) ≡ (stopped, t)
 too_far_behind register t input k i h most =
     by_anybody register t (StoppedAfter k) (λ (i : Interchange). length i.messages ≤ k) (λ deliver moment i. (stopped, t)) (λ deliver moment opened i there p. upload_too_far deliver moment t k opened i there p) input i h most

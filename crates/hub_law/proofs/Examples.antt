@@ -9,13 +9,13 @@ use Rattle.edi_orders.specs.Response.{response_of}
 use Rattle.edi_goods.specs.Despatch.{despatch_of}
 use Rattle.edi_goods.specs.Receipt.{receipt_of}
 use Rattle.hub_parties.specs.declared.row.SupplierRow.{SupplierRow}
-use Rattle.hub_parties.specs.Rows.{Rows}
+use Rattle.hub_parties.specs.Rows.{RegisterRows}
 use Rattle.hub_tables.specs.Cases.{kind_letter, truth_number}
 use Rattle.hub_tables.specs.Tables.{empty}
 use Rattle.hub_tables.specs.declared.cases.MailKind.TheVariants as kinds
 use Rattle.hub_tables.specs.declared.rows.MailRow.{MailRow}
 use Rattle.hub_law.specs.Machine.{Inputs, shared_run}
-use Rattle.hub_law.specs.MailText.{mail_text, list_text}
+use Rattle.hub_law.specs.MailText.{entry_text, list_text}
 use Rattle.hub_law.specs.Mark.{Mark, Whole, StoppedEmpty, StoppedBare, StoppedAfter}
 use Rattle.hub_law.specs.Opening.{interchange_in}
 use Rattle.hub_law.specs.Replies.{reply, done}
@@ -35,7 +35,7 @@ alpha = record { gln = codes "4012345500004"; prefixes = codes "40123455" ∷ []
 abbrev beta : SupplierRow
 beta = record { gln = codes "8712345000004"; prefixes = codes "8712345" ∷ []; key = codes "beta-key-1" }
 
-abbrev register : Rows
+abbrev register : RegisterRows
 register = record {
   hub = codes "5412345000006";
   retailer = retailer;
@@ -123,10 +123,10 @@ orders_come : replies (
     ∷ done (lines (codes "             2 ORDERS 128577" ∷ codes "end" ∷ []))
     ∷ done (lines (codes "end" ∷ []))
     ∷ done (lines (codes "end" ∷ [])) ∷ [])
-unfolding interchange_in interchange_of fault_of contents_of is_framed is_row_of_messages is_outside_set order_of response_of despatch_of receipt_of mail_text list_text status_text digits
+unfolding interchange_in interchange_of fault_of contents_of is_framed is_row_of_messages is_outside_set order_of response_of despatch_of receipt_of entry_text list_text status_text digits
 orders_come = refl
 
--- answers, despatches and a receipt over these two orders; the status behind them; and cancellations
+-- answers, despatches and a receipt over these two orders; the status after them; and cancellations
 goods_come : replies (
     by_retailer (requests.Upload (first_order))
     ∷ by_retailer (requests.Upload (second_order))
@@ -168,7 +168,7 @@ goods_come : replies (
     ∷ refused (codes "refused B02" ∷ [])
     ∷ done (lines (codes "L 128576                                   1 04000862141404 C        48        14        12        10        12" ∷ codes "L 128577                                   1 04000862141404 N        30         0        18         0        12" ∷ codes "P 340123455000000012 04000862141404 R             12             10              1              0              -1" ∷ codes "P 340123455000000012 04000862141411 R              0              3              0              0              +3" ∷ codes "P 340123455000000029 04000862141404 A             12              0              0              0              +0" ∷ codes "end" ∷ []))
     ∷ done (lines (codes "             1 ORDERS 128576" ∷ codes "             2 ORDERS 128577" ∷ codes "             3 RECADV G1" ∷ codes "end" ∷ [])) ∷ [])
-unfolding interchange_in interchange_of fault_of contents_of is_framed is_row_of_messages is_outside_set order_of response_of despatch_of receipt_of mail_text list_text status_text digits
+unfolding interchange_in interchange_of fault_of contents_of is_framed is_row_of_messages is_outside_set order_of response_of despatch_of receipt_of entry_text list_text status_text digits
 goods_come = refl
 
 -- each kind of message once more
@@ -189,7 +189,7 @@ what_was_accepted_is_repeated : replies (
     ∷ done (lines (codes "interchange 1005 messages 1" ∷ codes "1 RECADV accepted" ∷ []))
     ∷ done (lines (codes "interchange 1005 messages 1" ∷ codes "1 RECADV repeated" ∷ []))
     ∷ done (lines (codes "interchange 1001 messages 1" ∷ codes "1 ORDERS repeated" ∷ [])) ∷ [])
-unfolding interchange_in interchange_of fault_of contents_of is_framed is_row_of_messages is_outside_set order_of response_of despatch_of receipt_of mail_text list_text status_text digits
+unfolding interchange_in interchange_of fault_of contents_of is_framed is_row_of_messages is_outside_set order_of response_of despatch_of receipt_of entry_text list_text status_text digits
 what_was_accepted_is_repeated = refl
 
 -- two suppliers' orders with one number, references and all; each mailbox begins at 1
@@ -202,10 +202,10 @@ suppliers_have_their_own_orders : replies (
     ∷ done (lines (codes "interchange 1001 messages 1" ∷ codes "1 ORDERS accepted" ∷ []))
     ∷ done (lines (codes "             1 ORDERS 128576" ∷ codes "end" ∷ []))
     ∷ done (lines (codes "             1 ORDERS 128576" ∷ codes "end" ∷ [])) ∷ [])
-unfolding interchange_in interchange_of fault_of contents_of is_framed is_row_of_messages is_outside_set order_of response_of despatch_of receipt_of mail_text list_text status_text digits
+unfolding interchange_in interchange_of fault_of contents_of is_framed is_row_of_messages is_outside_set order_of response_of despatch_of receipt_of entry_text list_text status_text digits
 suppliers_have_their_own_orders = refl
 
--- a wrong message beside a right one; and a wrong envelope, which refuses both
+-- a wrong message beside a valid one; and a wrong envelope, which refuses both
 each_message_is_by_itself : replies (
     by_retailer (requests.Upload (codes "UNA:+.? 'UNB+UNOC:3+5412345000013:14+5412345000006:14+250603:0915+1001'UNH+1+ORDERS:D:01B:UN:EAN010'BGM+220+128576+9'DTM+137:20250603:102'NAD+BY+5412345000013::9'NAD+SU+8712345000004::9'LIN+1++4000862141404:SRV'QTY+21:0'UNS+S'CNT+2:1'UNT+9+1'UNH+2+ORDERS:D:01B:UN:EAN010'BGM+220+128576+9'DTM+137:20250603:102'NAD+BY+5412345000013::9'NAD+SU+4012345500004::9'LIN+1++4000862141404:SRV'QTY+21:48'UNS+S'CNT+2:1'UNT+10+2'UNZ+2+1001'"))
     ∷ by alpha requests.Status
@@ -213,10 +213,10 @@ each_message_is_by_itself : replies (
     bad (codes "E12")
     ∷ done (lines (codes "end" ∷ []))
     ∷ refused (codes "interchange 1001 messages 2" ∷ codes "1 ORDERS refused M08" ∷ codes "2 ORDERS accepted" ∷ []) ∷ [])
-unfolding interchange_in interchange_of fault_of contents_of is_framed is_row_of_messages is_outside_set order_of response_of despatch_of receipt_of mail_text list_text status_text digits
+unfolding interchange_in interchange_of fault_of contents_of is_framed is_row_of_messages is_outside_set order_of response_of despatch_of receipt_of entry_text list_text status_text digits
 each_message_is_by_itself = refl
 
--- before anything, behind its first message, behind as many as it has, and not
+-- before anything, after its first message, after as many as it has, and not
 an_upload_is_stopped : replies (
     ((record { moment = 1_748_942_400; caller = retailer; key = codes "retail-key"; request = requests.Upload two_orders }), StoppedEmpty)
     ∷ ((record { moment = 1_748_942_400; caller = retailer; key = codes "retail-key"; request = requests.Upload two_orders }), StoppedBare)
@@ -230,7 +230,7 @@ an_upload_is_stopped : replies (
     ∷ record { outcome = Stopped; refused = true; body = lines (codes "interchange 1001 messages 2" ∷ codes "1 ORDERS refused M08" ∷ codes "stopped" ∷ []) }
     ∷ done (lines (codes "end" ∷ []))
     ∷ refused (codes "interchange 1001 messages 2" ∷ codes "1 ORDERS refused M08" ∷ codes "2 ORDERS accepted" ∷ []) ∷ [])
-unfolding interchange_in interchange_of fault_of contents_of is_framed is_row_of_messages is_outside_set order_of response_of despatch_of receipt_of mail_text list_text status_text digits
+unfolding interchange_in interchange_of fault_of contents_of is_framed is_row_of_messages is_outside_set order_of response_of despatch_of receipt_of entry_text list_text status_text digits
 an_upload_is_stopped = refl
 
 -- the greatest, one more, one with a decimal mark and zeros, and one with a fraction
@@ -245,7 +245,7 @@ quantities_are_read : replies (
     ∷ done (lines (codes "interchange 2003 messages 1" ∷ codes "1 ORDERS accepted" ∷ []))
     ∷ refused (codes "interchange 2004 messages 1" ∷ codes "1 ORDERS refused M08" ∷ [])
     ∷ done (lines (codes "L 1                                        1 04000862141404 W 999999999 999999999         0         0         0" ∷ codes "L 3                                        1 04000862141404 W        12        12         0         0         0" ∷ codes "end" ∷ [])) ∷ [])
-unfolding interchange_in interchange_of fault_of contents_of is_framed is_row_of_messages is_outside_set order_of response_of despatch_of receipt_of mail_text list_text status_text digits
+unfolding interchange_in interchange_of fault_of contents_of is_framed is_row_of_messages is_outside_set order_of response_of despatch_of receipt_of entry_text list_text status_text digits
 quantities_are_read = refl
 
 -- a wrong key, nobody, and requests of the other side; a mailbox entry and a supplier that are not there; a sender that is not the caller and a recipient that is not the hub
@@ -278,7 +278,7 @@ who_may_ask_what : replies (
     ∷ refused (codes "interchange S1 messages 1" ∷ codes "1 ORDRSP refused B05" ∷ [])
     ∷ refused (codes "interchange 1001 messages 1" ∷ codes "1 ORDERS refused M01" ∷ [])
     ∷ refused (codes "interchange 1001 messages 1" ∷ codes "1 ORDERS refused B02" ∷ []) ∷ [])
-unfolding interchange_in interchange_of fault_of contents_of is_framed is_row_of_messages is_outside_set order_of response_of despatch_of receipt_of mail_text list_text status_text digits
+unfolding interchange_in interchange_of fault_of contents_of is_framed is_row_of_messages is_outside_set order_of response_of despatch_of receipt_of entry_text list_text status_text digits
 who_may_ask_what = refl
 
 -- the mailbox entries of both orders
@@ -291,7 +291,7 @@ the_mailbox_has_the_orders : replies (
     ∷ done (codes "UNA:+.? 'UNB+UNOC:3+5412345000006:14+4012345500004:14+250603:0920+1'UNH+1+ORDERS:D:01B:UN:EAN010'BGM+220+128576+9'DTM+137:20250603:102'NAD+BY+5412345000013::9'NAD+SU+4012345500004::9'LIN+1++4000862141404:SRV'QTY+21:48'UNS+S'CNT+2:1'UNT+10+1'UNZ+1+1'")
     ∷ done (lines (codes "interchange 1002 messages 1" ∷ codes "1 ORDERS accepted" ∷ []))
     ∷ done (codes "UNA:+,? 'UNB+UNOC:3+5412345000006:14+4012345500004:14+250603:0920+2'UNH+1+ORDERS:D:01B:UN:EAN010'BGM+220+128577+9'DTM+137:20250603:102'FTX+AAI+++Dock 3?+4, O?'Neill??'NAD+BY+5412345000013::9'NAD+SU+4012345500004::9'LIN+1++4000862141404:SRV'QTY+21:30'UNS+S'CNT+2:1'UNT+11+1'UNZ+1+2'") ∷ [])
-unfolding interchange_in interchange_of fault_of contents_of is_framed is_row_of_messages is_outside_set order_of response_of despatch_of receipt_of mail_text list_text status_text digits day_at
+unfolding interchange_in interchange_of fault_of contents_of is_framed is_row_of_messages is_outside_set order_of response_of despatch_of receipt_of entry_text list_text status_text digits day_at
 the_mailbox_has_the_orders = refl
 
 -- a mailbox of so many entries that are not taken, as its list: the first 100 of them

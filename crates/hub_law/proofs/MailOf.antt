@@ -9,13 +9,13 @@ use Rattle.hub_tables.specs.declared.change.Change.TheVariants.{AddMail}
 use Rattle.hub_tables.specs.declared.rows.MailRow.{MailRow}
 use Rattle.hub_rules.specs.declared.incoming.IncomingMessage.{IncomingMessage}
 use Rattle.hub_rules.specs.MailboxRules.{new_mail}
-use Rattle.hub_law.specs.MailText.{mail_text}
+use Rattle.hub_law.specs.MailText.{entry_text}
 use Rattle.hub_law.specs.Messages.{body_of}
 
 entry_alike : (made entry : MailRow) → AddMail made ≡ AddMail entry → made ≡ entry
 entry_alike made entry h = cc
 
 pub entry_of_message : (hub supplier document : List ℕ) (state : Tables) (message : RawMessage) (incoming : IncomingMessage) (kind : MailKind) (entry : MailRow) → new_mail supplier state incoming kind document (body_of message) ≡ AddMail entry
-    → mail_text hub entry ≡ messages.mail_text hub supplier incoming.moment incoming.decimal (next_mail state) message
-unfolding mail_text
-entry_of_message hub supplier document state message incoming kind entry h = sym (ap (mail_text hub) (entry_alike _ entry h))
+    → entry_text hub entry ≡ messages.mail_text hub supplier incoming.moment incoming.decimal (next_mail state) message
+unfolding entry_text
+entry_of_message hub supplier document state message incoming kind entry h = sym (ap (entry_text hub) (entry_alike _ entry h))

@@ -5,7 +5,7 @@ use Rattle.std.proofs.lemmas.List.{length-take}
 use Rattle.edi_envelope.specs.declared.interchange.RawMessage.{RawMessage}
 use Rattle.edi_envelope.specs.declared.interchange.Interchange.{Interchange}
 use Rattle.gs1_ids.specs.Overlap.{PrefixFree}
-use Rattle.hub_parties.specs.Rows.{Rows, parties_of, company_prefixes, supplier_row, row_of, role_by, role_of}
+use Rattle.hub_parties.specs.Rows.{RegisterRows, parties_of, company_prefixes, supplier_row, row_of, role_by, role_of}
 use Rattle.hub_parties.specs.declared.role.Role.TheVariants.{Retailer, Supplier}
 use Rattle.hub_parties.specs.declared.row.SupplierRow.{SupplierRow}
 use Rattle.hub_tables.specs.Rows.{same}
@@ -87,16 +87,16 @@ at_place f [] (suc place) x h = cc
 at_place f (y ∷ xs) zero x h = let same : y ≡ x = cc in ap (λ x. Some (f x)) same
 at_place f (y ∷ xs) (suc place) x h = at_place f xs place x h
 
-run_of_both : (register : Rows) (t : Tables) (before later : Inputs) → (shared_run register t (before ++ later)).1 ≡ (shared_run register (shared_run register t before).1 later).1
+run_of_both : (register : RegisterRows) (t : Tables) (before later : Inputs) → (shared_run register t (before ++ later)).1 ≡ (shared_run register (shared_run register t before).1 later).1
 run_of_both register t [] later = refl
 run_of_both register t ((input, mark) ∷ before) later = run_of_both register (shared_step register t input mark).1 before later
 
 -- the act of whoever has a row, or none
-abbrev act_at : Rows → Option SupplierRow → RawMessage × IncomingMessage → Act
+abbrev act_at : RegisterRows → Option SupplierRow → RawMessage × IncomingMessage → Act
 act_at register (Some s) = deliver_suppliers (view s.gln) (parties_of register) s
 act_at register None = deliver_named register
 
-module _ (register : Rows) where
+module _ (register : RegisterRows) where
   act_by_row : (input : Input) (upload : Interchange) (o : Option SupplierRow) → upload_by register (role_by register o input.caller input.key) o input.request ≡ Some upload → act_by register (role_by register o input.caller input.key) o ≡ act_at register o
   act_by_row input upload (Some s) =
       elim (same s.key input.key) as (λ v. upload_by register (if v then Some Supplier else None) (Some s) input.request ≡ Some upload → act_by register (if v then Some Supplier else None) (Some s) ≡ act_at register (Some s)) [ true ↦ λ h. refl | false ↦ λ h. cc ]
@@ -125,7 +125,7 @@ module _ (register : Rows) where
         by_row None told stays = named_repeated register (message, one) other.moment other.decimal t u told stays sound
 
 -- the tables after an upload that reached a place still remember what was there after the message
-module _ (register : Rows) (t : Tables) (input : Input) (upload : Interchange) (looked_at : upload_of register input ≡ Some upload) (place : ℕ) (stays : (sents : List (RawMessage × IncomingMessage)) (t : Tables) → StaysRemembered t (in_row (act_of register input) sents t).1) where
+module _ (register : RegisterRows) (t : Tables) (input : Input) (upload : Interchange) (looked_at : upload_of register input ≡ Some upload) (place : ℕ) (stays : (sents : List (RawMessage × IncomingMessage)) (t : Tables) → StaysRemembered t (in_row (act_of register input) sents t).1) where
   abbrev sents : List (RawMessage × IncomingMessage)
   sents = messages_at input.moment upload
 
@@ -154,7 +154,7 @@ module _ (register : Rows) (t : Tables) (input : Input) (upload : Interchange) (
       (more_stay (act_of register input) stays sents (place + 1) k t (omega (arith, behind.0)))
 
 -- The message that comes again.
-module _ (register : Rows) (t : Tables) (before between : Inputs) (first second : Input) (mark : Mark) (place later : ℕ) (message : RawMessage) (one : MessageAt register first place message) (other : MessageAt register second later message)
+module _ (register : RegisterRows) (t : Tables) (before between : Inputs) (first second : Input) (mark : Mark) (place later : ℕ) (message : RawMessage) (one : MessageAt register first place message) (other : MessageAt register second later message)
     (free : PrefixFree (company_prefixes register.suppliers)) (sound : Sound register.suppliers t) (alike : SameReference first second one.upload other.upload) (reaches : Reaches mark first one.upload place) (told : told_at register t before first one.upload place ≡ Some Accepted) where
   abbrev whose : Option SupplierRow
   whose = row_of register first.caller
@@ -224,7 +224,7 @@ module _ (register : Rows) (t : Tables) (before between : Inputs) (first second 
   left_again = next_there (act_of register second) (messages_at second.moment other.upload) later again at_second second_there ∙ ap (λ (after : Told × Tables). after.1) repeated
 
 -- The cancellation that comes again.
-module _ (register : Rows) (c : Cancel) where
+module _ (register : RegisterRows) (c : Cancel) where
   abbrev cancels : Act
   cancels = cancel (view c.supplier) (supplier_row register.suppliers c.supplier) c
 

@@ -6,7 +6,7 @@ use Rattle.edi_orders.specs.Order.{order_of}
 use Rattle.edi_orders.specs.Response.{response_of}
 use Rattle.edi_goods.specs.Despatch.{despatch_of}
 use Rattle.edi_goods.specs.Receipt.{receipt_of}
-use Rattle.hub_parties.specs.Rows.{Parties, Rows, parties_of, supplier_row}
+use Rattle.hub_parties.specs.Rows.{Parties, RegisterRows, parties_of, supplier_row}
 use Rattle.hub_parties.specs.declared.row.SupplierRow.{SupplierRow}
 use Rattle.hub_tables.specs.Change.{apply_all}
 use Rattle.hub_tables.specs.Rows.{same}
@@ -21,7 +21,7 @@ use Rattle.hub_rules.specs.OrderRules.{judge_new_order}
 use Rattle.hub_rules.specs.ReceiptRules.{judge_new_receipt}
 use Rattle.hub_rules.specs.RepeatRules.{Reference, judge_once}
 use Rattle.hub_rules.specs.ResponseRules.{judge_new_response}
-use Rattle.hub_rules.specs.PartyRules.{is_other_buyer, registered}
+use Rattle.hub_rules.specs.PartyRules.{is_other_buyer, if_registered}
 use Rattle.hub_rules.specs.Rules.{referred_by, judge_message, judge_order, judge_response, judge_despatch, judge_receipt, judge_cancel}
 use Rattle.hub_rules.specs.declared.code.Code.TheVariants as rules
 use Rattle.hub_rules.specs.declared.cancel.Cancel.{Cancel}
@@ -66,7 +66,7 @@ module _ (suppliers : List SupplierRow) where
   -- judged on what the rows of a GLN are, for a supplier that has it
   module _ (gln : List ℕ) (t : Tables) where
     registered_recurs : (supplier : Option SupplierRow) → ((s : SupplierRow) → supplier ≡ Some s → s.gln ≡ gln) → (of : List ℕ) (r : SupplierRow → Reference) → ((s : SupplierRow) → (r s).supplier ≡ s.gln) → (content : List ℕ) (fresh : SupplierRow → Judge) (other : Tables → SupplierRow → Judge) →
-        Recurs t (registered supplier of (λ s. judge_once (r s) content (fresh s) (view gln t))) (λ u. registered supplier of (λ s. judge_once (r s) content (other u s) (view gln u)))
+        Recurs t (if_registered supplier of (λ s. judge_once (r s) content (fresh s) (view gln t))) (λ u. if_registered supplier of (λ s. judge_once (r s) content (other u s) (view gln u)))
     registered_recurs None whose of r own content fresh other change changes h u stays sound = cc
     registered_recurs (Some s) whose of r own content fresh other change changes h u stays sound =
         let passed = not_refused (not (same of s.gln)) rules.Supplier (judge_once (r s) content (fresh s) (view gln t)) (change ∷ changes) h in
@@ -78,9 +78,9 @@ module _ (suppliers : List SupplierRow) where
     message_recurs : (retailer : List ℕ) (supplier : Option SupplierRow) → ((s : SupplierRow) → supplier ≡ Some s → s.gln ≡ gln) → (side : Side) (incoming : IncomingMessage) (moment decimal : ℕ) (buyer : Option (List ℕ)) (of : List ℕ) (fresh : SupplierRow → Judge) (other : Tables → SupplierRow → Judge) →
         Recurs t (judge_message retailer supplier side incoming buyer of fresh (view gln t)) (λ u. judge_message retailer supplier side (record incoming { moment = moment; decimal = decimal }) buyer of (other u) (view gln u))
     message_recurs retailer supplier whose side incoming moment decimal buyer of fresh other change changes h u stays sound =
-        let passed = not_refused (is_other_buyer retailer buyer) rules.Buyer (registered supplier of (λ s. judge_once (referred_by s side incoming) incoming.content (fresh s) (view gln t))) (change ∷ changes) h in
+        let passed = not_refused (is_other_buyer retailer buyer) rules.Buyer (if_registered supplier of (λ s. judge_once (referred_by s side incoming) incoming.content (fresh s) (view gln t))) (change ∷ changes) h in
         let rest = registered_recurs supplier whose of (λ s. referred_by s side incoming) (λ s. refl) incoming.content fresh other change changes passed.1 u stays sound in
-        ap (λ v. refuse_if v rules.Buyer (registered supplier of (λ s. judge_once (referred_by s side incoming) incoming.content (other u s) (view gln u)))) passed.0 ∙ rest
+        ap (λ v. refuse_if v rules.Buyer (if_registered supplier of (λ s. judge_once (referred_by s side incoming) incoming.content (other u s) (view gln u)))) passed.0 ∙ rest
 
     retailers_repeats : (parties : Parties) (supplier : Option SupplierRow) → ((s : SupplierRow) → supplier ≡ Some s → s.gln ≡ gln) → (sent : RawMessage × IncomingMessage) (moment decimal : ℕ) →
         Repeats (deliver_retailers (view gln) parties supplier sent t) (deliver_retailers (view gln) parties supplier (sent.0, record sent.1 { moment = moment; decimal = decimal }))
@@ -112,7 +112,7 @@ module _ (suppliers : List SupplierRow) where
         act_repeats t (judge_cancel supplier (cancel_text c) c (view gln t)) (λ u. judge_cancel supplier (cancel_text c) c (view gln u))
         (registered_recurs supplier whose c.supplier (λ s. record { supplier = s.gln; side = sides.Cancellation; control = c.reference; message = [] }) (λ s. refl) (cancel_text c) (λ s. judge_new_cancel c) (λ u s. judge_new_cancel c))
 
-pub named_repeated : (register : Rows) (sent : RawMessage × IncomingMessage) (moment decimal : ℕ) (t u : Tables) → (deliver_named register sent t).0 ≡ Accepted → StaysRemembered (deliver_named register sent t).1 u → Sound register.suppliers u → deliver_named register (sent.0, record sent.1 { moment = moment; decimal = decimal }) u ≡ (Repeated, u)
+pub named_repeated : (register : RegisterRows) (sent : RawMessage × IncomingMessage) (moment decimal : ℕ) (t u : Tables) → (deliver_named register sent t).0 ≡ Accepted → StaysRemembered (deliver_named register sent t).1 u → Sound register.suppliers u → deliver_named register (sent.0, record sent.1 { moment = moment; decimal = decimal }) u ≡ (Repeated, u)
 named_repeated register sent moment decimal t u told stays sound =
     retailers_repeats register.suppliers (named sent.0) t (parties_of register) (supplier_row register.suppliers (named sent.0)) (gln_of register.suppliers (named sent.0)) sent moment decimal told u stays sound
 
@@ -120,6 +120,6 @@ pub suppliers_repeated : (suppliers : List SupplierRow) (parties : Parties) (s :
 suppliers_repeated suppliers parties s sent moment decimal t u told stays sound =
     suppliers_repeats suppliers s.gln t parties s refl sent moment decimal told u stays sound
 
-pub cancellation_repeated : (register : Rows) (c : Cancel) (t u : Tables) → (cancel (view c.supplier) (supplier_row register.suppliers c.supplier) c t).0 ≡ Accepted → StaysRemembered (cancel (view c.supplier) (supplier_row register.suppliers c.supplier) c t).1 u → Sound register.suppliers u → cancel (view c.supplier) (supplier_row register.suppliers c.supplier) c u ≡ (Repeated, u)
+pub cancellation_repeated : (register : RegisterRows) (c : Cancel) (t u : Tables) → (cancel (view c.supplier) (supplier_row register.suppliers c.supplier) c t).0 ≡ Accepted → StaysRemembered (cancel (view c.supplier) (supplier_row register.suppliers c.supplier) c t).1 u → Sound register.suppliers u → cancel (view c.supplier) (supplier_row register.suppliers c.supplier) c u ≡ (Repeated, u)
 cancellation_repeated register c t u told stays sound =
     cancel_repeats register.suppliers c.supplier t (supplier_row register.suppliers c.supplier) (gln_of register.suppliers c.supplier) c told u stays sound

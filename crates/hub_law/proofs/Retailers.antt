@@ -2,7 +2,7 @@
 use Rattle.std.proofs.Common.{◌≡◌, ℕ, true, false, cond, if◌then◌else◌, List, [], ◌∷◌, map, filter, Option, Some, None, refl, sym, ◌∙◌, ap, subst}
 use Rattle.edi_envelope.specs.declared.interchange.RawMessage.{RawMessage}
 use Rattle.gs1_ids.specs.Overlap.{PrefixFree}
-use Rattle.hub_parties.specs.Rows.{Parties, Rows, parties_of, company_prefixes, supplier_row}
+use Rattle.hub_parties.specs.Rows.{Parties, RegisterRows, parties_of, company_prefixes, supplier_row}
 use Rattle.hub_parties.specs.declared.row.SupplierRow.{SupplierRow}
 use Rattle.hub_tables.specs.Rows.{same}
 use Rattle.hub_tables.specs.Tables.{Tables, view}
@@ -67,7 +67,7 @@ pub record Moves (parties : Parties) (s : SupplierRow) (own after : Tables) (ite
   pub seen : view s.gln after ≡ (fold parties s items own).1
   pub silent : (fold parties s items own).0 ≡ []
 
-module _ (register : Rows) (free : PrefixFree (company_prefixes register.suppliers)) where
+module _ (register : RegisterRows) (free : PrefixFree (company_prefixes register.suppliers)) where
   message_apart : (sent : RawMessage × IncomingMessage) (t : Tables) → Sound register.suppliers t → IsApart register.suppliers t (λ look supplier. deliver_retailers look (parties_of register) supplier sent)
   message_apart sent t sound = record {
     ones = λ w known. retailers_act register.suppliers free (parties_of register) w known sent t sound;

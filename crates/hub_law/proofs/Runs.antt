@@ -1,7 +1,7 @@
 -- Each step and each run, as one supplier sees it.
 use Rattle.std.proofs.Common.{◌≡◌, true, false, if◌then◌else◌, inl, inr, List, [], ◌∷◌, ◌++◌, Option, Some, None, refl, sym, ◌∙◌, ap, subst, append_assoc}
 use Rattle.gs1_ids.specs.Overlap.{PrefixFree}
-use Rattle.hub_parties.specs.Rows.{Parties, Rows, parties_of, company_prefixes, supplier_row}
+use Rattle.hub_parties.specs.Rows.{Parties, RegisterRows, parties_of, company_prefixes, supplier_row}
 use Rattle.hub_parties.specs.declared.row.SupplierRow.{SupplierRow}
 use Rattle.hub_tables.specs.Rows.{same}
 use Rattle.hub_tables.specs.Tables.{Tables, view}
@@ -30,7 +30,7 @@ fold_append_after : (parties : Parties) (s : SupplierRow) (first second : List I
 fold_append_after parties s [] second state = refl
 fold_append_after parties s (item ∷ first) second state = fold_append_after parties s first second (own_step parties s item state).1
 
-module _ (register : Rows) (free : PrefixFree (company_prefixes register.suppliers)) where
+module _ (register : RegisterRows) (free : PrefixFree (company_prefixes register.suppliers)) where
   -- Tables stay sound.
   step_sound : (input : Input) (mark : Mark) (t : Tables) → Sound register.suppliers t → (o : Option SupplierRow) → supplier_row register.suppliers input.caller ≡ o → Sound register.suppliers (step_by register o input mark t).1
   step_sound input mark t sound (Some w) h =

@@ -6,7 +6,7 @@ use Rattle.edi_orders.specs.Order.{order_of}
 use Rattle.edi_orders.specs.Response.{response_of}
 use Rattle.edi_goods.specs.Despatch.{despatch_of}
 use Rattle.edi_goods.specs.Receipt.{receipt_of}
-use Rattle.hub_parties.specs.Rows.{Parties, Rows, parties_of, supplier_row}
+use Rattle.hub_parties.specs.Rows.{Parties, RegisterRows, parties_of, supplier_row}
 use Rattle.hub_parties.specs.declared.row.SupplierRow.{SupplierRow}
 use Rattle.hub_tables.specs.Rows.{same}
 use Rattle.hub_tables.specs.State.{entry_at}
@@ -61,7 +61,7 @@ suppliers_stays look parties s sent t =
     (either_stays (same sent.0.kind (codes "DESADV")) _ _ t (read_stays (despatch_of sent.0) _ t) (nothing_lost t))
 
 -- the messages of an upload
-pub all_retailers_stay : (register : Rows) (sents : List (RawMessage × IncomingMessage)) (t : Tables) → StaysRemembered t (in_row (deliver_named register) sents t).1
+pub all_retailers_stay : (register : RegisterRows) (sents : List (RawMessage × IncomingMessage)) (t : Tables) → StaysRemembered t (in_row (deliver_named register) sents t).1
 all_retailers_stay register = in_row_stays (deliver_named register) (λ sent. retailers_stays (view (named sent.0)) (parties_of register) (supplier_row register.suppliers (named sent.0)) sent)
 
 pub all_suppliers_stay : (look : Tables → Tables) (parties : Parties) (s : SupplierRow) (sents : List (RawMessage × IncomingMessage)) (t : Tables) → StaysRemembered t (in_row (deliver_suppliers look parties s) sents t).1
@@ -89,7 +89,7 @@ supplier_request_stays look parties s moment mark requests.Status t = nothing_lo
 supplier_request_stays look parties s moment mark (requests.StatusOf gln) t = nothing_lost t
 supplier_request_stays look parties s moment mark (requests.Cancel c) t = nothing_lost t
 
-retailer_request_stays : (register : Rows) (moment : ℕ) (mark : Mark) (request : Request) (t : Tables) → StaysRemembered t (retailer_request register moment mark request t).1
+retailer_request_stays : (register : RegisterRows) (moment : ℕ) (mark : Mark) (request : Request) (t : Tables) → StaysRemembered t (retailer_request register moment mark request t).1
 retailer_request_stays register moment mark (requests.Upload bytes) t = all_retailers_stay register (looked_at moment mark (from_retailer (parties_of register) bytes)) t
 retailer_request_stays register moment mark (requests.MailAfter number) t = nothing_lost t
 retailer_request_stays register moment mark (requests.MailItem number) t = nothing_lost t
@@ -98,10 +98,10 @@ retailer_request_stays register moment mark requests.Status t = nothing_lost t
 retailer_request_stays register moment mark (requests.StatusOf gln) t = nothing_lost t
 retailer_request_stays register moment mark (requests.Cancel c) t = cancelled_stays mark (cancel (view c.supplier) (supplier_row register.suppliers c.supplier) c t) t (verdict_stays (judge_cancel (supplier_row register.suppliers c.supplier) (cancel_text c) c (view c.supplier t)) t)
 
-step_stays : (register : Rows) (s : Option SupplierRow) (input : Input) (mark : Mark) (t : Tables) → StaysRemembered t (step_by register s input mark t).1
+step_stays : (register : RegisterRows) (s : Option SupplierRow) (input : Input) (mark : Mark) (t : Tables) → StaysRemembered t (step_by register s input mark t).1
 step_stays register (Some s) input mark t = either_stays (same s.key input.key) _ _ t (supplier_request_stays (view s.gln) (parties_of register) s input.moment mark input.request t) (nothing_lost t)
 step_stays register None input mark t = either_stays (is_retailers register input) _ _ t (retailer_request_stays register input.moment mark input.request t) (nothing_lost t)
 
-pub run_stays : (register : Rows) (t : Tables) (inputs : Inputs) → StaysRemembered t (shared_run register t inputs).1
+pub run_stays : (register : RegisterRows) (t : Tables) (inputs : Inputs) → StaysRemembered t (shared_run register t inputs).1
 run_stays register t [] = nothing_lost t
 run_stays register t ((input, mark) ∷ inputs) = λ row there. run_stays register (shared_step register t input mark).1 inputs row (subst (λ (after : Reply × Tables). Has after.1.remembered row) (sym (step_is register input mark t)) (step_stays register (supplier_row register.suppliers input.caller) input mark t row there))

@@ -1,7 +1,7 @@
 -- Inputs that are stopped, and what is said of them.
 use Rattle.std.proofs.Common.{◌≡◌, ◌≢◌, ◌↔◌, ℕ, List, Bool, true, false, cond, nat_lt, [], length, Option, Some, None, Ok, Err, refl, sym, subst, ap}
 use Rattle.edi_envelope.specs.declared.interchange.RawMessage.{RawMessage}
-use Rattle.hub_parties.specs.Rows.{Parties, Rows, parties_of, supplier_row}
+use Rattle.hub_parties.specs.Rows.{Parties, RegisterRows, parties_of, supplier_row}
 use Rattle.hub_parties.specs.declared.row.SupplierRow.{SupplierRow}
 use Rattle.hub_tables.specs.Rows.{same}
 use Rattle.hub_tables.specs.State.{entry_at}
@@ -54,7 +54,7 @@ module _ (mark : Mark) (P : Tables → Reply × Tables → Type 0)
   of_supplier look parties s moment (requests.StatusOf gln) t = unless t _ (λ e. cc)
   of_supplier look parties s moment (requests.Cancel c) t = unless t _ (λ e. cc)
 
-  of_retailer : (register : Rows) (moment : ℕ) (request : Request) (t : Tables) → P t (retailer_request register moment mark request t)
+  of_retailer : (register : RegisterRows) (moment : ℕ) (request : Request) (t : Tables) → P t (retailer_request register moment mark request t)
   of_retailer register moment (requests.Upload bytes) t = upload (deliver_named register) moment (from_retailer (parties_of register) bytes) t
   of_retailer register moment (requests.MailAfter number) t = unless t _ (λ e. cc)
   of_retailer register moment (requests.MailItem number) t = unless t _ (λ e. cc)
@@ -63,13 +63,13 @@ module _ (mark : Mark) (P : Tables → Reply × Tables → Type 0)
   of_retailer register moment (requests.StatusOf gln) t = unless t _ (report_is_whole (supplier_row register.suppliers gln) (view gln t))
   of_retailer register moment (requests.Cancel c) t = cut (cancel (view c.supplier) (supplier_row register.suppliers c.supplier) c t) t
 
-  of_anybody : (register : Rows) (o : Option SupplierRow) (input : Input) (t : Tables) → P t (step_by register o input mark t)
+  of_anybody : (register : RegisterRows) (o : Option SupplierRow) (input : Input) (t : Tables) → P t (step_by register o input mark t)
   of_anybody register (Some s) input t =
       either (P t) (same s.key input.key) _ _ (of_supplier (view s.gln) (parties_of register) s input.moment input.request t) (unless t denied (λ e. cc))
   of_anybody register None input t =
       either (P t) (is_retailers register input) _ _ (of_retailer register input.moment input.request t) (unless t denied (λ e. cc))
 
-module _ (register : Rows) (t : Tables) (input : Input) where
+module _ (register : RegisterRows) (t : Tables) (input : Input) where
   anybody : (mark : Mark) (P : Tables → Reply × Tables → Type 0) →
       ((t : Tables) (whole : Reply) → IsWhole whole → P t (replied mark whole t)) →
       ((deliver : RawMessage × IncomingMessage → Act) (moment : ℕ) (opened : Opened) (t : Tables) → P t (uploaded deliver moment mark opened t)) →

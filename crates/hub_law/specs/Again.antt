@@ -2,7 +2,7 @@
 use Rattle.std.specs.Prelude.{◌≡◌, ℕ, ◌<◌, List, length, slice_get, Option, Some, Ok}
 use Rattle.edi_envelope.specs.declared.interchange.RawMessage.{RawMessage}
 use Rattle.edi_envelope.specs.declared.interchange.Interchange.{Interchange}
-use Rattle.hub_parties.specs.Rows.{Rows, role_of}
+use Rattle.hub_parties.specs.Rows.{RegisterRows, role_of}
 use Rattle.hub_parties.specs.declared.role.Role.TheVariants.{Retailer}
 use Rattle.hub_parties.specs.declared.row.SupplierRow.{SupplierRow}
 use Rattle.hub_tables.specs.Tables.{Tables}
@@ -19,7 +19,7 @@ use Rattle.hub_law.specs.declared.request.Input.{Input}
 use Rattle.hub_law.specs.declared.request.Request.TheVariants as requests
 
 -- the message at a place, counted from 0, of an upload that is looked at
-pub record MessageAt (register : Rows) (input : Input) (place : ℕ) (message : RawMessage) : Type 0 where
+pub record MessageAt (register : RegisterRows) (input : Input) (place : ℕ) (message : RawMessage) : Type 0 where
   pub upload : Interchange
   pub looked_at : upload_of register input ≡ Some upload
   pub there : slice_get upload.messages place ≡ Some message
@@ -28,19 +28,19 @@ pub record MessageAt (register : Rows) (input : Input) (place : ℕ) (message : 
 abbrev pub Reaches : Mark → Input → Interchange → ℕ → Type 0
 Reaches mark input upload place = place < length (looked_at input.moment mark (Ok upload))
 
--- the tables when the message at a place of an upload comes, which is behind a run
-abbrev pub tables_before : Rows → Tables → Inputs → Input → Interchange → ℕ → Tables
+-- the tables when the message at a place of an upload comes, which is after a run
+abbrev pub tables_before : RegisterRows → Tables → Inputs → Input → Interchange → ℕ → Tables
 tables_before register t before input upload place =
     (first_acts place register input upload (shared_run register t before).1).1
 
 -- what is told of it
-abbrev pub told_at : Rows → Tables → Inputs → Input → Interchange → ℕ → Option Told
+abbrev pub told_at : RegisterRows → Tables → Inputs → Input → Interchange → ℕ → Option Told
 told_at register t before input upload place =
     slice_get (all_acts register input upload (shared_run register t before).1).0 place
 
--- From sound tables of free prefixes, and behind a run, the message at a place of an upload is accepted, and the upload
+-- From sound tables of free prefixes, and after a run, the message at a place of an upload is accepted, and the upload
 -- is not stopped before it is done.
-pub record AcceptedAt (register : Rows) (t : Tables) (before : Inputs) (input : Input) (mark : Mark) (place : ℕ)
+pub record AcceptedAt (register : RegisterRows) (t : Tables) (before : Inputs) (input : Input) (mark : Mark) (place : ℕ)
     (message : RawMessage) : Type 0 where
   pub start : SoundHub register.suppliers t
   pub comes : MessageAt register input place message
@@ -60,6 +60,6 @@ pub record AcceptedBefore (after : Told × Tables) (suppliers : List SupplierRow
   pub sound : Sound suppliers u
 
 -- the retailer asks, with its key, for the cancellation
-pub record AsksCancel (register : Rows) (c : Cancel) (input : Input) : Type 0 where
+pub record AsksCancel (register : RegisterRows) (c : Cancel) (input : Input) : Type 0 where
   pub retailers : role_of register input.caller input.key ≡ Some Retailer
   pub asks : input.request ≡ requests.Cancel c

@@ -1,7 +1,7 @@
 -- One supplier alone: the items of inputs that are for it, and its machine over them.
 use Rattle.std.specs.Prelude.{ℕ, List, [], ◌∷◌, ◌++◌, map, filter, if◌then◌else◌, Option, Some, None}
 use Rattle.edi_envelope.specs.declared.interchange.RawMessage.{RawMessage}
-use Rattle.hub_parties.specs.Rows.{Rows, Parties, parties_of, role_of}
+use Rattle.hub_parties.specs.Rows.{RegisterRows, Parties, parties_of, role_of}
 use Rattle.hub_parties.specs.declared.role.Role.{Role}
 use Rattle.hub_parties.specs.declared.role.Role.TheVariants.{Retailer, Supplier}
 use Rattle.hub_parties.specs.declared.row.SupplierRow.{SupplierRow}
@@ -48,7 +48,7 @@ abbrev pub naming : List ℕ → List (RawMessage × IncomingMessage) → List (
 naming gln sents = filter (λ sent. same (named sent.0) gln) sents
 
 -- What of an input is for the supplier with a GLN.
-abbrev pub retailer_items : List ℕ → Rows → ℕ → Mark → Request → List Item
+abbrev pub retailer_items : List ℕ → RegisterRows → ℕ → Mark → Request → List Item
 retailer_items gln register moment mark (requests.Upload bytes) =
     map Message (naming gln (looked_at moment mark (from_retailer (parties_of register) bytes)))
 retailer_items gln register moment mark (requests.MailAfter number) = []
@@ -62,14 +62,14 @@ retailer_items gln register moment mark (requests.Cancel c) =
 abbrev pub own_items : List ℕ → Input → Mark → List Item
 own_items gln input mark = if same input.caller gln then Own input mark ∷ [] else []
 
-abbrev pub items_as : List ℕ → Rows → Option Role → Input → Mark → List Item
+abbrev pub items_as : List ℕ → RegisterRows → Option Role → Input → Mark → List Item
 items_as gln register (Some Retailer) input mark = retailer_items gln register input.moment mark input.request
 items_as gln register (Some Supplier) input mark = own_items gln input mark
 items_as gln register None input mark = own_items gln input mark
 
-abbrev pub items_of_input : List ℕ → Rows → Input → Mark → List Item
+abbrev pub items_of_input : List ℕ → RegisterRows → Input → Mark → List Item
 items_of_input gln register input mark = items_as gln register (role_of register input.caller input.key) input mark
 
-abbrev pub items : List ℕ → Rows → Inputs → List Item
+abbrev pub items : List ℕ → RegisterRows → Inputs → List Item
 items gln register [] = []
 items gln register ((input, mark) ∷ inputs) = items_of_input gln register input mark ++ items gln register inputs

@@ -1,6 +1,6 @@
 -- The machine that all suppliers share.
 use Rattle.std.specs.Prelude.{ℕ, List, [], ◌∷◌, if◌then◌else◌, Option, Some, None}
-use Rattle.hub_parties.specs.Rows.{Rows, parties_of, row_of, role_of}
+use Rattle.hub_parties.specs.Rows.{RegisterRows, parties_of, row_of, role_of}
 use Rattle.hub_parties.specs.declared.role.Role.{Role}
 use Rattle.hub_parties.specs.declared.role.Role.TheVariants.{Retailer, Supplier}
 use Rattle.hub_parties.specs.declared.row.SupplierRow.{SupplierRow}
@@ -14,14 +14,14 @@ use Rattle.hub_law.specs.declared.reply.Reply.{Reply}
 use Rattle.hub_law.specs.declared.request.Input.{Input}
 
 -- an input of whoever its caller is, by the GLN and the key; the row is that of the supplier with the GLN
-abbrev pub step_as : Rows → Option Role → Option SupplierRow → Input → Mark → Tables → Reply × Tables
+abbrev pub step_as : RegisterRows → Option Role → Option SupplierRow → Input → Mark → Tables → Reply × Tables
 step_as register (Some Supplier) (Some s) input mark t =
     supplier_request (view s.gln) (parties_of register) s input.moment mark input.request t
 step_as register (Some Supplier) None input mark t = replied mark denied t
 step_as register (Some Retailer) row input mark t = retailer_request register input.moment mark input.request t
 step_as register None row input mark t = replied mark denied t
 
-abbrev pub shared_step : Rows → Tables → Input → Mark → Reply × Tables
+abbrev pub shared_step : RegisterRows → Tables → Input → Mark → Reply × Tables
 shared_step register t input mark =
     step_as register (role_of register input.caller input.key) (row_of register input.caller) input mark t
 
@@ -29,7 +29,7 @@ shared_step register t input mark =
 abbrev pub Inputs : Type 0
 Inputs = List (Input × Mark)
 
-abbrev pub shared_run : Rows → Tables → Inputs → List Reply × Tables
+abbrev pub shared_run : RegisterRows → Tables → Inputs → List Reply × Tables
 shared_run register t [] = ([], t)
 shared_run register t ((input, mark) ∷ inputs) =
     followed_by (single (shared_step register t input mark)) (λ after. shared_run register after inputs)

@@ -10,8 +10,8 @@ use Rattle.hub_tables.specs.declared.rows.MailRow.{MailRow}
 use Rattle.hub_law.specs.Widths.{right, line}
 
 -- an entry as the hub's interchange for its owner, with the decimal mark with which its message came
-unfoldable pub mail_text : List ℕ → MailRow → List ℕ
-mail_text hub entry = una entry.decimal ++ text_around hub entry.supplier entry.moment entry.number entry.body
+unfoldable pub entry_text : List ℕ → MailRow → List ℕ
+entry_text hub entry = una entry.decimal ++ text_around hub entry.supplier entry.moment entry.number entry.body
 
 abbrev pub type_of : ℕ → List ℕ
 type_of kind = if kind == kind_letter kinds.Orders then codes "ORDERS" else codes "RECADV"

@@ -7,7 +7,7 @@ use Rattle.hub_law.specs.declared.reply.Outcome.TheVariants.{Stopped}
 use Rattle.hub_law.specs.declared.reply.Reply.{Reply}
 
 -- Whole: it was not stopped. StoppedEmpty: nothing was done, and the reply is empty. StoppedBare: nothing was done, and
--- the reply says so. StoppedAfter k: an upload of more than k messages was stopped behind its first k; of any other
+-- the reply says so. StoppedAfter k: an upload of more than k messages was stopped after its first k; of any other
 -- input it is StoppedBare.
 pub data Mark : Type 0 where
   Whole : Mark
@@ -22,7 +22,7 @@ stop_reply StoppedEmpty = Some (reply Stopped [])
 stop_reply StoppedBare = Some stopped
 stop_reply (StoppedAfter k) = Some stopped
 
--- how many of an upload's messages were done before it was stopped behind them; none where it was not stopped so
+-- how many of an upload's messages were done before it was stopped after them; none where it was not stopped so
 abbrev pub stopped_behind : Mark → ℕ → Option ℕ
 stopped_behind Whole count = None
 stopped_behind StoppedEmpty count = None
@@ -41,7 +41,7 @@ unless_stopped mark after t = unwrap_or (option_map (λ reply. (reply, t)) (stop
 abbrev pub all_unless_stopped : {X : Type 0} → Mark → List X → List X
 all_unless_stopped mark xs = if is_none (stop_reply mark) then xs else []
 
--- the first so many where it was stopped behind them, and else all or nothing
+-- the first so many where it was stopped after them, and else all or nothing
 abbrev pub first_done : {X : Type 0} → Mark → Option ℕ → List X → List X
 first_done mark (Some k) xs = take k xs
 first_done mark None xs = all_unless_stopped mark xs

@@ -1,7 +1,7 @@
 -- Two suppliers, one of whose prefixes begins the other's, announce pallets with the same SSCC.
 use Rattle.std.specs.Prelude.{ℕ, Bool, List, [], ◌∷◌, ◌++◌, codes}
 use Rattle.hub_parties.specs.declared.row.SupplierRow.{SupplierRow}
-use Rattle.hub_parties.specs.Rows.{Rows}
+use Rattle.hub_parties.specs.Rows.{RegisterRows}
 use Rattle.hub_law.specs.Machine.{Inputs}
 use Rattle.hub_law.specs.Mark.{Whole}
 use Rattle.hub_law.specs.Widths.{line}
@@ -19,7 +19,7 @@ short_supplier = record { gln = codes "8712345000004"; prefixes = codes "4012345
 abbrev pub retailer : List ℕ
 retailer = codes "5412345000013"
 
-abbrev pub overlapping : Rows
+abbrev pub overlapping : RegisterRows
 overlapping = record {
   hub = codes "5412345000006";
   retailer = retailer;

@@ -5,7 +5,7 @@ use Rattle.std.specs.List.{list_any}
 use Rattle.edi_envelope.specs.declared.interchange.Interchange.{Interchange}
 use Rattle.edi_envelope.specs.declared.interchange.RawMessage.{RawMessage}
 use Rattle.hub_tables.specs.declared.rows.MailRow.{MailRow}
-use Rattle.hub_law.specs.MailText.{mail_text}
+use Rattle.hub_law.specs.MailText.{entry_text}
 use Rattle.hub_law.specs.Told.{Told, Accepted, Repeated, Refused, is_refused}
 use Rattle.hub_law.specs.Widths.{line}
 use Rattle.hub_law.specs.declared.reply.Outcome.{Outcome}
@@ -55,7 +55,7 @@ reply_lines i told = interchange_line i ++ message_lines i.messages told
 abbrev pub refused_reply : List ℕ → Reply
 refused_reply code = record { outcome = Bad; refused = true; body = line (codes "refused" ∷ code ∷ []) }
 
--- the reply to an upload, by what is told of all its messages, or of those behind which it was stopped
+-- the reply to an upload, by what is told of all its messages, or of those after which it was stopped
 abbrev pub whole_reply : Interchange → List Told → Reply
 whole_reply i told = record { outcome = Done; refused = list_any is_refused told; body = reply_lines i told }
 
@@ -73,4 +73,4 @@ cancel_reply told = record { outcome = Done; refused = is_refused told; body = l
 -- the reply to a mailbox entry that is asked for
 abbrev pub entry_reply : List ℕ → Option MailRow → Reply
 entry_reply hub None = unknown
-entry_reply hub (Some entry) = done (mail_text hub entry)
+entry_reply hub (Some entry) = done (entry_text hub entry)

@@ -4,7 +4,7 @@ use Rattle.std.specs.Prelude.{ℕ, true, List, [], ◌∷◌, length, if◌then�
 use Rattle.std.specs.Option.{unwrap_or}
 use Rattle.edi_envelope.specs.declared.interchange.RawMessage.{RawMessage}
 use Rattle.edi_envelope.specs.declared.interchange.Interchange.{Interchange}
-use Rattle.hub_parties.specs.Rows.{Parties, Rows, parties_of, supplier_row}
+use Rattle.hub_parties.specs.Rows.{Parties, RegisterRows, parties_of, supplier_row}
 use Rattle.hub_parties.specs.declared.row.SupplierRow.{SupplierRow}
 use Rattle.hub_tables.specs.Cases.{truth_number}
 use Rattle.hub_tables.specs.Change.{apply_all}
@@ -29,7 +29,7 @@ use Rattle.hub_law.specs.declared.request.Request.TheVariants as requests
 
 -- Uploads.
 
--- the messages that are looked at: all, or the first so many of more where it was stopped behind them, or none
+-- the messages that are looked at: all, or the first so many of more where it was stopped after them, or none
 abbrev pub looked_at : ℕ → Mark → Opened → List (RawMessage × IncomingMessage)
 looked_at moment mark (Err code) = []
 looked_at moment mark (Ok i) = first_done mark (stopped_behind mark (length i.messages)) (messages_at moment i)
@@ -81,12 +81,12 @@ supplier_request look parties s moment mark (requests.StatusOf gln) t = replied 
 supplier_request look parties s moment mark (requests.Cancel cancellation) t = replied mark denied t
 
 -- What the retailer asks. A message, a cancellation and a report see what the supplier sees that they name.
-abbrev pub deliver_named : Rows → RawMessage × IncomingMessage → Act
+abbrev pub deliver_named : RegisterRows → RawMessage × IncomingMessage → Act
 deliver_named register (message, incoming) =
     deliver_retailers (view (named message)) (parties_of register) (supplier_row register.suppliers (named message))
     (message, incoming)
 
-abbrev pub cancel_named : Rows → Cancel → Act
+abbrev pub cancel_named : RegisterRows → Cancel → Act
 cancel_named register c = cancel (view c.supplier) (supplier_row register.suppliers c.supplier) c
 
 abbrev pub cancelled : Mark → Told × Tables → Tables → Reply × Tables
@@ -96,7 +96,7 @@ abbrev pub report : Option SupplierRow → Tables → Reply
 report None state = unknown
 report (Some s) state = done (status_text state)
 
-abbrev pub retailer_request : Rows → ℕ → Mark → Request → Tables → Reply × Tables
+abbrev pub retailer_request : RegisterRows → ℕ → Mark → Request → Tables → Reply × Tables
 retailer_request register moment mark (requests.Upload bytes) t =
     uploaded (deliver_named register) moment mark (from_retailer (parties_of register) bytes) t
 retailer_request register moment mark (requests.MailAfter number) t = replied mark denied t

@@ -1,14 +1,12 @@
 -- The status report of a supplier's rows.
-use Rattle.std.specs.Prelude.{ℕ, ◌+◌, ◌-◌, ◌==◌, nat_le, Bool, List, [], ◌∷◌, ◌++◌, filter, map, sum_by, if◌then◌else◌, codes, Some, option_map}
+use Rattle.std.specs.Prelude.{ℕ, ◌+◌, ◌-◌, nat_le, List, [], ◌∷◌, ◌++◌, filter, map, sum_by, if◌then◌else◌, codes, Some, option_map}
 use Rattle.std.specs.Fmt.{decimal}
 use Rattle.std.specs.List.{flat_map, list_any}
 use Rattle.std.specs.Option.{unwrap_or}
-use Rattle.hub_tables.specs.Cases.{arrival_number}
 use Rattle.hub_tables.specs.Keys.{bytes_cmp, put}
 use Rattle.hub_tables.specs.Rows.{same}
-use Rattle.hub_tables.specs.State.{line_of, despatched, contents_of, receipts_of}
+use Rattle.hub_tables.specs.State.{line_of, despatched, contents_of, receipts_of, is_announced}
 use Rattle.hub_tables.specs.Tables.{Tables}
-use Rattle.hub_tables.specs.declared.cases.Arrival.TheVariants.{Announced}
 use Rattle.hub_tables.specs.declared.rows.ContentRow.{ContentRow}
 use Rattle.hub_tables.specs.declared.rows.LineRow.{LineRow}
 use Rattle.hub_tables.specs.declared.rows.PalletRow.{PalletRow}
@@ -23,32 +21,32 @@ line_text state row = line (
     ∷ map (λ quantity. right 9 (decimal quantity))
     (row.ordered ∷ row.open_qty ∷ row.refused ∷ row.cancelled ∷ despatched state row ∷ []))
 
--- the item of a content is that of the line that it names
-abbrev pub item_of : Tables → ContentRow → List ℕ
-item_of state content =
+-- the article of a content, by its GTIN, is that of the line that it names
+abbrev pub article_of : Tables → ContentRow → List ℕ
+article_of state content =
     unwrap_or (option_map (λ row. row.gtin) (line_of state content.number (Some content.line) [])) []
 
--- items in the order of their digits, with one more where it is not among them
-abbrev pub with_item : List ℕ → List (List ℕ) → List (List ℕ)
-with_item gtin items = if list_any (same gtin) items then items else put bytes_cmp gtin items
+-- articles in the order of their digits, with one more where it is not among them
+abbrev pub with_article : List ℕ → List (List ℕ) → List (List ℕ)
+with_article gtin articles = if list_any (same gtin) articles then articles else put bytes_cmp gtin articles
 
 abbrev pub in_digit_order : List (List ℕ) → List (List ℕ)
 in_digit_order [] = []
-in_digit_order (gtin ∷ items) = with_item gtin (in_digit_order items)
+in_digit_order (gtin ∷ articles) = with_article gtin (in_digit_order articles)
 
--- the items that are announced or received on a pallet
-abbrev pub items_on : Tables → PalletRow → List (List ℕ)
-items_on state pallet =
+-- the articles that are announced or received on a pallet
+abbrev pub articles_on : Tables → PalletRow → List (List ℕ)
+articles_on state pallet =
     in_digit_order (
-    map (item_of state) (contents_of state pallet.sscc) ++ map (λ receipt. receipt.gtin) (receipts_of state pallet.sscc))
+    map (article_of state) (contents_of state pallet.sscc) ++ map (λ receipt. receipt.gtin) (receipts_of state pallet.sscc))
 
--- what of an item is despatched on a pallet
+-- what of an article is despatched on a pallet
 abbrev pub despatched_on : Tables → PalletRow → List ℕ → ℕ
 despatched_on state pallet gtin =
     sum_by (λ content. content.quantity)
-    (filter (λ content. same (item_of state content) gtin) (contents_of state pallet.sscc))
+    (filter (λ content. same (article_of state content) gtin) (contents_of state pallet.sscc))
 
--- the sum of one kind that is received of an item on a pallet
+-- the sum of one kind that is received of an article on a pallet
 abbrev pub received_on : (ReceiptRow → ℕ) → Tables → PalletRow → List ℕ → ℕ
 received_on kind state pallet gtin = sum_by kind (filter (λ receipt. same receipt.gtin gtin) (receipts_of state pallet.sscc))
 
@@ -58,27 +56,24 @@ signed number less =
     if nat_le less number then codes "+" ++ decimal (number - less)
     else codes "-" ++ decimal (less - number)
 
-abbrev pub is_announced : PalletRow → Bool
-is_announced pallet = pallet.received == arrival_number Announced
-
 -- received in all minus despatched, and `+0` while the pallet is announced
 abbrev pub difference : PalletRow → ℕ → ℕ → List ℕ
 difference pallet received despatched = if is_announced pallet then signed 0 0 else signed received despatched
 
 -- `P`, SSCC, GTIN, `A` announced or `R` received; then despatched, accepted, returned and destroyed, right in 14 places
 -- each, and the difference right in 15
-abbrev pub item_text : PalletRow → List ℕ → ℕ → ℕ → ℕ → ℕ → List ℕ
-item_text pallet gtin despatched accepted returned destroyed = line (
+abbrev pub article_text : PalletRow → List ℕ → ℕ → ℕ → ℕ → ℕ → List ℕ
+article_text pallet gtin despatched accepted returned destroyed = line (
     codes "P" ∷ pallet.sscc ∷ gtin ∷ (if is_announced pallet then codes "A" else codes "R")
     ∷ map (λ quantity. right 14 (decimal quantity)) (despatched ∷ accepted ∷ returned ∷ destroyed ∷ [])
     ++ right 15 (difference pallet (accepted + returned + destroyed) despatched) ∷ [])
 
 abbrev pub pallet_text : Tables → PalletRow → List ℕ
 pallet_text state pallet = flat_map (λ gtin.
-    item_text pallet gtin (despatched_on state pallet gtin)
+    article_text pallet gtin (despatched_on state pallet gtin)
     (received_on (λ receipt. receipt.accepted) state pallet gtin)
     (received_on (λ receipt. receipt.returned) state pallet gtin)
-    (received_on (λ receipt. receipt.destroyed) state pallet gtin)) (items_on state pallet)
+    (received_on (λ receipt. receipt.destroyed) state pallet gtin)) (articles_on state pallet)
 
 -- lines by order number and line number, then pallets by SSCC and GTIN
 unfoldable pub status_text : Tables → List ℕ

@@ -1,9 +1,9 @@
--- What a stop behind some messages of an upload replies and leaves.
+-- What a stop after some messages of an upload replies and leaves.
 use Rattle.std.specs.Prelude.{ℕ, List, ◌++◌, take, Option, Some, None, Ok, Err}
 use Rattle.std.specs.List.{list_any}
 use Rattle.edi_envelope.specs.declared.interchange.RawMessage.{RawMessage}
 use Rattle.edi_envelope.specs.declared.interchange.Interchange.{Interchange}
-use Rattle.hub_parties.specs.Rows.{Rows, parties_of, row_of, role_of}
+use Rattle.hub_parties.specs.Rows.{RegisterRows, parties_of, row_of, role_of}
 use Rattle.hub_parties.specs.declared.role.Role.{Role}
 use Rattle.hub_parties.specs.declared.role.Role.TheVariants.{Retailer, Supplier}
 use Rattle.hub_parties.specs.declared.row.SupplierRow.{SupplierRow}
@@ -33,7 +33,7 @@ upload_from opening requests.Status = None
 upload_from opening (requests.StatusOf gln) = None
 upload_from opening (requests.Cancel c) = None
 
-abbrev pub upload_by : Rows → Option Role → Option SupplierRow → Request → Option Interchange
+abbrev pub upload_by : RegisterRows → Option Role → Option SupplierRow → Request → Option Interchange
 upload_by register (Some Supplier) (Some s) request = upload_from (from_supplier (parties_of register) s) request
 upload_by register (Some Supplier) None request = None
 upload_by register (Some Retailer) row request = upload_from (from_retailer (parties_of register)) request
@@ -41,28 +41,28 @@ upload_by register None row request = None
 
 -- the interchange whose messages are looked at, where the input is an upload of somebody who may, opens and is
 -- addressed rightly
-abbrev pub upload_of : Rows → Input → Option Interchange
+abbrev pub upload_of : RegisterRows → Input → Option Interchange
 upload_of register input =
     upload_by register (role_of register input.caller input.key) (row_of register input.caller) input.request
 
 -- the act of each of its messages; where nobody may there is none
-abbrev pub act_by : Rows → Option Role → Option SupplierRow → RawMessage × IncomingMessage → Act
+abbrev pub act_by : RegisterRows → Option Role → Option SupplierRow → RawMessage × IncomingMessage → Act
 act_by register (Some Supplier) (Some s) sent = deliver_suppliers (view s.gln) (parties_of register) s sent
 act_by register (Some Supplier) None sent = λ t. (Repeated, t)
 act_by register (Some Retailer) row sent = deliver_named register sent
 act_by register None row sent = λ t. (Repeated, t)
 
-abbrev pub act_of : Rows → Input → RawMessage × IncomingMessage → Act
+abbrev pub act_of : RegisterRows → Input → RawMessage × IncomingMessage → Act
 act_of register input = act_by register (role_of register input.caller input.key) (row_of register input.caller)
 
 -- the messages of an upload one after another, or the first k of them, and what is told of each
-abbrev pub all_acts : Rows → Input → Interchange → Tables → List Told × Tables
+abbrev pub all_acts : RegisterRows → Input → Interchange → Tables → List Told × Tables
 all_acts register input i = in_row (act_of register input) (messages_at input.moment i)
 
-abbrev pub first_acts : ℕ → Rows → Input → Interchange → Tables → List Told × Tables
+abbrev pub first_acts : ℕ → RegisterRows → Input → Interchange → Tables → List Told × Tables
 first_acts k register input i = in_row (act_of register input) (take k (messages_at input.moment i))
 
--- the reply where it was stopped behind k messages: the first k lines of the whole reply, and that it was stopped
+-- the reply where it was stopped after k messages: the first k lines of the whole reply, and that it was stopped
 abbrev pub reply_behind : ℕ → Interchange → List Told → Reply
 reply_behind k i told = record {
   outcome = Stopped;

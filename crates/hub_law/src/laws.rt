@@ -9,7 +9,7 @@
 ghost use Rattle.std.specs.Prelude.{◌≡◌, true, false, List, [], ◌∷◌, codes, Some};
 ghost use Rattle.std.specs.List.{AllByRecursion};
 ghost use Rattle.gs1_ids.specs.Overlap.{PrefixFree};
-ghost use Rattle.hub_parties.specs.Rows.{Rows, parties_of, company_prefixes};
+ghost use Rattle.hub_parties.specs.Rows.{RegisterRows, parties_of, company_prefixes};
 ghost use Rattle.hub_parties.specs.declared.row.SupplierRow.{SupplierRow};
 ghost use Rattle.hub_tables.specs.Tables.{Tables, view, empty};
 ghost use Rattle.hub_rules.specs.Sound.{Balanced, Sound};
@@ -26,7 +26,7 @@ ghost use Rattle.hub_law.specs.declared.request.Input.{Input};
 /// Whoever asks something of the hub, each registered supplier sees after it what it would see alone; and where the
 /// supplier asks, it is answered as it would be alone. This holds also of a request that was stopped.
 pub fn step_is_own()
-    ensures { (register : Rows) (s : SupplierRow) (t : Tables) (input : Input) (mark : Mark) →
+    ensures { (register : RegisterRows) (s : SupplierRow) (t : Tables) (input : Input) (mark : Mark) →
         Registered register.suppliers s t → StepIsOwn register s t input mark }
 {}
 
@@ -34,25 +34,25 @@ pub fn step_is_own()
 /// their order. A status of the supplier for which the retailer asks among them is the text of what the supplier would
 /// see alone at that place.
 pub fn run_is_own()
-    ensures run { (register : Rows) (s : SupplierRow) (t : Tables) (inputs : Inputs) →
+    ensures run { (register : RegisterRows) (s : SupplierRow) (t : Tables) (inputs : Inputs) →
         Registered register.suppliers s t → RunIsOwn register s t inputs }
-    ensures status { (register : Rows) (s : SupplierRow) (t : Tables) (before later : Inputs) (input : Input) →
+    ensures status { (register : RegisterRows) (s : SupplierRow) (t : Tables) (before later : Inputs) (input : Input) →
         Registered register.suppliers s t → AsksStatus register s input →
         reply_between register t before input later ≡
         Some (done (status_text (alone register s (items s.gln register before) t).1)) }
 {}
 
 /// Two runs that agree on a supplier are alike for it: it sees the same in the end and is told the same, and a status
-/// of it for which the retailer asks behind as many of its items in the one as in the other is the same. They agree on
+/// of it for which the retailer asks after as many of its items in the one as in the other is the same. They agree on
 /// its GLN, prefixes and key, on the GLNs of hub and retailer, on its rows at the start, and on its items. The other
 /// suppliers, the retailer's key, all other rows and all other inputs may differ.
 pub fn runs_alike()
-    ensures seen { (first second : Rows) (s : SupplierRow) (t u : Tables) (xs ys : Inputs) →
+    ensures seen { (first second : RegisterRows) (s : SupplierRow) (t u : Tables) (xs ys : Inputs) →
         Agree s first second t u xs ys → view s.gln (shared_run first t xs).1 ≡ view s.gln (shared_run second u ys).1 }
-    ensures told { (first second : Rows) (s : SupplierRow) (t u : Tables) (xs ys : Inputs) →
+    ensures told { (first second : RegisterRows) (s : SupplierRow) (t u : Tables) (xs ys : Inputs) →
         Agree s first second t u xs ys →
         replies_to s.gln xs (shared_run first t xs).0 ≡ replies_to s.gln ys (shared_run second u ys).0 }
-    ensures status { (first second : Rows) (s : SupplierRow) (t u : Tables) (xs xs_later ys ys_later : Inputs)
+    ensures status { (first second : RegisterRows) (s : SupplierRow) (t u : Tables) (xs xs_later ys ys_later : Inputs)
         (x y : Input) →
         AgreeBefore s first second t u xs xs_later ys ys_later x y →
         reply_between first t xs x xs_later ≡ reply_between second u ys y ys_later }
@@ -63,9 +63,9 @@ pub fn runs_alike()
 /// its line and its pallet, and each receipt a pallet that was received; each pallet is a supplier's and under one of
 /// its prefixes; mailbox entries are numbered from 1; and every line balances.
 pub fn hub_stays_sound()
-    ensures step { (register : Rows) (t : Tables) (input : Input) (mark : Mark) →
+    ensures step { (register : RegisterRows) (t : Tables) (input : Input) (mark : Mark) →
         SoundHub register.suppliers t → Sound register.suppliers (shared_step register t input mark).1 }
-    ensures run { (register : Rows) (t : Tables) (inputs : Inputs) →
+    ensures run { (register : RegisterRows) (t : Tables) (inputs : Inputs) →
         SoundHub register.suppliers t → Sound register.suppliers (shared_run register t inputs).1 }
     ensures empty { (suppliers : List SupplierRow) → Sound suppliers empty }
 {}

@@ -9,7 +9,7 @@ ghost use Rattle.hub_tables.specs.declared.change.Change.TheVariants.{AddMail};
 ghost use Rattle.hub_tables.specs.declared.rows.MailRow.{MailRow};
 ghost use Rattle.hub_rules.specs.declared.incoming.IncomingMessage.{IncomingMessage};
 ghost use Rattle.hub_rules.specs.MailboxRules.{new_mail};
-ghost use Rattle.hub_law.specs.MailText.{mail_text};
+ghost use Rattle.hub_law.specs.MailText.{entry_text};
 ghost use Rattle.hub_law.specs.Messages.{body_of};
 
 /// The text of the entry that the rules make of a message is the mail text of that message: to the supplier, with the
@@ -18,6 +18,6 @@ pub fn entry_is_its_messages_mail()
     ensures { (hub supplier document : List ℕ) (state : Tables) (message : RawMessage) (incoming : IncomingMessage)
         (kind : MailKind) (entry : MailRow) →
         new_mail supplier state incoming kind document (body_of message) ≡ AddMail entry →
-        mail_text hub entry ≡
+        entry_text hub entry ≡
         messages.mail_text hub supplier incoming.moment incoming.decimal (next_mail state) message }
 {}

@@ -1,7 +1,7 @@
 //! What was accepted and comes again: laws, each the contract of a function without a body.
 ghost use Rattle.std.specs.Prelude.{◌≡◌, ℕ, ◌+◌, List, ◌∷◌, ◌++◌, Some};
 ghost use Rattle.edi_envelope.specs.declared.interchange.RawMessage.{RawMessage};
-ghost use Rattle.hub_parties.specs.Rows.{Parties, Rows};
+ghost use Rattle.hub_parties.specs.Rows.{Parties, RegisterRows};
 ghost use Rattle.hub_parties.specs.declared.row.SupplierRow.{SupplierRow};
 ghost use Rattle.hub_tables.specs.Tables.{Tables, view};
 ghost use Rattle.hub_rules.specs.declared.incoming.IncomingMessage.{IncomingMessage};
@@ -22,7 +22,7 @@ ghost use Rattle.hub_law.specs.Told.{Accepted, Repeated, in_row};
 /// and the same cancellation. The tables that it comes to are any sound ones in which all is still remembered that was
 /// remembered when it had been accepted.
 pub fn accepted_is_repeated()
-    ensures retailers { (register : Rows) (message : RawMessage) (incoming : IncomingMessage) (moment decimal : ℕ)
+    ensures retailers { (register : RegisterRows) (message : RawMessage) (incoming : IncomingMessage) (moment decimal : ℕ)
         (t u : Tables) →
         AcceptedBefore (deliver_named register (message, incoming) t) register.suppliers u →
         deliver_named register (message, record incoming { moment = moment; decimal = decimal }) u ≡ (Repeated, u) }
@@ -31,19 +31,19 @@ pub fn accepted_is_repeated()
         AcceptedBefore (deliver_suppliers (view s.gln) parties s (message, incoming) t) suppliers u →
         deliver_suppliers (view s.gln) parties s (message, record incoming { moment = moment; decimal = decimal }) u ≡
         (Repeated, u) }
-    ensures cancellation { (register : Rows) (c : Cancel) (t u : Tables) →
+    ensures cancellation { (register : RegisterRows) (c : Cancel) (t u : Tables) →
         AcceptedBefore (cancel_named register c t) register.suppliers u → cancel_named register c u ≡ (Repeated, u) }
 {}
 
 /// What is remembered stays remembered, whatever comes: further messages of an upload, of the retailer or of a
 /// supplier, and any inputs of anybody, stopped or not.
 pub fn remembered_stays()
-    ensures retailers { (register : Rows) (sents : List (RawMessage × IncomingMessage)) (t : Tables) →
+    ensures retailers { (register : RegisterRows) (sents : List (RawMessage × IncomingMessage)) (t : Tables) →
         StaysRemembered t (in_row (deliver_named register) sents t).1 }
     ensures suppliers { (parties : Parties) (s : SupplierRow) (sents : List (RawMessage × IncomingMessage))
         (t : Tables) →
         StaysRemembered t (in_row (deliver_suppliers (view s.gln) parties s) sents t).1 }
-    ensures run { (register : Rows) (t : Tables) (inputs : Inputs) →
+    ensures run { (register : RegisterRows) (t : Tables) (inputs : Inputs) →
         StaysRemembered t (shared_run register t inputs).1 }
 {}
 
@@ -51,18 +51,18 @@ pub fn remembered_stays()
 /// of as repeated, and its act leaves the tables as they are; `stops_cut_uploads` says which of what is told is in the
 /// reply. And a cancellation that was accepted and comes again is answered so.
 pub fn repeated_in_runs()
-    ensures message { (register : Rows) (t : Tables) (before between : Inputs) (first second : Input) (mark : Mark)
+    ensures message { (register : RegisterRows) (t : Tables) (before between : Inputs) (first second : Input) (mark : Mark)
         (place later : ℕ) (message : RawMessage) (one : AcceptedAt register t before first mark place message)
         (other : MessageAt register second later message) →
         SameReference first second one.comes.upload other.upload →
         told_at register t (before ++ (first, mark) ∷ between) second other.upload later ≡ Some Repeated }
-    ensures stays { (register : Rows) (t : Tables) (before between : Inputs) (first second : Input) (mark : Mark)
+    ensures stays { (register : RegisterRows) (t : Tables) (before between : Inputs) (first second : Input) (mark : Mark)
         (place later : ℕ) (message : RawMessage) (one : AcceptedAt register t before first mark place message)
         (other : MessageAt register second later message) →
         SameReference first second one.comes.upload other.upload →
         tables_before register t (before ++ (first, mark) ∷ between) second other.upload (later + 1) ≡
         tables_before register t (before ++ (first, mark) ∷ between) second other.upload later }
-    ensures cancellation { (register : Rows) (t : Tables) (before between : Inputs) (first second : Input)
+    ensures cancellation { (register : RegisterRows) (t : Tables) (before between : Inputs) (first second : Input)
         (c : Cancel) →
         SoundHub register.suppliers t → AsksCancel register c first → AsksCancel register c second →
         (cancel_named register c (shared_run register t before).1).0 ≡ Accepted →

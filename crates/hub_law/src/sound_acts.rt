@@ -1,7 +1,7 @@
 //! Acts one by one: laws, each the contract of a function without a body.
 ghost use Rattle.std.specs.Prelude.{◌≡◌, ℕ, Some};
 ghost use Rattle.edi_envelope.specs.declared.interchange.RawMessage.{RawMessage};
-ghost use Rattle.hub_parties.specs.Rows.{Rows, parties_of};
+ghost use Rattle.hub_parties.specs.Rows.{RegisterRows, parties_of};
 ghost use Rattle.hub_parties.specs.declared.row.SupplierRow.{SupplierRow};
 ghost use Rattle.hub_tables.specs.Change.{apply_all};
 ghost use Rattle.hub_tables.specs.State.{entry_at};
@@ -17,15 +17,15 @@ ghost use Rattle.hub_law.specs.Requests.{deliver_named, cancel_named, taking};
 /// A message of a supplier, a message of the retailer, a cancellation, and a taken mark each leave sound tables sound,
 /// and so rising by their keys.
 pub fn acts_stay_sound()
-    ensures suppliers { (register : Rows) (s : SupplierRow) (message : RawMessage) (incoming : IncomingMessage)
+    ensures suppliers { (register : RegisterRows) (s : SupplierRow) (message : RawMessage) (incoming : IncomingMessage)
         (t : Tables) →
         Registered register.suppliers s t →
         StaySound register.suppliers (deliver_suppliers (view s.gln) (parties_of register) s (message, incoming) t).1 }
-    ensures retailers { (register : Rows) (message : RawMessage) (incoming : IncomingMessage) (t : Tables) →
+    ensures retailers { (register : RegisterRows) (message : RawMessage) (incoming : IncomingMessage) (t : Tables) →
         SoundHub register.suppliers t → StaySound register.suppliers (deliver_named register (message, incoming) t).1 }
-    ensures cancellation { (register : Rows) (c : Cancel) (t : Tables) →
+    ensures cancellation { (register : RegisterRows) (c : Cancel) (t : Tables) →
         SoundHub register.suppliers t → StaySound register.suppliers (cancel_named register c t).1 }
-    ensures taken { (register : Rows) (s : SupplierRow) (number : ℕ) (entry : MailRow) (t : Tables) →
+    ensures taken { (register : RegisterRows) (s : SupplierRow) (number : ℕ) (entry : MailRow) (t : Tables) →
         Registered register.suppliers s t → entry_at (view s.gln t) number ≡ Some entry →
         StaySound register.suppliers (apply_all (taking entry) t) }
 {}

@@ -1,7 +1,7 @@
 //! What is stopped: laws, each the contract of a function without a body.
 ghost use Rattle.std.specs.Prelude.{◌≡◌, ◌≢◌, ◌↔◌, ◌<◌, ◌≤◌, ℕ, [], length, Some, None};
 ghost use Rattle.edi_envelope.specs.declared.interchange.Interchange.{Interchange};
-ghost use Rattle.hub_parties.specs.Rows.{Rows};
+ghost use Rattle.hub_parties.specs.Rows.{RegisterRows};
 ghost use Rattle.hub_tables.specs.Tables.{Tables};
 ghost use Rattle.hub_law.specs.Machine.{shared_step};
 ghost use Rattle.hub_law.specs.Mark.{Mark, Whole, StoppedEmpty, StoppedBare, StoppedAfter};
@@ -14,29 +14,29 @@ ghost use Rattle.hub_law.specs.declared.request.Input.{Input};
 /// A reply says that its input was stopped exactly where it was. What was stopped before anything was done leaves the
 /// tables as they were, and its reply is empty or the one word.
 pub fn stops_are_told()
-    ensures outcome { (register : Rows) (t : Tables) (input : Input) (mark : Mark) →
+    ensures outcome { (register : RegisterRows) (t : Tables) (input : Input) (mark : Mark) →
         ((shared_step register t input mark).0.outcome ≡ Stopped) ↔ (mark ≢ Whole) }
-    ensures empty { (register : Rows) (t : Tables) (input : Input) →
+    ensures empty { (register : RegisterRows) (t : Tables) (input : Input) →
         shared_step register t input StoppedEmpty ≡ (reply Stopped [], t) }
-    ensures bare { (register : Rows) (t : Tables) (input : Input) →
+    ensures bare { (register : RegisterRows) (t : Tables) (input : Input) →
         shared_step register t input StoppedBare ≡ (stopped, t) }
 {}
 
 /// An upload whose messages are looked at is replied to by the line of its interchange and a line for each message, and
-/// each is one act, in their order. Stopped behind k of more messages, its reply is the first k of these lines and the
-/// word, and the tables are those after the first k acts. A stop behind k messages of anything else, or of no more than
+/// each is one act, in their order. Stopped after k of more messages, its reply is the first k of these lines and the
+/// word, and the tables are those after the first k acts. A stop after k messages of anything else, or of no more than
 /// k, is one before anything was done.
 pub fn stops_cut_uploads()
-    ensures whole { (register : Rows) (t : Tables) (input : Input) (i : Interchange) →
+    ensures whole { (register : RegisterRows) (t : Tables) (input : Input) (i : Interchange) →
         upload_of register input ≡ Some i →
         shared_step register t input Whole ≡ replied_by (whole_reply i) (all_acts register input i t) }
-    ensures behind { (register : Rows) (t : Tables) (input : Input) (k : ℕ) (i : Interchange) →
+    ensures behind { (register : RegisterRows) (t : Tables) (input : Input) (k : ℕ) (i : Interchange) →
         upload_of register input ≡ Some i → k < length i.messages →
         shared_step register t input (StoppedAfter k) ≡
         (reply_behind k i (all_acts register input i t).0, (first_acts k register input i t).1) }
-    ensures too_far { (register : Rows) (t : Tables) (input : Input) (k : ℕ) (i : Interchange) →
+    ensures too_far { (register : RegisterRows) (t : Tables) (input : Input) (k : ℕ) (i : Interchange) →
         upload_of register input ≡ Some i → length i.messages ≤ k →
         shared_step register t input (StoppedAfter k) ≡ (stopped, t) }
-    ensures no_upload { (register : Rows) (t : Tables) (input : Input) (k : ℕ) →
+    ensures no_upload { (register : RegisterRows) (t : Tables) (input : Input) (k : ℕ) →
         upload_of register input ≡ None → shared_step register t input (StoppedAfter k) ≡ (stopped, t) }
 {}

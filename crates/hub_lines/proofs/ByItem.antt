@@ -6,9 +6,10 @@ use Rattle.std.proofs.lemmas.List.Folds.{list_any_at}
 use Rattle.std.proofs.lemmas.List.Elements.{recursion_from_All, filter_passes}
 use Rattle.std.proofs.lemmas.Option.{same_Some, slice_get-get_or, slice_get_within}
 use Rattle.hub_tables.specs.Rows.{same}
+use Rattle.hub_tables.specs.Sets.{Rises}
 use Rattle.hub_tables.specs.State.{the_only}
 use Rattle.hub_tables.proofs.Lists.{decide, same_if, filter_alike, all_filter}
-use Rattle.hub_lines.specs.Book.{Rise, facts_of}
+use Rattle.hub_lines.specs.Book.{facts_cmp, facts_of}
 use Rattle.hub_lines.specs.ItemIndex.{OrderItem, item_cmp, has_item, lines_with, IsItemIndex}
 use Rattle.hub_lines.specs.Key.{LineKey, key_of, keys_of, place_from}
 use Rattle.hub_lines.specs.declared.by_item.ItemLines.{ItemLines}
@@ -29,7 +30,7 @@ none_kept p [] h = refl
 none_kept p (x ∷ xs) h = elim (p x) as (λ v. (v || list_any p xs) ≡ false → cond v (x ∷ filter p xs) (filter p xs) ≡ []) [ true ↦ λ e. absurd (cc) | false ↦ λ e. none_kept p xs e ] h
 
 -- The lines of an order with an item, and what an index knows of them.
-module _ (lines : List LineFacts) (order gtin : List ℕ) (rise : Rise lines) where
+module _ (lines : List LineFacts) (order gtin : List ℕ) (rise : Rises facts_cmp lines) where
   abbrev pub facts : List LineFacts
   facts = filter (λ (line : LineFacts). same line.row.gtin gtin) (facts_of lines order)
 

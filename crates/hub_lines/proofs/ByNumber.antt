@@ -10,8 +10,9 @@ use Rattle.std.proofs.lemmas.Map.Entries.{option_filter}
 use Rattle.std.proofs.lemmas.Map.Text.{is_eq-slice_cmp}
 use Rattle.hub_tables.specs.Keys.{bytes_cmp, InOrder}
 use Rattle.hub_tables.specs.Rows.{same}
+use Rattle.hub_tables.specs.Sets.{Rises}
 use Rattle.hub_tables.proofs.Lists.{all_weaker}
-use Rattle.hub_lines.specs.Book.{Rise, facts_cmp, facts_of}
+use Rattle.hub_lines.specs.Book.{facts_cmp, facts_of}
 use Rattle.hub_lines.specs.Key.{LineKey, key_of, keys_of, is_below, place_from}
 use Rattle.hub_lines.specs.declared.facts.LineFacts.{LineFacts}
 use Rattle.hub_lines.proofs.InOrder.{first_at}
@@ -26,7 +27,7 @@ key_total = then_total (on_total (λ k. k.number) nat_list_cmp_total) (on_total 
 abbrev pub number_key : List ℕ → ℕ → LineKey
 number_key number line = record { number = number; line = line; gtin = [] }
 
-pub rise_in_order : (lines : List LineFacts) → Rise lines → InOrder (λ a b. key_cmp (key_of a) (key_of b)) lines
+pub rise_in_order : (lines : List LineFacts) → Rises facts_cmp lines → InOrder (λ a b. key_cmp (key_of a) (key_of b)) lines
 rise_in_order [] rise = tt
 rise_in_order (line ∷ lines) rise = (all_weaker (λ later. facts_cmp line later ≡ Less) (λ later. is_gt (facts_cmp line later) ≡ false) (λ later less. ap is_gt less) lines rise.0, rise_in_order lines rise.1)
 
@@ -41,7 +42,7 @@ find-filter p q (x ∷ xs) = elim (q x) as (λ v. find p (cond v (x ∷ filter q
 ]
 
 -- the line that a search finds by order number and line number
-pub by_number : (lines : List LineFacts) (order : List ℕ) (number : ℕ) → Rise lines →
+pub by_number : (lines : List LineFacts) (order : List ℕ) (number : ℕ) → Rises facts_cmp lines →
     find (λ (line : LineFacts). line.row.line == number) (facts_of lines order) ≡ option_filter (λ line. same line.row.number order && (line.row.line == number)) (slice_get lines (place_from order number (keys_of lines)))
 by_number lines order number rise =
     find-filter (λ line. line.row.line == number) (λ line. same line.row.number order) lines
@@ -53,7 +54,7 @@ by_number lines order number rise =
     alike line = sym (both_tied (same line.row.number order) (line.row.line == number) (bytes_cmp line.row.number order) (nat_cmp line.row.line number) (sym (is_eq-slice_cmp line.row.number order)) (sym (is_eq-nat_cmp line.row.line number)))
 
 -- the same, at the place that a search gives
-pub by_number_at : (lines : List LineFacts) (order : List ℕ) (number place : ℕ) → Rise lines → place ≡ place_from order number (keys_of lines) → (found : Option LineFacts) → slice_get lines place ≡ found →
+pub by_number_at : (lines : List LineFacts) (order : List ℕ) (number place : ℕ) → Rises facts_cmp lines → place ≡ place_from order number (keys_of lines) → (found : Option LineFacts) → slice_get lines place ≡ found →
     find (λ (line : LineFacts). line.row.line == number) (facts_of lines order) ≡ option_filter (λ line. same line.row.number order && (line.row.line == number)) found
 by_number_at lines order number place rise is found at =
     by_number lines order number rise ∙ ap (λ n. option_filter (λ (line : LineFacts). same line.row.number order && (line.row.line == number)) (slice_get lines n)) (sym is)

@@ -12,8 +12,9 @@ use Rattle.std.proofs.lemmas.Map.Text.{is_eq-slice_cmp}
 use Rattle.std.proofs.lemmas.Option.{cond_some, same_Some}
 use Rattle.hub_tables.specs.Keys.{bytes_cmp, InOrder}
 use Rattle.hub_tables.specs.Rows.{same}
+use Rattle.hub_tables.specs.Sets.{Rises}
 use Rattle.hub_tables.proofs.Lists.{same_is, same_if, all_weaker}
-use Rattle.hub_lines.specs.Book.{Rise, facts_cmp}
+use Rattle.hub_lines.specs.Book.{facts_cmp}
 use Rattle.hub_lines.specs.Key.{LineKey, key_of, keys_of, is_below, place_from}
 use Rattle.hub_lines.specs.declared.facts.LineFacts.{LineFacts}
 use Rattle.hub_lines.proofs.InOrder.{first_at}
@@ -24,7 +25,7 @@ then_less Less p h = refl
 then_less Equal p h = refl
 then_less Greater p h = cc
 
-order_in_order : (lines : List LineFacts) → Rise lines → InOrder (λ a b. bytes_cmp (key_of a).number (key_of b).number) lines
+order_in_order : (lines : List LineFacts) → Rises facts_cmp lines → InOrder (λ a b. bytes_cmp (key_of a).number (key_of b).number) lines
 order_in_order [] rise = tt
 order_in_order (line ∷ lines) rise =
     (all_weaker (λ later. facts_cmp line later ≡ Less) (λ later. is_gt (bytes_cmp line.row.number later.row.number) ≡ false) (λ later less. then_less (bytes_cmp line.row.number later.row.number) (nat_cmp line.row.line later.row.line) less) lines rise.0, order_in_order lines rise.1)
@@ -35,7 +36,7 @@ below_first Less number = refl
 below_first Equal number = grind (arith, nat_tests)
 below_first Greater number = refl
 
-by_order : (lines : List LineFacts) (order : List ℕ) → Rise lines →
+by_order : (lines : List LineFacts) (order : List ℕ) → Rises facts_cmp lines →
     find (λ line. same line.row.number order) lines ≡ option_filter (λ line. same line.row.number order) (slice_get lines (place_from order 0 (keys_of lines)))
 by_order lines order rise =
     sym (λ i. find (λ (line : LineFacts). is_eq-slice_cmp line.row.number order i) lines)
@@ -51,7 +52,7 @@ filtered_some p None x h = absurd (cc)
 filtered_some p (Some y) x h = let e = cond_some (p y) y x h in (ap Some e.1, sym (ap p e.1) ∙ e.0)
 
 -- the first line of an order, where there is one
-first_line : (lines : List LineFacts) (order : List ℕ) → Rise lines → list_any (λ line. same line.row.number order) lines ≡ true →
+first_line : (lines : List LineFacts) (order : List ℕ) → Rises facts_cmp lines → list_any (λ line. same line.row.number order) lines ≡ true →
     (first : LineFacts) × (slice_get lines (place_from order 0 (keys_of lines)) ≡ Some first) × (first.row.number ≡ order)
 first_line lines order rise some =
     let found = some_found (λ (line : LineFacts). same line.row.number order) lines some in
@@ -59,7 +60,7 @@ first_line lines order rise some =
     (found.0, at.0, same_is found.0.row.number order at.1)
 
 -- the orders of two lines are one where their first lines are
-pub same_order : (lines : List LineFacts) (a b : List ℕ) → Rise lines → list_any (λ line. same line.row.number a) lines ≡ true → list_any (λ line. same line.row.number b) lines ≡ true → (place_from a 0 (keys_of lines) == place_from b 0 (keys_of lines)) ≡ same a b
+pub same_order : (lines : List LineFacts) (a b : List ℕ) → Rises facts_cmp lines → list_any (λ line. same line.row.number a) lines ≡ true → list_any (λ line. same line.row.number b) lines ≡ true → (place_from a 0 (keys_of lines) == place_from b 0 (keys_of lines)) ≡ same a b
 same_order lines a b rise some_a some_b =
     let keys = keys_of lines in
     let first_a = first_line lines a rise some_a in

@@ -57,7 +57,7 @@ module _ {X K : Type 0} {cmp : K → K → Ordering} (total : IsTotalOrder cmp) 
   parted (x ∷ xs) o (suc i) zero d le lt h = absurd (omega arith)
   parted (x ∷ xs) o (suc i) (suc j) d le lt h = parted xs o.1 i j d (omega arith) (omega arith) h
 
-  -- the first of the key stands behind all that are below it, or there is none
+  -- the first of the key stands after all that are below it, or there is none
   pub first_at : (below : K → Bool) → ((k : K) → below k ≡ is_lt (cmp k t)) → (xs : List X) → InOrder (λ a b. cmp (key a) (key b)) xs →
       find (λ x. is_eq (cmp (key x) t)) xs ≡ option_filter (λ x. is_eq (cmp (key x) t)) (slice_get xs (prefix_len below (map key xs)))
   first_at below is [] o = refl

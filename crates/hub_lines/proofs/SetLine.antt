@@ -14,8 +14,9 @@ use Rattle.std.proofs.lemmas.Option.{same_Some, slice_get_within, get_or_from_sl
 use Rattle.hub_tables.specs.Keys.{bytes_cmp}
 use Rattle.hub_tables.specs.Rows.{same, same_line}
 use Rattle.hub_tables.specs.declared.rows.LineRow.{LineRow}
+use Rattle.hub_tables.specs.Sets.{Rises}
 use Rattle.hub_tables.proofs.Lists.{decide, same_is, same_if, all_weaker}
-use Rattle.hub_lines.specs.Book.{Rise, facts_cmp, set_row, with_row, answered_row}
+use Rattle.hub_lines.specs.Book.{facts_cmp, set_row, with_row, answered_row}
 use Rattle.hub_lines.specs.ItemIndex.{OrderItem, Indexed, IsItemIndex}
 use Rattle.hub_lines.specs.Key.{key_of, keys_of}
 use Rattle.hub_lines.specs.declared.by_item.ItemLines.{ItemLines}
@@ -52,7 +53,7 @@ at_place P lines place line all at =
     subst P (get_or_from_slice_get lines place line line at) (All-get_or P lines place line (slice_get_within lines place line at) (All-from_recursion P lines all))
 
 -- the line at a place with another row of its key is the row in the place of the one that has its key
-pub set_is : (lines : List LineFacts) (place : ℕ) (line : LineFacts) (row : LineRow) → Rise lines → slice_get lines place ≡ Some line → same_line row line.row ≡ true → slice_set lines place (record line { row = row }) ≡ with_row row lines
+pub set_is : (lines : List LineFacts) (place : ℕ) (line : LineFacts) (row : LineRow) → Rises facts_cmp lines → slice_get lines place ≡ Some line → same_line row line.row ≡ true → slice_set lines place (record line { row = row }) ≡ with_row row lines
 set_is [] place line row rise at alike = absurd (cc)
 set_is (x ∷ xs) zero line row rise at alike =
     let here : x ≡ line = same_Some x line at in
@@ -72,7 +73,7 @@ later_kept x y (a ∷ xs) (b ∷ ys) e es all =
     let first : key_of a ≡ key_of b = cc in
     (sym (ap₂ key_cmp e first) ∙ all.0, later_kept x y xs ys e (cc) all.1)
 
-rise_kept : (xs ys : List LineFacts) → keys_of xs ≡ keys_of ys → Rise xs → Rise ys
+rise_kept : (xs ys : List LineFacts) → keys_of xs ≡ keys_of ys → Rises facts_cmp xs → Rises facts_cmp ys
 rise_kept [] [] es rise = tt
 rise_kept [] (y ∷ ys) es rise = absurd (cc)
 rise_kept (x ∷ xs) [] es rise = absurd (cc)
@@ -97,7 +98,7 @@ answered_kept lines items place line open_qty refused cancelled answer old withi
     let new = record line { row = answered_row line.row open_qty refused cancelled answer } in
     indexed_kept lines (slice_set lines place new) items (keys_kept lines place line new within at refl) old
 
-pub answered_is : (lines : List LineFacts) (place : ℕ) (line : LineFacts) (open_qty refused cancelled answer : ℕ) → Rise lines → slice_get lines place ≡ Some line →
+pub answered_is : (lines : List LineFacts) (place : ℕ) (line : LineFacts) (open_qty refused cancelled answer : ℕ) → Rises facts_cmp lines → slice_get lines place ≡ Some line →
     slice_set lines place (record line { row = answered_row line.row open_qty refused cancelled answer }) ≡ with_row (answered_row line.row open_qty refused cancelled answer) lines
 answered_is lines place line open_qty refused cancelled answer rise at =
     let row = line.row in

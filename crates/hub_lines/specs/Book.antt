@@ -1,8 +1,6 @@
 -- The lines of the orders that a message names, while it is judged.
-use Rattle.std.specs.Prelude.{◌≡◌, ℕ, ◌+◌, ◌≤◌, ◌==◌, List, [], ◌∷◌, map, filter, find, if◌then◌else◌, Option, Some, None, ⊤}
-use Rattle.std.specs.List.{AllByRecursion}
+use Rattle.std.specs.Prelude.{ℕ, ◌+◌, ◌≤◌, ◌==◌, List, map, filter, find, if◌then◌else◌, Option, Some, None}
 use Rattle.std.specs.declared.cmp.Ordering.{Ordering}
-use Rattle.std.specs.declared.cmp.Ordering.TheVariants.{Less}
 use Rattle.std.specs.Ordering.{nat_cmp, ordering_then}
 use Rattle.hub_tables.specs.Keys.{bytes_cmp}
 use Rattle.hub_tables.specs.Rows.{same, same_line}
@@ -13,11 +11,6 @@ use Rattle.hub_lines.specs.declared.facts.LineFacts.{LineFacts}
 -- lines by order number and line number
 abbrev pub facts_cmp : LineFacts → LineFacts → Ordering
 facts_cmp a b = ordering_then (bytes_cmp a.row.number b.row.number) (nat_cmp a.row.line b.row.line)
-
--- each is below those after it, so no line stands twice
-abbrev pub Rise : List LineFacts → Type 0
-Rise [] = ⊤
-Rise (line ∷ lines) = AllByRecursion (λ later. facts_cmp line later ≡ Less) lines × Rise lines
 
 -- the lines of an order
 abbrev pub facts_of : List LineFacts → List ℕ → List LineFacts

@@ -5,7 +5,8 @@ use Rattle.std.specs.declared.cmp.Ordering.{Ordering}
 use Rattle.std.specs.Ordering.{nat_cmp, ordering_then}
 use Rattle.hub_tables.specs.Keys.{bytes_cmp}
 use Rattle.hub_tables.specs.Rows.{same}
-use Rattle.hub_lines.specs.Book.{Rise}
+use Rattle.hub_tables.specs.Sets.{Rises}
+use Rattle.hub_lines.specs.Book.{facts_cmp}
 use Rattle.hub_lines.specs.Key.{LineKey, keys_of, place_from}
 use Rattle.hub_lines.specs.declared.by_item.ItemLines.{ItemLines}
 use Rattle.hub_lines.specs.declared.by_item.ItemLines.TheVariants.{One, Several}
@@ -44,5 +45,5 @@ IsItemIndex keys items = (item : OrderItem) → get item_cmp items item ≡ line
 
 -- lines that rise, with their index
 pub record Indexed (lines : List LineFacts) (items : BTreeMap OrderItem ItemLines) : Type 0 where
-  pub rise : Rise lines
+  pub rise : Rises facts_cmp lines
   pub index : IsItemIndex (keys_of lines) items

@@ -2,7 +2,8 @@
 ghost use Rattle.std.specs.Prelude.{◌≡◌, ◌<◌, length, slice_get, IfOk, Some, None};
 ghost use Rattle.std.specs.Option.{IfSome, IfNone};
 ghost use Rattle.hub_tables.specs.Cases.{answer_letter};
-ghost use Rattle.hub_lines.specs.Book.{Rise, facts_of, facts_among, with_row, answered_row};
+ghost use Rattle.hub_tables.specs.Sets.{Rises};
+ghost use Rattle.hub_lines.specs.Book.{facts_cmp, facts_of, facts_among, with_row, answered_row};
 ghost use Rattle.hub_lines.specs.declared.facts.LineFacts.{LineFacts};
 
 use crate::by_item::{ItemIndex, index_items, place_by_item};
@@ -36,7 +37,7 @@ impl Model for Book {
 impl Book {
     /// The book of lines.
     pub fn new(alloc: Global, lines: Items<LineFacts>) -> Result<Book, MemoryFault>
-        requires { Rise lines }
+        requires { Rises facts_cmp lines }
         ensures { IfOk result (λ book. book ≡ lines) }
     {
         let lines = lines.into_vec();

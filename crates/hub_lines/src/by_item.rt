@@ -3,8 +3,9 @@ ghost use Rattle.std.specs.Prelude.{◌≡◌, ◌<◌, Some, None, filter, leng
 ghost use Rattle.std.specs.BTreeMap.{get};
 ghost use Rattle.std.specs.Option.{IfSome, IfNone};
 ghost use Rattle.hub_tables.specs.Rows.{same};
+ghost use Rattle.hub_tables.specs.Sets.{Rises};
 ghost use Rattle.hub_tables.specs.State.{the_only};
-ghost use Rattle.hub_lines.specs.Book.{Rise, facts_of};
+ghost use Rattle.hub_lines.specs.Book.{facts_cmp, facts_of};
 ghost use Rattle.hub_lines.specs.ItemIndex.{IsItemIndex, item_cmp, one_more};
 ghost use Rattle.hub_lines.specs.Key.{keys_of};
 ghost use Rattle.hub_lines.specs.declared.facts.LineFacts.{LineFacts};
@@ -47,7 +48,7 @@ fn one_more(known: Option<ItemLines>, place: usize) -> ItemLines
 
 /// The index of lines. The time grows as n log n with n lines.
 pub(crate) fn index_items(alloc: Global, lines: &[LineFacts]) -> Result<ItemIndex, MemoryFault>
-    requires { Rise lines.now }
+    requires { Rises facts_cmp lines.now }
     ensures { IfOk result (λ items. IsItemIndex (keys_of lines.now) items) }
 {
     let mut items: ItemIndex = BTreeMap::new(alloc);
@@ -73,7 +74,7 @@ pub(crate) fn place_by_item(
     order: &[u8],
     gtin: &Gtin,
 ) -> Option<usize>
-    requires rise { Rise lines.now }
+    requires rise { Rises facts_cmp lines.now }
     requires index { IsItemIndex (keys_of lines.now) items.now }
     ensures some { IfSome result (λ place. (place < length lines.now) × (the_only (filter (λ (line : LineFacts). same line.row.gtin gtin.now) (facts_of lines.now order.now)) ≡ slice_get lines.now place)) }
     ensures none { IfNone result (the_only (filter (λ (line : LineFacts). same line.row.gtin gtin.now) (facts_of lines.now order.now)) ≡ None) }

@@ -2,7 +2,8 @@
 ghost use Rattle.std.specs.Prelude.{◌≡◌, ◌<◌, ◌==◌, ◌&&◌, Some, None, length, slice_get, find};
 ghost use Rattle.std.specs.Option.{IfSome, IfNone};
 ghost use Rattle.hub_tables.specs.Rows.{same};
-ghost use Rattle.hub_lines.specs.Book.{Rise, facts_of};
+ghost use Rattle.hub_tables.specs.Sets.{Rises};
+ghost use Rattle.hub_lines.specs.Book.{facts_cmp, facts_of};
 ghost use Rattle.hub_lines.specs.Key.{key_of, keys_of, is_below, place_from};
 ghost use Rattle.hub_lines.specs.declared.facts.LineFacts.{LineFacts};
 
@@ -22,7 +23,7 @@ fn is_below(line: &LineFacts, order: &[u8], line_number: u32) -> bool
 
 /// How many lines are below a line number of an order: the place of the line itself, where it is one of the lines.
 pub(crate) fn place_from(lines: &[LineFacts], order: &[u8], line_number: u32) -> usize
-    requires { Rise lines.now }
+    requires { Rises facts_cmp lines.now }
     ensures { result ≡ place_from order.now line_number (keys_of lines.now) }
 {
     lines.partition_point(|line| is_below(line, order, line_number))
@@ -37,7 +38,7 @@ fn is_numbered(line: &LineFacts, order: &[u8], line_number: u32) -> bool
 
 /// The place of the line of an order with a number.
 pub(crate) fn place_by_number(lines: &[LineFacts], order: &[u8], line_number: u32) -> Option<usize>
-    requires { Rise lines.now }
+    requires { Rises facts_cmp lines.now }
     ensures some { IfSome result (λ place. (place < length lines.now) × (find (λ (line : LineFacts). line.row.line == line_number) (facts_of lines.now order.now) ≡ slice_get lines.now place)) }
     ensures none { IfNone result (find (λ (line : LineFacts). line.row.line == line_number) (facts_of lines.now order.now) ≡ None) }
 {

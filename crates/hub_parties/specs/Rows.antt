@@ -11,13 +11,13 @@ use Rattle.hub_parties.specs.declared.role.Role.{Role}
 use Rattle.hub_parties.specs.declared.role.Role.TheVariants.{Retailer, Supplier}
 use Rattle.hub_parties.specs.declared.row.SupplierRow.{SupplierRow}
 
-pub record Rows : Type 0 where
+pub record RegisterRows : Type 0 where
   pub hub : List ℕ
   pub retailer : List ℕ
   pub retailer_key : List ℕ
   pub suppliers : List SupplierRow
 
-abbrev pub rows_by : List ℕ → List ℕ → List ℕ → List SupplierRow → Rows
+abbrev pub rows_by : List ℕ → List ℕ → List ℕ → List SupplierRow → RegisterRows
 rows_by hub retailer retailer_key suppliers = record { hub = hub; retailer = retailer; retailer_key = retailer_key; suppliers = suppliers }
 
 -- the GLNs of the hub and of the retailer
@@ -25,7 +25,7 @@ pub record Parties : Type 0 where
   pub hub : List ℕ
   pub retailer : List ℕ
 
-abbrev pub parties_of : Rows → Parties
+abbrev pub parties_of : RegisterRows → Parties
 parties_of rows = record { hub = rows.hub; retailer = rows.retailer }
 
 -- the company prefixes of each supplier
@@ -33,35 +33,35 @@ abbrev pub company_prefixes : List SupplierRow → List (List (List ℕ))
 company_prefixes suppliers = map (λ supplier. supplier.prefixes) suppliers
 
 -- every GLN, the hub's and the retailer's first
-abbrev pub glns : Rows → List (List ℕ)
+abbrev pub glns : RegisterRows → List (List ℕ)
 glns rows = rows.hub ∷ rows.retailer ∷ map (λ row. row.gln) rows.suppliers
 
 -- every prefix, in the order of the suppliers
-abbrev pub prefixes : Rows → List (List ℕ)
+abbrev pub prefixes : RegisterRows → List (List ℕ)
 prefixes rows = flat_map (λ row. row.prefixes) rows.suppliers
 
 -- every key, the retailer's first
-abbrev pub keys : Rows → List (List ℕ)
+abbrev pub keys : RegisterRows → List (List ℕ)
 keys rows = rows.retailer_key ∷ map (λ row. row.key) rows.suppliers
 
 -- the row of a supplier, by its GLN
 abbrev pub supplier_row : List SupplierRow → List ℕ → Option SupplierRow
 supplier_row suppliers gln = find (λ supplier. bytes_eq supplier.gln gln) suppliers
 
-abbrev pub row_of : Rows → List ℕ → Option SupplierRow
+abbrev pub row_of : RegisterRows → List ℕ → Option SupplierRow
 row_of rows gln = supplier_row rows.suppliers gln
 
 -- who asks with a GLN and a key, where that is the row of a supplier with the GLN
-abbrev pub role_by : Rows → Option SupplierRow → List ℕ → List ℕ → Option Role
+abbrev pub role_by : RegisterRows → Option SupplierRow → List ℕ → List ℕ → Option Role
 role_by rows (Some row) gln key = if bytes_eq row.key key then Some Supplier else None
 role_by rows None gln key = if bytes_eq rows.retailer gln && bytes_eq rows.retailer_key key then Some Retailer else None
 
 -- who asks: a supplier or the retailer, known by its own GLN and its own key together
-abbrev pub role_of : Rows → List ℕ → List ℕ → Option Role
+abbrev pub role_of : RegisterRows → List ℕ → List ℕ → Option Role
 role_of rows gln key = role_by rows (row_of rows gln) gln key
 
 -- what every register keeps
-pub record IsRegister (rows : Rows) : Type 0 where
+pub record IsRegister (rows : RegisterRows) : Type 0 where
   pub few : length rows.suppliers ≤ 1000
   pub glns_right : IsTrue (list_all is_gln (glns rows))
   pub glns_apart : has_twice (glns rows) ≡ false

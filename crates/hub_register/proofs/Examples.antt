@@ -1,7 +1,7 @@
 -- The definitions at small registers.
 use Rattle.std.proofs.Common.{◌≡◌, ℕ, List, [], ◌∷◌, Some, None, Ok, Err, codes, refl}
 use Rattle.toml.proofs.OnLiterals.{toml_on_literals}
-use Rattle.hub_parties.specs.Rows.{Rows, role_of}
+use Rattle.hub_parties.specs.Rows.{RegisterRows, role_of}
 use Rattle.hub_parties.specs.declared.role.Role.TheVariants.{Retailer, Supplier}
 use Rattle.hub_parties.specs.declared.row.SupplierRow.{SupplierRow}
 use Rattle.hub_register.specs.Document.{rows_of_text, row_with}
@@ -24,7 +24,7 @@ beta = codes "8712345000004"
 abbrev supplier : List ℕ → List ℕ → SupplierRow
 supplier gln prefix = row_with gln prefix (codes "alpha-key-1")
 
-abbrev of : List SupplierRow → Rows
+abbrev of : List SupplierRow → RegisterRows
 of suppliers = record { hub = hub; retailer = retailer; retailer_key = codes "retail-key"; suppliers = suppliers }
 
 overlap_of_neighbours : fault_of (of (supplier alpha (codes "4012345") ∷ supplier beta (codes "40123455") ∷ [])) ≡ Some (Overlap 1 2)

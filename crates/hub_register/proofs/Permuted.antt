@@ -13,7 +13,7 @@ use Rattle.gs1_ids.specs.Gln.{is_gln}
 use Rattle.gs1_ids.specs.Overlap.{first_overlap_of}
 use Rattle.gs1_ids.specs.Prefix.{is_prefix}
 use Rattle.hub_parties.specs.Key.{is_party_key}
-use Rattle.hub_parties.specs.Rows.{Rows, glns, prefixes, keys}
+use Rattle.hub_parties.specs.Rows.{RegisterRows, glns, prefixes, keys}
 use Rattle.hub_parties.specs.declared.row.SupplierRow.{SupplierRow}
 use Rattle.hub_register.specs.Document.{rows_of_text}
 use Rattle.hub_register.specs.Fault.{fault_of}
@@ -65,13 +65,13 @@ third false true c f g h rest e = cc
 third false false true f g h rest e = cc
 third false false false f g h rest e = refl
 
-ordered : (rows : Rows) → has_twice (glns rows) ≡ false → IsPermutation rows.suppliers (put_all rows.suppliers [])
+ordered : (rows : RegisterRows) → has_twice (glns rows) ≡ false → IsPermutation rows.suppliers (put_all rows.suppliers [])
 ordered rows once =
     let first = or_parts (is_among rows.hub (rows.retailer ∷ map (λ r. r.gln) rows.suppliers)) _ once in
     let second = or_parts (is_among rows.retailer (map (λ r. r.gln) rows.suppliers)) _ first.1 in
     rw (with_nothing rows.suppliers) at (put_all-permutes rows.suppliers [] (differ rows.suppliers second.1) (none rows.suppliers))
 
-by_fault : (rows register : Rows) (fault : Option RegisterFault) → fault_of rows ≡ fault → judged rows fault ≡ Ok register → HasRows rows register
+by_fault : (rows register : RegisterRows) (fault : Option RegisterFault) → fault_of rows ≡ fault → judged rows fault ≡ Ok register → HasRows rows register
 by_fault rows register None right e =
     let same : in_gln_order rows ≡ register = cc in
     let once : has_twice (glns rows) ≡ false =
@@ -80,14 +80,14 @@ by_fault rows register None right e =
     right in
     record {
       right = right;
-      hub = sym (ap (λ (r : Rows). r.hub) same);
-      retailer = sym (ap (λ (r : Rows). r.retailer) same);
-      retailer_key = sym (ap (λ (r : Rows). r.retailer_key) same);
+      hub = sym (ap (λ (r : RegisterRows). r.hub) same);
+      retailer = sym (ap (λ (r : RegisterRows). r.retailer) same);
+      retailer_key = sym (ap (λ (r : RegisterRows). r.retailer_key) same);
       suppliers = rw (← same) (ordered rows once);
     }
 by_fault rows register (Some fault) right e = cc
 
-by_rows : (text : List ℕ) (register : Rows) (read : Option Rows) → rows_of_text text ≡ read → register_of_rows read ≡ Ok register → (rows : Rows) × (rows_of_text text ≡ Some rows) × HasRows rows register
+by_rows : (text : List ℕ) (register : RegisterRows) (read : Option RegisterRows) → rows_of_text text ≡ read → register_of_rows read ≡ Ok register → (rows : RegisterRows) × (rows_of_text text ≡ Some rows) × HasRows rows register
 by_rows text register None is e = cc
 by_rows text register (Some rows) is e = (rows, is, by_fault rows register (fault_of rows) refl e)
 

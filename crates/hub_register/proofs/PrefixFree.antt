@@ -9,7 +9,7 @@ use Rattle.gs1_ids.specs.Overlap.{OverlapAt, PrefixFree, overlap_from, first_ove
 use Rattle.gs1_ids.specs.Prefix.{overlap, is_prefix}
 use Rattle.gs1_ids.proofs.Overlaps.{none_behind, free_if_none}
 use Rattle.hub_parties.specs.Key.{is_party_key}
-use Rattle.hub_parties.specs.Rows.{Rows, company_prefixes, prefixes, glns, keys}
+use Rattle.hub_parties.specs.Rows.{RegisterRows, company_prefixes, prefixes, glns, keys}
 use Rattle.hub_parties.specs.declared.row.SupplierRow.{SupplierRow}
 use Rattle.hub_register.specs.Document.{rows_of_text, rows_in, row_with, supplier_in, suppliers_in, tables_in, suppliers_at, string_at, table_at}
 use Rattle.hub_register.specs.Fault.{fault_of}
@@ -54,7 +54,7 @@ suppliers_have_one (item value values) rows h =
     let rest = was_mapped (suppliers_in values) (λ rows. first.0 ∷ rows) rows first.2 in
     subst HaveOne rest.2 (have_one table.0 first.0 rest.0 table.2 (suppliers_have_one values rest.0 rest.1))
 
-text_has_one : (text : List ℕ) (rows : Rows) → rows_of_text text ≡ Some rows → HaveOne rows.suppliers
+text_has_one : (text : List ℕ) (rows : RegisterRows) → rows_of_text text ≡ Some rows → HaveOne rows.suppliers
 text_has_one text rows h =
     let document = was_bound (parse_document text) rows_in rows h in
     let hub = was_bound (string_at (codes "hub") document.0) _ rows document.2 in
@@ -63,7 +63,7 @@ text_has_one text rows h =
     let key = was_bound (string_at (codes "key") retailer.0) _ rows gln.2 in
     let suppliers = was_mapped (suppliers_at (codes "supplier") document.0) _ rows key.2 in
     let values = was_bound (tables_in (get_member (codes "supplier") document.0)) suppliers_in suppliers.0 suppliers.1 in
-    subst (λ (r : Rows). HaveOne r.suppliers) suppliers.2 (suppliers_have_one values.0 suppliers.0 values.2)
+    subst (λ (r : RegisterRows). HaveOne r.suppliers) suppliers.2 (suppliers_have_one values.0 suppliers.0 values.2)
 
 -- Where no first overlap is found there is none.
 both_none : (a : Option ℕ) (b : Option (ℕ × ℕ)) → overlap_from a b ≡ None → (a ≡ None) × (b ≡ None)
@@ -86,20 +86,20 @@ last false false false true e f g h k l rest n = cc
 last false false false false true f g h k l rest n = cc
 last false false false false false f g h k l rest n = n
 
-none_overlaps : (rows : Rows) → fault_of rows ≡ None → first_overlap_of (prefixes rows) ≡ None
+none_overlaps : (rows : RegisterRows) → fault_of rows ≡ None → first_overlap_of (prefixes rows) ≡ None
 none_overlaps rows right =
     was_unmapped (first_overlap_of (prefixes rows)) (λ places. Overlap (places.0 + 1) (places.1 + 1))
     (last (nat_lt 1000 (length rows.suppliers)) (not (list_all is_gln (glns rows))) (has_twice (glns rows)) (not (list_all is_prefix (prefixes rows))) (not (list_all is_party_key (keys rows))) Many Gln Twice Prefix Key _ right)
 
-text_is_free : (text : List ℕ) (rows : Rows) → rows_of_text text ≡ Some rows → fault_of rows ≡ None → PrefixFree (company_prefixes (put_all rows.suppliers []))
+text_is_free : (text : List ℕ) (rows : RegisterRows) → rows_of_text text ≡ Some rows → fault_of rows ≡ None → PrefixFree (company_prefixes (put_all rows.suppliers []))
 text_is_free text rows said right =
     free_in_order rows.suppliers (subst PrefixFree (text_has_one text rows said) (free_if_none (prefixes rows) (no_overlap (prefixes rows) (none_overlaps rows right))))
 
-by_fault : (text : List ℕ) (rows register : Rows) (fault : Option RegisterFault) → rows_of_text text ≡ Some rows → fault_of rows ≡ fault → judged rows fault ≡ Ok register → PrefixFree (company_prefixes register.suppliers)
-by_fault text rows register None said right h = let same : in_gln_order rows ≡ register = cc in subst (λ (r : Rows). PrefixFree (company_prefixes r.suppliers)) same (text_is_free text rows said right)
+by_fault : (text : List ℕ) (rows register : RegisterRows) (fault : Option RegisterFault) → rows_of_text text ≡ Some rows → fault_of rows ≡ fault → judged rows fault ≡ Ok register → PrefixFree (company_prefixes register.suppliers)
+by_fault text rows register None said right h = let same : in_gln_order rows ≡ register = cc in subst (λ (r : RegisterRows). PrefixFree (company_prefixes r.suppliers)) same (text_is_free text rows said right)
 by_fault text rows register (Some fault) said right h = cc
 
-by_rows : (text : List ℕ) (register : Rows) (read : Option Rows) → rows_of_text text ≡ read → register_of_rows read ≡ Ok register → PrefixFree (company_prefixes register.suppliers)
+by_rows : (text : List ℕ) (register : RegisterRows) (read : Option RegisterRows) → rows_of_text text ≡ read → register_of_rows read ≡ Ok register → PrefixFree (company_prefixes register.suppliers)
 by_rows text register None said h = cc
 by_rows text register (Some rows) said h = by_fault text rows register (fault_of rows) said refl h
 

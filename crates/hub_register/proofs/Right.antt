@@ -12,7 +12,7 @@ use Rattle.gs1_ids.specs.Overlap.{AreApart, PrefixFree}
 use Rattle.gs1_ids.specs.Prefix.{begins, is_prefix}
 use Rattle.gs1_ids.specs.Gln.{is_gln}
 use Rattle.hub_parties.specs.Key.{is_party_key}
-use Rattle.hub_parties.specs.Rows.{Rows, IsRegister, company_prefixes, prefixes, glns, keys}
+use Rattle.hub_parties.specs.Rows.{RegisterRows, IsRegister, company_prefixes, prefixes, glns, keys}
 use Rattle.hub_parties.specs.declared.row.SupplierRow.{SupplierRow}
 use Rattle.hub_register.specs.InOrder.{put_all, in_gln_order}
 use Rattle.hub_register.proofs.Ordered.{length-put_all, all-put_all, every-put_all, Apart, apart_in_order}
@@ -85,7 +85,7 @@ all_flat : (p : List ℕ → Bool) (rows : List SupplierRow) → list_all p (fla
 all_flat p [] = refl
 all_flat p (r ∷ rows) = all_joined p r.prefixes (flat_map (λ r. r.prefixes) rows) ∙ ap (λ rest. list_all p r.prefixes && rest) (all_flat p rows)
 
-pub register_right : (rows : Rows) → length rows.suppliers ≤ 1000 → list_all is_gln (glns rows) ≡ true → has_twice (glns rows) ≡ false → list_all is_prefix (prefixes rows) ≡ true → list_all is_party_key (keys rows) ≡ true
+pub register_right : (rows : RegisterRows) → length rows.suppliers ≤ 1000 → list_all is_gln (glns rows) ≡ true → has_twice (glns rows) ≡ false → list_all is_prefix (prefixes rows) ≡ true → list_all is_party_key (keys rows) ≡ true
     → PrefixFree (company_prefixes rows.suppliers) → IsRegister (in_gln_order rows)
 register_right rows few right apart prefix key none =
     let hub = and_parts (is_gln rows.hub) _ right in
@@ -100,6 +100,6 @@ register_right rows few right apart prefix key none =
       prefixes_free = free_in_order rows.suppliers none;
     }
 
-pub same_rows : (hub retailer key : List ℕ) (suppliers : List SupplierRow) (rows : Rows) → hub ≡ rows.hub → retailer ≡ rows.retailer → key ≡ rows.retailer_key → suppliers ≡ put_all rows.suppliers []
+pub same_rows : (hub retailer key : List ℕ) (suppliers : List SupplierRow) (rows : RegisterRows) → hub ≡ rows.hub → retailer ≡ rows.retailer → key ≡ rows.retailer_key → suppliers ≡ put_all rows.suppliers []
     → in_gln_order rows ≡ record { hub = hub; retailer = retailer; retailer_key = key; suppliers = suppliers }
 same_rows hub retailer key suppliers rows a b c d = rw (a, b, c, d)

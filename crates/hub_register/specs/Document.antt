@@ -3,7 +3,7 @@
 use Rattle.toml.specs.Data.{Data, Items, no_items, item, Members, get_member, as_str, as_array, as_table}
 use Rattle.toml.specs.Parse.{parse_document}
 use Rattle.std.specs.Prelude.{ℕ, codes, List, [], ◌∷◌, Option, Some, None, option_map, option_and_then}
-use Rattle.hub_parties.specs.Rows.{Rows}
+use Rattle.hub_parties.specs.Rows.{RegisterRows}
 use Rattle.hub_parties.specs.declared.row.SupplierRow.{SupplierRow}
 
 infixl 10 ◌>>=◌
@@ -44,7 +44,7 @@ abbrev pub suppliers_at : List ℕ → Members → Option (List SupplierRow)
 suppliers_at name table = tables_in (get_member name table) >>= suppliers_in
 
 -- the rows that a document says
-abbrev pub rows_in : Members → Option Rows
+abbrev pub rows_in : Members → Option RegisterRows
 rows_in document =
     string_at (codes "hub") document >>= (λ hub.
     table_at (codes "retailer") document >>= (λ retailer.
@@ -54,5 +54,5 @@ rows_in document =
     (suppliers_at (codes "supplier") document)))))
 
 -- the rows that a text says
-abbrev pub rows_of_text : List ℕ → Option Rows
+abbrev pub rows_of_text : List ℕ → Option RegisterRows
 rows_of_text text = parse_document text >>= rows_in

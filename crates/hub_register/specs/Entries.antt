@@ -1,6 +1,6 @@
 -- The rows that the borrowed strings of a document are.
 use Rattle.std.specs.Prelude.{map}
-use Rattle.hub_parties.specs.Rows.{Rows}
+use Rattle.hub_parties.specs.Rows.{RegisterRows}
 use Rattle.hub_parties.specs.declared.row.SupplierRow.{SupplierRow}
 use Rattle.hub_register.specs.Document.{row_with}
 use Rattle.hub_register.specs.declared.document.Document.{Document}
@@ -9,7 +9,7 @@ use Rattle.hub_register.specs.declared.document.Entry.{Entry}
 abbrev pub row_in : Entry → SupplierRow
 row_in entry = row_with entry.gln.now entry.prefix.now entry.key.now
 
-abbrev pub rows_from : Document → Rows
+abbrev pub rows_from : Document → RegisterRows
 rows_from document = record {
   hub = document.hub.now;
   retailer = document.retailer.now;

@@ -2,7 +2,7 @@
 use Rattle.std.specs.Prelude.{List, [], ◌∷◌}
 use Rattle.std.specs.Ordering.{nat_cmp, match_ordering}
 use Rattle.std.specs.Cmp.Lexicographic.{slice_cmp}
-use Rattle.hub_parties.specs.Rows.{Rows}
+use Rattle.hub_parties.specs.Rows.{RegisterRows}
 use Rattle.hub_parties.specs.declared.row.SupplierRow.{SupplierRow}
 
 -- a row more, at its place in the order of the GLNs. No row has its GLN yet, so that the case of equal ones never comes.
@@ -16,5 +16,5 @@ put_all [] done = done
 put_all (row ∷ rows) done = put_all rows (put row done)
 
 -- the rows with the suppliers in the order of their GLNs
-abbrev pub in_gln_order : Rows → Rows
+abbrev pub in_gln_order : RegisterRows → RegisterRows
 in_gln_order rows = record rows { suppliers = put_all rows.suppliers [] }

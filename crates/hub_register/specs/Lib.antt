@@ -2,6 +2,6 @@ pub mod Document
 pub mod Entries
 pub mod Fault
 pub mod InOrder
-pub mod Kept
+pub mod Held
 pub mod Register
 pub mod Text

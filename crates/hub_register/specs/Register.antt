@@ -1,7 +1,7 @@
 -- The register that a text writes, or the fault of the text.
 use Rattle.std.specs.Prelude.{◌≡◌, ℕ, List, IsPermutation, Option, Some, None, Result, Ok, Err}
 use Rattle.gs1_ids.specs.Overlap.{PrefixFree}
-use Rattle.hub_parties.specs.Rows.{Rows, company_prefixes}
+use Rattle.hub_parties.specs.Rows.{RegisterRows, company_prefixes}
 use Rattle.hub_register.specs.Document.{rows_of_text}
 use Rattle.hub_register.specs.Fault.{fault_of}
 use Rattle.hub_register.specs.InOrder.{in_gln_order}
@@ -9,20 +9,20 @@ use Rattle.hub_register.specs.declared.fault.RegisterFault.{RegisterFault}
 use Rattle.hub_register.specs.declared.fault.RegisterFault.TheVariants.{Text}
 
 -- the register of rows, its suppliers in the order of their GLNs, or their fault
-abbrev pub judged : Rows → Option RegisterFault → Result Rows RegisterFault
+abbrev pub judged : RegisterRows → Option RegisterFault → Result RegisterRows RegisterFault
 judged rows None = Ok (in_gln_order rows)
 judged rows (Some fault) = Err fault
 
-abbrev pub register_of_rows : Option Rows → Result Rows RegisterFault
+abbrev pub register_of_rows : Option RegisterRows → Result RegisterRows RegisterFault
 register_of_rows None = Err Text
 register_of_rows (Some rows) = judged rows (fault_of rows)
 
 -- the register that a text writes, or the fault of the text
-abbrev pub register_of : List ℕ → Result Rows RegisterFault
+abbrev pub register_of : List ℕ → Result RegisterRows RegisterFault
 register_of text = register_of_rows (rows_of_text text)
 
 -- a register has the rows of its text, each once, and nothing stands against them
-pub record HasRows (rows register : Rows) : Type 0 where
+pub record HasRows (rows register : RegisterRows) : Type 0 where
   pub right : fault_of rows ≡ None
   pub hub : register.hub ≡ rows.hub
   pub retailer : register.retailer ≡ rows.retailer
@@ -30,8 +30,8 @@ pub record HasRows (rows register : Rows) : Type 0 where
   pub suppliers : IsPermutation rows.suppliers register.suppliers
 
 abbrev pub RegisterHasItsRows : Type 0
-RegisterHasItsRows = (text : List ℕ) (register : Rows) → register_of text ≡ Ok register → (rows : Rows) × (rows_of_text text ≡ Some rows) × HasRows rows register
+RegisterHasItsRows = (text : List ℕ) (register : RegisterRows) → register_of text ≡ Ok register → (rows : RegisterRows) × (rows_of_text text ≡ Some rows) × HasRows rows register
 
 -- in the register of a text no prefix of one supplier begins a prefix of another
 abbrev pub RegisterIsPrefixFree : Type 0
-RegisterIsPrefixFree = (text : List ℕ) (register : Rows) → register_of text ≡ Ok register → PrefixFree (company_prefixes register.suppliers)
+RegisterIsPrefixFree = (text : List ℕ) (register : RegisterRows) → register_of text ≡ Ok register → PrefixFree (company_prefixes register.suppliers)

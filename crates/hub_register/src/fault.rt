@@ -9,7 +9,7 @@ pub enum RegisterFault {
     Text,
     /// More than 1,000 suppliers.
     Many,
-    /// A GLN is not right.
+    /// A GLN is not valid.
     Gln,
     /// Two GLNs are equal.
     Twice,

@@ -26,15 +26,15 @@ pub struct Register {
 }
 
 impl Model for Register {
-    ghost use Rattle.hub_parties.specs.Rows.{Rows};
+    ghost use Rattle.hub_parties.specs.Rows.{RegisterRows};
 
-    ghost Value = { Rows };
+    ghost Value = { RegisterRows };
 
-    ghost use Rattle.hub_register.specs.Kept.{rows_of, IsKept};
+    ghost use Rattle.hub_register.specs.Held.{rows_of, IsHeld};
 
     ghost view = { rows_of };
 
-    ghost invariant = { IsKept };
+    ghost invariant = { IsHeld };
 }
 
 /// How many suppliers there may be.

@@ -20,7 +20,7 @@ use Rattle.hub_tables.specs.declared.rows.RememberedRow.{RememberedRow}
 use Rattle.hub_tables.specs.declared.rows.MailRow.{MailRow}
 use Rattle.hub_tables.proofs.KeyOrder.{all_put, any_more}
 use Rattle.hub_tables.proofs.Lists.{decide, same_is, same_if, all_replace, all_replaced, all_weaker}
-use Rattle.hub_rules.specs.Sound.{Balanced, Single, same_order, same_place, same_advice, same_sscc, same_gtin, same_reference, knows_line, was_received, Kept, same_spot}
+use Rattle.hub_rules.specs.Sound.{Balanced, Single, same_order, same_line_number, same_advice, same_sscc, same_gtin, same_reference, knows_line, was_received, Kept, same_place}
 use Rattle.hub_rules.proofs.KeptLists.{any_replaced, single_replace, numbered_put, contents_put, sent_more, sent_same, receipts_put, is_received, received_more, single_put}
 
 -- a line set in place of another has its number and its place
@@ -47,10 +47,10 @@ module _ (state : Tables) (kept : Kept state) where
     balanced = kept.balanced;
   }
 
-  pub kept_line : (r : LineRow) → knows_order state r.number ≡ true → Balanced state r → list_any (λ l. same_place l r) state.lines ≡ false → Kept (apply (AddLine r) state)
+  pub kept_line : (r : LineRow) → knows_order state r.number ≡ true → Balanced state r → list_any (λ l. same_line_number l r) state.lines ≡ false → Kept (apply (AddLine r) state)
   kept_line r known balance fresh = record {
     orders = kept.orders;
-    lines = single_put line_cmp same_place (λ x y. ap₂ (λ v w. v && w) (bytes_eq-sym x.number y.number) (nat_eq-sym x.line y.line)) state.lines r kept.lines fresh;
+    lines = single_put line_cmp same_line_number (λ x y. ap₂ (λ v w. v && w) (bytes_eq-sym x.number y.number) (nat_eq-sym x.line y.line)) state.lines r kept.lines fresh;
     advices = kept.advices;
     pallets = kept.pallets;
     contents = kept.contents;
@@ -66,9 +66,9 @@ module _ (state : Tables) (kept : Kept state) where
   lines_known : (r : LineRow) (number : List ℕ) (n : ℕ) → knows_line (apply (SetLine r) state) number n ≡ knows_line state number n
   lines_known r number n = any_replaced (λ l. same l.number number && (l.line == n)) (same_line r) r state.lines (λ y e. let key = line_key r y e in ap₂ (λ m k. same m number && (k == n)) key.0 key.1)
 
-  lines_single : (r : LineRow) → Single same_place (apply (SetLine r) state).lines
+  lines_single : (r : LineRow) → Single same_line_number (apply (SetLine r) state).lines
   lines_single r =
-      single_replace same_place (same_line r) r state.lines
+      single_replace same_line_number (same_line r) r state.lines
       (λ y z e. let key = line_key r y e in ap₂ (λ n k. same n z.number && (k == z.line)) (sym key.0) (sym key.1))
       (λ y z e. let key = line_key r y e in ap₂ (λ n k. same z.number n && (z.line == k)) key.0 key.1) kept.lines
 
@@ -92,7 +92,7 @@ module _ (state : Tables) (kept : Kept state) where
   pub kept_despatched : (s : List ℕ) (r : LineRow) (c : ContentRow) → InOrder content_cmp state.contents → AllByRecursion (λ l. l.supplier ≡ s) state.lines → r.supplier ≡ s → knows_order state r.number ≡ true →
       c.number ≡ r.number → c.line ≡ r.line → knows_line state r.number r.line ≡ true →
       r.ordered ≡ r.open_qty + r.refused + r.cancelled + (despatched state r + c.quantity) →
-      list_any (λ d. same_spot d c) (filter (λ d. same d.sscc c.sscc) state.contents) ≡ false →
+      list_any (λ d. same_place d c) (filter (λ d. same d.sscc c.sscc) state.contents) ≡ false →
       Kept (apply (AddContent c) (apply (SetLine r) state))
   kept_despatched s r c ordered own whose known number line there balance fresh = record {
     orders = kept.orders;

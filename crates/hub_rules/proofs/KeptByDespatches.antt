@@ -26,7 +26,7 @@ use Rattle.hub_tables.proofs.Lists.{same_is, same_if, all_weaker, all_itself}
 use Rattle.hub_rules.specs.Laws.{KeptOwn}
 use Rattle.hub_rules.specs.DespatchRules.{placed, judge_despatched, judge_unit, judge_new_despatch}
 use Rattle.hub_rules.specs.Judging.{in_order}
-use Rattle.hub_rules.specs.Sound.{knows_line, same_place}
+use Rattle.hub_rules.specs.Sound.{knows_line, same_line_number}
 use Rattle.hub_rules.specs.Rules.{judge_despatch}
 use Rattle.hub_rules.specs.declared.code.Code.TheVariants as codes
 use Rattle.hub_rules.specs.declared.incoming.IncomingMessage.{IncomingMessage}
@@ -56,7 +56,7 @@ module _ (s : SupplierRow) where
       let c = not_refused (nat_lt found.0.open_qty said.quantity) codes.MoreThanOpen _ changes b.1 in
       let good = filled.good in
       let fine = line_found (GoodLine s state) state said.order said.order_line said.gtin found.0 (good_lines s state good) found.1 in
-      let known = line_found (λ line. knows_line state line.number line.line ≡ true) state said.order said.order_line said.gtin found.0 (all_itself (λ line other. same_place other line) (λ line. let e = same_if line.number line.number refl in grind (arith, nat_tests, e)) state.lines) found.1 in
+      let known = line_found (λ line. knows_line state line.number line.line ≡ true) state said.order said.order_line said.gtin found.0 (all_itself (λ line other. same_line_number other line) (λ line. let e = same_if line.number line.number refl in grind (arith, nat_tests, e)) state.lines) found.1 in
       let line : LineRow = record found.0 { open_qty = found.0.open_qty - said.quantity } in
       let content : ContentRow = record { sscc = sscc; place = n + 1; number = found.0.number; line = found.0.line; quantity = said.quantity } in
       let fresh = none_at sscc n state.contents content refl filled.below in

@@ -1,5 +1,5 @@
 -- What orders leave of a supplier's rows.
-use Rattle.std.proofs.Common.{◌≡◌, ℕ, nat_lt, nat_eq, true, false, ◌&&◌, ◌||◌, ◌==◌, inl, inr, List, [], ◌∷◌, map, filter, Some, sum_by, refl, sym, ◌∙◌, ap, arith}
+use Rattle.std.proofs.Common.{◌≡◌, ℕ, nat_eq, true, false, ◌&&◌, ◌||◌, ◌==◌, inl, inr, List, [], ◌∷◌, map, filter, Some, sum_by, refl, sym, ◌∙◌, ap, arith, length}
 use Rattle.std.specs.List.{AllByRecursion, list_any}
 use Rattle.std.proofs.lemmas.Bool.{and_parts, and_left, and_right, or_parts, or_cases, or_from, or_right}
 use Rattle.edi_base.specs.Seen.{has_number_twice}
@@ -9,7 +9,7 @@ use Rattle.hub_parties.specs.declared.row.SupplierRow.{SupplierRow}
 use Rattle.hub_tables.specs.Cases.{answer_letter}
 use Rattle.hub_tables.specs.Change.{apply}
 use Rattle.hub_tables.specs.Rows.{same, order_cmp, line_cmp}
-use Rattle.hub_tables.specs.State.{knows_order, names, despatched, next_mail}
+use Rattle.hub_tables.specs.State.{knows_order, names, despatched}
 use Rattle.hub_tables.specs.Tables.{Tables}
 use Rattle.hub_tables.specs.declared.cases.Answered.TheVariants.{Waiting}
 use Rattle.hub_tables.specs.declared.cases.MailKind.TheVariants as kinds
@@ -22,7 +22,7 @@ use Rattle.hub_tables.proofs.KeyOrder.{any_put}
 use Rattle.hub_tables.proofs.Lists.{decide, same_is, same_if, differ, all_weaker, all_always, filter_none}
 use Rattle.hub_rules.specs.Laws.{KeptOwn}
 use Rattle.hub_rules.specs.Sound.{knows_line, Kept}
-use Rattle.hub_rules.specs.MailboxRules.{mail_limit, new_mail}
+use Rattle.hub_rules.specs.MailboxRules.{is_full, new_mail}
 use Rattle.hub_rules.specs.OrderRules.{new_line, judge_new_order}
 use Rattle.hub_rules.specs.Rules.{judge_order}
 use Rattle.hub_rules.specs.declared.code.Code.TheVariants as codes
@@ -94,7 +94,7 @@ module _ (s : SupplierRow) where
   leads_new_order : (incoming : IncomingMessage) (body : List ℕ) (order : Order) → has_number_twice (map (λ line. line.line) order.lines) ≡ false → Leads s (KeptOwn s) (KeptOwn s) (judge_new_order s.gln incoming body order)
   leads_new_order incoming body order single state changes good h =
       let a = not_refused (knows_order state order.number) codes.OrderKnown _ changes h in
-      let b = not_refused (nat_lt mail_limit (next_mail state)) codes.MailboxFull _ changes a.1 in
+      let b = not_refused (is_full (length state.mail)) codes.MailboxFull _ changes a.1 in
       let row : OrderRow = record { supplier = s.gln; number = order.number } in
       let mail : Change = new_mail s.gln state incoming kinds.Orders order.number body in
       let mailed : KeptOwn s (apply mail state) = good_after s state mail refl good.own (kept_mail state good.kept s.gln _ good.own.mail refl refl) in

@@ -1,5 +1,5 @@
 -- What receipts leave of a supplier's rows.
-use Rattle.std.proofs.Common.{◌≡◌, ℕ, nat_lt, Bool, true, false, cond, not, ◌||◌, inl, inr, List, [], ◌∷◌, map, filter, Some, refl, sym, ◌∙◌, ap, ap₂, arith}
+use Rattle.std.proofs.Common.{◌≡◌, ℕ, Bool, true, false, cond, not, ◌||◌, inl, inr, List, [], ◌∷◌, map, filter, Some, refl, sym, ◌∙◌, ap, ap₂, arith, length}
 use Rattle.std.specs.List.{AllByRecursion, list_any}
 use Rattle.std.proofs.lemmas.Bool.{or_parts, or_from}
 use Rattle.edi_base.proofs.Twice.{bytes_eq-sym}
@@ -10,7 +10,7 @@ use Rattle.hub_parties.specs.declared.row.SupplierRow.{SupplierRow}
 use Rattle.hub_tables.specs.Cases.{arrival_number}
 use Rattle.hub_tables.specs.Change.{apply}
 use Rattle.hub_tables.specs.Rows.{same, receipt_cmp}
-use Rattle.hub_tables.specs.State.{pallet_of, next_mail}
+use Rattle.hub_tables.specs.State.{pallet_of}
 use Rattle.hub_tables.specs.Tables.{Tables, has_pallet}
 use Rattle.hub_tables.specs.declared.cases.Arrival.TheVariants.{Received}
 use Rattle.hub_tables.specs.declared.cases.MailKind.TheVariants as kinds
@@ -25,7 +25,7 @@ use Rattle.hub_tables.proofs.Lists.{decide, same_is, same_if, differ, all_weaker
 use Rattle.hub_rules.specs.Laws.{KeptOwn}
 use Rattle.hub_rules.specs.Judging.{in_order}
 use Rattle.hub_rules.specs.Sound.{Single, was_received}
-use Rattle.hub_rules.specs.MailboxRules.{mail_limit, new_mail}
+use Rattle.hub_rules.specs.MailboxRules.{is_full, new_mail}
 use Rattle.hub_rules.specs.ReceiptRules.{gtins, total, new_receipt, judge_received, judge_new_receipt}
 use Rattle.hub_rules.specs.Rules.{judge_receipt}
 use Rattle.hub_rules.specs.declared.code.Code.TheVariants as codes
@@ -118,7 +118,7 @@ module _ (s : SupplierRow) where
 
   leads_new_receipt : (incoming : IncomingMessage) (body : List ℕ) (receipt : Receipt) → Leads s (KeptOwn s) (KeptOwn s) (judge_new_receipt s.gln incoming body receipt)
   leads_new_receipt incoming body receipt state changes good h =
-      let a = not_refused (nat_lt mail_limit (next_mail state)) codes.MailboxFull _ changes h in
+      let a = not_refused (is_full (length state.mail)) codes.MailboxFull _ changes h in
       let mail : Change = new_mail s.gln state incoming kinds.Receipt receipt.number body in
       leaves_in_turn s (KeptOwn s) (KeptOwn s) (mail ∷ []) (in_order judge_received receipt.units) state changes
       (leaves_good s state mail refl good.own (kept_mail state good.kept s.gln _ good.own.mail refl refl))

@@ -8,18 +8,17 @@ use Rattle.std.proofs.lemmas.Bool.{and_parts, or_parts, or_cases, or_left, or_ri
 use Rattle.std.proofs.lemmas.Bool.Decides.{nat_tests}
 use Rattle.std.proofs.lemmas.Cmp.{tied_itself, nat_list_cmp_total}
 use Rattle.edi_base.proofs.Twice.{bytes_eq-sym}
-use Rattle.hub_tables.specs.Cases.{arrival_number}
 use Rattle.hub_tables.specs.Keys.{InOrder, put, replace, bytes_cmp}
 use Rattle.hub_tables.specs.Rows.{same, content_cmp, receipt_cmp, mail_cmp, same_pallet}
-use Rattle.hub_tables.specs.declared.cases.Arrival.TheVariants.{Announced}
 use Rattle.hub_tables.specs.declared.rows.ContentRow.{ContentRow}
 use Rattle.hub_tables.specs.declared.rows.MailRow.{MailRow}
 use Rattle.hub_tables.specs.declared.rows.PalletRow.{PalletRow}
 use Rattle.hub_tables.specs.declared.rows.ReceiptRow.{ReceiptRow}
+use Rattle.hub_tables.specs.State.{is_announced}
 use Rattle.hub_tables.proofs.KeyOrder.{any_put, filter_put_in, filter_put_out, sum_put, put_last}
 use Rattle.hub_tables.proofs.KindOrders.{content_total, receipt_total}
 use Rattle.hub_tables.proofs.Lists.{decide, same_is, same_if}
-use Rattle.hub_rules.specs.Sound.{Numbered, Single, same_spot, same_gtin, same_sscc}
+use Rattle.hub_rules.specs.Sound.{Numbered, Single, same_place, same_gtin, same_sscc}
 
 -- A list with one more.
 module _ {X : Type 0} (cmp : X → X → Ordering) where
@@ -91,23 +90,23 @@ pub sent_same : (p : ContentRow → Bool) (cs : List ContentRow) (c : ContentRow
 sent_same p cs c h = ap (sum_by (λ c. c.quantity)) (filter_put_out content_cmp p cs c h)
 
 -- a content at a place that none on its pallet has
-pub contents_put : (sscc : List ℕ) (cs : List ContentRow) (c : ContentRow) → InOrder content_cmp cs → Single same_spot (filter (λ y. same y.sscc sscc) cs) → list_any (λ y. same_spot y c) (filter (λ y. same y.sscc c.sscc) cs) ≡ false → Single same_spot (filter (λ y. same y.sscc sscc) (put content_cmp c cs))
+pub contents_put : (sscc : List ℕ) (cs : List ContentRow) (c : ContentRow) → InOrder content_cmp cs → Single same_place (filter (λ y. same y.sscc sscc) cs) → list_any (λ y. same_place y c) (filter (λ y. same y.sscc c.sscc) cs) ≡ false → Single same_place (filter (λ y. same y.sscc sscc) (put content_cmp c cs))
 contents_put sscc cs c ordered single fresh =
     elim (decide (same c.sscc sscc)) [
       | inl e ↦
-          let here : list_any (λ y. same_spot y c) (filter (λ y. same y.sscc sscc) cs) ≡ false = subst (λ x. list_any (λ y. same_spot y c) (filter (λ y. same y.sscc x) cs) ≡ false) (same_is c.sscc sscc e) fresh in
-          subst (Single same_spot) (sym (filter_put_in content_total (λ y. same y.sscc sscc) cs c ordered e)) (single_put content_cmp same_spot (λ x y. nat_eq-turned x.place y.place) (filter (λ y. same y.sscc sscc) cs) c single here)
-      | inr e ↦ subst (Single same_spot) (sym (filter_put_out content_cmp (λ y. same y.sscc sscc) cs c e)) single
+          let here : list_any (λ y. same_place y c) (filter (λ y. same y.sscc sscc) cs) ≡ false = subst (λ x. list_any (λ y. same_place y c) (filter (λ y. same y.sscc x) cs) ≡ false) (same_is c.sscc sscc e) fresh in
+          subst (Single same_place) (sym (filter_put_in content_total (λ y. same y.sscc sscc) cs c ordered e)) (single_put content_cmp same_place (λ x y. nat_eq-turned x.place y.place) (filter (λ y. same y.sscc sscc) cs) c single here)
+      | inr e ↦ subst (Single same_place) (sym (filter_put_out content_cmp (λ y. same y.sscc sscc) cs c e)) single
     ]
   where
     nat_eq-turned : (a b : ℕ) → (a == b) ≡ (b == a)
     nat_eq-turned a b = grind (arith, nat_tests)
 
 -- where the places on a pallet are below one, none is at it
-pub none_at : (sscc : List ℕ) (n : ℕ) (cs : List ContentRow) (c : ContentRow) → c.place ≡ n + 1 → AllByRecursion (λ y. same y.sscc sscc ≡ true → y.place ≤ n) cs → list_any (λ y. same_spot y c) (filter (λ y. same y.sscc sscc) cs) ≡ false
+pub none_at : (sscc : List ℕ) (n : ℕ) (cs : List ContentRow) (c : ContentRow) → c.place ≡ n + 1 → AllByRecursion (λ y. same y.sscc sscc ≡ true → y.place ≤ n) cs → list_any (λ y. same_place y c) (filter (λ y. same y.sscc sscc) cs) ≡ false
 none_at sscc n [] c next below = refl
 none_at sscc n (y ∷ cs) c next below =
-    elim (same y.sscc sscc) as (λ v. (v ≡ true → y.place ≤ n) → list_any (λ y. same_spot y c) (cond v (y ∷ filter (λ y. same y.sscc sscc) cs) (filter (λ y. same y.sscc sscc) cs)) ≡ false) [
+    elim (same y.sscc sscc) as (λ v. (v ≡ true → y.place ≤ n) → list_any (λ y. same_place y c) (cond v (y ∷ filter (λ y. same y.sscc sscc) cs) (filter (λ y. same y.sscc sscc) cs)) ≡ false) [
       | true ↦ λ lower. let least = lower refl in ap₂ (λ v w. v || w) (differs y.place c.place (omega (arith, least, next))) (none_at sscc n cs c next below.1)
       | false ↦ λ lower. none_at sscc n cs c next below.1
     ] below.0
@@ -126,7 +125,7 @@ receipts_put sscc rs r ordered single fresh =
 
 -- the pallet was received
 abbrev pub is_received : PalletRow → Bool
-is_received pallet = not (pallet.received == arrival_number Announced)
+is_received pallet = not (is_announced pallet)
 
 pub received_more : (r : PalletRow) (ps : List PalletRow) (x : List ℕ) → is_received r ≡ true → list_any (λ p. same p.sscc x && is_received p) ps ≡ true → list_any (λ p. same p.sscc x && is_received p) (replace (same_pallet r) r ps) ≡ true
 received_more r [] x now h = h

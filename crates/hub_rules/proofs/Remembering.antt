@@ -12,7 +12,7 @@ use Rattle.hub_tables.specs.declared.rows.RememberedRow.{RememberedRow}
 use Rattle.hub_tables.proofs.Lists.{same_is, same_if}
 use Rattle.hub_rules.specs.Judging.{Judge, refuse_if, joined}
 use Rattle.hub_rules.specs.Laws.{Remembers}
-use Rattle.hub_rules.specs.PartyRules.{is_other_buyer, registered}
+use Rattle.hub_rules.specs.PartyRules.{is_other_buyer, if_registered}
 use Rattle.hub_rules.specs.RepeatRules.{Reference, remembered, once, judge_once}
 use Rattle.hub_rules.specs.Rules.{referred_by, judge_message}
 use Rattle.hub_rules.specs.declared.code.Code.{Code}
@@ -48,7 +48,7 @@ module _ (r : Reference) (content : List ℕ) (state : Tables) where
   judged_remembers : (fresh : Judge) → Remembers r content ⊤ state (judge_once r content fresh state)
   judged_remembers fresh = once_remembers fresh (remembered_of state r.side r.control r.message) refl
 
-  -- behind a check
+  -- after a check
   checked_remembers : (A : Type 0) (b : Bool) (code : Code) (rest : Verdict) → Remembers r content A state rest → Remembers r content ((b ≡ false) × A) state (refuse_if b code rest)
   checked_remembers A true code rest there = record { first = λ change changes h. cc; again = (λ h. cc, λ both. let no = (both.0).0 in absurd (cc)) }
   checked_remembers A false code rest there = record { first = there.first; again = (λ h. let found = (there.again).0 h in ((refl, found.0), found.1), λ both. (there.again).1 ((both.0).1, both.1)) }
@@ -58,7 +58,7 @@ module _ (r : Reference) (content : List ℕ) (state : Tables) where
   admitted_by A B verdict f g there = record { first = there.first; again = (λ h. let found = (there.again).0 h in (f found.0, found.1), λ both. (there.again).1 (g both.0, both.1)) }
 
   -- of the supplier itself
-  pub registered_remembers : (s : SupplierRow) (named : List ℕ) (fresh : Judge) → Remembers r content (named ≡ s.gln) state (registered (Some s) named (λ s. judge_once r content fresh state))
+  pub registered_remembers : (s : SupplierRow) (named : List ℕ) (fresh : Judge) → Remembers r content (named ≡ s.gln) state (if_registered (Some s) named (λ s. judge_once r content fresh state))
   registered_remembers s named fresh =
       admitted_by ((not (same named s.gln) ≡ false) × ⊤) (named ≡ s.gln) _ (λ a. same_is named s.gln (not_false (same named s.gln) a.0)) (λ e. (ap not (same_if named s.gln e), tt))
       (checked_remembers ⊤ (not (same named s.gln)) codes.Supplier (judge_once r content fresh state) (judged_remembers fresh))

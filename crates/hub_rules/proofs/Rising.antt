@@ -19,7 +19,7 @@ use Rattle.hub_tables.specs.Tables.{Tables, Ordered, has_pallet, holds, view}
 use Rattle.hub_tables.specs.declared.rows.MailRow.{MailRow}
 use Rattle.hub_tables.proofs.KeyOrder.{in_order_filter}
 use Rattle.hub_tables.proofs.Lists.{decide, same_is, same_if, filter_none, all_filter, all_weaker, all_always}
-use Rattle.hub_rules.specs.Sound.{Numbered, Single, same_order, same_place, same_advice, same_sscc, same_spot, same_gtin, same_reference, Kept, IsRooted, Rooted}
+use Rattle.hub_rules.specs.Sound.{Numbered, Single, same_order, same_line_number, same_advice, same_sscc, same_place, same_gtin, same_reference, Kept, IsRooted, Rooted}
 use Rattle.hub_rules.proofs.Prefixes.{any_found, owner}
 use Rattle.hub_rules.proofs.Views.{view_own}
 
@@ -109,13 +109,13 @@ module _ (a b : List ℕ) (o : Ordering) (h : ordering_then (bytes_cmp a b) o �
 pub kept_rises : (state : Tables) → Ordered state → Kept state → Rising state
 kept_rises state ordered kept = record {
   orders = rises order_cmp same_order (λ x y h. text_tied x.number y.number (rest_tied x.supplier y.supplier _ h)) state.orders ordered.orders kept.orders;
-  lines = rises line_cmp same_place (λ x y h.
+  lines = rises line_cmp same_line_number (λ x y h.
       let rest = rest_tied x.supplier y.supplier _ h in
       and_from (same x.number y.number) (x.line == y.line) (text_tied x.number y.number (first_tied (bytes_cmp x.number y.number) _ rest)) (number_tied x.line y.line (rest_tied x.number y.number _ rest))) state.lines ordered.lines kept.lines;
   advices = rises advice_cmp same_advice (λ x y h. text_tied x.number y.number (rest_tied x.supplier y.supplier _ h)) state.advices ordered.advices kept.advices;
   pallets = rises pallet_cmp same_sscc (λ x y h. text_tied x.sscc y.sscc h) state.pallets ordered.pallets kept.pallets;
   contents = rises_by_part content_cmp (λ c. c.sscc) (λ x y h. first_same x.sscc y.sscc _ h) state.contents ordered.contents
-      (λ sscc. rises content_cmp same_spot (λ x y h. number_tied x.place y.place (rest_tied x.sscc y.sscc _ h)) (filter (λ c. same c.sscc sscc) state.contents) (in_order_filter content_cmp (λ c. same c.sscc sscc) state.contents ordered.contents) (kept.contents sscc));
+      (λ sscc. rises content_cmp same_place (λ x y h. number_tied x.place y.place (rest_tied x.sscc y.sscc _ h)) (filter (λ c. same c.sscc sscc) state.contents) (in_order_filter content_cmp (λ c. same c.sscc sscc) state.contents ordered.contents) (kept.contents sscc));
   receipts = rises_by_part receipt_cmp (λ r. r.sscc) (λ x y h. first_same x.sscc y.sscc _ h) state.receipts ordered.receipts
       (λ sscc. rises receipt_cmp same_gtin (λ x y h. text_tied x.gtin y.gtin (rest_tied x.sscc y.sscc _ h)) (filter (λ r. same r.sscc sscc) state.receipts) (in_order_filter receipt_cmp (λ r. same r.sscc sscc) state.receipts ordered.receipts) (kept.receipts sscc));
   remembered = rises remembered_cmp same_reference (λ x y h.

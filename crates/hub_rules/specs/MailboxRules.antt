@@ -1,5 +1,5 @@
 -- Entries of a mailbox, and the rule on their number (B16).
-use Rattle.std.specs.Prelude.{ℕ, false, List}
+use Rattle.std.specs.Prelude.{ℕ, ◌+◌, nat_lt, Bool, false, List}
 use Rattle.edi_envelope.specs.Mail.{last_number}
 use Rattle.hub_tables.specs.Cases.{kind_letter, truth_number}
 use Rattle.hub_tables.specs.State.{next_mail}
@@ -12,6 +12,10 @@ use Rattle.hub_rules.specs.declared.incoming.IncomingMessage.{IncomingMessage}
 -- the greatest number of an entry
 abbrev pub mail_limit : ℕ
 mail_limit = last_number
+
+-- a mailbox with so many entries has no number left for one more
+abbrev pub is_full : ℕ → Bool
+is_full mails = nat_lt mail_limit (mails + 1)
 
 -- an entry with a number
 abbrev pub mail_entry : List ℕ → ℕ → IncomingMessage → MailKind → List ℕ → List ℕ → Change

@@ -1,15 +1,15 @@
 -- The rules of ORDERS (B04, and B16 of MailboxRules).
-use Rattle.std.specs.Prelude.{ℕ, nat_lt, List, ◌∷◌, map}
+use Rattle.std.specs.Prelude.{ℕ, List, ◌∷◌, length, map}
 use Rattle.edi_orders.specs.declared.order.Order.{Order}
 use Rattle.edi_orders.specs.declared.order.OrderLine.{OrderLine}
 use Rattle.hub_tables.specs.Cases.{answer_letter}
-use Rattle.hub_tables.specs.State.{knows_order, next_mail}
+use Rattle.hub_tables.specs.State.{knows_order}
 use Rattle.hub_tables.specs.declared.cases.Answered.TheVariants.{Waiting}
 use Rattle.hub_tables.specs.declared.cases.MailKind.TheVariants as kinds
 use Rattle.hub_tables.specs.declared.change.Change.{Change}
 use Rattle.hub_tables.specs.declared.change.Change.TheVariants.{AddOrder, AddLine}
 use Rattle.hub_rules.specs.Judging.{Judge, refuse_if}
-use Rattle.hub_rules.specs.MailboxRules.{mail_limit, new_mail}
+use Rattle.hub_rules.specs.MailboxRules.{is_full, new_mail}
 use Rattle.hub_rules.specs.declared.code.Code.TheVariants.{OrderKnown, MailboxFull}
 use Rattle.hub_rules.specs.declared.incoming.IncomingMessage.{IncomingMessage}
 use Rattle.hub_rules.specs.declared.verdict.Verdict.TheVariants.{Accept}
@@ -32,7 +32,7 @@ new_line supplier number line = AddLine (record {
 abbrev pub judge_new_order : List ℕ → IncomingMessage → List ℕ → Order → Judge
 judge_new_order supplier incoming body order state =
     refuse_if (knows_order state order.number) OrderKnown (
-    refuse_if (nat_lt mail_limit (next_mail state)) MailboxFull (
+    refuse_if (is_full (length state.mail)) MailboxFull (
     Accept (
     new_mail supplier state incoming kinds.Orders order.number body
     ∷ AddOrder (record { supplier = supplier; number = order.number })

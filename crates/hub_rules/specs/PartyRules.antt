@@ -12,5 +12,5 @@ is_other_buyer retailer None = false
 is_other_buyer retailer (Some buyer) = not (same buyer retailer)
 
 -- B02: the supplier is not registered, or the message names another
-abbrev pub registered : Option SupplierRow → List ℕ → (SupplierRow → Verdict) → Verdict
-registered supplier named rest = given supplier codes.Supplier (λ s. refuse_if (not (same named s.gln)) codes.Supplier (rest s))
+abbrev pub if_registered : Option SupplierRow → List ℕ → (SupplierRow → Verdict) → Verdict
+if_registered supplier named rest = given supplier codes.Supplier (λ s. refuse_if (not (same named s.gln)) codes.Supplier (rest s))

@@ -1,17 +1,17 @@
 -- The rules of RECADV (B14, B15, and B16 of MailboxRules).
-use Rattle.std.specs.Prelude.{ℕ, ◌==◌, nat_lt, not, List, [], ◌∷◌, map, filter, sum_by}
+use Rattle.std.specs.Prelude.{ℕ, not, List, [], ◌∷◌, length, map, filter, sum_by}
 use Rattle.edi_goods.specs.declared.receipt.Receipt.{Receipt}
 use Rattle.edi_goods.specs.declared.receipt.ReceiptLine.{ReceiptLine}
 use Rattle.edi_goods.specs.declared.receipt.ReceiptUnit.{ReceiptUnit}
 use Rattle.hub_tables.specs.Cases.{arrival_number}
 use Rattle.hub_tables.specs.Rows.{same}
-use Rattle.hub_tables.specs.State.{pallet_of, next_mail}
-use Rattle.hub_tables.specs.declared.cases.Arrival.TheVariants.{Announced, Received}
+use Rattle.hub_tables.specs.State.{pallet_of, is_announced}
+use Rattle.hub_tables.specs.declared.cases.Arrival.TheVariants.{Received}
 use Rattle.hub_tables.specs.declared.cases.MailKind.TheVariants as kinds
 use Rattle.hub_tables.specs.declared.change.Change.{Change}
 use Rattle.hub_tables.specs.declared.change.Change.TheVariants.{SetPallet, AddReceipt}
 use Rattle.hub_rules.specs.Judging.{Judge, gives, refuse_if, given, in_turn, in_order}
-use Rattle.hub_rules.specs.MailboxRules.{mail_limit, new_mail}
+use Rattle.hub_rules.specs.MailboxRules.{is_full, new_mail}
 use Rattle.hub_rules.specs.declared.code.Code.TheVariants.{NoPallet, PalletReceived, MailboxFull}
 use Rattle.hub_rules.specs.declared.incoming.IncomingMessage.{IncomingMessage}
 use Rattle.hub_rules.specs.declared.verdict.Verdict.TheVariants.{Accept}
@@ -39,12 +39,12 @@ new_receipt sscc lines gtin = AddReceipt (record {
 abbrev pub judge_received : ReceiptUnit → Judge
 judge_received unit state =
     given (pallet_of state unit.sscc) NoPallet (λ pallet.
-    refuse_if (not (pallet.received == arrival_number Announced)) PalletReceived (
+    refuse_if (not (is_announced pallet)) PalletReceived (
     Accept (SetPallet (record pallet { received = arrival_number Received }) ∷ map (new_receipt unit.sscc unit.lines) (gtins unit.lines))))
 
 -- B16; then the mailbox entry, and the units
 abbrev pub judge_new_receipt : List ℕ → IncomingMessage → List ℕ → Receipt → Judge
 judge_new_receipt supplier incoming body receipt state =
-    refuse_if (nat_lt mail_limit (next_mail state)) MailboxFull (
+    refuse_if (is_full (length state.mail)) MailboxFull (
     in_turn (gives (new_mail supplier state incoming kinds.Receipt receipt.number body ∷ []))
     (in_order judge_received receipt.units) state)

@@ -12,7 +12,7 @@ use Rattle.hub_rules.specs.CancellationRules.{judge_new_cancel}
 use Rattle.hub_rules.specs.DespatchRules.{judge_new_despatch}
 use Rattle.hub_rules.specs.Judging.{Judge, refuse_if}
 use Rattle.hub_rules.specs.OrderRules.{judge_new_order}
-use Rattle.hub_rules.specs.PartyRules.{is_other_buyer, registered}
+use Rattle.hub_rules.specs.PartyRules.{is_other_buyer, if_registered}
 use Rattle.hub_rules.specs.ReceiptRules.{judge_new_receipt}
 use Rattle.hub_rules.specs.RepeatRules.{Reference, judge_once}
 use Rattle.hub_rules.specs.ResponseRules.{judge_new_response}
@@ -27,7 +27,7 @@ referred_by s side incoming = record { supplier = s.gln; side = side; control = 
 abbrev pub judge_message : List ℕ → Option SupplierRow → Side → IncomingMessage → Option (List ℕ) → List ℕ → (SupplierRow → Judge) → Judge
 judge_message retailer supplier side incoming buyer named rest state =
     refuse_if (is_other_buyer retailer buyer) codes.Buyer (
-    registered supplier named (λ s. judge_once (referred_by s side incoming) incoming.content (rest s) state))
+    if_registered supplier named (λ s. judge_once (referred_by s side incoming) incoming.content (rest s) state))
 
 -- ORDERS: B01 B02 B03 B04 B16
 abbrev pub judge_order : List ℕ → Option SupplierRow → IncomingMessage → List ℕ → Order → Judge
@@ -55,5 +55,5 @@ cancelled_by s cancel = record { supplier = s.gln; side = sides.Cancellation; co
 -- cancellations: B02 B03 B05 B06 B17
 abbrev pub judge_cancel : Option SupplierRow → List ℕ → Cancel → Judge
 judge_cancel supplier content cancel state =
-    registered supplier cancel.supplier (λ s.
+    if_registered supplier cancel.supplier (λ s.
     judge_once (cancelled_by s cancel) content (judge_new_cancel cancel) state)

@@ -4,11 +4,9 @@ use Rattle.std.specs.List.{AllByRecursion, list_any}
 use Rattle.gs1_ids.specs.Sscc.{under_some}
 use Rattle.hub_parties.specs.Rows.{supplier_row}
 use Rattle.hub_parties.specs.declared.row.SupplierRow.{SupplierRow}
-use Rattle.hub_tables.specs.Cases.{arrival_number}
 use Rattle.hub_tables.specs.Rows.{same}
-use Rattle.hub_tables.specs.State.{knows_order, despatched}
+use Rattle.hub_tables.specs.State.{knows_order, despatched, is_announced}
 use Rattle.hub_tables.specs.Tables.{Tables, Ordered, has_pallet, view}
-use Rattle.hub_tables.specs.declared.cases.Arrival.TheVariants.{Announced}
 use Rattle.hub_tables.specs.declared.rows.OrderRow.{OrderRow}
 use Rattle.hub_tables.specs.declared.rows.LineRow.{LineRow}
 use Rattle.hub_tables.specs.declared.rows.AdviceRow.{AdviceRow}
@@ -31,8 +29,8 @@ Single alike (x ∷ xs) = (list_any (alike x) xs ≡ false) × Single alike xs
 abbrev pub same_order : OrderRow → OrderRow → Bool
 same_order a b = same a.number b.number
 
-abbrev pub same_place : LineRow → LineRow → Bool
-same_place a b = same a.number b.number && (a.line == b.line)
+abbrev pub same_line_number : LineRow → LineRow → Bool
+same_line_number a b = same a.number b.number && (a.line == b.line)
 
 abbrev pub same_advice : AdviceRow → AdviceRow → Bool
 same_advice a b = same a.number b.number
@@ -40,8 +38,8 @@ same_advice a b = same a.number b.number
 abbrev pub same_sscc : PalletRow → PalletRow → Bool
 same_sscc a b = same a.sscc b.sscc
 
-abbrev pub same_spot : ContentRow → ContentRow → Bool
-same_spot a b = a.place == b.place
+abbrev pub same_place : ContentRow → ContentRow → Bool
+same_place a b = a.place == b.place
 
 abbrev pub same_gtin : ReceiptRow → ReceiptRow → Bool
 same_gtin a b = same a.gtin b.gtin
@@ -54,7 +52,7 @@ knows_line state number n = list_any (λ line. same line.number number && (line.
 
 -- a pallet with the SSCC was received
 abbrev pub was_received : Tables → List ℕ → Bool
-was_received state sscc = list_any (λ pallet. same pallet.sscc sscc && not (pallet.received == arrival_number Announced)) state.pallets
+was_received state sscc = list_any (λ pallet. same pallet.sscc sscc && not (is_announced pallet)) state.pallets
 
 -- the numbers of mailbox entries go on from n
 abbrev pub Numbered : ℕ → List MailRow → Type 0
@@ -77,10 +75,10 @@ pub record IsOwn (s : SupplierRow) (state : Tables) : Type 0 where
 -- 1; and every line is balanced
 pub record Kept (state : Tables) : Type 0 where
   pub orders : Single same_order state.orders
-  pub lines : Single same_place state.lines
+  pub lines : Single same_line_number state.lines
   pub advices : Single same_advice state.advices
   pub pallets : Single same_sscc state.pallets
-  pub contents : (sscc : List ℕ) → Single same_spot (filter (λ content. same content.sscc sscc) state.contents)
+  pub contents : (sscc : List ℕ) → Single same_place (filter (λ content. same content.sscc sscc) state.contents)
   pub receipts : (sscc : List ℕ) → Single same_gtin (filter (λ receipt. same receipt.sscc sscc) state.receipts)
   pub remembered : Single same_reference state.remembered
   pub mail : Numbered 0 state.mail

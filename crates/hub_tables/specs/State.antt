@@ -2,10 +2,11 @@
 use Rattle.std.specs.Prelude.{ℕ, ◌+◌, ◌==◌, nat_lt, Bool, true, not, ◌&&◌, List, [], ◌∷◌, filter, find, sum_by, length, Option, Some, None, option_map}
 use Rattle.std.specs.List.{list_any, last_or}
 use Rattle.std.specs.Option.{unwrap_or}
-use Rattle.hub_tables.specs.Cases.{answer_letter, side_letter, truth_number}
+use Rattle.hub_tables.specs.Cases.{answer_letter, side_letter, arrival_number, truth_number}
 use Rattle.hub_tables.specs.Rows.{same}
 use Rattle.hub_tables.specs.Tables.{Tables}
 use Rattle.hub_tables.specs.declared.cases.Answered.TheVariants.{Waiting}
+use Rattle.hub_tables.specs.declared.cases.Arrival.TheVariants.{Announced}
 use Rattle.hub_tables.specs.declared.cases.Side.{Side}
 use Rattle.hub_tables.specs.declared.rows.LineRow.{LineRow}
 use Rattle.hub_tables.specs.declared.rows.ContentRow.{ContentRow}
@@ -52,6 +53,10 @@ waits line = line.answer == answer_letter Waiting
 
 abbrev pub pallet_of : Tables → List ℕ → Option PalletRow
 pallet_of state sscc = find (λ pallet. same pallet.sscc sscc) state.pallets
+
+-- it has not been received
+abbrev pub is_announced : PalletRow → Bool
+is_announced pallet = pallet.received == arrival_number Announced
 
 -- what is on a pallet, and what of it was received
 abbrev pub contents_of : Tables → List ℕ → List ContentRow

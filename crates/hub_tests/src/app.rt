@@ -95,7 +95,7 @@ fn room_for(alloc: Global, room: usize, answers_error: bool) -> Slow {
 
 // A run of `relay`: how much of the order is read, and whether the next read fails; how many bytes the writers take, and
 // whether the next write to the output fails or takes nothing; and the status, how much of the mail is printed, and what is
-// told of a fault.
+// reported of a fault.
 #[derive(Drop)]
 struct Run {
     name: &'static str,
@@ -194,7 +194,7 @@ static RUNS: [Run; 10] = [
     },
 ];
 
-// The status of a run of `relay`, what it prints and what it tells of a fault.
+// The status of a run of `relay`, what it prints and what it reports of a fault.
 fn relayed(alloc: Global, run: &Run) -> Result<(u8, Vec<u8>, Vec<u8>), Fail> {
     let words = words().ok_or("words")?;
     let left = ORDERS.get(..run.length).ok_or("a front")?;
@@ -227,8 +227,8 @@ const SHOWN: &[u8] =
 
 const CUT_SHOWN: &[u8] = b"refused E04 text cut\n";
 
-// Runs of `show` over a front of the order: whether the read behind it fails, how many bytes the output takes, and whether the
-// next write fails; the status, what is printed of which lines, and what is told of a fault.
+// Runs of `show` over a front of the order: whether the read after it fails, how many bytes the output takes, and whether the
+// next write fails; the status, what is printed of which lines, and what is reported of a fault.
 type ShowRun = (
     usize,
     bool,
@@ -251,7 +251,7 @@ static SHOW_RUNS: [ShowRun; 8] = [
     (200, false, 20, false, 3, CUT_SHOWN, 20, "file\n"),
 ];
 
-// The status of a run of `show` over what an input gives, what it prints and what it tells of a fault.
+// The status of a run of `show` over what an input gives, what it prints and what it reports of a fault.
 fn shown(alloc: Global, mut input: Brittle<'_>, mut out: Slow) -> (u8, Vec<u8>, Vec<u8>) {
     let mut err = room_for(alloc, usize::MAX, false);
     let status = show_run(alloc, &mut input, &mut out, &mut err);
@@ -282,7 +282,7 @@ const REGISTER: &str =
     "hub = \"5412345000006\"\nretailer = { gln = \"5412345000013\", key = \"retail-key\" }\n[[supplier]]\ngln = \"4012345500004\"\nprefix = \"40123455\"\nkey = \"alpha-key-1\"\n";
 
 // Texts of a register, how many bytes the output takes, and whether the next write fails; the status, what is
-// printed, and what is told of a fault.
+// printed, and what is reported of a fault.
 static CHECKS: [(&str, usize, bool, u8, &str, &str); 5] = [
     (REGISTER, usize::MAX, false, 0, "ok 1 suppliers\n", ""),
     ("hub = 1", usize::MAX, false, 1, "fault text\n", ""),
@@ -291,7 +291,7 @@ static CHECKS: [(&str, usize, bool, u8, &str, &str); 5] = [
     (REGISTER, 15, true, 0, "ok 1 suppliers\n", ""),
 ];
 
-// The status of a run of `check` over a register, what it prints and what it tells of a fault.
+// The status of a run of `check` over a register, what it prints and what it reports of a fault.
 fn checked(alloc: Global, text: &str, mut out: Slow) -> (u8, Vec<u8>, Vec<u8>) {
     let mut err = room_for(alloc, usize::MAX, false);
     let status = check_run(alloc, text, &mut out, &mut err);

@@ -1,6 +1,7 @@
 ghost use Rattle.std.specs.Prelude.{IfOk};
 ghost use Rattle.std.specs.List.{AllByRecursion};
-ghost use Rattle.hub_lines.specs.Book.{Rise, IsCovered};
+ghost use Rattle.hub_tables.specs.Sets.{Rises};
+ghost use Rattle.hub_lines.specs.Book.{facts_cmp, IsCovered};
 
 mod cancellations;
 mod despatches;
@@ -79,7 +80,7 @@ fn content_of(alloc: Global, remembered: Option<&str>) -> Result<Option<Items<u8
 
 // What is known: these lines and their orders, and what is remembered.
 fn known(alloc: Global, lines: [Line; 3], remembered: Option<&str>) -> Result<Known, Fail>
-    ensures rise { IfOk result (λ known. Rise known.lines) }
+    ensures rise { IfOk result (λ known. Rises facts_cmp known.lines) }
     ensures covered { IfOk result (λ known. AllByRecursion IsCovered known.lines) }
 {
     Ok(Known {

@@ -3,7 +3,8 @@
 ghost use Rattle.std.specs.Prelude.{◌≡◌, IfOk, IsTrue};
 ghost use Rattle.std.specs.List.{AllByRecursion};
 ghost use Rattle.std.specs.declared.cmp.Ordering.TheVariants.{Less};
-ghost use Rattle.hub_lines.specs.Book.{Rise, facts_cmp, IsCovered};
+ghost use Rattle.hub_tables.specs.Sets.{Rises};
+ghost use Rattle.hub_lines.specs.Book.{facts_cmp, IsCovered};
 
 use edi_base::{Items, copied};
 use gs1_ids::{Gln, Gtin};
@@ -66,7 +67,7 @@ fn is_before(first: &LineFacts, second: &LineFacts) -> bool
 
 /// Alpha's three lines of one item, which have to rise.
 pub(crate) fn rising(alloc: Global, lines: [Line; 3]) -> Result<Items<LineFacts>, Fail>
-    ensures rise { IfOk result (λ lines. Rise lines) }
+    ensures rise { IfOk result (λ lines. Rises facts_cmp lines) }
     ensures covered { IfOk result (λ lines. AllByRecursion IsCovered lines) }
 {
     let [first, second, third] = lines;

@@ -3,7 +3,7 @@ use Rattle.std.specs.List.{list_all}
 use Rattle.edi_goods.specs.Units.{read_units, has_lines}
 use Rattle.edi_goods.proofs.units.item_units.Given as goal
 
--- the units are those so far, whose lines are right, and those of the rest
+-- the units are those so far, whose lines are valid, and those of the rest
 abbrev pub invariant-loop-place : goal.invariant-loop-place
 invariant-loop-place l = record {
   units : read_units l.message ≡ l.units.items ++ read_units (drop l.place l.message);

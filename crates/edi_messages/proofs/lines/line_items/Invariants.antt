@@ -4,7 +4,7 @@ use Rattle.edi_messages.specs.Lines.{is_line}
 use Rattle.edi_messages.specs.Parts.{line_groups}
 use Rattle.edi_messages.proofs.lines.line_items.Given as goal
 
--- the groups are those so far, which are right, and those of the rest
+-- the groups are those so far, which are valid, and those of the rest
 abbrev pub invariant-loop-place : goal.invariant-loop-place
 invariant-loop-place l = record {
   groups : line_groups l.message ≡ l.items.items ++ line_groups (drop l.place l.message);

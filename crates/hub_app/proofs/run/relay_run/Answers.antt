@@ -1,9 +1,9 @@
-use Rattle.std.proofs.Common.{ℕ, List, sym, subst, ◌∙◌, inl, inr}
+use Rattle.std.proofs.Common.{ℕ, List, arith, sym, subst, ◌∙◌, inl, inr}
 use Rattle.std.specs.Io.KnownBytes.{Appends}
 use Rattle.std.proofs.KnownBytes.{Keeps-refl}
 use Rattle.edi_base.specs.Buffer.{AppendsFront}
 use Rattle.hub_app.specs.declared.relay.RelayFault.TheVariants.{Token, Envelope}
-use Rattle.hub_app.proofs.Lines.{stands, at_ok, at_err, is_delivered, is_front_delivered, is_refused}
+use Rattle.hub_app.proofs.Lines.{stands, not_read, at_ok, at_err, is_delivered, is_front_delivered, is_refused}
 use Rattle.hub_app.proofs.run.relay_run.Goals as goal
 
 pub returns-then-is_ok-clause-done : goal.returns-then-is_ok-clause-done
@@ -26,7 +26,7 @@ returns-in-Ok-relay_text-clause-failed g c = λ _.
     let mail = subst (λ (t : List ℕ). AppendsFront old new t) c.as_slice-in-Ok-relay_text.ensures.value written in
     let up = at_err c.write_bytes.result c.write_bytes.ensures.failed refused in
     inl (
-      c.tell-in-Ok-relay_text.ensures,
+      c.tell.ensures,
       inr (
         up,
         is_front_delivered (g.R.Source.remaining c.args.input.now) c.args.words.now old new c.in-Ok.text.items c.as_slice.result.now c.in-Ok-relay_text.mail.items
@@ -34,8 +34,8 @@ returns-in-Ok-relay_text-clause-failed g c = λ _.
       ),
     )
 
-pub returns-in-Err-Memory-relay_text-clause-failed : goal.returns-in-Err-Memory-relay_text-clause-failed
-returns-in-Err-Memory-relay_text-clause-failed g c = λ _. inr (c.tell-in-Err-Memory-relay_text.ensures, Keeps-refl (g.W.Sink.contents c.args.out.now))
+pub returns-in-Err-Memory-clause-failed : goal.returns-in-Err-Memory-clause-failed
+returns-in-Err-Memory-clause-failed g c = λ _. inr (c.tell-in-Err-Memory.ensures, Keeps-refl (g.W.Sink.contents c.args.out.now))
 
 pub returns-in-Err-Token-clause-refused : goal.returns-in-Err-Token-clause-refused
 returns-in-Err-Token-clause-refused g c = λ _. (
@@ -55,8 +55,8 @@ returns-clause-refused g c = λ _. (
   c.tell_refusal-in-Err-Envelope.ensures,
 )
 
-pub returns-in-Err-Memory-relay_text-clause-read : goal.returns-in-Err-Memory-relay_text-clause-read
-returns-in-Err-Memory-relay_text-clause-read g c = inl (c.in-Ok.ensures.kept (λ e. absurd cc))
+pub returns-in-Err-Memory-clause-read : goal.returns-in-Err-Memory-clause-read
+returns-in-Err-Memory-clause-read g c = inl (c.in-Ok.ensures.kept (λ e. absurd cc))
 
 pub returns-in-Err-Token-clause-read : goal.returns-in-Err-Token-clause-read
 returns-in-Err-Token-clause-read g c = inl (c.in-Ok.ensures.kept (λ e. absurd cc))
@@ -72,3 +72,15 @@ returns-in-Err-Token-clause-stands g c = λ _. stands (g.R.Source.remaining c.ar
 
 pub returns-clause-stands : goal.returns-clause-stands
 returns-clause-stands g c = λ _. stands (g.R.Source.remaining c.args.input.now) _ c.in-Ok.text.items c.in-Ok.ensures.bytes c.in-Ok.ensures.whole
+
+pub returns-in-Err-clause-read : goal.returns-in-Err-clause-read
+returns-in-Err-clause-read g c =
+    elim (not_read c.in-Err.fault c.tell_read_fault.ensures.file c.tell_read_fault.ensures.memory c.in-Err.ensures.read c.in-Err.ensures.kept) [ inl h ↦ inr (c.tell_read_fault.ensures.status, h.0) | inr h ↦ inl h.1 ]
+
+pub returns-in-Err-clause-failed : goal.returns-in-Err-clause-failed
+returns-in-Err-clause-failed g c = λ _.
+    let untouched = Keeps-refl (g.W.Sink.contents c.args.out.now) in
+    elim (not_read c.in-Err.fault c.tell_read_fault.ensures.file c.tell_read_fault.ensures.memory c.in-Err.ensures.read c.in-Err.ensures.kept) [ inl h ↦ inl (h.0, inl (h.1, untouched)) | inr h ↦ inr (h.0, untouched) ]
+
+pub returns-in-Err-clause-refused : goal.returns-in-Err-clause-refused
+returns-in-Err-clause-refused g c = λ e. absurd (omega (arith, c.tell_read_fault.ensures.status, e))

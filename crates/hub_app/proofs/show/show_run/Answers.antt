@@ -1,6 +1,6 @@
 use Rattle.std.proofs.Common.{◌∙◌, inl, inr}
 use Rattle.std.proofs.KnownBytes.{Keeps-refl}
-use Rattle.hub_app.proofs.Lines.{stands, is_shown, is_front_shown}
+use Rattle.hub_app.proofs.Lines.{stands, not_read, is_shown, is_front_shown}
 use Rattle.hub_app.proofs.show.show_run.Goals as goal
 
 pub returns-in-Ok-write_bytes-clause-stands : goal.returns-in-Ok-write_bytes-clause-stands
@@ -16,11 +16,20 @@ returns-in-Ok-write_bytes-clause-shown g c = λ _. (
 
 pub returns-clause-failed : goal.returns-clause-failed
 returns-clause-failed g c = λ _. inl (
-  c.tell-in-Err.ensures,
+  c.tell-in-Err-write_bytes.ensures,
   inr (
-    c.in-Err.ensures.failed,
+    c.in-Err-write_bytes.ensures.failed,
     is_front_shown (g.R.Source.remaining c.args.input.now) (g.W.Sink.contents c.args.out.now) (g.W.Sink.contents c.write_bytes.new.out)
         c.in-Ok.text.items c.as_slice.result.now c.as_slice-lines.result.now c.in-Ok.ensures.whole c.as_slice.ensures.value
-        (c.as_slice-lines.ensures.value ∙ c.in-Ok-told_text.ensures.lines) c.in-Err.ensures.err,
+        (c.as_slice-lines.ensures.value ∙ c.in-Ok-told_text.ensures.lines) c.in-Err-write_bytes.ensures.err,
   ),
 )
+
+pub returns-in-Err-clause-read : goal.returns-in-Err-clause-read
+returns-in-Err-clause-read g c =
+    elim (not_read c.in-Err.fault c.tell_read_fault.ensures.file c.tell_read_fault.ensures.memory c.in-Err.ensures.read c.in-Err.ensures.kept) [ inl h ↦ inr (c.tell_read_fault.ensures.status, h.0) | inr h ↦ inl h.1 ]
+
+pub returns-in-Err-clause-failed : goal.returns-in-Err-clause-failed
+returns-in-Err-clause-failed g c = λ _.
+    let untouched = Keeps-refl (g.W.Sink.contents c.args.out.now) in
+    elim (not_read c.in-Err.fault c.tell_read_fault.ensures.file c.tell_read_fault.ensures.memory c.in-Err.ensures.read c.in-Err.ensures.kept) [ inl h ↦ inl (h.0, inl (h.1, untouched)) | inr h ↦ inr (h.0, untouched) ]

@@ -39,5 +39,5 @@ returns c =
     c.in-Ok.ensures.ok (λ s. judge_once (referred_by s sides.Retailer incoming) incoming.content (judge_new_receipt s.gln incoming body receipt) state)
     ∙ ap (λ content. once row content fresh) (sym c.as_slice.ensures)
     ∙ c.in_default.ensures.none row fresh told.remembered
-    ∙ new_receipt_alike memory s.gln incoming body receipt (apply memory state) known.mails known.pallets c.if-known-ge-MAIL_LIMIT.false told.mails told.pallets c.requires.apart
+    ∙ new_receipt_alike memory s.gln incoming body receipt (apply memory state) known.mails known.pallets (sym c.is_full.ensures.value ∙ c.if-is_full.false) told.mails told.pallets c.requires.apart
     )) c.judge_units.ensures

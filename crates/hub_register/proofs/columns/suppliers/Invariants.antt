@@ -6,7 +6,7 @@ use Rattle.hub_register.specs.Entries.{row_in}
 use Rattle.hub_register.specs.InOrder.{put_all}
 use Rattle.hub_register.proofs.columns.suppliers.Given as goal
 
--- the rows put so far, each at its GLN and with a right key, wait for those of the rest
+-- the rows put so far, each at its GLN and with a valid key, wait for those of the rest
 abbrev pub invariant-loop-place : goal.invariant-loop-place
 invariant-loop-place l = record {
   rows : put_all (map row_in l.entries) [] ≡ put_all (map row_in (drop l.place l.entries)) (values l.suppliers);

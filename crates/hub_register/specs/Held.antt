@@ -1,11 +1,11 @@
 -- How a register is held: a map from GLNs to rows.
 use Rattle.std.specs.Prelude.{◌≡◌, map}
 use Rattle.std.specs.BTreeMap.{keys, values}
-use Rattle.hub_parties.specs.Rows.{Rows, IsRegister}
+use Rattle.hub_parties.specs.Rows.{RegisterRows, IsRegister}
 use Rattle.hub_register.specs.declared.register.Register.TheInside.{Inside}
 
 -- the rows of a register, its suppliers in the order of their GLNs
-abbrev pub rows_of : Inside → Rows
+abbrev pub rows_of : Inside → RegisterRows
 rows_of register = record {
   hub = register.hub;
   retailer = register.retailer;
@@ -14,6 +14,6 @@ rows_of register = record {
 }
 
 -- each row stands at its GLN, and the rows are those of a register
-pub record IsKept (register : Inside) : Type 0 where
+pub record IsHeld (register : Inside) : Type 0 where
   pub at_gln : keys register.suppliers ≡ map (λ row. row.gln) (values register.suppliers)
   pub right : IsRegister (rows_of register)
