@@ -1,4 +1,4 @@
-ghost use Rattle.std.specs.Prelude.{◌≡◌, ◌≤◌, [], ◌∷◌, All, IsTrue, IfOk};
+ghost use Rattle.std.specs.Prelude.{◌≡◌, ◌≤◌, [], ◌∷◌, All, ◌++◌, map, IsTrue, IfOk, OnOk};
 ghost use Rattle.edi_tokens.specs.Characters.{is_digit};
 ghost use Rattle.edi_tokens.specs.Text.{text};
 ghost use Rattle.edi_envelope.specs.Moment.{date_text, time_text};
@@ -152,6 +152,19 @@ pub fn wrap(
     Ok(segments)
 }
 
+// Appends the text of a segment, with `1` as the message reference number of UNH and UNT.
+fn put_numbered(alloc: Global, out: &mut Vec<u8>, segment: &Segment) -> Result<(), MemoryFault>
+    ensures { OnOk result (out.new.items ≡ out.old.items ++ text (renumbered segment.now ∷ [])) }
+{
+    if segment.tag == *b"UNH" || segment.tag == *b"UNT" {
+        let numbered = [numbered_segment(alloc, segment)?];
+        append_text(out, &numbered)?;
+    } else {
+        append_text(out, array::from_ref(segment))?;
+    }
+    Ok(())
+}
+
 /// The canonical text of a message from UNH to UNT, with the message reference number `1` in both, as it stands in a
 /// mailbox. Fails only for memory.
 pub fn mail_message_text(alloc: Global, message: &RawMessage) -> Result<Items<u8>, MemoryFault>
@@ -159,12 +172,7 @@ pub fn mail_message_text(alloc: Global, message: &RawMessage) -> Result<Items<u8
 {
     let mut body = Vec::new(alloc);
     for segment in message.segments.as_slice() {
-        if segment.tag == *b"UNH" || segment.tag == *b"UNT" {
-            let numbered = [numbered_segment(alloc, segment)?];
-            append_text(&mut body, &numbered)?;
-        } else {
-            append_text(&mut body, array::from_ref(segment))?;
-        }
+        put_numbered(alloc, &mut body, segment)?;
     }
     Ok(Items::from_vec(body))
 }

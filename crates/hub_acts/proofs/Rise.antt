@@ -10,7 +10,7 @@ use Rattle.std.proofs.lemmas.Cmp.{on_total, then_total, nat_cmp_total, nat_list_
 use Rattle.hub_tables.proofs.Lists.{all_weaker}
 use Rattle.hub_tables.specs.Sets.{Rises}
 use Rattle.hub_tables.specs.declared.rows.LineRow.{LineRow}
-use Rattle.hub_lines.specs.Book.{facts_cmp, Rise}
+use Rattle.hub_lines.specs.Book.{facts_cmp}
 use Rattle.hub_lines.specs.declared.facts.LineFacts.{LineFacts}
 use Rattle.hub_judges.specs.Known.{rows}
 use Rattle.hub_texts.specs.Items.{place_cmp}
@@ -41,9 +41,9 @@ all_facts_above : (line : LineFacts) (lines : List LineFacts) → AllByRecursion
 all_facts_above line [] above = tt
 all_facts_above line (later ∷ lines) above = (above.0, all_facts_above line lines above.1)
 
-rows_rise : (facts : List LineFacts) → Rises place_cmp (rows facts) → Rise facts
+rows_rise : (facts : List LineFacts) → Rises place_cmp (rows facts) → Rises facts_cmp facts
 rows_rise [] rises = tt
 rows_rise (line ∷ lines) rises = (all_facts_above line lines rises.0, rows_rise lines rises.1)
 
-pub facts_rise : (facts : List LineFacts) (lines : List LineRow) → rows facts ≡ lines → Rises place_cmp lines → Rise facts
+pub facts_rise : (facts : List LineFacts) (lines : List LineRow) → rows facts ≡ lines → Rises place_cmp lines → Rises facts_cmp facts
 facts_rise facts lines e rises = rows_rise facts (subst (Rises place_cmp) (sym e) rises)

@@ -18,11 +18,7 @@ use hub_texts::{cancel_text, told_line};
 use std::alloc::Global;
 
 // Carries out what comes of a cancellation, to which this is the reply.
-fn finish<S: Store>(
-    store: &mut S,
-    verdict: &Verdict,
-    reply: Reply,
-) -> Result<Reply, StoreFault>
+fn finish<S: Store>(store: &mut S, verdict: &Verdict, reply: Reply) -> Result<Reply, StoreFault>
     requires { reply ≡ cancel_reply (told verdict.now) }
     ensures carried { Rising (changed verdict.now (S.content store.old)) → Carried S.content S.honest S.left store.old store.new (λ t. replied_by cancel_reply (act verdict.now t)) as_told result }
     ensures unharmed { Unharmed S.content S.honest store.old store.new result }

@@ -75,10 +75,7 @@ pub(crate) fn carry_out<S: Store>(store: &mut S, verdict: &Verdict) -> Result<To
 }
 
 /// Carries out what comes of a message.
-pub(crate) fn carry_out_judged<S: Store>(
-    store: &mut S,
-    judged: &Judged,
-) -> Result<Told, StoreFault>
+pub(crate) fn carry_out_judged<S: Store>(store: &mut S, judged: &Judged) -> Result<Told, StoreFault>
     ensures carried { Rising (act_of judged.now (S.content store.old)).1 → Carried S.content S.honest S.left store.old store.new (act_of judged.now) told_of result }
     ensures told { IfOk result (λ seen. (t : Tables) → (act_of judged.now t).0 ≡ told_of seen) }
     ensures unharmed { Unharmed S.content S.honest store.old store.new result }

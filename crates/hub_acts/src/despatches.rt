@@ -2,8 +2,9 @@
 ghost use Rattle.std.specs.Prelude.{◌≡◌, ◌∷◌, ◌++◌, [], List, map, filter, length, if◌then◌else◌, IfOk, OnOk};
 ghost use Rattle.std.specs.List.{flat_map};
 ghost use Rattle.hub_tables.specs.State.{knows_order, lines_of};
+ghost use Rattle.hub_tables.specs.Sets.{Rises};
 ghost use Rattle.hub_tables.specs.Tables.{view, has_pallet};
-ghost use Rattle.hub_lines.specs.Book.{Rise};
+ghost use Rattle.hub_lines.specs.Book.{facts_cmp};
 ghost use Rattle.hub_rules.specs.Sound.{Kept};
 ghost use Rattle.hub_judges.specs.Known.{TellsForDespatch};
 ghost use Rattle.hub_acts.specs.Acts.{Stays};
@@ -103,7 +104,7 @@ pub(crate) fn known_for_despatch<S: Store>(
     despatch: &Despatch,
 ) -> Result<Known, StoreFault>
     ensures told { S.honest store.new → Kept (view supplier.now (S.content store.old)) → IfOk result (λ known. TellsForDespatch known (has_pallet (S.content store.old)) incoming.now despatch.now (view supplier.now (S.content store.old))) }
-    ensures rise { IfOk result (λ known. Rise known.lines) }
+    ensures rise { IfOk result (λ known. Rises facts_cmp known.lines) }
     ensures each { IfOk result (λ known. length known.used ≡ length despatch.now.units) }
     ensures stays { Stays S.content S.honest S.left store.old store.new }
 {

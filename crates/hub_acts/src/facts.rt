@@ -3,7 +3,7 @@ ghost use Rattle.std.specs.Prelude.{◌≡◌, ◌<◌, ◌+◌, ◌∷◌, ◌+
 ghost use Rattle.std.specs.List.{AllByRecursion};
 ghost use Rattle.std.specs.Ordering.{is_lt};
 ghost use Rattle.hub_tables.specs.Sets.{Rises};
-ghost use Rattle.hub_lines.specs.Book.{Rise, IsCovered};
+ghost use Rattle.hub_lines.specs.Book.{facts_cmp, IsCovered};
 ghost use Rattle.hub_judges.specs.Known.{rows};
 ghost use Rattle.hub_texts.specs.Items.{place_cmp};
 ghost use Rattle.hub_acts.specs.Facts.{AddsUp};
@@ -81,14 +81,11 @@ pub(crate) fn rise(lines: &[LineRow]) -> bool
 /// What is known of lines, by their rows alone. Where the rows do not rise by order number and line number, or more of
 /// one is open, refused and cancelled than is ordered, nothing is: `Unclean`.
 #[tactic(auto, using(crate::proofs::Rise::facts_rise, crate::proofs::LookUps::covered_if_adds))]
-pub(crate) fn facts_of(
-    alloc: Global,
-    lines: Items<LineRow>,
-) -> Result<Items<LineFacts>, StoreFault>
+pub(crate) fn facts_of(alloc: Global, lines: Items<LineRow>) -> Result<Items<LineFacts>, StoreFault>
     ensures rows { IfOk result (λ facts. rows facts ≡ lines) }
     ensures adds_up { IfOk result (AllByRecursion AddsUp) }
     ensures covered { IfOk result (AllByRecursion IsCovered) }
-    ensures rise { IfOk result Rise }
+    ensures rise { IfOk result (Rises facts_cmp) }
 {
     if !rise(lines.as_slice()) {
         return Err(StoreFault::Unclean);

@@ -3,8 +3,9 @@ ghost use Rattle.std.specs.Prelude.{◌≡◌, [], ◌∷◌, ◌++◌, length, 
 ghost use Rattle.std.specs.List.{AllByRecursion};
 ghost use Rattle.edi_base.specs.Seen.{is_among};
 ghost use Rattle.hub_tables.specs.State.{pallet_of};
+ghost use Rattle.hub_tables.specs.Sets.{Rises};
 ghost use Rattle.hub_tables.specs.Tables.{view};
-ghost use Rattle.hub_lines.specs.Book.{Rise, IsCovered};
+ghost use Rattle.hub_lines.specs.Book.{facts_cmp, IsCovered};
 ghost use Rattle.hub_rules.specs.Sound.{Kept};
 ghost use Rattle.hub_judges.specs.Known.{TellsForOrder, TellsForResponse, TellsForReceipt, TellsForCancel};
 ghost use Rattle.hub_acts.specs.Acts.{Stays};
@@ -73,7 +74,7 @@ pub(crate) fn known_for_response<S: Store>(
     response: &Response,
 ) -> Result<Known, StoreFault>
     ensures told { S.honest store.new → Kept (view supplier.now (S.content store.old)) → IfOk result (λ known. TellsForResponse known incoming.now response.now (view supplier.now (S.content store.old))) }
-    ensures rise { IfOk result (λ known. Rise known.lines) }
+    ensures rise { IfOk result (λ known. Rises facts_cmp known.lines) }
     ensures covered { IfOk result (λ known. AllByRecursion IsCovered known.lines) }
     ensures stays { Stays S.content S.honest S.left store.old store.new }
 {

@@ -16,5 +16,5 @@ mod status;
 
 pub use cancel::take_cancel;
 pub use mailbox::{mailbox_entry, mailbox_list, take_entry};
-pub use status::status_report;
 pub use messages::{take_retailers_message, take_suppliers_message};
+pub use status::status_report;

@@ -19,7 +19,7 @@ use Rattle.hub_tables.specs.declared.rows.LineRow.{LineRow}
 use Rattle.hub_tables.specs.declared.rows.ReceiptRow.{ReceiptRow}
 use Rattle.hub_tables.proofs.KeyOrder.{all_put, any_put}
 use Rattle.hub_tables.proofs.Lists.{decide, same_is, same_if, all_weaker}
-use Rattle.hub_law.specs.StatusText.{with_item, in_digit_order}
+use Rattle.hub_law.specs.StatusText.{with_article, in_digit_order}
 use Rattle.hub_texts.specs.Items.{item_in}
 use Rattle.hub_texts.specs.Totals.{Table, nothing, totals_at, with_content, with_receipt, count_content, count_receipt, totals_of, items_of, table_of}
 use Rattle.hub_texts.specs.declared.totals.Totals.{Totals}
@@ -49,29 +49,29 @@ none_above x (y ∷ ys) all = ap₂ (λ a b. a || b) (below_differs x y all.0) (
 
 -- One item more.
 
-with_below : (x y : List ℕ) (ys : List (List ℕ)) → bytes_cmp x y ≡ Less → AllByRecursion (λ z. bytes_cmp y z ≡ Less) ys → with_item x (y ∷ ys) ≡ x ∷ y ∷ ys
+with_below : (x y : List ℕ) (ys : List (List ℕ)) → bytes_cmp x y ≡ Less → AllByRecursion (λ z. bytes_cmp y z ≡ Less) ys → with_article x (y ∷ ys) ≡ x ∷ y ∷ ys
 with_below x y ys h all =
     ap (λ v. cond v (y ∷ ys) (put bytes_cmp x (y ∷ ys))) (none_above x (y ∷ ys) (h, all_above x y ys h all))
     ∙ ap (λ o. cond (is_gt o) (x ∷ y ∷ ys) (y ∷ put bytes_cmp x ys)) (turned x y Less h)
 
-with_same : (x y : List ℕ) (ys : List (List ℕ)) → x ≡ y → with_item x (y ∷ ys) ≡ y ∷ ys
+with_same : (x y : List ℕ) (ys : List (List ℕ)) → x ≡ y → with_article x (y ∷ ys) ≡ y ∷ ys
 with_same x y ys e = ap (λ v. cond (v || list_any (same x) ys) (y ∷ ys) (put bytes_cmp x (y ∷ ys))) (same_if x y e)
 
-with_above : (x y : List ℕ) (ys : List (List ℕ)) → bytes_cmp x y ≡ Greater → with_item x (y ∷ ys) ≡ y ∷ with_item x ys
+with_above : (x y : List ℕ) (ys : List (List ℕ)) → bytes_cmp x y ≡ Greater → with_article x (y ∷ ys) ≡ y ∷ with_article x ys
 with_above x y ys h =
     ap₂ (λ v o. cond (v || list_any (same x) ys) (y ∷ ys) (cond (is_gt o) (x ∷ y ∷ ys) (y ∷ put bytes_cmp x ys))) (above_differs x y h) (turned x y Greater h)
     ∙ elim (list_any (same x) ys) as (λ v. cond v (y ∷ ys) (y ∷ put bytes_cmp x ys) ≡ y ∷ cond v ys (put bytes_cmp x ys)) [ true ↦ refl | false ↦ refl ]
 
-with_rises : (x : List ℕ) (ys : List (List ℕ)) → Rises bytes_cmp ys → Rises bytes_cmp (with_item x ys)
+with_rises : (x : List ℕ) (ys : List (List ℕ)) → Rises bytes_cmp ys → Rises bytes_cmp (with_article x ys)
 with_rises x [] rise = (tt, tt)
 with_rises x (y ∷ ys) rise =
-    elim (bytes_cmp x y) as (λ o. bytes_cmp x y ≡ o → Rises bytes_cmp (with_item x (y ∷ ys))) [
+    elim (bytes_cmp x y) as (λ o. bytes_cmp x y ≡ o → Rises bytes_cmp (with_article x (y ∷ ys))) [
       | Less ↦ λ e. subst (Rises bytes_cmp) (sym (with_below x y ys e rise.0)) ((e, all_above x y ys e rise.0), rise)
       | Equal ↦ λ e. subst (Rises bytes_cmp) (sym (with_same x y ys (equal_is x y e))) rise
       | Greater ↦ λ e. subst (Rises bytes_cmp) (sym (with_above x y ys e)) (all_with ys rise.0 (turned x y Greater e), with_rises x ys rise.1)
     ] refl
   where
-    all_with : (zs : List (List ℕ)) → AllByRecursion (λ z. bytes_cmp y z ≡ Less) zs → bytes_cmp y x ≡ Less → AllByRecursion (λ z. bytes_cmp y z ≡ Less) (with_item x zs)
+    all_with : (zs : List (List ℕ)) → AllByRecursion (λ z. bytes_cmp y z ≡ Less) zs → bytes_cmp y x ≡ Less → AllByRecursion (λ z. bytes_cmp y z ≡ Less) (with_article x zs)
     all_with zs all h = elim (list_any (same x) zs) as (λ v. AllByRecursion (λ z. bytes_cmp y z ≡ Less) (cond v zs (put bytes_cmp x zs))) [ true ↦ all | false ↦ all_put bytes_cmp (λ z. bytes_cmp y z ≡ Less) zs x all h ]
 
 order_rises : (xs : List (List ℕ)) → Rises bytes_cmp (in_digit_order xs)
@@ -106,11 +106,11 @@ alike f g x others (key ∷ keys) all = ap₂ (λ t rest. (key, t) ∷ rest) (sy
 
 -- one with other totals, where the item gets them and the others keep theirs
 put_totals : (x : List ℕ) (v : Totals) (f g : List ℕ → Totals) → g x ≡ v → ((key : List ℕ) → same x key ≡ false → g key ≡ f key) → (keys : List (List ℕ)) → Rises bytes_cmp keys →
-    insert_entry bytes_cmp (entries f keys) x v ≡ entries g (with_item x keys)
+    insert_entry bytes_cmp (entries f keys) x v ≡ entries g (with_article x keys)
 put_totals x v f g here others [] rise = ap (λ t. (x, t) ∷ []) (sym here)
 put_totals x v f g here others (y ∷ ys) rise =
     let rest = entries f ys in
-    elim (bytes_cmp x y) as (λ o. bytes_cmp x y ≡ o → match_ordering o ((x, v) ∷ (y, f y) ∷ rest) ((y, v) ∷ rest) ((y, f y) ∷ insert_entry bytes_cmp rest x v) ≡ entries g (with_item x (y ∷ ys))) [
+    elim (bytes_cmp x y) as (λ o. bytes_cmp x y ≡ o → match_ordering o ((x, v) ∷ (y, f y) ∷ rest) ((y, v) ∷ rest) ((y, f y) ∷ insert_entry bytes_cmp rest x v) ≡ entries g (with_article x (y ∷ ys))) [
       | Less ↦ λ e.
           ap₂ (λ t more. (x, t) ∷ more) (sym here) (alike f g x others (y ∷ ys) (e, all_above x y ys e rise.0))
           ∙ ap (entries g) (sym (with_below x y ys e rise.0))

@@ -1,7 +1,7 @@
 -- The lines of items on a pallet.
 use Rattle.std.specs.Prelude.{ℕ, List, ◌∷◌, ◌++◌, if◌then◌else◌, codes}
 use Rattle.hub_tables.specs.declared.rows.PalletRow.{PalletRow}
-use Rattle.hub_law.specs.StatusText.{is_announced}
+use Rattle.hub_tables.specs.State.{is_announced}
 use Rattle.hub_texts.specs.Lines.{number_text}
 use Rattle.hub_texts.specs.declared.totals.Totals.{Totals}
 

@@ -11,7 +11,7 @@ use Rattle.hub_tables.specs.declared.rows.ContentRow.{ContentRow}
 use Rattle.hub_tables.specs.declared.rows.LineRow.{LineRow}
 use Rattle.hub_tables.specs.declared.rows.PalletRow.{PalletRow}
 use Rattle.hub_tables.specs.declared.rows.ReceiptRow.{ReceiptRow}
-use Rattle.hub_law.specs.StatusText.{in_digit_order, item_text}
+use Rattle.hub_law.specs.StatusText.{in_digit_order, article_text}
 use Rattle.hub_texts.specs.Items.{item_among, item_in}
 use Rattle.hub_texts.specs.declared.totals.Totals.{Totals}
 
@@ -94,5 +94,5 @@ table_of lines contents receipts =
     map (λ gtin. (gtin, totals_of lines contents receipts gtin)) (items_of lines contents receipts)
 
 -- the text of an item with its totals
-abbrev pub entry_text : PalletRow → List ℕ × Totals → List ℕ
-entry_text pallet entry = item_text pallet entry.0 entry.1.despatched entry.1.accepted entry.1.returned entry.1.destroyed
+abbrev pub article_line : PalletRow → List ℕ × Totals → List ℕ
+article_line pallet entry = article_text pallet entry.0 entry.1.despatched entry.1.accepted entry.1.returned entry.1.destroyed

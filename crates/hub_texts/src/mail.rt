@@ -120,7 +120,7 @@ fn put_trailer(out: &mut Vec<u8>, number: &[u8]) -> Result<(), MemoryFault>
 
 /// The text of a mailbox entry: the hub's interchange to its owner, with its moment, number and decimal mark.
 pub fn entry_text(alloc: Global, hub: &Gln, entry: &MailRow) -> Result<Items<u8>, MemoryFault>
-    ensures { IfOk result (λ text. text ≡ spec.mail_text hub.now entry.now) }
+    ensures { IfOk result (λ text. text ≡ spec.entry_text hub.now entry.now) }
 {
     let body = entry.body.as_slice();
     let mut digits = Buffer::new();

@@ -3,13 +3,13 @@ ghost use Rattle.std.specs.Prelude.{◌≡◌, ◌+◌, ◌++◌, ◌∷◌, Err
 ghost use Rattle.std.specs.Fmt.{decimal};
 ghost use Rattle.std.specs.List.{flat_map};
 ghost use Rattle.hub_tables.specs.Sets.{Rises};
-ghost use Rattle.hub_tables.specs.State.{contents_of, receipts_of};
+ghost use Rattle.hub_tables.specs.State.{is_announced, contents_of, receipts_of};
 ghost use Rattle.hub_tables.specs.Tables.{Tables};
 ghost use Rattle.hub_law.specs.StatusText as law;
 ghost use Rattle.hub_law.specs.Widths.{right};
 ghost use Rattle.hub_texts.specs.Items.{place_cmp};
 ghost use Rattle.hub_texts.specs.Pallets as spec;
-ghost use Rattle.hub_texts.specs.Totals.{entry_text, IsUnclean};
+ghost use Rattle.hub_texts.specs.Totals.{article_line, IsUnclean};
 ghost use Rattle.hub_texts.specs.declared.fault.TextFault.TheVariants.{Unclean};
 ghost use Rattle.hub_texts.specs.declared.totals.Totals.{Totals};
 
@@ -24,7 +24,7 @@ use std::alloc::Global;
 
 // Whether a pallet is announced.
 fn is_announced(pallet: &PalletRow) -> bool
-    ensures { result ≡ law.is_announced pallet.now }
+    ensures { result ≡ is_announced pallet.now }
 {
     pallet.received.case() == Arrival::Announced
 }
@@ -103,7 +103,7 @@ fn put_item(
     gtin: &Gtin,
     totals: &Totals,
 ) -> Result<(), MemoryFault>
-    ensures { OnOk result (out.new.items ≡ out.old.items ++ entry_text pallet.now (gtin.now, totals.now)) }
+    ensures { OnOk result (out.new.items ≡ out.old.items ++ article_line pallet.now (gtin.now, totals.now)) }
 {
     put_item_start(out, pallet, gtin)?;
     put_totals(out, totals)?;
@@ -114,7 +114,7 @@ fn put_item(
 
 // Appends the lines of items.
 fn put_items(out: &mut Vec<u8>, pallet: &PalletRow, items: &ItemTotals) -> Result<(), MemoryFault>
-    ensures { OnOk result (out.new.items ≡ out.old.items ++ flat_map (entry_text pallet.now) items.now.entries) }
+    ensures { OnOk result (out.new.items ≡ out.old.items ++ flat_map (article_line pallet.now) items.now.entries) }
 {
     for (gtin, totals) in items {
         put_item(out, pallet, gtin, totals)?;

@@ -34,6 +34,6 @@ returns-clause-told g c = λ honest kept.
       used_there = λ sscc h. seen_is_there supplier t sscc h;
       orders = λ order names. known_among (knows_order state) order numbers (is_named order names) ∙ ap (is_among order) (sym orders);
       lines = λ order names.
-        sym (same_rows order c.in_ok-facts.facts ∙ ap (filter (λ row. same row.number order)) (c.in_ok-facts.ensures.rows ∙ found)
-        ∙ lines_of_named state order c.in_ok-named.named.keys c.in_ok-named.ensures.ordered (is_named order names));
+          sym (same_rows order c.in_ok-facts.facts ∙ ap (filter (λ row. same row.number order)) (c.in_ok-facts.ensures.rows ∙ found)
+          ∙ lines_of_named state order c.in_ok-named.named.keys c.in_ok-named.ensures.ordered (is_named order names));
     }

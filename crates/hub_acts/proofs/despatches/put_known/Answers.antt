@@ -15,20 +15,20 @@ loop-number-preserved g c =
     record {
       stays = search rules;
       orders = λ honest.
-        let known = c.lines_of.ensures.looks.was_honest honest in
-        let was = c.order_known.ensures.looks.was_honest known in
-        let there = c.in_ok-is_there.ensures.looks.answers known ∙ ap (λ t. knows_order (view supplier t) number) (before.stays.content_stays was) in
-        ap (λ xs. xs ++ filter (knows_order state) later) c.in_ok-put_if_there.ensures
-        ∙ kept_more (knows_order state) c.loop-number.orders number c.in_ok-is_there.is_there later there
-        ∙ ap (λ ahead. c.loop-number.orders ++ filter (knows_order state) (map (λ number. number.now) ahead)) (sym c.in-Some.ensures.steps)
-        ∙ before.orders was;
+          let known = c.lines_of.ensures.looks.was_honest honest in
+          let was = c.order_known.ensures.looks.was_honest known in
+          let there = c.in_ok-is_there.ensures.looks.answers known ∙ ap (λ t. knows_order (view supplier t) number) (before.stays.content_stays was) in
+          ap (λ xs. xs ++ filter (knows_order state) later) c.in_ok-put_if_there.ensures
+          ∙ kept_more (knows_order state) c.loop-number.orders number c.in_ok-is_there.is_there later there
+          ∙ ap (λ ahead. c.loop-number.orders ++ filter (knows_order state) (map (λ number. number.now) ahead)) (sym c.in-Some.ensures.steps)
+          ∙ before.orders was;
       rows = λ honest.
-        let known = c.lines_of.ensures.looks.was_honest honest in
-        let was = c.order_known.ensures.looks.was_honest known in
-        let same = c.order_known.ensures.looks.content_stays known ∙ before.stays.content_stays was in
-        let found = c.in_ok-rows.ensures.looks.answers honest ∙ ap (λ t. lines_of (view supplier t) number) same in
-        ap (λ xs. xs ++ flat_map (lines_of state) later) c.in_ok-put_rows.ensures
-        ∙ found_more (lines_of state) c.loop-number.lines c.in_ok-rows.rows number later found
-        ∙ ap (λ ahead. c.loop-number.lines ++ flat_map (lines_of state) (map (λ number. number.now) ahead)) (sym c.in-Some.ensures.steps)
-        ∙ before.rows was;
+          let known = c.lines_of.ensures.looks.was_honest honest in
+          let was = c.order_known.ensures.looks.was_honest known in
+          let same = c.order_known.ensures.looks.content_stays known ∙ before.stays.content_stays was in
+          let found = c.in_ok-rows.ensures.looks.answers honest ∙ ap (λ t. lines_of (view supplier t) number) same in
+          ap (λ xs. xs ++ flat_map (lines_of state) later) c.in_ok-put_rows.ensures
+          ∙ found_more (lines_of state) c.loop-number.lines c.in_ok-rows.rows number later found
+          ∙ ap (λ ahead. c.loop-number.lines ++ flat_map (lines_of state) (map (λ number. number.now) ahead)) (sym c.in-Some.ensures.steps)
+          ∙ before.rows was;
     }

@@ -17,14 +17,14 @@ loop-pallet-preserved g c =
     record {
       stays = search rules;
       text = λ honest same.
-        let second = c.receipts_of.ensures.looks.was_honest honest in
-        let first = c.contents_of.ensures.looks.was_honest second in
-        let was = before.stays.content_stays first in
-        let then = c.contents_of.ensures.looks.content_stays second ∙ was in
-        let contents = sym (c.as_slice-contents.ensures ∙ c.in_ok-announced.ensures.looks.answers second ∙ ap (λ t. contents_of (view supplier t) pallet.sscc) was) in
-        let receipts = sym (c.as_slice-receipts.ensures ∙ c.in_ok-received.ensures.looks.answers honest ∙ ap (λ t. receipts_of (view supplier t) pallet.sscc) then) in
-        ap (λ xs. xs ++ flat_map (pallet_text state) rest) (c.in_ok-put_text.ensures state same contents receipts)
-        ∙ append_assoc c.loop-pallet.out.items (pallet_text state pallet) (flat_map (pallet_text state) rest)
-        ∙ ap (λ xs. c.loop-pallet.out.items ++ flat_map (pallet_text state) xs) (sym next)
-        ∙ before.text first same;
+          let second = c.receipts_of.ensures.looks.was_honest honest in
+          let first = c.contents_of.ensures.looks.was_honest second in
+          let was = before.stays.content_stays first in
+          let then = c.contents_of.ensures.looks.content_stays second ∙ was in
+          let contents = sym (c.as_slice-contents.ensures ∙ c.in_ok-announced.ensures.looks.answers second ∙ ap (λ t. contents_of (view supplier t) pallet.sscc) was) in
+          let receipts = sym (c.as_slice-receipts.ensures ∙ c.in_ok-received.ensures.looks.answers honest ∙ ap (λ t. receipts_of (view supplier t) pallet.sscc) then) in
+          ap (λ xs. xs ++ flat_map (pallet_text state) rest) (c.in_ok-put_text.ensures state same contents receipts)
+          ∙ append_assoc c.loop-pallet.out.items (pallet_text state pallet) (flat_map (pallet_text state) rest)
+          ∙ ap (λ xs. c.loop-pallet.out.items ++ flat_map (pallet_text state) xs) (sym next)
+          ∙ before.text first same;
     }

@@ -1,12 +1,12 @@
 use Rattle.std.proofs.Common.{◌++◌, List, ℕ, codes, ap, ap₂, ◌∙◌}
 use Rattle.edi_tokens.specs.Text.{una}
 use Rattle.edi_envelope.specs.Moment.{date_text, time_text}
-use Rattle.hub_law.specs.MailText.{mail_text}
+use Rattle.hub_law.specs.MailText.{entry_text}
 use Rattle.hub_texts.proofs.MailTexts.{parts_of_mail}
 use Rattle.hub_texts.proofs.mail.entry_text.Goals as goal
 
 pub returns : goal.returns
-unfolding mail_text
+unfolding entry_text
 returns c =
     let hub = c.args.hub.now in
     let entry = c.args.entry.now in
