@@ -5,15 +5,16 @@ use Rattle.std.specs.List.{AllZip}
 use Rattle.std.proofs.lemmas.Bool.Decides.{Decides-and}
 use Rattle.edi_tokens.specs.declared.segment.Segment.{Segment}
 use Rattle.edi_messages.specs.Header.{named_by}
-use Rattle.edi_messages.specs.Parts.{header, is_qualified}
+use Rattle.edi_messages.specs.Parts.{header}
 use Rattle.edi_goods.specs.Parties.{has_parties, has_buyer_or_none, buyer}
 use Rattle.edi_law.specs.Header.{NamesParty, NamesBuyer, IsNamed}
 use Rattle.edi_law.specs.Parts.{OneOrNone}
+use Rattle.edi_law.specs.Segments.{says}
 use Rattle.edi_law.proofs.HeaderLemmas.{Decides-party, Says-named}
 use Rattle.edi_law.proofs.PartLemmas.{at_header, IsHeader-header, found-from_OneOrNone, Decides-one_or_none}
 
 abbrev names_buyer : Segment → Bool
-names_buyer = is_qualified (codes "NAD") (codes "BY")
+names_buyer = says (codes "NAD") (codes "BY")
 
 pub buyer-from_NamesBuyer : (message : List Segment) (o : Option (List ℕ)) → NamesBuyer message o → buyer message ≡ o
 buyer-from_NamesBuyer message o h = found-from_OneOrNone names_buyer named_by IsNamed Says-named (header message) o (at_header (λ part. OneOrNone names_buyer IsNamed part o) message h)

@@ -11,10 +11,11 @@ use Rattle.gs1_ids.proofs.Decided.{Decides-is_key}
 use Rattle.edi_tokens.specs.declared.segment.Segment.{Segment}
 use Rattle.edi_envelope.specs.Segments.{has_tag, component}
 use Rattle.edi_envelope.specs.declared.interchange.RawMessage.{RawMessage}
-use Rattle.edi_messages.specs.Parts.{only, qualified, is_qualified}
+use Rattle.edi_messages.specs.Parts.{only, qualified}
 use Rattle.edi_messages.specs.Header.{is_type, begins_as, document_number, function, is_dated, has_date, named_by, party}
 use Rattle.edi_law.specs.Header.{IsOfType, Begins, HasFunction, IsDated, IsNamed, NamesParty}
 use Rattle.edi_law.specs.Parts.{HasNone, OfOnly}
+use Rattle.edi_law.specs.Segments.{says}
 use Rattle.edi_law.specs.Values.{IsDocumentNumber, IsDate}
 use Rattle.edi_law.proofs.Deciding.{Decides-is_some, Says, Says-like, Says-if}
 use Rattle.edi_law.proofs.PartLemmas.{Decides-header, Says-header, Decides-of_only, Says-of_only, none_passes, passes_none}
@@ -115,7 +116,7 @@ Decides-function message code some =
 pub Decides-dated : (message : List Segment) → Decides (has_date message) (IsDated message)
 Decides-dated =
     Decides-header (λ part. is_dated (only (qualified (codes "DTM") (codes "137") part))) _
-    (Decides-of_only (is_qualified (codes "DTM") (codes "137")) is_dated (λ dtm. IsDate (component dtm 0 2) (component dtm 0 1)) refl (λ dtm. Decides-date (component dtm 0 2) (component dtm 0 1)))
+    (Decides-of_only (says (codes "DTM") (codes "137")) is_dated (λ dtm. IsDate (component dtm 0 2) (component dtm 0 1)) refl (λ dtm. Decides-date (component dtm 0 2) (component dtm 0 1)))
 
 -- the parties
 pub Says-named : (nad : Segment) → Says (named_by nad) (λ gln. IsNamed gln nad)
@@ -128,8 +129,8 @@ Says-named nad =
 
 pub Says-party : (role : List ℕ) (message : List Segment) → Says (party role message) (NamesParty role message)
 Says-party role message =
-    Says-header _ (λ gln header. OfOnly (is_qualified (codes "NAD") role) header (IsNamed gln))
-    (Says-of_only (is_qualified (codes "NAD") role) named_by IsNamed Says-named) message
+    Says-header _ (λ gln header. OfOnly (says (codes "NAD") role) header (IsNamed gln))
+    (Says-of_only (says (codes "NAD") role) named_by IsNamed Says-named) message
 
 pub Decides-party : (role : List ℕ) (message : List Segment) → Decides (is_some (party role message)) ((gln : List ℕ) × NamesParty role message gln)
 Decides-party role message = Decides-is_some (party role message) (NamesParty role message) (Says-party role message)

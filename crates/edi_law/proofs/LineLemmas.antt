@@ -13,9 +13,9 @@ use Rattle.edi_tokens.specs.declared.segment.Segment.{Segment}
 use Rattle.edi_tokens.specs.Segment.{element_at}
 use Rattle.edi_envelope.specs.Segments.{component}
 use Rattle.edi_messages.specs.Lines.{number, number_or_zero, gtin_in, gtin, is_line, is_piece, from_least, amount, quantity_of}
-use Rattle.edi_messages.specs.Parts.{is_qualified}
 use Rattle.edi_messages.specs.Values.{quantity}
 use Rattle.edi_law.specs.Lines.{HasGtin, IsLine, IsAmount, HasQuantity, NoneTwice}
+use Rattle.edi_law.specs.Segments.{says}
 use Rattle.edi_law.specs.Values.{IsLineNumber, IsQuantity}
 use Rattle.edi_law.proofs.Deciding.{Says, Refutes, Refutes-false, Refutes-or, Refutes-any, Refutes-ne, Decides-leb, Decides-is_some, Says-like, Says-if, Says-when, Says-then}
 use Rattle.edi_law.proofs.PartLemmas.{Says-of_only}
@@ -100,7 +100,7 @@ Says-amount least qty =
     (λ m. Says-if (nat_le least m) (least ≤ m) m (Decides-leb least m))))
 
 pub Says-quantity_of : (kind : List ℕ) (least : ℕ) (group : List Segment) → Says (quantity_of kind least group) (HasQuantity kind least group)
-Says-quantity_of kind least group = Says-of_only (is_qualified (codes "QTY") kind) (amount least) (IsAmount least) (Says-amount least) group
+Says-quantity_of kind least group = Says-of_only (says (codes "QTY") kind) (amount least) (IsAmount least) (Says-amount least) group
 
 -- what comes twice
 module _ {X : Type 0} (same : X → X → Bool) (decides : (x y : X) → Decides (same x y) (x ≡ y)) where

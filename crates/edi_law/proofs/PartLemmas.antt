@@ -5,8 +5,9 @@ use Rattle.std.specs.List.{list_any, AllByRecursion, take_while}
 use Rattle.std.proofs.lemmas.Bool.{cases_Bool, true≢false, not-true, not_from_false, true_from_ne_false}
 use Rattle.std.proofs.lemmas.List.Sums.{take_while-cons}
 use Rattle.edi_tokens.specs.declared.segment.Segment.{Segment}
-use Rattle.edi_messages.specs.Parts.{only, header, line_groups, up_to_end, is_lin, ends_part}
+use Rattle.edi_messages.specs.Parts.{only, header, line_groups, up_to_end}
 use Rattle.edi_law.specs.Parts.{HasNone, BeginsWith, IsFront, IsOnly, IsHeader, AreParts, AreLineGroups, OfHeader, OfLines, OfOnly, OneOrNone}
+use Rattle.edi_law.specs.Segments.{is_line_item, parts_lines}
 use Rattle.edi_law.proofs.Deciding.{Refutes, Says, same_some, Says-then, Decides-of}
 
 -- what stands in front of the first of a kind, and the rest
@@ -80,16 +81,16 @@ pub front-from_IsFront : (kind : Segment → Bool) (part segments : List Segment
 front-from_IsFront kind part segments h = ap (front kind) h.place ∙ front_is kind part h.rest h.within (stops-BeginsWith kind h.rest h.ends)
 
 -- the header
-up_to_end-front : (segments : List Segment) → up_to_end segments ≡ front ends_part segments
-up_to_end-front segments = taken _ ends_part (λ segment. refl) segments
+up_to_end-front : (segments : List Segment) → up_to_end segments ≡ front parts_lines segments
+up_to_end-front segments = taken _ parts_lines (λ segment. refl) segments
 
 pub IsHeader-header : (message : List Segment) → IsHeader (header message) message
 IsHeader-header [] = refl
-IsHeader-header (unh ∷ segments) = subst (λ part. IsFront ends_part part segments) (sym (up_to_end-front segments)) (IsFront-front ends_part segments)
+IsHeader-header (unh ∷ segments) = subst (λ part. IsFront parts_lines part segments) (sym (up_to_end-front segments)) (IsFront-front parts_lines segments)
 
 pub header-from_IsHeader : (part message : List Segment) → IsHeader part message → header message ≡ part
 header-from_IsHeader part [] h = sym h
-header-from_IsHeader part (unh ∷ segments) h = up_to_end-front segments ∙ front-from_IsFront ends_part part segments h
+header-from_IsHeader part (unh ∷ segments) h = up_to_end-front segments ∙ front-from_IsFront parts_lines part segments h
 
 pub Decides-header : (t : List Segment → Bool) (Is : List Segment → Type 0) → ((part : List Segment) → Decides (t part) (Is part)) → (message : List Segment) → Decides (t (header message)) (OfHeader Is message)
 Decides-header t Is each message = (
@@ -298,24 +299,24 @@ module _ (begins ends : Segment → Bool) (apart : (s : Segment) → ends s ≡ 
   AreParts-cut segments = (reads segments).0 [] tt
 
 -- the line groups
-lines_apart : (s : Segment) → ends_part s ≡ false → is_lin s ≡ false
+lines_apart : (s : Segment) → parts_lines s ≡ false → is_line_item s ≡ false
 lines_apart s h =
-    elim (cases_Bool (is_lin s)) [
+    elim (cases_Bool (is_line_item s)) [
       | inl is ↦ let e : true ≡ false = sym (rw is refl) ∙ h in absurd (true≢false e)
       | inr not_ ↦ not_
     ]
 
-lines_cut : (segments : List Segment) → line_groups segments ≡ cut is_lin ends_part lines_apart segments
+lines_cut : (segments : List Segment) → line_groups segments ≡ cut is_line_item parts_lines lines_apart segments
 lines_cut [] = refl
 lines_cut (s ∷ rest) =
-    ap (λ part. cond (is_lin s) ((s ∷ part) ∷ line_groups rest) (line_groups rest)) (up_to_end-front rest)
-    ∙ ap (λ parts. cond (is_lin s) ((s ∷ front ends_part rest) ∷ parts) parts) (lines_cut rest)
+    ap (λ part. cond (is_line_item s) ((s ∷ part) ∷ line_groups rest) (line_groups rest)) (up_to_end-front rest)
+    ∙ ap (λ parts. cond (is_line_item s) ((s ∷ front parts_lines rest) ∷ parts) parts) (lines_cut rest)
 
 pub AreLineGroups-line_groups : (segments : List Segment) → AreLineGroups segments (line_groups segments)
-AreLineGroups-line_groups segments = subst (AreLineGroups segments) (sym (lines_cut segments)) (AreParts-cut is_lin ends_part lines_apart segments)
+AreLineGroups-line_groups segments = subst (AreLineGroups segments) (sym (lines_cut segments)) (AreParts-cut is_line_item parts_lines lines_apart segments)
 
 pub line_groups-from_AreLineGroups : (groups : List (List Segment)) (segments : List Segment) → AreLineGroups segments groups → line_groups segments ≡ groups
-line_groups-from_AreLineGroups groups segments h = lines_cut segments ∙ cut_is is_lin ends_part lines_apart groups segments h
+line_groups-from_AreLineGroups groups segments h = lines_cut segments ∙ cut_is is_line_item parts_lines lines_apart groups segments h
 
 pub Decides-lines : (t : List (List Segment) → Bool) (Are : List (List Segment) → Type 0) → ((groups : List (List Segment)) → Decides (t groups) (Are groups)) → (segments : List Segment) → Decides (t (line_groups segments)) (OfLines Are segments)
 Decides-lines t Are each segments = (

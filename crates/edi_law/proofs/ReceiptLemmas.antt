@@ -8,7 +8,7 @@ use Rattle.edi_tokens.specs.declared.segment.Segment.{Segment}
 use Rattle.edi_envelope.specs.declared.interchange.RawMessage.{RawMessage}
 use Rattle.edi_messages.specs.Header.{party}
 use Rattle.edi_messages.specs.Lines.{amount, quantity_of}
-use Rattle.edi_messages.specs.Parts.{line_groups, is_qualified}
+use Rattle.edi_messages.specs.Parts.{line_groups}
 use Rattle.edi_messages.specs.declared.fault.MessageFault.{MessageFault}
 use Rattle.edi_messages.specs.declared.fault.MessageFault.TheVariants as faults
 use Rattle.edi_goods.specs.Parties.{buyer}
@@ -22,6 +22,7 @@ use Rattle.edi_law.specs.Lines.{IsLine, IsAmount}
 use Rattle.edi_law.specs.Lowest.{number, IsLowest, IsFaultless}
 use Rattle.edi_law.specs.Parts.{OfLines}
 use Rattle.edi_law.specs.Receipt.{HasKind, HasReceived, IsReceiptLine, AreWithin, AreReceived, IsRight, IsReceiptUnit, IsReceipt}
+use Rattle.edi_law.specs.Segments.{says}
 use Rattle.edi_law.specs.Units.{OfUnits, AreLines, HasSscc, IsUnit, AreMarked}
 use Rattle.edi_law.proofs.Deciding.{Refutes, Refutes-not, Refutes-false, said_of, unwrap_of}
 use Rattle.edi_law.proofs.GoodsLemmas.{Decides-parties, buyer-from_NamesBuyer, NamesBuyer-buyer, zip_is}
@@ -36,7 +37,7 @@ use Rattle.edi_law.proofs.UnitLemmas.{Decides-each_line, Decides-has_units, of_u
 -- the quantities of a group
 module _ (kind : List ℕ) (group : List Segment) where
   abbrev is_kind : Segment → Bool
-  is_kind = is_qualified (codes "QTY") kind
+  is_kind = says (codes "QTY") kind
 
   Decides-kind : Decides (is_once_or_none kind group) ((o : Option ℕ) × HasKind kind group o)
   Decides-kind = Decides-one_or_none is_kind (amount 0) (IsAmount 0) (Says-amount 0) group

@@ -11,7 +11,7 @@ use Rattle.edi_envelope.specs.Segments.{component}
 use Rattle.edi_envelope.specs.declared.interchange.RawMessage.{RawMessage}
 use Rattle.edi_messages.specs.Header.{function, party}
 use Rattle.edi_messages.specs.Lines.{line, gtin, is_line, quantity_of}
-use Rattle.edi_messages.specs.Parts.{line_groups, is_qualified}
+use Rattle.edi_messages.specs.Parts.{line_groups}
 use Rattle.edi_messages.specs.References.{order, has_line_or_none}
 use Rattle.edi_messages.specs.Values.{is_document_number}
 use Rattle.edi_messages.specs.declared.fault.MessageFault.{MessageFault}
@@ -30,6 +30,7 @@ use Rattle.edi_law.specs.Lowest.{IsLowest, IsFaultless}
 use Rattle.edi_law.specs.Parts.{HasNone, OfLines, OfOnly}
 use Rattle.edi_law.specs.References.{is_rff_on, NamesOrder, NamesLineOrNone, HeaderNames}
 use Rattle.edi_law.specs.Response.{Extent, EachLine, NoneOfAll, AllOfAll, Action, Accept, Refuse, Change, HasExtent, OfReadLines, IsAction, HasAction, AreAnswered, HasChange, IsChangeRight, IsReferred, IsRight, HasAnswer, IsAnswerLine, HasAnswers, IsResponse}
+use Rattle.edi_law.specs.Segments.{says}
 use Rattle.edi_law.specs.Values.{IsDocumentNumber}
 use Rattle.edi_law.proofs.Deciding.{Says, Refutes, Refutes-not, Refutes-and, Refutes-false, Decides-all, Decides-is_some, Decides-of, Decides-read, chosen, said_of, unwrap_of}
 use Rattle.edi_law.proofs.HeaderLemmas.{Decides-type, Decides-begins, Decides-function, function-from_HasFunction, Decides-dated, Decides-party, Says-party, Begins-begins_as, begins_as-from_Begins, document_number-from_Begins}
@@ -180,7 +181,7 @@ Decides-answered groups =
 
 -- the quantities
 abbrev is_changed : Segment → Bool
-is_changed = is_qualified (codes "QTY") (codes "113")
+is_changed = says (codes "QTY") (codes "113")
 
 change_by : (group : List Segment) (some : Bool) → list_any is_changed group ≡ some → Says (cond some (quantity_of (codes "113") 0 group) (quantity_of (codes "21") 0 group)) (HasChange group)
 change_by group true e n = (

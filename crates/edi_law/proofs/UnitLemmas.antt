@@ -12,38 +12,39 @@ use Rattle.edi_tokens.specs.declared.segment.Segment.{Segment}
 use Rattle.edi_tokens.specs.Segment.{element_at}
 use Rattle.edi_envelope.specs.Segments.{component}
 use Rattle.edi_messages.specs.Lines.{is_line}
-use Rattle.edi_messages.specs.Parts.{line_groups, only, is_lin, is_cps, is_qualified}
-use Rattle.edi_goods.specs.Units.{units, read_units, head, sscc_in, sscc, sscc_or_none, has_line_outside, is_unit, has_units, has_lines, ends_unit}
+use Rattle.edi_messages.specs.Parts.{line_groups, only}
+use Rattle.edi_goods.specs.Units.{units, read_units, head, sscc_in, sscc, sscc_or_none, has_line_outside, is_unit, has_units, has_lines}
 use Rattle.edi_law.specs.Lines.{IsLine, NoneTwice}
 use Rattle.edi_law.specs.Parts.{HasNone, IsFront, AreUnits, OfLines}
+use Rattle.edi_law.specs.Segments.{is_line_item, is_packing, parts_units, says}
 use Rattle.edi_law.specs.Units.{AreReadUnits, OfUnits, OfUnitLines, AreLines, NoLineOutside, IsMarked, HasSscc, IsUnit, AreMarked, HasUnits}
 use Rattle.edi_law.proofs.Deciding.{Says, Decides-all, Decides-is_some, Says-like, Says-if, Says-when, said_of}
 use Rattle.edi_law.proofs.LineLemmas.{Decides-nothing, Decides-line, Refutes-text_twice}
 use Rattle.edi_law.proofs.PartLemmas.{front, taken, IsFront-front, front-from_IsFront, cut, cut_is, AreParts-cut, Decides-lines, Decides-none, Says-of_only}
 
 -- the units
-units_apart : (s : Segment) → ends_unit s ≡ false → is_cps s ≡ false
+units_apart : (s : Segment) → parts_units s ≡ false → is_packing s ≡ false
 units_apart s h =
-    elim (cases_Bool (is_cps s)) [
+    elim (cases_Bool (is_packing s)) [
       | inl is ↦ let e : true ≡ false = sym (rw is refl) ∙ h in absurd (true≢false e)
       | inr not_ ↦ not_
     ]
 
-units_cut : (segments : List Segment) → units segments ≡ cut is_cps ends_unit units_apart segments
+units_cut : (segments : List Segment) → units segments ≡ cut is_packing parts_units units_apart segments
 units_cut [] = refl
 units_cut (s ∷ rest) =
-    ap (λ part. cond (is_cps s) ((s ∷ part) ∷ units rest) (units rest)) (taken _ ends_unit (λ later. refl) rest)
-    ∙ ap (λ parts. cond (is_cps s) ((s ∷ front ends_unit rest) ∷ parts) parts) (units_cut rest)
+    ap (λ part. cond (is_packing s) ((s ∷ part) ∷ units rest) (units rest)) (taken _ parts_units (λ later. refl) rest)
+    ∙ ap (λ parts. cond (is_packing s) ((s ∷ front parts_units rest) ∷ parts) parts) (units_cut rest)
 
 pub AreReadUnits-read_units : (message : List Segment) → AreReadUnits message (read_units message)
 AreReadUnits-read_units message = record {
   all = units message;
-  are_all = subst (AreUnits message) (sym (units_cut message)) (AreParts-cut is_cps ends_unit units_apart message);
+  are_all = subst (AreUnits message) (sym (units_cut message)) (AreParts-cut is_packing parts_units units_apart message);
   are_read = refl;
 }
 
 pub read_units-from_AreReadUnits : (parts : List (List Segment)) (message : List Segment) → AreReadUnits message parts → read_units message ≡ parts
-read_units-from_AreReadUnits parts message h = ap (filter (list_any is_lin)) (units_cut message ∙ cut_is is_cps ends_unit units_apart h.all message h.are_all) ∙ sym h.are_read
+read_units-from_AreReadUnits parts message h = ap (filter (list_any is_line_item)) (units_cut message ∙ cut_is is_packing parts_units units_apart h.all message h.are_all) ∙ sym h.are_read
 
 pub Decides-units : (t : List (List Segment) → Bool) (Are : List (List Segment) → Type 0) → ((parts : List (List Segment)) → Decides (t parts) (Are parts)) → (message : List Segment) → Decides (t (read_units message)) (OfUnits Are message)
 Decides-units t Are each message = (
@@ -87,14 +88,14 @@ Says-marked gin =
     (Says-when _ (sscc_of text) _ _ (Decides-and _ _ (Decides-eqb (length gin.elements) 2) (Decides-eqb (length (element_at gin.elements 1)) 1))
     (Says-if (is_key 18 text) (IsSscc text) text (Decides-is_key 18 text)))
 
-head_front : (unit : List Segment) → head unit ≡ front is_lin unit
-head_front unit = taken _ is_lin (λ segment. refl) unit
+head_front : (unit : List Segment) → head unit ≡ front is_line_item unit
+head_front unit = taken _ is_line_item (λ segment. refl) unit
 
 pub Says-sscc : (unit : List Segment) → Says (sscc unit) (HasSscc unit)
 Says-sscc unit digits =
-    let read = Says-of_only (is_qualified (codes "GIN") (codes "BJ")) sscc_in IsMarked Says-marked in (
-      (λ e. record { head = head unit; is_head = subst (λ part. IsFront is_lin part unit) (sym (head_front unit)) (IsFront-front is_lin unit); gin = (read (head unit) digits).0 e }),
-      (λ h. ap (λ part. option_and_then sscc_in (only (filter (is_qualified (codes "GIN") (codes "BJ")) part))) (head_front unit ∙ front-from_IsFront is_lin h.head unit h.is_head) ∙ (read h.head digits).1 h.gin),
+    let read = Says-of_only (says (codes "GIN") (codes "BJ")) sscc_in IsMarked Says-marked in (
+      (λ e. record { head = head unit; is_head = subst (λ part. IsFront is_line_item part unit) (sym (head_front unit)) (IsFront-front is_line_item unit); gin = (read (head unit) digits).0 e }),
+      (λ h. ap (λ part. option_and_then sscc_in (only (filter (says (codes "GIN") (codes "BJ")) part))) (head_front unit ∙ front-from_IsFront is_line_item h.head unit h.is_head) ∙ (read h.head digits).1 h.gin),
     )
 
 -- a unit
@@ -145,10 +146,10 @@ Decides-marked parts = (
 -- a line outside of the units
 Decides-outside : (message : List Segment) → Decides (not (has_line_outside message)) (NoLineOutside message)
 Decides-outside message =
-    let outside = take_while (λ segment. not (is_cps segment)) message in
-    let same : outside ≡ front is_cps message = taken _ is_cps (λ segment. refl) message in (
-      (λ e. record { outside = outside; is_front = subst (λ part. IsFront is_cps part message) (sym same) (IsFront-front is_cps message); no_line = (Decides-none is_lin outside).0 e }),
-      (λ h. (Decides-none is_lin outside).1 (subst (HasNone is_lin) (sym (same ∙ front-from_IsFront is_cps h.outside message h.is_front)) h.no_line)),
+    let outside = take_while (λ segment. not (is_packing segment)) message in
+    let same : outside ≡ front is_packing message = taken _ is_packing (λ segment. refl) message in (
+      (λ e. record { outside = outside; is_front = subst (λ part. IsFront is_packing part message) (sym same) (IsFront-front is_packing message); no_line = (Decides-none is_line_item outside).0 e }),
+      (λ h. (Decides-none is_line_item outside).1 (subst (HasNone is_line_item) (sym (same ∙ front-from_IsFront is_packing h.outside message h.is_front)) h.no_line)),
     )
 
 and_apart : (a b c : Bool) → (a && b && c) ≡ (a && (b && c))

@@ -4,8 +4,8 @@ use Rattle.gs1_ids.specs.Gln.{IsGln}
 use Rattle.edi_tokens.specs.declared.segment.Segment.{Segment}
 use Rattle.edi_envelope.specs.Segments.{has_tag, component}
 use Rattle.edi_envelope.specs.declared.interchange.RawMessage.{RawMessage}
-use Rattle.edi_messages.specs.Parts.{is_qualified}
 use Rattle.edi_law.specs.Parts.{HasNone, OfHeader, OfOnly, OneOrNone}
+use Rattle.edi_law.specs.Segments.{says}
 use Rattle.edi_law.specs.Values.{IsDocumentNumber, IsDate}
 
 -- the message is of a type of the directory D.01B of UN
@@ -38,7 +38,7 @@ pub record HasFunction (message : List Segment) (function : List ℕ) : Type 0 w
 
 -- there is just one document date in the header, and it exists
 abbrev pub IsDated : List Segment → Type 0
-IsDated message = OfHeader (λ header. OfOnly (is_qualified (codes "DTM") (codes "137")) header (λ dtm. IsDate (component dtm 0 2) (component dtm 0 1))) message
+IsDated message = OfHeader (λ header. OfOnly (says (codes "DTM") (codes "137")) header (λ dtm. IsDate (component dtm 0 2) (component dtm 0 1))) message
 
 -- a NAD names a party by its GLN, and says that it is one
 pub record IsNamed (gln : List ℕ) (nad : Segment) : Type 0 where
@@ -48,8 +48,8 @@ pub record IsNamed (gln : List ℕ) (nad : Segment) : Type 0 where
 
 -- there is just one NAD of the role in the header, and it names this party
 abbrev pub NamesParty : List ℕ → List Segment → List ℕ → Type 0
-NamesParty role message gln = OfHeader (λ header. OfOnly (is_qualified (codes "NAD") role) header (IsNamed gln)) message
+NamesParty role message gln = OfHeader (λ header. OfOnly (says (codes "NAD") role) header (IsNamed gln)) message
 
 -- there is no NAD with BY in the header, or just one, which names the buyer
 abbrev pub NamesBuyer : List Segment → Option (List ℕ) → Type 0
-NamesBuyer message buyer = OfHeader (λ header. OneOrNone (is_qualified (codes "NAD") (codes "BY")) IsNamed header buyer) message
+NamesBuyer message buyer = OfHeader (λ header. OneOrNone (says (codes "NAD") (codes "BY")) IsNamed header buyer) message

@@ -7,6 +7,7 @@ pub mod Parts
 pub mod Receipt
 pub mod References
 pub mod Response
+pub mod Segments
 pub mod Summary
 pub mod Units
 pub mod Values

@@ -5,8 +5,8 @@ use Rattle.gs1_ids.specs.Gtin.{IsGtin, in_fourteen}
 use Rattle.edi_tokens.specs.declared.segment.Segment.{Segment}
 use Rattle.edi_tokens.specs.Segment.{element_at}
 use Rattle.edi_envelope.specs.Segments.{component}
-use Rattle.edi_messages.specs.Parts.{is_qualified}
 use Rattle.edi_law.specs.Parts.{OfOnly}
+use Rattle.edi_law.specs.Segments.{says}
 use Rattle.edi_law.specs.Values.{IsLineNumber, IsQuantity}
 
 -- LIN has a valid GTIN, said to be one, which is these fourteen digits
@@ -32,7 +32,7 @@ pub record IsAmount (least number : ℕ) (qty : Segment) : Type 0 where
 
 -- there is just one QTY of the kind in the group, with this quantity
 abbrev pub HasQuantity : List ℕ → ℕ → List Segment → ℕ → Type 0
-HasQuantity kind least group number = OfOnly (is_qualified (codes "QTY") kind) group (IsAmount least number)
+HasQuantity kind least group number = OfOnly (says (codes "QTY") kind) group (IsAmount least number)
 
 -- none comes twice
 abbrev pub NoneTwice : {X : Type 0} → List X → Type 0

@@ -2,8 +2,7 @@
 use Rattle.std.specs.Prelude.{◌≡◌, Bool, true, false, List, [], ◌∷◌, ◌++◌, ⊤, Option, Some, None}
 use Rattle.std.specs.List.{AllByRecursion}
 use Rattle.edi_tokens.specs.declared.segment.Segment.{Segment}
-use Rattle.edi_messages.specs.Parts.{is_lin, is_cps, ends_part}
-use Rattle.edi_goods.specs.Units.{ends_unit}
+use Rattle.edi_law.specs.Segments.{is_line_item, is_packing, parts_lines, parts_units}
 
 -- no segment of the part is of the kind
 abbrev pub HasNone : (Segment → Bool) → List Segment → Type 0
@@ -33,7 +32,7 @@ pub record IsOnly (kind : Segment → Bool) (part : List Segment) (segment : Seg
 -- the header is what stands after UNH and in front of the first LIN, CPS, UNS or UNT
 abbrev pub IsHeader : List Segment → List Segment → Type 0
 IsHeader header [] = header ≡ []
-IsHeader header (unh ∷ segments) = IsFront ends_part header segments
+IsHeader header (unh ∷ segments) = IsFront parts_lines header segments
 
 -- the part is the first segment that begins one, and what follows it up to the next segment that ends one
 pub record IsFirst (begins ends : Segment → Bool) (segments part rest : List Segment) : Type 0 where
@@ -54,11 +53,11 @@ AreParts begins ends segments (part ∷ parts) = (rest : List Segment) × IsFirs
 
 -- the line groups: a LIN, and what follows it up to the next LIN, CPS, UNS or UNT
 abbrev pub AreLineGroups : List Segment → List (List Segment) → Type 0
-AreLineGroups = AreParts is_lin ends_part
+AreLineGroups = AreParts is_line_item parts_lines
 
 -- the units: a CPS, and what follows it up to the next CPS or UNT
 abbrev pub AreUnits : List Segment → List (List Segment) → Type 0
-AreUnits = AreParts is_cps ends_unit
+AreUnits = AreParts is_packing parts_units
 
 -- the header of the message is such
 pub record OfHeader (Is : List Segment → Type 0) (message : List Segment) : Type 0 where

@@ -2,24 +2,24 @@
 use Rattle.std.specs.Prelude.{◌≡◌, ◌≤◌, ◌||◌, ⊤, ℕ, true, List, filter, sum_by, is_some, unwrap_or, codes, Option}
 use Rattle.std.specs.List.{AllByRecursion, AllZip}
 use Rattle.std.specs.Str.{bytes_eq}
-use Rattle.edi_base.specs.Limits.{greatest}
 use Rattle.edi_tokens.specs.declared.segment.Segment.{Segment}
 use Rattle.edi_envelope.specs.declared.interchange.RawMessage.{RawMessage}
 use Rattle.edi_messages.specs.declared.fault.MessageFault.{MessageFault}
 use Rattle.edi_messages.specs.declared.fault.MessageFault.TheVariants.{MessageType, Beginning, Function, Date, Parties, Summary, Line, Quantity, Reference, Unit, Control, NoLine, Memory}
-use Rattle.edi_messages.specs.Parts.{is_qualified}
 use Rattle.edi_goods.specs.declared.receipt.Receipt.{Receipt}
 use Rattle.edi_goods.specs.declared.receipt.ReceiptLine.{ReceiptLine}
 use Rattle.edi_goods.specs.declared.receipt.ReceiptUnit.{ReceiptUnit}
+use Rattle.edi_law.specs.Values.{nine_digits}
 use Rattle.edi_law.specs.Header.{IsOfType, Begins, HasFunction, IsDated, NamesParty, NamesBuyer}
 use Rattle.edi_law.specs.Lines.{IsLine, IsAmount}
 use Rattle.edi_law.specs.Parts.{OfLines, OneOrNone}
+use Rattle.edi_law.specs.Segments.{says}
 use Rattle.edi_law.specs.Summary.{IsControlled, HasLine}
 use Rattle.edi_law.specs.Units.{OfUnits, AreLines, HasUnits, HasSscc}
 
 -- there is no QTY of the kind in the group, or just one, with this quantity
 abbrev pub HasKind : List ℕ → List Segment → Option ℕ → Type 0
-HasKind kind group quantity = OneOrNone (is_qualified (codes "QTY") kind) (IsAmount 0) group quantity
+HasKind kind group quantity = OneOrNone (says (codes "QTY") kind) (IsAmount 0) group quantity
 
 -- the quantities of a group: 194 accepted, 195 to be returned, 196 to be destroyed; one of them is there
 pub record HasReceived (group : List Segment) (accepted returned destroyed : Option ℕ) : Type 0 where
@@ -46,9 +46,9 @@ total quantity item lines = sum_by quantity (filter (λ line. bytes_eq line.gtin
 
 -- no sum of a kind is above 999,999,999 for any item
 pub record AreWithin (lines : List ReceiptLine) : Type 0 where
-  pub accepted : (item : List ℕ) → total (λ line. line.accepted) item lines ≤ greatest
-  pub returned : (item : List ℕ) → total (λ line. line.returned) item lines ≤ greatest
-  pub destroyed : (item : List ℕ) → total (λ line. line.destroyed) item lines ≤ greatest
+  pub accepted : (item : List ℕ) → total (λ line. line.accepted) item lines ≤ nine_digits
+  pub returned : (item : List ℕ) → total (λ line. line.returned) item lines ≤ nine_digits
+  pub destroyed : (item : List ℕ) → total (λ line. line.destroyed) item lines ≤ nine_digits
 
 -- the groups of a unit have valid quantities, and these valid sums
 pub record AreReceived (groups : List (List Segment)) : Type 0 where

@@ -2,12 +2,12 @@
 use Rattle.std.specs.Prelude.{◌≡◌, ◌⊎◌, ℕ, Bool, List, [], codes, Option, Some, None}
 use Rattle.edi_tokens.specs.declared.segment.Segment.{Segment}
 use Rattle.edi_envelope.specs.Segments.{component}
-use Rattle.edi_messages.specs.Parts.{is_qualified}
 use Rattle.edi_law.specs.Parts.{HasNone, OfHeader, OfOnly}
+use Rattle.edi_law.specs.Segments.{says}
 use Rattle.edi_law.specs.Values.{IsDocumentNumber, IsLineNumber}
 
 abbrev pub is_rff_on : Segment → Bool
-is_rff_on = is_qualified (codes "RFF") (codes "ON")
+is_rff_on = says (codes "RFF") (codes "ON")
 
 -- the reference names an order of this number, which is valid
 pub record NamesOrder (number : List ℕ) (rff : Segment) : Type 0 where

@@ -6,7 +6,6 @@ use Rattle.edi_envelope.specs.Segments.{component}
 use Rattle.edi_envelope.specs.declared.interchange.RawMessage.{RawMessage}
 use Rattle.edi_messages.specs.declared.fault.MessageFault.{MessageFault}
 use Rattle.edi_messages.specs.declared.fault.MessageFault.TheVariants.{MessageType, Beginning, Function, Date, Parties, Summary, Line, Quantity, Reference, Unit, Control, NoLine, Memory}
-use Rattle.edi_messages.specs.Parts.{is_qualified}
 use Rattle.edi_orders.specs.declared.response.Answer.{Answer}
 use Rattle.edi_orders.specs.declared.response.Answer.TheVariants as answers
 use Rattle.edi_orders.specs.declared.response.AnswerLine.{AnswerLine}
@@ -17,6 +16,7 @@ use Rattle.edi_law.specs.Header.{IsOfType, Begins, HasFunction, IsDated, NamesPa
 use Rattle.edi_law.specs.Lines.{IsLine, HasQuantity}
 use Rattle.edi_law.specs.Parts.{HasNone, OfLines, OfOnly}
 use Rattle.edi_law.specs.References.{is_rff_on, NamesOrder, NamesLineOrNone, HeaderNames, NamesLine}
+use Rattle.edi_law.specs.Segments.{says}
 use Rattle.edi_law.specs.Summary.{IsClosed, IsControlled, HasLine}
 
 -- what a response answers: lines one by one, or all of them
@@ -60,7 +60,7 @@ pub record AreAnswered (groups : List (List Segment)) : Type 0 where
 
 -- the quantity of a change: the one QTY with 113, or where there is none the one with 21
 abbrev pub HasChange : List Segment → ℕ → Type 0
-HasChange group quantity = HasQuantity (codes "113") 0 group quantity ⊎ (HasNone (is_qualified (codes "QTY") (codes "113")) group × HasQuantity (codes "21") 0 group quantity)
+HasChange group quantity = HasQuantity (codes "113") 0 group quantity ⊎ (HasNone (says (codes "QTY") (codes "113")) group × HasQuantity (codes "21") 0 group quantity)
 
 -- a line that is changed has a quantity
 abbrev pub IsChangeRight : List Segment → Type 0

@@ -2,22 +2,22 @@
 use Rattle.std.specs.Prelude.{◌≡◌, ◌⊎◌, true, List, ◌∷◌, ◌++◌, length, filter, codes}
 use Rattle.edi_tokens.specs.declared.segment.Segment.{Segment}
 use Rattle.edi_envelope.specs.Segments.{component}
-use Rattle.edi_messages.specs.Parts.{is_lin, is_uns, is_qualified}
 use Rattle.edi_law.specs.Parts.{HasNone, IsOnly, OfOnly}
+use Rattle.edi_law.specs.Segments.{is_line_item, is_section_control, says}
 use Rattle.edi_law.specs.Values.{IsCount}
 
 -- there is just one UNS, which says S, and no LIN after it
 pub record IsClosed (message : List Segment) : Type 0 where
   pub uns : Segment
-  pub is_only : IsOnly is_uns message uns
+  pub is_only : IsOnly is_section_control message uns
   pub summary : component uns 0 0 ≡ codes "S"
-  pub no_line_later : HasNone is_lin is_only.after
+  pub no_line_later : HasNone is_line_item is_only.after
 
 -- there is no control of the number of lines, or just one, with the number of LIN
 abbrev pub IsControlled : List Segment → Type 0
 IsControlled message =
-    HasNone (is_qualified (codes "CNT") (codes "2")) message
-    ⊎ OfOnly (is_qualified (codes "CNT") (codes "2")) message (λ cnt. IsCount (component cnt 0 1) (length (filter is_lin message)))
+    HasNone (says (codes "CNT") (codes "2")) message
+    ⊎ OfOnly (says (codes "CNT") (codes "2")) message (λ cnt. IsCount (component cnt 0 1) (length (filter is_line_item message)))
 
 -- there is a LIN
 pub record HasLine (message : List Segment) : Type 0 where
@@ -25,4 +25,4 @@ pub record HasLine (message : List Segment) : Type 0 where
   pub lin : Segment
   pub after : List Segment
   pub place : message ≡ before ++ (lin ∷ after)
-  pub is_line : is_lin lin ≡ true
+  pub is_line : is_line_item lin ≡ true

@@ -4,15 +4,15 @@ use Rattle.std.specs.List.{list_any, AllZip, AllByRecursion}
 use Rattle.gs1_ids.specs.Sscc.{IsSscc}
 use Rattle.edi_tokens.specs.declared.segment.Segment.{Segment}
 use Rattle.edi_envelope.specs.Segments.{component}
-use Rattle.edi_messages.specs.Parts.{is_lin, is_cps, is_qualified}
 use Rattle.edi_law.specs.Lines.{IsLine, NoneTwice}
 use Rattle.edi_law.specs.Parts.{HasNone, IsFront, AreUnits, OfLines, OfOnly}
+use Rattle.edi_law.specs.Segments.{is_line_item, is_packing, says}
 
 -- the units that are read, in their order: of all units, those with a LIN
 pub record AreReadUnits (message : List Segment) (units : List (List Segment)) : Type 0 where
   pub all : List (List Segment)
   pub are_all : AreUnits message all
-  pub are_read : units ≡ filter (list_any is_lin) all
+  pub are_read : units ≡ filter (list_any is_line_item) all
 
 -- the units that are read are such
 pub record OfUnits (Are : List (List Segment) → Type 0) (message : List Segment) : Type 0 where
@@ -31,8 +31,8 @@ AreLines message = OfUnitLines (AllByRecursion (λ group. (number : ℕ) × (gti
 -- no LIN stands in front of the first CPS
 pub record NoLineOutside (message : List Segment) : Type 0 where
   pub outside : List Segment
-  pub is_front : IsFront is_cps outside message
-  pub no_line : HasNone is_lin outside
+  pub is_front : IsFront is_packing outside message
+  pub no_line : HasNone is_line_item outside
 
 -- a GIN has the SSCC alone after its qualifier, and the SSCC is valid
 pub record IsMarked (sscc : List ℕ) (gin : Segment) : Type 0 where
@@ -43,8 +43,8 @@ pub record IsMarked (sscc : List ℕ) (gin : Segment) : Type 0 where
 -- in front of the first LIN of a unit stands just one GIN with BJ, and it has this SSCC
 pub record HasSscc (unit : List Segment) (sscc : List ℕ) : Type 0 where
   pub head : List Segment
-  pub is_head : IsFront is_lin head unit
-  pub gin : OfOnly (is_qualified (codes "GIN") (codes "BJ")) head (IsMarked sscc)
+  pub is_head : IsFront is_line_item head unit
+  pub gin : OfOnly (says (codes "GIN") (codes "BJ")) head (IsMarked sscc)
 
 -- the CPS of a unit has an identifier, and the unit has this SSCC
 pub record IsUnit (unit : List Segment) (sscc : List ℕ) : Type 0 where
