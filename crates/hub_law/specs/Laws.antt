@@ -20,7 +20,8 @@ alone register s items t = fold (parties_of register) s items (view s.gln t)
 
 -- what the supplier sees after a step is what comes of its items alone, and where it is the caller it is told what it
 -- is told alone
-pub record StepIsOwn (register : RegisterRows) (s : SupplierRow) (t : Tables) (input : Input) (mark : Mark) : Type 0 where
+pub record StepIsOwn (register : RegisterRows) (s : SupplierRow) (t : Tables) (input : Input)
+    (mark : Mark) : Type 0 where
   pub seen : view s.gln (shared_step register t input mark).1 ≡
       (alone register s (items_of_input s.gln register input mark) t).1
   pub told : input.caller ≡ s.gln →

@@ -19,7 +19,8 @@ use Rattle.hub_law.specs.MailText.{list_text}
 use Rattle.hub_law.specs.Mark.{Mark, stop_reply, stopped_behind, replied, unless_stopped, first_done}
 use Rattle.hub_law.specs.Messages.{messages_at, named, deliver_retailers, deliver_suppliers, cancel}
 use Rattle.hub_law.specs.Opening.{Opened, interchange_in, addressed}
-use Rattle.hub_law.specs.Replies.{done, denied, unknown, refused_reply, whole_reply, cut_reply, cancel_reply, entry_reply}
+use Rattle.hub_law.specs.Replies.{done, denied, unknown, refused_reply, whole_reply, cut_reply, cancel_reply}
+use Rattle.hub_law.specs.Replies.{entry_reply}
 use Rattle.hub_law.specs.StatusText.{status_text}
 use Rattle.hub_law.specs.Told.{Told, Act, in_row}
 use Rattle.hub_law.specs.Widths.{line}

@@ -38,7 +38,8 @@ in_digit_order (gtin ∷ articles) = with_article gtin (in_digit_order articles)
 abbrev pub articles_on : Tables → PalletRow → List (List ℕ)
 articles_on state pallet =
     in_digit_order (
-    map (article_of state) (contents_of state pallet.sscc) ++ map (λ receipt. receipt.gtin) (receipts_of state pallet.sscc))
+    map (article_of state) (contents_of state pallet.sscc)
+    ++ map (λ receipt. receipt.gtin) (receipts_of state pallet.sscc))
 
 -- what of an article is despatched on a pallet
 abbrev pub despatched_on : Tables → PalletRow → List ℕ → ℕ
@@ -48,7 +49,8 @@ despatched_on state pallet gtin =
 
 -- the sum of one kind that is received of an article on a pallet
 abbrev pub received_on : (ReceiptRow → ℕ) → Tables → PalletRow → List ℕ → ℕ
-received_on kind state pallet gtin = sum_by kind (filter (λ receipt. same receipt.gtin gtin) (receipts_of state pallet.sscc))
+received_on kind state pallet gtin =
+    sum_by kind (filter (λ receipt. same receipt.gtin gtin) (receipts_of state pallet.sscc))
 
 -- one number less another, with its sign
 abbrev pub signed : ℕ → ℕ → List ℕ

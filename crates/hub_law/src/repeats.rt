@@ -6,7 +6,8 @@ ghost use Rattle.hub_parties.specs.declared.row.SupplierRow.{SupplierRow};
 ghost use Rattle.hub_tables.specs.Tables.{Tables, view};
 ghost use Rattle.hub_rules.specs.declared.incoming.IncomingMessage.{IncomingMessage};
 ghost use Rattle.hub_rules.specs.declared.cancel.Cancel.{Cancel};
-ghost use Rattle.hub_law.specs.Again.{MessageAt, AcceptedAt, AcceptedBefore, SameReference, AsksCancel, tables_before, told_at};
+ghost use Rattle.hub_law.specs.Again.{MessageAt, AcceptedAt, AcceptedBefore, SameReference, AsksCancel};
+ghost use Rattle.hub_law.specs.Again.{tables_before, told_at};
 ghost use Rattle.hub_rules.specs.Laws.{SoundHub};
 ghost use Rattle.hub_law.specs.Machine.{Inputs, shared_step, shared_run};
 ghost use Rattle.hub_law.specs.Mark.{Mark, Whole};
@@ -22,8 +23,8 @@ ghost use Rattle.hub_law.specs.Told.{Accepted, Repeated, in_row};
 /// and the same cancellation. The tables that it comes to are any sound ones in which all is still remembered that was
 /// remembered when it had been accepted.
 pub fn accepted_is_repeated()
-    ensures retailers { (register : RegisterRows) (message : RawMessage) (incoming : IncomingMessage) (moment decimal : ℕ)
-        (t u : Tables) →
+    ensures retailers { (register : RegisterRows) (message : RawMessage) (incoming : IncomingMessage)
+        (moment decimal : ℕ) (t u : Tables) →
         AcceptedBefore (deliver_named register (message, incoming) t) register.suppliers u →
         deliver_named register (message, record incoming { moment = moment; decimal = decimal }) u ≡ (Repeated, u) }
     ensures suppliers { (suppliers : List SupplierRow) (parties : Parties) (s : SupplierRow) (message : RawMessage)
@@ -51,13 +52,13 @@ pub fn remembered_stays()
 /// of as repeated, and its act leaves the tables as they are; `stops_cut_uploads` says which of what is told is in the
 /// reply. And a cancellation that was accepted and comes again is answered so.
 pub fn repeated_in_runs()
-    ensures message { (register : RegisterRows) (t : Tables) (before between : Inputs) (first second : Input) (mark : Mark)
-        (place later : ℕ) (message : RawMessage) (one : AcceptedAt register t before first mark place message)
+    ensures message { (register : RegisterRows) (t : Tables) (before between : Inputs) (first second : Input)
+        (mark : Mark) (place later : ℕ) (message : RawMessage) (one : AcceptedAt register t before first mark place message)
         (other : MessageAt register second later message) →
         SameReference first second one.comes.upload other.upload →
         told_at register t (before ++ (first, mark) ∷ between) second other.upload later ≡ Some Repeated }
-    ensures stays { (register : RegisterRows) (t : Tables) (before between : Inputs) (first second : Input) (mark : Mark)
-        (place later : ℕ) (message : RawMessage) (one : AcceptedAt register t before first mark place message)
+    ensures stays { (register : RegisterRows) (t : Tables) (before between : Inputs) (first second : Input)
+        (mark : Mark) (place later : ℕ) (message : RawMessage) (one : AcceptedAt register t before first mark place message)
         (other : MessageAt register second later message) →
         SameReference first second one.comes.upload other.upload →
         tables_before register t (before ++ (first, mark) ∷ between) second other.upload (later + 1) ≡
