@@ -4,3 +4,4 @@ pub mod Named
 pub mod Reading
 pub mod Reports
 pub mod Rise
+pub mod Unclean

@@ -9,6 +9,7 @@ use Rattle.edi_base.specs.Seen.{is_among}
 use Rattle.edi_base.proofs.Twice.{bytes_eq-sym}
 use Rattle.hub_tables.specs.Keys.{bytes_cmp}
 use Rattle.hub_tables.specs.Rows.{same}
+use Rattle.hub_tables.specs.Sets.{Rises}
 use Rattle.hub_tables.specs.State.{lines_of}
 use Rattle.hub_tables.specs.Tables.{Tables, view, has_pallet}
 use Rattle.hub_tables.specs.declared.rows.LineRow.{LineRow}
@@ -106,6 +107,16 @@ module _ (state : Tables) (order : List ℕ) where
             ap (λ xs. xs ++ of_it (flat_map (lines_of state) (map (λ number. number.now) keys))) (others key.now (bytes_eq-sym key.now order ∙ e))
             ∙ lines_of_named keys sorted.1 (sym (ap (λ v. v || is_among order (map (λ number. number.now) keys)) e) ∙ there)
       ]
+
+-- the numbers of orders in their order rise
+above_numbers : (key : Bor (List ℕ)) (keys : List (Bor (List ℕ))) → AllByRecursion (λ later. by_number key later ≡ Less) keys → AllByRecursion (λ later. bytes_cmp key.now later ≡ Less) (map (λ number. number.now) keys)
+above_numbers key [] above = tt
+above_numbers key (later ∷ keys) above = (above.0, above_numbers key keys above.1)
+
+pub numbers_rise : (keys : List (Bor (List ℕ))) → IsStrictlySortedBy by_number keys → Rises bytes_cmp (map (λ number. number.now) keys)
+unfolding IsStrictlySortedBy
+numbers_rise [] sorted = tt
+numbers_rise (key ∷ keys) sorted = (above_numbers key keys sorted.0, numbers_rise keys sorted.1)
 
 -- a pallet that a supplier sees is there
 any_of_kept : {X : Type 0} (p test : X → Bool) (xs : List X) → list_any p (filter test xs) ≡ true → list_any p xs ≡ true

@@ -1,5 +1,5 @@
 -- Lines of which each is below the next rise.
-use Rattle.std.proofs.Common.{◌≡◌, true, ◌&&◌, List, [], ◌∷◌, Some, None, refl, sym, subst, ap}
+use Rattle.std.proofs.Common.{◌≡◌, true, List, [], ◌∷◌, Some, None, refl, sym, subst}
 use Rattle.std.specs.List.{AllByRecursion}
 use Rattle.std.specs.Cmp.{IsTotalOrder}
 use Rattle.std.specs.declared.cmp.Ordering.{Ordering}
@@ -45,5 +45,5 @@ rows_rise : (facts : List LineFacts) → Rises place_cmp (rows facts) → Rises 
 rows_rise [] rises = tt
 rows_rise (line ∷ lines) rises = (all_facts_above line lines rises.0, rows_rise lines rises.1)
 
-pub facts_rise : (facts : List LineFacts) (lines : List LineRow) → rows facts ≡ lines → Rises place_cmp lines → Rises facts_cmp facts
-facts_rise facts lines e rises = rows_rise facts (subst (Rises place_cmp) (sym e) rises)
+pub facts_rise : (facts : List LineFacts) (lines : List LineRow) → rows facts ≡ lines → steps_up None lines ≡ true → Rises facts_cmp facts
+facts_rise facts lines e steps = rows_rise facts (subst (Rises place_cmp) (sym e) (rise_if_steps lines steps))

@@ -2,3 +2,4 @@ pub mod Acts
 pub mod Facts
 pub mod Judged
 pub mod Named
+pub mod Status

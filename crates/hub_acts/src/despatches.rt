@@ -1,13 +1,16 @@
 //! What is known of a supplier's rows when a despatch advice is judged.
-ghost use Rattle.std.specs.Prelude.{◌≡◌, ◌∷◌, ◌++◌, [], List, map, filter, length, if◌then◌else◌, IfOk, OnOk};
+ghost use Rattle.std.specs.Prelude.{◌≡◌, ◌≢◌, true, None, Err, ◌∷◌, ◌++◌, [], List, map, filter, length, if◌then◌else◌, IfOk, OnOk};
 ghost use Rattle.std.specs.List.{flat_map};
 ghost use Rattle.hub_tables.specs.State.{knows_order, lines_of};
 ghost use Rattle.hub_tables.specs.Sets.{Rises};
 ghost use Rattle.hub_tables.specs.Tables.{view, has_pallet};
+ghost use Rattle.hub_store.specs.Clean.{are_clean};
+ghost use Rattle.hub_store.specs.declared.fault.StoreFault.TheVariants.{Unclean};
 ghost use Rattle.hub_lines.specs.Book.{facts_cmp};
 ghost use Rattle.hub_rules.specs.Sound.{Kept};
 ghost use Rattle.hub_judges.specs.Known.{TellsForDespatch};
 ghost use Rattle.hub_acts.specs.Acts.{Stays};
+ghost use Rattle.hub_acts.specs.Named.{NamedUnclean};
 
 use crate::facts::facts_of;
 use crate::naming::orders_named;
@@ -56,6 +59,7 @@ fn put_known<S: Store>(
 ) -> Result<(), StoreFault>
     ensures orders { S.honest store.new → OnOk result (orders.new ≡ orders.old ++ filter (knows_order (view supplier.now (S.content store.old))) (map (λ number. number.now) named.now.keys)) }
     ensures rows { S.honest store.new → OnOk result (lines.new ≡ lines.old ++ flat_map (lines_of (view supplier.now (S.content store.old))) (map (λ number. number.now) named.now.keys)) }
+    ensures unclean { S.honest store.new → S.broken store.old ≡ None → are_clean (S.content store.old) ≡ true → result ≢ Err Unclean }
     ensures stays { Stays S.content S.honest S.left store.old store.new }
 {
     for number in named {
@@ -84,6 +88,8 @@ fn used_of<S: Store>(
 ) -> Result<Items<bool>, StoreFault>
     ensures used { S.honest store.new → IfOk result (λ used. map (λ unit. has_pallet (S.content store.old) unit.sscc) units.now ≡ used) }
     ensures each { IfOk result (λ used. length used ≡ length units.now) }
+    ensures unclean { S.honest store.new → S.broken store.old ≡ None → are_clean (S.content store.old) ≡ true → result ≢ Err Unclean }
+    ensures goes_on { OnOk result (S.broken store.new ≡ S.broken store.old) }
     ensures stays { Stays S.content S.honest S.left store.old store.new }
 {
     let mut used = Items::new(alloc);
@@ -95,7 +101,8 @@ fn used_of<S: Store>(
 }
 
 /// What is known for a DESADV, by two look-ups, one for each unit and two for each order that it names. Where lines do
-/// not add up, or do not rise by order number and line number, it is unknown: `Unclean`.
+/// not rise by order number and line number, or more of one is open, refused and cancelled than is ordered, it is
+/// unknown: `Unclean`.
 pub(crate) fn known_for_despatch<S: Store>(
     alloc: Global,
     store: &mut S,
@@ -106,6 +113,7 @@ pub(crate) fn known_for_despatch<S: Store>(
     ensures told { S.honest store.new → Kept (view supplier.now (S.content store.old)) → IfOk result (λ known. TellsForDespatch known (has_pallet (S.content store.old)) incoming.now despatch.now (view supplier.now (S.content store.old))) }
     ensures rise { IfOk result (λ known. Rises facts_cmp known.lines) }
     ensures each { IfOk result (λ known. length known.used ≡ length despatch.now.units) }
+    ensures unclean { S.honest store.new → S.broken store.old ≡ None → are_clean (S.content store.old) ≡ true → result ≡ Err Unclean → NamedUnclean despatch.now.units (view supplier.now (S.content store.old)) }
     ensures stays { Stays S.content S.honest S.left store.old store.new }
 {
     let units = despatch.units.as_slice();

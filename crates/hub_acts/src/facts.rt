@@ -1,12 +1,13 @@
 //! What is known of lines, from their rows.
-ghost use Rattle.std.specs.Prelude.{◌≡◌, ◌<◌, ◌+◌, ◌∷◌, ◌++◌, [], IsTrue, IfOk, OnOk, OnErr};
-ghost use Rattle.std.specs.List.{AllByRecursion};
+ghost use Rattle.std.specs.Prelude.{◌≡◌, ◌∷◌, ◌++◌, [], false, None, Err, IfOk, OnOk, OnErr};
+ghost use Rattle.std.specs.List.{AllByRecursion, list_all};
 ghost use Rattle.std.specs.Ordering.{is_lt};
 ghost use Rattle.hub_tables.specs.Sets.{Rises};
 ghost use Rattle.hub_lines.specs.Book.{facts_cmp, IsCovered};
 ghost use Rattle.hub_judges.specs.Known.{rows};
+ghost use Rattle.hub_store.specs.declared.fault.StoreFault.TheVariants.{Unclean};
 ghost use Rattle.hub_texts.specs.Items.{place_cmp};
-ghost use Rattle.hub_acts.specs.Facts.{AddsUp};
+ghost use Rattle.hub_acts.specs.Facts.{AddsUp, AreUnclean, is_covered, steps_up};
 
 use edi_base::{Items, MemoryFault};
 use hub_lines::LineFacts;
@@ -15,10 +16,11 @@ use hub_tables::LineRow;
 use std::alloc::Global;
 
 // What is known of a line. Of a row of which more is open, refused and cancelled than is ordered nothing is.
+#[tactic(auto, using(crate::proofs::Unclean::uncovered))]
 fn fact_of(row: LineRow) -> Result<LineFacts, StoreFault>
     ensures row { IfOk result (λ line. line.row ≡ row) }
     ensures adds_up { IfOk result AddsUp }
-    ensures uncovered { OnErr result (row.ordered < row.open_qty + row.refused + row.cancelled) }
+    ensures unclean { OnErr result (is_covered row ≡ false) }
 {
     let Some(rest) = row.ordered.checked_sub(row.open_qty) else {
         return Err(StoreFault::Unclean);
@@ -41,9 +43,11 @@ fn put_line(lines: &mut Items<LineFacts>, line: LineFacts) -> Result<(), MemoryF
 }
 
 // What is known of lines.
+#[tactic(auto, using(crate::proofs::Unclean::one_uncovered))]
 fn facts_of_each(alloc: Global, lines: Items<LineRow>) -> Result<Items<LineFacts>, StoreFault>
     ensures rows { IfOk result (λ facts. rows facts ≡ lines) }
     ensures adds_up { IfOk result (AllByRecursion AddsUp) }
+    ensures unclean { result ≡ Err Unclean → list_all is_covered lines ≡ false }
 {
     let mut facts = Items::new(alloc);
     for row in lines.into_vec() {
@@ -62,9 +66,9 @@ fn is_below(line: &LineRow, other: &LineRow) -> bool
     order.then(place).is_lt()
 }
 
-/// Whether lines rise by order number and line number.
+/// Whether each line is below the next, by order number and line number.
 pub(crate) fn rise(lines: &[LineRow]) -> bool
-    ensures { IsTrue result → Rises place_cmp lines.now }
+    ensures { result ≡ steps_up None lines.now }
 {
     let mut before: Option<&LineRow> = None;
     for line in lines {
@@ -86,6 +90,7 @@ pub(crate) fn facts_of(alloc: Global, lines: Items<LineRow>) -> Result<Items<Lin
     ensures adds_up { IfOk result (AllByRecursion AddsUp) }
     ensures covered { IfOk result (AllByRecursion IsCovered) }
     ensures rise { IfOk result (Rises facts_cmp) }
+    ensures unclean { result ≡ Err Unclean → AreUnclean lines }
 {
     if !rise(lines.as_slice()) {
         return Err(StoreFault::Unclean);

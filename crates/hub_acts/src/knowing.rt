@@ -1,14 +1,17 @@
 //! What is known of a supplier's rows when a message or a cancellation is judged.
-ghost use Rattle.std.specs.Prelude.{◌≡◌, [], ◌∷◌, ◌++◌, length, map, IfOk, OnOk};
+ghost use Rattle.std.specs.Prelude.{◌≡◌, ◌≢◌, [], ◌∷◌, ◌++◌, length, map, true, None, Err, IfOk, OnOk};
 ghost use Rattle.std.specs.List.{AllByRecursion};
 ghost use Rattle.edi_base.specs.Seen.{is_among};
-ghost use Rattle.hub_tables.specs.State.{pallet_of};
+ghost use Rattle.hub_tables.specs.State.{lines_of, pallet_of};
 ghost use Rattle.hub_tables.specs.Sets.{Rises};
 ghost use Rattle.hub_tables.specs.Tables.{view};
+ghost use Rattle.hub_store.specs.Clean.{are_clean};
+ghost use Rattle.hub_store.specs.declared.fault.StoreFault.TheVariants.{Unclean};
 ghost use Rattle.hub_lines.specs.Book.{facts_cmp, IsCovered};
 ghost use Rattle.hub_rules.specs.Sound.{Kept};
 ghost use Rattle.hub_judges.specs.Known.{TellsForOrder, TellsForResponse, TellsForReceipt, TellsForCancel};
 ghost use Rattle.hub_acts.specs.Acts.{Stays};
+ghost use Rattle.hub_acts.specs.Facts.{AreUnclean};
 
 use crate::facts::facts_of;
 use edi_base::{Items, MemoryFault, copied};
@@ -30,6 +33,7 @@ pub(crate) fn known_for_order<S: Store>(
     order: &Order,
 ) -> Result<Known, StoreFault>
     ensures told { S.honest store.new → Kept (view supplier.now (S.content store.old)) → IfOk result (λ known. TellsForOrder known incoming.now order.now (view supplier.now (S.content store.old))) }
+    ensures unclean { S.honest store.new → S.broken store.old ≡ None → are_clean (S.content store.old) ≡ true → result ≢ Err Unclean }
     ensures stays { Stays S.content S.honest S.left store.old store.new }
 {
     let control = incoming.control.as_slice();
@@ -64,7 +68,8 @@ fn order_if_there(
     Ok(orders)
 }
 
-/// What is known for an ORDRSP, by three look-ups. Where the rows of a line do not add up it is unknown: `Unclean`.
+/// What is known for an ORDRSP, by three look-ups. Where lines do not rise by line number, or more of one is open,
+/// refused and cancelled than is ordered, it is unknown: `Unclean`.
 #[tactic(auto, using(crate::proofs::LookUps::lines_known, crate::proofs::LookUps::despatched_known))]
 pub(crate) fn known_for_response<S: Store>(
     alloc: Global,
@@ -75,6 +80,7 @@ pub(crate) fn known_for_response<S: Store>(
 ) -> Result<Known, StoreFault>
     ensures told { S.honest store.new → Kept (view supplier.now (S.content store.old)) → IfOk result (λ known. TellsForResponse known incoming.now response.now (view supplier.now (S.content store.old))) }
     ensures rise { IfOk result (λ known. Rises facts_cmp known.lines) }
+    ensures unclean { S.honest store.new → S.broken store.old ≡ None → are_clean (S.content store.old) ≡ true → result ≡ Err Unclean → AreUnclean (lines_of (view supplier.now (S.content store.old)) response.now.order) }
     ensures covered { IfOk result (λ known. AllByRecursion IsCovered known.lines) }
     ensures stays { Stays S.content S.honest S.left store.old store.new }
 {
@@ -97,7 +103,7 @@ pub(crate) fn known_for_response<S: Store>(
     })
 }
 
-/// What is known for a cancellation, by three look-ups.
+/// What is known for a cancellation, by three look-ups; `Unclean` as for an ORDRSP.
 #[tactic(auto, using(crate::proofs::LookUps::lines_known))]
 pub(crate) fn known_for_cancel<S: Store>(
     alloc: Global,
@@ -106,6 +112,7 @@ pub(crate) fn known_for_cancel<S: Store>(
 ) -> Result<Known, StoreFault>
     ensures told { S.honest store.new → IfOk result (λ known. TellsForCancel known cancel.now (view cancel.now.supplier (S.content store.old))) }
     ensures covered { IfOk result (λ known. AllByRecursion IsCovered known.lines) }
+    ensures unclean { S.honest store.new → S.broken store.old ≡ None → are_clean (S.content store.old) ≡ true → result ≡ Err Unclean → AreUnclean (lines_of (view cancel.now.supplier (S.content store.old)) cancel.now.order) }
     ensures stays { Stays S.content S.honest S.left store.old store.new }
 {
     let supplier = &cancel.supplier;
@@ -147,6 +154,7 @@ fn pallets_of<S: Store>(
 ) -> Result<Items<Option<PalletRow>>, StoreFault>
     ensures found { S.honest store.new → IfOk result (λ pallets. map (λ unit. pallet_of (view supplier.now (S.content store.old)) unit.sscc) units.now ≡ pallets) }
     ensures each { IfOk result (λ pallets. length pallets ≡ length units.now) }
+    ensures unclean { S.honest store.new → S.broken store.old ≡ None → are_clean (S.content store.old) ≡ true → result ≢ Err Unclean }
     ensures stays { Stays S.content S.honest S.left store.old store.new }
 {
     let mut pallets = Items::new(alloc);
@@ -168,6 +176,7 @@ pub(crate) fn known_for_receipt<S: Store>(
 ) -> Result<Known, StoreFault>
     ensures told { S.honest store.new → Kept (view supplier.now (S.content store.old)) → IfOk result (λ known. TellsForReceipt known incoming.now receipt.now (view supplier.now (S.content store.old))) }
     ensures each { IfOk result (λ known. length known.pallets ≡ length receipt.now.units) }
+    ensures unclean { S.honest store.new → S.broken store.old ≡ None → are_clean (S.content store.old) ≡ true → result ≢ Err Unclean }
     ensures stays { Stays S.content S.honest S.left store.old store.new }
 {
     let control = incoming.control.as_slice();

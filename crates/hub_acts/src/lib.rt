@@ -1,5 +1,5 @@
-//! What one message, cancellation or mailbox mark does over a store: what of it is known is looked up, it is judged, and
-//! what comes of it is committed as one act.
+//! What one message, cancellation or mailbox mark does over a store: what of it is known is looked up, it is judged,
+//! and what comes of it is committed as one act.
 #![tactic(auto)]
 
 mod cancel;

@@ -2,6 +2,7 @@
 ghost use Rattle.std.specs.Prelude.{◌≡◌, [], ◌∷◌, IfOk, Some};
 ghost use Rattle.hub_tables.specs.State.{entry_at, untaken_after};
 ghost use Rattle.hub_tables.specs.Tables.{view};
+ghost use Rattle.hub_parties.specs.Rows.{RegisterRows};
 ghost use Rattle.hub_parties.specs.declared.row.SupplierRow.{SupplierRow};
 ghost use Rattle.hub_rules.specs.Laws.{Registered};
 ghost use Rattle.hub_law.specs.MailText.{list_text};
@@ -13,7 +14,6 @@ ghost use Rattle.hub_acts.specs.Acts.{Carried, Unharmed, Stays, as_told};
 use edi_base::{Items, MemoryFault, copied};
 use gs1_ids::Gln;
 use hub_law::{Outcome, Reply, acts_stay_sound};
-use hub_register::Register;
 use hub_store::{Store, StoreFault};
 use hub_tables::{Change, Column};
 use hub_texts::{entry_text, list_text};
@@ -90,12 +90,11 @@ fn only(alloc: Global, change: Change) -> Result<Items<Change>, MemoryFault>
 /// fault nothing was done.
 pub fn take_entry<S: Store>(
     alloc: Global,
-    register: &Register,
     store: &mut S,
     supplier: &Gln,
     number: u64,
 ) -> Result<Reply, StoreFault>
-    ensures carried { (s : SupplierRow) → s.gln ≡ supplier.now → Registered register.now.suppliers s (S.content store.old) → Carried S.content S.honest S.left store.old store.new (λ t. taken Whole (entry_at (view supplier.now t) number) t) as_told result }
+    ensures carried { (register : RegisterRows) (s : SupplierRow) → s.gln ≡ supplier.now → Registered register.suppliers s (S.content store.old) → Carried S.content S.honest S.left store.old store.new (λ t. taken Whole (entry_at (view supplier.now t) number) t) as_told result }
     ensures unharmed { Unharmed S.content S.honest store.old store.new result }
 {
     acts_stay_sound();

@@ -1,14 +1,18 @@
 //! The status report of a supplier.
-ghost use Rattle.std.specs.Prelude.{◌≡◌, ◌++◌, IfOk, OnOk};
+ghost use Rattle.std.specs.Prelude.{◌≡◌, ◌++◌, true, None, Err, IfOk, OnOk};
 ghost use Rattle.std.specs.List.{flat_map};
 ghost use Rattle.hub_tables.specs.Sets.{Rises};
 ghost use Rattle.hub_tables.specs.State.{contents_of, receipts_of};
 ghost use Rattle.hub_tables.specs.Tables.{Tables, view};
+ghost use Rattle.hub_store.specs.Clean.{are_clean};
+ghost use Rattle.hub_store.specs.declared.fault.StoreFault.TheVariants.{Unclean};
 ghost use Rattle.hub_rules.specs.Sound.{Kept};
 ghost use Rattle.hub_law.specs.Replies.{done};
 ghost use Rattle.hub_law.specs.StatusText.{pallet_text, status_text};
 ghost use Rattle.hub_texts.specs.Items.{place_cmp};
+ghost use Rattle.hub_texts.specs.Totals.{IsUnclean};
 ghost use Rattle.hub_acts.specs.Acts.{Stays};
+ghost use Rattle.hub_acts.specs.Status.{PalletUnclean, StatusUnclean};
 
 use crate::facts::rise;
 use crate::mailbox::done_reply;
@@ -30,8 +34,9 @@ fn put_text(
     out: &mut Vec<u8>,
 ) -> Result<(), StoreFault>
     requires { Rises place_cmp lines.now }
-    ensures { (state : Tables) → state.lines ≡ lines.now → contents_of state pallet.now.sscc ≡ contents.now → receipts_of state pallet.now.sscc ≡ receipts.now →
+    ensures text { (state : Tables) → state.lines ≡ lines.now → contents_of state pallet.now.sscc ≡ contents.now → receipts_of state pallet.now.sscc ≡ receipts.now →
         OnOk result (out.new.items ≡ out.old.items ++ pallet_text state pallet.now) }
+    ensures unclean { result ≡ Err Unclean → IsUnclean lines.now contents.now receipts.now }
 {
     match put_pallet(alloc, lines, pallet, contents, receipts, out) {
         Ok(()) => Ok(()),
@@ -51,6 +56,7 @@ fn put_pallets<S: Store>(
 ) -> Result<(), StoreFault>
     requires { Rises place_cmp lines.now }
     ensures text { S.honest store.new → (view supplier.now (S.content store.old)).lines ≡ lines.now → OnOk result (out.new.items ≡ out.old.items ++ flat_map (pallet_text (view supplier.now (S.content store.old))) pallets.now) }
+    ensures unclean { S.honest store.new → S.broken store.old ≡ None → are_clean (S.content store.old) ≡ true → result ≡ Err Unclean → PalletUnclean (view supplier.now (S.content store.old)) lines.now pallets.now }
     ensures stays { Stays S.content S.honest S.left store.old store.new }
 {
     for pallet in pallets {
@@ -65,12 +71,14 @@ fn put_pallets<S: Store>(
 
 /// The status report of a supplier: its lines, then its pallets, by two look-ups and two for each pallet. Where rows do
 /// not rise by order number and line number, or a content names no line, there is none: `Unclean`.
+#[tactic(auto, using(crate::proofs::Rise::rise_if_steps))]
 pub fn status_report<S: Store>(
     alloc: Global,
     store: &mut S,
     supplier: &Gln,
 ) -> Result<Reply, StoreFault>
     ensures reply { S.honest store.new → Kept (view supplier.now (S.content store.old)) → IfOk result (λ reply. reply ≡ done (status_text (view supplier.now (S.content store.old)))) }
+    ensures unclean { S.honest store.new → S.broken store.old ≡ None → are_clean (S.content store.old) ≡ true → result ≡ Err Unclean → StatusUnclean (view supplier.now (S.content store.old)) }
     ensures stays { Stays S.content S.honest S.left store.old store.new }
 {
     let ordered = store.all_lines(supplier)?;

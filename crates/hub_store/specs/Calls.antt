@@ -55,7 +55,8 @@ Fit changes t = Rising (apply_all changes t)
 -- a commit: changes that fit are all made at Ok, and at a fault none is made, whether they fit or not. After Ok a
 -- crash leaves the content alone; after a fault it leaves what it did before or, where the changes fit, the content
 -- with all of them. A store that is not broken answers `Unclean` only where some row is none of the kinds, before the
--- changes or after them, or where they do not fit.
+-- changes or after them, or where they do not fit. So what is judged is the outcome of all changes, and not the row of
+-- each: a row that a later change sets right, or a set row that has none in its place, is no cause.
 pub record Commits {S X : Type 0} (content : S → Tables) (honest : S → Type 0) (left : S → Tables → Type 0)
     (broken : S → Option LastingFault) (old new : S) (changes : List Change)
     (result : Result X StoreFault) : Type 0 where

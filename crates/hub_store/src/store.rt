@@ -10,8 +10,8 @@ use edi_base::Items;
 use gs1_ids::{Gln, Sscc};
 use hub_tables::{Change, ContentRow, LineRow, MailRow, PalletRow, ReceiptRow, Side};
 
-/// Where the rows of a hub are kept. Look-ups are for one supplier: each answers from the rows that this supplier
-/// sees, in the order of their keys.
+/// Where the rows of a hub are kept. Look-ups but `used` are for one supplier: each answers from the rows that this
+/// supplier sees, in the order of the content. Where tables are sound that is the order of keys, as the calls have it.
 ///
 /// Numbers of documents and references are their bytes, as messages write them without release characters. Numbers of
 /// mailbox entries count from 1.
@@ -117,8 +117,8 @@ pub trait Store {
         ensures plain { IsTrue plain → IsOk result };
 
     /// Makes the changes, one after another: all of them, or at a fault none. Changes that do not fit to the rows, as
-    /// a new row under a key that is there, may be made in part or be refused as `Unclean`. Where the store could not
-    /// go on after a fault, a crash may leave all changes that fit, though the content is without them.
+    /// a new row under a key that is there, may be made in part or be refused as `Unclean`. After any fault, also
+    /// `Memory`, a crash may leave all changes, where they fit, though the content is without them.
     fn commit(&mut self, changes: &[Change]) -> Result<(), StoreFault>
         requires { changes.now ≢ [] }
         ensures commits { Commits content honest left broken self.old self.new changes.now result }

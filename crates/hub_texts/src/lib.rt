@@ -1,5 +1,5 @@
-//! The texts of a hub's replies, from rows and records: lines of replies, mailbox entries and lists of them, the status report,
-//! and cancellations, which are read here too.
+//! The texts of a hub's replies, from rows and records: lines of replies, mailbox entries and lists of them, the status
+//! report, and cancellations, which are read here too.
 #![tactic(auto)]
 
 mod cancel;

@@ -1,12 +1,13 @@
-use Rattle.std.proofs.Common.{◌≡◌, ℕ, true, List, ◌++◌, map, filter, sym, ap, ap₂, ◌∙◌}
+use Rattle.std.proofs.Common.{rules, ◌≡◌, ℕ, true, List, ◌++◌, map, filter, sym, subst, ap, ap₂, ◌∙◌}
 use Rattle.std.specs.List.{flat_map}
 use Rattle.edi_base.specs.Seen.{is_among}
 use Rattle.hub_tables.specs.Rows.{same}
 use Rattle.hub_tables.specs.State.{knows_order, lines_of}
 use Rattle.hub_tables.specs.Tables.{view, has_pallet}
 use Rattle.hub_judges.specs.Known.{names_order}
+use Rattle.hub_acts.specs.Facts.{AreUnclean}
 use Rattle.hub_acts.proofs.LookUps.{same_rows}
-use Rattle.hub_acts.proofs.Named.{known_among, lines_of_named, seen_is_there}
+use Rattle.hub_acts.proofs.Named.{known_among, lines_of_named, numbers_rise, seen_is_there}
 use Rattle.hub_acts.proofs.despatches.known_for_despatch.Goals as goal
 
 pub returns-clause-told : goal.returns-clause-told
@@ -36,4 +37,24 @@ returns-clause-told g c = λ honest kept.
       lines = λ order names.
           sym (same_rows order c.in_ok-facts.facts ∙ ap (filter (λ row. same row.number order)) (c.in_ok-facts.ensures.rows ∙ found)
           ∙ lines_of_named state order c.in_ok-named.named.keys c.in_ok-named.ensures.ordered (is_named order names));
+    }
+
+pub returns-in_err-facts-clause-unclean : goal.returns-in_err-facts-clause-unclean
+returns-in_err-facts-clause-unclean g c = λ honest going clean unclean.
+    let supplier = c.args.supplier.now in
+    let third = c.in_ok-put_known.ensures.stays.was_honest honest in
+    let second = c.in_ok-used.ensures.stays.was_honest third in
+    let first = c.advice_known.ensures.looks.was_honest second in
+    let one = c.remembered.ensures.looks.content_stays first in
+    let two = c.advice_known.ensures.looks.content_stays second in
+    let three = c.in_ok-used.ensures.stays.content_stays third in
+    let keys = c.in_ok-named.named.keys in
+    let numbers = map (λ number. number.now) keys in
+    let found = c.in_ok-put_known.ensures.rows honest ∙ ap₂ (λ so_far s. so_far ++ flat_map (lines_of s) numbers) c.new-lines.ensures (ap (view supplier) (three ∙ two ∙ one)) in
+    let given = c.from_residual-in_err-facts.ensures in
+    record {
+      orders = numbers;
+      named = λ order. c.in_ok-named.ensures.orders order ∙ ap (λ units. names_order units order) c.as_slice-units.ensures;
+      rise = numbers_rise keys c.in_ok-named.ensures.ordered;
+      lines = subst AreUnclean found (c.in_err-facts.ensures.unclean search rules);
     }

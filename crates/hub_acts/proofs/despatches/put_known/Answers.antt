@@ -1,4 +1,4 @@
-use Rattle.std.proofs.Common.{rules, ◌≡◌, ◌++◌, filter, map, sym, ap, ◌∙◌}
+use Rattle.std.proofs.Common.{rules, ◌++◌, filter, map, sym, ap, ◌∙◌}
 use Rattle.std.specs.List.{flat_map}
 use Rattle.hub_tables.specs.State.{knows_order, lines_of}
 use Rattle.hub_tables.specs.Tables.{view}
@@ -14,6 +14,7 @@ loop-number-preserved g c =
     let before = c.loop-number.invariant in
     record {
       stays = search rules;
+      broken = search rules;
       orders = λ honest.
           let known = c.lines_of.ensures.looks.was_honest honest in
           let was = c.order_known.ensures.looks.was_honest known in

@@ -8,6 +8,7 @@ use Rattle.hub_acts.proofs.despatches.put_known.Given as goal
 abbrev pub invariant-loop-number : goal.invariant-loop-number
 invariant-loop-number g l = record {
   stays : Stays g.S.Store.content g.S.Store.honest g.S.Store.left l.fn.store l.store;
+  broken : g.S.Store.broken l.store ≡ g.S.Store.broken l.fn.store;
   orders : g.S.Store.honest l.store →
       l.orders ++ filter (knows_order (view l.supplier (g.S.Store.content l.fn.store))) (map (λ number. number.now) l.number-iterator)
       ≡ l.fn.orders ++ filter (knows_order (view l.supplier (g.S.Store.content l.fn.store))) (map (λ number. number.now) l.named.keys);

@@ -1,9 +1,11 @@
-use Rattle.std.proofs.Common.{rules, ◌≡◌, ◌∷◌, ◌++◌, ◌+◌, drop, append_assoc, sym, ap, ◌∙◌}
+use Rattle.std.proofs.Common.{rules, ◌∷◌, ◌++◌, ◌+◌, drop, append_assoc, sym, subst, ap, ◌∙◌}
 use Rattle.std.specs.List.{flat_map}
 use Rattle.std.proofs.lemmas.List.{drop_more}
 use Rattle.hub_tables.specs.State.{contents_of, receipts_of}
 use Rattle.hub_tables.specs.Tables.{view}
 use Rattle.hub_law.specs.StatusText.{pallet_text}
+use Rattle.hub_texts.specs.Totals.{IsUnclean}
+use Rattle.hub_acts.proofs.Reports.{has_at}
 use Rattle.hub_acts.proofs.status.put_pallets.Goals as goal
 
 pub loop-pallet-preserved : goal.loop-pallet-preserved
@@ -16,6 +18,7 @@ loop-pallet-preserved g c =
     let before = c.loop-pallet.invariant in
     record {
       stays = search rules;
+      broken = search rules;
       text = λ honest same.
           let second = c.receipts_of.ensures.looks.was_honest honest in
           let first = c.contents_of.ensures.looks.was_honest second in
@@ -23,8 +26,32 @@ loop-pallet-preserved g c =
           let then = c.contents_of.ensures.looks.content_stays second ∙ was in
           let contents = sym (c.as_slice-contents.ensures ∙ c.in_ok-announced.ensures.looks.answers second ∙ ap (λ t. contents_of (view supplier t) pallet.sscc) was) in
           let receipts = sym (c.as_slice-receipts.ensures ∙ c.in_ok-received.ensures.looks.answers honest ∙ ap (λ t. receipts_of (view supplier t) pallet.sscc) then) in
-          ap (λ xs. xs ++ flat_map (pallet_text state) rest) (c.in_ok-put_text.ensures state same contents receipts)
+          ap (λ xs. xs ++ flat_map (pallet_text state) rest) (c.in_ok-put_text.ensures.text state same contents receipts)
           ∙ append_assoc c.loop-pallet.out.items (pallet_text state pallet) (flat_map (pallet_text state) rest)
           ∙ ap (λ xs. c.loop-pallet.out.items ++ flat_map (pallet_text state) xs) (sym next)
           ∙ before.text first same;
+    }
+
+pub returns-in_err-put_text-clause-unclean : goal.returns-in_err-put_text-clause-unclean
+returns-in_err-put_text-clause-unclean g c = λ honest going clean unclean.
+    let supplier = c.args.supplier.now in
+    let state = view supplier (g.S.Store.content c.args.store.now) in
+    let lines = c.args.lines.now in
+    let pallets = c.args.pallets.now in
+    let pallet = c.pallet-item.result in
+    let i = c.loop-pallet.pallet-index in
+    let rest = drop (i + 1) pallets in
+    let next = drop_more pallets i pallet c.loop-pallet-test.true ∙ ap (λ one. one ∷ rest) (sym c.pallet-item.is) in
+    let second = c.receipts_of.ensures.looks.was_honest honest in
+    let first = c.contents_of.ensures.looks.was_honest second in
+    let was = c.loop-pallet.invariant.stays.content_stays first in
+    let then = c.contents_of.ensures.looks.content_stays second ∙ was in
+    let contents = c.as_slice-contents.ensures ∙ c.in_ok-announced.ensures.looks.answers second ∙ ap (λ t. contents_of (view supplier t) pallet.sscc) was in
+    let receipts = c.as_slice-receipts.ensures ∙ c.in_ok-received.ensures.looks.answers honest ∙ ap (λ t. receipts_of (view supplier t) pallet.sscc) then in
+    record {
+      pallet = pallet;
+      there = has_at pallets i pallet rest next;
+      unclean =
+          subst (λ rows. IsUnclean lines (contents_of state pallet.sscc) rows) receipts
+          (subst (λ rows. IsUnclean lines rows c.as_slice-receipts.result.now) contents (c.in_err-put_text.ensures.unclean search rules));
     }

@@ -8,6 +8,7 @@ use Rattle.hub_acts.proofs.status.put_pallets.Given as goal
 abbrev pub invariant-loop-pallet : goal.invariant-loop-pallet
 invariant-loop-pallet g l = record {
   stays : Stays g.S.Store.content g.S.Store.honest g.S.Store.left l.fn.store l.store;
+  broken : g.S.Store.broken l.store ≡ g.S.Store.broken l.fn.store;
   text : g.S.Store.honest l.store → (view l.supplier (g.S.Store.content l.fn.store)).lines ≡ l.lines →
       l.out.items ++ flat_map (pallet_text (view l.supplier (g.S.Store.content l.fn.store))) (drop l.pallet-index l.pallets)
       ≡ l.fn.out.items ++ flat_map (pallet_text (view l.supplier (g.S.Store.content l.fn.store))) l.pallets;
