@@ -1,5 +1,5 @@
-"""`make test`: the gate (rt ci), and then the cases of cases.py on the program that the gate built.
-The last line is `N passed, M failed` over both. With `--alone`, the cases alone, on the program that stands."""
+"""`make test`: the gate (rt ci), and then the cases of cases.py and hubs.py on the programs that the gate built.
+The last line is `N passed, M failed` over both. With `--alone`, the cases alone, on the programs that stand."""
 import os
 import re
 import resource
@@ -8,17 +8,27 @@ import sys
 import tempfile
 
 import cases
+import hubs
 
 ROOT = os.path.dirname(os.path.dirname(os.path.abspath(__file__)))
-PROGRAM = os.path.join(ROOT, "crates", "edihub", "out", "edihub")
 SECONDS = 60
+
+
+def built(crate):
+    """The program of a crate, where the gate leaves it."""
+    return os.path.join(ROOT, "crates", crate, "out", crate)
+
+
+# each program, and its cases
+PROGRAMS = [(built("edihub"), cases.CASES), (built("hub_script"), hubs.HUBS)]
 
 
 def gate():
     """What rt ci counts, its output passed on."""
     passed, failed = 0, 1
-    if os.path.isfile(PROGRAM):
-        os.remove(PROGRAM)
+    for program, _ in PROGRAMS:
+        if os.path.isfile(program):
+            os.remove(program)
     # one job a check, and a check a processor: each job of a check would load what it stands on anew
     one_job_each = {"RT_JOBS": str(len(os.sched_getaffinity(0))), **os.environ}
     try:
@@ -62,9 +72,12 @@ def run(program, case, folder):
     return None
 
 
-def program_cases(program):
+def program_cases(program, of_program):
     passed, failed = 0, 0
-    for case in cases.CASES:
+    if not os.path.isfile(program):
+        print(f"{os.path.basename(program)} was not built, so none of its cases was run")
+        return passed, 1
+    for case in of_program:
         with tempfile.TemporaryDirectory() as folder:
             why = run(program, case, folder)
         if why:
@@ -81,12 +94,9 @@ def main(words):
         return 2
     alone = bool(words)
     passed, failed = (0, 0) if alone else gate()
-    if os.path.isfile(PROGRAM):
-        more_passed, more_failed = program_cases(PROGRAM)
+    for program, of_program in PROGRAMS:
+        more_passed, more_failed = program_cases(program, of_program)
         passed, failed = passed + more_passed, failed + more_failed
-    else:
-        print("no program was built, so none of its cases was run")
-        failed += 1
     spent = resource.getrusage(resource.RUSAGE_CHILDREN)
     print(f"processor time: {(spent.ru_utime + spent.ru_stime) / 60:.1f} minutes")
     print(f"{passed} passed, {failed} failed")

@@ -1,0 +1,64 @@
+-- What comes again in a run of a hub.
+use Rattle.std.proofs.Common.{◌≡◌, inl, inr, ℕ, zero, suc, ◌<◌, ◌≤◌, nat_lt, Bool, true, false, List, [], ◌∷◌, ◌++◌, length, slice_get, take, if◌then◌else◌, Some, None, refl, sym, ap, ◌∙◌, arith}
+use Rattle.std.proofs.lemmas.Bool.Decides.{nat_tests}
+use Rattle.edi_envelope.specs.declared.interchange.Interchange.{Interchange}
+use Rattle.hub_parties.specs.Rows.{RegisterRows}
+use Rattle.hub_tables.specs.Tables.{Tables}
+use Rattle.hub_law.specs.Again.{Reaches}
+use Rattle.hub_law.specs.Machine.{Inputs, shared_step, shared_run}
+use Rattle.hub_law.specs.Mark.{Mark, Whole, StoppedEmpty, StoppedBare, StoppedAfter, first_done}
+use Rattle.hub_law.specs.Messages.{messages_at}
+use Rattle.hub_law.specs.Replies.{whole_reply}
+use Rattle.hub_law.specs.Requests.{replied_by}
+use Rattle.hub_law.specs.Stops.{all_acts, first_acts, reply_behind}
+use Rattle.hub_law.specs.Told.{Told}
+use Rattle.hub_law.specs.declared.reply.Reply.{Reply}
+use Rattle.hub_law.specs.declared.request.Input.{Input}
+use Rattle.hub_core.specs.Laws.{TellsOf}
+
+-- the reply at a place of a run
+reply_there : (register : RegisterRows) (t : Tables) (before : Inputs) (input : Input) (mark : Mark) (later : Inputs) →
+    slice_get (shared_run register t (before ++ (input, mark) ∷ later)).0 (length before) ≡ Some (shared_step register (shared_run register t before).1 input mark).0
+reply_there register t [] input mark later = refl
+reply_there register t (x ∷ before) input mark later = reply_there register (shared_step register t x.0 x.1).1 before input mark later
+
+pub reply_at : (register : RegisterRows) (t after : Tables) (marked before later : Inputs) (input : Input) (mark : Mark) (replies : List Reply) → shared_run register t marked ≡ (replies, after) →
+    marked ≡ before ++ (input, mark) ∷ later → slice_get replies (length before) ≡ Some (shared_step register (shared_run register t before).1 input mark).0
+reply_at register t after marked before later input mark replies is e =
+    sym (ap (λ (r : List Reply × Tables). slice_get r.0 (length before)) is)
+    ∙ ap (λ xs. slice_get (shared_run register t xs).0 (length before)) e
+    ∙ reply_there register t before input mark later
+
+no_more : {X : Type 0} (k : ℕ) (xs : List X) → length (take k xs) ≤ k
+no_more zero xs = omega arith
+no_more (suc k) [] = omega arith
+no_more (suc k) (x ∷ xs) = let less = no_more k xs in omega arith
+
+under : {X : Type 0} (k : ℕ) (xs : List X) (place : ℕ) → place < length (take k xs) → place < k
+under k xs place below = let less = no_more k xs in omega arith
+
+-- what the reply to an upload that is looked at tells of a message that it reaches
+module _ (register : RegisterRows) (t : Tables) (input : Input) (upload : Interchange) (place : ℕ) (what : Told)
+    (there : slice_get (all_acts register input upload t).0 place ≡ Some what) where
+  tells_cut : (k : ℕ) (below : Bool) → nat_lt k (length upload.messages) ≡ below →
+      (k < length upload.messages → shared_step register t input (StoppedAfter k) ≡ (reply_behind k upload (all_acts register input upload t).0, (first_acts k register input upload t).1)) →
+      place < length (first_done (StoppedAfter k) (if below then Some k else None) (messages_at input.moment upload)) →
+      TellsOf upload place what (shared_step register t input (StoppedAfter k)).0
+  tells_cut k true e cut reached = record {
+    told = (all_acts register input upload t).0;
+    there = there;
+    is = inr (k, under k (messages_at input.moment upload) place reached, ap (λ (r : Reply × Tables). r.0) (cut (grind (arith, nat_tests))));
+  }
+  tells_cut k false e cut reached = absurd (omega arith)
+
+  pub tells : (mark : Mark) → shared_step register t input Whole ≡ replied_by (whole_reply upload) (all_acts register input upload t) →
+      ((k : ℕ) → k < length upload.messages → shared_step register t input (StoppedAfter k) ≡ (reply_behind k upload (all_acts register input upload t).0, (first_acts k register input upload t).1)) →
+      Reaches mark input upload place → TellsOf upload place what (shared_step register t input mark).0
+  tells Whole whole cut reached = record {
+    told = (all_acts register input upload t).0;
+    there = there;
+    is = inl (ap (λ (r : Reply × Tables). r.0) whole);
+  }
+  tells StoppedEmpty whole cut reached = absurd (omega arith)
+  tells StoppedBare whole cut reached = absurd (omega arith)
+  tells (StoppedAfter k) whole cut reached = tells_cut k (nat_lt k (length upload.messages)) refl (cut k) reached

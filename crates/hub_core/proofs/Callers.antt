@@ -1,0 +1,55 @@
+-- Who asks, and what it may.
+use Rattle.std.proofs.Common.{◌≡◌, Some, Result, Ok, Err, sym, ap, subst, ◌∙◌}
+use Rattle.hub_parties.specs.Rows.{RegisterRows, row_of}
+use Rattle.hub_parties.specs.declared.role.Role.TheVariants as roles
+use Rattle.hub_rules.proofs.Prefixes.{gln_found}
+use Rattle.hub_rules.specs.Laws.{SoundHub}
+use Rattle.hub_tables.specs.Tables.{Tables}
+use Rattle.hub_store.specs.declared.fault.StoreFault.{StoreFault}
+use Rattle.hub_law.specs.Machine.{shared_step, step_as}
+use Rattle.hub_law.specs.Mark.{Mark}
+use Rattle.hub_law.specs.Stops.{upload_of, upload_by}
+use Rattle.hub_law.specs.declared.reply.Reply.{Reply}
+use Rattle.hub_law.specs.declared.request.Input.{Input}
+use Rattle.hub_acts.specs.Acts.{Carried, Unharmed}
+use Rattle.hub_core.specs.Callers.{MayDeliver, IsCaller, acts_by, request_of}
+use Rattle.hub_core.specs.Steps.{Does, Asked, acts_of}
+use Rattle.hub_core.specs.declared.caller.Caller.{Caller}
+use Rattle.hub_core.specs.declared.caller.Caller.TheVariants.{Retailer, Supplier}
+
+-- what a message leaves is such that its caller may send another
+pub holds_after : {S X Y : Type 0} (holds : Tables → Type 0) (content : S → Tables) (honest : S → Type 0) (left : S → Tables → Type 0) (old new : S)
+    (act : Tables → Y × Tables) (seen : X → Y) (result : Result X StoreFault) → Carried content honest left old new act seen result → Unharmed content honest old new result →
+    honest new → holds (content old) → holds (act (content old)).1 → holds (content new)
+holds_after holds content honest left old new act seen (Ok x) carried unharmed h before after = subst holds (ap (λ r. r.1) (carried.done h)) after
+holds_after holds content honest left old new act seen (Err fault) carried unharmed h before after = subst holds (sym (unharmed.same h)) before
+
+module _ (register : RegisterRows) (input : Input) where
+  abbrev pub Known : Caller → Type 0
+  Known caller = IsCaller register input.caller input.key caller
+
+  may : (t : Tables) (caller : Caller) → Known caller → SoundHub register.suppliers t → MayDeliver register caller t
+  may t Retailer known hub = hub
+  may t (Supplier s) known hub = record {
+    free = hub.free;
+    known = ap (row_of register) (gln_found register.suppliers input.caller s.now known.1) ∙ known.1;
+    sound = hub.sound;
+  }
+
+  step_is : (caller : Caller) → Known caller → (mark : Mark) (t : Tables) → request_of register caller input.moment input.request mark t ≡ shared_step register t input mark
+  step_is Retailer known mark t = sym (ap (λ role. step_as register role (row_of register input.caller) input mark t) known)
+  step_is (Supplier s) known mark t =
+      sym (ap (λ role. step_as register role (row_of register input.caller) input mark t) known.0 ∙ ap (λ row. step_as register (Some roles.Supplier) row input mark t) known.1)
+
+  acts_are : (caller : Caller) → Known caller → acts_by register caller input.request ≡ acts_of (upload_of register input)
+  acts_are Retailer known = sym (ap (λ role. acts_of (upload_by register role (row_of register input.caller) input.request)) known)
+  acts_are (Supplier s) known =
+      sym (ap (λ role. acts_of (upload_by register role (row_of register input.caller) input.request)) known.0
+      ∙ ap (λ row. acts_of (upload_by register (Some roles.Supplier) row input.request)) known.1)
+
+  pub asked_as : {S : Type 0} (content : S → Tables) (honest : S → Type 0) (left : S → Tables → Type 0) (old new : S) (caller : Caller) (result : Result Reply StoreFault) → Known caller →
+      (MayDeliver register caller (content old) → Asked content honest left old new (acts_by register caller input.request) (request_of register caller input.moment input.request) result) →
+      SoundHub register.suppliers (content old) → Asked content honest left old new (acts_of (upload_of register input)) (λ mark t. shared_step register t input mark) result
+  asked_as content honest left old new caller result known asked hub =
+      subst (λ (does : Does). Asked content honest left old new (acts_of (upload_of register input)) does result) (λ i mark t. step_is caller known mark t i)
+      (subst (λ count. Asked content honest left old new count (request_of register caller input.moment input.request) result) (acts_are caller known) (asked (may (content old) caller known hub)))

@@ -1,0 +1,6 @@
+pub mod Again
+pub mod Asking
+pub mod Callers
+pub mod Openings
+pub mod SoFar
+pub mod Steps

@@ -1,0 +1,164 @@
+-- What a step and a run did is what the laws say of the machine.
+use Rattle.std.proofs.Common.{◌≡◌, ◌≢◌, ◌↔◌, inl, inr, List, [], ◌∷◌, ◌++◌, length, map, Option, Some, refl, sym, ap, subst, ◌∙◌, append_assoc}
+use Rattle.std.specs.Prelude.{slice_get}
+use Rattle.std.specs.Option.{unwrap_or}
+use Rattle.hub_parties.specs.Rows.{RegisterRows, supplier_row}
+use Rattle.hub_parties.specs.declared.row.SupplierRow.{SupplierRow}
+use Rattle.hub_tables.specs.Tables.{Tables, view}
+use Rattle.hub_rules.specs.Laws.{SoundHub, Registered}
+use Rattle.hub_rules.specs.Sound.{Sound}
+use Rattle.hub_law.specs.Alone.{items}
+use Rattle.hub_law.specs.Laws.{StepIsOwn, RunIsOwn, AsksStatus, alone, reply_between}
+use Rattle.hub_law.specs.Machine.{Inputs, shared_step, shared_run, replies_to}
+use Rattle.hub_law.specs.Mark.{Mark, Whole}
+use Rattle.hub_law.specs.Replies.{done}
+use Rattle.hub_law.specs.StatusText.{status_text}
+use Rattle.hub_law.specs.Stops.{upload_of}
+use Rattle.hub_law.specs.declared.reply.Outcome.TheVariants.{Stopped}
+use Rattle.hub_law.specs.declared.reply.Reply.{Reply}
+use Rattle.hub_law.specs.declared.request.Input.{Input}
+use Rattle.hub_core.specs.Steps.{OneMore, LeavesOf, Answered, Stepped, RunAlone, StoppedSince, RunLeaves, StopsTold, LinesBalance, Ran, acts_of}
+
+module _ (register : RegisterRows)
+    (own : (s : SupplierRow) (t : Tables) (input : Input) (mark : Mark) → Registered register.suppliers s t → StepIsOwn register s t input mark)
+    (stays : (t : Tables) (input : Input) (mark : Mark) → SoundHub register.suppliers t → Sound register.suppliers (shared_step register t input mark).1)
+    (stops : (t : Tables) (input : Input) (mark : Mark) → ((shared_step register t input mark).0.outcome ≡ Stopped) ↔ (mark ≢ Whole))
+    (statuses : (s : SupplierRow) (t : Tables) (before later : Inputs) (input : Input) → Registered register.suppliers s t → AsksStatus register s input →
+    reply_between register t before input later ≡ Some (done (status_text (alone register s (items s.gln register before) t).1)))
+    (balance : (t : Tables) → Sound register.suppliers t → LinesBalance t) where
+  -- what a crash leaves after an input is sound
+  kept_sound : (t after : Tables) (before left : Tables → Type 0) (input : Input) (mark : Mark) →
+      SoundHub register.suppliers t → Sound register.suppliers after → ((u : Tables) → before u → Sound register.suppliers u) →
+      (u : Tables) → LeavesOf register t input mark after before u → Sound register.suppliers u
+  kept_sound t after before left input mark hub sound were u (inl e) = subst (λ (u : Tables). Sound register.suppliers u) (sym e) sound
+  kept_sound t after before left input mark hub sound were u (inr (inl e)) = were u e.1
+  kept_sound t after before left input mark hub sound were u (inr (inr more)) =
+      subst (λ (u : Tables). Sound register.suppliers u) more.is (stays t input more.more hub)
+
+  pub stepped : {S : Type 0} (content : S → Tables) (left : S → Tables → Type 0) (old new : S) (input : Input) (reply : Reply) →
+      SoundHub register.suppliers (content old) →
+      Answered content left old new (acts_of (upload_of register input)) (λ mark t. shared_step register t input mark) reply →
+      Stepped register (content old) (content new) (left old) (left new) input reply
+  stepped content left old new input reply hub a =
+      let t = content old in
+      let sound : Sound register.suppliers (content new) = subst (λ (x : Reply × Tables). Sound register.suppliers x.1) a.is (stays t input a.mark hub) in
+      record {
+        mark = a.mark;
+        is = a.is;
+        stop = subst (λ (x : Reply × Tables). (x.0.outcome ≡ Stopped) ↔ (a.mark ≢ Whole)) a.is (stops t input a.mark);
+        sound = sound;
+        balance = balance (content new) sound;
+        alone = λ s known. let law : StepIsOwn register s t input a.mark = own s t input a.mark (record { free = hub.free; known = known; sound = hub.sound }) in record {
+          seen = sym (ap (λ (x : Reply × Tables). view s.gln x.1) a.is) ∙ law.seen;
+          told = λ called. law.told called ∙ ap (λ (x : Reply × Tables). x.0 ∷ []) a.is;
+          status = λ asks whole.
+              let one : (shared_step register t input Whole).0 ≡ done (status_text (view s.gln t)) = ap (λ (given : Option Reply). unwrap_or given reply) (statuses s t [] [] input (record { free = hub.free; known = known; sound = hub.sound }) asks) in
+              sym (ap (λ (x : Reply × Tables). x.0) a.is) ∙ ap (λ mark. (shared_step register t input mark).0) whole ∙ one;
+        };
+        kept = a.kept;
+        kept_sound = λ were u l. kept_sound t (content new) (left old) (left new) input a.mark hub sound were u (a.kept u l);
+      }
+
+-- a run, and one input more
+run_more : (register : RegisterRows) (t : Tables) (inputs : Inputs) (input : Input) (mark : Mark) →
+    shared_run register t (inputs ++ (input, mark) ∷ []) ≡ ((shared_run register t inputs).0 ++ (shared_step register (shared_run register t inputs).1 input mark).0 ∷ [], (shared_step register (shared_run register t inputs).1 input mark).1)
+run_more register t [] input mark = refl
+run_more register t (x ∷ inputs) input mark =
+    ap (λ (r : List Reply × Tables). ((shared_step register t x.0 x.1).0 ∷ r.0, r.1)) (run_more register (shared_step register t x.0 x.1).1 inputs input mark)
+
+firsts_more : (marked : Inputs) (x : Input) (mark : Mark) → map (λ (x : Input × Mark). x.0) (marked ++ (x, mark) ∷ []) ≡ map (λ (x : Input × Mark). x.0) marked ++ x ∷ []
+firsts_more [] x mark = refl
+firsts_more (y ∷ marked) x mark = ap (λ xs. y.0 ∷ xs) (firsts_more marked x mark)
+
+stops_more : (marked : Inputs) (replies : List Reply) (x : Input) (mark : Mark) (reply : Reply) → StopsTold marked replies →
+    ((reply.outcome ≡ Stopped) ↔ (mark ≢ Whole)) → StopsTold (marked ++ (x, mark) ∷ []) (replies ++ reply ∷ [])
+stops_more [] [] x mark reply told one = (one, tt)
+stops_more [] (r ∷ replies) x mark reply told one = absurd told
+stops_more (y ∷ marked) [] x mark reply told one = absurd told
+stops_more (y ∷ marked) (r ∷ replies) x mark reply told one = (told.0, stops_more marked replies x mark reply told.1 one)
+
+module _ (register : RegisterRows)
+    (own : (s : SupplierRow) (t : Tables) (inputs : Inputs) → Registered register.suppliers s t → RunIsOwn register s t inputs)
+    (statuses : (s : SupplierRow) (t : Tables) (before later : Inputs) (input : Input) → Registered register.suppliers s t → AsksStatus register s input →
+    reply_between register t before input later ≡ Some (done (status_text (alone register s (items s.gln register before) t).1))) where
+  run_alone : (t after : Tables) (marked : Inputs) (replies : List Reply) → SoundHub register.suppliers t → shared_run register t marked ≡ (replies, after) →
+      (s : SupplierRow) → supplier_row register.suppliers s.gln ≡ Some s → RunAlone register s t after marked replies
+  run_alone t after marked replies hub is s known =
+      let law : RunIsOwn register s t marked = own s t marked (record { free = hub.free; known = known; sound = hub.sound }) in record {
+        seen = sym (ap (λ (x : List Reply × Tables). view s.gln x.1) is) ∙ law.seen;
+        told = sym (ap (λ (x : List Reply × Tables). replies_to s.gln marked x.0) is) ∙ law.told;
+        status = λ earlier later input e asks.
+            sym (ap (λ (x : List Reply × Tables). slice_get x.0 (length earlier)) is)
+            ∙ ap (λ xs. slice_get (shared_run register t xs).0 (length earlier)) e
+            ∙ statuses s t earlier later input (record { free = hub.free; known = known; sound = hub.sound }) asks;
+      }
+
+  pub ran_none : (t : Tables) (left : Tables → Type 0) → SoundHub register.suppliers t → LinesBalance t → Ran register t t left left [] []
+  ran_none t left hub balance = record {
+    run = record {
+      marked = [];
+      are = refl;
+      is = refl;
+      stops = tt;
+      sound = hub.sound;
+      balance = balance;
+      alone = run_alone t t [] [] hub refl;
+    };
+    kept = λ u l. inr (inl (refl, l));
+    kept_sound = λ were u l. were u l;
+  }
+
+  since_more : (t middle after : Tables) (marked : Inputs) (x : Input) (mark : Mark) (u : Tables) → (shared_step register middle x mark).1 ≡ after → after ≡ middle →
+      StoppedSince register t middle marked u → StoppedSince register t after (marked ++ (x, mark) ∷ []) u
+  since_more t middle after marked x mark u is same s = record {
+    earlier = s.earlier;
+    input = s.input;
+    mark = s.mark;
+    later = s.later ++ (x, mark) ∷ [];
+    are = ap (λ (xs : Inputs). xs ++ (x, mark) ∷ []) s.are ∙ append_assoc s.earlier ((s.input, s.mark) ∷ s.later) ((x, mark) ∷ []);
+    more = s.more;
+    since = s.since ∙ sym same;
+  }
+
+  kept_more : (t middle after : Tables) (before left then : Tables → Type 0) (marked : Inputs) (x : Input) (mark : Mark) →
+      (shared_run register t marked).1 ≡ middle → (shared_step register middle x mark).1 ≡ after →
+      ((u : Tables) → left u → RunLeaves register t marked middle before u) → (u : Tables) → LeavesOf register middle x mark after left u →
+      RunLeaves register t (marked ++ (x, mark) ∷ []) after before u
+  kept_more t middle after before left then marked x mark here is kept u (inl e) = inl e
+  kept_more t middle after before left then marked x mark here is kept u (inr (inl e)) = elim (kept u e.1) [
+    | inl a ↦ inl (a ∙ sym e.0)
+    | inr (inl b) ↦ inr (inl (e.0 ∙ b.0, b.1))
+    | inr (inr c) ↦ inr (inr (since_more t middle after marked x mark u is e.0 c))
+  ]
+  kept_more t middle after before left then marked x mark here is kept u (inr (inr more)) = inr (inr (record {
+    earlier = marked;
+    input = x;
+    mark = mark;
+    later = [];
+    are = refl;
+    more = subst (λ (m : Tables). OneMore (acts_of (upload_of register x)) (λ mark t. shared_step register t x mark) m mark u) (sym here) more;
+    since = ap (λ (r : List Reply × Tables). r.1) (run_more register t marked x mark) ∙ ap (λ (m : Tables). (shared_step register m x mark).1) here ∙ is;
+  }))
+
+  pub ran_more : (t middle after : Tables) (before left then : Tables → Type 0) (inputs : List Input) (x : Input) (replies : List Reply) (reply : Reply) →
+      SoundHub register.suppliers t → Ran register t middle before left inputs replies → Stepped register middle after left then x reply →
+      Ran register t after before then (inputs ++ x ∷ []) (replies ++ reply ∷ [])
+  ran_more t middle after before left then inputs x replies reply hub before_it s =
+      let r = before_it.run in
+      let is : shared_run register t (r.marked ++ (x, s.mark) ∷ []) ≡ (replies ++ reply ∷ [], after) =
+      run_more register t r.marked x s.mark
+      ∙ ap (λ (y : List Reply × Tables). (y.0 ++ (shared_step register y.1 x s.mark).0 ∷ [], (shared_step register y.1 x s.mark).1)) r.is
+      ∙ ap (λ (y : Reply × Tables). (replies ++ y.0 ∷ [], y.1)) s.is in
+      record {
+        run = record {
+          marked = r.marked ++ (x, s.mark) ∷ [];
+          are = firsts_more r.marked x s.mark ∙ ap (λ xs. xs ++ x ∷ []) r.are;
+          is = is;
+          stops = stops_more r.marked replies x s.mark reply r.stops s.stop;
+          sound = s.sound;
+          balance = s.balance;
+          alone = run_alone t after (r.marked ++ (x, s.mark) ∷ []) (replies ++ reply ∷ []) hub is;
+        };
+        kept = λ u l. kept_more t middle after before left then r.marked x s.mark (ap (λ (y : List Reply × Tables). y.1) r.is) (ap (λ (y : Reply × Tables). y.1) s.is) before_it.kept u (s.kept u l);
+        kept_sound = λ were u l. s.kept_sound (before_it.kept_sound were) u l;
+      }

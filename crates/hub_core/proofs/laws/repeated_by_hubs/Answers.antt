@@ -1,0 +1,27 @@
+use Rattle.std.proofs.Common.{Option, ◌∷◌, ◌++◌, sym, ap, subst, ◌∙◌, Some}
+use Rattle.std.specs.Option.{unwrap_or}
+use Rattle.hub_tables.specs.Tables.{Tables}
+use Rattle.hub_law.specs.Machine.{shared_run}
+use Rattle.hub_law.specs.Mark.{Whole}
+use Rattle.hub_law.specs.Told.{Repeated}
+use Rattle.hub_law.specs.declared.reply.Reply.{Reply}
+use Rattle.hub_core.specs.Laws.{TellsOf}
+use Rattle.hub_core.proofs.Again.{reply_at, tells}
+use Rattle.hub_core.proofs.laws.repeated_by_hubs.Goals as goal
+
+pub returns-clause-message : goal.returns-clause-message
+returns-clause-message c register t after xs replies run before between later first second mark other_mark place other_place message one other reply e same reached there =
+    let earlier = before ++ (first, mark) ∷ between in
+    let here : Tables = (shared_run register t earlier).1 in
+    let at = reply_at register t after run.marked earlier later second other_mark replies run.is e in
+    let is = ap (λ (given : Option Reply). unwrap_or given reply) (sym at ∙ there) in
+    let told = c.repeated_in_runs.ensures.message register t before between first second mark place other_place message one other same in
+    subst (λ (reply : Reply). TellsOf other.upload other_place Repeated reply) is
+    (tells register here second other.upload other_place Repeated told other_mark
+    (c.stops_cut_uploads.ensures.whole register here second other.upload other.looked_at)
+    (λ k below. c.stops_cut_uploads.ensures.behind register here second k other.upload other.looked_at below) reached)
+
+pub returns-clause-cancellation : goal.returns-clause-cancellation
+returns-clause-cancellation c register t after xs replies run before between later first second cancel e hub asks again accepted =
+    reply_at register t after run.marked (before ++ (first, Whole) ∷ between) later second Whole replies run.is e
+    ∙ ap (λ (r : Reply × Tables). Some r.0) (c.repeated_in_runs.ensures.cancellation register t before between first second cancel hub asks again accepted)

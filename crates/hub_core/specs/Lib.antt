@@ -1,0 +1,5 @@
+pub mod Callers
+pub mod Laws
+pub mod Opened
+pub mod Steps
+pub mod Uploads

@@ -1,0 +1,158 @@
+-- What a request did, what a step and a run of a hub did, and what a crash leaves after them.
+use Rattle.std.specs.Prelude.{◌≡◌, ◌≢◌, ◌⊎◌, ◌↔◌, ◌+◌, ⊤, ℕ, nat_lt, List, [], ◌∷◌, ◌++◌, length, map, slice_get, if◌then◌else◌, Option, Some, None, Result, IfOk, OnErr}
+use Rattle.std.specs.List.{AllByRecursion}
+use Rattle.edi_envelope.specs.declared.interchange.Interchange.{Interchange}
+use Rattle.hub_parties.specs.Rows.{RegisterRows, supplier_row}
+use Rattle.hub_parties.specs.declared.row.SupplierRow.{SupplierRow}
+use Rattle.hub_tables.specs.Tables.{Tables, view}
+use Rattle.hub_store.specs.declared.fault.StoreFault.{StoreFault}
+use Rattle.hub_rules.specs.Sound.{Balanced, Sound}
+use Rattle.hub_law.specs.Alone.{items, items_of_input}
+use Rattle.hub_law.specs.Laws.{AsksStatus, alone}
+use Rattle.hub_law.specs.Machine.{Inputs, shared_step, shared_run, replies_to}
+use Rattle.hub_law.specs.Mark.{Mark, Whole, StoppedEmpty, StoppedBare, StoppedAfter}
+use Rattle.hub_law.specs.Replies.{done}
+use Rattle.hub_law.specs.StatusText.{status_text}
+use Rattle.hub_law.specs.Stops.{upload_of}
+use Rattle.hub_law.specs.declared.reply.Outcome.TheVariants.{Stopped}
+use Rattle.hub_law.specs.declared.reply.Reply.{Reply}
+use Rattle.hub_law.specs.declared.request.Input.{Input}
+use Rattle.hub_law.specs.declared.request.Request.{Request}
+
+-- what a request does, with each mark
+abbrev pub Does : Type 0
+Does = Mark → Tables → Reply × Tables
+
+-- how many acts a request is: each message of an upload is one, and so is any other request
+abbrev pub acts_of : Option Interchange → ℕ
+acts_of (Some upload) = length upload.messages
+acts_of None = 1
+
+-- how many of so many acts were done
+abbrev pub acts_done : Mark → ℕ → ℕ
+acts_done Whole count = count
+acts_done StoppedEmpty count = 0
+acts_done StoppedBare count = 0
+acts_done (StoppedAfter k) count = if nat_lt k count then k else 0
+
+-- the tables are those after one act more
+pub record OneMore (count : ℕ) (does : Does) (t : Tables) (mark : Mark) (u : Tables) : Type 0 where
+  pub more : Mark
+  pub one : acts_done more count ≡ acts_done mark count + 1
+  pub is : (does more t).1 ≡ u
+
+-- What a crash leaves after a request of so many acts: the tables after the acts that are done; where they changed
+-- nothing, what it left before; or the tables after one whole act more, at which the request was stopped.
+abbrev pub Leaves : ℕ → Does → Tables → Mark → Tables → (Tables → Type 0) → Tables → Type 0
+Leaves count does t mark after before u = (u ≡ after) ⊎ (((after ≡ t) × before u) ⊎ OneMore count does t mark u)
+
+-- a request was answered, whole or stopped at some place
+pub record Answered {S : Type 0} (content : S → Tables) (left : S → Tables → Type 0) (old new : S) (count : ℕ)
+    (does : Does) (reply : Reply) : Type 0 where
+  pub mark : Mark
+  pub is : does mark (content old) ≡ (reply, content new)
+  pub kept : (u : Tables) → left new u → Leaves count does (content old) mark (content new) (left old) u
+
+-- a request did nothing: a crash leaves what it left before, or the tables after its one act
+pub record Undone {S : Type 0} (content : S → Tables) (left : S → Tables → Type 0) (old new : S) (count : ℕ)
+    (does : Does) : Type 0 where
+  pub same : content new ≡ content old
+  pub kept : (u : Tables) → left new u → left old u ⊎ OneMore count does (content old) StoppedBare u
+
+-- A request over a store. At Ok it is answered, at a fault nothing is done.
+pub record Asked {S : Type 0} (content : S → Tables) (honest : S → Type 0) (left : S → Tables → Type 0) (old new : S)
+    (count : ℕ) (does : Does) (result : Result Reply StoreFault) : Type 0 where
+  pub answered : honest new → IfOk result (λ reply. Answered content left old new count does reply)
+  pub undone : honest new → OnErr result (Undone content left old new count does)
+
+-- an input, by its parts
+abbrev pub input_of : ℕ → List ℕ → List ℕ → Request → Input
+input_of moment caller key request = record { moment = moment; caller = caller; key = key; request = request }
+
+-- What a registered supplier sees after a step is what comes of its items alone, and where it is the caller the reply is
+-- what it is told alone. A status of it for which the retailer asks is the text of what it sees.
+pub record SeenAlone (register : RegisterRows) (s : SupplierRow) (t after : Tables) (input : Input) (mark : Mark)
+    (reply : Reply) : Type 0 where
+  pub seen : view s.gln after ≡ (alone register s (items_of_input s.gln register input mark) t).1
+  pub told : input.caller ≡ s.gln → (alone register s (items_of_input s.gln register input mark) t).0 ≡ reply ∷ []
+  pub status : AsksStatus register s input → mark ≡ Whole → reply ≡ done (status_text (view s.gln t))
+
+-- what a crash leaves after an input
+abbrev pub LeavesOf : RegisterRows → Tables → Input → Mark → Tables → (Tables → Type 0) → Tables → Type 0
+LeavesOf register t input =
+    Leaves (acts_of (upload_of register input)) (λ mark t. shared_step register t input mark) t
+
+-- on every order line ordered is open, refused, cancelled and despatched together
+abbrev pub LinesBalance : Tables → Type 0
+LinesBalance t = AllByRecursion (λ line. Balanced (view line.supplier t) line) t.lines
+
+-- A step: the shared machine's, whole, or stopped at some place, which the reply says. Tables stay sound, so lines
+-- balance, and each supplier sees and is told what it would be alone. What a crash leaves is the acts done, or they and one more, and it
+-- is sound where it was.
+pub record Stepped (register : RegisterRows) (t after : Tables) (before left : Tables → Type 0) (input : Input)
+    (reply : Reply) : Type 0 where
+  pub mark : Mark
+  pub is : shared_step register t input mark ≡ (reply, after)
+  pub stop : (reply.outcome ≡ Stopped) ↔ (mark ≢ Whole)
+  pub sound : Sound register.suppliers after
+  pub balance : LinesBalance after
+  pub alone : (s : SupplierRow) → supplier_row register.suppliers s.gln ≡ Some s →
+      SeenAlone register s t after input mark reply
+  pub kept : (u : Tables) → left u → LeavesOf register t input mark after before u
+  pub kept_sound : ((u : Tables) → before u → Sound register.suppliers u) → (u : Tables) → left u →
+      Sound register.suppliers u
+
+-- The same of a run: what it sees in the end, all replies to it, and a status of it for which the retailer asks at some
+-- place, which is the text of what it sees there.
+pub record RunAlone (register : RegisterRows) (s : SupplierRow) (t after : Tables) (inputs : Inputs)
+    (replies : List Reply) : Type 0 where
+  pub seen : view s.gln after ≡ (alone register s (items s.gln register inputs) t).1
+  pub told : replies_to s.gln inputs replies ≡ (alone register s (items s.gln register inputs) t).0
+  pub status : (earlier later : Inputs) (input : Input) → inputs ≡ earlier ++ (input, Whole) ∷ later →
+      AsksStatus register s input → slice_get replies (length earlier) ≡
+      Some (done (status_text (alone register s (items s.gln register earlier) t).1))
+
+-- each input was stopped exactly where the reply to it says so
+abbrev pub StopsTold : Inputs → List Reply → Type 0
+StopsTold [] [] = ⊤
+StopsTold [] (reply ∷ replies) = ⊥
+StopsTold ((input, mark) ∷ inputs) [] = ⊥
+StopsTold ((input, mark) ∷ inputs) (reply ∷ replies) =
+    ((reply.outcome ≡ Stopped) ↔ (mark ≢ Whole)) × StopsTold inputs replies
+
+-- An input of a run was stopped, and the tables are those after one act more of it; the later ones changed nothing.
+pub record StoppedSince (register : RegisterRows) (t after : Tables) (inputs : Inputs) (u : Tables) : Type 0 where
+  pub earlier : Inputs
+  pub input : Input
+  pub mark : Mark
+  pub later : Inputs
+  pub are : inputs ≡ earlier ++ (input, mark) ∷ later
+  pub more : OneMore (acts_of (upload_of register input)) (λ mark t. shared_step register t input mark)
+      (shared_run register t earlier).1 mark u
+  pub since : (shared_run register t (earlier ++ (input, mark) ∷ [])).1 ≡ after
+
+-- What a crash leaves after a run: the tables after all acts that are done; where they changed nothing, what it left
+-- before; or those after one whole act more.
+abbrev pub RunLeaves : RegisterRows → Tables → Inputs → Tables → (Tables → Type 0) → Tables → Type 0
+RunLeaves register t inputs after before u =
+    (u ≡ after) ⊎ (((after ≡ t) × before u) ⊎ StoppedSince register t after inputs u)
+
+-- A run: the shared machine's over the inputs, each whole or stopped at some place, which its reply says. Tables stay
+-- sound, so lines balance, and each supplier sees and is told what it would be alone.
+pub record RunBy (register : RegisterRows) (t after : Tables) (inputs : List Input) (replies : List Reply) : Type 0 where
+  pub marked : Inputs
+  pub are : map (λ x. x.0) marked ≡ inputs
+  pub is : shared_run register t marked ≡ (replies, after)
+  pub stops : StopsTold marked replies
+  pub sound : Sound register.suppliers after
+  pub balance : LinesBalance after
+  pub alone : (s : SupplierRow) → supplier_row register.suppliers s.gln ≡ Some s →
+      RunAlone register s t after marked replies
+
+-- the same, and what a crash leaves is the acts done, or they and one more, and it is sound where it was
+pub record Ran (register : RegisterRows) (t after : Tables) (before left : Tables → Type 0) (inputs : List Input)
+    (replies : List Reply) : Type 0 where
+  pub run : RunBy register t after inputs replies
+  pub kept : (u : Tables) → left u → RunLeaves register t run.marked after before u
+  pub kept_sound : ((u : Tables) → before u → Sound register.suppliers u) → (u : Tables) → left u →
+      Sound register.suppliers u

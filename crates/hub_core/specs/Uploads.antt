@@ -1,0 +1,19 @@
+-- The messages of an upload, one after another.
+use Rattle.std.specs.Prelude.{◌≡◌, ℕ, Bool, List, length, take}
+use Rattle.std.specs.List.{list_any}
+use Rattle.edi_envelope.specs.declared.interchange.Interchange.{Interchange}
+use Rattle.edi_envelope.specs.declared.interchange.RawMessage.{RawMessage}
+use Rattle.hub_tables.specs.Tables.{Tables}
+use Rattle.hub_rules.specs.declared.incoming.IncomingMessage.{IncomingMessage}
+use Rattle.hub_law.specs.Messages.{messages_at}
+use Rattle.hub_law.specs.Replies.{reply_lines}
+use Rattle.hub_law.specs.Told.{Told, Act, is_refused, in_row}
+
+-- the first so many are done, and told of in the lines
+pub record DoneSoFar (deliver : RawMessage × IncomingMessage → Act) (moment : ℕ) (interchange : Interchange)
+    (t now : Tables) (count : ℕ) (refused : Bool) (body : List ℕ) : Type 0 where
+  pub told : List Told
+  pub counts : length told ≡ count
+  pub is : in_row deliver (take count (messages_at moment interchange)) t ≡ (told, now)
+  pub refusals : refused ≡ list_any is_refused told
+  pub lines : body ≡ reply_lines interchange told

@@ -1,0 +1,99 @@
+//! A hub.
+ghost use Rattle.std.specs.Prelude.{◌≡◌, IfOk, OnErr};
+ghost use Rattle.hub_parties.specs.Rows.{role_of};
+ghost use Rattle.hub_rules.specs.Sound.{Sound};
+ghost use Rattle.hub_core.specs.Steps.{Stepped, Ran, input_of};
+
+use crate::step;
+use edi_base::{Items, MemoryFault};
+use edi_envelope::Moment;
+use gs1_ids::Gln;
+use hub_law::{Input, Reply, Request};
+use hub_parties::Role;
+use hub_register::Register;
+use hub_store::Store;
+use std::alloc::Global;
+use std::marker::Model;
+
+/// A hub: its register, and the store of its rows. Of the rows it asks nothing, since a file may hold any; what its
+/// calls promise they promise of rows that are sound for the register, as empty ones are, and each call leaves sound
+/// rows so.
+#[derive(Drop)]
+pub struct Hub<S: Store> {
+    alloc: Global,
+    register: Register,
+    store: S,
+}
+
+impl<S: Store> Model for Hub<S> {
+    ghost use Rattle.hub_parties.specs.Rows.{RegisterRows};
+
+    ghost Value = { RegisterRows × S };
+
+    ghost view = { λ hub. (hub.register, hub.store) };
+}
+
+impl<S: Store> Hub<S> {
+    /// A hub of this register over this store. It takes no memory.
+    pub fn new(alloc: Global, register: Register, store: S) -> Self
+        ensures { result ≡ (register, store) }
+    {
+        Hub {
+            alloc,
+            register,
+            store,
+        }
+    }
+
+    /// The register, and the store as it is now. It takes no memory.
+    pub fn into_store(self) -> (Register, S)
+        ensures { result ≡ self }
+    {
+        let Hub {
+            alloc: _,
+            register,
+            store,
+        } = self;
+        (register, store)
+    }
+
+    /// The side of a caller with this GLN and this key, as the register has it. It takes no memory.
+    pub fn role(&self, caller: &Gln, key: &[u8]) -> Option<Role>
+        ensures { result ≡ role_of self.now.0 caller.now key.now }
+    {
+        self.register.may(caller, key)
+    }
+
+    /// Answers a request that comes at a moment of whoever has this GLN and this key.
+    ///
+    /// Who is not known by the two, or may not ask this, is answered `denied`. Each message of an upload, a
+    /// cancellation and a taken mark is one act, and one commit. Where memory or the store gives out, the reply ends in
+    /// `stopped`, after the lines of what was done; where there is no memory even for that, it is empty and nothing was
+    /// done.
+    pub fn step(&mut self, moment: Moment, caller: &Gln, key: &[u8], request: Request) -> Reply
+        ensures stepped { S.honest self.new.1 → Sound self.old.0.suppliers (S.content self.old.1) → Stepped self.old.0 (S.content self.old.1) (S.content self.new.1) (S.left self.old.1) (S.left self.new.1) (input_of moment caller.now key.now request) result }
+        ensures register { self.new.0 ≡ self.old.0 }
+        ensures was_honest { S.honest self.new.1 → S.honest self.old.1 }
+    {
+        step::step(
+            self.alloc,
+            &self.register,
+            &mut self.store,
+            moment,
+            caller,
+            key,
+            &request,
+        )
+    }
+
+    /// Answers requests one after another, each as `step` does. Room for the replies is taken before the first: where
+    /// it is not found, none was looked at.
+    pub fn run(&mut self, inputs: &[Input]) -> Result<Items<Reply>, MemoryFault>
+        ensures ran { S.honest self.new.1 → Sound self.old.0.suppliers (S.content self.old.1) → IfOk result (λ replies. Ran self.old.0 (S.content self.old.1) (S.content self.new.1) (S.left self.old.1) (S.left self.new.1) inputs.now replies) }
+        ensures none { OnErr result (self.new ≡ self.old) }
+        ensures register { self.new.0 ≡ self.old.0 }
+        ensures was_honest { S.honest self.new.1 → S.honest self.old.1 }
+    {
+        step::run(self.alloc, &self.register, &mut self.store, inputs)
+    }
+}

@@ -1,0 +1,64 @@
+//! Laws of hubs that ran, each the contract of a function that does nothing.
+ghost use Rattle.std.specs.Prelude.{◌≡◌, ℕ, List, length, slice_get, ◌∷◌, ◌++◌, Some};
+ghost use Rattle.edi_envelope.specs.declared.interchange.RawMessage.{RawMessage};
+ghost use Rattle.hub_parties.specs.Rows.{RegisterRows};
+ghost use Rattle.hub_parties.specs.declared.row.SupplierRow.{SupplierRow};
+ghost use Rattle.hub_rules.specs.declared.cancel.Cancel.{Cancel};
+ghost use Rattle.hub_tables.specs.Tables.{Tables, view};
+ghost use Rattle.hub_law.specs.Again.{MessageAt, Reaches, AcceptedAt, SameReference, AsksCancel};
+ghost use Rattle.hub_law.specs.Laws.{Agree};
+ghost use Rattle.hub_law.specs.Machine.{Inputs, replies_to, shared_run};
+ghost use Rattle.hub_law.specs.Mark.{Mark, Whole};
+ghost use Rattle.hub_law.specs.Replies.{cancel_reply};
+ghost use Rattle.hub_law.specs.Requests.{cancel_named};
+ghost use Rattle.hub_law.specs.Told.{Accepted, Repeated};
+ghost use Rattle.hub_law.specs.declared.reply.Reply.{Reply};
+ghost use Rattle.hub_law.specs.declared.request.Input.{Input};
+ghost use Rattle.hub_rules.specs.Laws.{SoundHub};
+ghost use Rattle.hub_core.specs.Laws.{TellsOf};
+ghost use Rattle.hub_core.specs.Steps.{RunBy};
+
+use hub_law::{repeated_in_runs, runs_alike, stops_cut_uploads};
+
+/// Two runs, each of a hub and a store of its own, that agree on a supplier are alike for it: it sees the same in the
+/// end, and all replies to it are the same, byte for byte. They agree on its GLN, prefixes and key, on the GLNs of hub
+/// and retailer, on its rows at the start, and on its items. The other suppliers, the retailer's key, all other rows
+/// and all other inputs may differ.
+pub fn hubs_alike()
+    ensures seen { (s : SupplierRow) (first second : RegisterRows) (t after u later : Tables) (xs ys : List Input)
+        (replies answers : List Reply) (one : RunBy first t after xs replies)
+        (other : RunBy second u later ys answers) →
+        Agree s first second t u one.marked other.marked → view s.gln after ≡ view s.gln later }
+    ensures told { (s : SupplierRow) (first second : RegisterRows) (t after u later : Tables) (xs ys : List Input)
+        (replies answers : List Reply) (one : RunBy first t after xs replies)
+        (other : RunBy second u later ys answers) →
+        Agree s first second t u one.marked other.marked →
+        replies_to s.gln one.marked replies ≡ replies_to s.gln other.marked answers }
+{
+    runs_alike();
+}
+
+/// In a run of a hub, a message that was accepted and comes again in a later upload that is looked at and was not
+/// stopped before it, is told of as repeated; and a cancellation that was accepted and comes again, where it was not
+/// stopped, is answered so.
+pub fn repeated_by_hubs()
+    ensures message { (register : RegisterRows) (t after : Tables) (xs : List Input) (replies : List Reply)
+        (run : RunBy register t after xs replies) (before between later : Inputs) (first second : Input)
+        (mark other_mark : Mark) (place other_place : ℕ) (message : RawMessage)
+        (one : AcceptedAt register t before first mark place message)
+        (other : MessageAt register second other_place message) (reply : Reply) →
+        run.marked ≡ (before ++ (first, mark) ∷ between) ++ (second, other_mark) ∷ later →
+        SameReference first second one.comes.upload other.upload →
+        Reaches other_mark second other.upload other_place →
+        slice_get replies (length (before ++ (first, mark) ∷ between)) ≡ Some reply →
+        TellsOf other.upload other_place Repeated reply }
+    ensures cancellation { (register : RegisterRows) (t after : Tables) (xs : List Input) (replies : List Reply)
+        (run : RunBy register t after xs replies) (before between later : Inputs) (first second : Input) (c : Cancel) →
+        run.marked ≡ (before ++ (first, Whole) ∷ between) ++ (second, Whole) ∷ later →
+        SoundHub register.suppliers t → AsksCancel register c first → AsksCancel register c second →
+        (cancel_named register c (shared_run register t before).1).0 ≡ Accepted →
+        slice_get replies (length (before ++ (first, Whole) ∷ between)) ≡ Some (cancel_reply Repeated) }
+{
+    repeated_in_runs();
+    stops_cut_uploads();
+}

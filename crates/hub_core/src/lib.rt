@@ -1,0 +1,17 @@
+//! The hub: who asks, what is asked, uploads and their messages, one request and a run of them, over a store.
+#![tactic(auto)]
+
+mod caller;
+mod hub;
+mod laws;
+mod opening;
+mod replies;
+mod requests;
+mod step;
+mod upload;
+
+pub use hub::Hub;
+pub use hub_law::{Input, Outcome, Reply, Request};
+pub use hub_rules::Cancel;
+pub use hub_texts::read_cancel;
+pub use laws::{hubs_alike, repeated_by_hubs};

@@ -1,0 +1,140 @@
+//! What is asked, by a supplier or by the retailer.
+ghost use Rattle.std.specs.Prelude.{◌≡◌, Ok, Err};
+ghost use Rattle.std.specs.Option.{IfSome, IfNone};
+ghost use Rattle.hub_law.specs.Requests.{uploaded};
+ghost use Rattle.hub_law.specs.Stops.{opened_well};
+ghost use Rattle.hub_core.specs.Callers.{delivered, addressed_by, opening_of, acts_by, request_of, MayDeliver};
+ghost use Rattle.hub_core.specs.Steps.{Asked, acts_of};
+ghost use Rattle.hub_core.specs.declared.caller.Caller.TheVariants.{Retailer, Supplier};
+
+use crate::caller::Caller;
+use crate::opening::{address_fault, opened};
+use crate::replies::{denied_reply, refused_upload, unknown_reply};
+use crate::upload::take_messages;
+use edi_envelope::{Interchange, Moment};
+use gs1_ids::Gln;
+use hub_acts::{mailbox_entry, mailbox_list, status_report, take_cancel, take_entry};
+use hub_law::{Reply, Request};
+use hub_parties::SupplierRow;
+use hub_register::Register;
+use hub_store::{Store, StoreFault};
+use hub_texts::interchange_line;
+use std::alloc::Global;
+
+// Why an interchange is not one that its caller may send: E08 or E09.
+fn fault_of_address(
+    register: &Register,
+    caller: Caller<'_>,
+    interchange: &Interchange,
+) -> Option<&'static str>
+    ensures some { IfSome result (λ code. addressed_by register.now caller.entry (Ok interchange.now) ≡ Err code.now) }
+    ensures none { IfNone result (addressed_by register.now caller.entry (Ok interchange.now) ≡ Ok interchange.now) }
+{
+    let hub = *register.hub();
+    let retailer = *register.retailer();
+    match caller {
+        Caller::Retailer => address_fault(interchange, &retailer, &[hub]),
+        Caller::Supplier(supplier) => {
+            address_fault(interchange, &supplier.gln, &[hub, retailer])
+        }
+    }
+}
+
+// Takes the messages of an upload.
+fn upload<S: Store>(
+    alloc: Global,
+    register: &Register,
+    caller: Caller<'_>,
+    store: &mut S,
+    moment: Moment,
+    bytes: &[u8],
+) -> Result<Reply, StoreFault>
+    ensures asked { MayDeliver register.now caller.entry (S.content store.old) → Asked S.content S.honest S.left store.old store.new (acts_of (opened_well (opening_of register.now caller.entry bytes.now))) (λ mark t. uploaded (delivered register.now caller.entry) moment mark (opening_of register.now caller.entry bytes.now) t) result }
+    ensures was_honest { S.honest store.new → S.honest store.old }
+{
+    let interchange = match opened(alloc, bytes)? {
+        Ok(interchange) => interchange,
+        Err(code) => return Ok(refused_upload(alloc, code)?),
+    };
+    if let Some(code) = fault_of_address(register, caller, &interchange) {
+        return Ok(refused_upload(alloc, code)?);
+    }
+    let mut reply = interchange_line(alloc, &interchange)?;
+    reply.try_reserve(8)?;
+    Ok(take_messages(alloc, register, caller, store, moment, &interchange, reply))
+}
+
+// What a supplier asks.
+fn asked_by_supplier<S: Store>(
+    alloc: Global,
+    register: &Register,
+    supplier: &SupplierRow,
+    store: &mut S,
+    moment: Moment,
+    request: &Request,
+) -> Result<Reply, StoreFault>
+    ensures asked { MayDeliver register.now (Supplier supplier.entry) (S.content store.old) → Asked S.content S.honest S.left store.old store.new (acts_by register.now (Supplier supplier.entry) request.now) (request_of register.now (Supplier supplier.entry) moment request.now) result }
+    ensures was_honest { S.honest store.new → S.honest store.old }
+{
+    let gln = &supplier.gln;
+    match request {
+        Request::Upload(bytes) => {
+            let caller = Caller::Supplier(supplier);
+            upload(alloc, register, caller, store, moment, bytes.as_slice())
+        }
+        Request::MailAfter(number) => mailbox_list(alloc, store, gln, *number),
+        Request::MailItem(number) => mailbox_entry(alloc, register.hub(), store, gln, *number),
+        Request::MailTaken(number) => take_entry(alloc, store, gln, *number),
+        Request::Status => status_report(alloc, store, gln),
+        Request::StatusOf(_) | Request::Cancel(_) => Ok(denied_reply(alloc)?),
+    }
+}
+
+// What the retailer asks.
+fn asked_by_retailer<S: Store>(
+    alloc: Global,
+    register: &Register,
+    store: &mut S,
+    moment: Moment,
+    request: &Request,
+) -> Result<Reply, StoreFault>
+    ensures asked { MayDeliver register.now Retailer (S.content store.old) → Asked S.content S.honest S.left store.old store.new (acts_by register.now Retailer request.now) (request_of register.now Retailer moment request.now) result }
+    ensures was_honest { S.honest store.new → S.honest store.old }
+{
+    match request {
+        Request::Upload(bytes) => {
+            let bytes = bytes.as_slice();
+            upload(alloc, register, Caller::Retailer, store, moment, bytes)
+        }
+        Request::StatusOf(gln) => {
+            if register.supplier(gln).is_some() {
+                status_report(alloc, store, gln)
+            } else {
+                Ok(unknown_reply(alloc)?)
+            }
+        }
+        Request::Cancel(cancel) => take_cancel(alloc, register, store, cancel),
+        Request::MailAfter(_) | Request::MailItem(_) | Request::MailTaken(_) | Request::Status =>
+            Ok(denied_reply(alloc)?),
+    }
+}
+
+/// What somebody asks who is known.
+pub(crate) fn asked<S: Store>(
+    alloc: Global,
+    register: &Register,
+    caller: Caller<'_>,
+    store: &mut S,
+    moment: Moment,
+    request: &Request,
+) -> Result<Reply, StoreFault>
+    ensures asked { MayDeliver register.now caller.entry (S.content store.old) → Asked S.content S.honest S.left store.old store.new (acts_by register.now caller.entry request.now) (request_of register.now caller.entry moment request.now) result }
+    ensures was_honest { S.honest store.new → S.honest store.old }
+{
+    match caller {
+        Caller::Retailer => asked_by_retailer(alloc, register, store, moment, request),
+        Caller::Supplier(supplier) => {
+            asked_by_supplier(alloc, register, supplier, store, moment, request)
+        }
+    }
+}

@@ -1,0 +1,108 @@
+//! The messages of an upload, one after another.
+ghost use Rattle.std.specs.Prelude.{◌≡◌, ◌||◌, ◌+◌, ◌≤◌, ◌∷◌, ◌++◌, length, IfOk, OnErr, Ok, vec_len, vec_capacity};
+ghost use Rattle.hub_law.specs.Messages.{incoming};
+ghost use Rattle.hub_law.specs.Replies.{interchange_line, told_words};
+ghost use Rattle.hub_law.specs.Requests.{uploaded};
+ghost use Rattle.hub_law.specs.Told as law;
+ghost use Rattle.hub_law.specs.Widths.{line};
+ghost use Rattle.hub_acts.specs.Acts.{Carried, Unharmed};
+ghost use Rattle.hub_texts.specs.Told.{told_of};
+ghost use Rattle.hub_core.specs.Callers.{delivered, MayDeliver};
+ghost use Rattle.hub_core.specs.Steps.{Answered};
+
+use crate::caller::Caller;
+use edi_base::Items;
+use edi_envelope::{Interchange, Moment, RawMessage};
+use hub_acts::{take_retailers_message, take_suppliers_message};
+use hub_law::{Outcome, Reply, acts_stay_sound};
+use hub_register::Register;
+use hub_store::{Store, StoreFault};
+use hub_texts::Told;
+use std::alloc::Global;
+
+// Takes a message of whoever sends it.
+fn take_message<S: Store>(
+    alloc: Global,
+    register: &Register,
+    caller: Caller<'_>,
+    store: &mut S,
+    moment: Moment,
+    interchange: &Interchange,
+    message: &RawMessage,
+    reply: &mut Vec<u8>,
+) -> Result<Told, StoreFault>
+    ensures carried { MayDeliver register.now caller.entry (S.content store.old) → Carried S.content S.honest S.left store.old store.new (delivered register.now caller.entry (message.now, incoming moment interchange.now message.now)) told_of result }
+    ensures unharmed { Unharmed S.content S.honest store.old store.new result }
+    ensures may { S.honest store.new → MayDeliver register.now caller.entry (S.content store.old) → MayDeliver register.now caller.entry (S.content store.new) }
+    ensures line { IfOk result (λ told. reply.new.items ≡ reply.old.items ++ line (message.now.reference ∷ message.now.kind ∷ told_words (told_of told))) }
+    ensures kept { OnErr result (reply.new.items ≡ reply.old.items) }
+    ensures room { vec_len reply.old + 8 ≤ vec_capacity reply.old → vec_len reply.new + 8 ≤ vec_capacity reply.new }
+{
+    acts_stay_sound();
+    match caller {
+        Caller::Retailer => {
+            take_retailers_message(alloc, register, store, moment, interchange, message, reply)
+        }
+        Caller::Supplier(supplier) => take_suppliers_message(
+            alloc,
+            register,
+            supplier,
+            store,
+            moment,
+            interchange,
+            message,
+            reply,
+        ),
+    }
+}
+
+// Whether a message was refused, or one before it.
+fn either_refused(before: bool, told: Told) -> bool
+    ensures { result ≡ (before || law.is_refused (told_of told)) }
+{
+    before || told.is_refused()
+}
+
+/// Takes the messages one after another, until one is stopped. The reply begins as the line of the interchange, with
+/// room for `stopped` and the end of its line.
+pub(crate) fn take_messages<S: Store>(
+    alloc: Global,
+    register: &Register,
+    caller: Caller<'_>,
+    store: &mut S,
+    moment: Moment,
+    interchange: &Interchange,
+    mut reply: Vec<u8>,
+) -> Reply
+    requires line { reply.items ≡ interchange_line interchange.now }
+    requires room { vec_len reply + 8 ≤ vec_capacity reply }
+    ensures answered { S.honest store.new → MayDeliver register.now caller.entry (S.content store.old) → Answered S.content S.left store.old store.new (length interchange.now.messages) (λ mark t. uploaded (delivered register.now caller.entry) moment mark (Ok interchange.now) t) result }
+    ensures was_honest { S.honest store.new → S.honest store.old }
+{
+    let mut refused = false;
+    for message in interchange.messages.as_slice() {
+        let Ok(told) = take_message(
+            alloc,
+            register,
+            caller,
+            store,
+            moment,
+            interchange,
+            message,
+            &mut reply,
+        ) else {
+            reply.extend_from_slice(b"stopped\n").unwrap();
+            return Reply {
+                outcome: Outcome::Stopped,
+                refused,
+                body: Items::from_vec(reply),
+            };
+        };
+        refused = either_refused(refused, told);
+    }
+    Reply {
+        outcome: Outcome::Done,
+        refused,
+        body: Items::from_vec(reply),
+    }
+}

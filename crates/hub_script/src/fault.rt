@@ -1,0 +1,63 @@
+//! Why a script was not played to its end.
+use edi_base::{ReadFault, WriteFault};
+use hub_register::RegisterFault;
+use std::alloc::AllocError;
+use std::error::Error;
+use std::fmt;
+
+/// Why a script was not played to its end.
+#[derive(Clone, Copy, Debug)]
+pub enum ScriptFault {
+    /// A line that is none of a script, or bytes that are cut.
+    Line,
+    /// A register that is none.
+    Register,
+    /// A failed read or write.
+    File,
+    /// Out of memory, for the script or for what is printed.
+    Memory,
+}
+
+impl fmt::Display for ScriptFault {
+    fn fmt<W: fmt::Write>(&self, f: &mut fmt::Formatter<W>) -> fmt::Result {
+        match self {
+            ScriptFault::Line => f.write_str("line"),
+            ScriptFault::Register => f.write_str("register"),
+            ScriptFault::File => f.write_str("file"),
+            ScriptFault::Memory => f.write_str("memory"),
+        }
+    }
+}
+
+impl Error for ScriptFault {}
+
+impl From<AllocError> for ScriptFault {
+    fn from(_refused: AllocError) -> ScriptFault {
+        ScriptFault::Memory
+    }
+}
+
+impl From<ReadFault> for ScriptFault {
+    fn from(fault: ReadFault) -> ScriptFault {
+        match fault {
+            ReadFault::Read => ScriptFault::File,
+            ReadFault::Memory => ScriptFault::Memory,
+        }
+    }
+}
+
+impl From<RegisterFault> for ScriptFault {
+    fn from(fault: RegisterFault) -> ScriptFault {
+        if fault == RegisterFault::Memory {
+            ScriptFault::Memory
+        } else {
+            ScriptFault::Register
+        }
+    }
+}
+
+impl From<WriteFault> for ScriptFault {
+    fn from(_fault: WriteFault) -> ScriptFault {
+        ScriptFault::File
+    }
+}

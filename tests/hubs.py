@@ -1,0 +1,389 @@
+"""Cases of a hub over a store in memory: scripts for the program `hub_script`, and what it prints."""
+from case import Case
+from envelopes import ORDERS
+from registers import ALPHA, BETA, DELTA, HUB, RETAILER, register
+
+MOMENT = "1748942400"
+KEYS = {RETAILER: "retail-key", ALPHA: "alpha-key-1", BETA: "beta-key-1"}
+TWO_SUPPLIERS = register((ALPHA, "40123455", KEYS[ALPHA]), (BETA, "8712345", KEYS[BETA]))
+PALLET, OTHER_PALLET = "340123455000000012", "340123455000000029"
+
+
+def bytes_of(text):
+    return text if isinstance(text, bytes) else text.encode("latin-1")
+
+
+class Play:
+    """A script, and what it prints."""
+
+    def __init__(self, store="", of=TWO_SUPPLIERS):
+        self.script, self.printed, self.who = b"", b"", None
+        self.say("hub", of, store)
+
+    def say(self, word, payload=None, rest=""):
+        """A line, with the bytes whose number it names."""
+        data = b"" if payload is None else bytes_of(payload)
+        words = [word] + ([] if payload is None else [str(len(data))]) + ([rest] if rest else [])
+        self.script += " ".join(words).encode() + b"\n" + (b"" if payload is None else data + b"\n")
+        return self
+
+    def ask(self, who, line, outcome, body, payload=None, refused=False, key=None):
+        caller = (who, key or KEYS.get(who, "a-key-of-nobody"))
+        if caller != self.who:
+            self.say(f"as {MOMENT} {caller[0]} {caller[1]}")
+            self.who = caller
+        self.say(line, payload)
+        body = bytes_of(body)
+        self.printed += f"{outcome}{' refused' if refused else ''} {len(body)}\n".encode() + body
+        return self
+
+    def upload(self, who, text, *lines, outcome="done", key=None):
+        """An upload, and the lines of its reply."""
+        body = "".join(line + "\n" for line in lines)
+        return self.ask(who, "upload", outcome, body, text, " refused " in f" {body}".replace("\n", " "), key)
+
+    def cancel(self, reference, line, quantity, told, order="128576", supplier=ALPHA):
+        body = f"{supplier}\n{reference}\n{order}\n{line}\n{quantity}\n"
+        return self.ask(RETAILER, "cancel", "done", told + "\n", body, told.startswith("refused"))
+
+    def status(self, *lines, who=ALPHA, line="status"):
+        return self.ask(who, line, "done", "".join(it + "\n" for it in (*lines, "end")))
+
+    def list(self, after, *entries, who=ALPHA, last="end"):
+        """A mailbox list: its entries are number, type and document number."""
+        lines = [f"{number:>14} {kind} {document}" for number, kind, document in entries]
+        return self.ask(who, f"after {after}", "done", "".join(it + "\n" for it in (*lines, last)))
+
+    def item(self, number, text, who=ALPHA):
+        return self.ask(who, f"item {number}", "done", text)
+
+    def take(self, number, who=ALPHA):
+        return self.ask(who, f"taken {number}", "done", "taken\n")
+
+    def counts(self, look_ups, commits):
+        self.say("counts")
+        self.printed += f"look-ups {look_ups} commits {commits}\n".encode()
+        return self
+
+    def case(self, name):
+        return Case(name, [], self.script, self.printed)
+
+
+def message(kind, reference, *segments):
+    """A message of these segments, counted."""
+    body = "".join(it + "'" for it in segments)
+    return f"UNH+{reference}+{kind}'{body}UNT+{body.count(chr(39)) + 2}+{reference}'"
+
+
+def interchange(sender, reference, *messages, to=HUB):
+    return f"UNA:+.? 'UNB+UNOC:3+{sender}:14+{to}:14+250603:0915+{reference}'{''.join(messages)}UNZ+{len(messages)}+{reference}'"
+
+
+def parties(supplier):
+    return f"NAD+BY+{RETAILER}::9", f"NAD+SU+{supplier}::9"
+
+
+def order(number="128576", quantity="48", supplier=ALPHA, reference=1, count=True):
+    line = ("LIN+1++4000862141404:SRV", f"QTY+21:{quantity}", "UNS+S", *(["CNT+2:1"] if count else []))
+    return message("ORDERS:D:01B:UN:EAN010", reference, f"BGM+220+{number}+9", "DTM+137:20250603:102", *parties(supplier), *line)
+
+
+def response(number, function, *lines, order="128576", supplier=ALPHA):
+    head = (f"BGM+231+{number}+{function}", "DTM+137:20250603:102", f"RFF+ON:{order}", *parties(supplier))
+    return message("ORDRSP:D:01B:UN:EAN009", 1, *head, *lines, "UNS+S")
+
+
+def despatch(number, sscc, *quantities, order="128576", supplier=ALPHA):
+    head = (f"BGM+351+{number}+9", "DTM+137:20250604:102", f"RFF+ON:{order}", *parties(supplier))
+    lines = [it for place, quantity in enumerate(quantities, 1) for it in (f"LIN+{place}++4000862141404:SRV", f"QTY+12:{quantity}")]
+    return message("DESADV:D:01B:UN:EAN007", 1, *head, "CPS+1", "PAC+1", "PCI+33E", f"GIN+BJ+{sscc}", *lines)
+
+
+def receipt(number, sscc=PALLET, supplier=ALPHA):
+    head = (f"BGM+632+{number}+9", "DTM+137:20250605:102", *parties(supplier), "CPS+1", "PAC+1", "PCI+33E", f"GIN+BJ+{sscc}")
+    lines = ("LIN+1++4000862141404:SRV", "QTY+194:10", "QTY+195:1", "LIN+2++4000862141411:SRV", "QTY+194:3")
+    return message("RECADV:D:01B:UN:EAN005", 1, *head, *lines)
+
+
+CHANGED = ("LIN+1+3+4000862141404:SRV", "QTY+113:36")
+RESPONSE = interchange(ALPHA, "S1", response("R1", 4, *CHANGED))
+DESPATCH = interchange(ALPHA, "S2", despatch("DA1", PALLET, 12))
+RECEIPT = interchange(RETAILER, "1005", receipt("G1"))
+
+# The order again, and a second one, in other service characters.
+SPELLED = "UNA*|,! ~\r\nUNB|UNOC*3|5412345000013*14|5412345000006*14|250603*0915|1001~\r\nUNH|1|ORDERS*D*01B*UN*EAN010~\r\nBGM|220|128576|9~\r\nDTM|137*20250603*102~\r\nNAD|BY|5412345000013**9~\r\nNAD|SU|4012345500004**9~\r\nLIN|1||4000862141404*SRV~\r\nQTY|21*48~\r\nUNS|S~\r\nCNT|2*1~\r\nUNT|10|1~\r\nUNZ|1|1001~\r\n"
+SECOND = "UNA*|,! ~UNB|UNOC*3|5412345000013*14|5412345000006*14|250603*0915|1002~UNH|1|ORDERS*D*01B*UN*EAN010~BGM|220|128577|9~DTM|137*20250603*102~FTX|AAI|||Dock 3+4, O'Neill?~NAD|BY|5412345000013**9~NAD|SU|4012345500004**9~LIN|1||4000862141404*SRV~QTY|21*30~UNS|S~CNT|2*1~UNT|11|1~UNZ|1|1002~"
+
+FIRST_MAIL = (
+    "UNA:+.? 'UNB+UNOC:3+5412345000006:14+4012345500004:14+250603:0920+1'"
+    "UNH+1+ORDERS:D:01B:UN:EAN010'BGM+220+128576+9'DTM+137:20250603:102'"
+    "NAD+BY+5412345000013::9'NAD+SU+4012345500004::9'"
+    "LIN+1++4000862141404:SRV'QTY+21:48'UNS+S'CNT+2:1'UNT+10+1'UNZ+1+1'"
+)
+SECOND_MAIL = (
+    "UNA:+,? 'UNB+UNOC:3+5412345000006:14+4012345500004:14+250603:0920+2'"
+    "UNH+1+ORDERS:D:01B:UN:EAN010'BGM+220+128577+9'DTM+137:20250603:102'FTX+AAI+++Dock 3?+4, O?'Neill??'"
+    "NAD+BY+5412345000013::9'NAD+SU+4012345500004::9'"
+    "LIN+1++4000862141404:SRV'QTY+21:30'UNS+S'CNT+2:1'UNT+11+1'UNZ+1+2'"
+)
+STATUS = (
+    "L 128576                                   1 04000862141404 C        48        24        12         0        12",
+    "L 128577                                   1 04000862141404 N        30         0        18         0        12",
+    "P 340123455000000012 04000862141404 R             12             10              1              0              -1",
+    "P 340123455000000012 04000862141411 R              0              3              0              0              +3",
+    "P 340123455000000029 04000862141404 A             12              0              0              0              +0",
+)
+assert len(FIRST_MAIL) == 249 and sum(len(it) + 1 for it in STATUS) + 4 == 570
+
+
+def line_status(order, answer, ordered, opened, refused, cancelled, despatched):
+    return f"L {order:<35} {1:>6} 04000862141404 {answer} {ordered:>9} {opened:>9} {refused:>9} {cancelled:>9} {despatched:>9}"
+
+
+def accepted(play, who, reference, kind, text):
+    return play.upload(who, text, f"interchange {reference} messages 1", f"1 {kind} accepted")
+
+
+def ordered(store=""):
+    """The first order."""
+    return accepted(Play(store), RETAILER, "1001", "ORDERS", ORDERS)
+
+
+def goods_in_turn():
+    """Orders, answers, despatches and receipts, one after another."""
+    play = ordered()
+    play.item(1, FIRST_MAIL)
+    play.upload(RETAILER, SPELLED, "interchange 1001 messages 1", "1 ORDERS repeated")
+    play.list(0, (1, "ORDERS", "128576"))
+    play.upload(RETAILER, ORDERS.replace("QTY+21:48", "QTY+21:49"), "interchange 1001 messages 1", "1 ORDERS refused B03")
+    accepted(play, RETAILER, "1002", "ORDERS", SECOND)
+    play.item(2, SECOND_MAIL)
+    play.upload(RETAILER, ORDERS.replace("1001'", "1003'").replace("UNT+10+1", "UNT+9+1"), "refused E12", outcome="bad")
+    play.list(0, (1, "ORDERS", "128576"), (2, "ORDERS", "128577"))
+    play.list(0, who=BETA)
+    play.upload(RETAILER, ORDERS[: ORDERS.index("QTY+21:4") + 8], "refused E04", outcome="bad")
+    play.upload(RETAILER, "", "refused E06", outcome="bad")
+    play.upload(RETAILER, interchange(RETAILER, "1004"), "interchange 1004 messages 0")
+    accepted(play, ALPHA, "S1", "ORDRSP", RESPONSE)
+    waiting = line_status("128577", "W", 30, 30, 0, 0, 0)
+    play.status(line_status("128576", "C", 48, 36, 12, 0, 0), waiting)
+    accepted(play, ALPHA, "S2", "DESADV", DESPATCH)
+    announced = f"P {PALLET} 04000862141404 A {12:>14} {0:>14} {0:>14} {0:>14} {'+0':>15}"
+    play.status(line_status("128576", "C", 48, 24, 12, 0, 12), waiting, announced)
+    refused = ("interchange {} messages 1", "1 DESADV refused {}")
+    for reference, code, text in (
+        ("S3", "B10", despatch("DA2", OTHER_PALLET, 20, 5)),
+        ("S4", "B12", despatch("DA3", PALLET, 1)),
+        ("S5", "B11", despatch("DA3", "387123450000000012", 1)),
+    ):
+        play.upload(ALPHA, interchange(ALPHA, reference, text), *(it.format(v) for it, v in zip(refused, (reference, code))))
+    play.status(line_status("128576", "C", 48, 24, 12, 0, 12), waiting, announced)
+    accepted(play, ALPHA, "S6", "DESADV", interchange(ALPHA, "S6", despatch("DA4", OTHER_PALLET, 12, order="128577")))
+    accepted(play, ALPHA, "S7", "ORDRSP", interchange(ALPHA, "S7", response("R2", 27, order="128577")))
+    accepted(play, RETAILER, "1005", "RECADV", RECEIPT)
+    play.upload(RETAILER, interchange(RETAILER, "1006", receipt("G2")), "interchange 1006 messages 1", "1 RECADV refused B15")
+    play.status(*STATUS)
+    play.list(2, (3, "RECADV", "G1"))
+    return play
+
+
+def cancelled():
+    """Cancellations, after all that."""
+    play = goods_in_turn()
+    play.cancel("C1", 1, 10, "accepted")
+    play.status(line_status("128576", "C", 48, 14, 12, 10, 12), *STATUS[1:])
+    play.cancel("C1", 1, 10, "repeated").cancel("C2", 1, 15, "refused B17").cancel("C1", 1, 11, "refused B03")
+    play.cancel("C1", "01", "010", "repeated")
+    play.cancel("C3", 2, 1, "refused B06").cancel("C4", 1, 1, "refused B05", order="128578")
+    play.cancel("C5", 1, 14, "accepted")
+    play.status(line_status("128576", "C", 48, 0, 12, 24, 12), *STATUS[1:])
+    return play
+
+
+def two_suppliers():
+    """The same order for each of two suppliers."""
+    play = Play()
+    for supplier in (BETA, ALPHA):
+        accepted(play, RETAILER, "1001", "ORDERS", interchange(RETAILER, "1001", order(supplier=supplier)))
+    return play.list(0, (1, "ORDERS", "128576")).list(0, (1, "ORDERS", "128576"), who=BETA)
+
+
+def bounds(quantity, told, opened=None):
+    play = Play().upload(RETAILER, ORDERS.replace("QTY+21:48", f"QTY+21:{quantity}"), "interchange 1001 messages 1", f"1 ORDERS {told}")
+    return play.status(*([line_status("128576", "W", opened, opened, 0, 0, 0)] if opened else []))
+
+
+def lengths(length, *lines, outcome="done"):
+    return Play().upload(RETAILER, ORDERS + "\n" * (length - len(ORDERS)), *lines, outcome=outcome)
+
+
+def not_a_pallet():
+    play = accepted(ordered(), ALPHA, "S1", "ORDRSP", RESPONSE)
+    return play.upload(ALPHA, DESPATCH.replace(PALLET, PALLET[:-1] + "3"), "interchange S2 messages 1", "1 DESADV refused M10")
+
+
+def one_for_each():
+    """Two messages in one interchange, the first of them refused, or the envelope."""
+    messages = (order(quantity="0", supplier=BETA), order(reference=2))
+    play = Play().upload(RETAILER, interchange(RETAILER, "1001", *messages), "interchange 1001 messages 2", "1 ORDERS refused M08", "2 ORDERS accepted")
+    play.list(0, who=BETA).list(0, (1, "ORDERS", "128576"))
+    other = interchange(RETAILER, "1001", *messages).replace("UNT+10+1'", "UNT+9+1'")
+    return play, Play().upload(RETAILER, other, "refused E12", outcome="bad").list(0)
+
+
+def who_may_what():
+    """What is denied or not known, and whose interchange is taken."""
+    play = ordered()
+    for line in ("after 0", "item 1", "taken 1", "status"):
+        play.ask(RETAILER, line, "denied", "denied\n")
+    play.ask(ALPHA, f"status-of {ALPHA}", "denied", "denied\n")
+    play.ask(ALPHA, "cancel", "denied", "denied\n", f"{ALPHA}\nC1\n128576\n1\n10\n")
+    for who, key in ((ALPHA, "beta-key-1"), (ALPHA, "alpha-key-"), (ALPHA, "alpha-key-11"), (RETAILER, "alpha-key-1"), (HUB, "retail-key"), (DELTA, "alpha-key-1")):
+        play.ask(who, "status", "denied", "denied\n", key=key)
+    play.ask(BETA, "upload", "denied", "denied\n", RESPONSE, key="alpha-key-1")
+    play.ask(ALPHA, "item 99", "unknown", "unknown\n").ask(ALPHA, "taken 2", "unknown", "unknown\n").ask(ALPHA, "item 0", "unknown", "unknown\n")
+    play.ask(BETA, "item 1", "unknown", "unknown\n").ask(BETA, "taken 1", "unknown", "unknown\n")
+    play.ask(RETAILER, f"status-of {DELTA}", "unknown", "unknown\n").ask(RETAILER, f"status-of {RETAILER}", "unknown", "unknown\n")
+    mine = line_status("128576", "W", 48, 48, 0, 0, 0)
+    play.status(mine, who=RETAILER, line=f"status-of {ALPHA}").status(mine).status(who=RETAILER, line=f"status-of {BETA}").status(who=BETA)
+    play.upload(ALPHA, ORDERS, "refused E08", outcome="bad")
+    play.upload(ALPHA, interchange(ALPHA, "S9", order()), "interchange S9 messages 1", "1 ORDERS refused M01")
+    play.upload(RETAILER, interchange(RETAILER, "S9", response("R1", 4, *CHANGED)), "interchange S9 messages 1", "1 ORDRSP refused M01")
+    play.upload(RETAILER, interchange(RETAILER, "1002", order("128577"), to=RETAILER), "refused E09", outcome="bad")
+    play.upload(BETA, interchange(BETA, "S1", response("R1", 4, *CHANGED)), "interchange S1 messages 1", "1 ORDRSP refused B02")
+    play.upload(BETA, interchange(BETA, "S2", response("R1", 4, *CHANGED, supplier=BETA)), "interchange S2 messages 1", "1 ORDRSP refused B05")
+    accepted(play, ALPHA, "S1", "ORDRSP", interchange(ALPHA, "S1", response("R1", 4, *CHANGED), to=RETAILER))
+    return play
+
+
+def no_lines():
+    return Play().status(who=BETA).ask(BETA, f"after {99_999_999_999_999}", "done", "end\n")
+
+
+def long_mailbox():
+    """101 entries: as many as are listed, and one more."""
+    play = Play()
+    orders = [order(str(1000 + k), reference=k) for k in range(1, 102)]
+    told = [f"{k} ORDERS accepted" for k in range(1, 102)]
+    play.upload(RETAILER, interchange(RETAILER, "1001", *orders), "interchange 1001 messages 101", *told)
+    entries = [(k, "ORDERS", 1000 + k) for k in range(1, 102)]
+    play.list(0, *entries[:100], last="more").list(100, entries[100]).list(1, *entries[1:])
+    play.take(1).take(3).list(0, entries[1], *entries[3:])
+    return play.take(1).ask(ALPHA, "taken 102", "unknown", "unknown\n")
+
+
+def of_one(play, lines):
+    """What supplier A asks in the two runs, after each of these inputs: uploads of its own and of the retailer."""
+    for who, reference, kind, text, seen in lines:
+        accepted(play, who, reference, kind, text)
+        yield
+        play.list(0, *seen[0])
+        play.status(*seen[1])
+
+
+def lines_of_alpha():
+    waiting = line_status("128577", "W", 30, 30, 0, 0, 0)
+    first = line_status("128576", "W", 48, 48, 0, 0, 0)
+    one, both = [(1, "ORDERS", "128576")], [(1, "ORDERS", "128576"), (2, "ORDERS", "128577")]
+    announced = f"P {PALLET} 04000862141404 A {12:>14} {0:>14} {0:>14} {0:>14} {'+0':>15}"
+    changed, sent = line_status("128576", "C", 48, 36, 12, 0, 0), line_status("128576", "C", 48, 24, 12, 0, 12)
+    return [
+        (RETAILER, "1001", "ORDERS", ORDERS, (one, [first])),
+        (RETAILER, "1002", "ORDERS", SECOND, (both, [first, waiting])),
+        (ALPHA, "S1", "ORDRSP", RESPONSE, (both, [changed, waiting])),
+        (ALPHA, "S2", "DESADV", DESPATCH, (both, [sent, waiting, announced])),
+        (ALPHA, "S6", "DESADV", interchange(ALPHA, "S6", despatch("DA4", OTHER_PALLET, 12, order="128577")), (both, [sent, line_status("128577", "W", 30, 18, 0, 0, 12), announced, STATUS[4]])),
+        (ALPHA, "S7", "ORDRSP", interchange(ALPHA, "S7", response("R2", 27, order="128577")), (both, [STATUS[0], STATUS[1], announced, STATUS[4]])),
+        (RETAILER, "1005", "RECADV", RECEIPT, ([*both, (3, "RECADV", "G1")], STATUS)),
+    ]
+
+
+def of_the_other(play, turn):
+    """Some of what is asked of and for supplier B, accepted and refused, with A's numbers and references where it can."""
+    pallet = "387123450000000012"
+    ours = [
+        lambda: play.upload(RETAILER, interchange(RETAILER, "1001", order(supplier=BETA, quantity=turn + 1)), "interchange 1001 messages 1", f"1 ORDERS {'accepted' if turn == 0 else 'refused B03'}"),
+        lambda: accepted(play, RETAILER, f"7{turn}", "ORDERS", interchange(RETAILER, f"7{turn}", order(f"9{turn}", supplier=BETA))),
+        lambda: play.upload(BETA, interchange(BETA, "S1", response("R1", 29, supplier=BETA)), "interchange S1 messages 1", f"1 ORDRSP {'accepted' if turn == 0 else 'repeated'}"),
+        lambda: play.upload(BETA, interchange(BETA, f"T{turn}", despatch("DA1", pallet, 1, supplier=BETA)), f"interchange T{turn} messages 1", f"1 DESADV {'accepted' if turn == 0 else 'refused B13'}"),
+        lambda: play.upload(BETA, interchange(BETA, f"U{turn}", despatch(f"DA9{turn}", PALLET, 1, supplier=BETA)), f"interchange U{turn} messages 1", "1 DESADV refused B11"),
+        lambda: play.cancel("C1", 1, turn + 1, "accepted" if turn == 0 else "refused B03", "90", BETA),
+        lambda: play.ask(BETA, "item 1", "done", order_mail(1)),
+    ]
+    for one in ours:
+        one()
+
+
+def order_mail(quantity):
+    return f"UNA:+.? 'UNB+UNOC:3+{HUB}:14+{BETA}:14+250603:0920+1'{order(supplier=BETA, quantity=quantity)}UNZ+1+1'"
+
+
+def runs():
+    """One run of A alone, and one with some forty inputs of B and for B between: A is told the same."""
+    alone, between = Play(), Play()
+    for play in (alone, between):
+        play.say("run")
+        for turn, _ in enumerate(of_one(play, lines_of_alpha())):
+            if play is between:
+                of_the_other(play, turn)
+        play.say("end")
+    return alone.case("a run of one supplier"), between.case("the same run, with another supplier's inputs between")
+
+
+def counted():
+    """The look-ups and commits of each message."""
+    play = ordered().counts(3, 1)
+    play.say("mend")
+    accepted(play, ALPHA, "S1", "ORDRSP", RESPONSE).counts(3, 1).say("mend")
+    accepted(play, ALPHA, "S2", "DESADV", DESPATCH).counts(5, 1).say("mend")
+    play.upload(ALPHA, DESPATCH, "interchange S2 messages 1", "1 DESADV repeated").counts(5, 0).say("mend")
+    accepted(play, RETAILER, "1005", "RECADV", RECEIPT).counts(3, 1).say("mend")
+    play.upload(RETAILER, RECEIPT, "interchange 1005 messages 1", "1 RECADV repeated").counts(3, 0).say("mend")
+    play.cancel("C1", 1, 10, "accepted").counts(3, 1).say("mend")
+    play.cancel("C1", 1, 10, "repeated").counts(3, 0).say("mend")
+    play.upload(RETAILER, ORDERS, "interchange 1001 messages 1", "1 ORDERS repeated").counts(3, 0).say("mend")
+    return play.take(1).counts(1, 1).say("mend").take(1).counts(1, 0)
+
+
+def stopped_at(calls, fault):
+    """Two orders in one upload; the store fails at the call after so many. Then it is opened anew, and the same comes again."""
+    text = interchange(RETAILER, "1001", order(), order("128577", reference=2))
+    done = min(calls // 4, 2)
+    play = Play(f"{fault} {calls}")
+    lines = [f"{k} ORDERS accepted" for k in range(1, done + 1)]
+    if done < 2:
+        play.upload(RETAILER, text, "interchange 1001 messages 2", *lines, "stopped", outcome="stopped")
+    if fault == "disk" and done < 2:
+        play.upload(RETAILER, text, "interchange 1001 messages 2", "stopped", outcome="stopped")
+        play.ask(ALPHA, "status", "stopped", "stopped\n")
+    play.say("mend")
+    again = [f"{k} ORDERS {'repeated' if k <= done else 'accepted'}" for k in (1, 2)]
+    play.upload(RETAILER, text, "interchange 1001 messages 2", *again)
+    play.list(0, (1, "ORDERS", "128576"), (2, "ORDERS", "128577"))
+    return play.case(f"two orders, over a store that fails with {fault} after {calls} calls")
+
+
+BOUNDS = [
+    ("999999999", "accepted", 999999999),
+    ("1000000000", "refused M08"),
+    ("12,000", "accepted", 12),
+    ("12.5", "refused M08"),
+]
+
+HUBS = [
+    goods_in_turn().case("orders, answers, despatches and receipts, one after another"),
+    cancelled().case("cancellations"),
+    two_suppliers().case("one order number and one reference for two suppliers"),
+    *(bounds(*row).case(f"an order of {row[0]} pieces") for row in BOUNDS),
+    lengths(1_048_576, "interchange 1001 messages 1", "1 ORDERS accepted").case("an upload of 1,048,576 bytes"),
+    lengths(1_048_577, "refused E01", outcome="bad").case("an upload of one byte more"),
+    not_a_pallet().case("a despatch on no SSCC"),
+    *(play.case(name) for name, play in zip(("a refused message and an accepted one", "a refused envelope of both"), one_for_each())),
+    who_may_what().case("who may ask what"),
+    no_lines().case("a supplier without rows"),
+    long_mailbox().case("a mailbox of 101 entries"),
+    Play().say("run").say("end").case("a run of nothing"),
+    *runs(),
+    counted().case("look-ups and commits of each message"),
+    *(stopped_at(calls, fault) for fault in ("memory", "disk") for calls in range(8)),
+]
