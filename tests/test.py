@@ -9,6 +9,7 @@ import tempfile
 
 import cases
 import hubs
+import refusals
 
 ROOT = os.path.dirname(os.path.dirname(os.path.abspath(__file__)))
 SECONDS = 60
@@ -97,6 +98,10 @@ def main(words):
     for program, of_program in PROGRAMS:
         more_passed, more_failed = program_cases(program, of_program)
         passed, failed = passed + more_passed, failed + more_failed
+    if os.path.isfile(built("hub_script")):
+        allocations, why = refusals.refusals(built("hub_script"))
+        print(f"{allocations} allocations refused in turn" + (f": {why}" if why else ""))
+        passed, failed = (passed, failed + 1) if why else (passed + 1, failed)
     spent = resource.getrusage(resource.RUSAGE_CHILDREN)
     print(f"processor time: {(spent.ru_utime + spent.ru_stime) / 60:.1f} minutes")
     print(f"{passed} passed, {failed} failed")
