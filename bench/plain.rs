@@ -7,20 +7,20 @@ use std::io::{Read, Write};
 const TEXT_LIMIT: usize = 1_048_576;
 const SEGMENT_LIMIT: usize = 8_192;
 
-type Fault = &'static str;
+pub type Fault = &'static str;
 
 #[derive(Clone, Copy)]
-struct Service {
+pub struct Service {
     component: u8,
     element: u8,
-    decimal: u8,
+    pub decimal: u8,
     release: Option<u8>,
     terminator: u8,
 }
 
-struct Segment {
-    tag: [u8; 3],
-    elements: Vec<Vec<Vec<u8>>>,
+pub struct Segment {
+    pub tag: [u8; 3],
+    pub elements: Vec<Vec<Vec<u8>>>,
 }
 
 const USUAL: Service = Service { component: b':', element: b'+', decimal: b'.', release: Some(b'?'), terminator: b'\'' };
@@ -163,7 +163,7 @@ impl Reader<'_> {
     }
 }
 
-fn read(text: &[u8]) -> Result<(Service, Vec<Segment>), Fault> {
+pub fn read(text: &[u8]) -> Result<(Service, Vec<Segment>), Fault> {
     let whole = &text[..text.len().min(TEXT_LIMIT)];
     let mut reader = Reader { text: whole, at: 0, classes: classes(&USUAL) };
     reader.skip_line_ends();
@@ -190,7 +190,7 @@ fn read(text: &[u8]) -> Result<(Service, Vec<Segment>), Fault> {
 }
 
 impl Segment {
-    fn component(&self, element: usize, place: usize) -> &[u8] {
+    pub fn component(&self, element: usize, place: usize) -> &[u8] {
         self.elements.get(element).and_then(|e| e.get(place)).map_or(&[], |c| c.as_slice())
     }
 }
@@ -207,11 +207,11 @@ fn is_part(b: &[u8], low: usize, high: usize) -> bool {
     (low..=high).contains(&b.len()) && b.iter().all(|&b| b <= 0x7E)
 }
 
-struct Message {
-    kind: Vec<u8>,
-    reference: Vec<u8>,
-    identifiers: [Vec<u8>; 4],
-    segments: Vec<Segment>,
+pub struct Message {
+    pub kind: Vec<u8>,
+    pub reference: Vec<u8>,
+    pub identifiers: [Vec<u8>; 4],
+    pub segments: Vec<Segment>,
 }
 
 fn is_head(unb: &Segment) -> bool {
@@ -227,7 +227,7 @@ fn is_head(unb: &Segment) -> bool {
         && matches!(unb.component(10, 0), b"" | b"1")
 }
 
-fn open(segments: Vec<Segment>) -> Result<Vec<Message>, Fault> {
+pub fn open(segments: Vec<Segment>) -> Result<Vec<Message>, Fault> {
     let (Some(first), Some(last)) = (segments.first(), segments.last()) else { return Err("E06") };
     let inner = segments.len().saturating_sub(2);
     let framed = &first.tag == b"UNB" && &last.tag == b"UNZ" && segments.len() >= 2;
@@ -375,20 +375,24 @@ fn write_component(out: &mut Vec<u8>, component: &[u8]) {
     out.extend_from_slice(rest);
 }
 
+pub fn write_segment(out: &mut Vec<u8>, segment: &Segment) {
+    out.extend_from_slice(&segment.tag);
+    for element in &segment.elements {
+        out.push(b'+');
+        for (place, component) in element.iter().enumerate() {
+            if place > 0 {
+                out.push(b':');
+            }
+            write_component(out, component);
+        }
+    }
+    out.push(b'\'');
+}
+
 fn write(out: &mut Vec<u8>, decimal: u8, segments: &[Segment]) {
     out.extend_from_slice(&[b'U', b'N', b'A', b':', b'+', decimal, b'?', b' ', b'\'']);
     for segment in segments {
-        out.extend_from_slice(&segment.tag);
-        for element in &segment.elements {
-            out.push(b'+');
-            for (place, component) in element.iter().enumerate() {
-                if place > 0 {
-                    out.push(b':');
-                }
-                write_component(out, component);
-            }
-        }
-        out.push(b'\'');
+        write_segment(out, segment);
     }
 }
 
