@@ -1,8 +1,7 @@
 """Times each look-up of a store of plain lists over 10 rows of each kind and over 100,000, and prints both and
-their ratio. The program, store.rt.in, is proved and built in a folder of its own, over copies of this
+their ratio: of several measurements of one look-up the least. The program, store.rt.in, is proved and built in a folder of its own, over copies of this
 repository's crates with what earlier checks kept: the gate reads every .rt file here as a crate's. Where a look-up
-but `all_pallets`, which goes over all pallets, takes more than five times as long, it says so and ends with status
-1."""
+takes more than five times as long, it says so and ends with status 1."""
 import os
 import re
 import shutil
@@ -13,7 +12,7 @@ import tempfile
 ROOT = os.path.dirname(os.path.dirname(os.path.abspath(__file__)))
 NEEDS = "edi_base edi_tokens edi_envelope gs1_ids hub_tables hub_store hub_list".split()
 MOST_GROWTH = 5
-LINE = re.compile(r"(\w+) (\d+) rows: (\d+) ns")
+LINE = re.compile(r"^(over|\w[^:]*:) (\d+)$", re.M)
 
 
 def build(folder):
@@ -33,16 +32,20 @@ def build(folder):
 def main():
     with tempfile.TemporaryDirectory() as folder:
         done = subprocess.run(["rt", "run"], cwd=build(folder), capture_output=True, text=True)
-    few, grown = {}, []
-    for name, count, spent in LINE.findall(done.stdout):
-        if name not in few:
-            few[name] = int(spent)
-            continue
-        growth = int(spent) / max(few[name], 1)
-        print(f"{name}: {few[name]} ns, over {count} rows {spent} ns, {growth:.1f} times")
-        if growth > MOST_GROWTH and name != "all_pallets":
-            grown.append(name)
-    if done.returncode or not few:
+    least, rows = {}, None
+    for name, number in LINE.findall(done.stdout):
+        if name == "over":
+            rows = least.setdefault(int(number), {})
+        else:
+            rows[name] = min(int(number) / 10, rows.get(name, float("inf")))
+    few, many = least.get(10, {}), least.get(100_000, {})
+    grown = []
+    for name, spent in many.items():
+        growth = spent / max(few[name], 0.1)
+        print(f"{name} {few[name]:.0f} ns, over 100,000 rows {spent:.0f} ns, {growth:.1f} times")
+        if growth > MOST_GROWTH:
+            grown.append(name.rstrip(":"))
+    if done.returncode or not many:
         sys.exit(done.stdout + done.stderr)
     if grown:
         sys.exit("more than five times: " + ", ".join(grown))

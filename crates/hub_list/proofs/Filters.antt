@@ -1,13 +1,14 @@
 -- Filters of filters.
-use Rattle.std.proofs.Common.{◌≡◌, ℕ, suc, ◌-◌, ◌==◌, Bool, true, false, cond, ◌&&◌, ◌||◌, not, List, [], ◌∷◌, length, filter, find, slice_get, Some, None, refl, sym, ap, ap₂, ◌∙◌, arith}
-use Rattle.std.specs.List.{list_any, last_or}
+use Rattle.std.proofs.Common.{◌≡◌, ℕ, zero, suc, ◌+◌, ◌-◌, ◌<◌, ◌==◌, Bool, true, false, cond, ◌&&◌, ◌||◌, not, inl, inr, List, [], ◌∷◌, length, filter, find, map, take, drop, get_or, slice_get, Option, Some, None, refl, sym, ap, ap₂, ◌∙◌, arith}
+use Rattle.std.specs.List.{AllByRecursion, list_any, last_or, filter_map, cons_option}
 use Rattle.std.proofs.lemmas.Bool.Decides.{nat_tests}
+use Rattle.std.proofs.lemmas.List.{drop_more}
 use Rattle.hub_tables.specs.Rows.{same}
 use Rattle.hub_tables.specs.Tables.{holds}
 use Rattle.hub_tables.specs.declared.rows.ContentRow.{ContentRow}
 use Rattle.hub_tables.specs.declared.rows.PalletRow.{PalletRow}
 use Rattle.hub_tables.specs.declared.rows.ReceiptRow.{ReceiptRow}
-use Rattle.hub_tables.proofs.Lists.{same_is}
+use Rattle.hub_tables.proofs.Lists.{decide, same_is}
 
 module _ {X : Type 0} (p q : X → Bool) where
   pub filter_both : (xs : List X) → filter (λ x. p x && q x) xs ≡ filter q (filter p xs)
@@ -96,3 +97,70 @@ last_from x (y ∷ ys) = last_from y ys
 pub last_is : {X : Type 0} (xs : List X) → last_or None xs ≡ slice_get xs (length xs - 1)
 last_is [] = refl
 last_is (x ∷ xs) = let n : suc (length xs) - 1 ≡ length xs = omega arith in last_from x xs ∙ ap (slice_get (x ∷ xs)) (sym n)
+
+pub first_is_found : {X : Type 0} (p : X → Bool) (xs : List X) → slice_get (filter p xs) 0 ≡ find p xs
+first_is_found p [] = refl
+first_is_found p (x ∷ xs) = elim (p x) as (λ v. slice_get (cond v (x ∷ filter p xs) (filter p xs)) 0 ≡ cond v (Some x) (find p xs)) [ true ↦ refl | false ↦ first_is_found p xs ]
+
+-- one key more
+pub filter_map_step : {X Y : Type 0} (h : X → Option Y) (xs : List X) (i : ℕ) (x : X) → i < length xs → x ≡ get_or xs i x → filter_map h (drop i xs) ≡ cons_option (h x) (filter_map h (drop (i + 1) xs))
+filter_map_step h xs i x within is = ap (filter_map h) (drop_more xs i x within) ∙ ap (λ y. cons_option (h y) (filter_map h (drop (i + 1) xs))) (sym is)
+
+-- Filters and tests, of lists and of their keys.
+
+pub filter_swap : {X : Type 0} (p q : X → Bool) (xs : List X) → filter p (filter q xs) ≡ filter q (filter p xs)
+filter_swap p q [] = refl
+filter_swap p q (x ∷ xs) =
+    let rest = filter_swap p q xs in
+    elim (decide (p x)) [
+      | inl e ↦ elim (decide (q x)) [ inl f ↦ grind (arith, e, f, rest) | inr f ↦ grind (arith, e, f, rest) ]
+      | inr e ↦ elim (decide (q x)) [ inl f ↦ grind (arith, e, f, rest) | inr f ↦ grind (arith, e, f, rest) ]
+    ]
+
+pub filter_of_map : {X K : Type 0} (p : K → Bool) (key : X → K) (xs : List X) → filter p (map key xs) ≡ map key (filter (λ x. p (key x)) xs)
+filter_of_map p key [] = refl
+filter_of_map p key (x ∷ xs) =
+    elim (p (key x)) as (λ v. cond v (key x ∷ filter p (map key xs)) (filter p (map key xs)) ≡ map key (cond v (x ∷ filter (λ x. p (key x)) xs) (filter (λ x. p (key x)) xs))) [
+      | true ↦ ap (λ ks. key x ∷ ks) (filter_of_map p key xs)
+      | false ↦ filter_of_map p key xs
+    ]
+
+pub any_none : {X : Type 0} (p : X → Bool) (xs : List X) → AllByRecursion (λ x. p x ≡ false) xs → list_any p xs ≡ false
+any_none p [] all = refl
+any_none p (x ∷ xs) all = ap (λ v. v || list_any p xs) all.0 ∙ any_none p xs all.1
+
+pub none_any : {X : Type 0} (p : X → Bool) (xs : List X) → list_any p xs ≡ false → AllByRecursion (λ x. p x ≡ false) xs
+none_any p [] none = tt
+none_any p (x ∷ xs) none = elim (p x) as (λ v. p x ≡ v → (v || list_any p xs) ≡ false → AllByRecursion (λ x. p x ≡ false) (x ∷ xs)) [ true ↦ λ e h. absurd (cc (h)) | false ↦ λ e h. (e, none_any p xs h) ] refl none
+
+pub none_first : {X : Type 0} (p : X → Bool) (xs : List X) → slice_get (filter p xs) 0 ≡ None → list_any p xs ≡ false
+none_first p [] none = refl
+none_first p (x ∷ xs) none = elim (p x) as (λ v. slice_get (cond v (x ∷ filter p xs) (filter p xs)) 0 ≡ None → (v || list_any p xs) ≡ false) [ true ↦ λ h. cc | false ↦ λ h. none_first p xs h ] none
+
+-- a test that none passes but those that pass another
+pub any_among : {X : Type 0} (p q : X → Bool) → ((x : X) → q x ≡ true → p x ≡ true) → (xs : List X) → list_any q (filter p xs) ≡ list_any q xs
+any_among p q f [] = refl
+any_among p q f (x ∷ xs) =
+    let rest = any_among p q f xs in
+    elim (decide (p x)) [
+      | inl e ↦ grind (arith, e, rest)
+      | inr e ↦ elim (decide (q x)) [ inl g ↦ let no : true ≡ false = sym (f x g) ∙ e in absurd (cc (no)) | inr g ↦ grind (arith, e, g, rest) ]
+    ]
+
+pub any_of_map : {X K : Type 0} (p : K → Bool) (key : X → K) (xs : List X) → list_any p (map key xs) ≡ list_any (λ x. p (key x)) xs
+any_of_map p key [] = refl
+any_of_map p key (x ∷ xs) = ap (λ v. p (key x) || v) (any_of_map p key xs)
+
+pub filter_true : {X : Type 0} (xs : List X) → filter (λ x. true) xs ≡ xs
+filter_true [] = refl
+filter_true (x ∷ xs) = ap (λ ys. x ∷ ys) (filter_true xs)
+
+pub take_of_map : {X K : Type 0} (key : X → K) (n : ℕ) (xs : List X) → take n (map key xs) ≡ map key (take n xs)
+take_of_map key zero xs = refl
+take_of_map key (suc n) [] = refl
+take_of_map key (suc n) (x ∷ xs) = ap (λ ks. key x ∷ ks) (take_of_map key n xs)
+
+pub all_taken : {X : Type 0} (P : X → Type 0) (n : ℕ) (xs : List X) → AllByRecursion P xs → AllByRecursion P (take n xs)
+all_taken P zero xs all = tt
+all_taken P (suc n) [] all = tt
+all_taken P (suc n) (x ∷ xs) all = (all.0, all_taken P n xs all.1)

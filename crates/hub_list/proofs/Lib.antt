@@ -1,4 +1,5 @@
 pub mod Back
 pub mod Filters
+pub mod Indexing
 pub mod Searching
 pub mod Setting

@@ -1,5 +1,5 @@
 -- The rows at a place stand together.
-use Rattle.std.proofs.Common.{◌≡◌, ℕ, zero, suc, ◌+◌, ◌-◌, ◌≤◌, Bool, true, false, cond, List, [], ◌∷◌, length, take, drop, get_or, filter, refl, sym, ap, ◌∙◌, arith}
+use Rattle.std.proofs.Common.{◌≡◌, ℕ, zero, suc, ◌+◌, ◌-◌, ◌≤◌, ◌<◌, Bool, true, false, cond, List, [], ◌∷◌, length, take, drop, get_or, filter, refl, sym, ap, ◌∙◌, arith}
 use Rattle.std.specs.List.{AllByRecursion, prefix_len}
 use Rattle.std.specs.List.Sorted.{IsPartitionedBy, IsPartitionPoint}
 use Rattle.std.specs.declared.cmp.Ordering.{Ordering}
@@ -7,8 +7,10 @@ use Rattle.std.specs.declared.cmp.Ordering.TheVariants.{Less, Equal, Greater}
 use Rattle.std.specs.Ordering.{is_lt, is_le, is_eq, is_gt}
 use Rattle.std.proofs.lemmas.List.Elements.{All-from_recursion, All-get_or}
 use Rattle.std.proofs.lemmas.List.Sums.{prefix_len_is}
+use Rattle.std.proofs.lemmas.List.{take_all, length-drop}
 use Rattle.hub_tables.specs.Sets.{Rises}
 use Rattle.hub_tables.proofs.Lists.{all_weaker, filter_none}
+use Rattle.hub_list.proofs.Filters.{all_taken}
 use Rattle.hub_list.specs.Search.{may_precede, KeepsPlaces, Parted}
 
 -- a partition point is the length of what passes
@@ -57,12 +59,6 @@ module _ {X : Type 0} (place : X → Ordering) where
   abbrev pub within : List X → ℕ
   within xs = prefix_len (λ x. is_le (place x)) xs
 
-  pub below_within : (xs : List X) → below xs ≤ within xs
-  below_within [] = omega arith
-  below_within (x ∷ xs) =
-      let more = below_within xs in
-      elim (place x) as (λ o. cond (is_lt o) (1 + below xs) 0 ≤ cond (is_le o) (1 + within xs) 0) [ Less ↦ omega (arith, more) | Equal ↦ omega arith | Greater ↦ omega arith ]
-
   none_below : (xs : List X) → AllByRecursion (λ y. may_precede Equal (place y) ≡ true) xs → below xs ≡ 0
   none_below [] all = refl
   none_below (x ∷ xs) all = elim (place x) as (λ o. may_precede Equal o ≡ true → cond (is_lt o) (1 + below xs) 0 ≡ 0) [ Less ↦ λ h. cc | Equal ↦ λ h. refl | Greater ↦ λ h. refl ] all.0
@@ -72,21 +68,45 @@ module _ {X : Type 0} (place : X → Ordering) where
   not_at Equal h = cc
   not_at Greater h = refl
 
-  pub at_place : (xs : List X) → Parted place xs → filter (λ x. is_eq (place x)) xs ≡ take (within xs - below xs) (drop (below xs) xs)
+  pub at_place : (xs : List X) → Parted place xs → filter (λ x. is_eq (place x)) xs ≡ take (within (drop (below xs) xs)) (drop (below xs) xs)
   at_place [] h = refl
   at_place (x ∷ xs) h =
       let rest = at_place xs h.1 in
-      elim (place x) as (λ o. AllByRecursion (λ y. may_precede o (place y) ≡ true) xs →
+      let more : 1 + below xs ≡ suc (below xs) = omega arith in
+      elim (place x) as (λ o. place x ≡ o → AllByRecursion (λ y. may_precede o (place y) ≡ true) xs →
       cond (is_eq o) (x ∷ filter (λ x. is_eq (place x)) xs) (filter (λ x. is_eq (place x)) xs)
-      ≡ take (cond (is_le o) (1 + within xs) 0 - cond (is_lt o) (1 + below xs) 0) (drop (cond (is_lt o) (1 + below xs) 0) (x ∷ xs))) [
-        | Less ↦ λ all.
-            let less : (1 + within xs) - (1 + below xs) ≡ within xs - below xs = omega arith in
-            let more : 1 + below xs ≡ suc (below xs) = omega arith in
-            rest ∙ sym (ap (λ n. take n (drop (1 + below xs) (x ∷ xs))) less ∙ ap (λ n. take (within xs - below xs) (drop n (x ∷ xs))) more)
-        | Equal ↦ λ all.
+      ≡ take (within (drop (cond (is_lt o) (1 + below xs) 0) (x ∷ xs))) (drop (cond (is_lt o) (1 + below xs) 0) (x ∷ xs))) [
+        | Less ↦ λ e all. rest ∙ sym (ap (λ n. take (within (drop n (x ∷ xs))) (drop n (x ∷ xs))) more)
+        | Equal ↦ λ e all.
             let none = none_below xs all in
-            let more : (1 + within xs) - 0 ≡ suc (within xs) = omega arith in
-            let whole : within xs - below xs ≡ within xs = omega (arith, none) in
-            ap (λ ys. x ∷ ys) (rest ∙ ap (λ n. take n (drop (below xs) xs)) whole ∙ ap (λ n. take (within xs) (drop n xs)) none) ∙ sym (ap (λ n. take n (x ∷ xs)) more)
-        | Greater ↦ λ all. filter_none (λ x. is_eq (place x)) xs (all_weaker (λ y. may_precede Greater (place y) ≡ true) (λ y. is_eq (place y) ≡ false) (λ y g. not_at (place y) g) xs all)
-      ] h.0
+            let one : 1 + within xs ≡ suc (within xs) = omega arith in
+            ap (λ ys. x ∷ ys) (rest ∙ ap (λ n. take (within (drop n xs)) (drop n xs)) none)
+            ∙ sym (ap (λ n. take n (x ∷ xs)) (ap (λ o. cond (is_le o) (1 + within xs) 0) e ∙ one))
+        | Greater ↦ λ e all.
+            filter_none (λ x. is_eq (place x)) xs (all_weaker (λ y. may_precede Greater (place y) ≡ true) (λ y. is_eq (place y) ≡ false) (λ y g. not_at (place y) g) xs all)
+            ∙ sym (ap (λ n. take n (x ∷ xs)) (ap (λ o. cond (is_le o) (1 + within xs) 0) e))
+      ] refl h.0
+
+-- Fronts and rests.
+
+pub rises_drop : {X : Type 0} (cmp : X → X → Ordering) (n : ℕ) (xs : List X) → Rises cmp xs → Rises cmp (drop n xs)
+rises_drop cmp zero xs rises = rises
+rises_drop cmp (suc n) [] rises = tt
+rises_drop cmp (suc n) (x ∷ xs) rises = rises_drop cmp n xs rises.1
+
+pub rises_take : {X : Type 0} (cmp : X → X → Ordering) (n : ℕ) (xs : List X) → Rises cmp xs → Rises cmp (take n xs)
+rises_take cmp zero xs rises = tt
+rises_take cmp (suc n) [] rises = tt
+rises_take cmp (suc n) (x ∷ xs) rises = (all_taken (λ y. cmp x y ≡ Less) n xs rises.0, rises_take cmp n xs rises.1)
+
+-- where a front ends before its end, so does the whole
+pub front_within : {X : Type 0} (p : X → Bool) (n : ℕ) (xs : List X) → prefix_len p (take n xs) < n → prefix_len p (take n xs) ≡ prefix_len p xs
+front_within p zero xs h = absurd (omega (arith, h))
+front_within p (suc n) [] h = refl
+front_within p (suc n) (x ∷ xs) h = elim (p x) as (λ v. cond v (1 + prefix_len p (take n xs)) 0 < suc n → cond v (1 + prefix_len p (take n xs)) 0 ≡ cond v (1 + prefix_len p xs) 0) [
+  | true ↦ λ h. ap (λ n. 1 + n) (front_within p n xs (omega (arith, h)))
+  | false ↦ λ h. refl
+] h
+
+pub rest_is : {X : Type 0} (n : ℕ) (xs : List X) → take (length xs - n) (drop n xs) ≡ drop n xs
+rest_is n xs = take_all (length xs - n) (drop n xs) (omega (arith, length-drop n xs))

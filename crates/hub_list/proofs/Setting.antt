@@ -10,7 +10,7 @@ use Rattle.hub_tables.specs.Keys.{put, replace}
 use Rattle.hub_tables.specs.Sets.{Rises}
 use Rattle.hub_tables.proofs.Lists.{all_weaker}
 
-equal_is : (o : Ordering) → is_eq o ≡ true → o ≡ Equal
+pub equal_is : (o : Ordering) → is_eq o ≡ true → o ≡ Equal
 equal_is Less e = cc
 equal_is Equal e = refl
 equal_is Greater e = cc
@@ -28,14 +28,14 @@ module _ {X : Type 0} {cmp : X → X → Ordering} (total : IsTotalOrder cmp) (r
       let back : cmp r x ≡ Less = total.antisymm r x ∙ ap ordering_reverse g in
       total.antisymm y r ∙ ap ordering_reverse (total.trans r x y back less)
 
-  all_above : (x : X) (xs : List X) → cmp x r ≡ Greater → AllByRecursion (λ y. cmp x y ≡ Less) xs → AllByRecursion (λ y. cmp y r ≡ Greater) xs
+  pub all_above : (x : X) (xs : List X) → cmp x r ≡ Greater → AllByRecursion (λ y. cmp x y ≡ Less) xs → AllByRecursion (λ y. cmp y r ≡ Greater) xs
   all_above x xs g all = all_weaker (λ y. cmp x y ≡ Less) (λ y. cmp y r ≡ Greater) (λ y less. above_next x y g less) xs all
 
   -- what is above one at r is above r
-  after_equal : (x : X) (xs : List X) → cmp x r ≡ Equal → AllByRecursion (λ y. cmp x y ≡ Less) xs → AllByRecursion (λ y. cmp y r ≡ Greater) xs
+  pub after_equal : (x : X) (xs : List X) → cmp x r ≡ Equal → AllByRecursion (λ y. cmp x y ≡ Less) xs → AllByRecursion (λ y. cmp y r ≡ Greater) xs
   after_equal x xs e all = all_weaker (λ y. cmp x y ≡ Less) (λ y. cmp y r ≡ Greater) (λ y less. total.antisymm y r ∙ ap ordering_reverse (sym (total.congr x r y e) ∙ less)) xs all
 
-  none_above : (xs : List X) → AllByRecursion (λ y. cmp y r ≡ Greater) xs → has xs ≡ false
+  pub none_above : (xs : List X) → AllByRecursion (λ y. cmp y r ≡ Greater) xs → has xs ≡ false
   none_above [] all = refl
   none_above (x ∷ xs) all = ap (λ o. is_eq o || has xs) all.0 ∙ none_above xs all.1
 

@@ -1,3 +1,4 @@
+pub mod Index
 pub mod Lists
 pub mod Places
 pub mod Search

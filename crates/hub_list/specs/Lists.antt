@@ -1,6 +1,8 @@
 -- How a store of lists keeps its rows.
-use Rattle.std.specs.Prelude.{ℕ, ◌+◌, ◌≤◌, vec_len, vec_capacity}
+use Rattle.std.specs.Prelude.{ℕ, ◌+◌, ◌≤◌, true, vec_len, vec_capacity}
+use Rattle.hub_tables.specs.Sets.{Rising}
 use Rattle.hub_tables.specs.Tables.{Tables}
+use Rattle.hub_list.specs.Index.{IsIndex, entry_cmp, entry_key, is_untaken, owned_cmp, owned_key}
 use Rattle.hub_list.specs.declared.lists.Lists.{Lists}
 
 -- what the lists hold
@@ -16,6 +18,12 @@ tables_in s = record {
   mail = s.mail.items;
 }
 
+-- the rows of each kind rise by their keys, and the indexes list what they are to list
+pub record Kept (s : Lists) : Type 0 where
+  pub rising : Rising (tables_in s)
+  pub untaken : IsIndex entry_cmp (λ key. key.supplier) entry_key is_untaken s.untaken.items s.mail.items
+  pub owned : IsIndex owned_cmp (λ key. key.supplier) owned_key (λ pallet. true) s.owned.items s.pallets.items
+
 -- each list has room for so many rows more
 pub record Room (n : ℕ) (s : Lists) : Type 0 where
   pub orders : vec_len s.orders + n ≤ vec_capacity s.orders
@@ -26,3 +34,5 @@ pub record Room (n : ℕ) (s : Lists) : Type 0 where
   pub receipts : vec_len s.receipts + n ≤ vec_capacity s.receipts
   pub remembered : vec_len s.remembered + n ≤ vec_capacity s.remembered
   pub mail : vec_len s.mail + n ≤ vec_capacity s.mail
+  pub untaken : vec_len s.untaken + n ≤ vec_capacity s.untaken
+  pub owned : vec_len s.owned + n ≤ vec_capacity s.owned

@@ -9,6 +9,7 @@ ghost use Rattle.hub_tables.specs.Rows.{same};
 ghost use Rattle.hub_list.specs.Places.{same_bytes, same_numbers, both, above, is_above, first_part, then_part, by_key, above_kept};
 ghost use Rattle.hub_list.specs.Search.{KeepsPlaces};
 
+use crate::index::{EntryKey, PalletKey};
 use crate::row::{Row, letter};
 use gs1_ids::{Gln, Sscc};
 use hub_tables::{
@@ -69,14 +70,7 @@ pub(crate) struct Reference<'a> {
     pub(crate) message: &'a [u8],
 }
 
-/// The entry of a number in a supplier's mailbox.
-#[derive(Drop)]
-pub(crate) struct Entry<'a> {
-    pub(crate) supplier: &'a Gln,
-    pub(crate) number: u64,
-}
-
-/// The entries above a number in a supplier's mailbox.
+/// The entries above a number in a supplier's mailbox, of those that an index lists.
 #[derive(Drop)]
 pub(crate) struct Above<'a> {
     pub(crate) supplier: &'a Gln,
@@ -237,27 +231,55 @@ impl<'a> Key<RememberedRow> for Reference<'a> {
     ghost kept = { λ key. then_part nat_list_cmp_total (λ row. row.supplier) key.supplier.now _ _ (then_part nat_cmp_total (λ row. row.side) (side_letter key.side) _ _ (then_part nat_list_cmp_total (λ row. row.control) key.control.now _ _ (by_key nat_list_cmp_total (λ row. row.message) key.message.now))) };
 }
 
-impl<'a> Key<MailRow> for Entry<'a> {
-    ghost place = { λ key row. ordering_then (bytes_cmp row.supplier key.supplier.now) (nat_cmp row.number key.number) };
+impl Key<MailRow> for EntryKey {
+    ghost place = { λ key row. ordering_then (bytes_cmp row.supplier key.supplier) (nat_cmp row.number key.number) };
 
-    ghost wanted = { λ key row. same row.supplier key.supplier.now && (row.number == key.number) };
+    ghost wanted = { λ key row. same row.supplier key.supplier && (row.number == key.number) };
 
     fn place_of(&self, row: &MailRow) -> Ordering {
         let place = row.number.cmp(&self.number);
-        row.supplier.cmp(self.supplier).then(place)
+        row.supplier.cmp(&self.supplier).then(place)
     }
 
-    ghost exact = { λ key row. both (bytes_cmp row.supplier key.supplier.now) _ (same_bytes row.supplier key.supplier.now) (same_numbers row.number key.number) };
+    ghost exact = { λ key row. both (bytes_cmp row.supplier key.supplier) _ (same_bytes row.supplier key.supplier) (same_numbers row.number key.number) };
 
-    ghost kept = { λ key. then_part nat_list_cmp_total (λ row. row.supplier) key.supplier.now _ _ (by_key nat_cmp_total (λ row. row.number) key.number) };
+    ghost kept = { λ key. then_part nat_list_cmp_total (λ row. row.supplier) key.supplier _ _ (by_key nat_cmp_total (λ row. row.number) key.number) };
 }
 
-impl<'a> Key<MailRow> for Above<'a> {
+impl Key<PalletRow> for PalletKey {
+    ghost place = { λ key row. bytes_cmp row.sscc key.sscc };
+
+    ghost wanted = { λ key row. same row.sscc key.sscc };
+
+    fn place_of(&self, row: &PalletRow) -> Ordering {
+        row.sscc.cmp(&self.sscc)
+    }
+
+    ghost exact = { λ key row. same_bytes row.sscc key.sscc };
+
+    ghost kept = { λ key. by_key nat_list_cmp_total (λ row. row.sscc) key.sscc };
+}
+
+impl<'a> Key<PalletKey> for OfSupplier<'a> {
+    ghost place = { λ key row. bytes_cmp row.supplier key.supplier.now };
+
+    ghost wanted = { λ key row. same row.supplier key.supplier.now };
+
+    fn place_of(&self, row: &PalletKey) -> Ordering {
+        row.supplier.cmp(self.supplier)
+    }
+
+    ghost exact = { λ key row. same_bytes row.supplier key.supplier.now };
+
+    ghost kept = { λ key. first_part _ _ _ (by_key nat_list_cmp_total (λ row. row.supplier) key.supplier.now) };
+}
+
+impl<'a> Key<EntryKey> for Above<'a> {
     ghost place = { λ key row. ordering_then (bytes_cmp row.supplier key.supplier.now) (above key.number row.number) };
 
     ghost wanted = { λ key row. same row.supplier key.supplier.now && nat_lt key.number row.number };
 
-    fn place_of(&self, row: &MailRow) -> Ordering {
+    fn place_of(&self, row: &EntryKey) -> Ordering {
         let number = match self.number.cmp(&row.number) {
             Ordering::Less => Ordering::Equal,
             _ => Ordering::Less,

@@ -1,6 +1,7 @@
 //! A store of plain lists, in memory.
 #![tactic(auto)]
 
+mod index;
 mod key;
 mod lists;
 mod look;

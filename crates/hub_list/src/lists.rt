@@ -2,8 +2,9 @@
 ghost use Rattle.std.specs.Prelude.{◌≡◌, ℕ, ◌+◌, length, IfOk, OnOk};
 ghost use Rattle.hub_tables.specs.Change.{apply, apply_all};
 ghost use Rattle.hub_tables.specs.Sets.{Rising};
-ghost use Rattle.hub_list.specs.Lists.{tables_in, Room};
+ghost use Rattle.hub_list.specs.Lists.{tables_in, Kept, Room};
 
+use crate::index::{EntryKey, PalletKey, put_indexed, set_indexed};
 use crate::row::Row;
 use crate::table::{put_row, set_row};
 use edi_base::MemoryFault;
@@ -12,7 +13,7 @@ use hub_tables::{
 };
 use std::alloc::Global;
 
-/// A list of rows for each kind.
+/// A list of rows for each kind, and two indexes: the mailbox entries that are not taken, and each supplier's pallets.
 #[derive(Debug, Drop)]
 pub(crate) struct Lists {
     pub(crate) orders: Vec<OrderRow>,
@@ -23,10 +24,14 @@ pub(crate) struct Lists {
     pub(crate) receipts: Vec<ReceiptRow>,
     pub(crate) remembered: Vec<RememberedRow>,
     pub(crate) mail: Vec<MailRow>,
+    pub(crate) untaken: Vec<EntryKey>,
+    pub(crate) owned: Vec<PalletKey>,
 }
 
 /// Takes the room for so many rows more of each kind.
 pub(crate) fn take_room(lists: &mut Lists, count: usize) -> Result<(), MemoryFault>
+    requires kept { Kept lists.old }
+    ensures kept { Kept lists.new }
     ensures same { tables_in lists.new ≡ tables_in lists.old }
     ensures room { OnOk result (Room count lists.new) }
 {
@@ -38,6 +43,8 @@ pub(crate) fn take_room(lists: &mut Lists, count: usize) -> Result<(), MemoryFau
     lists.receipts.try_reserve(count)?;
     lists.remembered.try_reserve(count)?;
     lists.mail.try_reserve(count)?;
+    lists.untaken.try_reserve(count)?;
+    lists.owned.try_reserve(count)?;
     Ok(())
 }
 
@@ -63,8 +70,8 @@ pub(crate) fn copy_of(alloc: Global, change: &Change) -> Result<Change, MemoryFa
 /// Makes a change, for which there is room. Where it does not fit to the rows, it is left out.
 pub(crate) fn apply_one(lists: &mut Lists, change: Change)
     requires room { Room 1 lists.old }
-    requires rising { Rising (tables_in lists.old) }
-    ensures rising { Rising (tables_in lists.new) }
+    requires kept { Kept lists.old }
+    ensures kept { Kept lists.new }
     ensures tables { Rising (apply change (tables_in lists.old)) → tables_in lists.new ≡ apply change (tables_in lists.old) }
     ensures room { (n : ℕ) → Room (n + 1) lists.old → Room n lists.new }
 {
@@ -73,13 +80,13 @@ pub(crate) fn apply_one(lists: &mut Lists, change: Change)
         Change::AddLine(row) => put_row(&mut lists.lines, row),
         Change::SetLine(row) => set_row(&mut lists.lines, row),
         Change::AddAdvice(row) => put_row(&mut lists.advices, row),
-        Change::AddPallet(row) => put_row(&mut lists.pallets, row),
-        Change::SetPallet(row) => set_row(&mut lists.pallets, row),
+        Change::AddPallet(row) => put_indexed(&mut lists.pallets, &mut lists.owned, row),
+        Change::SetPallet(row) => set_indexed(&mut lists.pallets, &mut lists.owned, row),
         Change::AddContent(row) => put_row(&mut lists.contents, row),
         Change::AddReceipt(row) => put_row(&mut lists.receipts, row),
         Change::Remember(row) => put_row(&mut lists.remembered, row),
-        Change::AddMail(row) => put_row(&mut lists.mail, row),
-        Change::SetMail(row) => set_row(&mut lists.mail, row),
+        Change::AddMail(row) => put_indexed(&mut lists.mail, &mut lists.untaken, row),
+        Change::SetMail(row) => set_indexed(&mut lists.mail, &mut lists.untaken, row),
     }
 }
 
@@ -97,8 +104,8 @@ pub(crate) fn copies_of(alloc: Global, changes: &[Change]) -> Result<Vec<Change>
 /// Makes changes one after another, for which there is room. Each that does not fit to the rows is left out.
 pub(crate) fn apply_each(lists: &mut Lists, changes: Vec<Change>)
     requires room { Room (length changes.items) lists.old }
-    requires rising { Rising (tables_in lists.old) }
-    ensures rising { Rising (tables_in lists.new) }
+    requires kept { Kept lists.old }
+    ensures kept { Kept lists.new }
     ensures tables { Rising (apply_all changes.items (tables_in lists.old)) → tables_in lists.new ≡ apply_all changes.items (tables_in lists.old) }
 {
     for change in changes {

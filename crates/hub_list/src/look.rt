@@ -1,14 +1,16 @@
 //! Look-ups in lists of rows, of which each rises by its key.
-ghost use Rattle.std.specs.Prelude.{◌≡◌, ◌==◌, ◌&&◌, None, filter, find, take, slice_get, option_map, nat_lt, not, IfOk};
-ghost use Rattle.std.specs.List.{list_any, last_or};
+ghost use Rattle.std.specs.Prelude.{◌≡◌, ◌==◌, ◌&&◌, true, None, filter, find, take, slice_get, option_map, nat_lt, not, IfOk};
+ghost use Rattle.std.specs.List.{list_any, last_or, filter_map};
 ghost use Rattle.std.specs.Option.{unwrap_or};
 ghost use Rattle.hub_tables.specs.Cases.{side_letter};
 ghost use Rattle.hub_tables.specs.Rows.{same, order_cmp, line_cmp, advice_cmp, pallet_cmp, content_cmp, receipt_cmp, remembered_cmp, mail_cmp};
 ghost use Rattle.hub_tables.specs.Sets.{Rises};
 ghost use Rattle.hub_tables.specs.State.{is_taken};
 ghost use Rattle.hub_tables.specs.Tables.{holds};
+ghost use Rattle.hub_list.specs.Index.{IsIndex, entry_cmp, entry_key, is_untaken, owned_cmp, owned_key};
 
-use crate::key::{Above, Entry, Numbered, OfSupplier, OnPallet, Reference};
+use crate::index::{EntryKey, PalletKey};
+use crate::key::{Above, Key, Numbered, OfSupplier, OnPallet, Reference};
 use crate::row::Row;
 use crate::search::rows_at;
 use edi_base::{Items, MemoryFault, copied};
@@ -37,6 +39,24 @@ fn first_copy<T: Row>(alloc: Global, rows: &[T]) -> Result<Option<T>, MemoryFaul
         Some(row) => Ok(Some(row.copy(alloc)?)),
         None => Ok(None),
     }
+}
+
+// Copies of the rows that keys look for, the first for each.
+fn copies_at<T: Row, K: Key<T>>(
+    alloc: Global,
+    rows: &[T],
+    keys: &[K],
+) -> Result<Items<T>, MemoryFault>
+    requires { Rises T.compared rows.now }
+    ensures { IfOk result (λ found. found ≡ filter_map (λ key. find (K.wanted key) rows.now) keys.now) }
+{
+    let mut found = Items::new(alloc);
+    for key in keys {
+        if let Some(row) = rows_at(rows, key).first() {
+            found.push(row.copy(alloc)?)?;
+        }
+    }
+    Ok(found)
 }
 
 /// The content that is remembered of a side of a supplier under two references.
@@ -145,21 +165,18 @@ pub(crate) fn pallet_with(
     }
 }
 
-/// The pallets of a supplier. These stand by their SSCC, so this goes over the pallets of all suppliers.
+/// The pallets of a supplier, by an index of each supplier's pallets.
 pub(crate) fn pallets_from(
     alloc: Global,
     pallets: &[PalletRow],
+    owned: &[PalletKey],
     supplier: &Gln,
 ) -> Result<Items<PalletRow>, MemoryFault>
+    requires pallets { Rises pallet_cmp pallets.now }
+    requires owned { IsIndex owned_cmp (λ key. key.supplier) owned_key (λ pallet. true) owned.now pallets.now }
     ensures { IfOk result (λ found. found ≡ filter (λ row. same row.supplier supplier.now) pallets.now) }
 {
-    let mut found = Items::new(alloc);
-    for pallet in pallets {
-        if pallet.supplier == *supplier {
-            found.push(pallet.copy(alloc)?)?;
-        }
-    }
-    Ok(found)
+    copies_at(alloc, pallets, rows_at(owned, &OfSupplier { supplier }))
 }
 
 /// The contents of a pallet, where it is the supplier's.
@@ -220,39 +237,25 @@ pub(crate) fn entry_with(
     requires { Rises mail_cmp mail.now }
     ensures { IfOk result (λ found. found ≡ find (λ entry. entry.number == number) (filter (λ row. same row.supplier supplier.now) mail.now)) }
 {
-    first_copy(alloc, rows_at(mail, &Entry { supplier, number }))
+    let key = EntryKey {
+        supplier: *supplier,
+        number,
+    };
+    first_copy(alloc, rows_at(mail, &key))
 }
 
-// The first so many entries that are not taken.
-fn first_untaken(
-    alloc: Global,
-    mail: &[MailRow],
-    limit: usize,
-) -> Result<Items<MailRow>, MemoryFault>
-    ensures { IfOk result (λ found. found ≡ take limit (filter (λ entry. not (is_taken entry)) mail.now)) }
-{
-    let mut found = Items::new(alloc);
-    for entry in mail {
-        if !entry.taken.case() {
-            if found.len() >= limit {
-                return Ok(found);
-            }
-            found.push(entry.copy(alloc)?)?;
-        }
-    }
-    Ok(found)
-}
-
-/// The first so many entries above a number in a supplier's mailbox that are not taken.
+/// The first so many entries above a number in a supplier's mailbox that are not taken, by an index of these.
 pub(crate) fn entries_after(
     alloc: Global,
     mail: &[MailRow],
-    supplier: &Gln,
-    number: u64,
+    untaken: &[EntryKey],
+    above: &Above<'_>,
     limit: usize,
 ) -> Result<Items<MailRow>, MemoryFault>
-    requires { Rises mail_cmp mail.now }
-    ensures { IfOk result (λ found. found ≡ take limit (filter (λ entry. nat_lt number entry.number && not (is_taken entry)) (filter (λ row. same row.supplier supplier.now) mail.now))) }
+    requires mail { Rises mail_cmp mail.now }
+    requires untaken { IsIndex entry_cmp (λ key. key.supplier) entry_key is_untaken untaken.now mail.now }
+    ensures { IfOk result (λ found. found ≡ take limit (filter (λ entry. nat_lt above.now.number entry.number && not (is_taken entry)) (filter (λ row. same row.supplier above.now.supplier.now) mail.now))) }
 {
-    first_untaken(alloc, rows_at(mail, &Above { supplier, number }), limit)
+    let keys = rows_at(untaken, above);
+    copies_at(alloc, mail, &keys[..limit.min(keys.len())])
 }

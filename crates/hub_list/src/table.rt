@@ -1,5 +1,5 @@
 //! Rows of one kind, which rise by their keys.
-ghost use Rattle.std.specs.Prelude.{◌≡◌, ◌+◌, ◌<◌, ◌≤◌, vec_len, vec_capacity};
+ghost use Rattle.std.specs.Prelude.{◌≡◌, ◌+◌, ◌<◌, ◌≤◌, false, not, filter, vec_len, vec_capacity};
 ghost use Rattle.std.specs.List.{insert, list_any};
 ghost use Rattle.std.specs.Ordering.{is_eq};
 ghost use Rattle.hub_tables.specs.Keys.{put, replace};
@@ -9,9 +9,9 @@ use crate::key::SameKey;
 use crate::row::{Row, Settable};
 use crate::search::{count_below, rows_at};
 
-// Whether a row has the key of this one.
+/// Whether a row has the key of this one.
 #[tactic(auto, using(crate::proofs::Filters::any_filtered))]
-fn has_key<T: Row>(rows: &[T], row: &T) -> bool
+pub(crate) fn has_key<T: Row>(rows: &[T], row: &T) -> bool
     requires { Rises T.compared rows.now }
     ensures { result ≡ list_any (λ old. is_eq (T.compared old row.now)) rows.now }
 {
@@ -35,6 +35,7 @@ pub(crate) fn put_row<T: Row>(rows: &mut Vec<T>, row: T)
     requires rises { Rises T.compared rows.old.items }
     ensures rises { Rises T.compared rows.new.items }
     ensures items { Rises T.compared (put T.compared row rows.old.items) → rows.new.items ≡ put T.compared row rows.old.items }
+    ensures new { list_any (λ old. is_eq (T.compared old row)) rows.old.items ≡ false → rows.new.items ≡ put T.compared row rows.old.items }
     ensures len { vec_len rows.new ≤ vec_len rows.old + 1 }
     ensures capacity { vec_capacity rows.new ≡ vec_capacity rows.old }
 {
@@ -43,6 +44,22 @@ pub(crate) fn put_row<T: Row>(rows: &mut Vec<T>, row: T)
     let is_there = has_key(old, &row);
     if !is_there {
         insert_at(rows, at, row);
+    }
+}
+
+/// Takes out the row that has the key of this one, where there is one.
+pub(crate) fn drop_row<T: Row>(rows: &mut Vec<T>, row: &T)
+    requires { Rises T.compared rows.old.items }
+    ensures rises { Rises T.compared rows.new.items }
+    ensures items { rows.new.items ≡ filter (λ old. not (is_eq (T.compared old row.now))) rows.old.items }
+    ensures len { vec_len rows.new ≤ vec_len rows.old }
+    ensures capacity { vec_capacity rows.new ≡ vec_capacity rows.old }
+{
+    let old = rows.as_slice();
+    let at = count_below(old, &SameKey { row });
+    let is_there = has_key(old, row);
+    if is_there {
+        drop(rows.remove(at));
     }
 }
 

@@ -2,7 +2,7 @@
 ghost use Rattle.std.specs.Prelude.{◌≡◌};
 ghost use Rattle.hub_tables.specs.Tables.{empty};
 
-use crate::key::Reference;
+use crate::key::{Above, Reference};
 use crate::lists::{Lists, apply_each, copies_of, take_room};
 use crate::look;
 use edi_base::Items;
@@ -16,9 +16,8 @@ use std::marker::Model;
 /// answered find no memory, of a commit where the copies of its changes find none. Of the changes of a commit, a row
 /// that is added under a key that is there is left out, and so is a row that is set where none has its key.
 ///
-/// A look-up takes two binary searches and a copy of what it answers. `all_pallets` goes over the pallets of all
-/// suppliers, and `mail_after` also over the taken entries that stand between those that it answers or, where these
-/// are fewer than the limit, behind them. A commit moves the rows that stand behind a new one.
+/// A look-up takes a binary search and a copy of what it answers; `all_pallets` and `mail_after` search in an index, and
+/// then for each row that they answer. A commit moves the rows that stand behind a new one, and the keys in an index.
 #[derive(Debug, Drop)]
 pub struct VecStore {
     alloc: Global,
@@ -26,15 +25,14 @@ pub struct VecStore {
 }
 
 impl Model for VecStore {
-    ghost use Rattle.hub_tables.specs.Sets.{Rising};
     ghost use Rattle.hub_tables.specs.Tables.{Tables};
-    ghost use Rattle.hub_list.specs.Lists.{tables_in};
+    ghost use Rattle.hub_list.specs.Lists.{tables_in, Kept};
 
     ghost Value = { Tables };
 
     ghost view = { λ store. tables_in store.lists };
 
-    ghost invariant = { λ store. Rising (tables_in store.lists) };
+    ghost invariant = { λ store. Kept store.lists };
 }
 
 impl VecStore {
@@ -53,6 +51,8 @@ impl VecStore {
                 receipts: Vec::new(alloc),
                 remembered: Vec::new(alloc),
                 mail: Vec::new(alloc),
+                untaken: Vec::new(alloc),
+                owned: Vec::new(alloc),
             },
         }
     }
@@ -129,7 +129,9 @@ impl Store for VecStore {
         limit: usize,
     ) -> Result<Items<MailRow>, StoreFault> {
         let mail = self.lists.mail.as_slice();
-        Ok(look::entries_after(self.alloc, mail, supplier, number, limit)?)
+        let untaken = self.lists.untaken.as_slice();
+        let above = Above { supplier, number };
+        Ok(look::entries_after(self.alloc, mail, untaken, &above, limit)?)
     }
 
     fn all_lines(&mut self, supplier: &Gln) -> Result<Items<LineRow>, StoreFault> {
@@ -139,7 +141,8 @@ impl Store for VecStore {
 
     fn all_pallets(&mut self, supplier: &Gln) -> Result<Items<PalletRow>, StoreFault> {
         let pallets = self.lists.pallets.as_slice();
-        Ok(look::pallets_from(self.alloc, pallets, supplier)?)
+        let owned = self.lists.owned.as_slice();
+        Ok(look::pallets_from(self.alloc, pallets, owned, supplier)?)
     }
 
     fn contents_of(

@@ -4,6 +4,8 @@
 #[cfg(test)]
 mod app;
 #[cfg(test)]
+mod faults;
+#[cfg(test)]
 mod judges;
 #[cfg(test)]
 mod lines;

@@ -15,7 +15,7 @@ loop-change-preserved c =
     let cut = (c.in-Some.ensures.steps).0 in
     let room : Room (length later + 1) c.loop-change.lists = rw add-one (subst (λ (cs : List Change). Room (length cs) c.loop-change.lists) cut c.loop-change.invariant.room) in
     record {
-      rising = c.apply_one.ensures.rising;
+      kept = c.apply_one.ensures.kept;
       left = λ fit.
           let was : apply_all (c.in-Some.change ∷ later) t ≡ end = sym (ap (λ cs. apply_all cs t) cut) ∙ c.loop-change.invariant.left fit in
           let fits = rising_before later (apply c.in-Some.change t) (subst Rising (sym was) fit) in

@@ -1,13 +1,49 @@
-use Rattle.std.proofs.Common.{◌≡◌, ◌∙◌, List, IfOk, filter, take, not, subst, ap}
-use Rattle.std.specs.Prelude.{nat_lt}
+use Rattle.std.proofs.Common.{◌≡◌, ◌∙◌, ◌==◌, ◌&&◌, List, IfOk, map, find, filter, take, length, sym, subst, ap, rules}
+use Rattle.std.specs.Prelude.{nat_lt, min}
+use Rattle.std.specs.List.{filter_map}
+use Rattle.std.specs.Ordering.{nat_cmp}
+use Rattle.std.proofs.lemmas.List.{take_min}
+use Rattle.hub_tables.specs.Keys.{bytes_cmp}
 use Rattle.hub_tables.specs.Rows.{same}
-use Rattle.hub_tables.specs.State.{is_taken}
 use Rattle.hub_tables.specs.declared.rows.MailRow.{MailRow}
-use Rattle.hub_list.proofs.Filters.{filter_three}
+use Rattle.hub_tables.proofs.KindOrders.{mail_total}
+use Rattle.hub_tables.proofs.Lists.{all_filter}
+use Rattle.hub_list.specs.Index.{entry_key, is_untaken}
+use Rattle.hub_list.specs.Places.{both, same_bytes, same_numbers}
+use Rattle.hub_list.specs.declared.index.EntryKey.{EntryKey}
+use Rattle.hub_list.proofs.Filters.{all_taken, filter_both, filter_of_map, filter_swap, take_of_map}
+use Rattle.hub_list.proofs.Indexing.{Again, all_again, found_again}
 use Rattle.hub_list.proofs.look.entries_after.Goals as goal
 
 pub returns : goal.returns
 returns c =
-    let three = filter_three (λ (row : MailRow). same row.supplier c.args.supplier.now) (λ row. nat_lt c.args.number row.number) (λ row. not (is_taken row)) c.args.mail.now in
-    subst (λ (rows : List MailRow). IfOk c.first_untaken.result (λ found. found ≡ take c.args.limit rows))
-    (ap (filter (λ (entry : MailRow). not (is_taken entry))) c.rows_at.ensures ∙ three) c.first_untaken.ensures
+    let gln = c.args.above.now.supplier.now in
+    let number = c.args.above.now.number in
+    let limit = c.args.limit in
+    let mail = c.args.mail.now in
+    let wanted = λ (key : EntryKey) (row : MailRow). same row.supplier key.supplier && (row.number == key.number) in
+    let exact = λ (x y : MailRow). both (bytes_cmp y.supplier x.supplier) (nat_cmp y.number x.number) (same_bytes y.supplier x.supplier) (same_numbers y.number x.number) in
+    let from = λ (row : MailRow). same row.supplier gln in
+    let later = λ (row : MailRow). nat_lt number row.number in
+    let late_key = λ (key : EntryKey). nat_lt number key.number in
+    let listed = λ (row : MailRow). later row && is_untaken row in
+    let ours = filter from mail in
+    let rows = filter listed ours in
+    let keys =
+    c.rows_at-keys.ensures
+    ∙ filter_both (λ (key : EntryKey). same key.supplier gln) late_key c.args.untaken.now
+    ∙ ap (filter late_key) (c.requires.untaken.each gln)
+    ∙ filter_of_map late_key entry_key (filter is_untaken ours)
+    ∙ ap (map entry_key) (filter_swap later is_untaken ours ∙ sym (filter_both later is_untaken ours)) in
+    let least : c.min.result ≡ min limit (length c.rows_at-keys.result.now) = search rules in
+    let asked =
+    ap (λ n. take n c.rows_at-keys.result.now) least
+    ∙ take_min limit c.rows_at-keys.result.now
+    ∙ ap (take limit) keys
+    ∙ take_of_map entry_key limit rows in
+    let all = all_taken (Again mail_total entry_key wanted exact mail) limit rows
+    (all_filter (Again mail_total entry_key wanted exact mail) listed ours
+    (all_filter (Again mail_total entry_key wanted exact mail) from mail (all_again mail_total entry_key wanted exact mail c.requires.mail))) in
+    let again = found_again mail_total entry_key wanted exact mail (take limit rows) all in
+    subst (λ (found_rows : List MailRow). IfOk c.copies_at.result (λ found. found ≡ found_rows))
+    (ap (filter_map (λ (key : EntryKey). find (wanted key) mail)) asked ∙ again) c.copies_at.ensures

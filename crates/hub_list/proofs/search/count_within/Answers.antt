@@ -1,13 +1,17 @@
-use Rattle.std.proofs.Common.{rules, of_calls}
+use Rattle.std.proofs.Common.{◌≡◌, ◌∙◌, ◌<◌, take, length, ap, subst, rules}
+use Rattle.std.specs.Prelude.{min}
+use Rattle.std.specs.List.{prefix_len}
 use Rattle.std.specs.Ordering.{is_le}
-use Rattle.std.proofs.lemmas.Fn.{always_returns_same}
-use Rattle.hub_list.proofs.Searching.{from_point, parted, within_first}
+use Rattle.std.proofs.lemmas.List.{take_min}
+use Rattle.hub_list.proofs.Searching.{front_within}
 use Rattle.hub_list.proofs.search.count_within.Goals as goal
 
-pub returns-clause-count : goal.returns-clause-count
-returns-clause-count g c =
+pub returns-then-count-lt-NEAR-clause-count : goal.returns-then-count-lt-NEAR-clause-count
+returns-then-count-lt-NEAR-clause-count g c =
     let rows = c.args.rows.now in
-    let place = g.K.Key.place c.args.key.now in
-    let point = c.partition_point.ensures.partitioned (λ row. is_le (place row)) (search (rules, of_calls, always_returns_same))
-    (within_first place rows (parted place g.T.Row.compared (g.met.K.Key.kept c.args.key.now) rows c.requires)) in
-    from_point (λ row. is_le (place row)) rows c.partition_point.result c.partition_point.ensures.bound point
+    let passes = λ (row : g.row.T.Denot). is_le (g.K.Key.place c.args.key.now row) in
+    let least : c.min.result ≡ min 16 (length rows) = search rules in
+    let front = ap (λ n. take n rows) least ∙ take_min 16 rows in
+    let count = c.count_among-count.ensures.count ∙ ap (prefix_len passes) front in
+    let few : c.count_among-count.result < 16 = search rules in
+    count ∙ front_within passes 16 rows (subst (λ n. n < 16) count few)

@@ -1,22 +1,24 @@
-use Rattle.std.proofs.Common.{◌∙◌, ◌-◌, sym, ap₂, take, drop, filter, arith, rules, ◌≤◌}
-use Rattle.hub_list.proofs.Searching.{parted, at_place, below_within}
+use Rattle.std.proofs.Common.{◌∙◌, sym, ap, subst, take, drop, filter}
+use Rattle.std.specs.List.{prefix_len}
+use Rattle.std.specs.Ordering.{is_le}
+use Rattle.hub_tables.specs.Sets.{Rises}
+use Rattle.hub_list.proofs.Searching.{parted, at_place, rest_is, rises_drop}
 use Rattle.hub_list.proofs.search.rows_at.Goals as goal
 
-pub slice_bounds-result-count : goal.slice_bounds-result-count
-slice_bounds-result-count g c =
-    let order = below_within (g.K.Key.place c.args.key.now) c.args.rows.now in
-    omega (arith, order, c.count_below-start.ensures.count, c.count_within-end.ensures.count)
-
-pub slice_bounds-result-start : goal.slice_bounds-result-start
-slice_bounds-result-start g c =
-    let within = below_within (g.K.Key.place c.args.key.now) c.args.rows.now in
-    let order : c.count_below-start.result ≤ c.count_within-end.result = omega (arith, within, c.count_below-start.ensures.count, c.count_within-end.ensures.count) in
-    search rules
+pub count_within-count-requires : goal.count_within-count-requires
+count_within-count-requires g c =
+    let start = c.count_below-start.result in
+    let rows = c.args.rows.now in
+    subst (Rises g.T.Row.compared) (sym (rest_is start rows)) (rises_drop g.T.Row.compared start rows c.requires)
 
 pub returns : goal.returns
 returns g c =
     let rows = c.args.rows.now in
+    let start = c.count_below-start.result in
     let place = g.K.Key.place c.args.key.now in
-    ap₂ (λ start end. take (end - start) (drop start rows)) c.count_below-start.ensures.count c.count_within-end.ensures.count
+    let rest = rest_is start rows in
+    let count = c.count_within-count.ensures.count ∙ ap (prefix_len (λ row. is_le (place row))) rest in
+    ap (take c.count_within-count.result) rest ∙ ap (λ n. take n (drop start rows)) count
+    ∙ ap (λ n. take (prefix_len (λ row. is_le (place row)) (drop n rows)) (drop n rows)) c.count_below-start.ensures.count
     ∙ sym (at_place place rows (parted place g.T.Row.compared (g.met.K.Key.kept c.args.key.now) rows c.requires))
     ∙ (λ i. filter (λ row. g.met.K.Key.exact c.args.key.now row i) rows)

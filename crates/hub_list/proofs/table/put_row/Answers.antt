@@ -13,6 +13,11 @@ returns-then-not-is_there-clause-items g c h =
     let new : list_any (λ old. is_eq (g.T.Row.compared old c.args.row)) rows ≡ false = rw c.as_slice-old.ensures.value at (sym c.has_key-is_there.ensures ∙ no) in
     c.insert_at.ensures.items ∙ ap (λ n. insert rows n c.args.row) (rw c.as_slice-old.ensures.value at c.count_below-at.ensures.count) ∙ sym (put_is_insert g.met.T.Row.total c.args.row rows new)
 
+pub returns-then-not-is_there-clause-new : goal.returns-then-not-is_there-clause-new
+returns-then-not-is_there-clause-new g c new =
+    let rows = c.args.rows.now.items in
+    c.insert_at.ensures.items ∙ ap (λ n. insert rows n c.args.row) (rw c.as_slice-old.ensures.value at c.count_below-at.ensures.count) ∙ sym (put_is_insert g.met.T.Row.total c.args.row rows new)
+
 pub returns-then-not-is_there-clause-rises : goal.returns-then-not-is_there-clause-rises
 returns-then-not-is_there-clause-rises g c =
     let rows = c.args.rows.now.items in
@@ -28,3 +33,11 @@ returns-else-not-is_there-clause-items g c h =
     let yes : c.has_key-is_there.result ≡ true = search rules in
     let there : list_any (λ old. is_eq (g.T.Row.compared old c.args.row)) rows ≡ true = rw c.as_slice-old.ensures.value at (sym c.has_key-is_there.ensures ∙ yes) in
     absurd (not_put g.met.T.Row.total c.args.row rows c.requires.rises there h)
+
+pub returns-else-not-is_there-clause-new : goal.returns-else-not-is_there-clause-new
+returns-else-not-is_there-clause-new g c new =
+    let rows = c.args.rows.now.items in
+    let yes : c.has_key-is_there.result ≡ true = search rules in
+    let there : list_any (λ old. is_eq (g.T.Row.compared old c.args.row)) rows ≡ true = rw c.as_slice-old.ensures.value at (sym c.has_key-is_there.ensures ∙ yes) in
+    let no : false ≡ true = sym new ∙ there in
+    absurd (cc (no))

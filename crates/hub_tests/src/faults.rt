@@ -1,0 +1,128 @@
+//! What faults of a store tell, and what a crash leaves after a commit, over any store and over lists.
+ghost use Rattle.std.specs.Prelude.{◌≡◌, ◌≢◌, [], true, None, Some, Err, IsTrue, IfErr, OnOk};
+ghost use Rattle.std.specs.Option.{IfSome};
+ghost use Rattle.hub_tables.specs.Change.{apply_all};
+ghost use Rattle.hub_tables.specs.Tables.{Tables};
+ghost use Rattle.hub_store.specs.Calls.{Fit, broken_after, fault_of};
+ghost use Rattle.hub_store.specs.Clean.{are_clean};
+ghost use Rattle.hub_store.specs.declared.fault.LastingFault.TheVariants as lasting;
+ghost use Rattle.hub_store.specs.declared.fault.StoreFault.TheVariants.{Memory, Disk, Unclean, Version};
+
+use edi_base::{MemoryFault, copied};
+use gs1_ids::Gln;
+use hub_list::VecStore;
+use hub_store::{LastingFault, Store, StoreFault};
+use hub_tables::{Change, OrderRow};
+use hub_trial::TrialStore;
+use std::alloc::Global;
+use std::test::Fail;
+
+// What is answered first, which fault is for good then, and what is answered again.
+type Answers = (
+    Result<bool, StoreFault>,
+    Option<LastingFault>,
+    Result<bool, StoreFault>,
+);
+
+// Asks twice for an order.
+fn ask_twice<S: Store>(store: &mut S, supplier: &Gln, number: &[u8]) -> Answers
+    ensures told { result.1 ≡ broken_after (S.broken store.old) result.0 }
+    ensures again { IfSome result.1 (λ fault. result.2 ≡ Err (fault_of fault)) }
+    ensures opened { IfErr result.0 (λ fault. fault ≢ Version) }
+    ensures only_memory { IsTrue S.plain → IfErr result.0 (λ fault. fault ≡ Memory) }
+{
+    let first = store.order_known(supplier, number);
+    let fault = store.fault();
+    let second = store.order_known(supplier, number);
+    (first, fault, second)
+}
+
+// The same in lists, whose only fault is out of memory.
+fn ask_list_twice(store: &mut VecStore, supplier: &Gln, number: &[u8]) -> Answers
+    ensures told { result.1 ≡ broken_after None result.0 }
+    ensures only_memory { IfErr result.0 (λ fault. fault ≡ Memory) }
+{
+    ask_twice(store, supplier, number)
+}
+
+// The fault for good of lists: there is none.
+fn fault_of_list(store: &VecStore) -> Option<LastingFault>
+    ensures { result ≡ None }
+{
+    store.fault()
+}
+
+// The same in lists that are on trial: a fault of a disk is for good.
+fn ask_trial_twice(store: &mut TrialStore<VecStore>, supplier: &Gln, number: &[u8]) -> Answers
+    ensures disk { result.0 ≡ Err Disk → (result.1 ≡ Some lasting.Disk) × (result.2 ≡ Err Disk) }
+    ensures opened { IfErr result.0 (λ fault. fault ≢ Version) }
+{
+    ask_twice(store, supplier, number)
+}
+
+// Asks for an order, where all rows may be of the kinds.
+fn ask_clean<S: Store>(store: &mut S, supplier: &Gln, number: &[u8]) -> Result<bool, StoreFault>
+    ensures { S.honest store.new → S.broken store.old ≡ None → are_clean (S.content store.old) ≡ true → result ≢ Err Unclean }
+{
+    store.order_known(supplier, number)
+}
+
+// The same in lists on trial.
+fn ask_clean_trial(
+    store: &mut TrialStore<VecStore>,
+    supplier: &Gln,
+    number: &[u8],
+) -> Result<bool, StoreFault>
+    ensures { store.old.1 ≡ None → are_clean store.old.0 ≡ true → result ≢ Err Unclean }
+{
+    ask_clean(store, supplier, number)
+}
+
+// Commits changes, where all rows before and after them may be of the kinds.
+fn commit_clean<S: Store>(store: &mut S, changes: &[Change]) -> Result<(), StoreFault>
+    requires { changes.now ≢ [] }
+    ensures clean { S.honest store.new → S.broken store.old ≡ None → Fit changes.now (S.content store.old) → are_clean (S.content store.old) ≡ true → are_clean (apply_all changes.now (S.content store.old)) ≡ true → result ≢ Err Unclean }
+    ensures durable { S.honest store.new → Fit changes.now (S.content store.old) → OnOk result ((t : Tables) → S.left store.new t → t ≡ apply_all changes.now (S.content store.old)) }
+{
+    store.commit(changes)
+}
+
+// The same in lists, where a crash leaves the content.
+fn commit_listed(store: &mut VecStore, changes: &[Change]) -> Result<(), StoreFault>
+    requires { changes.now ≢ [] }
+    ensures clean { Fit changes.now store.old → are_clean store.old ≡ true → are_clean (apply_all changes.now store.old) ≡ true → result ≢ Err Unclean }
+    ensures durable { Fit changes.now store.old → OnOk result (store.new ≡ apply_all changes.now store.old) }
+{
+    commit_clean(store, changes)
+}
+
+const ORDER: &[u8] = b"128575";
+
+fn order(alloc: Global, supplier: Gln) -> Result<[Change; 1], MemoryFault> {
+    Ok([Change::AddOrder(OrderRow {
+        supplier,
+        number: copied(alloc, ORDER)?,
+    })])
+}
+
+#[test]
+fn a_fault_for_good_is_told_and_answered_again(rt: HostRuntime) -> Result<(), Fail> {
+    let supplier = Gln::parse(b"4012345500004").ok_or("a GLN")?;
+    let mut list = VecStore::new(rt.alloc());
+    let changes = order(rt.alloc(), supplier)?;
+    assert_eq!(rt; commit_listed(&mut list, &changes), Ok(()), "commit");
+    let found = ask_list_twice(&mut list, &supplier, ORDER);
+    assert_eq!(rt; found, (Ok(true), None, Ok(true)), "lists");
+    assert_eq!(rt; fault_of_list(&list), None, "no fault for good");
+    let (disk, broken) = (StoreFault::Disk, LastingFault::Disk);
+    let mut trial = TrialStore::failing(list, 1, disk);
+    let found = ask_clean_trial(&mut trial, &supplier, ORDER);
+    assert_eq!(rt; found, Ok(true), "before the fault");
+    let found = ask_trial_twice(&mut trial, &supplier, ORDER);
+    assert_eq!(rt;
+        found,
+        (Err(disk), Some(broken), Err(disk)),
+        "a disk that fails"
+    );
+    Ok(())
+}
