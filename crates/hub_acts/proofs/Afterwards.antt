@@ -1,5 +1,5 @@
 -- What is carried out after look-ups that did nothing.
-use Rattle.std.proofs.Common.{◌≡◌, ◌⊎◌, inl, inr, Result, Ok, Err, sym, subst, ap, ◌∙◌}
+use Rattle.std.proofs.Common.{◌≡◌, inl, inr, Result, Ok, Err, sym, subst, ap, ◌∙◌}
 use Rattle.hub_tables.specs.Sets.{Rising}
 use Rattle.hub_tables.specs.Tables.{Tables}
 use Rattle.hub_store.specs.declared.fault.StoreFault.{StoreFault}

@@ -1,11 +1,10 @@
 -- What is looked up in the rows of a supplier tells of them what a judge asks.
-use Rattle.std.proofs.Common.{◌≡◌, ℕ, ◌+◌, Bool, true, false, cond, inl, inr, List, [], ◌∷◌, length, filter, map, Option, Some, None, option_map, refl, sym, subst, ◌∙◌, ap, arith}
+use Rattle.std.proofs.Common.{◌≡◌, ℕ, ◌+◌, Bool, true, false, cond, inl, inr, List, [], ◌∷◌, length, filter, Option, Some, None, option_map, refl, sym, subst, ◌∙◌, ap, arith}
 use Rattle.std.specs.List.{AllByRecursion, last_or}
 use Rattle.std.specs.Option.{unwrap_or}
 use Rattle.hub_tables.specs.Rows.{same}
-use Rattle.hub_tables.specs.State.{lines_of, despatched, last_mail}
+use Rattle.hub_tables.specs.State.{lines_of, last_mail}
 use Rattle.hub_tables.specs.Tables.{Tables}
-use Rattle.hub_tables.specs.declared.rows.LineRow.{LineRow}
 use Rattle.hub_tables.specs.declared.rows.MailRow.{MailRow}
 use Rattle.hub_tables.proofs.Lists.{decide, all_filter}
 use Rattle.hub_lines.specs.declared.facts.LineFacts.{LineFacts}

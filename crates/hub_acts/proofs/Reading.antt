@@ -1,7 +1,7 @@
 -- What is read of a message, and what comes of it.
-use Rattle.std.proofs.Common.{◌≡◌, ℕ, List, Option, Some, None, Ok, Err, refl, sym, ap, ap₂, ◌∙◌}
+use Rattle.std.proofs.Common.{◌≡◌, Option, Some, None, Ok, sym, ap}
 use Rattle.edi_envelope.specs.declared.interchange.RawMessage.{RawMessage}
-use Rattle.edi_messages.specs.Fault.{unless, judged}
+use Rattle.edi_messages.specs.Fault.{unless}
 use Rattle.edi_messages.specs.declared.fault.MessageFault.{MessageFault}
 use Rattle.edi_orders.specs.Order as orders
 use Rattle.edi_orders.specs.declared.order.Order.{Order}

@@ -1,6 +1,5 @@
-use Rattle.std.proofs.Common.{◌≡◌, sym, subst, ap, ◌∙◌}
+use Rattle.std.proofs.Common.{sym, subst, ap, ◌∙◌}
 use Rattle.hub_parties.specs.Rows.{supplier_row}
-use Rattle.hub_parties.specs.declared.row.SupplierRow.{SupplierRow}
 use Rattle.hub_rules.specs.Rules.{judge_receipt}
 use Rattle.hub_rules.specs.Sound.{Kept}
 use Rattle.hub_rules.specs.declared.verdict.Verdict.{Verdict}

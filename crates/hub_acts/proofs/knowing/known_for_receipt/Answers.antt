@@ -1,4 +1,4 @@
-use Rattle.std.proofs.Common.{◌≡◌, map, sym, ap₂, ◌∙◌}
+use Rattle.std.proofs.Common.{map, sym, ap₂, ◌∙◌}
 use Rattle.hub_tables.specs.State.{pallet_of}
 use Rattle.hub_tables.specs.Tables.{view}
 use Rattle.hub_acts.proofs.LookUps.{mails_known}

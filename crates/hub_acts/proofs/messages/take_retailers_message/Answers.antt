@@ -1,4 +1,4 @@
-use Rattle.std.proofs.Common.{◌≡◌, sym, ap, ◌∙◌}
+use Rattle.std.proofs.Common.{sym, ap, ◌∙◌}
 use Rattle.hub_law.specs.Messages.{incoming, named}
 use Rattle.hub_law.specs.Requests.{deliver_named}
 use Rattle.hub_texts.specs.Told.{told_of}

@@ -1,4 +1,4 @@
-use Rattle.std.proofs.Common.{◌≡◌, sym, ap, ◌∙◌}
+use Rattle.std.proofs.Common.{sym, ap, ◌∙◌}
 use Rattle.hub_parties.specs.Rows.{parties_of}
 use Rattle.hub_tables.specs.Tables.{view}
 use Rattle.hub_law.specs.Messages.{incoming, deliver_suppliers}

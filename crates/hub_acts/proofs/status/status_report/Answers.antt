@@ -1,4 +1,4 @@
-use Rattle.std.proofs.Common.{◌≡◌, [], ◌++◌, codes, sym, subst, ap, ap₂, ◌∙◌}
+use Rattle.std.proofs.Common.{◌++◌, codes, sym, subst, ap, ap₂, ◌∙◌}
 use Rattle.std.specs.List.{AllByRecursion, flat_map}
 use Rattle.hub_tables.specs.Tables.{view}
 use Rattle.hub_rules.specs.Sound.{Balanced}
