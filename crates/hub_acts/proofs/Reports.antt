@@ -9,7 +9,7 @@ pub report_is : (state : Tables) → status_text state ≡ flat_map (line_text s
 unfolding status_text
 report_is state = refl
 
--- what is first behind some of a list is in it
+-- what is first after some of a list is in it
 pub has_at : {X : Type 0} (xs : List X) (i : ℕ) (x : X) (rest : List X) → drop i xs ≡ x ∷ rest → Has xs x
 has_at [] zero x rest e = cc
 has_at [] (suc i) x rest e = cc

@@ -13,7 +13,7 @@ use Rattle.hub_tables.specs.declared.rows.LineRow.{LineRow}
 use Rattle.hub_lines.specs.Book.{facts_cmp}
 use Rattle.hub_lines.specs.declared.facts.LineFacts.{LineFacts}
 use Rattle.hub_judges.specs.Known.{rows}
-use Rattle.hub_texts.specs.Items.{place_cmp}
+use Rattle.hub_texts.specs.Articles.{place_cmp}
 use Rattle.hub_acts.specs.Facts.{steps_up}
 
 place_total : IsTotalOrder place_cmp

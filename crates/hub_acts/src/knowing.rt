@@ -141,7 +141,7 @@ pub(crate) fn known_for_cancel<S: Store>(
     Ok(known)
 }
 
-// Puts a pallet, or that there is none, behind others.
+// Puts a pallet, or that there is none, after others.
 fn put_pallet(
     pallets: &mut Items<Option<PalletRow>>,
     pallet: Option<PalletRow>,

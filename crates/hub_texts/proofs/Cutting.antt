@@ -23,9 +23,9 @@ first_cut (b ∷ bs) n at within =
           subst (λ k. onto_first b (slice_split is_end bs) ≡ take k (b ∷ bs) ∷ slice_split is_end (drop 1 (drop k (b ∷ bs)))) (sym is) (ap (onto_first b) (first_cut bs m refl short))
     ] at
 
-pub cut_at : (text line rest : List ℕ) (n first : ℕ) (behind : List ℕ) → n ≡ prefix_len inside text → line ≡ take n text → rest ≡ drop n text → rest ≡ first ∷ behind → slice_split is_end text ≡ line ∷ slice_split is_end behind
-cut_at text line rest n first behind is front back two =
-    let long : length (drop n text) ≡ suc (length behind) = ap length (sym back ∙ two) in
+pub cut_at : (text line rest : List ℕ) (n first : ℕ) (after : List ℕ) → n ≡ prefix_len inside text → line ≡ take n text → rest ≡ drop n text → rest ≡ first ∷ after → slice_split is_end text ≡ line ∷ slice_split is_end after
+cut_at text line rest n first after is front back two =
+    let long : length (drop n text) ≡ suc (length after) = ap length (sym back ∙ two) in
     let within : n < length text = omega (arith, length-drop n text, long) in
     first_cut text n is within ∙ ap₂ (λ one more. one ∷ slice_split is_end more) (sym front) (ap (drop 1) (sym back ∙ two))
 
@@ -48,9 +48,9 @@ cut_somewhere (b ∷ bs) =
     ]
 
 -- more than five lines say no cancellation
-pub more_behind : (a b c d e rest : List ℕ) → 0 < length rest → cancel_in (a ∷ b ∷ c ∷ d ∷ e ∷ slice_split is_end rest) ≡ None
-more_behind a b c d e [] some = absurd (omega arith)
-more_behind a b c d e (x ∷ xs) some =
+pub more_after : (a b c d e rest : List ℕ) → 0 < length rest → cancel_in (a ∷ b ∷ c ∷ d ∷ e ∷ slice_split is_end rest) ≡ None
+more_after a b c d e [] some = absurd (omega arith)
+more_after a b c d e (x ∷ xs) some =
     let cut = cut_somewhere xs in
     elim (is_end x) as (λ v. cancel_in (a ∷ b ∷ c ∷ d ∷ e ∷ cond v ([] ∷ slice_split is_end xs) (onto_first x (slice_split is_end xs))) ≡ None) [
       | true ↦ ap (λ parts. cancel_in (a ∷ b ∷ c ∷ d ∷ e ∷ [] ∷ parts)) cut.2

@@ -13,7 +13,7 @@ use Rattle.hub_tables.specs.declared.rows.LineRow.{LineRow}
 use Rattle.hub_tables.proofs.Lists.{all_passes, same_is}
 use Rattle.hub_rules.specs.Sound.{Sound}
 use Rattle.hub_rules.proofs.Rising.{view_rises}
-use Rattle.hub_texts.specs.Items.{place_cmp}
+use Rattle.hub_texts.specs.Articles.{place_cmp}
 
 abbrev OfOne : List ℕ → List LineRow → Type 0
 OfOne gln rows = AllByRecursion (λ (row : LineRow). same row.supplier gln ≡ true) rows

@@ -1,4 +1,4 @@
--- Tables of items with one content or one receipt more.
+-- Tables of articles with one content or one receipt more.
 use Rattle.std.proofs.Common.{◌≡◌, ℕ, ◌+◌, ◌-◌, ◌<◌, ◌≤◌, Bool, true, false, cond, ◌||◌, inl, inr, List, [], ◌∷◌, ◌++◌, length, get_or, drop, map, filter, sum_by, Some, refl, sym, ap, ap₂, ◌∙◌, subst, arith}
 use Rattle.std.specs.BTreeMap.{insert_entry}
 use Rattle.std.specs.List.{AllByRecursion, list_any}
@@ -20,8 +20,8 @@ use Rattle.hub_tables.specs.declared.rows.ReceiptRow.{ReceiptRow}
 use Rattle.hub_tables.proofs.KeyOrder.{all_put, any_put}
 use Rattle.hub_tables.proofs.Lists.{decide, same_is, same_if, all_weaker}
 use Rattle.hub_law.specs.StatusText.{with_article, in_digit_order}
-use Rattle.hub_texts.specs.Items.{item_in}
-use Rattle.hub_texts.specs.Totals.{Table, nothing, totals_at, with_content, with_receipt, count_content, count_receipt, totals_of, items_of, table_of}
+use Rattle.hub_texts.specs.Articles.{article_in}
+use Rattle.hub_texts.specs.Totals.{Table, nothing, totals_at, with_content, with_receipt, count_content, count_receipt, totals_of, articles_of, table_of}
 use Rattle.hub_texts.specs.declared.totals.Totals.{Totals}
 
 or_false : (a b : Bool) → (a || b) ≡ false → (a ≡ false) × (b ≡ false)
@@ -47,7 +47,7 @@ none_above : (x : List ℕ) (ys : List (List ℕ)) → AllByRecursion (λ z. byt
 none_above x [] all = refl
 none_above x (y ∷ ys) all = ap₂ (λ a b. a || b) (below_differs x y all.0) (none_above x ys all.1)
 
--- One item more.
+-- One article more.
 
 with_below : (x y : List ℕ) (ys : List (List ℕ)) → bytes_cmp x y ≡ Less → AllByRecursion (λ z. bytes_cmp y z ≡ Less) ys → with_article x (y ∷ ys) ≡ x ∷ y ∷ ys
 with_below x y ys h all =
@@ -78,7 +78,7 @@ order_rises : (xs : List (List ℕ)) → Rises bytes_cmp (in_digit_order xs)
 order_rises [] = tt
 order_rises (x ∷ xs) = with_rises x (in_digit_order xs) (order_rises xs)
 
--- an item that is not in the order is none of the items
+-- an article that is not in the order is none of the articles
 not_ordered : (x : List ℕ) (xs : List (List ℕ)) → list_any (same x) (in_digit_order xs) ≡ false → list_any (same x) xs ≡ false
 not_ordered x [] none = refl
 not_ordered x (y ∷ ys) none =
@@ -95,7 +95,7 @@ not_ordered x (y ∷ ys) none =
           ap₂ (λ a b. a || b) (or_false (same x y) false parts.1).0 (not_ordered x ys parts.0)
     ]
 
--- Tables of these items, each with what a function gives.
+-- Tables of these articles, each with what a function gives.
 
 abbrev entries : (List ℕ → Totals) → List (List ℕ) → Table
 entries f keys = map (λ key. (key, f key)) keys
@@ -104,7 +104,7 @@ alike : (f g : List ℕ → Totals) (x : List ℕ) → ((key : List ℕ) → sam
 alike f g x others [] all = refl
 alike f g x others (key ∷ keys) all = ap₂ (λ t rest. (key, t) ∷ rest) (sym (others key (below_differs x key all.0))) (alike f g x others keys all.1)
 
--- one with other totals, where the item gets them and the others keep theirs
+-- one with other totals, where the article gets them and the others keep theirs
 put_totals : (x : List ℕ) (v : Totals) (f g : List ℕ → Totals) → g x ≡ v → ((key : List ℕ) → same x key ≡ false → g key ≡ f key) → (keys : List (List ℕ)) → Rises bytes_cmp keys →
     insert_entry bytes_cmp (entries f keys) x v ≡ entries g (with_article x keys)
 put_totals x v f g here others [] rise = ap (λ t. (x, t) ∷ []) (sym here)
@@ -123,7 +123,7 @@ put_totals x v f g here others (y ∷ ys) rise =
           ∙ ap (entries g) (sym (with_above x y ys e))
     ] refl
 
--- what a table has of an item, where one that it has not gets nothing
+-- what a table has of an article, where one that it has not gets nothing
 found : (x : List ℕ) (f : List ℕ → Totals) (keys : List (List ℕ)) → (list_any (same x) keys ≡ false → f x ≡ nothing) → totals_at (entries f keys) x ≡ f x
 found x f [] none = sym (none refl)
 found x f (y ∷ ys) none =
@@ -144,19 +144,19 @@ any_append p (x ∷ xs) ys = elim (p x) as (λ v. (v || list_any p (xs ++ ys)) �
 same_back : (x y : List ℕ) → same x y ≡ false → same y x ≡ false
 same_back x y h = elim (decide (same y x)) [ inl e ↦ absurd (cc (same_if x y (sym (same_is y x e)), h)) | inr e ↦ e ]
 
-none_of : {X : Type 0} (item : X → List ℕ) (x : List ℕ) (rows : List X) → list_any (same x) (map item rows) ≡ false → filter (λ row. same (item row) x) rows ≡ []
-none_of item x [] none = refl
-none_of item x (row ∷ rows) none =
-    let parts = or_false (same x (item row)) (list_any (same x) (map item rows)) none in
-    ap (λ v. cond v (row ∷ filter (λ row. same (item row) x) rows) (filter (λ row. same (item row) x) rows)) (same_back x (item row) parts.0) ∙ none_of item x rows parts.1
+none_of : {X : Type 0} (article : X → List ℕ) (x : List ℕ) (rows : List X) → list_any (same x) (map article rows) ≡ false → filter (λ row. same (article row) x) rows ≡ []
+none_of article x [] none = refl
+none_of article x (row ∷ rows) none =
+    let parts = or_false (same x (article row)) (list_any (same x) (map article rows)) none in
+    ap (λ v. cond v (row ∷ filter (λ row. same (article row) x) rows) (filter (λ row. same (article row) x) rows)) (same_back x (article row) parts.0) ∙ none_of article x rows parts.1
 
 -- what is neither announced nor received has no totals
-no_totals : (lines : List LineRow) (contents : List ContentRow) (receipts : List ReceiptRow) (x : List ℕ) → list_any (same x) (items_of lines contents receipts) ≡ false → totals_of lines contents receipts x ≡ nothing
+no_totals : (lines : List LineRow) (contents : List ContentRow) (receipts : List ReceiptRow) (x : List ℕ) → list_any (same x) (articles_of lines contents receipts) ≡ false → totals_of lines contents receipts x ≡ nothing
 no_totals lines contents receipts x none =
-    let items = map (item_in lines) contents in
+    let articles = map (article_in lines) contents in
     let gtins = map (λ (receipt : ReceiptRow). receipt.gtin) receipts in
-    let parts = or_false (list_any (same x) items) (list_any (same x) gtins) (sym (any_append (same x) items gtins) ∙ not_ordered x (items ++ gtins) none) in
-    let despatched = none_of (item_in lines) x contents parts.0 in
+    let parts = or_false (list_any (same x) articles) (list_any (same x) gtins) (sym (any_append (same x) articles gtins) ∙ not_ordered x (articles ++ gtins) none) in
+    let despatched = none_of (article_in lines) x contents parts.0 in
     let received = none_of (λ (receipt : ReceiptRow). receipt.gtin) x receipts parts.1 in
     λ i. record {
       despatched = sum_by (λ (content : ContentRow). content.quantity) (despatched i);
@@ -165,9 +165,9 @@ no_totals lines contents receipts x none =
       destroyed = sum_by (λ (receipt : ReceiptRow). receipt.destroyed) (received i);
     }
 
--- what a table has of an item
+-- what a table has of an article
 pub totals_known : (lines : List LineRow) (contents : List ContentRow) (receipts : List ReceiptRow) (x : List ℕ) → totals_at (table_of lines contents receipts) x ≡ totals_of lines contents receipts x
-totals_known lines contents receipts x = found x (totals_of lines contents receipts) (items_of lines contents receipts) (no_totals lines contents receipts x)
+totals_known lines contents receipts x = found x (totals_of lines contents receipts) (articles_of lines contents receipts) (no_totals lines contents receipts x)
 
 -- the sum of what passes with one row more
 sum_with : {X : Type 0} (test : X → Bool) (size : X → ℕ) (row : X) (rows : List X) → test row ≡ true → sum_by size (filter test (row ∷ rows)) ≡ sum_by size (filter test rows) + size row
@@ -183,15 +183,15 @@ sum_without test size row rows h = ap (λ v. sum_by size (cond v (row ∷ filter
 -- a table with one content more
 content_counted : (lines : List LineRow) (content : ContentRow) (contents : List ContentRow) (receipts : List ReceiptRow) → count_content lines content (table_of lines contents receipts) ≡ table_of lines (content ∷ contents) receipts
 content_counted lines content contents receipts =
-    let x = item_in lines content in
+    let x = article_in lines content in
     let old = totals_of lines contents receipts in
     let new = totals_of lines (content ∷ contents) receipts in
-    let keys = items_of lines contents receipts in
+    let keys = articles_of lines contents receipts in
     let size = λ (content : ContentRow). content.quantity in
-    let here : new x ≡ with_content content (old x) = λ i. record (old x) { despatched = sum_with (λ content. same (item_in lines content) x) size content contents (same_if x x refl) i } in
-    let others : (key : List ℕ) → same x key ≡ false → new key ≡ old key = λ key h. λ i. record (old key) { despatched = sum_without (λ content. same (item_in lines content) key) size content contents h i } in
+    let here : new x ≡ with_content content (old x) = λ i. record (old x) { despatched = sum_with (λ content. same (article_in lines content) x) size content contents (same_if x x refl) i } in
+    let others : (key : List ℕ) → same x key ≡ false → new key ≡ old key = λ key h. λ i. record (old key) { despatched = sum_without (λ content. same (article_in lines content) key) size content contents h i } in
     ap (λ t. insert_entry bytes_cmp (entries old keys) x (with_content content t)) (totals_known lines contents receipts x)
-    ∙ put_totals x (with_content content (old x)) old new here others keys (order_rises (map (item_in lines) contents ++ map (λ (receipt : ReceiptRow). receipt.gtin) receipts))
+    ∙ put_totals x (with_content content (old x)) old new here others keys (order_rises (map (article_in lines) contents ++ map (λ (receipt : ReceiptRow). receipt.gtin) receipts))
 
 -- a table with one receipt more
 receipt_counted : (lines : List LineRow) (receipt : ReceiptRow) (receipts : List ReceiptRow) → count_receipt receipt (table_of lines [] receipts) ≡ table_of lines [] (receipt ∷ receipts)
@@ -199,7 +199,7 @@ receipt_counted lines receipt receipts =
     let x = receipt.gtin in
     let old = totals_of lines [] receipts in
     let new = totals_of lines [] (receipt ∷ receipts) in
-    let keys = items_of lines [] receipts in
+    let keys = articles_of lines [] receipts in
     let here : new x ≡ with_receipt receipt (old x) = λ i. record {
       despatched = 0;
       accepted = sum_with (λ (r : ReceiptRow). same r.gtin x) (λ r. r.accepted) receipt receipts (same_if x x refl) i;

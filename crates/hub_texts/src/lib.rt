@@ -2,10 +2,10 @@
 //! report, and cancellations, which are read here too.
 #![tactic(auto)]
 
+mod articles;
 mod cancel;
 mod fault;
 mod fields;
-mod items;
 mod laws;
 mod lines;
 mod mail;
