@@ -8,7 +8,7 @@ use Rattle.edi_tokens.specs.declared.segment.Segment.{Segment}
 use Rattle.edi_tokens.specs.Characters.{is_data, is_special, is_capital, is_digit, is_line_end}
 use Rattle.edi_tokens.specs.Service.{usual, una_tag, service_of}
 use Rattle.edi_tokens.specs.Spelling.{segment_limit, Each, Behind, Before, SpellsByte, SpellsComponent, SpellsElement, SpellsSegment, SpellsNext, SpellsWhole, LineEnds, IsTag, tags, Advice, Advises, advice_text, without_empty_end}
-use Rattle.edi_tokens.specs.Reading.{Open, opened, with_byte, with_component, with_element, with_release, closed_elements}
+use Rattle.edi_tokens.specs.Reading.{Open, with_tag, with_byte, with_component, with_element, with_release, closed_elements}
 use Rattle.edi_tokens.specs.Fault.{is_fresh, EndsOutside, EndsInService, EndsInTag, IsTagFront, SpellsOpen, EndsInData, EndsReleased}
 use Rattle.edi_tokens.proofs.Parts.{Each-push, LineEnds-push, grows}
 
@@ -136,7 +136,7 @@ advises_more None s [] tag fresh e advises not_una = (advises.0, not_una e)
 advises_more None s (x ∷ xs) tag fresh e advises not_una = advises
 advises_more (Some a) s segments tag fresh e advises not_una = advises
 
-pub segment_opens : (text : List ℕ) (s : Service) (segments : List Segment) (fresh : Bool) (tag : List ℕ) (b : ℕ) → EndsInTag text s segments fresh tag → 3 ≤ length tag → b ≡ s.element → EndsInData (text ++ b ∷ []) s segments (opened tag)
+pub segment_opens : (text : List ℕ) (s : Service) (segments : List Segment) (fresh : Bool) (tag : List ℕ) (b : ℕ) → EndsInTag text s segments fresh tag → 3 ≤ length tag → b ≡ s.element → EndsInData (text ++ b ∷ []) s segments (with_tag tag)
 segment_opens text s segments fresh tag b e long is_element =
     let is = whole_tag tag e.tag_is long in
     let three = tag_length tag is in
