@@ -12,7 +12,7 @@ use Rattle.edi_tokens.specs.Text.{text, is_usual, byte_text, component_text, seg
 use Rattle.edi_envelope.specs.declared.interchange.RawMessage.{RawMessage}
 use Rattle.edi_tokens.specs.declared.segment.Segment.{Segment}
 use Rattle.edi_envelope.specs.Moment.{date_text, time_text, day_of, two_digits}
-use Rattle.edi_envelope.specs.Mail.{renumbered, unb_from, unz_of, mail_segments, mail_body}
+use Rattle.edi_envelope.specs.Mail.{renumbered, unb_from, unz_of, mail_segments, mail_interchange}
 
 -- each byte is a digit
 abbrev pub AreDigits : List ℕ → Type 0
@@ -89,7 +89,7 @@ parts_text hub owner date time number message h o d t n =
     ∙ ap (λ last. (codes "UNB+UNOC:3+" ++ (hub ++ codes ":14+" ++ owner ++ codes ":14+" ++ date ++ codes ":" ++ time ++ codes "+" ++ number ++ codes "'")) ++ (text message ++ (last ++ []))) unz
     ∙ regroup_all (codes "UNB+UNOC:3+") hub (codes ":14+") owner (codes ":14+") date (codes ":") time (codes "+") number (codes "'") (text message) (codes "UNZ+1+")
 
-pub text-mail_segments : (hub owner : List ℕ) (moment number : ℕ) (message : RawMessage) → AreDigits hub → AreDigits owner → number < 2 ^ 64 → text (mail_segments hub owner moment number message) ≡ mail_body hub owner moment number message
+pub text-mail_segments : (hub owner : List ℕ) (moment number : ℕ) (message : RawMessage) → AreDigits hub → AreDigits owner → number < 2 ^ 64 → text (mail_segments hub owner moment number message) ≡ mail_interchange hub owner moment number message
 text-mail_segments hub owner moment number message h o small =
     parts_text hub owner (date_text moment) (time_text moment) (decimal number) (map renumbered message.segments)
     (component_text-digits hub h) (component_text-digits owner o) (component_text-digits _ (AreDigits-date moment)) (component_text-digits _ (AreDigits-time moment)) (component_text-digits _ (AreDigits-decimal number small))
