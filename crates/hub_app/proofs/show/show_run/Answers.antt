@@ -8,9 +8,9 @@ returns-in-Ok-write_bytes-clause-stands g c = λ _. stands (g.R.Source.remaining
 
 pub returns-in-Ok-write_bytes-clause-shown : goal.returns-in-Ok-write_bytes-clause-shown
 returns-in-Ok-write_bytes-clause-shown g c = λ _. (
-  is_shown (g.R.Source.remaining c.args.input.now) c.in-Ok-told_text.told.status (g.W.Sink.contents c.args.out.now) (g.W.Sink.contents c.write_bytes.new.out)
-      c.in-Ok.text.items c.as_slice.result.now c.as_slice-lines.result.now c.in-Ok.ensures.whole c.as_slice.ensures.value c.in-Ok-told_text.ensures.status
-      (c.as_slice-lines.ensures.value ∙ c.in-Ok-told_text.ensures.lines) c.in-Ok-write_bytes.ensures.ok,
+  is_shown (g.R.Source.remaining c.args.input.now) c.in-Ok-report_of.report.status (g.W.Sink.contents c.args.out.now) (g.W.Sink.contents c.write_bytes.new.out)
+      c.in-Ok.text.items c.as_slice.result.now c.as_slice-lines.result.now c.in-Ok.ensures.whole c.as_slice.ensures.value c.in-Ok-report_of.ensures.status
+      (c.as_slice-lines.ensures.value ∙ c.in-Ok-report_of.ensures.lines) c.in-Ok-write_bytes.ensures.ok,
   Keeps-refl (g.E.Sink.contents c.args.err.now),
 )
 
@@ -21,7 +21,7 @@ returns-clause-failed g c = λ _. inl (
     c.in-Err-write_bytes.ensures.failed,
     is_front_shown (g.R.Source.remaining c.args.input.now) (g.W.Sink.contents c.args.out.now) (g.W.Sink.contents c.write_bytes.new.out)
         c.in-Ok.text.items c.as_slice.result.now c.as_slice-lines.result.now c.in-Ok.ensures.whole c.as_slice.ensures.value
-        (c.as_slice-lines.ensures.value ∙ c.in-Ok-told_text.ensures.lines) c.in-Err-write_bytes.ensures.err,
+        (c.as_slice-lines.ensures.value ∙ c.in-Ok-report_of.ensures.lines) c.in-Err-write_bytes.ensures.err,
   ),
 )
 
