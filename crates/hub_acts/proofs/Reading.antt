@@ -25,5 +25,7 @@ unfolding receipts.receipt_of
 receipt_names message receipt e = ap (λ receipt. receipt.supplier) (content_of _ (receipts.contents_of message.segments) receipt e)
 
 -- what was read is judged
-pub act_of_read : {X : Type 0} (judge : X → Verdict) (read : X) (verdict : Verdict) (t : Tables) → verdict ≡ judge read → read_act (Ok read) judge t ≡ act verdict t
+pub act_of_read : {X : Type 0} (judge : X → Verdict) (read : X) (verdict : Verdict) (t : Tables)
+    → verdict ≡ judge read
+    → read_act (Ok read) judge t ≡ act verdict t
 act_of_read judge read verdict t e = ap (λ v. act v t) (sym e)

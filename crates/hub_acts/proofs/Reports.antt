@@ -5,7 +5,8 @@ use Rattle.hub_tables.specs.Sets.{Has}
 use Rattle.hub_tables.specs.Tables.{Tables}
 use Rattle.hub_law.specs.StatusText.{line_text, pallet_text, status_text}
 
-pub report_is : (state : Tables) → status_text state ≡ flat_map (line_text state) state.lines ++ flat_map (pallet_text state) state.pallets ++ codes "end\n"
+pub report_is : (state : Tables)
+    → status_text state ≡ flat_map (line_text state) state.lines ++ flat_map (pallet_text state) state.pallets ++ codes "end\n"
 unfolding status_text
 report_is state = refl
 

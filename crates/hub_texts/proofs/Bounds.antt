@@ -1,5 +1,6 @@
 -- Sums of articles against those of all contents and receipts.
-use Rattle.std.proofs.Common.{◌≡◌, ℕ, ◌+◌, ◌-◌, ◌^◌, ◌<◌, ◌≤◌, Bool, true, false, cond, not, ◌||◌, inl, inr, List, [], ◌∷◌, length, get_or, drop, filter, sum_by, zero, suc, ap, ◌∙◌, arith}
+use Rattle.std.proofs.Common.{◌≡◌, ℕ, ◌+◌, ◌-◌, ◌^◌, ◌<◌, ◌≤◌, Bool, true, false, cond, not, ◌||◌, inl, inr, List, [], ◌∷◌}
+use Rattle.std.proofs.Common.{length, get_or, drop, filter, sum_by, zero, suc, ap, ◌∙◌, arith}
 use Rattle.std.specs.List.{list_any}
 use Rattle.std.specs.Option.{is_some}
 use Rattle.std.proofs.lemmas.Bool.{or_right}
@@ -33,15 +34,27 @@ any_drop test zero rows h = h
 any_drop test (suc n) [] h = h
 any_drop test (suc n) (row ∷ rows) h = or_right (test row) (list_any test rows) (any_drop test n rows h)
 
-sum_three : {X : Type 0} (a b c : X → ℕ) (rows : List X) → sum_by a rows + sum_by b rows + sum_by c rows ≡ sum_by (λ row. a row + b row + c row) rows
+sum_three : {X : Type 0} (a b c : X → ℕ) (rows : List X)
+    → sum_by a rows + sum_by b rows + sum_by c rows ≡ sum_by (λ row. a row + b row + c row) rows
 sum_three a b c [] = omega arith
 sum_three a b c (row ∷ rows) =
     let rest = sum_three a b c rows in
-    omega (arith, rest, sum_by-cons a row rows, sum_by-cons b row rows, sum_by-cons c row rows, sum_by-cons (λ row. a row + b row + c row) row rows)
+    omega (
+      arith,
+      rest,
+      sum_by-cons a row rows,
+      sum_by-cons b row rows,
+      sum_by-cons c row rows,
+      sum_by-cons (λ row. a row + b row + c row) row rows,
+    )
 
 -- a content that cannot be counted after those from a place on
-pub unclean_content : (lines : List LineRow) (contents : List ContentRow) (receipts : List ReceiptRow) (left : ℕ) (content : ContentRow) (table : Table) → 0 < left → left ≤ length contents → content ≡ get_or contents (left - 1) content →
-    table ≡ table_of lines (drop left contents) receipts → Uncounted lines content table → IsUnclean lines contents receipts
+pub unclean_content : (lines : List LineRow) (contents : List ContentRow) (receipts : List ReceiptRow) (left : ℕ)
+    (content : ContentRow) (table : Table)
+    → 0 < left
+    → left ≤ length contents
+    → content ≡ get_or contents (left - 1) content
+    → table ≡ table_of lines (drop left contents) receipts → Uncounted lines content table → IsUnclean lines contents receipts
 unclean_content lines contents receipts left content table some within is so_far h =
     let size = λ (content : ContentRow). content.quantity in
     let rest = drop left contents in
@@ -56,14 +69,20 @@ unclean_content lines contents receipts left content table some within is so_far
           let known : (totals_at table x).despatched ≡ sum_by size (filter (λ content. same (article_in lines content) x) rest) =
           ap (λ table. (totals_at table x).despatched) so_far ∙ ap (λ (t : Totals). t.despatched) (totals_known lines rest receipts x) in
           let of_article = sum_filter (λ (content : ContentRow). same (article_in lines content) x) size rest in
-          let with_it : sum_by size (drop (left - 1) contents) ≡ size content + sum_by size rest = ap (sum_by size) from ∙ sum_by-cons size content rest in
+          let with_it : sum_by size (drop (left - 1) contents) ≡ size content + sum_by size rest =
+          ap (sum_by size) from ∙ sum_by-cons size content rest in
           let part = sum_drop size (left - 1) contents in
           inr (inl (omega (arith, big, known, of_article, with_it, part)))
     ]
 
 -- a receipt that cannot be counted after those from a place on
-pub unclean_receipt : (lines : List LineRow) (receipts : List ReceiptRow) (left : ℕ) (receipt : ReceiptRow) (table : Table) → 0 < left → left ≤ length receipts → receipt ≡ get_or receipts (left - 1) receipt →
-    table ≡ table_of lines [] (drop left receipts) → 2 ^ 64 ≤ received (totals_at table receipt.gtin) + pieces_of receipt → 2 ^ 64 ≤ sum_by pieces_of receipts
+pub unclean_receipt : (lines : List LineRow) (receipts : List ReceiptRow) (left : ℕ) (receipt : ReceiptRow) (table : Table)
+    → 0 < left
+    → left ≤ length receipts
+    → receipt ≡ get_or receipts (left - 1) receipt
+    → table ≡ table_of lines [] (drop left receipts)
+    → 2 ^ 64 ≤ received (totals_at table receipt.gtin) + pieces_of receipt
+    → 2 ^ 64 ≤ sum_by pieces_of receipts
 unclean_receipt lines receipts left receipt table some within is so_far big =
     let x = receipt.gtin in
     let rest = drop left receipts in
@@ -73,6 +92,7 @@ unclean_receipt lines receipts left receipt table some within is so_far big =
     ap (λ table. received (totals_at table x)) so_far ∙ ap received (totals_known lines [] rest x)
     ∙ sum_three (λ (receipt : ReceiptRow). receipt.accepted) (λ receipt. receipt.returned) (λ receipt. receipt.destroyed) of_article in
     let below = sum_filter (λ (receipt : ReceiptRow). same receipt.gtin x) pieces_of rest in
-    let with_it : sum_by pieces_of (drop (left - 1) receipts) ≡ pieces_of receipt + sum_by pieces_of rest = ap (sum_by pieces_of) from ∙ sum_by-cons pieces_of receipt rest in
+    let with_it : sum_by pieces_of (drop (left - 1) receipts) ≡ pieces_of receipt + sum_by pieces_of rest =
+    ap (sum_by pieces_of) from ∙ sum_by-cons pieces_of receipt rest in
     let part = sum_drop pieces_of (left - 1) receipts in
     omega (arith, big, known, below, with_it, part)

@@ -17,5 +17,8 @@ returns-clause-told g c = λ honest kept.
     record {
       remembered = cc;
       mails = cc;
-      pallets = ap₂ (λ t units. map (λ unit. pallet_of (view supplier t) unit.sscc) units) (sym (two ∙ one)) (sym c.as_slice-units.ensures) ∙ c.in_ok-pallets.ensures.found honest;
+      pallets =
+          ap₂ (λ t units. map (λ unit. pallet_of (view supplier t) unit.sscc) units) (sym (two ∙ one))
+          (sym c.as_slice-units.ensures)
+          ∙ c.in_ok-pallets.ensures.found honest;
     }

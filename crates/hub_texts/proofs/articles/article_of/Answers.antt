@@ -10,8 +10,10 @@ returns-in-Some c =
     let lines = c.args.lines.now in
     let place = c.count_before.result in
     let row = c.in-Some.row.now in
-    let at : slice_get lines place ≡ Some row = slice_get-get_or lines place row c.in-Some.ensures.lookup.3.0 ∙ ap Some (sym c.in-Some.ensures.lookup.1) in
-    sym (ap (option_map (λ (row : LineRow). row.gtin)) (named_at lines c.args.content.now place c.requires c.count_before.ensures (Some row) at
+    let at : slice_get lines place ≡ Some row =
+    slice_get-get_or lines place row c.in-Some.ensures.lookup.3.0 ∙ ap Some (sym c.in-Some.ensures.lookup.1) in
+    sym (ap (option_map (λ (row : LineRow). row.gtin)) (named_at lines c.args.content.now place c.requires
+    c.count_before.ensures (Some row) at
     ∙ ap (λ v. cond v (Some row) None) (sym c.is_named.ensures ∙ c.if-is_named.true)))
 
 pub returns-in_default : goal.returns-in_default
@@ -21,8 +23,10 @@ returns-in_default c =
     elim c.in_default.branch [
       | in_default-via-in-Some+else-is_named w ↦
           let row = w.in-Some.row.now in
-          let at : slice_get lines place ≡ Some row = slice_get-get_or lines place row w.in-Some.ensures.lookup.3.0 ∙ ap Some (sym w.in-Some.ensures.lookup.1) in
-          sym (ap (option_map (λ (row : LineRow). row.gtin)) (named_at lines c.args.content.now place c.requires c.count_before.ensures (Some row) at
+          let at : slice_get lines place ≡ Some row =
+          slice_get-get_or lines place row w.in-Some.ensures.lookup.3.0 ∙ ap Some (sym w.in-Some.ensures.lookup.1) in
+          sym (ap (option_map (λ (row : LineRow). row.gtin)) (named_at lines c.args.content.now place c.requires
+          c.count_before.ensures (Some row) at
           ∙ ap (λ v. cond v (Some row) None) (sym w.is_named.ensures ∙ w.if-is_named.false)))
       | in_default-via-in_default w ↦
           sym (ap (option_map (λ (row : LineRow). row.gtin)) (named_at lines c.args.content.now place c.requires c.count_before.ensures None
