@@ -1,5 +1,6 @@
 -- Bytes on their way to a sink, one part after another.
-use Rattle.std.proofs.Common.{◌≡◌, ℕ, List, [], ◌++◌, take, drop, Option, Some, None, Result, Ok, Err, refl, sym, ap, subst, ◌∙◌, append_assoc}
+use Rattle.std.proofs.Common.{◌≡◌, ℕ, List, [], ◌++◌, take, drop, Option, Some, None, Result, Ok, Err, refl, sym, ap, subst}
+use Rattle.std.proofs.Common.{◌∙◌, append_assoc}
 use Rattle.std.proofs.lemmas.List.{append-nil, take-append-drop}
 use Rattle.std.specs.Prelude.{IsErr}
 use Rattle.std.specs.Io.KnownBytes.{Appends, Consumes}
@@ -20,18 +21,25 @@ pub goes_none : (a : Option (List ℕ)) (waiting whole : List ℕ) → Goes a a 
 goes_none a waiting whole = record { front = []; appends = Appends-nil a; parts = refl }
 
 -- one more part was put
-pub goes_put : {a b c : Option (List ℕ)} {waiting left later part ahead whole : List ℕ} → Goes a b waiting left (part ++ ahead) whole → Goes b c left later [] part → Goes a c waiting later ahead whole
+pub goes_put : {a b c : Option (List ℕ)} {waiting left later part ahead whole : List ℕ}
+    → Goes a b waiting left (part ++ ahead) whole
+    → Goes b c left later [] part
+    → Goes a c waiting later ahead whole
 goes_put {a} {b} {c} {waiting} {left} {later} {part} {ahead} {whole} so_far put = record {
   front = so_far.front ++ put.front;
   appends = Appends-then a b c so_far.front put.front so_far.appends put.appends;
   parts =
       append_assoc so_far.front put.front (later ++ ahead)
-      ∙ ap (λ l. so_far.front ++ l) (sym (append_assoc put.front later ahead) ∙ ap (λ l. l ++ ahead) (ap (λ l. put.front ++ l) (sym (append-nil later)) ∙ put.parts) ∙ append_assoc left part ahead)
+      ∙ ap (λ l. so_far.front ++ l) (sym (append_assoc put.front later ahead)
+      ∙ ap (λ l. l ++ ahead) (ap (λ l. put.front ++ l) (sym (append-nil later)) ∙ put.parts)
+      ∙ append_assoc left part ahead)
       ∙ so_far.parts;
 }
 
 -- one more part was begun
-pub goes_cut : {a b c : Option (List ℕ)} {waiting left part whole : List ℕ} (ahead : List ℕ) → Goes a b waiting left (part ++ ahead) whole → ((rest : List ℕ) × Goes b c left [] rest part)
+pub goes_cut : {a b c : Option (List ℕ)} {waiting left part whole : List ℕ} (ahead : List ℕ)
+    → Goes a b waiting left (part ++ ahead) whole
+    → ((rest : List ℕ) × Goes b c left [] rest part)
     → (rest : List ℕ) × Goes a c waiting [] rest whole
 goes_cut {a} {b} {c} {waiting} {left} {part} {whole} ahead so_far cut = (
   cut.0 ++ ahead,
@@ -40,31 +48,50 @@ goes_cut {a} {b} {c} {waiting} {left} {part} {whole} ahead so_far cut = (
     appends = Appends-then a b c so_far.front cut.1.front so_far.appends cut.1.appends;
     parts =
         append_assoc so_far.front cut.1.front (cut.0 ++ ahead)
-        ∙ ap (λ l. so_far.front ++ l) (sym (append_assoc cut.1.front cut.0 ahead) ∙ ap (λ l. l ++ ahead) cut.1.parts ∙ append_assoc left part ahead)
+        ∙ ap (λ l. so_far.front ++ l)
+        (sym (append_assoc cut.1.front cut.0 ahead) ∙ ap (λ l. l ++ ahead) cut.1.parts ∙ append_assoc left part ahead)
         ∙ so_far.parts;
   },
 )
 
 -- what lies ahead, spelled another way
-pub goes_as : {a b : Option (List ℕ)} {waiting left whole : List ℕ} (x y : List ℕ) → x ≡ y → Goes a b waiting left x whole → Goes a b waiting left y whole
+pub goes_as : {a b : Option (List ℕ)} {waiting left whole : List ℕ} (x y : List ℕ)
+    → x ≡ y
+    → Goes a b waiting left x whole
+    → Goes a b waiting left y whole
 goes_as {a} {b} {waiting} {left} {whole} x y e so_far = subst (λ (l : List ℕ). Goes a b waiting left l whole) e so_far
 
 -- what lies ahead, less what was written of it
-pub goes_written : {a b c : Option (List ℕ)} {waiting ahead whole : List ℕ} (n : ℕ) (rest : List ℕ) → Goes a b waiting [] ahead whole → Appends b c (take n ahead) → rest ≡ drop n ahead
+pub goes_written : {a b c : Option (List ℕ)} {waiting ahead whole : List ℕ} (n : ℕ) (rest : List ℕ)
+    → Goes a b waiting [] ahead whole
+    → Appends b c (take n ahead)
+    → rest ≡ drop n ahead
     → Goes a c waiting [] rest whole
 goes_written {a} {b} {c} {waiting} {ahead} {whole} n rest so_far written e = record {
   front = so_far.front ++ take n ahead;
   appends = Appends-then a b c so_far.front (take n ahead) so_far.appends written;
-  parts = append_assoc so_far.front (take n ahead) rest ∙ ap (λ l. so_far.front ++ l) (ap (λ l. take n ahead ++ l) e ∙ take-append-drop n ahead) ∙ so_far.parts;
+  parts =
+      append_assoc so_far.front (take n ahead) rest
+      ∙ ap (λ l. so_far.front ++ l) (ap (λ l. take n ahead ++ l) e ∙ take-append-drop n ahead)
+      ∙ so_far.parts;
 }
 
 -- the last part was put, or begun
-pub puts_last : {E : Type 0} {a b : Option (List ℕ)} {waiting left part whole : List ℕ} (r : Result (Unit {0}) E) (c : Option (List ℕ)) (later : List ℕ) → Goes a b waiting left part whole → Puts r b c left later part → Puts r a c waiting later whole
-puts_last {E} {a} {b} {waiting} {left} {part} {whole} (Ok done) c later so_far put = goes_put (goes_as part (part ++ []) (sym (append-nil part)) so_far) put
-puts_last {E} {a} {b} {waiting} {left} {part} {whole} (Err e) c later so_far cut = goes_cut [] (goes_as part (part ++ []) (sym (append-nil part)) so_far) cut
+pub puts_last : {E : Type 0} {a b : Option (List ℕ)} {waiting left part whole : List ℕ} (r : Result (Unit {0}) E)
+    (c : Option (List ℕ)) (later : List ℕ)
+    → Goes a b waiting left part whole
+    → Puts r b c left later part
+    → Puts r a c waiting later whole
+puts_last {E} {a} {b} {waiting} {left} {part} {whole} (Ok done) c later so_far put =
+    goes_put (goes_as part (part ++ []) (sym (append-nil part)) so_far) put
+puts_last {E} {a} {b} {waiting} {left} {part} {whole} (Err e) c later so_far cut =
+    goes_cut [] (goes_as part (part ++ []) (sym (append-nil part)) so_far) cut
 
 -- a fault, after a front
-pub puts_cut : {E : Type 0} {a c : Option (List ℕ)} {waiting whole : List ℕ} (r : Result (Unit {0}) E) (later : List ℕ) → IsErr r → ((rest : List ℕ) × Goes a c waiting [] rest whole) → Puts r a c waiting later whole
+pub puts_cut : {E : Type 0} {a c : Option (List ℕ)} {waiting whole : List ℕ} (r : Result (Unit {0}) E) (later : List ℕ)
+    → IsErr r
+    → ((rest : List ℕ) × Goes a c waiting [] rest whole)
+    → Puts r a c waiting later whole
 puts_cut (Ok done) later e cut = absurd cc
 puts_cut (Err fault) later e cut = cut
 

@@ -1,5 +1,6 @@
 -- The number that digits write, digit by digit.
-use Rattle.std.proofs.Common.{◌≡◌, ℕ, suc, ◌+◌, ◌*◌, ◌^◌, ◌<◌, ◌≤◌, List, [], ◌∷◌, length, fold, drop, get_or, None, true, nat_le, refl, sym, ap, ◌∙◌, arith}
+use Rattle.std.proofs.Common.{◌≡◌, ℕ, suc, ◌+◌, ◌*◌, ◌^◌, ◌<◌, ◌≤◌, List, [], ◌∷◌, length, fold, drop, get_or, None, true}
+use Rattle.std.proofs.Common.{nat_le, refl, sym, ap, ◌∙◌, arith}
 use Rattle.std.specs.List.{list_all}
 use Rattle.std.proofs.lemmas.Bool.{and_parts, leb-true, lt-leb}
 use Rattle.std.proofs.lemmas.List.{drop_more}
@@ -12,9 +13,14 @@ number_grows n [] = omega arith
 number_grows n (d ∷ ds) = let more = number_grows (with_digit n d) ds in omega (arith, more)
 
 -- a number past the greatest, with the digits that are left after it
-pub past_greatest : (n : ℕ) (digits : List ℕ) (i d : ℕ) → number_of digits ≡ fold with_digit n (drop i digits) → i < length digits → greatest < with_digit n (get_or digits i d) → None ≡ value_of digits
+pub past_greatest : (n : ℕ) (digits : List ℕ) (i d : ℕ)
+    → number_of digits ≡ fold with_digit n (drop i digits)
+    → i < length digits
+    → greatest < with_digit n (get_or digits i d)
+    → None ≡ value_of digits
 past_greatest n digits i d value within past =
-    let more : number_of digits ≡ fold with_digit (with_digit n (get_or digits i d)) (drop (i + 1) digits) = value ∙ ap (fold with_digit n) (drop_more digits i d within) in
+    let more : number_of digits ≡ fold with_digit (with_digit n (get_or digits i d)) (drop (i + 1) digits) =
+    value ∙ ap (fold with_digit n) (drop_more digits i d within) in
     let grown = number_grows (with_digit n (get_or digits i d)) (drop (i + 1) digits) in
     let above : greatest < number_of digits = omega (arith, more, grown, past) in
     rw (lt-leb (number_of digits) greatest above) refl
@@ -29,7 +35,8 @@ digits_below n (d ∷ ds) h =
     let rest = digits_below (with_digit n d) ds parts.1 in
     let p = 10 ^ length ds in
     let grown : (with_digit n d + 1) * p ≤ (10 * (n + 1)) * p = mul-le-mul_right p (omega (arith, high)) in
-    let again : (10 * (n + 1)) * p ≡ (n + 1) * 10 ^ suc (length ds) = ap (λ k. k * p) (mul_comm 10 (n + 1)) ∙ mul_assoc (n + 1) 10 p ∙ ap (λ k. (n + 1) * k) (sym (pow-succ' 10 (length ds))) in
+    let again : (10 * (n + 1)) * p ≡ (n + 1) * 10 ^ suc (length ds) =
+    ap (λ k. k * p) (mul_comm 10 (n + 1)) ∙ mul_assoc (n + 1) 10 p ∙ ap (λ k. (n + 1) * k) (sym (pow-succ' 10 (length ds))) in
     omega (arith, rest, grown, again)
 
 -- a count is below a million

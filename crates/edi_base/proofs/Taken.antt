@@ -6,7 +6,11 @@ use Rattle.std.specs.Io.KnownBytes.{Consumes}
 use Rattle.edi_base.specs.Source.{TakesAtMost}
 
 -- after what was taken, so many more at most
-pub takes_more : (a b c : Option (List ℕ)) (taken : List ℕ) (room limit : ℕ) → Consumes a b taken → TakesAtMost b c room → length taken + room ≤ limit → TakesAtMost a c limit
+pub takes_more : (a b c : Option (List ℕ)) (taken : List ℕ) (room limit : ℕ)
+    → Consumes a b taken
+    → TakesAtMost b c room
+    → length taken + room ≤ limit
+    → TakesAtMost a c limit
 takes_more a b c taken room limit before more fits =
     let total : length (taken ++ more.front) ≡ length taken + length more.front = length-append taken more.front in
     let within = more.within in

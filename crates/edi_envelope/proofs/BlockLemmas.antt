@@ -1,5 +1,6 @@
 -- How a list of segments is cut before each UNH.
-use Rattle.std.proofs.Common.{◌≡◌, ℕ, ◌+◌, ◌<◌, List, [], ◌∷◌, ◌++◌, length, get_or, take, drop, reverse, true, false, refl, sym, ap, ◌∙◌, append_assoc}
+use Rattle.std.proofs.Common.{◌≡◌, ℕ, ◌+◌, ◌<◌, List, [], ◌∷◌, ◌++◌, length, get_or, take, drop, reverse, true, false, refl}
+use Rattle.std.proofs.Common.{sym, ap, ◌∙◌, append_assoc}
 use Rattle.std.specs.List.{list_any}
 use Rattle.std.proofs.lemmas.Bool.{or_parts, cases_Bool}
 use Rattle.std.proofs.lemmas.List.{drop_more, take-append-drop, reverse-append}
@@ -20,7 +21,9 @@ blocks-none [] h = refl
 blocks-none (x ∷ xs) h = let parts = or_parts (is_unh x) (list_any is_unh xs) h in rw parts.0 (blocks-none xs parts.1)
 
 -- from an UNH on nothing stands before the first
-pub before_message-at : (xs : List Segment) (u : Segment) (ys : List Segment) → is_unh u ≡ true → before_message (xs ++ u ∷ ys) ≡ before_message xs
+pub before_message-at : (xs : List Segment) (u : Segment) (ys : List Segment)
+    → is_unh u ≡ true
+    → before_message (xs ++ u ∷ ys) ≡ before_message xs
 before_message-at [] u ys h = rw h refl
 before_message-at (x ∷ xs) u ys h =
     elim (cases_Bool (is_unh x)) [
@@ -29,7 +32,10 @@ before_message-at (x ∷ xs) u ys h =
     ]
 
 -- the last UNH begins the last block
-pub blocks-at : (xs : List Segment) (u : Segment) (ys : List Segment) → is_unh u ≡ true → list_any is_unh ys ≡ false → blocks (xs ++ u ∷ ys) ≡ blocks xs ++ (u ∷ ys) ∷ []
+pub blocks-at : (xs : List Segment) (u : Segment) (ys : List Segment)
+    → is_unh u ≡ true
+    → list_any is_unh ys ≡ false
+    → blocks (xs ++ u ∷ ys) ≡ blocks xs ++ (u ∷ ys) ∷ []
 blocks-at [] u ys h none = rw (h, before_message-none ys none, blocks-none ys none) refl
 blocks-at (x ∷ xs) u ys h none =
     elim (cases_Bool (is_unh x)) [
@@ -43,7 +49,8 @@ split_at xs place lt = sym (take-append-drop place xs) ∙ ap (λ rest. take pla
 
 pub before_message-cut : (xs : List Segment) (place : ℕ) → IsLastHeader xs place → before_message (take place xs) ≡ before_message xs
 before_message-cut xs place h =
-    sym (ap before_message (split_at xs place h.0) ∙ before_message-at (take place xs) (get_or xs place no_segment) (drop (place + 1) xs) h.1)
+    sym (ap before_message (split_at xs place h.0)
+    ∙ before_message-at (take place xs) (get_or xs place no_segment) (drop (place + 1) xs) h.1)
 
 pub blocks-cut : (xs : List Segment) (place : ℕ) → IsLastHeader xs place → blocks xs ≡ blocks (take place xs) ++ drop place xs ∷ []
 blocks-cut xs place h =
@@ -51,7 +58,9 @@ blocks-cut xs place h =
     ∙ ap (λ block. blocks (take place xs) ++ block ∷ []) (sym (drop_more xs place no_segment h.0))
 
 -- one more block, of those kept from the last to the first
-pub blocks-push : (xs : List Segment) (place : ℕ) (bs : List (List Segment)) → IsLastHeader xs place → blocks (take place xs) ++ reverse (bs ++ drop place xs ∷ []) ≡ blocks xs ++ reverse bs
+pub blocks-push : (xs : List Segment) (place : ℕ) (bs : List (List Segment))
+    → IsLastHeader xs place
+    → blocks (take place xs) ++ reverse (bs ++ drop place xs ∷ []) ≡ blocks xs ++ reverse bs
 blocks-push xs place bs h =
     ap (λ rest. blocks (take place xs) ++ rest) (reverse-append bs (drop place xs ∷ []))
     ∙ sym (append_assoc (blocks (take place xs)) (drop place xs ∷ []) (reverse bs))

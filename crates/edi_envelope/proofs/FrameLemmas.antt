@@ -34,7 +34,9 @@ front_is [] h = absurd (omega arith)
 front_is (x ∷ []) h = absurd (omega arith)
 front_is (x ∷ y ∷ ys) h = let back : suc (suc (length ys)) - 1 ≡ suc (length ys) = omega arith in rw back refl
 
-pub framed_before : (xs : List Segment) → is_framed xs ≡ true → before_message (take (length xs - 1) xs) ≡ first_segment xs ∷ before_message (between xs)
+pub framed_before : (xs : List Segment)
+    → is_framed xs ≡ true
+    → before_message (take (length xs - 1) xs) ≡ first_segment xs ∷ before_message (between xs)
 framed_before xs h =
     let no_unh = other_tag (first_segment xs).tag (codes "UNB") (codes "UNH") refl (framed_unb xs h) in
     ap before_message (front_is xs (framed_length xs h)) ∙ rw no_unh refl

@@ -1,5 +1,6 @@
 -- An interchange is its header, its messages joined, and its trailer.
-use Rattle.std.proofs.Common.{◌≡◌, ◌+◌, ◌-◌, ◌≤◌, List, [], ◌∷◌, ◌++◌, length, drop, map, true, false, refl, sym, ap, ◌∙◌, arith, codes, append-nil, length-append, inl, inr}
+use Rattle.std.proofs.Common.{◌≡◌, ◌+◌, ◌-◌, ◌≤◌, List, [], ◌∷◌, ◌++◌, length, drop, map, true, false, refl, sym, ap, ◌∙◌}
+use Rattle.std.proofs.Common.{arith, codes, append-nil, length-append, inl, inr}
 use Rattle.std.specs.List.{flat_map, AllByRecursion, list_any, list_all}
 use Rattle.std.proofs.lemmas.Bool.{and_parts, or_parts, or_from, cases_Bool, not-true, not-false, true≢false, false≢true, eqb-true}
 use Rattle.std.proofs.lemmas.List.{take-append-drop, drop_more, drop_all, get_or_at, take_at, nil_from_length}
@@ -35,7 +36,8 @@ joined (x ∷ xs) =
       | inr not_ ↦ rw not_ (ap (λ rest. x ∷ rest) (joined xs))
     ]
 
-segments_of-message_of : (bs : List (List Segment)) → flat_map (λ (message : RawMessage). message.segments) (map message_of bs) ≡ flat_map (λ block. block) bs
+segments_of-message_of : (bs : List (List Segment))
+    → flat_map (λ (message : RawMessage). message.segments) (map message_of bs) ≡ flat_map (λ block. block) bs
 segments_of-message_of [] = refl
 segments_of-message_of (b ∷ bs) = ap (λ rest. b ++ rest) (segments_of-message_of bs)
 
@@ -54,7 +56,9 @@ IsInterchange-contents tokens h =
     let row = and_parts _ _ (not-false (is_row_of_messages xs) (h MessageFrame)) in
     let none = nil_from_length (before_message (between xs)) (eqb-true _ _ row.0) in
     let middle : between xs ≡ flat_map (λ (message : RawMessage). message.segments) (map message_of (messages_in xs)) =
-    joined (between xs) ∙ ap (λ front. front ++ flat_map (λ block. block) (messages_in xs)) none ∙ sym (segments_of-message_of (messages_in xs)) in
+    joined (between xs)
+    ∙ ap (λ front. front ++ flat_map (λ block. block) (messages_in xs)) none
+    ∙ sym (segments_of-message_of (messages_in xs)) in
     record {
       unb = first_segment xs;
       unz = last_segment xs;
@@ -75,7 +79,9 @@ between_of u mid z = ap (drop 1) (take_at (u ∷ mid) (z ∷ []) (length (u ∷ 
 -- without UNH
 before_message-append : (ys zs : List Segment) → list_any is_unh ys ≡ false → before_message (ys ++ zs) ≡ ys ++ before_message zs
 before_message-append [] zs h = refl
-before_message-append (y ∷ ys) zs h = let parts = or_parts (is_unh y) (list_any is_unh ys) h in rw parts.0 (ap (λ rest. y ∷ rest) (before_message-append ys zs parts.1))
+before_message-append (y ∷ ys) zs h =
+    let parts = or_parts (is_unh y) (list_any is_unh ys) h in
+    rw parts.0 (ap (λ rest. y ∷ rest) (before_message-append ys zs parts.1))
 
 blocks-append : (ys zs : List Segment) → list_any is_unh ys ≡ false → blocks (ys ++ zs) ≡ blocks zs
 blocks-append [] zs h = refl
@@ -89,7 +95,11 @@ no_unh (y ∷ ys) z h t =
     or_from (is_unh y) (list_any is_unh (ys ++ z ∷ [])) tags.0 (no_unh ys z parts.1 t)
 
 -- a block before others is cut off as it is
-one_block : (u : Segment) (ys zs : List Segment) → is_unh u ≡ true → list_any is_unh ys ≡ false → before_message zs ≡ [] → blocks ((u ∷ ys) ++ zs) ≡ (u ∷ ys) ∷ blocks zs
+one_block : (u : Segment) (ys zs : List Segment)
+    → is_unh u ≡ true
+    → list_any is_unh ys ≡ false
+    → before_message zs ≡ []
+    → blocks ((u ∷ ys) ++ zs) ≡ (u ∷ ys) ∷ blocks zs
 one_block u ys zs is none start =
     rw (is, before_message-append ys zs none, start, blocks-append ys zs none, append-nil ys) refl
 
@@ -99,7 +109,10 @@ block_length (x ∷ []) u t = absurd (true≢false (sym t ∙ other_tag x.tag (c
 block_length (x ∷ y ∷ ys) u t = omega arith
 
 -- the same of a message
-block_before : (b zs : List Segment) → is_block b ≡ true → before_message zs ≡ [] → (blocks (b ++ zs) ≡ b ∷ blocks zs) × (before_message (b ++ zs) ≡ [])
+block_before : (b zs : List Segment)
+    → is_block b ≡ true
+    → before_message zs ≡ []
+    → (blocks (b ++ zs) ≡ b ∷ blocks zs) × (before_message (b ++ zs) ≡ [])
 block_before b zs h start =
     let parts = and_parts _ _ h in
     let ends = and_parts _ _ parts.0 in
@@ -112,7 +125,10 @@ block_before b zs h start =
     )
 
 -- messages that are joined are cut again as they were
-cut_again : (ms : List RawMessage) → AllByRecursion IsMessage ms → (blocks (flat_map (λ (m : RawMessage). m.segments) ms) ≡ map (λ (m : RawMessage). m.segments) ms) × (before_message (flat_map (λ (m : RawMessage). m.segments) ms) ≡ [])
+cut_again : (ms : List RawMessage)
+    → AllByRecursion IsMessage ms
+    → (blocks (flat_map (λ (m : RawMessage). m.segments) ms) ≡ map (λ (m : RawMessage). m.segments) ms)
+    × (before_message (flat_map (λ (m : RawMessage). m.segments) ms) ≡ [])
 cut_again [] h = (refl, refl)
 cut_again (m ∷ ms) h =
     let rest = cut_again ms h.1 in

@@ -1,11 +1,16 @@
 -- The lowest condition that holds, found in the list of all faults.
-use Rattle.std.proofs.Common.{◌≡◌, ℕ, ◌<◌, ◌≤◌, length, ◌⊎◌, inl, inr, List, [], ◌∷◌, true, false, Bool, Option, Some, None, Ok, Err, refl, sym, ap, ◌∙◌, arith, find}
+use Rattle.std.proofs.Common.{◌≡◌, ℕ, ◌<◌, ◌≤◌, length, ◌⊎◌, inl, inr, List, [], ◌∷◌, true, false, Bool, Option, Some, None}
+use Rattle.std.proofs.Common.{Ok, Err, refl, sym, ap, ◌∙◌, arith, find}
 use Rattle.std.proofs.lemmas.Bool.{cases_Bool, true≢false, ltb-false}
 use Rattle.std.proofs.lemmas.List.{length-map}
 use Rattle.edi_envelope.specs.Message.{message_of}
 use Rattle.edi_tokens.specs.declared.segment.Segment.{Segment}
 use Rattle.edi_envelope.specs.declared.fault.EnvelopeFault.{EnvelopeFault}
-use Rattle.edi_envelope.specs.declared.fault.EnvelopeFault.TheVariants.{InterchangeFrame, InterchangeHeader, MessageFrame, MessageHeader, SegmentCount, MessageReference, MessageCount, ControlReference, RepeatedReference, TestIndicator, TooManyMessages, CharacterSet, Memory}
+use Rattle.edi_envelope.specs.declared.fault.EnvelopeFault.TheVariants.{InterchangeFrame, InterchangeHeader, MessageFrame}
+use Rattle.edi_envelope.specs.declared.fault.EnvelopeFault.TheVariants.{MessageHeader, SegmentCount, MessageReference}
+use Rattle.edi_envelope.specs.declared.fault.EnvelopeFault.TheVariants.{MessageCount, ControlReference, RepeatedReference}
+use Rattle.edi_envelope.specs.declared.fault.EnvelopeFault.TheVariants.{TestIndicator, TooManyMessages, CharacterSet}
+use Rattle.edi_envelope.specs.declared.fault.EnvelopeFault.TheVariants.{Memory}
 use Rattle.edi_envelope.specs.Fault.{number}
 use Rattle.edi_tokens.specs.declared.segment.Tokens.{Tokens}
 use Rattle.edi_envelope.specs.declared.interchange.Interchange.{Interchange}
@@ -36,11 +41,22 @@ found_holds p (x ∷ xs) f h =
       | inr not_ ↦ found_holds p xs f (sym (rw not_ refl) ∙ h)
     ]
 
-not_below : (x : EnvelopeFault) (xs : List EnvelopeFault) (f g : EnvelopeFault) → Above (number x) xs → x ≡ f → Among g (x ∷ xs) → number g < number f → ⊥
+not_below : (x : EnvelopeFault) (xs : List EnvelopeFault) (f g : EnvelopeFault)
+    → Above (number x) xs
+    → x ≡ f
+    → Among g (x ∷ xs)
+    → number g < number f
+    → ⊥
 not_below x xs f g a same (inl here) lt = let e : number g ≡ number f = ap number (here ∙ same) in omega arith
-not_below x xs f g a same (inr later) lt = let e : number x ≡ number f = ap number same in let above = above_each (number x) xs g a later in omega arith
+not_below x xs f g a same (inr later) lt =
+    let e : number x ≡ number f = ap number same in let above = above_each (number x) xs g a later in omega arith
 
-found_lowest : (p : EnvelopeFault → Bool) (n : ℕ) (xs : List EnvelopeFault) (f g : EnvelopeFault) → Above n xs → find p xs ≡ Some f → Among g xs → number g < number f → p g ≡ false
+found_lowest : (p : EnvelopeFault → Bool) (n : ℕ) (xs : List EnvelopeFault) (f g : EnvelopeFault)
+    → Above n xs
+    → find p xs ≡ Some f
+    → Among g xs
+    → number g < number f
+    → p g ≡ false
 found_lowest p n [] f g a h m lt = absurd m
 found_lowest p n (x ∷ xs) f g a h m lt =
     elim (cases_Bool (p x)) [
@@ -52,7 +68,12 @@ found_lowest p n (x ∷ xs) f g a h m lt =
     ]
 
 -- what holds with nothing below it is found
-lowest_found : (p : EnvelopeFault → Bool) (n : ℕ) (xs : List EnvelopeFault) (f : EnvelopeFault) → Above n xs → Among f xs → p f ≡ true → ((g : EnvelopeFault) → number g < number f → p g ≡ false) → find p xs ≡ Some f
+lowest_found : (p : EnvelopeFault → Bool) (n : ℕ) (xs : List EnvelopeFault) (f : EnvelopeFault)
+    → Above n xs
+    → Among f xs
+    → p f ≡ true
+    → ((g : EnvelopeFault) → number g < number f → p g ≡ false)
+    → find p xs ≡ Some f
 lowest_found p n [] f a m h lower = absurd m
 lowest_found p n (x ∷ xs) f a (inl here) h lower = let is : p x ≡ true = rw (← here) h in rw is (ap Some (sym here))
 lowest_found p n (x ∷ xs) f a (inr later) h lower =
@@ -75,7 +96,34 @@ none_hold p [] h = refl
 none_hold p (x ∷ xs) h = rw (h x) (none_hold p xs h)
 
 rising : Above 0 faults
-rising = (omega arith, (omega arith, (omega arith, (omega arith, (omega arith, (omega arith, (omega arith, (omega arith, (omega arith, (omega arith, (omega arith, (omega arith, tt))))))))))))
+rising = (
+  omega arith,
+  (
+    omega arith,
+    (
+      omega arith,
+      (
+        omega arith,
+        (
+          omega arith,
+          (
+            omega arith,
+            (
+              omega arith,
+              (
+                omega arith,
+                (
+                  omega arith,
+                  (omega arith, (omega arith, (omega arith, tt))),
+                ),
+              ),
+            ),
+          ),
+        ),
+      ),
+    ),
+  ),
+)
 
 -- each fault but out of memory is listed
 listed : (f : EnvelopeFault) → (f ≡ Memory) ⊎ Among f faults
@@ -135,20 +183,27 @@ judged_contents : (found : Option EnvelopeFault) (contents i : Interchange) → 
 judged_contents None contents i h = (refl, cc)
 judged_contents (Some g) contents i h = cc
 
-pub fault_law : (tokens : Tokens) (f : EnvelopeFault) → (interchange_of tokens ≡ Err f → IsLowest f tokens.segments) × (IsLowest f tokens.segments → interchange_of tokens ≡ Err f)
+pub fault_law : (tokens : Tokens) (f : EnvelopeFault)
+    → (interchange_of tokens ≡ Err f → IsLowest f tokens.segments)
+    × (IsLowest f tokens.segments → interchange_of tokens ≡ Err f)
 unfolding interchange_of
 fault_law tokens f = (
   (λ h. IsLowest-from_fault_of tokens.segments f (judged_fault (fault_of tokens.segments) (contents_of tokens) f h)),
   (λ h. ap (λ found. judged found (contents_of tokens)) (fault_of-lowest tokens.segments f h)),
 )
 
-pub contents_law : (tokens : Tokens) (i : Interchange) → interchange_of tokens ≡ Ok i → IsFaultless tokens.segments × (i ≡ contents_of tokens)
+pub contents_law : (tokens : Tokens) (i : Interchange)
+    → interchange_of tokens ≡ Ok i
+    → IsFaultless tokens.segments × (i ≡ contents_of tokens)
 unfolding interchange_of
 contents_law tokens i h =
     let both = judged_contents (fault_of tokens.segments) (contents_of tokens) i h in
     (IsFaultless-from_none tokens.segments both.0, both.1)
 
-pub contents_again : (tokens : Tokens) (i : Interchange) → IsFaultless tokens.segments → i ≡ contents_of tokens → interchange_of tokens ≡ Ok i
+pub contents_again : (tokens : Tokens) (i : Interchange)
+    → IsFaultless tokens.segments
+    → i ≡ contents_of tokens
+    → interchange_of tokens ≡ Ok i
 unfolding interchange_of
 contents_again tokens i h e = ap (λ found. judged found (contents_of tokens)) (fault_of-none tokens.segments h) ∙ ap Ok (sym e)
 
@@ -158,5 +213,6 @@ unfolding contents_of
 few_messages tokens i h =
     let both = contents_law tokens i h in
     let few : length (messages_in tokens.segments) ≤ 999 = ltb-false _ _ (both.0 TooManyMessages) in
-    let same : length i.messages ≡ length (messages_in tokens.segments) = ap (λ (x : Interchange). length x.messages) both.1 ∙ length-map (messages_in tokens.segments) message_of in
+    let same : length i.messages ≡ length (messages_in tokens.segments) =
+    ap (λ (x : Interchange). length x.messages) both.1 ∙ length-map (messages_in tokens.segments) message_of in
     omega arith

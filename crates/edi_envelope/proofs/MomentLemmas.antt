@@ -5,7 +5,8 @@ use Rattle.std.proofs.lemmas.Bool.{cases_lt, lt-ltb, le-ltb}
 use Rattle.jiff.specs.Types.{Date, DateTime}
 use Rattle.jiff.specs.Words.{epoch_day, days_in_month, IsYear, civil_nanos, time_nanos}
 use Rattle.jiff.proofs.SpanFacts.{signed_arith}
-use Rattle.jiff.proofs.Family.{days_from_civil-day, days_from_civil-next_month, days_from_civil-next_year, days_from_civil-max, epoch_day_injective, civil_nanos-parts, time_nanos_bound}
+use Rattle.jiff.proofs.Family.{days_from_civil-day, days_from_civil-next_month, days_from_civil-next_year}
+use Rattle.jiff.proofs.Family.{days_from_civil-max, epoch_day_injective, civil_nanos-parts, time_nanos_bound}
 use Rattle.jiff.proofs.OnLiterals.{jiff_on_literals}
 use Rattle.edi_envelope.specs.Moment.{Day, day_after, day_at, day_of, last_moment, Shows}
 
@@ -21,29 +22,47 @@ abbrev pub IsNumbered : Day → ℕ → Type 0
 IsNumbered d n = (c : IsCivil d) × (epoch_day (date_with d c) ≡ pos n)
 
 -- within a month
-next_day : (y m d n : ℕ) → IsNumbered (record { year = y; month = m; day = d }) n → d < days_in_month (pos y) m → IsNumbered (record { year = y; month = m; day = d + 1 }) (suc n)
-next_day y m d n h lt =
-    ((h.0.0, h.0.1, (omega arith, omega arith)), omega (arith, signed_arith, h.1, days_from_civil-day (pos y) m d (d + 1) h.0.2.0 (omega arith)))
+next_day : (y m d n : ℕ)
+    → IsNumbered (record { year = y; month = m; day = d }) n
+    → d < days_in_month (pos y) m
+    → IsNumbered (record { year = y; month = m; day = d + 1 }) (suc n)
+next_day y m d n h lt = (
+  (h.0.0, h.0.1, (omega arith, omega arith)),
+  omega (arith, signed_arith, h.1, days_from_civil-day (pos y) m d (d + 1) h.0.2.0 (omega arith)),
+)
 
 month_bounds : (y : ℤ) (m : ℕ) → (28 ≤ days_in_month y m) × (days_in_month y m ≤ 31)
 month_bounds y m = grind arith
 
 -- from the last day of a month to the first of the next
-next_month : (y m d n : ℕ) → IsNumbered (record { year = y; month = m; day = d }) n → days_in_month (pos y) m ≤ d → m < 12 → IsNumbered (record { year = y; month = m + 1; day = 1 }) (suc n)
+next_month : (y m d n : ℕ)
+    → IsNumbered (record { year = y; month = m; day = d }) n
+    → days_in_month (pos y) m ≤ d
+    → m < 12
+    → IsNumbered (record { year = y; month = m + 1; day = 1 }) (suc n)
 next_month y m d n h last lt =
     let bounds = month_bounds (pos y) (m + 1) in
-    let is_last : d ≡ days_in_month (pos y) m = omega arith in
-    ((h.0.0, (omega arith, omega arith), (omega arith, omega arith)), omega (arith, signed_arith, h.1, days_from_civil-next_month (pos y) m d h.0.1.0 is_last))
+    let is_last : d ≡ days_in_month (pos y) m = omega arith in (
+      (h.0.0, (omega arith, omega arith), (omega arith, omega arith)),
+      omega (arith, signed_arith, h.1, days_from_civil-next_month (pos y) m d h.0.1.0 is_last),
+    )
 
 -- from 31 December to 1 January
-next_year : (y m d n : ℕ) → IsNumbered (record { year = y; month = m; day = d }) n → days_in_month (pos y) m ≤ d → 12 ≤ m → n < 2_932_896 → IsNumbered (record { year = y + 1; month = 1; day = 1 }) (suc n)
+next_year : (y m d n : ℕ)
+    → IsNumbered (record { year = y; month = m; day = d }) n
+    → days_in_month (pos y) m ≤ d
+    → 12 ≤ m
+    → n < 2_932_896
+    → IsNumbered (record { year = y + 1; month = 1; day = 1 }) (suc n)
 next_year y m d n h last december small =
     let is_12 : m ≡ 12 = omega arith in
     let is_31 : d ≡ 31 = let e : days_in_month (pos y) m ≡ 31 = rw is_12 refl in omega arith in
     let at_12 = subst (λ (x : ℕ). IsNumbered (record { year = y; month = x; day = d }) n) is_12 h in
     let before = subst (λ (x : ℕ). IsNumbered (record { year = y; month = 12; day = x }) n) is_31 at_12 in
     let step = days_from_civil-next_year (pos y) (pos (y + 1)) (omega (arith, signed_arith)) (omega (arith, signed_arith)) in
-    let not_9999 : (y ≡ 9999 → ⊥) = λ e. let there = subst (λ (x : ℕ). IsNumbered (record { year = x; month = 12; day = 31 }) n) e before in omega (arith, signed_arith, days_from_civil-max, there.1) in
+    let not_9999 : (y ≡ 9999 → ⊥) =
+    λ e. let there = subst (λ (x : ℕ). IsNumbered (record { year = x; month = 12; day = 31 }) n) e before in
+    omega (arith, signed_arith, days_from_civil-max, there.1) in
     let year_in : IsYear (pos (y + 1)) = (omega (arith, signed_arith), omega (arith, signed_arith, before.0.0)) in
     ((year_in, (omega arith, omega arith), (omega arith, omega arith)), omega (arith, signed_arith, before.1, step))
 

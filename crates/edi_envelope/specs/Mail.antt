@@ -48,9 +48,9 @@ text_around hub owner moment number body =
     ++ codes "+" ++ decimal number ++ codes "'" ++ body ++ codes "UNZ+1+" ++ decimal number ++ codes "'"
 
 -- that of a message
-abbrev pub mail_body : List ℕ → List ℕ → ℕ → ℕ → RawMessage → List ℕ
-mail_body hub owner moment number message = text_around hub owner moment number (text (map renumbered message.segments))
+abbrev pub mail_interchange : List ℕ → List ℕ → ℕ → ℕ → RawMessage → List ℕ
+mail_interchange hub owner moment number message = text_around hub owner moment number (text (map renumbered message.segments))
 
 -- with the service string before it
 abbrev pub mail_text : List ℕ → List ℕ → ℕ → ℕ → ℕ → RawMessage → List ℕ
-mail_text hub owner moment mark number message = una mark ++ mail_body hub owner moment number message
+mail_text hub owner moment mark number message = una mark ++ mail_interchange hub owner moment number message

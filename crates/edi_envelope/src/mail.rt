@@ -2,7 +2,7 @@ ghost use Rattle.std.specs.Prelude.{◌≡◌, ◌≤◌, [], ◌∷◌, All, �
 ghost use Rattle.edi_tokens.specs.Characters.{is_digit};
 ghost use Rattle.edi_tokens.specs.Text.{text};
 ghost use Rattle.edi_envelope.specs.Moment.{date_text, time_text};
-ghost use Rattle.edi_envelope.specs.Mail.{unb_from, unz_of, with_one, renumbered, mail_segments, mail_body, last_number};
+ghost use Rattle.edi_envelope.specs.Mail.{unb_from, unz_of, with_one, renumbered, mail_segments, mail_interchange, last_number};
 
 use crate::interchange::RawMessage;
 use crate::moment::{Moment, date_digits, time_digits};
@@ -140,7 +140,7 @@ pub fn wrap(
     requires owner { All (λ digit. IsTrue (is_digit digit)) owner.now }
     requires number { (1 ≤ number) × (number ≤ last_number) }
     ensures segments { IfOk result (λ segments. segments ≡ mail_segments hub.now owner.now moment number message.now) }
-    ensures text { IfOk result (λ segments. text segments ≡ mail_body hub.now owner.now moment number message.now) }
+    ensures text { IfOk result (λ segments. text segments ≡ mail_interchange hub.now owner.now moment number message.now) }
 {
     let reference = format!(in alloc; "{number}")?;
     let mut segments = Items::new(alloc);

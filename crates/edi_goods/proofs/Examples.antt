@@ -89,7 +89,17 @@ unfolding despatch_of
 a_despatch = refl
 
 -- the line's own order goes before the header's, and a unit without lines is not read
-own_order : despatch_of (message (codes "DESADV") (unh ∷ bgm (codes "351") (codes "DA1") ∷ dtm ∷ rff (codes "128576") ∷ supplier ∷ cps ∷ gin (codes "1") ∷ cps ∷ gin first ∷ lin (codes "1") item ∷ qty (codes "12") (codes "12")
+own_order : despatch_of (message (codes "DESADV") (unh
+    ∷ bgm (codes "351") (codes "DA1")
+    ∷ dtm
+    ∷ rff (codes "128576")
+    ∷ supplier
+    ∷ cps
+    ∷ gin (codes "1")
+    ∷ cps
+    ∷ gin first
+    ∷ lin (codes "1") item
+    ∷ qty (codes "12") (codes "12")
     ∷ segment (codes "RFF") ((codes "ON" ∷ codes "128577" ∷ codes "02" ∷ []) ∷ []) ∷ unt ∷ [])) ≡ Ok (record {
       number = codes "DA1";
       buyer = None;
@@ -103,23 +113,55 @@ own_order : despatch_of (message (codes "DESADV") (unh ∷ bgm (codes "351") (co
 unfolding despatch_of
 own_order = refl
 
-line_outside_of_units : despatch_of (despatch (lin (codes "0") item ∷ cps ∷ gin first ∷ lin (codes "1") item ∷ qty (codes "12") (codes "12") ∷ unt ∷ [])) ≡ Err Unit
+line_outside_of_units : despatch_of
+    (despatch (lin (codes "0") item ∷ cps ∷ gin first ∷ lin (codes "1") item ∷ qty (codes "12") (codes "12") ∷ unt ∷ []))
+    ≡ Err Unit
 unfolding despatch_of
 line_outside_of_units = refl
 
-quantity_of_the_second_unit : despatch_of (despatch (cps ∷ lin (codes "1") item ∷ qty (codes "12") (codes "12") ∷ cps ∷ gin second ∷ lin (codes "1") item ∷ qty (codes "12") (codes "0") ∷ unt ∷ [])) ≡ Err Quantity
+quantity_of_the_second_unit : despatch_of (despatch (cps
+    ∷ lin (codes "1") item
+    ∷ qty (codes "12") (codes "12")
+    ∷ cps
+    ∷ gin second
+    ∷ lin (codes "1") item
+    ∷ qty (codes "12") (codes "0")
+    ∷ unt
+    ∷ []))
+    ≡ Err Quantity
 unfolding despatch_of
 quantity_of_the_second_unit = refl
 
-no_order : despatch_of (message (codes "DESADV") (unh ∷ bgm (codes "351") (codes "DA1") ∷ dtm ∷ supplier ∷ cps ∷ lin (codes "1") item ∷ qty (codes "12") (codes "12") ∷ unt ∷ [])) ≡ Err Reference
+no_order : despatch_of (message (codes "DESADV") (unh
+    ∷ bgm (codes "351") (codes "DA1")
+    ∷ dtm
+    ∷ supplier
+    ∷ cps
+    ∷ lin (codes "1") item
+    ∷ qty (codes "12") (codes "12")
+    ∷ unt
+    ∷ []))
+    ≡ Err Reference
 unfolding despatch_of
 no_order = refl
 
-wrong_check_digit : despatch_of (despatch (cps ∷ gin (codes "340123455000000013") ∷ lin (codes "1") item ∷ qty (codes "12") (codes "12") ∷ unt ∷ [])) ≡ Err Unit
+wrong_check_digit : despatch_of
+    (despatch (cps ∷ gin (codes "340123455000000013") ∷ lin (codes "1") item ∷ qty (codes "12") (codes "12") ∷ unt ∷ []))
+    ≡ Err Unit
 unfolding despatch_of
 wrong_check_digit = refl
 
-one_sscc_twice : despatch_of (despatch (cps ∷ gin first ∷ lin (codes "1") item ∷ qty (codes "12") (codes "12") ∷ cps ∷ gin first ∷ lin (codes "1") item ∷ qty (codes "12") (codes "12") ∷ unt ∷ [])) ≡ Err Unit
+one_sscc_twice : despatch_of (despatch (cps
+    ∷ gin first
+    ∷ lin (codes "1") item
+    ∷ qty (codes "12") (codes "12")
+    ∷ cps
+    ∷ gin first
+    ∷ lin (codes "1") item
+    ∷ qty (codes "12") (codes "12")
+    ∷ unt
+    ∷ []))
+    ≡ Err Unit
 unfolding despatch_of
 one_sscc_twice = refl
 
@@ -131,22 +173,33 @@ no_line = refl
 abbrev receipt : List Segment → RawMessage
 receipt lines = message (codes "RECADV") (unh ∷ bgm (codes "632") (codes "G1") ∷ dtm ∷ buyer ∷ supplier ∷ cps ∷ gin first ∷ lines)
 
-a_receipt : receipt_of (receipt (lin (codes "1") item ∷ qty (codes "194") (codes "10") ∷ qty (codes "195") (codes "1") ∷ lin (codes "2") (codes "4000862141411") ∷ qty (codes "194") (codes "3") ∷ unt ∷ [])) ≡ Ok (record {
-  number = codes "G1";
-  buyer = Some (codes "5412345000013");
-  supplier = codes "4012345500004";
-  units = record {
-    sscc = first;
-    lines = record { gtin = codes "04000862141404"; accepted = 10; returned = 1; destroyed = 0 }
-        ∷ record { gtin = codes "04000862141411"; accepted = 3; returned = 0; destroyed = 0 }
-        ∷ [];
-  }
-      ∷ [];
-})
+a_receipt : receipt_of (receipt (lin (codes "1") item
+    ∷ qty (codes "194") (codes "10")
+    ∷ qty (codes "195") (codes "1")
+    ∷ lin (codes "2") (codes "4000862141411")
+    ∷ qty (codes "194") (codes "3")
+    ∷ unt ∷ [])) ≡ Ok (record {
+      number = codes "G1";
+      buyer = Some (codes "5412345000013");
+      supplier = codes "4012345500004";
+      units = record {
+        sscc = first;
+        lines = record { gtin = codes "04000862141404"; accepted = 10; returned = 1; destroyed = 0 }
+            ∷ record { gtin = codes "04000862141411"; accepted = 3; returned = 0; destroyed = 0 }
+            ∷ [];
+      }
+          ∷ [];
+    })
 unfolding receipt_of
 a_receipt = refl
 
-great_sum : receipt_of (receipt (lin (codes "1") item ∷ qty (codes "194") (codes "500000000") ∷ lin (codes "2") item ∷ qty (codes "194") (codes "500000000") ∷ unt ∷ [])) ≡ Err Quantity
+great_sum : receipt_of (receipt (lin (codes "1") item
+    ∷ qty (codes "194") (codes "500000000")
+    ∷ lin (codes "2") item
+    ∷ qty (codes "194") (codes "500000000")
+    ∷ unt
+    ∷ []))
+    ≡ Err Quantity
 unfolding receipt_of
 great_sum = refl
 
@@ -155,6 +208,13 @@ unfolding receipt_of
 no_quantity = refl
 
 -- a UNS ends the line group, not the unit, and a LIN after it is of the unit
-section_in_a_unit : receipt_of (receipt (lin (codes "1") item ∷ qty (codes "194") (codes "10") ∷ segment (codes "UNS") [] ∷ qty (codes "194") (codes "1") ∷ lin (codes "2") item ∷ unt ∷ [])) ≡ Err Quantity
+section_in_a_unit : receipt_of (receipt (lin (codes "1") item
+    ∷ qty (codes "194") (codes "10")
+    ∷ segment (codes "UNS") []
+    ∷ qty (codes "194") (codes "1")
+    ∷ lin (codes "2") item
+    ∷ unt
+    ∷ []))
+    ≡ Err Quantity
 unfolding receipt_of
 section_in_a_unit = refl

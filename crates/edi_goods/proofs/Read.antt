@@ -9,8 +9,10 @@ use Rattle.edi_envelope.specs.declared.interchange.RawMessage.{RawMessage}
 use Rattle.edi_messages.specs.Parts.{line_groups}
 use Rattle.edi_messages.specs.declared.fault.MessageFault.TheVariants.{Quantity, Unit}
 use Rattle.edi_messages.proofs.Judged.{judged_is, judged_at}
-use Rattle.edi_goods.specs.Despatch.{holds as despatch_holds, header_order, unit_from as despatch_unit, contents_of as despatch_contents, despatch_of}
-use Rattle.edi_goods.specs.Receipt.{is_received, lines_in_unit, has_sums, has_quantities, holds as receipt_holds, unit_from as receipt_unit, contents_of as receipt_contents, receipt_of}
+use Rattle.edi_goods.specs.Despatch.{holds as despatch_holds, header_order, unit_from as despatch_unit}
+use Rattle.edi_goods.specs.Despatch.{contents_of as despatch_contents, despatch_of}
+use Rattle.edi_goods.specs.Receipt.{is_received, lines_in_unit, has_sums, has_quantities, holds as receipt_holds}
+use Rattle.edi_goods.specs.Receipt.{unit_from as receipt_unit, contents_of as receipt_contents, receipt_of}
 use Rattle.edi_goods.specs.Units.{read_units, has_line_outside, is_unit, has_units, sscc_or_none}
 use Rattle.edi_goods.specs.declared.despatch.Despatch.{Despatch}
 use Rattle.edi_goods.specs.declared.despatch.Unit.{Unit as DespatchUnit}
@@ -24,39 +26,58 @@ units_apart message h =
     not-true _ (and_parts (not (has_line_outside message) && list_all is_unit units) (not (has_twice (map sscc_or_none units))) h).1
 
 -- the same, of what they became
-pub receipt_units_apart : (message : List Segment) → has_units message ≡ true → has_twice (map (λ unit. unit.sscc) (map receipt_unit (read_units message))) ≡ false
-receipt_units_apart message h = ap has_twice (map-map (λ (unit : ReceiptUnit). unit.sscc) receipt_unit (read_units message)) ∙ units_apart message h
+pub receipt_units_apart : (message : List Segment)
+    → has_units message ≡ true
+    → has_twice (map (λ unit. unit.sscc) (map receipt_unit (read_units message))) ≡ false
+receipt_units_apart message h =
+    ap has_twice (map-map (λ (unit : ReceiptUnit). unit.sscc) receipt_unit (read_units message)) ∙ units_apart message h
 
-pub despatch_units_apart : (order : List ℕ) (message : List Segment) → has_units message ≡ true → has_twice (map (λ unit. unit.sscc) (map (despatch_unit order) (read_units message))) ≡ false
-despatch_units_apart order message h = ap has_twice (map-map (λ (unit : DespatchUnit). unit.sscc) (despatch_unit order) (read_units message)) ∙ units_apart message h
+pub despatch_units_apart : (order : List ℕ) (message : List Segment)
+    → has_units message ≡ true
+    → has_twice (map (λ unit. unit.sscc) (map (despatch_unit order) (read_units message))) ≡ false
+despatch_units_apart order message h =
+    ap has_twice (map-map (λ (unit : DespatchUnit). unit.sscc) (despatch_unit order) (read_units message))
+    ∙ units_apart message h
 
 -- no sum of a unit is too great where each has its quantities
-pub receipt_units_sums : (units : List (List Segment)) → list_all has_quantities units ≡ true → list_all (λ unit. has_sums unit.lines) (map receipt_unit units) ≡ true
+pub receipt_units_sums : (units : List (List Segment))
+    → list_all has_quantities units ≡ true
+    → list_all (λ unit. has_sums unit.lines) (map receipt_unit units) ≡ true
 receipt_units_sums [] h = refl
 receipt_units_sums (unit ∷ units) h =
     let parts = and_parts (has_quantities unit) (list_all has_quantities units) h in
-    and_from _ _ (and_parts (list_all is_received (line_groups unit)) (has_sums (lines_in_unit unit)) parts.0).1 (receipt_units_sums units parts.1)
+    and_from _ _ (and_parts (list_all is_received (line_groups unit)) (has_sums (lines_in_unit unit)) parts.0).1
+    (receipt_units_sums units parts.1)
 
 -- no SSCC of a receiving advice stands twice
-pub receipt_apart : (m : RawMessage) (receipt : Receipt) → receipt_of m ≡ Ok receipt → has_twice (map (λ unit. unit.sscc) receipt.units) ≡ false
+pub receipt_apart : (m : RawMessage) (receipt : Receipt)
+    → receipt_of m ≡ Ok receipt
+    → has_twice (map (λ unit. unit.sscc) receipt.units) ≡ false
 unfolding receipt_of
 receipt_apart m receipt h =
     let right = judged_at (λ fault. receipt_holds fault m) (receipt_contents m.segments) receipt 9 Unit h refl in
-    ap (λ (r : Receipt). has_twice (map (λ unit. unit.sscc) r.units)) (sym (judged_is (λ fault. receipt_holds fault m) (receipt_contents m.segments) receipt h))
+    ap (λ (r : Receipt). has_twice (map (λ unit. unit.sscc) r.units))
+    (sym (judged_is (λ fault. receipt_holds fault m) (receipt_contents m.segments) receipt h))
     ∙ receipt_units_apart m.segments (not-false _ right)
 
 -- no item's sum in a unit of it is too great
-pub receipt_sums : (m : RawMessage) (receipt : Receipt) → receipt_of m ≡ Ok receipt → list_all (λ unit. has_sums unit.lines) receipt.units ≡ true
+pub receipt_sums : (m : RawMessage) (receipt : Receipt)
+    → receipt_of m ≡ Ok receipt
+    → list_all (λ unit. has_sums unit.lines) receipt.units ≡ true
 unfolding receipt_of
 receipt_sums m receipt h =
     let right = judged_at (λ fault. receipt_holds fault m) (receipt_contents m.segments) receipt 7 Quantity h refl in
-    ap (λ (r : Receipt). list_all (λ unit. has_sums unit.lines) r.units) (sym (judged_is (λ fault. receipt_holds fault m) (receipt_contents m.segments) receipt h))
+    ap (λ (r : Receipt). list_all (λ unit. has_sums unit.lines) r.units)
+    (sym (judged_is (λ fault. receipt_holds fault m) (receipt_contents m.segments) receipt h))
     ∙ receipt_units_sums (read_units m.segments) (not-false _ right)
 
 -- no SSCC of a despatch advice stands twice
-pub despatch_apart : (m : RawMessage) (despatch : Despatch) → despatch_of m ≡ Ok despatch → has_twice (map (λ unit. unit.sscc) despatch.units) ≡ false
+pub despatch_apart : (m : RawMessage) (despatch : Despatch)
+    → despatch_of m ≡ Ok despatch
+    → has_twice (map (λ unit. unit.sscc) despatch.units) ≡ false
 unfolding despatch_of
 despatch_apart m despatch h =
     let right = judged_at (λ fault. despatch_holds fault m) (despatch_contents m.segments) despatch 9 Unit h refl in
-    ap (λ (d : Despatch). has_twice (map (λ unit. unit.sscc) d.units)) (sym (judged_is (λ fault. despatch_holds fault m) (despatch_contents m.segments) despatch h))
+    ap (λ (d : Despatch). has_twice (map (λ unit. unit.sscc) d.units))
+    (sym (judged_is (λ fault. despatch_holds fault m) (despatch_contents m.segments) despatch h))
     ∙ despatch_units_apart (header_order m.segments) m.segments (not-false _ right)

@@ -1,5 +1,6 @@
 -- The sums of items on the way along amounts.
-use Rattle.std.proofs.Common.{◌≡◌, ℕ, zero, suc, ◌+◌, ◌<◌, ◌≤◌, List, [], ◌∷◌, length, get_or, drop, true, false, Bool, ◌&&◌, cond, if◌then◌else◌, nat_le, Option, Some, refl, sym, ap, ◌∙◌, arith}
+use Rattle.std.proofs.Common.{◌≡◌, ℕ, zero, suc, ◌+◌, ◌<◌, ◌≤◌, List, [], ◌∷◌, length, get_or, drop, true, false, Bool}
+use Rattle.std.proofs.Common.{◌&&◌, cond, if◌then◌else◌, nat_le, Option, Some, refl, sym, ap, ◌∙◌, arith}
 use Rattle.std.specs.List.{list_all}
 use Rattle.std.specs.Option.{unwrap_or}
 use Rattle.std.specs.Str.{bytes_eq}
@@ -25,39 +26,69 @@ abbrev pub IsPart : (List ℕ → ℕ) → List Amount → List Amount → Type 
 IsPart so_far amounts rest = (item : List ℕ) → sum_of item amounts ≡ so_far item + sum_of item rest
 
 -- the rest begins with the amount at its place
-pub rest_from : (amounts : List Amount) (i : ℕ) (amount : Amount) → i < length amounts → amount ≡ get_or amounts i amount → drop i amounts ≡ amount ∷ drop (i + 1) amounts
+pub rest_from : (amounts : List Amount) (i : ℕ) (amount : Amount)
+    → i < length amounts
+    → amount ≡ get_or amounts i amount
+    → drop i amounts ≡ amount ∷ drop (i + 1) amounts
 rest_from amounts i amount within at = drop_more amounts i amount within ∙ ap (λ one. one ∷ drop (i + 1) amounts) (sym at)
 
 -- an item's sum so far that is too great with its next amount
-pub too_great : (so_far : List ℕ → ℕ) (amounts : List Amount) (i : ℕ) (amount : Amount) → i < length amounts → amount ≡ get_or amounts i amount → IsPart so_far amounts (drop i amounts) → greatest < so_far amount.gtin + amount.quantity → false ≡ sums_within amounts
+pub too_great : (so_far : List ℕ → ℕ) (amounts : List Amount) (i : ℕ) (amount : Amount)
+    → i < length amounts
+    → amount ≡ get_or amounts i amount
+    → IsPart so_far amounts (drop i amounts)
+    → greatest < so_far amount.gtin + amount.quantity
+    → false ≡ sums_within amounts
 too_great so_far amounts i amount within at part past =
     let whole : sum_of amount.gtin amounts ≡ so_far amount.gtin + (amount.quantity + sum_of amount.gtin (drop (i + 1) amounts)) =
     part amount.gtin ∙ ap (λ rest. so_far amount.gtin + sum_of amount.gtin rest) (rest_from amounts i amount within at)
-    ∙ ap (λ same. so_far amount.gtin + ((if same then amount.quantity else 0) + sum_of amount.gtin (drop (i + 1) amounts))) ((bytes_eq-Decides amount.gtin amount.gtin).1 refl) in
+    ∙ ap (λ same. so_far amount.gtin + ((if same then amount.quantity else 0) + sum_of amount.gtin (drop (i + 1) amounts)))
+    ((bytes_eq-Decides amount.gtin amount.gtin).1 refl) in
     sym (fails_at (λ one. nat_le (sum_of one.gtin amounts) greatest) amounts i amount within
-    (ap (λ one. nat_le (sum_of one.gtin amounts) greatest) (sym at) ∙ lt-leb (sum_of amount.gtin amounts) greatest (omega (arith, whole, past))))
+    (ap (λ one. nat_le (sum_of one.gtin amounts) greatest) (sym at)
+    ∙ lt-leb (sum_of amount.gtin amounts) greatest (omega (arith, whole, past))))
 
 -- no sum so far is too great, and there is no rest
-pub all_within : (so_far : List ℕ → ℕ) (amounts : List Amount) → IsPart so_far amounts [] → ((item : List ℕ) → so_far item ≤ greatest) → true ≡ sums_within amounts
+pub all_within : (so_far : List ℕ → ℕ) (amounts : List Amount)
+    → IsPart so_far amounts []
+    → ((item : List ℕ) → so_far item ≤ greatest)
+    → true ≡ sums_within amounts
 all_within so_far amounts part bound =
-    sym (holds_everywhere (λ one. nat_le (sum_of one.gtin amounts) greatest) amounts (λ one. le-leb (sum_of one.gtin amounts) greatest (omega (arith, part one.gtin, bound one.gtin))))
+    sym (holds_everywhere (λ one. nat_le (sum_of one.gtin amounts) greatest) amounts
+    (λ one. le-leb (sum_of one.gtin amounts) greatest (omega (arith, part one.gtin, bound one.gtin))))
 
-step : (same : Bool) (old : Option ℕ) (sum quantity rest : ℕ) → (same ≡ true → sum ≡ unwrap_or old 0 + quantity) → unwrap_or old 0 + ((if same then quantity else 0) + rest) ≡ unwrap_or (cond same (Some sum) old) 0 + rest
+step : (same : Bool) (old : Option ℕ) (sum quantity rest : ℕ)
+    → (same ≡ true → sum ≡ unwrap_or old 0 + quantity)
+    → unwrap_or old 0 + ((if same then quantity else 0) + rest) ≡ unwrap_or (cond same (Some sum) old) 0 + rest
 step true old sum quantity rest h = let grown = h refl in omega (arith, grown)
 step false old sum quantity rest h = omega arith
 
 -- one amount more
-pub part_next : (old new : List ℕ → Option ℕ) (amounts : List Amount) (i : ℕ) (amount : Amount) (sum : ℕ) → i < length amounts → amount ≡ get_or amounts i amount
-    → ((item : List ℕ) → new item ≡ cond (bytes_eq amount.gtin item) (Some sum) (old item)) → sum ≡ unwrap_or (old amount.gtin) 0 + amount.quantity
-    → IsPart (λ item. unwrap_or (old item) 0) amounts (drop i amounts) → IsPart (λ item. unwrap_or (new item) 0) amounts (drop (i + 1) amounts)
+pub part_next : (old new : List ℕ → Option ℕ) (amounts : List Amount) (i : ℕ) (amount : Amount) (sum : ℕ)
+    → i < length amounts
+    → amount ≡ get_or amounts i amount
+    → ((item : List ℕ) → new item ≡ cond (bytes_eq amount.gtin item) (Some sum) (old item))
+    → sum ≡ unwrap_or (old amount.gtin) 0 + amount.quantity
+    → IsPart (λ item. unwrap_or (old item) 0) amounts (drop i amounts)
+    → IsPart (λ item. unwrap_or (new item) 0) amounts (drop (i + 1) amounts)
 part_next old new amounts i amount sum within at becomes grown part item =
     part item ∙ ap (λ rest. unwrap_or (old item) 0 + sum_of item rest) (rest_from amounts i amount within at)
-    ∙ step (bytes_eq amount.gtin item) (old item) sum amount.quantity (sum_of item (drop (i + 1) amounts)) (λ same. grown ∙ ap (λ one. unwrap_or (old one) 0 + amount.quantity) ((bytes_eq-Decides amount.gtin item).0 same))
+    ∙ step (bytes_eq amount.gtin item) (old item) sum amount.quantity (sum_of item (drop (i + 1) amounts))
+    (λ same. grown ∙ ap (λ one. unwrap_or (old one) 0 + amount.quantity) ((bytes_eq-Decides amount.gtin item).0 same))
     ∙ ap (λ value. unwrap_or value 0 + sum_of item (drop (i + 1) amounts)) (sym (becomes item))
 
-bounded : (same : Bool) (old : Option ℕ) (sum : ℕ) → sum ≤ greatest → unwrap_or old 0 ≤ greatest → unwrap_or (cond same (Some sum) old) 0 ≤ greatest
+bounded : (same : Bool) (old : Option ℕ) (sum : ℕ)
+    → sum ≤ greatest
+    → unwrap_or old 0 ≤ greatest
+    → unwrap_or (cond same (Some sum) old) 0 ≤ greatest
 bounded true old sum h k = h
 bounded false old sum h k = k
 
-pub bound_next : (old new : List ℕ → Option ℕ) (gtin : List ℕ) (sum : ℕ) → ((item : List ℕ) → new item ≡ cond (bytes_eq gtin item) (Some sum) (old item)) → sum ≤ greatest → ((item : List ℕ) → unwrap_or (old item) 0 ≤ greatest) → (item : List ℕ) → unwrap_or (new item) 0 ≤ greatest
-bound_next old new gtin sum becomes within before item = rw (becomes item) (bounded (bytes_eq gtin item) (old item) sum within (before item))
+pub bound_next : (old new : List ℕ → Option ℕ) (gtin : List ℕ) (sum : ℕ)
+    → ((item : List ℕ) → new item ≡ cond (bytes_eq gtin item) (Some sum) (old item))
+    → sum ≤ greatest
+    → ((item : List ℕ) → unwrap_or (old item) 0 ≤ greatest)
+    → (item : List ℕ)
+    → unwrap_or (new item) 0 ≤ greatest
+bound_next old new gtin sum becomes within before item =
+    rw (becomes item) (bounded (bytes_eq gtin item) (old item) sum within (before item))

@@ -45,11 +45,17 @@ pub Decides-false : Decides false ⊥
 Decides-false = (λ e. true≢false (sym e), λ h. absurd h)
 
 module _ {X : Type 0} where
-  pub Decides-all : (p : X → Bool) (P : X → Type 0) → ((x : X) → Decides (p x) (P x)) → (xs : List X) → Decides (list_all p xs) (AllByRecursion P xs)
+  pub Decides-all : (p : X → Bool) (P : X → Type 0)
+      → ((x : X) → Decides (p x) (P x))
+      → (xs : List X)
+      → Decides (list_all p xs) (AllByRecursion P xs)
   Decides-all p P each [] = (λ _. tt, λ _. refl)
   Decides-all p P each (x ∷ xs) = Decides-and (p x) (list_all p xs) (each x) (Decides-all p P each xs)
 
-  pub Refutes-any : (p : X → Bool) (P : X → Type 0) → ((x : X) → Refutes (p x) (P x)) → (xs : List X) → Refutes (list_any p xs) (AllByRecursion P xs)
+  pub Refutes-any : (p : X → Bool) (P : X → Type 0)
+      → ((x : X) → Refutes (p x) (P x))
+      → (xs : List X)
+      → Refutes (list_any p xs) (AllByRecursion P xs)
   Refutes-any p P each [] = Refutes-false
   Refutes-any p P each (x ∷ xs) = Refutes-or (p x) (list_any p xs) (each x) (Refutes-any p P each xs)
 
@@ -79,18 +85,32 @@ module _ {X : Type 0} where
   unwrap_of o P d x says h = sym (ap (λ answer. unwrap_or answer d) ((says x).1 h))
 
   -- the first of three tests that passes chooses its answer
-  pub chosen : (x y z : X) (a b c : Bool) (P : X → Type 0) → (a ≡ true → P x) → (b ≡ true → P y) → (c ≡ true → P z) → (answer : X) → cond a (Some x) (cond b (Some y) (cond c (Some z) None)) ≡ Some answer → P answer
+  pub chosen : (x y z : X) (a b c : Bool) (P : X → Type 0)
+      → (a ≡ true → P x)
+      → (b ≡ true → P y)
+      → (c ≡ true → P z)
+      → (answer : X)
+      → cond a (Some x) (cond b (Some y) (cond c (Some z) None)) ≡ Some answer
+      → P answer
   chosen x y z true b c P first second third answer e = subst P (same_some x answer e) (first refl)
   chosen x y z false true c P first second third answer e = subst P (same_some y answer e) (second refl)
   chosen x y z false false true P first second third answer e = subst P (same_some z answer e) (third refl)
   chosen x y z false false false P first second third answer e = absurd cc
 
   -- a test of what is looked at only where a first test passes
-  pub Decides-read : (read : Bool) (xs : List X) (t : List X → Bool) (P Q : Type 0) → t [] ≡ true → Decides read P → Decides (t xs) Q → Decides (t (cond read xs [])) (P → Q)
+  pub Decides-read : (read : Bool) (xs : List X) (t : List X → Bool) (P Q : Type 0)
+      → t [] ≡ true
+      → Decides read P
+      → Decides (t xs) Q
+      → Decides (t (cond read xs [])) (P → Q)
   Decides-read true xs t P Q none d k = ((λ e p. k.0 e), (λ h. k.1 (h (d.0 refl))))
   Decides-read false xs t P Q none d k = ((λ e p. absurd (true≢false (sym (d.1 p)))), (λ h. none))
 
-  pub Decides-of : (o : Option X) (P : X → Type 0) (t : Option X → Bool) (Q : X → Type 0) → Says o P → t None ≡ false → ((x : X) → Decides (t (Some x)) (Q x)) → Decides (t o) ((x : X) × P x × Q x)
+  pub Decides-of : (o : Option X) (P : X → Type 0) (t : Option X → Bool) (Q : X → Type 0)
+      → Says o P
+      → t None ≡ false
+      → ((x : X) → Decides (t (Some x)) (Q x))
+      → Decides (t o) ((x : X) × P x × Q x)
   Decides-of None P t Q says none each = (λ e. absurd (true≢false (sym e ∙ none)), λ h. let e = (says h.0).1 h.1 in absurd cc)
   Decides-of (Some x) P t Q says none each = (
     (λ e. (x, (says x).0 refl, (each x).0 e)),
@@ -98,7 +118,10 @@ module _ {X : Type 0} where
   )
 
 module _ {X Y : Type 0} where
-  pub Says-then : (o : Option X) (P : X → Type 0) (f : X → Option Y) (Q : X → Y → Type 0) → Says o P → ((x : X) → Says (f x) (Q x)) → Says (option_and_then f o) (λ y. (x : X) × P x × Q x y)
+  pub Says-then : (o : Option X) (P : X → Type 0) (f : X → Option Y) (Q : X → Y → Type 0)
+      → Says o P
+      → ((x : X) → Says (f x) (Q x))
+      → Says (option_and_then f o) (λ y. (x : X) × P x × Q x y)
   Says-then None P f Q says each y = (λ e. absurd cc, λ h. let e = (says h.0).1 h.1 in absurd cc)
   Says-then (Some x) P f Q says each y = (
     (λ e. (x, (says x).0 refl, (each x y).0 e)),

@@ -13,7 +13,9 @@ use Rattle.edi_messages.specs.References.{has_reference, reference, order, order
 use Rattle.edi_messages.specs.References as references
 use Rattle.edi_messages.specs.declared.fault.MessageFault.{MessageFault}
 use Rattle.edi_messages.specs.declared.fault.MessageFault.TheVariants as faults
-use Rattle.edi_goods.specs.Despatch.{despatched, inherits, has_header_reference_or_none, is_referred_by, is_referred, has_references, order_of_line, header_order, holds, line_of, unit_from, contents_of, despatch_of}
+use Rattle.edi_goods.specs.Despatch.{despatched, inherits, has_header_reference_or_none, is_referred_by, is_referred}
+use Rattle.edi_goods.specs.Despatch.{has_references, order_of_line, header_order, holds, line_of, unit_from, contents_of}
+use Rattle.edi_goods.specs.Despatch.{despatch_of}
 use Rattle.edi_goods.specs.Parties.{buyer}
 use Rattle.edi_goods.specs.Units.{read_units}
 use Rattle.edi_goods.specs.declared.despatch.Despatch.{Despatch}
@@ -28,20 +30,28 @@ use Rattle.edi_law.specs.References.{is_rff_on, NamesOrder, NamesLineOrNone}
 use Rattle.edi_law.specs.Units.{OfUnitLines, HasSscc, IsUnit, AreMarked}
 use Rattle.edi_law.proofs.Deciding.{Refutes, Refutes-not, Refutes-false, Decides-all, Decides-is_some, said_of, unwrap_of}
 use Rattle.edi_law.proofs.GoodsLemmas.{Decides-parties, buyer-from_NamesBuyer, NamesBuyer-buyer, zip_is}
-use Rattle.edi_law.proofs.HeaderLemmas.{Decides-type, Decides-begins, Decides-function, Decides-dated, Decides-party, Says-party, Begins-begins_as, begins_as-from_Begins, document_number-from_Begins}
+use Rattle.edi_law.proofs.HeaderLemmas.{Decides-type, Decides-begins, Decides-function, Decides-dated, Decides-party}
+use Rattle.edi_law.proofs.HeaderLemmas.{Says-party, Begins-begins_as, begins_as-from_Begins, document_number-from_Begins}
 use Rattle.edi_law.proofs.LineLemmas.{item-from_IsLine, Says-quantity_of}
 use Rattle.edi_law.proofs.LowestLemmas.{judged_fault, judged_content}
-use Rattle.edi_law.proofs.PartLemmas.{AreLineGroups-line_groups, line_groups-from_AreLineGroups, of_lines, none_passes, Says-only, Decides-none, only_some, at_header, IsHeader-header, found-from_OneOrNone, there-from_OneOrNone, Decides-one_or_none}
+use Rattle.edi_law.proofs.PartLemmas.{AreLineGroups-line_groups, line_groups-from_AreLineGroups, of_lines, none_passes}
+use Rattle.edi_law.proofs.PartLemmas.{Says-only, Decides-none, only_some, at_header, IsHeader-header, found-from_OneOrNone}
+use Rattle.edi_law.proofs.PartLemmas.{there-from_OneOrNone, Decides-one_or_none}
 use Rattle.edi_law.proofs.ReferenceLemmas.{Says-order_named, Decides-line_or_none, NamesLine-group_line, group_line-from_NamesLine}
 use Rattle.edi_law.proofs.SummaryLemmas.{Decides-controlled, Refutes-no_line}
-use Rattle.edi_law.proofs.UnitLemmas.{Decides-unit_lines, Decides-each_line, Decides-has_units, of_units, AreReadUnits-read_units, read_units-from_AreReadUnits, sscc-from_HasSscc}
+use Rattle.edi_law.proofs.UnitLemmas.{Decides-unit_lines, Decides-each_line, Decides-has_units, of_units}
+use Rattle.edi_law.proofs.UnitLemmas.{AreReadUnits-read_units, read_units-from_AreReadUnits, sscc-from_HasSscc}
 
 -- the reference of the header
 order_is : (message : List Segment) (o : Option (List ℕ)) → Inherits message o → order message ≡ o
-order_is message o h = found-from_OneOrNone is_rff_on order_named NamesOrder Says-order_named (header message) o (at_header (λ part. OneOrNone is_rff_on NamesOrder part o) message h)
+order_is message o h =
+    found-from_OneOrNone is_rff_on order_named NamesOrder Says-order_named (header message) o
+    (at_header (λ part. OneOrNone is_rff_on NamesOrder part o) message h)
 
 inherits_is : (message : List Segment) (o : Option (List ℕ)) → Inherits message o → inherits message ≡ is_some o
-inherits_is message o h = there-from_OneOrNone is_rff_on order_named NamesOrder Says-order_named (header message) o (at_header (λ part. OneOrNone is_rff_on NamesOrder part o) message h)
+inherits_is message o h =
+    there-from_OneOrNone is_rff_on order_named NamesOrder Says-order_named (header message) o
+    (at_header (λ part. OneOrNone is_rff_on NamesOrder part o) message h)
 
 Decides-inherited : (message : List Segment) → Decides (has_header_reference_or_none message) ((o : Option (List ℕ)) × Inherits message o)
 Decides-inherited message =
@@ -51,13 +61,18 @@ Decides-inherited message =
     )
 
 -- the references of the groups
-Decides-right : (rff : Segment) → Decides (references.is_order_reference rff) (((number : List ℕ) × NamesOrder number rff) × NamesLineOrNone rff)
-Decides-right rff = Decides-and _ _ (Decides-is_some (order_named rff) (λ number. NamesOrder number rff) (Says-order_named rff)) (Decides-line_or_none rff)
+Decides-right : (rff : Segment)
+    → Decides (references.is_order_reference rff) (((number : List ℕ) × NamesOrder number rff) × NamesLineOrNone rff)
+Decides-right rff =
+    Decides-and _ _ (Decides-is_some (order_named rff) (λ number. NamesOrder number rff) (Says-order_named rff))
+    (Decides-line_or_none rff)
 
 Decides-there : (o : Option (List ℕ)) → Decides (is_some o) ((number : List ℕ) × (o ≡ Some number))
 Decides-there o = Decides-is_some o (λ number. o ≡ Some number) (λ number. ((λ e. e), (λ e. e)))
 
-one_referred : (o : Option (List ℕ)) (group : List Segment) (rff : Segment) → reference group ≡ Some rff → Decides (references.is_order_reference rff) (IsReferred o group)
+one_referred : (o : Option (List ℕ)) (group : List Segment) (rff : Segment)
+    → reference group ≡ Some rff
+    → Decides (references.is_order_reference rff) (IsReferred o group)
 one_referred o group rff there = (
   (λ e. inl (record { segment = rff; is_only = (Says-only is_rff_on group rff).0 there; is = (Decides-right rff).0 e })),
   (λ h. elim h [
@@ -69,7 +84,9 @@ one_referred o group rff there = (
   ]),
 )
 
-none_referred : (o : Option (List ℕ)) (group : List Segment) → reference group ≡ None → Decides (not (has_reference group) && is_some o) (IsReferred o group)
+none_referred : (o : Option (List ℕ)) (group : List Segment)
+    → reference group ≡ None
+    → Decides (not (has_reference group) && is_some o) (IsReferred o group)
 none_referred o group there =
     let d = Decides-and (not (has_reference group)) (is_some o) (Decides-none is_rff_on group) (Decides-there o) in (
       (λ e. inr (d.0 e)),
@@ -79,25 +96,37 @@ none_referred o group there =
       ]),
     )
 
-referred_by : (o : Option (List ℕ)) (group : List Segment) (found : Option Segment) → reference group ≡ found → Decides (is_referred_by (has_reference group) (is_some o) found) (IsReferred o group)
+referred_by : (o : Option (List ℕ)) (group : List Segment) (found : Option Segment)
+    → reference group ≡ found
+    → Decides (is_referred_by (has_reference group) (is_some o) found) (IsReferred o group)
 referred_by o group None there = none_referred o group there
 referred_by o group (Some rff) there = one_referred o group rff there
 
 Decides-referred : (o : Option (List ℕ)) (group : List Segment) → Decides (is_referred (is_some o) group) (IsReferred o group)
 Decides-referred o group = referred_by o group (reference group) refl
 
-Decides-unit_references : (o : Option (List ℕ)) (message : List Segment) → Decides (list_all (has_references (is_some o)) (read_units message)) (OfUnitLines (AllByRecursion (IsReferred o)) message)
-Decides-unit_references o = Decides-unit_lines (list_all (is_referred (is_some o))) (AllByRecursion (IsReferred o)) (Decides-all (is_referred (is_some o)) (IsReferred o) (Decides-referred o))
+Decides-unit_references : (o : Option (List ℕ)) (message : List Segment)
+    → Decides (list_all (has_references (is_some o)) (read_units message)) (OfUnitLines (AllByRecursion (IsReferred o)) message)
+Decides-unit_references o =
+    Decides-unit_lines (list_all (is_referred (is_some o))) (AllByRecursion (IsReferred o))
+    (Decides-all (is_referred (is_some o)) (IsReferred o) (Decides-referred o))
 
 Decides-references : (message : List Segment)
-    → Decides (has_header_reference_or_none message && list_all (has_references (inherits message)) (read_units message)) ((o : Option (List ℕ)) × Inherits message o × OfUnitLines (AllByRecursion (IsReferred o)) message)
+    → Decides (has_header_reference_or_none message && list_all (has_references (inherits message)) (read_units message))
+    ((o : Option (List ℕ)) × Inherits message o × OfUnitLines (AllByRecursion (IsReferred o)) message)
 Decides-references message = (
   (λ e.
       let both = and_parts (has_header_reference_or_none message) _ e in
-      let h = (Decides-inherited message).0 both.0 in
-      (h.0, h.1, (Decides-unit_references h.0 message).0 (ap (λ there. list_all (has_references there) (read_units message)) (sym (inherits_is message h.0 h.1)) ∙ both.1))),
+      let h = (Decides-inherited message).0 both.0 in (
+        h.0,
+        h.1,
+        (Decides-unit_references h.0 message).0
+            (ap (λ there. list_all (has_references there) (read_units message)) (sym (inherits_is message h.0 h.1))
+            ∙ both.1),
+      )),
   (λ h. and_from (has_header_reference_or_none message) _ ((Decides-inherited message).1 (h.0, h.1))
-      (ap (λ there. list_all (has_references there) (read_units message)) (inherits_is message h.0 h.1) ∙ (Decides-unit_references h.0 message).1 h.2)),
+      (ap (λ there. list_all (has_references there) (read_units message)) (inherits_is message h.0 h.1)
+      ∙ (Decides-unit_references h.0 message).1 h.2)),
 )
 
 -- each condition
@@ -109,7 +138,9 @@ refutes m faults.Date = Refutes-not _ (Decides-dated m.segments)
 refutes m faults.Parties = Refutes-not _ (Decides-parties m.segments)
 refutes m faults.Summary = Refutes-false
 refutes m faults.Line = Refutes-not _ (Decides-each_line m.segments)
-refutes m faults.Quantity = Refutes-not _ (Decides-unit_lines (list_all (λ group. is_some (despatched group))) _ (Decides-all (λ group. is_some (despatched group)) (λ group. (quantity : ℕ) × HasQuantity (codes "12") 1 group quantity)
+refutes m faults.Quantity =
+    Refutes-not _ (Decides-unit_lines (list_all (λ group. is_some (despatched group))) _
+    (Decides-all (λ group. is_some (despatched group)) (λ group. (quantity : ℕ) × HasQuantity (codes "12") 1 group quantity)
     (λ group. Decides-is_some (despatched group) (HasQuantity (codes "12") 1 group) (Says-quantity_of (codes "12") 1 group))) m.segments)
 refutes m faults.Reference = Refutes-not _ (Decides-references m.segments)
 refutes m faults.Unit = Refutes-not _ (Decides-has_units m.segments)
@@ -122,24 +153,33 @@ order_of_none : (group : List Segment) → HasNone is_rff_on group → group_ord
 order_of_none group none = ap (λ passing. option_and_then order_named (only passing)) (none_passes is_rff_on group none)
 
 order_of_one : (group : List Segment) (number : List ℕ) → OfOnly is_rff_on group (NamesOrder number) → group_order group ≡ Some number
-order_of_one group number h = ap (option_and_then order_named) ((Says-only is_rff_on group h.segment).1 h.is_only) ∙ (Says-order_named h.segment number).1 h.is
+order_of_one group number h =
+    ap (option_and_then order_named) ((Says-only is_rff_on group h.segment).1 h.is_only)
+    ∙ (Says-order_named h.segment number).1 h.is
 
-of_order_is : (o : Option (List ℕ)) (group : List Segment) (number : List ℕ) → IsOfOrder o group number → order_of_line (unwrap_or o []) group ≡ number
+of_order_is : (o : Option (List ℕ)) (group : List Segment) (number : List ℕ)
+    → IsOfOrder o group number
+    → order_of_line (unwrap_or o []) group ≡ number
 of_order_is o group number (inl one) = ap (λ found. unwrap_or found (unwrap_or o [])) (order_of_one group number one)
-of_order_is o group number (inr h) = ap (λ found. unwrap_or found (unwrap_or o [])) (order_of_none group h.0) ∙ ap (λ found. unwrap_or found []) h.1
+of_order_is o group number (inr h) =
+    ap (λ found. unwrap_or found (unwrap_or o [])) (order_of_none group h.0) ∙ ap (λ found. unwrap_or found []) h.1
 
 of_order_there : (o : Option (List ℕ)) (group : List Segment) → IsReferred o group → (number : List ℕ) × IsOfOrder o group number
 of_order_there o group (inl h) = (h.is.0.0, inl (record { segment = h.segment; is_only = h.is_only; is = h.is.0.1 }))
 of_order_there o group (inr h) = (h.1.0, inr (h.0, h.1.1))
 
-line_or_none : (o : Option (List ℕ)) (group : List Segment) → IsReferred o group → HasNone is_rff_on group ⊎ OfOnly is_rff_on group NamesLineOrNone
+line_or_none : (o : Option (List ℕ)) (group : List Segment)
+    → IsReferred o group
+    → HasNone is_rff_on group ⊎ OfOnly is_rff_on group NamesLineOrNone
 line_or_none o group (inl h) = inr (record { segment = h.segment; is_only = h.is_only; is = h.is.1 })
 line_or_none o group (inr h) = inl h.0
 
 abbrev line_by : Option (List ℕ) → List Segment → DespatchLine
 line_by o group = line_of (unwrap_or o []) group
 
-lines_there : (o : Option (List ℕ)) (groups : List (List Segment)) → AllByRecursion (λ group. (n : ℕ) × (gtin : List ℕ) × IsLine group n gtin) groups → AllByRecursion (λ group. (n : ℕ) × HasQuantity (codes "12") 1 group n) groups
+lines_there : (o : Option (List ℕ)) (groups : List (List Segment))
+    → AllByRecursion (λ group. (n : ℕ) × (gtin : List ℕ) × IsLine group n gtin) groups
+    → AllByRecursion (λ group. (n : ℕ) × HasQuantity (codes "12") 1 group n) groups
     → AllByRecursion (IsReferred o) groups → AllZip (IsDespatchLine o) groups (map (line_by o) groups)
 lines_there o [] line quantity referred = tt
 lines_there o (group ∷ groups) line quantity referred =
@@ -149,7 +189,10 @@ lines_there o (group ∷ groups) line quantity referred =
         order_line_is = NamesLine-group_line group (line_or_none o group referred.0);
         number = line.0.0;
         line_is = subst (IsLine group line.0.0) (sym (item-from_IsLine group line.0.0 line.0.1 line.0.2)) line.0.2;
-        quantity_is = subst (HasQuantity (codes "12") 1 group) (unwrap_of (despatched group) (HasQuantity (codes "12") 1 group) 0 quantity.0.0 (Says-quantity_of (codes "12") 1 group) quantity.0.1) quantity.0.1;
+        quantity_is =
+            subst (HasQuantity (codes "12") 1 group)
+            (unwrap_of (despatched group) (HasQuantity (codes "12") 1 group) 0 quantity.0.0
+            (Says-quantity_of (codes "12") 1 group) quantity.0.1) quantity.0.1;
       },
       lines_there o groups line.1 quantity.1 referred.1,
     )
@@ -165,14 +208,18 @@ line_is o group one h =
     ap (λ n. despatch_line n order_line item quantity) (of_order_is o group one.order h.order_is)
     ∙ ap (λ n. despatch_line one.order n item quantity) (group_line-from_NamesLine group one.order_line h.order_line_is)
     ∙ ap (λ g. despatch_line one.order one.order_line g quantity) (item-from_IsLine group h.number one.gtin h.line_is)
-    ∙ ap (λ q. despatch_line one.order one.order_line one.gtin q) (sym (unwrap_of (despatched group) (HasQuantity (codes "12") 1 group) 0 one.quantity (Says-quantity_of (codes "12") 1 group) h.quantity_is))
+    ∙ ap (λ q. despatch_line one.order one.order_line one.gtin q)
+    (sym (unwrap_of (despatched group) (HasQuantity (codes "12") 1 group) 0 one.quantity
+    (Says-quantity_of (codes "12") 1 group) h.quantity_is))
 
 -- what a unit says
 abbrev unit_by : Option (List ℕ) → List Segment → DespatchUnit
 unit_by o unit = unit_from (unwrap_or o []) unit
 
-units_there : (o : Option (List ℕ)) (parts : List (List Segment)) (ssccs : List (List ℕ)) → AllByRecursion (OfLines (AllByRecursion (λ group. (n : ℕ) × (gtin : List ℕ) × IsLine group n gtin))) parts
-    → AllByRecursion (OfLines (AllByRecursion (λ group. (n : ℕ) × HasQuantity (codes "12") 1 group n))) parts → AllByRecursion (OfLines (AllByRecursion (IsReferred o))) parts
+units_there : (o : Option (List ℕ)) (parts : List (List Segment)) (ssccs : List (List ℕ))
+    → AllByRecursion (OfLines (AllByRecursion (λ group. (n : ℕ) × (gtin : List ℕ) × IsLine group n gtin))) parts
+    → AllByRecursion (OfLines (AllByRecursion (λ group. (n : ℕ) × HasQuantity (codes "12") 1 group n))) parts
+    → AllByRecursion (OfLines (AllByRecursion (IsReferred o))) parts
     → AllZip IsUnit parts ssccs → AllZip (IsDespatchUnit o) parts (map (unit_by o) parts)
 units_there o [] ssccs line quantity referred marked = tt
 units_there o (unit ∷ parts) [] line quantity referred marked = absurd marked
@@ -195,7 +242,9 @@ unit_is : (o : Option (List ℕ)) (unit : List Segment) (one : DespatchUnit) →
 unit_is o unit one h =
     let given = h.lines_are in
     ap (λ digits. despatch_unit digits (map (line_by o) (line_groups unit))) (sscc-from_HasSscc unit one.sscc h.sscc_is)
-    ∙ ap (λ lines. despatch_unit one.sscc lines) (ap (map (line_by o)) (line_groups-from_AreLineGroups given.groups unit given.are_groups) ∙ zip_is (line_by o) (IsDespatchLine o) (line_is o) given.groups one.lines given.are)
+    ∙ ap (λ lines. despatch_unit one.sscc lines)
+    (ap (map (line_by o)) (line_groups-from_AreLineGroups given.groups unit given.are_groups)
+    ∙ zip_is (line_by o) (IsDespatchLine o) (line_is o) given.groups one.lines given.are)
 
 -- what the advice says
 contents_there : (m : RawMessage) → IsFaultless (IsRight m) → IsDespatch m.segments (contents_of m.segments)
@@ -206,24 +255,31 @@ contents_there m right =
     let reference_ = right faults.Reference in
     let o = reference_.0 in
     let marked = of_units AreMarked message (right faults.Unit).units in
-    let there = units_there o (read_units message) marked.ssccs (of_units _ message (right faults.Line)) (of_units _ message (right faults.Quantity)) (of_units _ message reference_.2) marked.marked in
+    let there = units_there o (read_units message) marked.ssccs (of_units _ message (right faults.Line))
+    (of_units _ message (right faults.Quantity)) (of_units _ message reference_.2) marked.marked in
     record {
       number_is = Begins-begins_as (codes "351") message (begins_as-from_Begins (codes "351") message beginning.0 beginning.1);
       buyer_is = NamesBuyer-buyer message parties.0.0 parties.0.1;
-      supplier_is = said_of (party (codes "SU") message) (NamesParty (codes "SU") message) [] (Says-party (codes "SU") message) ((Decides-party (codes "SU") message).1 parties.1);
+      supplier_is =
+          said_of (party (codes "SU") message) (NamesParty (codes "SU") message) [] (Says-party (codes "SU") message)
+          ((Decides-party (codes "SU") message).1 parties.1);
       inherited = o;
       inherited_is = reference_.1;
       units_are = record {
         units = read_units message;
         are_units = AreReadUnits-read_units message;
-        are = subst (λ found. AllZip (IsDespatchUnit o) (read_units message) (map (unit_by found) (read_units message))) (sym (order_is message o reference_.1)) there;
+        are =
+            subst (λ found. AllZip (IsDespatchUnit o) (read_units message) (map (unit_by found) (read_units message)))
+            (sym (order_is message o reference_.1)) there;
       };
     }
 
 abbrev despatch_from : List ℕ → Option (List ℕ) → List ℕ → List DespatchUnit → Despatch
 despatch_from number buyer_ supplier units = record { number = number; buyer = buyer_; supplier = supplier; units = units }
 
-units_are : (message : List Segment) (despatch : Despatch) → IsDespatch message despatch → map (unit_from (header_order message)) (read_units message) ≡ despatch.units
+units_are : (message : List Segment) (despatch : Despatch)
+    → IsDespatch message despatch
+    → map (unit_from (header_order message)) (read_units message) ≡ despatch.units
 units_are message despatch h =
     let given = h.units_are in
     ap (λ found. map (unit_by found) (read_units message)) (order_is message h.inherited h.inherited_is)
@@ -234,7 +290,8 @@ contents_are : (message : List Segment) (despatch : Despatch) → IsDespatch mes
 contents_are message despatch h =
     let su = unwrap_or (party (codes "SU") message) [] in
     let units = map (unit_from (header_order message)) (read_units message) in
-    let supplier = unwrap_of (party (codes "SU") message) (NamesParty (codes "SU") message) [] despatch.supplier (Says-party (codes "SU") message) h.supplier_is in
+    let supplier = unwrap_of (party (codes "SU") message) (NamesParty (codes "SU") message) [] despatch.supplier
+    (Says-party (codes "SU") message) h.supplier_is in
     ap (λ n. despatch_from n (buyer message) su units) (document_number-from_Begins (codes "351") message despatch.number h.number_is)
     ∙ ap (λ b. despatch_from despatch.number b su units) (buyer-from_NamesBuyer message despatch.buyer h.buyer_is)
     ∙ ap (λ s. despatch_from despatch.number despatch.buyer s units) (sym supplier)
@@ -244,7 +301,8 @@ pub fault_law : (m : RawMessage) (fault : MessageFault) → (despatch_of m ≡ E
 unfolding despatch_of
 fault_law m fault = judged_fault (λ f. holds f m) (IsRight m) (λ f lower. refutes m f) refl (contents_of m.segments) fault
 
-pub despatch_law : (m : RawMessage) (despatch : Despatch) → (despatch_of m ≡ Ok despatch) ↔ (IsFaultless (IsRight m) × IsDespatch m.segments despatch)
+pub despatch_law : (m : RawMessage) (despatch : Despatch)
+    → (despatch_of m ≡ Ok despatch) ↔ (IsFaultless (IsRight m) × IsDespatch m.segments despatch)
 unfolding despatch_of
 despatch_law m despatch =
     let law = judged_content (λ f. holds f m) (IsRight m) (λ f lower. refutes m f) refl (contents_of m.segments) despatch in (

@@ -17,7 +17,9 @@ abbrev names_buyer : Segment → Bool
 names_buyer = says (codes "NAD") (codes "BY")
 
 pub buyer-from_NamesBuyer : (message : List Segment) (o : Option (List ℕ)) → NamesBuyer message o → buyer message ≡ o
-buyer-from_NamesBuyer message o h = found-from_OneOrNone names_buyer named_by IsNamed Says-named (header message) o (at_header (λ part. OneOrNone names_buyer IsNamed part o) message h)
+buyer-from_NamesBuyer message o h =
+    found-from_OneOrNone names_buyer named_by IsNamed Says-named (header message) o
+    (at_header (λ part. OneOrNone names_buyer IsNamed part o) message h)
 
 pub NamesBuyer-buyer : (message : List Segment) (o : Option (List ℕ)) → NamesBuyer message o → NamesBuyer message (buyer message)
 NamesBuyer-buyer message o h = subst (NamesBuyer message) (sym (buyer-from_NamesBuyer message o h)) h
@@ -29,7 +31,9 @@ Decides-buyer message =
       (λ h. d.1 (h.0, at_header (λ part. OneOrNone names_buyer IsNamed part h.0) message h.1)),
     )
 
-pub Decides-parties : (message : List Segment) → Decides (has_parties message) (((o : Option (List ℕ)) × NamesBuyer message o) × ((supplier : List ℕ) × NamesParty (codes "SU") message supplier))
+pub Decides-parties : (message : List Segment)
+    → Decides (has_parties message)
+    (((o : Option (List ℕ)) × NamesBuyer message o) × ((supplier : List ℕ) × NamesParty (codes "SU") message supplier))
 Decides-parties message = Decides-and _ _ (Decides-buyer message) (Decides-party (codes "SU") message)
 
 -- what the parts say, one by one

@@ -1,5 +1,6 @@
 -- What is read of a header is what is valid in it.
-use Rattle.std.proofs.Common.{◌≡◌, ◌≢◌, ℕ, suc, Bool, true, false, List, [], ◌∷◌, length, filter, inl, inr, refl, sym, ap, subst, ◌∙◌, arith}
+use Rattle.std.proofs.Common.{◌≡◌, ◌≢◌, ℕ, suc, Bool, true, false, List, [], ◌∷◌, length, filter, inl, inr, refl, sym, ap}
+use Rattle.std.proofs.Common.{subst, ◌∙◌, arith}
 use Rattle.std.specs.Prelude.{is_some, ◌==◌, codes, Decides}
 use Rattle.std.specs.Str.{bytes_eq}
 use Rattle.std.proofs.lemmas.Bool.{cases_Bool, true≢false, eqb-true, and_parts, and_from}
@@ -54,10 +55,15 @@ unh_is_none unh bgm rest is one =
       | inr not_ ↦ not_
     ]
 
-one_behind : (unh bgm : Segment) (rest : List Segment) → is_bgm unh ≡ false → one_bgm (unh ∷ bgm ∷ rest) ≡ true → one_bgm (bgm ∷ rest) ≡ true
+one_behind : (unh bgm : Segment) (rest : List Segment)
+    → is_bgm unh ≡ false
+    → one_bgm (unh ∷ bgm ∷ rest) ≡ true
+    → one_bgm (bgm ∷ rest) ≡ true
 one_behind unh bgm rest not_ one = sym (rw not_ refl) ∙ one
 
-begun : (code : List ℕ) (unh bgm : Segment) (rest : List Segment) → begins_as code (unh ∷ bgm ∷ rest) ≡ true → Begins code (unh ∷ bgm ∷ rest) (component bgm 1 0)
+begun : (code : List ℕ) (unh bgm : Segment) (rest : List Segment)
+    → begins_as code (unh ∷ bgm ∷ rest) ≡ true
+    → Begins code (unh ∷ bgm ∷ rest) (component bgm 1 0)
 begun code unh bgm rest e =
     let number = and_parts _ _ e in
     let code_ = and_parts _ _ number.0 in
@@ -76,12 +82,20 @@ begun code unh bgm rest e =
       number_right = (Decides-document_number (component bgm 1 0)).0 number.1;
     }
 
-pub Begins-begins_as : (code : List ℕ) (message : List Segment) → begins_as code message ≡ true → Begins code message (document_number message)
+pub Begins-begins_as : (code : List ℕ) (message : List Segment)
+    → begins_as code message ≡ true
+    → Begins code message (document_number message)
 Begins-begins_as code [] e = absurd (true≢false (sym e))
 Begins-begins_as code (unh ∷ []) e = absurd (true≢false (sym e))
 Begins-begins_as code (unh ∷ bgm ∷ rest) e = begun code unh bgm rest e
 
-begins_there : (code : List ℕ) (unh bgm : Segment) (rest : List Segment) (number : List ℕ) → is_bgm bgm ≡ true → is_bgm unh ≡ false → HasNone is_bgm rest → component bgm 0 0 ≡ code → component bgm 1 0 ≡ number → IsDocumentNumber number
+begins_there : (code : List ℕ) (unh bgm : Segment) (rest : List Segment) (number : List ℕ)
+    → is_bgm bgm ≡ true
+    → is_bgm unh ≡ false
+    → HasNone is_bgm rest
+    → component bgm 0 0 ≡ code
+    → component bgm 1 0 ≡ number
+    → IsDocumentNumber number
     → begins_as code (unh ∷ bgm ∷ rest) ≡ true
 begins_there code unh bgm rest number is not_ none code_ number_ right =
     let one : one_bgm (unh ∷ bgm ∷ rest) ≡ true = rw (not_, is) (rw (none_passes is_bgm rest none) refl) in
@@ -89,15 +103,22 @@ begins_there code unh bgm rest number is not_ none code_ number_ right =
     (and_from _ _ (and_from _ _ is one) ((bytes_eq-Decides (component bgm 0 0) code).1 code_))
     ((Decides-document_number (component bgm 1 0)).1 (subst IsDocumentNumber (sym number_) right))
 
-pub begins_as-from_Begins : (code : List ℕ) (message : List Segment) (number : List ℕ) → Begins code message number → begins_as code message ≡ true
+pub begins_as-from_Begins : (code : List ℕ) (message : List Segment) (number : List ℕ)
+    → Begins code message number
+    → begins_as code message ≡ true
 begins_as-from_Begins code message number h =
-    ap (begins_as code) h.place ∙ begins_there code h.unh h.bgm h.rest number h.is_bgm h.first_is_none h.none_later h.code_is h.number_is h.number_right
+    ap (begins_as code) h.place
+    ∙ begins_there code h.unh h.bgm h.rest number h.is_bgm h.first_is_none h.none_later h.code_is h.number_is h.number_right
 
-pub document_number-from_Begins : (code : List ℕ) (message : List Segment) (number : List ℕ) → Begins code message number → document_number message ≡ number
+pub document_number-from_Begins : (code : List ℕ) (message : List Segment) (number : List ℕ)
+    → Begins code message number
+    → document_number message ≡ number
 document_number-from_Begins code message number h = ap document_number h.place ∙ h.number_is
 
-pub Decides-begins : (code : List ℕ) (message : List Segment) → Decides (begins_as code message) ((number : List ℕ) × Begins code message number)
-Decides-begins code message = ((λ e. (document_number message, Begins-begins_as code message e)), (λ h. begins_as-from_Begins code message h.0 h.1))
+pub Decides-begins : (code : List ℕ) (message : List Segment)
+    → Decides (begins_as code message) ((number : List ℕ) × Begins code message number)
+Decides-begins code message =
+    ((λ e. (document_number message, Begins-begins_as code message e)), (λ h. begins_as-from_Begins code message h.0 h.1))
 
 -- the function
 function_there : (message : List Segment) (code : List ℕ) → ([] ≢ code) → function message ≡ code → HasFunction message code
@@ -108,21 +129,28 @@ function_there (unh ∷ bgm ∷ rest) code some e = record { unh = unh; bgm = bg
 pub function-from_HasFunction : (message : List Segment) (code : List ℕ) → HasFunction message code → function message ≡ code
 function-from_HasFunction message code h = ap function h.place ∙ h.function_is
 
-pub Decides-function : (message : List Segment) (code : List ℕ) → ([] ≢ code) → Decides (bytes_eq (function message) code) (HasFunction message code)
+pub Decides-function : (message : List Segment) (code : List ℕ)
+    → ([] ≢ code)
+    → Decides (bytes_eq (function message) code) (HasFunction message code)
 Decides-function message code some =
-    Decides-like (bytes_eq (function message) code) (function_there message code some) (function-from_HasFunction message code) (bytes_eq-Decides (function message) code)
+    Decides-like (bytes_eq (function message) code) (function_there message code some)
+    (function-from_HasFunction message code) (bytes_eq-Decides (function message) code)
 
 -- the date
 pub Decides-dated : (message : List Segment) → Decides (has_date message) (IsDated message)
 Decides-dated =
     Decides-header (λ part. is_dated (only (qualified (codes "DTM") (codes "137") part))) _
-    (Decides-of_only (says (codes "DTM") (codes "137")) is_dated (λ dtm. IsDate (component dtm 0 2) (component dtm 0 1)) refl (λ dtm. Decides-date (component dtm 0 2) (component dtm 0 1)))
+    (Decides-of_only (says (codes "DTM") (codes "137")) is_dated (λ dtm. IsDate (component dtm 0 2) (component dtm 0 1))
+    refl (λ dtm. Decides-date (component dtm 0 2) (component dtm 0 1)))
 
 -- the parties
 pub Says-named : (nad : Segment) → Says (named_by nad) (λ gln. IsNamed gln nad)
 Says-named nad =
-    let right = Decides-and (is_gln (component nad 1 0)) (bytes_eq (component nad 1 2) (codes "9")) (Decides-is_key 13 (component nad 1 0)) (bytes_eq-Decides (component nad 1 2) (codes "9")) in
-    Says-like (named_by nad) (λ gln. (IsGln (component nad 1 0) × (component nad 1 2 ≡ codes "9")) × (component nad 1 0 ≡ gln)) (λ gln. IsNamed gln nad)
+    let right = Decides-and (is_gln (component nad 1 0)) (bytes_eq (component nad 1 2) (codes "9"))
+    (Decides-is_key 13 (component nad 1 0)) (bytes_eq-Decides (component nad 1 2) (codes "9")) in
+    Says-like (named_by nad)
+    (λ gln. (IsGln (component nad 1 0) × (component nad 1 2 ≡ codes "9")) × (component nad 1 0 ≡ gln))
+    (λ gln. IsNamed gln nad)
     (λ gln h. record { gln_is = h.1; right = subst IsGln h.1 h.0.0; agency = h.0.1 })
     (λ gln h. ((subst IsGln (sym h.gln_is) h.right, h.agency), h.gln_is))
     (Says-if _ _ (component nad 1 0) right)
@@ -132,5 +160,6 @@ Says-party role message =
     Says-header _ (λ gln header. OfOnly (says (codes "NAD") role) header (IsNamed gln))
     (Says-of_only (says (codes "NAD") role) named_by IsNamed Says-named) message
 
-pub Decides-party : (role : List ℕ) (message : List Segment) → Decides (is_some (party role message)) ((gln : List ℕ) × NamesParty role message gln)
+pub Decides-party : (role : List ℕ) (message : List Segment)
+    → Decides (is_some (party role message)) ((gln : List ℕ) × NamesParty role message gln)
 Decides-party role message = Decides-is_some (party role message) (NamesParty role message) (Says-party role message)

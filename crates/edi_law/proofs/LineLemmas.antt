@@ -17,7 +17,8 @@ use Rattle.edi_messages.specs.Values.{quantity}
 use Rattle.edi_law.specs.Lines.{HasGtin, IsLine, IsAmount, HasQuantity, NoneTwice}
 use Rattle.edi_law.specs.Segments.{says}
 use Rattle.edi_law.specs.Values.{IsLineNumber, IsQuantity}
-use Rattle.edi_law.proofs.Deciding.{Says, Refutes, Refutes-false, Refutes-or, Refutes-any, Refutes-ne, Decides-leb, Decides-is_some, Says-like, Says-if, Says-when, Says-then}
+use Rattle.edi_law.proofs.Deciding.{Says, Refutes, Refutes-false, Refutes-or, Refutes-any, Refutes-ne, Decides-leb}
+use Rattle.edi_law.proofs.Deciding.{Decides-is_some, Says-like, Says-if, Says-when, Says-then}
 use Rattle.edi_law.proofs.PartLemmas.{Says-of_only}
 use Rattle.edi_law.proofs.ValueLemmas.{Says-line_number, Says-quantity}
 
@@ -30,10 +31,13 @@ gtin_there text = Says-if _ (IsGtin text) (in_fourteen text) (Decides-is_gtin te
 
 pub Says-item : (lin : Segment) → Says (gtin_in lin) (HasGtin lin)
 Says-item lin =
-    Says-like (gtin_in lin) (λ digits. (component lin 2 1 ≡ codes "SRV") × (IsGtin (component lin 2 0) × (in_fourteen (component lin 2 0) ≡ digits))) (HasGtin lin)
+    Says-like (gtin_in lin) (λ digits.
+    (component lin 2 1 ≡ codes "SRV") × (IsGtin (component lin 2 0) × (in_fourteen (component lin 2 0) ≡ digits)))
+    (HasGtin lin)
     (λ digits h. record { said = h.0; right = h.1.0; gtin_is = h.1.1 })
     (λ digits h. (h.said, (h.right, h.gtin_is)))
-    (Says-when (bytes_eq (component lin 2 1) (codes "SRV")) _ (component lin 2 1 ≡ codes "SRV") _ (bytes_eq-Decides (component lin 2 1) (codes "SRV")) (gtin_there (component lin 2 0)))
+    (Says-when (bytes_eq (component lin 2 1) (codes "SRV")) _ (component lin 2 1 ≡ codes "SRV") _
+    (bytes_eq-Decides (component lin 2 1) (codes "SRV")) (gtin_there (component lin 2 0)))
 
 -- the line
 twice_not : (t : Bool) → not (not t) ≡ t
@@ -46,7 +50,9 @@ Decides-no_sub_line elements =
     ((λ e. d.0 (sym (twice_not (length elements == 0)) ∙ e)), (λ h. twice_not (length elements == 0) ∙ d.1 h))
 
 abbrev IsLineBy : Segment → Type 0
-IsLineBy lin = (((n : ℕ) × IsLineNumber (component lin 0 0) n) × ((digits : List ℕ) × HasGtin lin digits)) × (element_at lin.elements 3 ≡ [])
+IsLineBy lin =
+    (((n : ℕ) × IsLineNumber (component lin 0 0) n) × ((digits : List ℕ) × HasGtin lin digits))
+    × (element_at lin.elements 3 ≡ [])
 
 Decides-line_by : (lin : Segment) (body : List Segment) → Decides (is_line (lin ∷ body)) (IsLineBy lin)
 Decides-line_by lin body =
@@ -73,16 +79,22 @@ line_there (lin ∷ body) e =
     }
 
 pub is_line-from_IsLine : (group : List Segment) (n : ℕ) (digits : List ℕ) → IsLine group n digits → is_line group ≡ true
-is_line-from_IsLine group n digits h = ap is_line h.place ∙ (Decides-line_by h.lin h.body).1 (((n, h.number_is), (digits, h.item)), h.no_sub_line)
+is_line-from_IsLine group n digits h =
+    ap is_line h.place ∙ (Decides-line_by h.lin h.body).1 (((n, h.number_is), (digits, h.item)), h.no_sub_line)
 
 pub number-from_IsLine : (group : List Segment) (n : ℕ) (digits : List ℕ) → IsLine group n digits → number_or_zero group ≡ n
-number-from_IsLine group n digits h = ap number_or_zero h.place ∙ ap (λ o. unwrap_or o 0) ((Says-line_number (component h.lin 0 0) n).1 h.number_is)
+number-from_IsLine group n digits h =
+    ap number_or_zero h.place ∙ ap (λ o. unwrap_or o 0) ((Says-line_number (component h.lin 0 0) n).1 h.number_is)
 
 pub item-from_IsLine : (group : List Segment) (n : ℕ) (digits : List ℕ) → IsLine group n digits → unwrap_or (gtin group) [] ≡ digits
-item-from_IsLine group n digits h = ap (λ segments. unwrap_or (gtin segments) []) h.place ∙ ap (λ o. unwrap_or o []) ((Says-item h.lin digits).1 h.item)
+item-from_IsLine group n digits h =
+    ap (λ segments. unwrap_or (gtin segments) []) h.place ∙ ap (λ o. unwrap_or o []) ((Says-item h.lin digits).1 h.item)
 
 pub Decides-line : (group : List Segment) → Decides (is_line group) ((number : ℕ) × (gtin : List ℕ) × IsLine group number gtin)
-Decides-line group = ((λ e. (number_or_zero group, unwrap_or (gtin group) [], line_there group e)), (λ h. is_line-from_IsLine group h.0 h.1 h.2))
+Decides-line group = (
+  (λ e. (number_or_zero group, unwrap_or (gtin group) [], line_there group e)),
+  (λ h. is_line-from_IsLine group h.0 h.1 h.2),
+)
 
 -- quantities
 Decides-piece : (bytes : List ℕ) → Decides (is_piece bytes) ((bytes ≡ []) ⊎ (bytes ≡ codes "PCE"))
@@ -92,21 +104,26 @@ pub Says-amount : (least : ℕ) (qty : Segment) → Says (amount least qty) (λ 
 Says-amount least qty =
     let bytes = component qty 0 1 in
     let unit = component qty 0 2 in
-    Says-like (amount least qty) (λ n. ((unit ≡ []) ⊎ (unit ≡ codes "PCE")) × ((m : ℕ) × IsQuantity bytes m × ((least ≤ m) × (m ≡ n)))) (λ n. IsAmount least n qty)
+    Says-like (amount least qty)
+    (λ n. ((unit ≡ []) ⊎ (unit ≡ codes "PCE")) × ((m : ℕ) × IsQuantity bytes m × ((least ≤ m) × (m ≡ n))))
+    (λ n. IsAmount least n qty)
     (λ n h. record { unit = h.0; number_is = subst (IsQuantity bytes) h.1.2.1 h.1.1; from_least = subst (λ m. least ≤ m) h.1.2.1 h.1.2.0 })
     (λ n h. (h.unit, (n, h.number_is, (h.from_least, refl))))
     (Says-when (is_piece unit) (option_and_then (from_least least) (quantity bytes)) _ _ (Decides-piece unit)
     (Says-then (quantity bytes) (IsQuantity bytes) (from_least least) (λ m n. (least ≤ m) × (m ≡ n)) (Says-quantity bytes)
     (λ m. Says-if (nat_le least m) (least ≤ m) m (Decides-leb least m))))
 
-pub Says-quantity_of : (kind : List ℕ) (least : ℕ) (group : List Segment) → Says (quantity_of kind least group) (HasQuantity kind least group)
+pub Says-quantity_of : (kind : List ℕ) (least : ℕ) (group : List Segment)
+    → Says (quantity_of kind least group) (HasQuantity kind least group)
 Says-quantity_of kind least group = Says-of_only (says (codes "QTY") kind) (amount least) (IsAmount least) (Says-amount least) group
 
 -- what comes twice
 module _ {X : Type 0} (same : X → X → Bool) (decides : (x y : X) → Decides (same x y) (x ≡ y)) where
   pub Refutes-twice : (xs : List X) → Refutes (comes_twice same xs) (NoneTwice xs)
   Refutes-twice [] = Refutes-false
-  Refutes-twice (x ∷ xs) = Refutes-or (comes_among same x xs) (comes_twice same xs) (Refutes-any (same x) (λ other. x ≢ other) (λ other. Refutes-ne (same x other) (decides x other)) xs) (Refutes-twice xs)
+  Refutes-twice (x ∷ xs) =
+      Refutes-or (comes_among same x xs) (comes_twice same xs)
+      (Refutes-any (same x) (λ other. x ≢ other) (λ other. Refutes-ne (same x other) (decides x other)) xs) (Refutes-twice xs)
 
 pub Refutes-number_twice : (numbers : List ℕ) → Refutes (has_number_twice numbers) (NoneTwice numbers)
 Refutes-number_twice = Refutes-twice nat_eq Decides-eqb

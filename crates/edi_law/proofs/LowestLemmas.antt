@@ -1,5 +1,6 @@
 -- The first fault that is found in their order is the one with the lowest number.
-use Rattle.std.proofs.Common.{◌≡◌, ℕ, zero, suc, ◌<◌, ◌⊎◌, inl, inr, List, [], ◌∷◌, true, false, Bool, Option, Some, None, Ok, Err, refl, sym, ap, ◌∙◌, arith, find}
+use Rattle.std.proofs.Common.{◌≡◌, ℕ, zero, suc, ◌<◌, ◌⊎◌, inl, inr, List, [], ◌∷◌, true, false, Bool, Option, Some, None}
+use Rattle.std.proofs.Common.{Ok, Err, refl, sym, ap, ◌∙◌, arith, find}
 use Rattle.std.specs.Prelude.{◌↔◌}
 use Rattle.std.proofs.lemmas.Bool.{cases_Bool, true≢false, true_from_ne_false}
 use Rattle.edi_messages.specs.declared.fault.MessageFault.{MessageFault}
@@ -24,7 +25,34 @@ above_each n (x ∷ xs) f h (inl e) = rw e h.0
 above_each n (x ∷ xs) f h (inr m) = let later = above_each (number x) xs f h.1 m in omega arith
 
 rising : Above 0 faults
-rising = (omega arith, (omega arith, (omega arith, (omega arith, (omega arith, (omega arith, (omega arith, (omega arith, (omega arith, (omega arith, (omega arith, (omega arith, tt))))))))))))
+rising = (
+  omega arith,
+  (
+    omega arith,
+    (
+      omega arith,
+      (
+        omega arith,
+        (
+          omega arith,
+          (
+            omega arith,
+            (
+              omega arith,
+              (
+                omega arith,
+                (
+                  omega arith,
+                  (omega arith, (omega arith, (omega arith, tt))),
+                ),
+              ),
+            ),
+          ),
+        ),
+      ),
+    ),
+  ),
+)
 
 -- each fault but out of memory is listed
 listed : (f : MessageFault) → (f ≡ faulty.Memory) ⊎ Among f faults
@@ -52,11 +80,22 @@ module _ (p : MessageFault → Bool) (no_memory : p faulty.Memory ≡ false) whe
         | inr not_ ↦ found_holds xs f (sym (rw not_ refl) ∙ h)
       ]
 
-  not_below : (x : MessageFault) (xs : List MessageFault) (f g : MessageFault) → Above (number x) xs → x ≡ f → Among g (x ∷ xs) → number g < number f → ⊥
+  not_below : (x : MessageFault) (xs : List MessageFault) (f g : MessageFault)
+      → Above (number x) xs
+      → x ≡ f
+      → Among g (x ∷ xs)
+      → number g < number f
+      → ⊥
   not_below x xs f g a same (inl here) lt = let e : number g ≡ number f = ap number (here ∙ same) in omega arith
-  not_below x xs f g a same (inr later) lt = let e : number x ≡ number f = ap number same in let above = above_each (number x) xs g a later in omega arith
+  not_below x xs f g a same (inr later) lt =
+      let e : number x ≡ number f = ap number same in let above = above_each (number x) xs g a later in omega arith
 
-  found_lowest : (n : ℕ) (xs : List MessageFault) (f g : MessageFault) → Above n xs → find p xs ≡ Some f → Among g xs → number g < number f → p g ≡ false
+  found_lowest : (n : ℕ) (xs : List MessageFault) (f g : MessageFault)
+      → Above n xs
+      → find p xs ≡ Some f
+      → Among g xs
+      → number g < number f
+      → p g ≡ false
   found_lowest n [] f g a h m lt = absurd m
   found_lowest n (x ∷ xs) f g a h m lt =
       elim (cases_Bool (p x)) [
@@ -67,7 +106,12 @@ module _ (p : MessageFault → Bool) (no_memory : p faulty.Memory ≡ false) whe
         ]
       ]
 
-  lowest_found : (n : ℕ) (xs : List MessageFault) (f : MessageFault) → Above n xs → Among f xs → p f ≡ true → ((g : MessageFault) → number g < number f → p g ≡ false) → find p xs ≡ Some f
+  lowest_found : (n : ℕ) (xs : List MessageFault) (f : MessageFault)
+      → Above n xs
+      → Among f xs
+      → p f ≡ true
+      → ((g : MessageFault) → number g < number f → p g ≡ false)
+      → find p xs ≡ Some f
   lowest_found n [] f a m h lower = absurd m
   lowest_found n (x ∷ xs) f a (inl here) h lower = let is : p x ≡ true = rw (← here) h in rw is (ap Some (sym here))
   lowest_found n (x ∷ xs) f a (inr later) h lower =
@@ -120,10 +164,14 @@ module _ {X : Type 0} where
   content_found (Some g) content right h = absurd cc
 
   -- Where all is valid under lower numbers, the test of a fault is false exactly where what is valid under its number holds.
-  module _ (p : MessageFault → Bool) (IsRight : MessageFault → Type 0) (refutes : (f : MessageFault) → ((g : MessageFault) → number g < number f → IsRight g) → Refutes (p f) (IsRight f)) (no_memory : p faulty.Memory ≡ false) (content : X) where
+  module _ (p : MessageFault → Bool) (IsRight : MessageFault → Type 0)
+      (refutes : (f : MessageFault) → ((g : MessageFault) → number g < number f → IsRight g) → Refutes (p f) (IsRight f))
+      (no_memory : p faulty.Memory ≡ false) (content : X) where
     lower_right : (n : ℕ) → ((g : MessageFault) → number g < n → p g ≡ false) → (g : MessageFault) → number g < n → IsRight g
     lower_right zero h g lt = absurd (omega (arith, lt))
-    lower_right (suc n) h g lt = (refutes g (λ k below. lower_right n (λ one small. h one (omega (arith, small))) k (omega (arith, below, lt)))).0 (h g lt)
+    lower_right (suc n) h g lt =
+        (refutes g (λ k below. lower_right n (λ one small. h one (omega (arith, small))) k (omega (arith, below, lt)))).0
+        (h g lt)
 
     all_right : ((g : MessageFault) → p g ≡ false) → (g : MessageFault) → IsRight g
     all_right h g = lower_right (suc (number g)) (λ one lt. h one) g (omega arith)
@@ -140,10 +188,15 @@ module _ {X : Type 0} where
         record { here = not_right f (found_holds p no_memory faults f found) lower; lower = lower }
 
     found_from : (f : MessageFault) → IsLowest IsRight f → find p faults ≡ Some f
-    found_from f h = found_here p no_memory f (true_from_ne_false (p f) (λ e. h.here ((refutes f h.lower).0 e))) (λ g lt. right_false f g h.lower lt)
+    found_from f h =
+        found_here p no_memory f (true_from_ne_false (p f) (λ e. h.here ((refutes f h.lower).0 e)))
+        (λ g lt. right_false f g h.lower lt)
 
     pub judged_fault : (f : MessageFault) → (judged p content ≡ Err f) ↔ IsLowest IsRight f
-    judged_fault f = ((λ h. lowest_from f (fault_found (find p faults) content f h)), (λ h. ap (λ found. unless found content) (found_from f h)))
+    judged_fault f = (
+      (λ h. lowest_from f (fault_found (find p faults) content f h)),
+      (λ h. ap (λ found. unless found content) (found_from f h)),
+    )
 
     pub judged_content : (right : X) → (judged p content ≡ Ok right) ↔ (IsFaultless IsRight × (content ≡ right))
     judged_content right = (

@@ -21,34 +21,46 @@ use Rattle.edi_law.specs.Lowest.{IsLowest, IsFaultless}
 use Rattle.edi_law.specs.Order.{AreNumbered, IsRight, IsOrderLine, IsOrder}
 use Rattle.edi_law.specs.Parts.{OfLines}
 use Rattle.edi_law.proofs.Deciding.{Refutes, or_refuted, Refutes-not, Refutes-false, Decides-all, Decides-is_some, said_of, unwrap_of}
-use Rattle.edi_law.proofs.HeaderLemmas.{Decides-party, Decides-type, Decides-begins, Decides-function, Decides-dated, Says-party, Begins-begins_as, begins_as-from_Begins, document_number-from_Begins}
-use Rattle.edi_law.proofs.LineLemmas.{line_there, is_line-from_IsLine, number-from_IsLine, item-from_IsLine, Says-quantity_of, Refutes-number_twice}
+use Rattle.edi_law.proofs.HeaderLemmas.{Decides-party, Decides-type, Decides-begins, Decides-function, Decides-dated}
+use Rattle.edi_law.proofs.HeaderLemmas.{Says-party, Begins-begins_as, begins_as-from_Begins, document_number-from_Begins}
+use Rattle.edi_law.proofs.LineLemmas.{line_there, is_line-from_IsLine, number-from_IsLine, item-from_IsLine}
+use Rattle.edi_law.proofs.LineLemmas.{Says-quantity_of, Refutes-number_twice}
 use Rattle.edi_law.proofs.LowestLemmas.{judged_fault, judged_content}
 use Rattle.edi_law.proofs.PartLemmas.{Refutes-lines, AreLineGroups-line_groups, line_groups-from_AreLineGroups, Decides-lines}
 use Rattle.edi_law.proofs.SummaryLemmas.{Decides-closed, Decides-controlled, Refutes-no_line}
 
 -- the lines
-numbered_there : (groups : List (List Segment)) → list_all is_line groups ≡ true → AllZip (λ group number. (digits : List ℕ) × IsLine group number digits) groups (map number_or_zero groups)
+numbered_there : (groups : List (List Segment))
+    → list_all is_line groups ≡ true
+    → AllZip (λ group number. (digits : List ℕ) × IsLine group number digits) groups (map number_or_zero groups)
 numbered_there [] e = tt
 numbered_there (group ∷ groups) e =
     let both = and_parts (is_line group) (list_all is_line groups) e in
     ((unwrap_or (gtin group) [], line_there group both.0), numbered_there groups both.1)
 
-numbered_lines : (groups : List (List Segment)) (numbers : List ℕ) → AllZip (λ group number. (digits : List ℕ) × IsLine group number digits) groups numbers → (list_all is_line groups ≡ true) × (map number_or_zero groups ≡ numbers)
+numbered_lines : (groups : List (List Segment)) (numbers : List ℕ)
+    → AllZip (λ group number. (digits : List ℕ) × IsLine group number digits) groups numbers
+    → (list_all is_line groups ≡ true) × (map number_or_zero groups ≡ numbers)
 numbered_lines [] [] h = (refl, refl)
 numbered_lines [] (n ∷ numbers) h = absurd h
 numbered_lines (group ∷ groups) [] h = absurd h
 numbered_lines (group ∷ groups) (n ∷ numbers) h =
     let later = numbered_lines groups numbers h.1 in
-    let e : number_or_zero group ≡ n = number-from_IsLine group n h.0.0 h.0.1 in
-    (and_from (is_line group) (list_all is_line groups) (is_line-from_IsLine group n h.0.0 h.0.1) later.0, ap (λ m. m ∷ map number_or_zero groups) e ∙ ap (λ ms. n ∷ ms) later.1)
+    let e : number_or_zero group ≡ n = number-from_IsLine group n h.0.0 h.0.1 in (
+      and_from (is_line group) (list_all is_line groups) (is_line-from_IsLine group n h.0.0 h.0.1) later.0,
+      ap (λ m. m ∷ map number_or_zero groups) e ∙ ap (λ ms. n ∷ ms) later.1,
+    )
 
 abbrev are_numbered : List (List Segment) → Bool
 are_numbered groups = not (list_all is_line groups) || has_number_twice (map number_or_zero groups)
 
 Refutes-numbered : (groups : List (List Segment)) → Refutes (are_numbered groups) (AreNumbered groups)
 Refutes-numbered groups = or_refuted (list_all is_line groups) (has_number_twice (map number_or_zero groups)) (AreNumbered groups)
-    (λ e d. record { numbers = map number_or_zero groups; lines = numbered_there groups e; apart = (Refutes-number_twice (map number_or_zero groups)).0 d })
+    (λ e d. record {
+      numbers = map number_or_zero groups;
+      lines = numbered_there groups e;
+      apart = (Refutes-number_twice (map number_or_zero groups)).0 d;
+    })
     (λ h. (numbered_lines groups h.numbers h.lines).0)
     (λ h. (Refutes-number_twice (map number_or_zero groups)).1 (subst NoneTwice (sym (numbered_lines groups h.numbers h.lines).1) h.apart))
 
@@ -72,12 +84,20 @@ refutes m faults.NoLine = Refutes-no_line m.segments
 refutes m faults.Memory = Refutes-false
 
 -- what the order says
-lines_there : (groups : List (List Segment)) → list_all is_line groups ≡ true → list_all (λ group. is_some (ordered group)) groups ≡ true → AllZip IsOrderLine groups (map line_of groups)
+lines_there : (groups : List (List Segment))
+    → list_all is_line groups ≡ true
+    → list_all (λ group. is_some (ordered group)) groups ≡ true
+    → AllZip IsOrderLine groups (map line_of groups)
 lines_there [] e q = tt
 lines_there (group ∷ groups) e q =
     let line = and_parts (is_line group) (list_all is_line groups) e in
     let quantity = and_parts (is_some (ordered group)) (list_all (λ group. is_some (ordered group)) groups) q in (
-      record { line_is = line_there group line.0; quantity_is = said_of (ordered group) (HasQuantity (codes "21") 1 group) 0 (Says-quantity_of (codes "21") 1 group) quantity.0 },
+      record {
+        line_is = line_there group line.0;
+        quantity_is =
+            said_of (ordered group) (HasQuantity (codes "21") 1 group) 0 (Says-quantity_of (codes "21") 1 group)
+            quantity.0;
+      },
       lines_there groups line.1 quantity.1,
     )
 
@@ -88,16 +108,22 @@ line_is : (group : List Segment) (line : OrderLine) → IsOrderLine group line �
 line_is group line h =
     let number = number-from_IsLine group line.line line.gtin h.line_is in
     let item = item-from_IsLine group line.line line.gtin h.line_is in
-    let quantity = sym (unwrap_of (ordered group) (HasQuantity (codes "21") 1 group) 0 line.quantity (Says-quantity_of (codes "21") 1 group) h.quantity_is) in
-    ap (λ n. order_line n (unwrap_or (gtin group) []) (unwrap_or (ordered group) 0)) number ∙ ap (λ g. order_line line.line g (unwrap_or (ordered group) 0)) item ∙ ap (λ q. order_line line.line line.gtin q) quantity
+    let quantity = sym (unwrap_of (ordered group) (HasQuantity (codes "21") 1 group) 0 line.quantity
+    (Says-quantity_of (codes "21") 1 group) h.quantity_is) in
+    ap (λ n. order_line n (unwrap_or (gtin group) []) (unwrap_or (ordered group) 0)) number
+    ∙ ap (λ g. order_line line.line g (unwrap_or (ordered group) 0)) item
+    ∙ ap (λ q. order_line line.line line.gtin q) quantity
 
 lines_are : (groups : List (List Segment)) (lines : List OrderLine) → AllZip IsOrderLine groups lines → map line_of groups ≡ lines
 lines_are [] [] h = refl
 lines_are [] (line ∷ lines) h = absurd h
 lines_are (group ∷ groups) [] h = absurd h
-lines_are (group ∷ groups) (line ∷ lines) h = ap (λ one. one ∷ map line_of groups) (line_is group line h.0) ∙ ap (λ others. line ∷ others) (lines_are groups lines h.1)
+lines_are (group ∷ groups) (line ∷ lines) h =
+    ap (λ one. one ∷ map line_of groups) (line_is group line h.0) ∙ ap (λ others. line ∷ others) (lines_are groups lines h.1)
 
-list_is : (message : List Segment) (lines : List OrderLine) → OfLines (λ groups. AllZip IsOrderLine groups lines) message → map line_of (line_groups message) ≡ lines
+list_is : (message : List Segment) (lines : List OrderLine)
+    → OfLines (λ groups. AllZip IsOrderLine groups lines) message
+    → map line_of (line_groups message) ≡ lines
 list_is message lines h = ap (map line_of) (line_groups-from_AreLineGroups h.groups message h.are_groups) ∙ lines_are h.groups lines h.are
 
 contents_there : (m : RawMessage) → IsFaultless (IsRight m) → IsOrder m.segments (contents_of m.segments)
@@ -106,13 +132,21 @@ contents_there m right =
     let parties = right faults.Parties in
     let numbered = or_parts _ _ ((refutes m faults.Line).1 (right faults.Line)) in
     record {
-      number_is = Begins-begins_as (codes "220") message (begins_as-from_Begins (codes "220") message (right faults.Beginning).0 (right faults.Beginning).1);
-      buyer_is = said_of (party (codes "BY") message) (NamesParty (codes "BY") message) [] (Says-party (codes "BY") message) ((Decides-party (codes "BY") message).1 parties.0);
-      supplier_is = said_of (party (codes "SU") message) (NamesParty (codes "SU") message) [] (Says-party (codes "SU") message) ((Decides-party (codes "SU") message).1 parties.1);
+      number_is =
+          Begins-begins_as (codes "220") message
+          (begins_as-from_Begins (codes "220") message (right faults.Beginning).0 (right faults.Beginning).1);
+      buyer_is =
+          said_of (party (codes "BY") message) (NamesParty (codes "BY") message) [] (Says-party (codes "BY") message)
+          ((Decides-party (codes "BY") message).1 parties.0);
+      supplier_is =
+          said_of (party (codes "SU") message) (NamesParty (codes "SU") message) [] (Says-party (codes "SU") message)
+          ((Decides-party (codes "SU") message).1 parties.1);
       lines_are = record {
         groups = line_groups message;
         are_groups = AreLineGroups-line_groups message;
-        are = lines_there (line_groups message) (not-false _ numbered.0) (not-false _ ((refutes m faults.Quantity).1 (right faults.Quantity)));
+        are =
+            lines_there (line_groups message) (not-false _ numbered.0)
+            (not-false _ ((refutes m faults.Quantity).1 (right faults.Quantity)));
       };
     }
 
@@ -121,10 +155,13 @@ order_from number buyer supplier lines = record { number = number; buyer = buyer
 
 contents_are : (message : List Segment) (order : Order) → IsOrder message order → contents_of message ≡ order
 contents_are message order h =
-    let buyer = unwrap_of (party (codes "BY") message) (NamesParty (codes "BY") message) [] order.buyer (Says-party (codes "BY") message) h.buyer_is in
-    let supplier = unwrap_of (party (codes "SU") message) (NamesParty (codes "SU") message) [] order.supplier (Says-party (codes "SU") message) h.supplier_is in
+    let buyer = unwrap_of (party (codes "BY") message) (NamesParty (codes "BY") message) [] order.buyer
+    (Says-party (codes "BY") message) h.buyer_is in
+    let supplier = unwrap_of (party (codes "SU") message) (NamesParty (codes "SU") message) [] order.supplier
+    (Says-party (codes "SU") message) h.supplier_is in
     let lines = map line_of (line_groups message) in
-    ap (λ n. order_from n (unwrap_or (party (codes "BY") message) []) (unwrap_or (party (codes "SU") message) []) lines) (document_number-from_Begins (codes "220") message order.number h.number_is)
+    ap (λ n. order_from n (unwrap_or (party (codes "BY") message) []) (unwrap_or (party (codes "SU") message) []) lines)
+    (document_number-from_Begins (codes "220") message order.number h.number_is)
     ∙ ap (λ b. order_from order.number b (unwrap_or (party (codes "SU") message) []) lines) (sym buyer)
     ∙ ap (λ s. order_from order.number order.buyer s lines) (sym supplier)
     ∙ ap (λ ls. order_from order.number order.buyer order.supplier ls) (list_is message order.lines h.lines_are)

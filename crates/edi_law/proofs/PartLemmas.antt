@@ -1,12 +1,14 @@
 -- The parts of a message stand where the relations say, and nowhere else.
-use Rattle.std.proofs.Common.{◌≡◌, Bool, true, false, cond, not, List, [], ◌∷◌, ◌++◌, filter, Option, Some, None, inl, inr, refl, sym, ap, subst, ◌∙◌, append-nil, append_assoc}
+use Rattle.std.proofs.Common.{◌≡◌, Bool, true, false, cond, not, List, [], ◌∷◌, ◌++◌, filter, Option, Some, None, inl, inr}
+use Rattle.std.proofs.Common.{refl, sym, ap, subst, ◌∙◌, append-nil, append_assoc}
 use Rattle.std.specs.Prelude.{is_some, ◌||◌, option_and_then, Decides}
 use Rattle.std.specs.List.{list_any, AllByRecursion, take_while}
 use Rattle.std.proofs.lemmas.Bool.{cases_Bool, true≢false, not-true, not_from_false, true_from_ne_false}
 use Rattle.std.proofs.lemmas.List.Sums.{take_while-cons}
 use Rattle.edi_tokens.specs.declared.segment.Segment.{Segment}
 use Rattle.edi_messages.specs.Parts.{only, header, line_groups, up_to_end}
-use Rattle.edi_law.specs.Parts.{HasNone, BeginsWith, IsFront, IsOnly, IsHeader, AreParts, AreLineGroups, OfHeader, OfLines, OfOnly, OneOrNone}
+use Rattle.edi_law.specs.Parts.{HasNone, BeginsWith, IsFront, IsOnly, IsHeader, AreParts, AreLineGroups, OfHeader, OfLines}
+use Rattle.edi_law.specs.Parts.{OfOnly, OneOrNone}
 use Rattle.edi_law.specs.Segments.{is_line_item, parts_lines}
 use Rattle.edi_law.proofs.Deciding.{Refutes, Says, same_some, Says-then, Decides-of}
 
@@ -30,7 +32,10 @@ module _ {X : Type 0} where
 
   pub taken : (p kind : X → Bool) → ((x : X) → p x ≡ not (kind x)) → (xs : List X) → take_while p xs ≡ front kind xs
   taken p kind same [] = refl
-  taken p kind same (x ∷ xs) = take_while-cons p x xs ∙ ap (λ ys. cond (p x) (x ∷ ys) []) (taken p kind same xs) ∙ taken_one (p x) (kind x) x (front kind xs) (same x)
+  taken p kind same (x ∷ xs) =
+      take_while-cons p x xs
+      ∙ ap (λ ys. cond (p x) (x ∷ ys) []) (taken p kind same xs)
+      ∙ taken_one (p x) (kind x) x (front kind xs) (same x)
 
   pub front_behind : (kind : X → Bool) (xs : List X) → xs ≡ front kind xs ++ behind kind xs
   front_behind kind [] = refl
@@ -56,7 +61,10 @@ module _ {X : Type 0} where
         | inr not_ ↦ rw not_ (behind_stops kind xs)
       ]
 
-  pub front_is : (kind : X → Bool) (part rest : List X) → AllByRecursion (λ x. kind x ≡ false) part → Stops kind rest → front kind (part ++ rest) ≡ part
+  pub front_is : (kind : X → Bool) (part rest : List X)
+      → AllByRecursion (λ x. kind x ≡ false) part
+      → Stops kind rest
+      → front kind (part ++ rest) ≡ part
   front_is kind [] [] h ends = refl
   front_is kind [] (x ∷ rest) h ends = rw ends refl
   front_is kind (x ∷ part) rest h ends = rw h.0 (ap (λ ys. x ∷ ys) (front_is kind part rest h.1 ends))
@@ -86,19 +94,26 @@ up_to_end-front segments = taken _ parts_lines (λ segment. refl) segments
 
 pub IsHeader-header : (message : List Segment) → IsHeader (header message) message
 IsHeader-header [] = refl
-IsHeader-header (unh ∷ segments) = subst (λ part. IsFront parts_lines part segments) (sym (up_to_end-front segments)) (IsFront-front parts_lines segments)
+IsHeader-header (unh ∷ segments) =
+    subst (λ part. IsFront parts_lines part segments) (sym (up_to_end-front segments)) (IsFront-front parts_lines segments)
 
 pub header-from_IsHeader : (part message : List Segment) → IsHeader part message → header message ≡ part
 header-from_IsHeader part [] h = sym h
 header-from_IsHeader part (unh ∷ segments) h = up_to_end-front segments ∙ front-from_IsFront parts_lines part segments h
 
-pub Decides-header : (t : List Segment → Bool) (Is : List Segment → Type 0) → ((part : List Segment) → Decides (t part) (Is part)) → (message : List Segment) → Decides (t (header message)) (OfHeader Is message)
+pub Decides-header : (t : List Segment → Bool) (Is : List Segment → Type 0)
+    → ((part : List Segment) → Decides (t part) (Is part))
+    → (message : List Segment)
+    → Decides (t (header message)) (OfHeader Is message)
 Decides-header t Is each message = (
   (λ e. record { header = header message; is_header = IsHeader-header message; is = (each (header message)).0 e }),
   (λ h. ap t (header-from_IsHeader h.header message h.is_header) ∙ (each h.header).1 h.is),
 )
 
-pub Says-header : {X : Type 0} (f : List Segment → Option X) (Is : X → List Segment → Type 0) → ((part : List Segment) → Says (f part) (λ x. Is x part)) → (message : List Segment) → Says (f (header message)) (λ x. OfHeader (Is x) message)
+pub Says-header : {X : Type 0} (f : List Segment → Option X) (Is : X → List Segment → Type 0)
+    → ((part : List Segment) → Says (f part) (λ x. Is x part))
+    → (message : List Segment)
+    → Says (f (header message)) (λ x. OfHeader (Is x) message)
 Says-header f Is each message x = (
   (λ e. record { header = header message; is_header = IsHeader-header message; is = (each (header message) x).0 e }),
   (λ h. ap f (header-from_IsHeader h.header message h.is_header) ∙ (each h.header x).1 h.is),
@@ -129,11 +144,25 @@ module _ (kind : Segment → Bool) where
   only_here : (x s : Segment) (xs : List Segment) → kind x ≡ true → only (x ∷ filter kind xs) ≡ Some s → IsOnly kind (x ∷ xs) s
   only_here x s xs is e =
       let both = only_cons x s (filter kind xs) e in
-      record { before = []; after = xs; place = ap (λ y. y ∷ xs) both.0; is = rw (← both.0) is; none_before = tt; none_after = passes_none xs both.1 }
+      record {
+        before = [];
+        after = xs;
+        place = ap (λ y. y ∷ xs) both.0;
+        is = rw (← both.0) is;
+        none_before = tt;
+        none_after = passes_none xs both.1;
+      }
 
   only_later : (x s : Segment) (xs : List Segment) → kind x ≡ false → IsOnly kind xs s → IsOnly kind (x ∷ xs) s
   only_later x s xs not_ h =
-      record { before = x ∷ h.before; after = h.after; place = ap (λ ys. x ∷ ys) h.place; is = h.is; none_before = (not_, h.none_before); none_after = h.none_after }
+      record {
+        before = x ∷ h.before;
+        after = h.after;
+        place = ap (λ ys. x ∷ ys) h.place;
+        is = h.is;
+        none_before = (not_, h.none_before);
+        none_after = h.none_after;
+      }
 
   only_from : (part : List Segment) (s : Segment) → only (filter kind part) ≡ Some s → IsOnly kind part s
   only_from [] s e = absurd cc
@@ -151,12 +180,19 @@ module _ (kind : Segment → Bool) where
   pub Says-only : (part : List Segment) → Says (only (filter kind part)) (IsOnly kind part)
   Says-only part s = (only_from part s, only_is part s)
 
-  pub Says-of_only : {X : Type 0} (f : Segment → Option X) (Is : X → Segment → Type 0) → ((s : Segment) → Says (f s) (λ x. Is x s)) → (part : List Segment) → Says (option_and_then f (only (filter kind part))) (λ x. OfOnly kind part (Is x))
+  pub Says-of_only : {X : Type 0} (f : Segment → Option X) (Is : X → Segment → Type 0)
+      → ((s : Segment) → Says (f s) (λ x. Is x s))
+      → (part : List Segment)
+      → Says (option_and_then f (only (filter kind part))) (λ x. OfOnly kind part (Is x))
   Says-of_only f Is each part x =
       let both = Says-then (only (filter kind part)) (IsOnly kind part) f (λ s y. Is y s) (Says-only part) each x in
       ((λ e. let h = both.0 e in record { segment = h.0; is_only = h.1; is = h.2 }), (λ h. both.1 (h.segment, h.is_only, h.is)))
 
-  pub Decides-of_only : (t : Option Segment → Bool) (Is : Segment → Type 0) → t None ≡ false → ((s : Segment) → Decides (t (Some s)) (Is s)) → (part : List Segment) → Decides (t (only (filter kind part))) (OfOnly kind part Is)
+  pub Decides-of_only : (t : Option Segment → Bool) (Is : Segment → Type 0)
+      → t None ≡ false
+      → ((s : Segment) → Decides (t (Some s)) (Is s))
+      → (part : List Segment)
+      → Decides (t (only (filter kind part))) (OfOnly kind part Is)
   Decides-of_only t Is none each part =
       let both = Decides-of (only (filter kind part)) (IsOnly kind part) t Is (Says-only part) none each in
       ((λ e. let h = both.0 e in record { segment = h.0; is_only = h.1; is = h.2 }), (λ h. both.1 (h.segment, h.is_only, h.is)))
@@ -181,11 +217,15 @@ pub at_header : (Is : List Segment → Type 0) (message : List Segment) → OfHe
 at_header Is message h = subst Is (sym (header-from_IsHeader h.header message h.is_header)) h.is
 
 -- one of a kind, or none
-module _ {X : Type 0} (kind : Segment → Bool) (f : Segment → Option X) (Is : X → Segment → Type 0) (each : (s : Segment) → Says (f s) (λ x. Is x s)) where
+module _ {X : Type 0} (kind : Segment → Bool) (f : Segment → Option X) (Is : X → Segment → Type 0)
+    (each : (s : Segment) → Says (f s) (λ x. Is x s)) where
   abbrev found : List Segment → Option X
   found part = option_and_then f (only (filter kind part))
 
-  one_or_none : (part : List Segment) (o : Option X) → found part ≡ o → (not (list_any kind part) || is_some o) ≡ true → OneOrNone kind Is part o
+  one_or_none : (part : List Segment) (o : Option X)
+      → found part ≡ o
+      → (not (list_any kind part) || is_some o) ≡ true
+      → OneOrNone kind Is part o
   one_or_none part None there e = (Decides-none kind part).0 (sym (or_false (not (list_any kind part))) ∙ e)
   one_or_none part (Some x) there e = (Says-of_only kind f Is each part x).0 there
 
@@ -195,16 +235,21 @@ module _ {X : Type 0} (kind : Segment → Bool) (f : Segment → Option X) (Is :
 
   pub there-from_OneOrNone : (part : List Segment) (o : Option X) → OneOrNone kind Is part o → list_any kind part ≡ is_some o
   there-from_OneOrNone part None none = not-true (list_any kind part) ((Decides-none kind part).1 none)
-  there-from_OneOrNone part (Some x) h = true_from_ne_false (list_any kind part) (λ e. only_some kind part h.segment h.is_only ((Decides-none kind part).0 (not_from_false (list_any kind part) e)))
+  there-from_OneOrNone part (Some x) h =
+      true_from_ne_false (list_any kind part)
+      (λ e. only_some kind part h.segment h.is_only ((Decides-none kind part).0 (not_from_false (list_any kind part) e)))
 
   right : (t : Bool) → (not t || t) ≡ true
   right true = refl
   right false = refl
 
-  pub Decides-one_or_none : (part : List Segment) → Decides (not (list_any kind part) || is_some (found part)) ((o : Option X) × OneOrNone kind Is part o)
+  pub Decides-one_or_none : (part : List Segment)
+      → Decides (not (list_any kind part) || is_some (found part)) ((o : Option X) × OneOrNone kind Is part o)
   Decides-one_or_none part = (
     (λ e. (found part, one_or_none part (found part) refl e)),
-    (λ h. ap (λ there. not there || is_some (found part)) (there-from_OneOrNone part h.0 h.1) ∙ ap (λ o. not (is_some h.0) || is_some o) (found-from_OneOrNone part h.0 h.1) ∙ right (is_some h.0)),
+    (λ h. ap (λ there. not there || is_some (found part)) (there-from_OneOrNone part h.0 h.1)
+        ∙ ap (λ o. not (is_some h.0) || is_some o) (found-from_OneOrNone part h.0 h.1)
+        ∙ right (is_some h.0)),
   )
 
   pub OneOrNone-found : (part : List Segment) (o : Option X) → OneOrNone kind Is part o → OneOrNone kind Is part (found part)
@@ -228,7 +273,11 @@ module _ (begins ends : Segment → Bool) (apart : (s : Segment) → ends s ≡ 
   none_begins [] h = tt
   none_begins (s ∷ part) h = (apart s h.0, none_begins part h.1)
 
-  first_cut : (first : Segment) (body rest : List Segment) → begins first ≡ true → HasNone ends body → BeginsWith ends rest → cut (first ∷ (body ++ rest)) ≡ (first ∷ body) ∷ cut rest
+  first_cut : (first : Segment) (body rest : List Segment)
+      → begins first ≡ true
+      → HasNone ends body
+      → BeginsWith ends rest
+      → cut (first ∷ (body ++ rest)) ≡ (first ∷ body) ∷ cut rest
   first_cut first body rest is within ended =
       let one : front ends (body ++ rest) ≡ body = front_is ends body rest within (stops-BeginsWith ends rest ended) in
       let later : cut (body ++ rest) ≡ cut rest = skipped body rest (none_begins body within) in
@@ -238,7 +287,9 @@ module _ (begins ends : Segment → Bool) (apart : (s : Segment) → ends s ≡ 
   cut_is [] segments h = none_cut segments h
   cut_is (part ∷ parts) segments h =
       let f = h.1 in
-      ap cut f.place ∙ skipped f.before (f.first ∷ (f.body ++ h.0)) f.none_before ∙ first_cut f.first f.body h.0 f.is_begun f.within f.is_ended
+      ap cut f.place
+      ∙ skipped f.before (f.first ∷ (f.body ++ h.0)) f.none_before
+      ∙ first_cut f.first f.body h.0 f.is_begun f.within f.is_ended
       ∙ ap (λ others. (f.first ∷ f.body) ∷ others) (cut_is parts h.0 h.2) ∙ ap (λ one. one ∷ parts) (sym f.part_is)
 
   none_more : (before : List Segment) (s : Segment) → HasNone begins before → begins s ≡ false → HasNone begins (before ++ s ∷ [])
@@ -253,9 +304,15 @@ module _ (begins ends : Segment → Bool) (apart : (s : Segment) → ends s ≡ 
       ]
 
   abbrev Reads : List Segment → Type 0
-  Reads segments = ((before : List Segment) → HasNone begins before → AreParts begins ends (before ++ segments) (cut segments)) × AreParts begins ends (behind ends segments) (cut segments)
+  Reads segments =
+      ((before : List Segment) → HasNone begins before → AreParts begins ends (before ++ segments) (cut segments))
+      × AreParts begins ends (behind ends segments) (cut segments)
 
-  one_read : (s : Segment) (segments before : List Segment) → begins s ≡ true → HasNone begins before → Reads segments → AreParts begins ends (before ++ s ∷ segments) ((s ∷ front ends segments) ∷ cut segments)
+  one_read : (s : Segment) (segments before : List Segment)
+      → begins s ≡ true
+      → HasNone begins before
+      → Reads segments
+      → AreParts begins ends (before ++ s ∷ segments) ((s ∷ front ends segments) ∷ cut segments)
   one_read s segments before is none h = (
     behind ends segments,
     record {
@@ -277,8 +334,14 @@ module _ (begins ends : Segment → Bool) (apart : (s : Segment) → ends s ≡ 
       let ended : ends s ≡ true = ends_too s is in
       rw (is, ended) ((λ before none. one_read s segments before is none h), one_read s segments [] is tt h)
 
-  over : (s : Segment) (segments before : List Segment) → begins s ≡ false → HasNone begins before → Reads segments → AreParts begins ends (before ++ s ∷ segments) (cut segments)
-  over s segments before not_ none h = subst (λ whole. AreParts begins ends whole (cut segments)) (append_assoc before (s ∷ []) segments) (h.0 (before ++ s ∷ []) (none_more before s none not_))
+  over : (s : Segment) (segments before : List Segment)
+      → begins s ≡ false
+      → HasNone begins before
+      → Reads segments
+      → AreParts begins ends (before ++ s ∷ segments) (cut segments)
+  over s segments before not_ none h =
+      subst (λ whole. AreParts begins ends whole (cut segments)) (append_assoc before (s ∷ []) segments)
+      (h.0 (before ++ s ∷ []) (none_more before s none not_))
 
   reads_over : (s : Segment) (segments : List Segment) → begins s ≡ false → Reads segments → Reads (s ∷ segments)
   reads_over s segments not_ h =
@@ -313,18 +376,27 @@ lines_cut (s ∷ rest) =
     ∙ ap (λ parts. cond (is_line_item s) ((s ∷ front parts_lines rest) ∷ parts) parts) (lines_cut rest)
 
 pub AreLineGroups-line_groups : (segments : List Segment) → AreLineGroups segments (line_groups segments)
-AreLineGroups-line_groups segments = subst (AreLineGroups segments) (sym (lines_cut segments)) (AreParts-cut is_line_item parts_lines lines_apart segments)
+AreLineGroups-line_groups segments =
+    subst (AreLineGroups segments) (sym (lines_cut segments)) (AreParts-cut is_line_item parts_lines lines_apart segments)
 
-pub line_groups-from_AreLineGroups : (groups : List (List Segment)) (segments : List Segment) → AreLineGroups segments groups → line_groups segments ≡ groups
+pub line_groups-from_AreLineGroups : (groups : List (List Segment)) (segments : List Segment)
+    → AreLineGroups segments groups
+    → line_groups segments ≡ groups
 line_groups-from_AreLineGroups groups segments h = lines_cut segments ∙ cut_is is_line_item parts_lines lines_apart groups segments h
 
-pub Decides-lines : (t : List (List Segment) → Bool) (Are : List (List Segment) → Type 0) → ((groups : List (List Segment)) → Decides (t groups) (Are groups)) → (segments : List Segment) → Decides (t (line_groups segments)) (OfLines Are segments)
+pub Decides-lines : (t : List (List Segment) → Bool) (Are : List (List Segment) → Type 0)
+    → ((groups : List (List Segment)) → Decides (t groups) (Are groups))
+    → (segments : List Segment)
+    → Decides (t (line_groups segments)) (OfLines Are segments)
 Decides-lines t Are each segments = (
   (λ e. record { groups = line_groups segments; are_groups = AreLineGroups-line_groups segments; are = (each (line_groups segments)).0 e }),
   (λ h. ap t (line_groups-from_AreLineGroups h.groups segments h.are_groups) ∙ (each h.groups).1 h.are),
 )
 
-pub Refutes-lines : (t : List (List Segment) → Bool) (Are : List (List Segment) → Type 0) → ((groups : List (List Segment)) → Refutes (t groups) (Are groups)) → (message : List Segment) → Refutes (t (line_groups message)) (OfLines Are message)
+pub Refutes-lines : (t : List (List Segment) → Bool) (Are : List (List Segment) → Type 0)
+    → ((groups : List (List Segment)) → Refutes (t groups) (Are groups))
+    → (message : List Segment)
+    → Refutes (t (line_groups message)) (OfLines Are message)
 Refutes-lines t Are each message = (
   (λ e. record { groups = line_groups message; are_groups = AreLineGroups-line_groups message; are = (each (line_groups message)).0 e }),
   (λ h. ap t (line_groups-from_AreLineGroups h.groups message h.are_groups) ∙ (each h.groups).1 h.are),

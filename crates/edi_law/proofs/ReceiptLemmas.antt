@@ -12,7 +12,8 @@ use Rattle.edi_messages.specs.Parts.{line_groups}
 use Rattle.edi_messages.specs.declared.fault.MessageFault.{MessageFault}
 use Rattle.edi_messages.specs.declared.fault.MessageFault.TheVariants as faults
 use Rattle.edi_goods.specs.Parties.{buyer}
-use Rattle.edi_goods.specs.Receipt.{accepted, returned, destroyed, is_once_or_none, is_received, line_of, lines_in_unit, has_sums, has_quantities, holds, unit_from, contents_of, receipt_of}
+use Rattle.edi_goods.specs.Receipt.{accepted, returned, destroyed, is_once_or_none, is_received, line_of, lines_in_unit}
+use Rattle.edi_goods.specs.Receipt.{has_sums, has_quantities, holds, unit_from, contents_of, receipt_of}
 use Rattle.edi_goods.specs.Units.{read_units}
 use Rattle.edi_goods.specs.declared.receipt.Receipt.{Receipt}
 use Rattle.edi_goods.specs.declared.receipt.ReceiptLine.{ReceiptLine}
@@ -26,13 +27,16 @@ use Rattle.edi_law.specs.Segments.{says}
 use Rattle.edi_law.specs.Units.{OfUnits, AreLines, HasSscc, IsUnit, AreMarked}
 use Rattle.edi_law.proofs.Deciding.{Refutes, Refutes-not, Refutes-false, said_of, unwrap_of}
 use Rattle.edi_law.proofs.GoodsLemmas.{Decides-parties, buyer-from_NamesBuyer, NamesBuyer-buyer, zip_is}
-use Rattle.edi_law.proofs.HeaderLemmas.{Decides-type, Decides-begins, Decides-function, Decides-dated, Decides-party, Says-party, Begins-begins_as, begins_as-from_Begins, document_number-from_Begins}
+use Rattle.edi_law.proofs.HeaderLemmas.{Decides-type, Decides-begins, Decides-function, Decides-dated, Decides-party}
+use Rattle.edi_law.proofs.HeaderLemmas.{Says-party, Begins-begins_as, begins_as-from_Begins, document_number-from_Begins}
 use Rattle.edi_law.proofs.LineLemmas.{item-from_IsLine, Says-amount}
 use Rattle.edi_law.proofs.LowestLemmas.{judged_fault, judged_content}
-use Rattle.edi_law.proofs.PartLemmas.{AreLineGroups-line_groups, line_groups-from_AreLineGroups, of_lines, found-from_OneOrNone, OneOrNone-found, Decides-one_or_none}
+use Rattle.edi_law.proofs.PartLemmas.{AreLineGroups-line_groups, line_groups-from_AreLineGroups, of_lines}
+use Rattle.edi_law.proofs.PartLemmas.{found-from_OneOrNone, OneOrNone-found, Decides-one_or_none}
 use Rattle.edi_law.proofs.SumLemmas.{Decides-within}
 use Rattle.edi_law.proofs.SummaryLemmas.{Decides-controlled, Refutes-no_line}
-use Rattle.edi_law.proofs.UnitLemmas.{Decides-each_line, Decides-has_units, of_units, AreReadUnits-read_units, read_units-from_AreReadUnits, sscc-from_HasSscc}
+use Rattle.edi_law.proofs.UnitLemmas.{Decides-each_line, Decides-has_units, of_units, AreReadUnits-read_units}
+use Rattle.edi_law.proofs.UnitLemmas.{read_units-from_AreReadUnits, sscc-from_HasSscc}
 
 -- the quantities of a group
 module _ (kind : List ℕ) (group : List Segment) where
@@ -63,7 +67,11 @@ received_there group e =
 received_is : (group : List Segment) (a r d : Option ℕ) → HasReceived group a r d → is_received group ≡ true
 received_is group a r d h =
     let some : (is_some (accepted group) || is_some (returned group) || is_some (destroyed group)) ≡ true =
-    rw (kind_is (codes "194") group a h.accepted_is, kind_is (codes "195") group r h.returned_is, kind_is (codes "196") group d h.destroyed_is) h.some in
+    rw (
+      kind_is (codes "194") group a h.accepted_is,
+      kind_is (codes "195") group r h.returned_is,
+      kind_is (codes "196") group d h.destroyed_is,
+    ) h.some in
     and_from _ _
     (and_from _ _
     (and_from _ _ ((Decides-kind (codes "194") group).1 (a, h.accepted_is)) ((Decides-kind (codes "195") group).1 (r, h.returned_is)))
@@ -81,13 +89,18 @@ line_is group line h =
     let of_none = λ (o : Option ℕ). unwrap_or o 0 in
     ap (λ g. receipt_line g a r d) (item-from_IsLine group h.number line.gtin h.line_is)
     ∙ ap (λ n. receipt_line line.gtin n r d) (ap of_none (kind_is (codes "194") group h.accepted h.received.accepted_is) ∙ h.accepted_is)
-    ∙ ap (λ n. receipt_line line.gtin line.accepted n d) (ap of_none (kind_is (codes "195") group h.returned h.received.returned_is) ∙ h.returned_is)
-    ∙ ap (λ n. receipt_line line.gtin line.accepted line.returned n) (ap of_none (kind_is (codes "196") group h.destroyed h.received.destroyed_is) ∙ h.destroyed_is)
+    ∙ ap (λ n. receipt_line line.gtin line.accepted n d)
+    (ap of_none (kind_is (codes "195") group h.returned h.received.returned_is) ∙ h.returned_is)
+    ∙ ap (λ n. receipt_line line.gtin line.accepted line.returned n)
+    (ap of_none (kind_is (codes "196") group h.destroyed h.received.destroyed_is) ∙ h.destroyed_is)
 
 abbrev IsSomeLine : List Segment → Type 0
 IsSomeLine group = (n : ℕ) × (item : List ℕ) × IsLine group n item
 
-lines_there : (groups : List (List Segment)) → AllByRecursion IsSomeLine groups → list_all is_received groups ≡ true → AllZip IsReceiptLine groups (map line_of groups)
+lines_there : (groups : List (List Segment))
+    → AllByRecursion IsSomeLine groups
+    → list_all is_received groups ≡ true
+    → AllZip IsReceiptLine groups (map line_of groups)
 lines_there [] line e = tt
 lines_there (group ∷ groups) line e =
     let both = and_parts (is_received group) (list_all is_received groups) e in (
@@ -105,20 +118,30 @@ lines_there (group ∷ groups) line e =
       lines_there groups line.1 both.1,
     )
 
-all_received : (groups : List (List Segment)) (lines : List ReceiptLine) → AllZip IsReceiptLine groups lines → list_all is_received groups ≡ true
+all_received : (groups : List (List Segment)) (lines : List ReceiptLine)
+    → AllZip IsReceiptLine groups lines
+    → list_all is_received groups ≡ true
 all_received [] [] h = refl
 all_received [] (line ∷ lines) h = absurd h
 all_received (group ∷ groups) [] h = absurd h
 all_received (group ∷ groups) (line ∷ lines) h =
-    and_from (is_received group) (list_all is_received groups) (received_is group h.0.accepted h.0.returned h.0.destroyed h.0.received) (all_received groups lines h.1)
+    and_from (is_received group) (list_all is_received groups)
+    (received_is group h.0.accepted h.0.returned h.0.destroyed h.0.received) (all_received groups lines h.1)
 
 -- the quantities of a unit, whose lines are valid
-Decides-groups : (groups : List (List Segment)) → AllByRecursion IsSomeLine groups → Decides (list_all is_received groups && has_sums (map line_of groups)) (AreReceived groups)
+Decides-groups : (groups : List (List Segment))
+    → AllByRecursion IsSomeLine groups
+    → Decides (list_all is_received groups && has_sums (map line_of groups)) (AreReceived groups)
 Decides-groups groups line = (
   (λ e. let both = and_parts (list_all is_received groups) (has_sums (map line_of groups)) e in
-      record { lines = map line_of groups; lines_are = lines_there groups line both.0; within = (Decides-within (map line_of groups)).0 both.1 }),
+      record {
+        lines = map line_of groups;
+        lines_are = lines_there groups line both.0;
+        within = (Decides-within (map line_of groups)).0 both.1;
+      }),
   (λ h. and_from (list_all is_received groups) (has_sums (map line_of groups)) (all_received groups h.lines h.lines_are)
-      ((Decides-within (map line_of groups)).1 (subst AreWithin (sym (zip_is line_of IsReceiptLine line_is groups h.lines h.lines_are)) h.within))),
+      ((Decides-within (map line_of groups)).1
+      (subst AreWithin (sym (zip_is line_of IsReceiptLine line_is groups h.lines h.lines_are)) h.within))),
 )
 
 Decides-unit : (unit : List Segment) → OfLines (AllByRecursion IsSomeLine) unit → Decides (has_quantities unit) (OfLines AreReceived unit)
@@ -128,11 +151,17 @@ Decides-unit unit line =
       (λ h. d.1 (of_lines AreReceived unit h)),
     )
 
-Decides-each_unit : (parts : List (List Segment)) → AllByRecursion (OfLines (AllByRecursion IsSomeLine)) parts → Decides (list_all has_quantities parts) (AllByRecursion (OfLines AreReceived) parts)
+Decides-each_unit : (parts : List (List Segment))
+    → AllByRecursion (OfLines (AllByRecursion IsSomeLine)) parts
+    → Decides (list_all has_quantities parts) (AllByRecursion (OfLines AreReceived) parts)
 Decides-each_unit [] line = ((λ e. tt), (λ h. refl))
-Decides-each_unit (unit ∷ parts) line = Decides-and (has_quantities unit) (list_all has_quantities parts) (Decides-unit unit line.0) (Decides-each_unit parts line.1)
+Decides-each_unit (unit ∷ parts) line =
+    Decides-and (has_quantities unit) (list_all has_quantities parts) (Decides-unit unit line.0)
+    (Decides-each_unit parts line.1)
 
-Decides-quantities : (message : List Segment) → AreLines message → Decides (list_all has_quantities (read_units message)) (OfUnits (AllByRecursion (OfLines AreReceived)) message)
+Decides-quantities : (message : List Segment)
+    → AreLines message
+    → Decides (list_all has_quantities (read_units message)) (OfUnits (AllByRecursion (OfLines AreReceived)) message)
 Decides-quantities message line =
     let d = Decides-each_unit (read_units message) (of_units (AllByRecursion (OfLines (AllByRecursion IsSomeLine))) message line) in (
       (λ e. record { units = read_units message; are_units = AreReadUnits-read_units message; are = d.0 e }),
@@ -140,7 +169,9 @@ Decides-quantities message line =
     )
 
 -- each condition, where those with lower numbers do not hold
-refutes : (m : RawMessage) (fault : MessageFault) → ((other : MessageFault) → number other < number fault → IsRight m other) → Refutes (holds fault m) (IsRight m fault)
+refutes : (m : RawMessage) (fault : MessageFault)
+    → ((other : MessageFault) → number other < number fault → IsRight m other)
+    → Refutes (holds fault m) (IsRight m fault)
 refutes m faults.MessageType lower = Refutes-not _ (Decides-type (codes "RECADV") m)
 refutes m faults.Beginning lower = Refutes-not _ (Decides-begins (codes "632") m.segments)
 refutes m faults.Function lower = Refutes-not _ (Decides-function m.segments (codes "9") (λ e. cc))
@@ -156,16 +187,23 @@ refutes m faults.NoLine lower = Refutes-no_line m.segments
 refutes m faults.Memory lower = Refutes-false
 
 -- what a unit says
-received_lines : (unit : List Segment) → OfLines AreReceived unit → OfLines (λ groups. AllZip IsReceiptLine groups (lines_in_unit unit)) unit
+received_lines : (unit : List Segment)
+    → OfLines AreReceived unit
+    → OfLines (λ groups. AllZip IsReceiptLine groups (lines_in_unit unit)) unit
 received_lines unit h =
     let given = of_lines AreReceived unit h in
     record {
       groups = line_groups unit;
       are_groups = AreLineGroups-line_groups unit;
-      are = subst (AllZip IsReceiptLine (line_groups unit)) (sym (zip_is line_of IsReceiptLine line_is (line_groups unit) given.lines given.lines_are)) given.lines_are;
+      are =
+          subst (AllZip IsReceiptLine (line_groups unit))
+          (sym (zip_is line_of IsReceiptLine line_is (line_groups unit) given.lines given.lines_are)) given.lines_are;
     }
 
-units_there : (parts : List (List Segment)) (ssccs : List (List ℕ)) → AllByRecursion (OfLines AreReceived) parts → AllZip IsUnit parts ssccs → AllZip IsReceiptUnit parts (map unit_from parts)
+units_there : (parts : List (List Segment)) (ssccs : List (List ℕ))
+    → AllByRecursion (OfLines AreReceived) parts
+    → AllZip IsUnit parts ssccs
+    → AllZip IsReceiptUnit parts (map unit_from parts)
 units_there [] ssccs received marked = tt
 units_there (unit ∷ parts) [] received marked = absurd marked
 units_there (unit ∷ parts) (digits ∷ ssccs) received marked = (
@@ -183,7 +221,9 @@ unit_is : (unit : List Segment) (one : ReceiptUnit) → IsReceiptUnit unit one �
 unit_is unit one h =
     let given = h.lines_are in
     ap (λ digits. receipt_unit digits (lines_in_unit unit)) (sscc-from_HasSscc unit one.sscc h.sscc_is)
-    ∙ ap (λ lines. receipt_unit one.sscc lines) (ap (map line_of) (line_groups-from_AreLineGroups given.groups unit given.are_groups) ∙ zip_is line_of IsReceiptLine line_is given.groups one.lines given.are)
+    ∙ ap (λ lines. receipt_unit one.sscc lines)
+    (ap (map line_of) (line_groups-from_AreLineGroups given.groups unit given.are_groups)
+    ∙ zip_is line_of IsReceiptLine line_is given.groups one.lines given.are)
 
 -- what the advice says
 contents_there : (m : RawMessage) → IsFaultless (IsRight m) → IsReceipt m.segments (contents_of m.segments)
@@ -195,11 +235,15 @@ contents_there m right =
     record {
       number_is = Begins-begins_as (codes "632") message (begins_as-from_Begins (codes "632") message beginning.0 beginning.1);
       buyer_is = NamesBuyer-buyer message parties.0.0 parties.0.1;
-      supplier_is = said_of (party (codes "SU") message) (NamesParty (codes "SU") message) [] (Says-party (codes "SU") message) ((Decides-party (codes "SU") message).1 parties.1);
+      supplier_is =
+          said_of (party (codes "SU") message) (NamesParty (codes "SU") message) [] (Says-party (codes "SU") message)
+          ((Decides-party (codes "SU") message).1 parties.1);
       units_are = record {
         units = read_units message;
         are_units = AreReadUnits-read_units message;
-        are = units_there (read_units message) marked.ssccs (of_units (AllByRecursion (OfLines AreReceived)) message (right faults.Quantity)) marked.marked;
+        are =
+            units_there (read_units message) marked.ssccs
+            (of_units (AllByRecursion (OfLines AreReceived)) message (right faults.Quantity)) marked.marked;
       };
     }
 
@@ -211,18 +255,21 @@ contents_are message receipt h =
     let su = unwrap_or (party (codes "SU") message) [] in
     let units = map unit_from (read_units message) in
     let given = h.units_are in
-    let supplier = unwrap_of (party (codes "SU") message) (NamesParty (codes "SU") message) [] receipt.supplier (Says-party (codes "SU") message) h.supplier_is in
+    let supplier = unwrap_of (party (codes "SU") message) (NamesParty (codes "SU") message) [] receipt.supplier
+    (Says-party (codes "SU") message) h.supplier_is in
     ap (λ n. receipt_from n (buyer message) su units) (document_number-from_Begins (codes "632") message receipt.number h.number_is)
     ∙ ap (λ b. receipt_from receipt.number b su units) (buyer-from_NamesBuyer message receipt.buyer h.buyer_is)
     ∙ ap (λ s. receipt_from receipt.number receipt.buyer s units) (sym supplier)
     ∙ ap (λ us. receipt_from receipt.number receipt.buyer receipt.supplier us)
-    (ap (map unit_from) (read_units-from_AreReadUnits given.units message given.are_units) ∙ zip_is unit_from IsReceiptUnit unit_is given.units receipt.units given.are)
+    (ap (map unit_from) (read_units-from_AreReadUnits given.units message given.are_units)
+    ∙ zip_is unit_from IsReceiptUnit unit_is given.units receipt.units given.are)
 
 pub fault_law : (m : RawMessage) (fault : MessageFault) → (receipt_of m ≡ Err fault) ↔ IsLowest (IsRight m) fault
 unfolding receipt_of
 fault_law m fault = judged_fault (λ f. holds f m) (IsRight m) (refutes m) refl (contents_of m.segments) fault
 
-pub receipt_law : (m : RawMessage) (receipt : Receipt) → (receipt_of m ≡ Ok receipt) ↔ (IsFaultless (IsRight m) × IsReceipt m.segments receipt)
+pub receipt_law : (m : RawMessage) (receipt : Receipt)
+    → (receipt_of m ≡ Ok receipt) ↔ (IsFaultless (IsRight m) × IsReceipt m.segments receipt)
 unfolding receipt_of
 receipt_law m receipt =
     let law = judged_content (λ f. holds f m) (IsRight m) (refutes m) refl (contents_of m.segments) receipt in (

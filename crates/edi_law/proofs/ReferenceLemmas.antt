@@ -24,14 +24,19 @@ Says-order_named rff =
     (Says-if (is_document_number bytes) (IsDocumentNumber bytes) bytes (Decides-document_number bytes))
 
 pub Says-order : (message : List Segment) → Says (order message) (HeaderNames message)
-Says-order message = Says-header _ (λ number header. OfOnly is_rff_on header (NamesOrder number)) (Says-of_only is_rff_on order_named NamesOrder Says-order_named) message
+Says-order message =
+    Says-header _ (λ number header. OfOnly is_rff_on header (NamesOrder number))
+    (Says-of_only is_rff_on order_named NamesOrder Says-order_named) message
 
 pub Decides-line_or_none : (rff : Segment) → Decides (has_line_or_none rff) (NamesLineOrNone rff)
 Decides-line_or_none rff =
-    Decides-or _ _ (Decides-nothing (component rff 0 2)) (Decides-is_some (line_named rff) (IsLineNumber (component rff 0 2)) (Says-line_number (component rff 0 2)))
+    Decides-or _ _ (Decides-nothing (component rff 0 2))
+    (Decides-is_some (line_named rff) (IsLineNumber (component rff 0 2)) (Says-line_number (component rff 0 2)))
 
 Says-group_line : (group : List Segment) → Says (group_line group) (λ line. NamesLine group (Some line))
-Says-group_line = Says-of_only is_rff_on line_named (λ line rff. IsLineNumber (component rff 0 2) line) (λ rff. Says-line_number (component rff 0 2))
+Says-group_line =
+    Says-of_only is_rff_on line_named (λ line rff. IsLineNumber (component rff 0 2) line)
+    (λ rff. Says-line_number (component rff 0 2))
 
 -- where a group has no reference, or one that names a line or none, its line is the one that it names
 line_or_none : (group : List Segment) (rff : Segment) → reference group ≡ Some rff → component rff 0 2 ≡ [] → group_line group ≡ None
@@ -45,7 +50,9 @@ group_line-from_NamesLine group None (inl none) = no_reference group none
 group_line-from_NamesLine group None (inr h) = line_or_none group h.segment ((Says-only is_rff_on group h.segment).1 h.is_only) h.is
 group_line-from_NamesLine group (Some line) h = (Says-group_line group line).1 h
 
-pub NamesLine-group_line : (group : List Segment) → HasNone is_rff_on group ⊎ OfOnly is_rff_on group NamesLineOrNone → NamesLine group (group_line group)
+pub NamesLine-group_line : (group : List Segment)
+    → HasNone is_rff_on group ⊎ OfOnly is_rff_on group NamesLineOrNone
+    → NamesLine group (group_line group)
 NamesLine-group_line group (inl none) = subst (NamesLine group) (sym (no_reference group none)) (inl none)
 NamesLine-group_line group (inr h) =
     elim (h.is) [

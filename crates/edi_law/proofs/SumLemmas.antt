@@ -28,7 +28,9 @@ module _ (q : ReceiptLine → ℕ) where
         | inr not_ ↦ rw not_ (omega (arith, later))
       ]
 
-  other_items : (T : List ℕ → ℕ) (item : List ℕ) (lines : List ReceiptLine) → AllByRecursion (λ line. T line.gtin ≤ greatest) lines → (total q item lines ≡ 0) ⊎ (T item ≤ greatest)
+  other_items : (T : List ℕ → ℕ) (item : List ℕ) (lines : List ReceiptLine)
+      → AllByRecursion (λ line. T line.gtin ≤ greatest) lines
+      → (total q item lines ≡ 0) ⊎ (T item ≤ greatest)
   other_items T item [] h = inl refl
   other_items T item (line ∷ lines) h =
       elim (cases_Bool (bytes_eq line.gtin item)) [
@@ -36,22 +38,33 @@ module _ (q : ReceiptLine → ℕ) where
         | inr not_ ↦ rw not_ (other_items T item lines h.1)
       ]
 
-  each_item : (lines : List ReceiptLine) → AllByRecursion (λ line. summed line.gtin lines ≤ greatest) lines → (item : List ℕ) → total q item lines ≤ greatest
+  each_item : (lines : List ReceiptLine)
+      → AllByRecursion (λ line. summed line.gtin lines ≤ greatest) lines
+      → (item : List ℕ)
+      → total q item lines ≤ greatest
   each_item lines h item =
       elim (other_items (λ one. summed one lines) item lines h) [
         | inl none ↦ omega (arith, none)
         | inr small ↦ subst (λ n. n ≤ greatest) (summed_is item lines) small
       ]
 
-  each_line : (T : List ℕ → ℕ) → ((item : List ℕ) → T item ≤ greatest) → (lines : List ReceiptLine) → AllByRecursion (λ line. T line.gtin ≤ greatest) lines
+  each_line : (T : List ℕ → ℕ)
+      → ((item : List ℕ) → T item ≤ greatest)
+      → (lines : List ReceiptLine)
+      → AllByRecursion (λ line. T line.gtin ≤ greatest) lines
   each_line T h [] = tt
   each_line T h (line ∷ lines) = (h line.gtin, each_line T h lines)
 
-  Decides-sums : (lines : List ReceiptLine) → Decides (sums_within (map (λ (line : ReceiptLine). record { gtin = line.gtin; quantity = q line }) lines)) ((item : List ℕ) → total q item lines ≤ greatest)
+  Decides-sums : (lines : List ReceiptLine)
+      → Decides (sums_within (map (λ (line : ReceiptLine). record { gtin = line.gtin; quantity = q line }) lines))
+      ((item : List ℕ) → total q item lines ≤ greatest)
   Decides-sums lines =
-      Decides-like _ (each_item lines) (λ h. each_line (λ item. summed item lines) (λ item. subst (λ n. n ≤ greatest) (sym (summed_is item lines)) (h item)) lines)
+      Decides-like _ (each_item lines)
+      (λ h. each_line (λ item. summed item lines) (λ item. subst (λ n. n ≤ greatest) (sym (summed_is item lines)) (h item))
+      lines)
       (Decides-at _ _ (list_all-map _ _ lines)
-      (Decides-all (λ line. nat_le (summed line.gtin lines) greatest) (λ line. summed line.gtin lines ≤ greatest) (λ line. Decides-leb (summed line.gtin lines) greatest) lines))
+      (Decides-all (λ line. nat_le (summed line.gtin lines) greatest) (λ line. summed line.gtin lines ≤ greatest)
+      (λ line. Decides-leb (summed line.gtin lines) greatest) lines))
 
 pub Decides-within : (lines : List ReceiptLine) → Decides (has_sums lines) (AreWithin lines)
 Decides-within lines =

@@ -14,5 +14,7 @@ none_left p [] h = refl
 none_left p (x ∷ xs) h = let parts = or_parts (p x) (list_any p xs) h in rw parts.0 (none_left p xs parts.1)
 
 -- where there is none, there is not just one
-pub no_only : (tag qualifier : List ℕ) (part : List Segment) → has_qualified tag qualifier part ≡ false → only_qualified tag qualifier part ≡ None
+pub no_only : (tag qualifier : List ℕ) (part : List Segment)
+    → has_qualified tag qualifier part ≡ false
+    → only_qualified tag qualifier part ≡ None
 no_only tag qualifier part h = ap only (none_left (is_qualified tag qualifier) part h)

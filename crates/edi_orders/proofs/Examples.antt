@@ -9,7 +9,8 @@ use Rattle.edi_orders.specs.declared.response.Answer.{Answer}
 use Rattle.edi_orders.specs.declared.response.Answer.TheVariants.{Lines, AllAccepted, AllRefused}
 use Rattle.edi_orders.specs.declared.response.LineAnswer.TheVariants.{Changed}
 use Rattle.edi_orders.specs.declared.response.Response.{Response}
-use Rattle.edi_messages.specs.declared.fault.MessageFault.TheVariants.{Beginning, Date, Parties, Summary, Line, Quantity, Reference, Control, NoLine}
+use Rattle.edi_messages.specs.declared.fault.MessageFault.TheVariants.{Beginning, Date, Parties, Summary, Line, Quantity}
+use Rattle.edi_messages.specs.declared.fault.MessageFault.TheVariants.{Reference, Control, NoLine}
 
 abbrev dtm : List ℕ → Segment
 dtm day = segment (codes "DTM") ((codes "137" ∷ day ∷ codes "102" ∷ []) ∷ [])
@@ -57,19 +58,37 @@ unfolding order_of
 line_zero_before_quantity_zero = refl
 
 -- two BGM, no DTM and quantity 0
-three_faults : order_of (message (unh ∷ bgm ∷ bgm ∷ buyer ∷ supplier ∷ lin (codes "1") ∷ qty (codes "0") ∷ uns ∷ cnt (codes "1") ∷ unt ∷ [])) ≡ Err Beginning
+three_faults : order_of
+    (message (unh ∷ bgm ∷ bgm ∷ buyer ∷ supplier ∷ lin (codes "1") ∷ qty (codes "0") ∷ uns ∷ cnt (codes "1") ∷ unt ∷ []))
+    ≡ Err Beginning
 unfolding order_of
 three_faults = refl
 
-no_supplier : order_of (message (unh ∷ bgm ∷ dtm (codes "20250603") ∷ buyer ∷ lin (codes "1") ∷ supplier ∷ qty (codes "48") ∷ uns ∷ unt ∷ [])) ≡ Err Parties
+no_supplier : order_of
+    (message (unh ∷ bgm ∷ dtm (codes "20250603") ∷ buyer ∷ lin (codes "1") ∷ supplier ∷ qty (codes "48") ∷ uns ∷ unt ∷ []))
+    ≡ Err Parties
 unfolding order_of
 no_supplier = refl
 
-line_in_the_summary : order_of (message (unh ∷ bgm ∷ dtm (codes "20250603") ∷ buyer ∷ supplier ∷ uns ∷ lin (codes "1") ∷ qty (codes "48") ∷ unt ∷ [])) ≡ Err Summary
+line_in_the_summary : order_of
+    (message (unh ∷ bgm ∷ dtm (codes "20250603") ∷ buyer ∷ supplier ∷ uns ∷ lin (codes "1") ∷ qty (codes "48") ∷ unt ∷ []))
+    ≡ Err Summary
 unfolding order_of
 line_in_the_summary = refl
 
-one_number_twice : order_of (message (unh ∷ bgm ∷ dtm (codes "20250603") ∷ buyer ∷ supplier ∷ lin (codes "1") ∷ qty (codes "48") ∷ lin (codes "01") ∷ qty (codes "0") ∷ uns ∷ unt ∷ [])) ≡ Err Line
+one_number_twice : order_of (message (unh
+    ∷ bgm
+    ∷ dtm (codes "20250603")
+    ∷ buyer
+    ∷ supplier
+    ∷ lin (codes "1")
+    ∷ qty (codes "48")
+    ∷ lin (codes "01")
+    ∷ qty (codes "0")
+    ∷ uns
+    ∷ unt
+    ∷ []))
+    ≡ Err Line
 unfolding order_of
 one_number_twice = refl
 
@@ -83,7 +102,14 @@ no_line = refl
 
 -- a response with this function and these segments after its header
 abbrev response : List ℕ → List Segment → RawMessage
-response function segments = record (message (unh ∷ segment (codes "BGM") (one (codes "231") ∷ one (codes "R1") ∷ one function ∷ []) ∷ dtm (codes "20250603") ∷ segment (codes "RFF") ((codes "ON" ∷ codes "128576" ∷ []) ∷ []) ∷ buyer ∷ supplier ∷ segments)) { kind = codes "ORDRSP" }
+response function segments =
+    record (message (unh
+    ∷ segment (codes "BGM") (one (codes "231") ∷ one (codes "R1") ∷ one function ∷ [])
+    ∷ dtm (codes "20250603")
+    ∷ segment (codes "RFF") ((codes "ON" ∷ codes "128576" ∷ []) ∷ [])
+    ∷ buyer
+    ∷ supplier
+    ∷ segments)) { kind = codes "ORDRSP" }
 
 abbrev answered : List ℕ → Segment
 answered action = segment (codes "LIN") (one (codes "1") ∷ one action ∷ (codes "4000862141404" ∷ codes "SRV" ∷ []) ∷ [])
@@ -101,11 +127,14 @@ responded answer = record {
   answer = answer;
 }
 
-a_change : response_of (response (codes "4") (answered (codes "3") ∷ delivered (codes "113") (codes "36") ∷ uns ∷ unt ∷ [])) ≡ Ok (responded (Lines (record { order_line = None; gtin = codes "04000862141404"; answer = Changed 36 } ∷ [])))
+a_change : response_of (response (codes "4") (answered (codes "3") ∷ delivered (codes "113") (codes "36") ∷ uns ∷ unt ∷ []))
+    ≡ Ok (responded (Lines (record { order_line = None; gtin = codes "04000862141404"; answer = Changed 36 } ∷ [])))
 unfolding response_of
 a_change = refl
 
-delivered_goes_before_ordered : response_of (response (codes "9") (answered (codes "6") ∷ delivered (codes "113") (codes "0") ∷ delivered (codes "21") (codes "9") ∷ uns ∷ unt ∷ [])) ≡ Ok (responded (Lines (record { order_line = None; gtin = codes "04000862141404"; answer = Changed 0 } ∷ [])))
+delivered_goes_before_ordered : response_of (response (codes "9")
+    (answered (codes "6") ∷ delivered (codes "113") (codes "0") ∷ delivered (codes "21") (codes "9") ∷ uns ∷ unt ∷ []))
+    ≡ Ok (responded (Lines (record { order_line = None; gtin = codes "04000862141404"; answer = Changed 0 } ∷ [])))
 unfolding response_of
 delivered_goes_before_ordered = refl
 
@@ -118,7 +147,9 @@ all_accepted : response_of (response (codes "29") (answered (codes "1") ∷ uns 
 unfolding response_of
 all_accepted = refl
 
-another_order : response_of (response (codes "4") (answered (codes "5") ∷ segment (codes "RFF") ((codes "ON" ∷ codes "128577" ∷ []) ∷ []) ∷ uns ∷ unt ∷ [])) ≡ Err Reference
+another_order : response_of (response (codes "4")
+    (answered (codes "5") ∷ segment (codes "RFF") ((codes "ON" ∷ codes "128577" ∷ []) ∷ []) ∷ uns ∷ unt ∷ []))
+    ≡ Err Reference
 unfolding response_of
 another_order = refl
 

@@ -15,7 +15,8 @@ use Rattle.edi_orders.specs.declared.order.Order.{Order}
 use Rattle.edi_orders.specs.declared.order.OrderLine.{OrderLine}
 
 -- whether a number stands twice, in the lines as in their groups
-pub numbers_of : (groups : List (List Segment)) → has_number_twice (map (λ line. line.line) (map line_of groups)) ≡ has_number_twice (map number_or_zero groups)
+pub numbers_of : (groups : List (List Segment))
+    → has_number_twice (map (λ line. line.line) (map line_of groups)) ≡ has_number_twice (map number_or_zero groups)
 numbers_of groups = ap has_number_twice (map-map (λ (line : OrderLine). line.line) line_of groups)
 
 -- no line number of an order stands twice
@@ -24,5 +25,7 @@ unfolding order_of
 order_apart m order h =
     let groups = line_groups m.segments in
     let right = judged_at (λ fault. holds fault m) (contents_of m.segments) order 6 Line h refl in
-    ap (λ (o : Order). has_number_twice (map (λ line. line.line) o.lines)) (sym (judged_is (λ fault. holds fault m) (contents_of m.segments) order h)) ∙ numbers_of groups
+    ap (λ (o : Order). has_number_twice (map (λ line. line.line) o.lines))
+    (sym (judged_is (λ fault. holds fault m) (contents_of m.segments) order h))
+    ∙ numbers_of groups
     ∙ (or_parts (not (list_all is_line groups)) (has_number_twice (map number_or_zero groups)) right).1

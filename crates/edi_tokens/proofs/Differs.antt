@@ -14,4 +14,6 @@ not-|| false y = refl
 pub not_list_any : (b : ℕ) (cs : List ℕ) → not (list_any (λ c. c == b) cs) ≡ differs b cs
 not_list_any b [] = refl
 not_list_any b (c ∷ cs) =
-    not-|| (c == b) (list_any (λ d. d == b) cs) ∙ ap (λ first. not first && not (list_any (λ d. d == b) cs)) (==-swap c b) ∙ ap (λ rest. not (b == c) && rest) (not_list_any b cs)
+    not-|| (c == b) (list_any (λ d. d == b) cs)
+    ∙ ap (λ first. not first && not (list_any (λ d. d == b) cs)) (==-swap c b)
+    ∙ ap (λ rest. not (b == c) && rest) (not_list_any b cs)

@@ -31,20 +31,32 @@ empty_from_length [] e = refl
 empty_from_length (a ∷ x) e = absurd (omega arith)
 
 -- the last one is empty, and was taken off
-pub popped : {A : Type 0} (xs ys : List (List A)) (last : List A) → ys ≡ take (length xs - 1) xs → 0 < length xs → last ≡ get_or xs (length xs - 1) last → length last ≡ 0
+pub popped : {A : Type 0} (xs ys : List (List A)) (last : List A)
+    → ys ≡ take (length xs - 1) xs
+    → 0 < length xs
+    → last ≡ get_or xs (length xs - 1) last
+    → length last ≡ 0
     → without_empty_end ys ≡ without_empty_end xs
 popped xs ys last front some is_last empty =
-    let e : xs ≡ take (length xs - 1) xs ++ [] ∷ [] = front_and_last xs last some ∙ ap (λ x. take (length xs - 1) xs ++ x ∷ []) (sym is_last ∙ empty_from_length last empty) in
+    let e : xs ≡ take (length xs - 1) xs ++ [] ∷ [] =
+    front_and_last xs last some ∙ ap (λ x. take (length xs - 1) xs ++ x ∷ []) (sym is_last ∙ empty_from_length last empty) in
     ap without_empty_end front ∙ sym (without_empty_end-push_empty (take (length xs - 1) xs)) ∙ ap without_empty_end (sym e)
 
 -- the last one is not empty
-pub kept : {A : Type 0} (xs : List (List A)) (last : List A) → 0 < length xs → last ≡ get_or xs (length xs - 1) last → 0 < length last → without_empty_end xs ≡ xs
+pub kept : {A : Type 0} (xs : List (List A)) (last : List A)
+    → 0 < length xs
+    → last ≡ get_or xs (length xs - 1) last
+    → 0 < length last
+    → without_empty_end xs ≡ xs
 kept xs last some is_last full =
-    let e : xs ≡ take (length xs - 1) xs ++ last ∷ [] = front_and_last xs last some ∙ ap (λ x. take (length xs - 1) xs ++ x ∷ []) (sym is_last) in
+    let e : xs ≡ take (length xs - 1) xs ++ last ∷ [] =
+    front_and_last xs last some ∙ ap (λ x. take (length xs - 1) xs ++ x ∷ []) (sym is_last) in
     ap without_empty_end e ∙ without_empty_end-push (take (length xs - 1) xs) last full ∙ sym e
 
 -- a list that is closed: an empty last one is dropped with those before it
-pub closed_empty : {A : Type 0} (xs : List (List A)) (x : List A) → (length x == 0) ≡ true → without_empty_end (xs ++ x ∷ []) ≡ without_empty_end xs
+pub closed_empty : {A : Type 0} (xs : List (List A)) (x : List A)
+    → (length x == 0) ≡ true
+    → without_empty_end (xs ++ x ∷ []) ≡ without_empty_end xs
 closed_empty xs [] empty = without_empty_end-push_empty xs
 closed_empty xs (a ∷ x) empty = absurd (omega (arith, eqb-true (length (a ∷ x)) 0 empty))
 

@@ -9,16 +9,27 @@ use Rattle.edi_tokens.specs.Text.{text, una}
 empty_text : tokens_of (codes "") ≡ Ok (record { service = usual; segments = [] })
 empty_text = refl
 
-a_segment : tokens_of (codes "QTY+21:48'") ≡ Ok (record { service = usual; segments = record { tag = codes "QTY"; elements = (codes "21" ∷ codes "48" ∷ []) ∷ [] } ∷ [] })
+a_segment : tokens_of (codes "QTY+21:48'")
+    ≡ Ok (record {
+      service = usual;
+      segments = record { tag = codes "QTY"; elements = (codes "21" ∷ codes "48" ∷ []) ∷ [] } ∷ [];
+    })
 a_segment = refl
 
-empty_ends_are_dropped : tokens_of (codes "QTY+21:48:+'") ≡ Ok (record { service = usual; segments = record { tag = codes "QTY"; elements = (codes "21" ∷ codes "48" ∷ []) ∷ [] } ∷ [] })
+empty_ends_are_dropped : tokens_of (codes "QTY+21:48:+'")
+    ≡ Ok (record {
+      service = usual;
+      segments = record { tag = codes "QTY"; elements = (codes "21" ∷ codes "48" ∷ []) ∷ [] } ∷ [];
+    })
 empty_ends_are_dropped = refl
 
-empty_in_the_middle : tokens_of (codes "ABC++:x'") ≡ Ok (record { service = usual; segments = record { tag = codes "ABC"; elements = [] ∷ ([] ∷ codes "x" ∷ []) ∷ [] } ∷ [] })
+empty_in_the_middle : tokens_of (codes "ABC++:x'")
+    ≡ Ok
+    (record { service = usual; segments = record { tag = codes "ABC"; elements = [] ∷ ([] ∷ codes "x" ∷ []) ∷ [] } ∷ [] })
 empty_in_the_middle = refl
 
-released : tokens_of (codes "FTX+a?'b??'") ≡ Ok (record { service = usual; segments = record { tag = codes "FTX"; elements = (codes "a'b?" ∷ []) ∷ [] } ∷ [] })
+released : tokens_of (codes "FTX+a?'b??'")
+    ≡ Ok (record { service = usual; segments = record { tag = codes "FTX"; elements = (codes "a'b?" ∷ []) ∷ [] } ∷ [] })
 released = refl
 
 no_elements : tokens_of (codes "ABC'") ≡ Ok (record { service = usual; segments = record { tag = codes "ABC"; elements = [] } ∷ [] })
@@ -60,10 +71,13 @@ line_end_in_data = refl
 line_end_in_tag : tokens_of (codes "AB" ++ 13 ∷ []) ≡ Err Tag
 line_end_in_tag = refl
 
-line_ends_between : tokens_of (13 ∷ 10 ∷ codes "UNA:+.? '" ++ 10 ∷ [] ++ codes "ABC'" ++ 13 ∷ []) ≡ Ok (record { service = usual; segments = record { tag = codes "ABC"; elements = [] } ∷ [] })
+line_ends_between : tokens_of (13 ∷ 10 ∷ codes "UNA:+.? '" ++ 10 ∷ [] ++ codes "ABC'" ++ 13 ∷ [])
+    ≡ Ok (record { service = usual; segments = record { tag = codes "ABC"; elements = [] } ∷ [] })
 line_ends_between = refl
 
-canonical : text (record { tag = codes "FTX"; elements = (codes "a'b?" ∷ [] ∷ codes "c" ∷ []) ∷ [] ∷ (codes "d" ∷ []) ∷ [] } ∷ []) ≡ codes "FTX+a?'b??::c++d'"
+canonical :
+    text (record { tag = codes "FTX"; elements = (codes "a'b?" ∷ [] ∷ codes "c" ∷ []) ∷ [] ∷ (codes "d" ∷ []) ∷ [] } ∷ [])
+    ≡ codes "FTX+a?'b??::c++d'"
 canonical = refl
 
 service_string : una 46 ≡ codes "UNA:+.? '"

@@ -5,10 +5,18 @@ use Rattle.edi_tokens.specs.Characters.{is_line_end}
 use Rattle.edi_tokens.specs.Spelling.{Each, LineEnds}
 
 -- one part more
-pub Each-push : {A : Type 0} (R : List ℕ → A → Type 0) (text : List ℕ) (xs : List A) (part : List ℕ) (x : A) → Each R text xs → R part x → Each R (text ++ part) (xs ++ x ∷ [])
+pub Each-push : {A : Type 0} (R : List ℕ → A → Type 0) (text : List ℕ) (xs : List A) (part : List ℕ) (x : A)
+    → Each R text xs
+    → R part x
+    → Each R (text ++ part) (xs ++ x ∷ [])
 Each-push R text [] part x spelled r = (part, [], ap (λ (t : List ℕ). t ++ part) spelled ∙ sym (append-nil part), r, refl)
-Each-push R text (y ∷ xs) part x spelled r =
-    (spelled.0, spelled.1 ++ part, ap (λ (t : List ℕ). t ++ part) spelled.2 ∙ append_assoc spelled.0 spelled.1 part, spelled.3, Each-push R spelled.1 xs part x spelled.4 r)
+Each-push R text (y ∷ xs) part x spelled r = (
+  spelled.0,
+  spelled.1 ++ part,
+  ap (λ (t : List ℕ). t ++ part) spelled.2 ∙ append_assoc spelled.0 spelled.1 part,
+  spelled.3,
+  Each-push R spelled.1 xs part x spelled.4 r,
+)
 
 pub LineEnds-push : (text : List ℕ) (b : ℕ) → LineEnds text → IsTrue (is_line_end b) → LineEnds (text ++ b ∷ [])
 LineEnds-push [] b ends h = (h, tt)

@@ -1,5 +1,6 @@
 -- What reading gives, the grammar says: the segments are spelled, the fault is shown.
-use Rattle.std.proofs.Common.{◌≡◌, ℕ, ◌<◌, ◌≤◌, cond, ltb, List, [], ◌∷◌, ◌++◌, length, take, drop, None, Result, Ok, Err, refl, sym, ap, subst, ◌∙◌, append_assoc, arith, inl, inr}
+use Rattle.std.proofs.Common.{◌≡◌, ℕ, ◌<◌, ◌≤◌, cond, ltb, List, [], ◌∷◌, ◌++◌, length, take, drop, None, Result, Ok, Err}
+use Rattle.std.proofs.Common.{refl, sym, ap, subst, ◌∙◌, append_assoc, arith, inl, inr}
 use Rattle.std.proofs.lemmas.List.{take-append-drop, length-take, length-append, length-drop, take_all}
 use Rattle.std.proofs.lemmas.Bool.{cases_Bool, ltb-true, ltb-false, ne_eqb, eq-eqb}
 use Rattle.edi_tokens.specs.declared.segment.Service.{Service}
@@ -8,7 +9,8 @@ use Rattle.edi_tokens.specs.declared.segment.Tokens.{Tokens}
 use Rattle.edi_tokens.specs.declared.fault.TokenFault.{TokenFault}
 use Rattle.edi_tokens.specs.declared.fault.TokenFault.TheVariants.{TooLong}
 use Rattle.edi_tokens.specs.Spelling.{text_limit, Spells}
-use Rattle.edi_tokens.specs.Reading.{Place, Outside, InService, InTag, InData, Released, Reading, start, run, ◌>>=◌, finish, finish_at, tokens_of}
+use Rattle.edi_tokens.specs.Reading.{Place, Outside, InService, InTag, InData, Released, Reading, start, run, ◌>>=◌, finish}
+use Rattle.edi_tokens.specs.Reading.{finish_at, tokens_of}
 use Rattle.edi_tokens.specs.Fault.{EndsAt, Ends, Shows}
 use Rattle.edi_tokens.proofs.Steps.{Runs, Stops, run_leads}
 
@@ -32,13 +34,20 @@ stops_early text fault stop =
       byte = stop.byte;
       rest = stop.rest ++ drop text_limit text;
       reading = stop.reading;
-      text_is = sym (take-append-drop text_limit text) ∙ ap (λ (t : List ℕ). t ++ drop text_limit text) stop.text_is ∙ append_assoc stop.front (stop.byte ∷ stop.rest) (drop text_limit text);
+      text_is =
+          sym (take-append-drop text_limit text)
+          ∙ ap (λ (t : List ℕ). t ++ drop text_limit text) stop.text_is
+          ∙ append_assoc stop.front (stop.byte ∷ stop.rest) (drop text_limit text);
       front_ends = stop.front_ends;
       is_first = omega arith;
       shows = rw (ne_eqb (length stop.front) text_limit (λ e. absurd (omega arith))) stop.shows;
     })
 
-stops_late : (text : List ℕ) (r : Reading) (rest : List ℕ) → text_limit < length text → Ends (take text_limit text) r → drop text_limit text ≡ rest → Shows text TooLong
+stops_late : (text : List ℕ) (r : Reading) (rest : List ℕ)
+    → text_limit < length text
+    → Ends (take text_limit text) r
+    → drop text_limit text ≡ rest
+    → Shows text TooLong
 stops_late text r [] long e is = absurd (omega (arith, length-drop text_limit text, ap length is))
 stops_late text r (b ∷ rest) long e is =
     inl (record {
@@ -52,18 +61,47 @@ stops_late text r (b ∷ rest) long e is =
       shows = rw (eq-eqb (length (take text_limit text)) text_limit (omega (arith, length-take text_limit text))) refl;
     })
 
-ends_well : (text : List ℕ) (s : Service) (segments : List Segment) (place : Place) → length text ≤ text_limit → EndsAt text s segments place → IsRead text (finish_at (record { service = s; segments = segments; place = place }) place)
+ends_well : (text : List ℕ) (s : Service) (segments : List Segment) (place : Place)
+    → length text ≤ text_limit
+    → EndsAt text s segments place
+    → IsRead text (finish_at (record { service = s; segments = segments; place = place }) place)
 ends_well text s segments (Outside fresh) short e = record { whole = e.whole; is_short = short }
-ends_well text s segments (InService six) short e = inr (record { reading = record { service = s; segments = segments; place = InService six }; text_ends = e; is_short = short; shows = refl })
-ends_well text s segments (InTag fresh tag) short e = inr (record { reading = record { service = s; segments = segments; place = InTag fresh tag }; text_ends = e; is_short = short; shows = refl })
-ends_well text s segments (InData o) short e = inr (record { reading = record { service = s; segments = segments; place = InData o }; text_ends = e; is_short = short; shows = refl })
-ends_well text s segments (Released o) short e = inr (record { reading = record { service = s; segments = segments; place = Released o }; text_ends = e; is_short = short; shows = refl })
+ends_well text s segments (InService six) short e =
+    inr (record {
+      reading = record { service = s; segments = segments; place = InService six };
+      text_ends = e;
+      is_short = short;
+      shows = refl;
+    })
+ends_well text s segments (InTag fresh tag) short e =
+    inr (record {
+      reading = record { service = s; segments = segments; place = InTag fresh tag };
+      text_ends = e;
+      is_short = short;
+      shows = refl;
+    })
+ends_well text s segments (InData o) short e =
+    inr (record {
+      reading = record { service = s; segments = segments; place = InData o };
+      text_ends = e;
+      is_short = short;
+      shows = refl;
+    })
+ends_well text s segments (Released o) short e =
+    inr (record {
+      reading = record { service = s; segments = segments; place = Released o };
+      text_ends = e;
+      is_short = short;
+      shows = refl;
+    })
 
 -- reading gives what is spelled, or the fault that is shown
 pub is_read : (text : List ℕ) → IsRead text (tokens_of text)
 is_read text = go (run start (take text_limit text)) (run_leads [] (take text_limit text) start start_ends)
   where
-    go : (x : Result Reading TokenFault) → Runs (take text_limit text) x → IsRead text (x >>= λ r. cond (ltb text_limit (length text)) (Err TooLong) (finish r))
+    go : (x : Result Reading TokenFault)
+        → Runs (take text_limit text) x
+        → IsRead text (x >>= λ r. cond (ltb text_limit (length text)) (Err TooLong) (finish r))
     go (Err fault) stop = stops_early text fault stop
     go (Ok r) e =
         elim (cases_Bool (ltb text_limit (length text))) [

@@ -1,12 +1,15 @@
 -- The canonical text of what some text spells spells it again.
-use Rattle.std.proofs.Common.{◌≡◌, ℕ, ◌≤◌, Bool, true, false, List, [], ◌∷◌, ◌++◌, length, map, Some, refl, sym, ap, subst, ◌∙◌, append_assoc, append-nil, inl, inr}
+use Rattle.std.proofs.Common.{◌≡◌, ℕ, ◌≤◌, Bool, true, false, List, [], ◌∷◌, ◌++◌, length, map, Some, refl, sym, ap, subst}
+use Rattle.std.proofs.Common.{◌∙◌, append_assoc, append-nil, inl, inr}
 use Rattle.std.specs.Prelude.{IsTrue, not, ◌⊎◌}
 use Rattle.std.specs.List.{AllByRecursion, flat_map}
 use Rattle.edi_tokens.specs.declared.segment.Service.{Service}
 use Rattle.edi_tokens.specs.declared.segment.Segment.{Segment}
 use Rattle.edi_tokens.specs.Characters.{is_data}
 use Rattle.edi_tokens.specs.Service.{service_of, with_decimal}
-use Rattle.edi_tokens.specs.Spelling.{text_limit, segment_limit, Each, Behind, Before, SpellsByte, SpellsComponent, SpellsElement, SpellsSegment, SpellsNext, Spells, IsTag, without_empty_end, and_others}
+use Rattle.edi_tokens.specs.Spelling.{text_limit, segment_limit, Each, Behind, Before, SpellsByte, SpellsComponent}
+use Rattle.edi_tokens.specs.Spelling.{SpellsElement, SpellsSegment, SpellsNext, Spells, IsTag, without_empty_end}
+use Rattle.edi_tokens.specs.Spelling.{and_others}
 use Rattle.edi_tokens.specs.Text.{is_usual, byte_text, component_text, components_text, element_text, segment_text, text, una}
 
 -- ---- what is spelled is in its counted form
@@ -27,7 +30,10 @@ record IsCounted (x : Segment) : Type 0 where
   each_trimmed : AllByRecursion Trimmed x.elements
   trimmed : without_empty_end x.elements ≡ x.elements
 
-others_all : {A : Type 0} (P : List A → Type 0) (x : List A) (xs : List (List A)) → P x → AllByRecursion P xs → AllByRecursion P (and_others x xs)
+others_all : {A : Type 0} (P : List A → Type 0) (x : List A) (xs : List (List A))
+    → P x
+    → AllByRecursion P xs
+    → AllByRecursion P (and_others x xs)
 others_all P [] [] p ps = tt
 others_all P [] (y ∷ ys) p ps = (p, ps)
 others_all P (a ∷ x) ys p ps = (p, ps)
@@ -36,7 +42,9 @@ trim_all : {A : Type 0} (P : List A → Type 0) (xs : List (List A)) → AllByRe
 trim_all P [] ps = tt
 trim_all P (x ∷ xs) ps = others_all P x (without_empty_end xs) ps.0 (trim_all P xs ps.1)
 
-others_trimmed : {A : Type 0} (x : List A) (xs : List (List A)) → without_empty_end xs ≡ xs → without_empty_end (and_others x xs) ≡ and_others x xs
+others_trimmed : {A : Type 0} (x : List A) (xs : List (List A))
+    → without_empty_end xs ≡ xs
+    → without_empty_end (and_others x xs) ≡ and_others x xs
 others_trimmed [] [] e = refl
 others_trimmed [] (y ∷ ys) e = ap (and_others []) e
 others_trimmed {A} (a ∷ x) ys e = ap (λ (zs : List (List A)). (a ∷ x) ∷ zs) e
@@ -45,7 +53,10 @@ trim_twice : {A : Type 0} (xs : List (List A)) → without_empty_end (without_em
 trim_twice [] = refl
 trim_twice (x ∷ xs) = others_trimmed x (without_empty_end xs) (trim_twice xs)
 
-each_all : {A : Type 0} (R : List ℕ → A → Type 0) (P : A → Type 0) (spelled : List ℕ) (xs : List A) → ((part : List ℕ) (x : A) → R part x → P x) → Each R spelled xs → AllByRecursion P xs
+each_all : {A : Type 0} (R : List ℕ → A → Type 0) (P : A → Type 0) (spelled : List ℕ) (xs : List A)
+    → ((part : List ℕ) (x : A) → R part x → P x)
+    → Each R spelled xs
+    → AllByRecursion P xs
 each_all R P spelled [] f e = tt
 each_all R P spelled (x ∷ xs) f e = (f e.0 x e.3, each_all R P e.1 xs f e.4)
 
@@ -59,14 +70,20 @@ all_push : {A : Type 0} (P : A → Type 0) (xs : List A) (x : A) → AllByRecurs
 all_push P [] x ps p = (p, tt)
 all_push P (y ∷ xs) x ps p = (ps.0, all_push P xs x ps.1 p)
 
-element_is_data : (s : Service) (part : List ℕ) (components : List (List ℕ)) → Behind s.element (SpellsElement s) part components → DataElement components
+element_is_data : (s : Service) (part : List ℕ) (components : List (List ℕ))
+    → Behind s.element (SpellsElement s) part components
+    → DataElement components
 element_is_data s part components e =
     let inner = e.2 in
     subst DataElement (sym inner.components_are) (all_push Data inner.closed inner.last
-    (each_all (Before s.component (SpellsComponent s)) Data inner.front inner.closed (λ (t : List ℕ) (c : List ℕ) (h : Before s.component (SpellsComponent s) t c). component_is_data s h.0 c h.2) inner.front_spells)
+    (each_all (Before s.component (SpellsComponent s)) Data inner.front inner.closed
+    (λ (t : List ℕ) (c : List ℕ) (h : Before s.component (SpellsComponent s) t c). component_is_data s h.0 c h.2)
+    inner.front_spells)
     (component_is_data s inner.back inner.last inner.back_spells))
 
-all_trimmed_data : (written : List (List (List ℕ))) → AllByRecursion DataElement written → AllByRecursion DataElement (map without_empty_end written)
+all_trimmed_data : (written : List (List (List ℕ)))
+    → AllByRecursion DataElement written
+    → AllByRecursion DataElement (map without_empty_end written)
 all_trimmed_data [] ps = tt
 all_trimmed_data (w ∷ ws) ps = (trim_all Data w ps.0, all_trimmed_data ws ps.1)
 
@@ -79,9 +96,15 @@ segment_is_counted s part x e =
     let data_written = each_all (Behind s.element (SpellsElement s)) DataElement e.body e.written (element_is_data s) e.body_spells in
     record {
       tag_is = e.tag_is;
-      data_are = subst (AllByRecursion DataElement) (sym e.elements_are) (trim_all DataElement (map without_empty_end e.written) (all_trimmed_data e.written data_written));
-      each_trimmed = subst (AllByRecursion Trimmed) (sym e.elements_are) (trim_all Trimmed (map without_empty_end e.written) (all_trimmed e.written));
-      trimmed = subst (λ (y : List (List (List ℕ))). without_empty_end y ≡ y) (sym e.elements_are) (trim_twice (map without_empty_end e.written));
+      data_are =
+          subst (AllByRecursion DataElement) (sym e.elements_are)
+          (trim_all DataElement (map without_empty_end e.written) (all_trimmed_data e.written data_written));
+      each_trimmed =
+          subst (AllByRecursion Trimmed) (sym e.elements_are)
+          (trim_all Trimmed (map without_empty_end e.written) (all_trimmed e.written));
+      trimmed =
+          subst (λ (y : List (List (List ℕ))). without_empty_end y ≡ y) (sym e.elements_are)
+          (trim_twice (map without_empty_end e.written));
     }
 
 -- ---- the canonical text of what is in its counted form
@@ -90,13 +113,16 @@ module _ (decimal : ℕ) where
   byte_spelled : (b : ℕ) → IsTrue (is_data b) → SpellsByte (with_decimal decimal) (byte_text b) b
   byte_spelled b h = (h, go (is_usual b) refl)
     where
-      go : (usual : Bool) → is_usual b ≡ usual → ((byte_text b ≡ b ∷ []) × IsTrue (not (is_usual b))) ⊎ ((r : ℕ) × (Some 63 ≡ Some r) × (byte_text b ≡ r ∷ b ∷ []))
+      go : (usual : Bool)
+          → is_usual b ≡ usual
+          → ((byte_text b ≡ b ∷ []) × IsTrue (not (is_usual b))) ⊎ ((r : ℕ) × (Some 63 ≡ Some r) × (byte_text b ≡ r ∷ b ∷ []))
       go true e = inr (63, refl, rw e refl)
       go false e = inl (rw e refl, ap not e)
 
   component_spelled : (component : List ℕ) → Data component → SpellsComponent (with_decimal decimal) (component_text component) component
   component_spelled [] data_are = refl
-  component_spelled (b ∷ component) data_are = (byte_text b, component_text component, refl, byte_spelled b data_are.0, component_spelled component data_are.1)
+  component_spelled (b ∷ component) data_are =
+      (byte_text b, component_text component, refl, byte_spelled b data_are.0, component_spelled component data_are.1)
 
   -- an element without components is written as one empty one
   abbrev filled : List (List ℕ) → List (List ℕ)
@@ -106,7 +132,11 @@ module _ (decimal : ℕ) where
   others_text : List (List ℕ) → List ℕ
   others_text others = flat_map (λ component. 58 ∷ component_text component) others
 
-  components_spelled : (first : List ℕ) (others : List (List ℕ)) → Data first → DataElement others → SpellsElement (with_decimal decimal) (component_text first ++ flat_map (λ component. 58 ∷ component_text component) others) (first ∷ others)
+  components_spelled : (first : List ℕ) (others : List (List ℕ))
+      → Data first
+      → DataElement others
+      → SpellsElement (with_decimal decimal)
+      (component_text first ++ flat_map (λ component. 58 ∷ component_text component) others) (first ∷ others)
   components_spelled first [] h hs = record {
     front = [];
     back = component_text first;
@@ -126,24 +156,57 @@ module _ (decimal : ℕ) where
         last = rest.last;
         text_is = ap (λ (t : List ℕ). component_text first ++ 58 ∷ t) rest.text_is ∙ simp append_assoc;
         components_are = ap (λ (cs : List (List ℕ)). first ∷ cs) rest.components_are;
-        front_spells = (component_text first ++ 58 ∷ [], rest.front, refl, (component_text first, refl, component_spelled first h), rest.front_spells);
+        front_spells = (
+          component_text first ++ 58 ∷ [],
+          rest.front,
+          refl,
+          (component_text first, refl, component_spelled first h),
+          rest.front_spells,
+        );
         back_spells = rest.back_spells;
       }
 
-  element_spelled : (components : List (List ℕ)) → DataElement components → SpellsElement (with_decimal decimal) (components_text components) (filled components)
-  element_spelled [] hs = record { front = []; back = []; closed = []; last = []; text_is = refl; components_are = refl; front_spells = refl; back_spells = refl }
+  element_spelled : (components : List (List ℕ))
+      → DataElement components
+      → SpellsElement (with_decimal decimal) (components_text components) (filled components)
+  element_spelled [] hs =
+      record {
+        front = [];
+        back = [];
+        closed = [];
+        last = [];
+        text_is = refl;
+        components_are = refl;
+        front_spells = refl;
+        back_spells = refl;
+      }
   element_spelled (first ∷ others) hs = components_spelled first others hs.0 hs.1
 
-  elements_spelled : (elements : List (List (List ℕ))) → AllByRecursion DataElement elements → Each (Behind 43 (SpellsElement (with_decimal decimal))) (flat_map element_text elements) (map filled elements)
+  elements_spelled : (elements : List (List (List ℕ)))
+      → AllByRecursion DataElement elements
+      → Each (Behind 43 (SpellsElement (with_decimal decimal))) (flat_map element_text elements) (map filled elements)
   elements_spelled [] hs = refl
-  elements_spelled (e ∷ elements) hs = (element_text e, flat_map element_text elements, refl, (components_text e, refl, element_spelled e hs.0), elements_spelled elements hs.1)
+  elements_spelled (e ∷ elements) hs = (
+    element_text e,
+    flat_map element_text elements,
+    refl,
+    (components_text e, refl, element_spelled e hs.0),
+    elements_spelled elements hs.1,
+  )
 
-  filled_counts : (elements : List (List (List ℕ))) → AllByRecursion Trimmed elements → map without_empty_end (map filled elements) ≡ elements
+  filled_counts : (elements : List (List (List ℕ)))
+      → AllByRecursion Trimmed elements
+      → map without_empty_end (map filled elements) ≡ elements
   filled_counts [] hs = refl
   filled_counts ([] ∷ elements) hs = ap (λ (es : List (List (List ℕ))). [] ∷ es) (filled_counts elements hs.1)
-  filled_counts ((c ∷ cs) ∷ elements) hs = ap (λ (e : List (List ℕ)). e ∷ map without_empty_end (map filled elements)) hs.0 ∙ ap (λ (es : List (List (List ℕ))). (c ∷ cs) ∷ es) (filled_counts elements hs.1)
+  filled_counts ((c ∷ cs) ∷ elements) hs =
+      ap (λ (e : List (List ℕ)). e ∷ map without_empty_end (map filled elements)) hs.0
+      ∙ ap (λ (es : List (List (List ℕ))). (c ∷ cs) ∷ es) (filled_counts elements hs.1)
 
-  segment_spelled : (x : Segment) → IsCounted x → length (segment_text x) ≤ segment_limit → SpellsSegment (with_decimal decimal) (segment_text x) x
+  segment_spelled : (x : Segment)
+      → IsCounted x
+      → length (segment_text x) ≤ segment_limit
+      → SpellsSegment (with_decimal decimal) (segment_text x) x
   segment_spelled x is short = record {
     body = flat_map element_text x.elements;
     written = map filled x.elements;
@@ -154,15 +217,27 @@ module _ (decimal : ℕ) where
     is_short = short;
   }
 
-  segments_spelled : (xs : List Segment) → AllByRecursion IsCounted xs → AllByRecursion (λ x. length (segment_text x) ≤ segment_limit) xs → Each (SpellsNext (with_decimal decimal)) (text xs) xs
+  segments_spelled : (xs : List Segment)
+      → AllByRecursion IsCounted xs
+      → AllByRecursion (λ x. length (segment_text x) ≤ segment_limit) xs
+      → Each (SpellsNext (with_decimal decimal)) (text xs) xs
   segments_spelled [] is short = refl
-  segments_spelled (x ∷ xs) is short = (segment_text x, text xs, refl, ([], segment_text x, refl, tt, segment_spelled x is.0 short.0), segments_spelled xs is.1 short.1)
+  segments_spelled (x ∷ xs) is short = (
+    segment_text x,
+    text xs,
+    refl,
+    ([], segment_text x, refl, tt, segment_spelled x is.0 short.0),
+    segments_spelled xs is.1 short.1,
+  )
 
 next_is_counted : (s : Service) (part : List ℕ) (x : Segment) → SpellsNext s part x → IsCounted x
 next_is_counted s part x e = segment_is_counted s e.1 x e.4
 
 -- what some text spells, its canonical text spells again, where it keeps within both lengths
-pub canonical_again : (bytes : List ℕ) (s : Service) (xs : List Segment) (decimal : ℕ) → Spells bytes s xs → (decimal ≡ 46) ⊎ (decimal ≡ 44) → AllByRecursion (λ x. length (segment_text x) ≤ segment_limit) xs
+pub canonical_again : (bytes : List ℕ) (s : Service) (xs : List Segment) (decimal : ℕ)
+    → Spells bytes s xs
+    → (decimal ≡ 46) ⊎ (decimal ≡ 44)
+    → AllByRecursion (λ x. length (segment_text x) ≤ segment_limit) xs
     → length (una decimal ++ text xs) ≤ text_limit → Spells (una decimal ++ text xs) (with_decimal decimal) xs
 canonical_again bytes s xs decimal e mark short whole_short =
     let are = each_all (SpellsNext s) IsCounted e.whole.body xs (next_is_counted s) e.whole.body_spells in

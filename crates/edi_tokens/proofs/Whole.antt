@@ -1,15 +1,21 @@
 -- Each valid front of a text is run through, and its run ends where the front does.
-use Rattle.std.proofs.Common.{◌≡◌, ◌≢◌, ℕ, suc, ◌+◌, ◌<◌, ◌≤◌, Bool, true, false, cond, eqb, ltb, leb, List, [], ◌∷◌, ◌++◌, length, map, Option, Some, None, Result, Ok, Err, refl, sym, ap, subst, ◌∙◌, append_assoc, append-nil, add-one, arith, inl, inr}
+use Rattle.std.proofs.Common.{◌≡◌, ◌≢◌, ℕ, suc, ◌+◌, ◌<◌, ◌≤◌, Bool, true, false, cond, eqb, ltb, leb, List, [], ◌∷◌, ◌++◌}
+use Rattle.std.proofs.Common.{length, map, Option, Some, None, Result, Ok, Err, refl, sym, ap, subst, ◌∙◌, append_assoc}
+use Rattle.std.proofs.Common.{append-nil, add-one, arith, inl, inr}
 use Rattle.std.specs.Prelude.{IsTrue, ◌&&◌, ◌||◌, not, ◌⊎◌}
 use Rattle.std.proofs.lemmas.List.{length-append}
-use Rattle.std.proofs.lemmas.Bool.{false≢true, eqb-false, ne_eqb, eq-eqb, lt-ltb, le-ltb, leb-true, not-true, and_parts, and_right, or_left, or_right, false_from_ne_true}
+use Rattle.std.proofs.lemmas.Bool.{false≢true, eqb-false, ne_eqb, eq-eqb, lt-ltb, le-ltb, leb-true, not-true, and_parts}
+use Rattle.std.proofs.lemmas.Bool.{and_right, or_left, or_right, false_from_ne_true}
 use Rattle.edi_tokens.specs.declared.segment.Service.{Service}
 use Rattle.edi_tokens.specs.declared.segment.Segment.{Segment}
 use Rattle.edi_tokens.specs.declared.fault.TokenFault.{TokenFault}
 use Rattle.edi_tokens.specs.Characters.{is_data, is_special, is_release, is_capital, is_digit, is_line_end}
 use Rattle.edi_tokens.specs.Service.{usual, una_tag, service_of, differs, is_mark, is_decimal, are_right}
-use Rattle.edi_tokens.specs.Spelling.{segment_limit, Each, Behind, Before, SpellsByte, SpellsComponent, SpellsElement, SpellsSegment, SpellsNext, SpellsWhole, LineEnds, IsTag, IsNoAdvice, tags, Advice, Advises, advice_text, without_empty_end}
-use Rattle.edi_tokens.specs.Reading.{Open, Place, Outside, InService, InTag, InData, Released, Reading, start, is_una, adopt, step, run, ◌>>=◌}
+use Rattle.edi_tokens.specs.Spelling.{segment_limit, Each, Behind, Before, SpellsByte, SpellsComponent, SpellsElement}
+use Rattle.edi_tokens.specs.Spelling.{SpellsSegment, SpellsNext, SpellsWhole, LineEnds, IsTag, IsNoAdvice, tags, Advice}
+use Rattle.edi_tokens.specs.Spelling.{Advises, advice_text, without_empty_end}
+use Rattle.edi_tokens.specs.Reading.{Open, Place, Outside, InService, InTag, InData, Released, Reading, start, is_una}
+use Rattle.edi_tokens.specs.Reading.{adopt, step, run, ◌>>=◌}
 use Rattle.edi_tokens.specs.Fault.{is_fresh, EndsAt, IsTagFront, SpellsOpen, EndsInData, EndsReleased}
 use Rattle.edi_tokens.proofs.Steps.{is_una_true}
 
@@ -26,7 +32,9 @@ usual_apart = record {
   element_component = refl;
   terminator_component = refl;
   terminator_element = refl;
-  release_apart = λ r e. let same : 63 ≡ r = cc in subst (λ (x : ℕ). (eqb x 58 ≡ false) × (eqb x 43 ≡ false) × (eqb x 39 ≡ false)) same (refl, refl, refl);
+  release_apart =
+      λ r e. let same : 63 ≡ r = cc in
+      subst (λ (x : ℕ). (eqb x 58 ≡ false) × (eqb x 43 ≡ false) × (eqb x 39 ≡ false)) same (refl, refl, refl);
 }
 
 swap_differs : (a b : ℕ) → eqb a b ≡ false → eqb b a ≡ false
@@ -54,12 +62,14 @@ service_apart (c ∷ e ∷ d ∷ r ∷ reserved ∷ t ∷ []) s h =
     let e1 = and_parts (not (eqb e t)) _ ce.1 in
     let e2 = and_parts (not (eqb e r)) _ e1.1 in
     let t1 = and_parts (not (eqb t r)) _ tr.0 in
-    let here : Apart (record { component = c; element = e; decimal = d; release = cond (eqb r 32) None (Some r); terminator = t }) = record {
+    let here : Apart
+    (record { component = c; element = e; decimal = d; release = cond (eqb r 32) None (Some r); terminator = t }) = record {
       element_component = swap_differs c e (not-true _ c1.0);
       terminator_component = swap_differs c t (not-true _ c2.0);
       terminator_element = swap_differs e t (not-true _ e1.0);
       release_apart = λ x is. let same = released_by (eqb r 32) r x is in
-          subst (λ (y : ℕ). (eqb y c ≡ false) × (eqb y e ≡ false) × (eqb y t ≡ false)) same (swap_differs c r (not-true _ c3.0), swap_differs e r (not-true _ e2.0), swap_differs t r (not-true _ t1.0));
+          subst (λ (y : ℕ). (eqb y c ≡ false) × (eqb y e ≡ false) × (eqb y t ≡ false)) same
+          (swap_differs c r (not-true _ c3.0), swap_differs e r (not-true _ e2.0), swap_differs t r (not-true _ t1.0));
     } in
     subst Apart made.1 here
 service_apart _ s h = absurd cc
@@ -104,10 +114,12 @@ abbrev pub open_of : List ℕ → List (List (List ℕ)) → List (List ℕ) →
 open_of tag elements element component n = record { tag = tag; elements = elements; element = element; component = component; length = n }
 
 abbrev pub in_data : Service → List Segment → List ℕ → List (List (List ℕ)) → List (List ℕ) → List ℕ → ℕ → Reading
-in_data s segments tag elements element component n = record { service = s; segments = segments; place = InData (open_of tag elements element component n) }
+in_data s segments tag elements element component n =
+    record { service = s; segments = segments; place = InData (open_of tag elements element component n) }
 
 abbrev pub released : Service → List Segment → List ℕ → List (List (List ℕ)) → List (List ℕ) → List ℕ → ℕ → Reading
-released s segments tag elements element component n = record { service = s; segments = segments; place = Released (open_of tag elements element component n) }
+released s segments tag elements element component n =
+    record { service = s; segments = segments; place = Released (open_of tag elements element component n) }
 
 -- ---- line ends and tags
 
@@ -140,7 +152,8 @@ pub tag_front_runs : (tag : List ℕ) (s : Service) (segments : List Segment) (f
 tag_front_runs [] s segments fresh is not_una = absurd is
 tag_front_runs (a ∷ []) s segments fresh is not_una = first_tag_byte a s segments fresh is
 tag_front_runs (a ∷ b ∷ []) s segments fresh is not_una =
-    run_then (first_tag_byte a s segments fresh is.0) (next_tag_byte (a ∷ []) b s segments fresh (omega arith) is.1 (una_false fresh (a ∷ b ∷ []) not_una))
+    run_then (first_tag_byte a s segments fresh is.0)
+    (next_tag_byte (a ∷ []) b s segments fresh (omega arith) is.1 (una_false fresh (a ∷ b ∷ []) not_una))
 tag_front_runs (a ∷ b ∷ c ∷ []) s segments fresh is not_una =
     run_then (first_tag_byte a s segments fresh is.0)
     (run_then (next_tag_byte (a ∷ []) b s segments fresh (omega arith) is.1 (and_right fresh false refl))
@@ -155,8 +168,12 @@ not_full n h = ne_eqb n segment_limit (λ e. absurd (omega arith))
 special_by : (s : Service) (b : ℕ)
     → ((eqb b s.component ≡ true) ⊎ ((eqb b s.element ≡ true) ⊎ ((eqb b s.terminator ≡ true) ⊎ (is_release s.release b ≡ true))))
     → is_special s b ≡ true
-special_by s b (inl h) = or_left (eqb b s.component || eqb b s.element || eqb b s.terminator) _ (or_left (eqb b s.component || eqb b s.element) _ (or_left (eqb b s.component) _ h))
-special_by s b (inr (inl h)) = or_left (eqb b s.component || eqb b s.element || eqb b s.terminator) _ (or_left (eqb b s.component || eqb b s.element) _ (or_right (eqb b s.component) _ h))
+special_by s b (inl h) =
+    or_left (eqb b s.component || eqb b s.element || eqb b s.terminator) _
+    (or_left (eqb b s.component || eqb b s.element) _ (or_left (eqb b s.component) _ h))
+special_by s b (inr (inl h)) =
+    or_left (eqb b s.component || eqb b s.element || eqb b s.terminator) _
+    (or_left (eqb b s.component || eqb b s.element) _ (or_right (eqb b s.component) _ h))
 special_by s b (inr (inr (inl h))) =
     or_left (eqb b s.component || eqb b s.element || eqb b s.terminator) _ (or_right (eqb b s.component || eqb b s.element) _ h)
 special_by s b (inr (inr (inr h))) = or_right (eqb b s.component || eqb b s.element || eqb b s.terminator) _ h
@@ -166,22 +183,26 @@ same_number n = eq-eqb n n refl
 
 module _ (s : Service) (segments : List Segment) (tag : List ℕ) (elements : List (List (List ℕ))) where
   plain_step : (element : List (List ℕ)) (component : List ℕ) (n b : ℕ) → n < segment_limit → is_special s b ≡ false → is_data b ≡ true
-      → Goes (in_data s segments tag elements element component n) (b ∷ []) (in_data s segments tag elements element (component ++ b ∷ []) (n + 1))
+      → Goes (in_data s segments tag elements element component n) (b ∷ [])
+      (in_data s segments tag elements element (component ++ b ∷ []) (n + 1))
   plain_step element component n b short plain known = one_step _ b _ (rw (not_full n short, plain, known) refl)
 
   pub release_step : (element : List (List ℕ)) (component : List ℕ) (n b : ℕ) → Apart s → n < segment_limit → s.release ≡ Some b
       → Goes (in_data s segments tag elements element component n) (b ∷ []) (released s segments tag elements element component (n + 1))
   release_step element component n b apart short is =
       let parts = apart.release_apart b is in
-      let special : is_special s b ≡ true = special_by s b (inr (inr (inr (subst (λ (x : Option ℕ). is_release x b ≡ true) (sym is) (same_number b))))) in
+      let special : is_special s b ≡ true =
+      special_by s b (inr (inr (inr (subst (λ (x : Option ℕ). is_release x b ≡ true) (sym is) (same_number b))))) in
       one_step _ b _ (rw (not_full n short, special, parts.0, parts.1, parts.2) refl)
 
   released_step : (element : List (List ℕ)) (component : List ℕ) (n b : ℕ) → n < segment_limit → is_data b ≡ true
-      → Goes (released s segments tag elements element component n) (b ∷ []) (in_data s segments tag elements element (component ++ b ∷ []) (n + 1))
+      → Goes (released s segments tag elements element component n) (b ∷ [])
+      (in_data s segments tag elements element (component ++ b ∷ []) (n + 1))
   released_step element component n b short known = one_step _ b _ (rw (not_full n short, known) refl)
 
   component_step : (element : List (List ℕ)) (component : List ℕ) (n : ℕ) → n < segment_limit
-      → Goes (in_data s segments tag elements element component n) (s.component ∷ []) (in_data s segments tag elements (element ++ component ∷ []) [] (n + 1))
+      → Goes (in_data s segments tag elements element component n) (s.component ∷ [])
+      (in_data s segments tag elements (element ++ component ∷ []) [] (n + 1))
   component_step element component n short =
       let special : is_special s s.component ≡ true = special_by s s.component (inl (same_number s.component)) in
       one_step _ s.component _ (rw (not_full n short, special, same_number s.component) refl)
@@ -189,38 +210,48 @@ module _ (s : Service) (segments : List Segment) (tag : List ℕ) (elements : Li
   -- a byte as it is spelled
   byte_runs : (element : List (List ℕ)) (component part : List ℕ) (n b : ℕ) → Apart s → SpellsByte s part b
       → n + length part ≤ segment_limit
-      → Goes (in_data s segments tag elements element component n) part (in_data s segments tag elements element (component ++ b ∷ []) (n + length part))
+      → Goes (in_data s segments tag elements element component n) part
+      (in_data s segments tag elements element (component ++ b ∷ []) (n + length part))
   byte_runs element component part n b apart spelled fits = go spelled.1
     where
-      go : (((part ≡ b ∷ []) × IsTrue (not (is_special s b))) ⊎ ((r : ℕ) × (s.release ≡ Some r) × (part ≡ r ∷ b ∷ []))) → Goes (in_data s segments tag elements element component n) part (in_data s segments tag elements element (component ++ b ∷ []) (n + length part))
+      go : (((part ≡ b ∷ []) × IsTrue (not (is_special s b))) ⊎ ((r : ℕ) × (s.release ≡ Some r) × (part ≡ r ∷ b ∷ [])))
+          → Goes (in_data s segments tag elements element component n) part
+          (in_data s segments tag elements element (component ++ b ∷ []) (n + length part))
       go (inl plain) =
           let one : length part ≡ 1 = ap length plain.0 in
           let sum : n + 1 ≡ n + length part = omega (arith, one) in
-          goes_as part _ (plain_step element component n b (omega (arith, one, fits)) (not-true _ plain.1) spelled.0) plain.0 (ap (λ (k : ℕ). in_data s segments tag elements element (component ++ b ∷ []) k) sum)
+          goes_as part _ (plain_step element component n b (omega (arith, one, fits)) (not-true _ plain.1) spelled.0)
+          plain.0 (ap (λ (k : ℕ). in_data s segments tag elements element (component ++ b ∷ []) k) sum)
       go (inr behind) =
           let two : length part ≡ 2 = ap length behind.2 in
           let sum : n + 1 + 1 ≡ n + length part = omega (arith, two) in
           let first = release_step element component n behind.0 apart (omega (arith, two, fits)) behind.1 in
           let second = released_step element component (n + 1) b (omega (arith, two, fits)) spelled.0 in
-          goes_as part _ (run_then first second) behind.2 (ap (λ (k : ℕ). in_data s segments tag elements element (component ++ b ∷ []) k) sum)
+          goes_as part _ (run_then first second) behind.2
+          (ap (λ (k : ℕ). in_data s segments tag elements element (component ++ b ∷ []) k) sum)
 
   pub component_runs : (element : List (List ℕ)) (component text more : List ℕ) (n : ℕ) → Apart s → SpellsComponent s text more
       → n + length text ≤ segment_limit
-      → Goes (in_data s segments tag elements element component n) text (in_data s segments tag elements element (component ++ more) (n + length text))
+      → Goes (in_data s segments tag elements element component n) text
+      (in_data s segments tag elements element (component ++ more) (n + length text))
   component_runs element component text [] n apart spelled fits =
       let none : length text ≡ 0 = ap length spelled in
       let sum : n ≡ n + length text = omega (arith, none) in
       goes_as {xs = []} text _ (record { is = refl }) spelled
-      (ap (λ (c : List ℕ). in_data s segments tag elements element c n) (sym (append-nil component)) ∙ ap (λ (k : ℕ). in_data s segments tag elements element (component ++ []) k) sum)
+      (ap (λ (c : List ℕ). in_data s segments tag elements element c n) (sym (append-nil component))
+      ∙ ap (λ (k : ℕ). in_data s segments tag elements element (component ++ []) k) sum)
   component_runs element component text (b ∷ more) n apart spelled fits =
       let first = spelled.0 in
       let rest = spelled.1 in
       let joined : length text ≡ length first + length rest = ap length spelled.2 ∙ length-append first rest in
       let one = byte_runs element component first n b apart spelled.3 (omega (arith, joined, fits)) in
-      let others = component_runs element (component ++ b ∷ []) rest more (n + length first) apart spelled.4 (omega (arith, joined, fits)) in
+      let others = component_runs element (component ++ b ∷ []) rest more (n + length first) apart spelled.4
+      (omega (arith, joined, fits)) in
       let sum : (n + length first) + length rest ≡ n + length text = omega (arith, joined) in
       goes_as text _ (run_then one others) spelled.2
-      (ap (λ (k : ℕ). in_data s segments tag elements element ((component ++ b ∷ []) ++ more) k) sum ∙ ap (λ (c : List ℕ). in_data s segments tag elements element c (n + length text)) (append_assoc component (b ∷ []) more))
+      (ap (λ (k : ℕ). in_data s segments tag elements element ((component ++ b ∷ []) ++ more) k) sum
+      ∙ ap (λ (c : List ℕ). in_data s segments tag elements element c (n + length text))
+      (append_assoc component (b ∷ []) more))
 
   -- closed components
   pub components_run : (element closed : List (List ℕ)) (text : List ℕ) (n : ℕ) → Apart s
@@ -230,7 +261,8 @@ module _ (s : Service) (segments : List Segment) (tag : List ℕ) (elements : Li
       let none : length text ≡ 0 = ap length spelled in
       let sum : n ≡ n + length text = omega (arith, none) in
       goes_as {xs = []} text _ (record { is = refl }) spelled
-      (ap (λ (c : List (List ℕ)). in_data s segments tag elements c [] n) (sym (append-nil element)) ∙ ap (λ (k : ℕ). in_data s segments tag elements (element ++ []) [] k) sum)
+      (ap (λ (c : List (List ℕ)). in_data s segments tag elements c [] n) (sym (append-nil element))
+      ∙ ap (λ (k : ℕ). in_data s segments tag elements (element ++ []) [] k) sum)
   components_run element (c ∷ closed) text n apart spelled fits =
       let first = spelled.0 in
       let rest = spelled.1 in
@@ -240,15 +272,19 @@ module _ (s : Service) (segments : List Segment) (tag : List ℕ) (elements : Li
       let bytes = component_runs element [] front c n apart spelled.3.2 (omega (arith, joined, one_more, fits)) in
       let separator = component_step element c (n + length front) (omega (arith, joined, one_more, fits)) in
       let closes = goes_as first _ (run_then bytes separator) spelled.3.1 refl in
-      let others = components_run (element ++ c ∷ []) closed rest ((n + length front) + 1) apart spelled.4 (omega (arith, joined, one_more, fits)) in
+      let others = components_run (element ++ c ∷ []) closed rest ((n + length front) + 1) apart spelled.4
+      (omega (arith, joined, one_more, fits)) in
       let sum : ((n + length front) + 1) + length rest ≡ n + length text = omega (arith, joined, one_more) in
       goes_as text _ (run_then closes others) spelled.2
-      (ap (λ (k : ℕ). in_data s segments tag elements ((element ++ c ∷ []) ++ closed) [] k) sum ∙ ap (λ (x : List (List ℕ)). in_data s segments tag elements x [] (n + length text)) (append_assoc element (c ∷ []) closed))
+      (ap (λ (k : ℕ). in_data s segments tag elements ((element ++ c ∷ []) ++ closed) [] k) sum
+      ∙ ap (λ (x : List (List ℕ)). in_data s segments tag elements x [] (n + length text))
+      (append_assoc element (c ∷ []) closed))
 
 -- ---- elements
 
 -- a place where an element separator or the terminator may come, with the elements that are closed then
-pub record Ready (r : Reading) (s : Service) (segments : List Segment) (tag : List ℕ) (elements : List (List (List ℕ))) (n : ℕ) : Type 0 where
+pub record Ready (r : Reading) (s : Service) (segments : List Segment) (tag : List ℕ) (elements : List (List (List ℕ)))
+    (n : ℕ) : Type 0 where
   pub opens : n < segment_limit → Goes r (s.element ∷ []) (in_data s segments tag elements [] [] (n + 1))
   pub ends : n < segment_limit
       → Goes r (s.terminator ∷ []) (outside s (segments ++ record { tag = tag; elements = without_empty_end elements } ∷ []) false)
@@ -270,37 +306,58 @@ tag_is_ready s segments fresh tag apart is =
       ends = λ _. one_step _ s.terminator _ (rw (long, apart.terminator_element, same_number s.terminator) refl);
     }
 
-data_is_ready : (s : Service) (segments : List Segment) (tag : List ℕ) (elements : List (List (List ℕ))) (element : List (List ℕ)) (component : List ℕ) (n : ℕ) → Apart s
-    → Ready (in_data s segments tag elements element component n) s segments tag (elements ++ without_empty_end (element ++ component ∷ []) ∷ []) n
+data_is_ready : (s : Service) (segments : List Segment) (tag : List ℕ) (elements : List (List (List ℕ)))
+    (element : List (List ℕ)) (component : List ℕ) (n : ℕ)
+    → Apart s
+    → Ready (in_data s segments tag elements element component n) s segments tag
+    (elements ++ without_empty_end (element ++ component ∷ []) ∷ []) n
 data_is_ready s segments tag elements element component n apart =
     let special_element : is_special s s.element ≡ true = special_by s s.element (inr (inl (same_number s.element))) in
     let special_terminator : is_special s s.terminator ≡ true = special_by s s.terminator (inr (inr (inl (same_number s.terminator)))) in
     record {
       opens = λ short. one_step _ s.element _ (rw (not_full n short, special_element, apart.element_component, same_number s.element) refl);
-      ends = λ short. one_step _ s.terminator _ (rw (not_full n short, special_terminator, apart.terminator_component, apart.terminator_element, same_number s.terminator) refl);
+      ends =
+          λ short. one_step _ s.terminator _ (rw (
+            not_full n short,
+            special_terminator,
+            apart.terminator_component,
+            apart.terminator_element,
+            same_number s.terminator,
+          ) refl);
     }
 
 -- elements that were run through
-pub record Reached (r : Reading) (s : Service) (segments : List Segment) (tag : List ℕ) (text : List ℕ) (elements : List (List (List ℕ))) (n : ℕ) : Type 0 where
+pub record Reached (r : Reading) (s : Service) (segments : List Segment) (tag : List ℕ) (text : List ℕ)
+    (elements : List (List (List ℕ))) (n : ℕ) : Type 0 where
   pub reading : Reading
   pub goes : Goes r text reading
   pub ready : Ready reading s segments tag elements n
 
-element_runs : (s : Service) (segments : List Segment) (tag : List ℕ) (elements : List (List (List ℕ))) (components : List (List ℕ)) (text : List ℕ) (n : ℕ) → Apart s → SpellsElement s text components → n + length text ≤ segment_limit
-    → Reached (in_data s segments tag elements [] [] n) s segments tag text (elements ++ without_empty_end components ∷ []) (n + length text)
+element_runs : (s : Service) (segments : List Segment) (tag : List ℕ) (elements : List (List (List ℕ)))
+    (components : List (List ℕ)) (text : List ℕ) (n : ℕ)
+    → Apart s
+    → SpellsElement s text components
+    → n + length text ≤ segment_limit
+    → Reached (in_data s segments tag elements [] [] n) s segments tag text (elements ++ without_empty_end components ∷ [])
+    (n + length text)
 element_runs s segments tag elements components text n apart e fits =
     let joined : length text ≡ length e.front + length e.back = ap length e.text_is ∙ length-append e.front e.back in
     let sum : (n + length e.front) + length e.back ≡ n + length text = omega (arith, joined) in
     let fronts = components_run s segments tag elements [] e.closed e.front n apart e.front_spells (omega (arith, joined, fits)) in
-    let backs = component_runs s segments tag elements e.closed [] e.back e.last (n + length e.front) apart e.back_spells (omega (arith, joined, fits)) in
+    let backs = component_runs s segments tag elements e.closed [] e.back e.last (n + length e.front) apart e.back_spells
+    (omega (arith, joined, fits)) in
     let there = in_data s segments tag elements e.closed e.last (n + length text) in
     record {
       reading = there;
       goes = goes_as text there (run_then fronts backs) e.text_is (ap (λ (k : ℕ). in_data s segments tag elements e.closed e.last k) sum);
-      ready = subst (λ (c : List (List ℕ)). Ready there s segments tag (elements ++ without_empty_end c ∷ []) (n + length text)) (sym e.components_are) (data_is_ready s segments tag elements e.closed e.last (n + length text) apart);
+      ready =
+          subst (λ (c : List (List ℕ)). Ready there s segments tag (elements ++ without_empty_end c ∷ []) (n + length text))
+          (sym e.components_are) (data_is_ready s segments tag elements e.closed e.last (n + length text) apart);
     }
 
-pub elements_run : (s : Service) (segments : List Segment) (tag : List ℕ) (written elements : List (List (List ℕ))) (text : List ℕ) (n : ℕ) (r : Reading)
+pub elements_run :
+    (s : Service) (segments : List Segment) (tag : List ℕ) (written elements : List (List (List ℕ))) (text : List ℕ) (n : ℕ)
+    (r : Reading)
     → Apart s → Ready r s segments tag elements n → Each (Behind s.element (SpellsElement s)) text written
     → n + length text ≤ segment_limit
     → Reached r s segments tag text (elements ++ map without_empty_end written) (n + length text)
@@ -310,7 +367,9 @@ elements_run s segments tag [] elements text n r apart ready spelled fits =
     record {
       reading = r;
       goes = goes_as {xs = []} text r (record { is = refl }) spelled refl;
-      ready = subst (λ (x : List (List (List ℕ))). Ready r s segments tag x (n + length text)) (sym (append-nil elements)) (subst (λ (k : ℕ). Ready r s segments tag elements k) sum ready);
+      ready =
+          subst (λ (x : List (List (List ℕ))). Ready r s segments tag x (n + length text)) (sym (append-nil elements))
+          (subst (λ (k : ℕ). Ready r s segments tag elements k) sum ready);
     }
 elements_run s segments tag (w ∷ written) elements text n r apart ready spelled fits =
     let first = spelled.0 in
@@ -320,14 +379,17 @@ elements_run s segments tag (w ∷ written) elements text n r apart ready spelle
     let one_more : length first ≡ length inner + 1 = ap length spelled.3.1 ∙ sym (add-one (length inner)) in
     let opens = ready.opens (omega (arith, joined, one_more, fits)) in
     let here = element_runs s segments tag elements w inner (n + 1) apart spelled.3.2 (omega (arith, joined, one_more, fits)) in
-    let others = elements_run s segments tag written (elements ++ without_empty_end w ∷ []) rest ((n + 1) + length inner) here.reading apart here.ready spelled.4 (omega (arith, joined, one_more, fits)) in
+    let others = elements_run s segments tag written (elements ++ without_empty_end w ∷ []) rest ((n + 1) + length inner)
+    here.reading apart here.ready spelled.4 (omega (arith, joined, one_more, fits)) in
     let sum : ((n + 1) + length inner) + length rest ≡ n + length text = omega (arith, joined, one_more) in
     let begins = goes_as {xs = s.element ∷ [] ++ inner} first here.reading (run_then opens here.goes) spelled.3.1 refl in
     record {
       reading = others.reading;
       goes = goes_as text others.reading (run_then begins others.goes) spelled.2 refl;
       ready = subst (λ (k : ℕ). Ready others.reading s segments tag (elements ++ map without_empty_end (w ∷ written)) k) sum
-          (subst (λ (x : List (List (List ℕ))). Ready others.reading s segments tag x (((n + 1) + length inner) + length rest)) (append_assoc elements (without_empty_end w ∷ []) (map without_empty_end written)) others.ready);
+          (subst
+          (λ (x : List (List (List ℕ))). Ready others.reading s segments tag x (((n + 1) + length inner) + length rest))
+          (append_assoc elements (without_empty_end w ∷ []) (map without_empty_end written)) others.ready);
     }
 
 -- ---- segments
@@ -343,9 +405,14 @@ segment_runs : (s : Service) (segments : List Segment) (fresh : Bool) (text : Li
     → (fresh ≡ true → x.tag ≢ una_tag) → Goes (outside s segments fresh) text (outside s (segments ++ x ∷ []) false)
 segment_runs s segments fresh text x apart e not_una =
     let three = three_long x.tag e.tag_is in
-    let joined : length text ≡ 3 + length e.body + 1 = ap length e.text_is ∙ length-append (x.tag ++ e.body) (s.terminator ∷ []) ∙ ap (λ (k : ℕ). k + 1) (length-append x.tag e.body ∙ ap (λ (k : ℕ). k + length e.body) three) in
+    let joined : length text ≡ 3 + length e.body + 1 =
+    ap length e.text_is
+    ∙ length-append (x.tag ++ e.body) (s.terminator ∷ [])
+    ∙ ap (λ (k : ℕ). k + 1) (length-append x.tag e.body ∙ ap (λ (k : ℕ). k + length e.body) three) in
     let tag_part = tag_front_runs x.tag s segments fresh (tag_front x.tag e.tag_is) not_una in
-    let body_part = elements_run s segments x.tag e.written [] e.body 3 (in_tag s segments fresh x.tag) apart (tag_is_ready s segments fresh x.tag apart e.tag_is) e.body_spells (omega (arith, joined, e.is_short)) in
+    let body_part = elements_run s segments x.tag e.written [] e.body 3 (in_tag s segments fresh x.tag) apart
+    (tag_is_ready s segments fresh x.tag apart e.tag_is) e.body_spells
+    (omega (arith, joined, e.is_short)) in
     let end_part = body_part.ready.ends (omega (arith, joined, e.is_short)) in
     goes_as text _ (run_then (run_then tag_part body_part.goes) end_part) e.text_is
     (ap (λ (y : List (List (List ℕ))). outside s (segments ++ record { tag = x.tag; elements = y } ∷ []) false) (sym e.elements_are))
@@ -367,7 +434,9 @@ segments_run s before (x ∷ segments) fresh text apart spelled not_una =
     let segment_part = segment_runs s before fresh next.1 x apart next.4 not_una in
     let one = goes_as first _ (run_then ends_part segment_part) next.2 refl in
     let others = segments_run s (before ++ x ∷ []) segments false rest apart spelled.4 (λ e. absurd (false≢true e)) in
-    goes_as text _ (run_then one others) spelled.2 (ap (λ (y : Bool). outside s ((before ++ x ∷ []) ++ segments) y) (stays segments) ∙ ap (λ (y : List Segment). outside s y false) (append_assoc before (x ∷ []) segments))
+    goes_as text _ (run_then one others) spelled.2
+    (ap (λ (y : Bool). outside s ((before ++ x ∷ []) ++ segments) y) (stays segments)
+    ∙ ap (λ (y : List Segment). outside s y false) (append_assoc before (x ∷ []) segments))
   where
     stays : (segments : List Segment) → still false segments ≡ false
     stays [] = refl
@@ -381,7 +450,8 @@ in_service six = record { service = usual; segments = []; place = InService six 
 six_go_on : (six more : List ℕ) → length six + length more ≤ 5 → Goes (in_service six) more (in_service (six ++ more))
 six_go_on six [] short = goes_as {xs = []} [] _ (record { is = refl }) refl (ap in_service (sym (append-nil six)))
 six_go_on six (b ∷ more) short =
-    let one : Goes (in_service six) (b ∷ []) (in_service (six ++ b ∷ [])) = one_step _ b _ (rw (lt-ltb (length six) 5 (omega arith)) refl) in
+    let one : Goes (in_service six) (b ∷ []) (in_service (six ++ b ∷ [])) =
+    one_step _ b _ (rw (lt-ltb (length six) 5 (omega arith)) refl) in
     let others = six_go_on (six ++ b ∷ []) more (omega (arith, length-append six (b ∷ []))) in
     goes_as {xs = b ∷ [] ++ more} (b ∷ more) _ (run_then one others) refl (ap in_service (append_assoc six (b ∷ []) more))
 
@@ -429,10 +499,12 @@ whole_runs text s segments e = go e.advice e.text_is e.advises
     go : (advice : Option Advice) → text ≡ (advice_text advice ++ e.body) ++ e.tail → Advises advice s (tags segments)
         → Goes start text (outside s segments (is_fresh advice segments))
     go None text_is advises =
-        let begins : Goes start [] (outside s [] true) = goes_as {xs = []} [] _ (record { is = refl }) refl (ap (λ (x : Service). outside x [] true) (sym advises.0)) in
+        let begins : Goes start [] (outside s [] true) =
+        goes_as {xs = []} [] _ (record { is = refl }) refl (ap (λ (x : Service). outside x [] true) (sym advises.0)) in
         body_from true [] None (advised_apart None s (tags segments) advises) begins (λ _. advises.1) (first_still segments) text_is
     go (Some a) text_is advises =
-        body_from false (advice_text (Some a)) (Some a) (advised_apart (Some a) s (tags segments) advises) (advice_runs a s advises.0 advises.1) (λ x. absurd (false≢true x)) (later_still a segments) text_is
+        body_from false (advice_text (Some a)) (Some a) (advised_apart (Some a) s (tags segments) advises)
+        (advice_runs a s advises.0 advises.1) (λ x. absurd (false≢true x)) (later_still a segments) text_is
 
 -- the first tag, where it is the open one
 opens_no_advice : (advice : Option Advice) (s : Service) (segments : List Segment) (tag : List ℕ)
@@ -448,24 +520,34 @@ open_runs s segments fresh text o apart not_una e =
     let three = three_long o.tag e.tag_is in
     let inner : List ℕ = e.front ++ e.back in
     let inner_sum : length inner ≡ length e.front + length e.back = length-append e.front e.back in
-    let joined : length text ≡ (3 + length e.closed) + suc (length inner) = ap length e.text_is ∙ length-append (o.tag ++ e.closed) (s.element ∷ inner) ∙ ap (λ (k : ℕ). k + suc (length inner)) (length-append o.tag e.closed ∙ ap (λ (k : ℕ). k + length e.closed) three) in
+    let joined : length text ≡ (3 + length e.closed) + suc (length inner) =
+    ap length e.text_is
+    ∙ length-append (o.tag ++ e.closed) (s.element ∷ inner)
+    ∙ ap (λ (k : ℕ). k + suc (length inner)) (length-append o.tag e.closed ∙ ap (λ (k : ℕ). k + length e.closed) three) in
     let tag_part = tag_front_runs o.tag s segments fresh (tag_front o.tag e.tag_is) not_una in
-    let closed_part = elements_run s segments o.tag e.written [] e.closed 3 (in_tag s segments fresh o.tag) apart (tag_is_ready s segments fresh o.tag apart e.tag_is) e.closed_spells (omega (arith, joined, e.is_short)) in
+    let closed_part = elements_run s segments o.tag e.written [] e.closed 3 (in_tag s segments fresh o.tag) apart
+    (tag_is_ready s segments fresh o.tag apart e.tag_is) e.closed_spells
+    (omega (arith, joined, e.is_short)) in
     let opens = closed_part.ready.opens (omega (arith, joined, e.is_short)) in
     let n : ℕ = (3 + length e.closed) + 1 in
-    let fronts = components_run s segments o.tag (map without_empty_end e.written) [] o.element e.front n apart e.front_spells (omega (arith, joined, inner_sum, e.is_short)) in
-    let backs = component_runs s segments o.tag (map without_empty_end e.written) o.element [] e.back o.component (n + length e.front) apart e.back_spells (omega (arith, joined, inner_sum, e.is_short)) in
+    let fronts = components_run s segments o.tag (map without_empty_end e.written) [] o.element e.front n apart
+    e.front_spells (omega (arith, joined, inner_sum, e.is_short)) in
+    let backs = component_runs s segments o.tag (map without_empty_end e.written) o.element [] e.back o.component
+    (n + length e.front) apart e.back_spells (omega (arith, joined, inner_sum, e.is_short)) in
     let sum : (n + length e.front) + length e.back ≡ o.length = omega (arith, joined, inner_sum, e.length_is) in
     let regrouped : text ≡ (o.tag ++ e.closed) ++ (s.element ∷ [] ++ inner) = e.text_is in
-    goes_as text (record { service = s; segments = segments; place = InData o }) (run_then (run_then tag_part closed_part.goes) (run_then opens (run_then fronts backs))) regrouped
-    (ap (λ (k : ℕ). in_data s segments o.tag (map without_empty_end e.written) o.element o.component k) sum ∙ ap (λ (x : List (List (List ℕ))). in_data s segments o.tag x o.element o.component o.length) (sym e.elements_are))
+    goes_as text (record { service = s; segments = segments; place = InData o })
+    (run_then (run_then tag_part closed_part.goes) (run_then opens (run_then fronts backs))) regrouped
+    (ap (λ (k : ℕ). in_data s segments o.tag (map without_empty_end e.written) o.element o.component k) sum
+    ∙ ap (λ (x : List (List (List ℕ))). in_data s segments o.tag x o.element o.component o.length) (sym e.elements_are))
 
 data_runs : (text : List ℕ) (s : Service) (segments : List Segment) (o : Open) → EndsInData text s segments o
     → Goes start text (record { service = s; segments = segments; place = InData o })
 data_runs text s segments o e =
     let apart = advised_apart e.whole.advice s (tags segments ++ o.tag ∷ []) e.no_advice in
     let before = whole_runs e.before s segments e.whole in
-    let open_part = open_runs s segments (is_fresh e.whole.advice segments) e.segment o apart (opens_no_advice e.whole.advice s segments o.tag e.no_advice) e.segment_spells in
+    let open_part = open_runs s segments (is_fresh e.whole.advice segments) e.segment o apart
+    (opens_no_advice e.whole.advice s segments o.tag e.no_advice) e.segment_spells in
     goes_as text _ (run_then before open_part) e.text_is refl
 
 released_runs : (text : List ℕ) (s : Service) (segments : List Segment) (o : Open) → EndsReleased text s segments o
@@ -476,8 +558,10 @@ released_runs text s segments o e =
     let apart = advised_apart f.whole.advice s (tags segments ++ d.tag ∷ []) f.no_advice in
     let before = data_runs e.front s segments d f in
     let longer : o.length ≡ d.length + 1 = ap (λ (x : Open). x.length) e.open_is in
-    let last = release_step s segments d.tag d.elements d.element d.component d.length e.release apart (omega (arith, longer, e.is_short)) e.release_is in
-    goes_as text _ (run_then before last) e.text_is (ap (λ (x : Open). record { service = s; segments = segments; place = Released x }) (sym e.open_is))
+    let last = release_step s segments d.tag d.elements d.element d.component d.length e.release apart
+    (omega (arith, longer, e.is_short)) e.release_is in
+    goes_as text _ (run_then before last) e.text_is
+    (ap (λ (x : Open). record { service = s; segments = segments; place = Released x }) (sym e.open_is))
 
 -- a valid front of a text is run through, to the place where it ends
 pub front_runs : (text : List ℕ) (s : Service) (segments : List Segment) (place : Place) → EndsAt text s segments place
@@ -485,10 +569,14 @@ pub front_runs : (text : List ℕ) (s : Service) (segments : List Segment) (plac
 front_runs text s segments (Outside fresh) e =
     goes_as text _ (whole_runs text s segments e.whole) refl (ap (outside s segments) (sym e.fresh_is))
 front_runs text s segments (InService six) e =
-    let runs = run_then (line_ends_run e.before usual [] true e.before_is) (run_then una_runs (six_go_on [] six (omega (arith, e.is_cut)))) in
-    goes_as text _ runs e.text_is (ap (λ (x : Service). record { service = x; segments = []; place = InService six }) (sym e.service_is) ∙ ap (λ (x : List Segment). record { service = s; segments = x; place = InService six }) (sym e.none_yet))
+    let runs = run_then (line_ends_run e.before usual [] true e.before_is)
+    (run_then una_runs (six_go_on [] six (omega (arith, e.is_cut)))) in
+    goes_as text _ runs e.text_is
+    (ap (λ (x : Service). record { service = x; segments = []; place = InService six }) (sym e.service_is)
+    ∙ ap (λ (x : List Segment). record { service = s; segments = x; place = InService six }) (sym e.none_yet))
 front_runs text s segments (InTag fresh tag) e =
-    let before = goes_as e.before _ (whole_runs e.before s segments e.before_ends.whole) refl (ap (outside s segments) (sym e.before_ends.fresh_is)) in
+    let before = goes_as e.before _ (whole_runs e.before s segments e.before_ends.whole) refl
+    (ap (outside s segments) (sym e.before_ends.fresh_is)) in
     goes_as text _ (run_then before (tag_front_runs tag s segments fresh e.tag_is e.no_advice)) e.text_is refl
 front_runs text s segments (InData o) e = data_runs text s segments o e
 front_runs text s segments (Released o) e = released_runs text s segments o e

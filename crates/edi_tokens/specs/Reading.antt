@@ -52,8 +52,8 @@ ended r tag elements = record { service = r.service; segments = r.segments ++ re
 abbrev pub closed_elements : Open → List (List (List ℕ))
 closed_elements o = o.elements ++ without_empty_end (o.element ++ o.component ∷ []) ∷ []
 
-abbrev pub opened : List ℕ → Open
-opened tag = record { tag = tag; elements = []; element = []; component = []; length = 4 }
+abbrev pub with_tag : List ℕ → Open
+with_tag tag = record { tag = tag; elements = []; element = []; component = []; length = 4 }
 
 abbrev pub with_byte : Open → ℕ → Open
 with_byte o b = record { tag = o.tag; elements = o.elements; element = o.element; component = o.component ++ b ∷ []; length = o.length + 1 }
@@ -94,7 +94,7 @@ abbrev pub step_tag : Reading → Bool → List ℕ → ℕ → Result Reading T
 step_tag r fresh tag b =
     if nat_lt (length tag) 3
     then (if is_capital b || is_digit b then Ok (at r (tag_or_service r fresh (tag ++ b ∷ []))) else Err Tag)
-    else (if b == r.service.element then Ok (at r (InData (opened tag)))
+    else (if b == r.service.element then Ok (at r (InData (with_tag tag)))
     else (if b == r.service.terminator then Ok (ended r tag []) else Err Tag))
 
 -- the next byte of a segment, in data

@@ -40,11 +40,11 @@ fn drop_empty_end<T: Drop>(lists: &mut Vec<Items<T>>)
 
 impl OpenSegment {
     ghost use Rattle.edi_tokens.specs.OpenSegment.{open_of, with_bytes, IsBegun};
-    ghost use Rattle.edi_tokens.specs.Reading.{opened, with_byte, with_component, with_element, with_release, closed_elements};
+    ghost use Rattle.edi_tokens.specs.Reading.{with_tag, with_byte, with_component, with_element, with_release, closed_elements};
 
     /// A segment of which the tag and an element separator have come.
     pub(crate) fn new(alloc: Global, tag: [u8; 3]) -> Self
-        ensures { open_of result ≡ opened tag }
+        ensures { open_of result ≡ with_tag tag }
     {
         OpenSegment {
             tag,

@@ -1,5 +1,6 @@
 -- What begins what.
-use Rattle.std.proofs.Common.{◌≡◌, ℕ, ◌<◌, ◌≤◌, Bool, ◌⊎◌, inl, inr, ⊎_elim, ◌↔◌, List, length, get_or, drop, IsTrue, Decides, sym, ◌∙◌, refl, arith}
+use Rattle.std.proofs.Common.{◌≡◌, ℕ, ◌<◌, ◌≤◌, Bool, ◌⊎◌, inl, inr, ⊎_elim, ◌↔◌, List, length, get_or, drop, IsTrue}
+use Rattle.std.proofs.Common.{Decides, sym, ◌∙◌, refl, arith}
 use Rattle.std.proofs.lemmas.Bool.{cases_lt}
 use Rattle.std.proofs.lemmas.Bool.Decides.{Decides-eqb, Decides-or}
 use Rattle.std.proofs.lemmas.List.Prefix.{front_from_reads, front_reads}
@@ -25,8 +26,11 @@ Begins-from_reads p xs fits reads = (drop (length p) xs, front_from_reads 0 xs p
 -- of two prefixes of one list, the shorter begins the longer
 pub prefixes_overlap : PrefixesOfOneOverlap
 prefixes_overlap p q xs a b =
-    (Decides-overlap p q).1 (⊎_elim (λ short. inl (shorter p q a b (omega (arith, short)))) (λ long. inr (shorter q p b a long)) (cases_lt (length p) (length q)))
+    (Decides-overlap p q).1
+    (⊎_elim (λ short. inl (shorter p q a b (omega (arith, short)))) (λ long. inr (shorter q p b a long))
+    (cases_lt (length p) (length q)))
   where
     shorter : (r s : List ℕ) → Begins r xs → Begins s xs → length r ≤ length s → Begins r s
     shorter r s first second fits =
-        Begins-from_reads r s fits (λ i h. sym (front_reads 0 xs s second.0 second.1 i (omega (arith, h, fits))) ∙ front_reads 0 xs r first.0 first.1 i h)
+        Begins-from_reads r s fits (λ i h.
+        sym (front_reads 0 xs s second.0 second.1 i (omega (arith, h, fits))) ∙ front_reads 0 xs r first.0 first.1 i h)

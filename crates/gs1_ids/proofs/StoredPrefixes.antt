@@ -17,7 +17,10 @@ digit_at d n held i h z =
 zero_past : (d : List ℕ) (n : ℕ) → HoldsPrefix d n → (i : ℕ) → n ≤ i → i < 16 → get_or d i 0 ≡ 0
 zero_past d n held i past h =
     let at : n + (i - n) ≡ i = omega arith in
-    ap (λ j. get_or d j 0) (sym at) ∙ sym (get_or-drop n d (i - n) 0) ∙ ap (λ xs. get_or xs (i - n) 0) held.rest ∙ get_or-replicate (16 - n) (i - n) 0 0 (omega arith)
+    ap (λ j. get_or d j 0) (sym at)
+    ∙ sym (get_or-drop n d (i - n) 0)
+    ∙ ap (λ xs. get_or xs (i - n) 0) held.rest
+    ∙ get_or-replicate (16 - n) (i - n) 0 0 (omega arith)
 
 module _ (d e : List ℕ) (n m : ℕ) (held : HoldsPrefix d n) (also : HoldsPrefix e m) where
   agree-Begins : Begins (take n d) (take m e) → AgreeBelow d e 16
@@ -25,7 +28,9 @@ module _ (d e : List ℕ) (n m : ℕ) (held : HoldsPrefix d n) (also : HoldsPref
       let fits = front_fits (take m e) (take n d) b.0 b.1 in
       let longer : n ≤ m = omega (arith, fits, stored_len d n held, stored_len e m also) in
       ⊎_elim
-      (λ inside. sym (get_or-take n d k 0 inside) ∙ sym (front_reads 0 (take m e) (take n d) b.0 b.1 k (omega (arith, stored_len d n held, inside))) ∙ get_or-take m e k 0 (omega (arith, inside, longer)))
+      (λ inside. sym (get_or-take n d k 0 inside)
+      ∙ sym (front_reads 0 (take m e) (take n d) b.0 b.1 k (omega (arith, stored_len d n held, inside)))
+      ∙ get_or-take m e k 0 (omega (arith, inside, longer)))
       (λ past. absurd (some (zero_past d n held k past h)))
       (cases_lt k n)
 
@@ -35,12 +40,18 @@ module _ (d e : List ℕ) (n m : ℕ) (held : HoldsPrefix d n) (also : HoldsPref
       (λ i h.
       let inside : i < n = omega (arith, stored_len d n held) in
       let both : i < m = omega arith in
-      get_or-take m e i 0 both ∙ sym (agree i (omega (arith, held.fits)) (digit_at d n held i inside) (digit_at e m also i both)) ∙ sym (get_or-take n d i 0 inside))
+      get_or-take m e i 0 both
+      ∙ sym (agree i (omega (arith, held.fits)) (digit_at d n held i inside) (digit_at e m also i both))
+      ∙ sym (get_or-take n d i 0 inside))
 
 turned : (d e : List ℕ) (n : ℕ) → AgreeBelow d e n → AgreeBelow e d n
 turned d e n agree k h some other = sym (agree k h other some)
 
-pub overlap_is : (d e : List ℕ) (n m : ℕ) (r : Bool) → HoldsPrefix d n → HoldsPrefix e m → IsTrue r ↔ AgreeBelow d e 16 → r ≡ overlap (take n d) (take m e)
+pub overlap_is : (d e : List ℕ) (n m : ℕ) (r : Bool)
+    → HoldsPrefix d n
+    → HoldsPrefix e m
+    → IsTrue r ↔ AgreeBelow d e 16
+    → r ≡ overlap (take n d) (take m e)
 overlap_is d e n m r held also iff =
     same_from_decides r (overlap (take n d) (take m e)) (
       λ h. ⊎_elim

@@ -1,19 +1,23 @@
 -- What is carried out after look-ups that did nothing.
-use Rattle.std.proofs.Common.{◌≡◌, ◌⊎◌, inl, inr, Result, Ok, Err, sym, subst, ap, ◌∙◌}
+use Rattle.std.proofs.Common.{◌≡◌, inl, inr, Result, Ok, Err, sym, subst, ap, ◌∙◌}
 use Rattle.hub_tables.specs.Sets.{Rising}
 use Rattle.hub_tables.specs.Tables.{Tables}
 use Rattle.hub_store.specs.declared.fault.StoreFault.{StoreFault}
 use Rattle.hub_acts.specs.Acts.{Stays, Carried}
 
-module _ {S X Y : Type 0} (content : S → Tables) (honest : S → Type 0) (left : S → Tables → Type 0) (old middle new : S) (act judged : Tables → Y × Tables) (seen : X → Y)
-    (stays : Stays content honest left old middle) (was : honest new → honest middle) (same : honest middle → act (content old) ≡ judged (content old)) (rising : Rising (act (content old)).1) where
+module _ {S X Y : Type 0} (content : S → Tables) (honest : S → Type 0) (left : S → Tables → Type 0) (old middle new : S)
+    (act judged : Tables → Y × Tables) (seen : X → Y)
+    (stays : Stays content honest left old middle) (was : honest new → honest middle)
+    (same : honest middle → act (content old) ≡ judged (content old)) (rising : Rising (act (content old)).1) where
   middle_is : honest new → judged (content middle) ≡ act (content old)
   middle_is h = ap judged (stays.content_stays (was h)) ∙ sym (same (was h))
 
   rising_then : honest new → Rising (judged (content middle)).1
   rising_then h = subst (λ (done : Y × Tables). Rising done.1) (sym (middle_is h)) rising
 
-  pub after_looking : (result : Result X StoreFault) → (Rising (judged (content middle)).1 → Carried content honest left middle new judged seen result) → Carried content honest left old new act seen result
+  pub after_looking : (result : Result X StoreFault)
+      → (Rising (judged (content middle)).1 → Carried content honest left middle new judged seen result)
+      → Carried content honest left old new act seen result
   after_looking (Ok x) then = record {
     done = λ h. sym (middle_is h) ∙ (then (rising_then h)).done h;
     durable = λ h t is. elim ((then (rising_then h)).durable h t is) [

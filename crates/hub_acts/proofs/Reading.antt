@@ -1,7 +1,7 @@
 -- What is read of a message, and what comes of it.
-use Rattle.std.proofs.Common.{◌≡◌, ℕ, List, Option, Some, None, Ok, Err, refl, sym, ap, ap₂, ◌∙◌}
+use Rattle.std.proofs.Common.{◌≡◌, Option, Some, None, Ok, sym, ap}
 use Rattle.edi_envelope.specs.declared.interchange.RawMessage.{RawMessage}
-use Rattle.edi_messages.specs.Fault.{unless, judged}
+use Rattle.edi_messages.specs.Fault.{unless}
 use Rattle.edi_messages.specs.declared.fault.MessageFault.{MessageFault}
 use Rattle.edi_orders.specs.Order as orders
 use Rattle.edi_orders.specs.declared.order.Order.{Order}
@@ -25,5 +25,7 @@ unfolding receipts.receipt_of
 receipt_names message receipt e = ap (λ receipt. receipt.supplier) (content_of _ (receipts.contents_of message.segments) receipt e)
 
 -- what was read is judged
-pub act_of_read : {X : Type 0} (judge : X → Verdict) (read : X) (verdict : Verdict) (t : Tables) → verdict ≡ judge read → read_act (Ok read) judge t ≡ act verdict t
+pub act_of_read : {X : Type 0} (judge : X → Verdict) (read : X) (verdict : Verdict) (t : Tables)
+    → verdict ≡ judge read
+    → read_act (Ok read) judge t ≡ act verdict t
 act_of_read judge read verdict t e = ap (λ v. act v t) (sym e)

@@ -5,11 +5,12 @@ use Rattle.hub_tables.specs.Sets.{Has}
 use Rattle.hub_tables.specs.Tables.{Tables}
 use Rattle.hub_law.specs.StatusText.{line_text, pallet_text, status_text}
 
-pub report_is : (state : Tables) → status_text state ≡ flat_map (line_text state) state.lines ++ flat_map (pallet_text state) state.pallets ++ codes "end\n"
+pub report_is : (state : Tables)
+    → status_text state ≡ flat_map (line_text state) state.lines ++ flat_map (pallet_text state) state.pallets ++ codes "end\n"
 unfolding status_text
 report_is state = refl
 
--- what is first behind some of a list is in it
+-- what is first after some of a list is in it
 pub has_at : {X : Type 0} (xs : List X) (i : ℕ) (x : X) (rest : List X) → drop i xs ≡ x ∷ rest → Has xs x
 has_at [] zero x rest e = cc
 has_at [] (suc i) x rest e = cc

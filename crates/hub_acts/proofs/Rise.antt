@@ -13,7 +13,7 @@ use Rattle.hub_tables.specs.declared.rows.LineRow.{LineRow}
 use Rattle.hub_lines.specs.Book.{facts_cmp}
 use Rattle.hub_lines.specs.declared.facts.LineFacts.{LineFacts}
 use Rattle.hub_judges.specs.Known.{rows}
-use Rattle.hub_texts.specs.Items.{place_cmp}
+use Rattle.hub_texts.specs.Articles.{place_cmp}
 use Rattle.hub_acts.specs.Facts.{steps_up}
 
 place_total : IsTotalOrder place_cmp
@@ -24,20 +24,30 @@ less_is Less h = refl
 less_is Equal h = cc
 less_is Greater h = cc
 
-all_above : (before : LineRow) (lines : List LineRow) → steps_up (Some before) lines ≡ true → AllByRecursion (λ later. place_cmp before later ≡ Less) lines × Rises place_cmp lines
+all_above : (before : LineRow) (lines : List LineRow)
+    → steps_up (Some before) lines ≡ true
+    → AllByRecursion (λ later. place_cmp before later ≡ Less) lines × Rises place_cmp lines
 all_above before [] h = (tt, tt)
 all_above before (line ∷ lines) h =
     let parts = and_parts (is_lt (place_cmp before line)) (steps_up (Some line) lines) h in
     let less = less_is (place_cmp before line) parts.0 in
-    let rest = all_above line lines parts.1 in
-    ((less, all_weaker (λ later. place_cmp line later ≡ Less) (λ later. place_cmp before later ≡ Less) (λ later e. place_total.trans before line later less e) lines rest.0), rest)
+    let rest = all_above line lines parts.1 in (
+      (
+        less,
+        all_weaker (λ later. place_cmp line later ≡ Less) (λ later. place_cmp before later ≡ Less)
+            (λ later e. place_total.trans before line later less e) lines rest.0,
+      ),
+      rest,
+    )
 
 pub rise_if_steps : (lines : List LineRow) → steps_up None lines ≡ true → Rises place_cmp lines
 rise_if_steps [] h = tt
 rise_if_steps (line ∷ lines) h = all_above line lines h
 
 -- what is known of lines rises as their rows do
-all_facts_above : (line : LineFacts) (lines : List LineFacts) → AllByRecursion (λ later. place_cmp line.row later ≡ Less) (rows lines) → AllByRecursion (λ later. facts_cmp line later ≡ Less) lines
+all_facts_above : (line : LineFacts) (lines : List LineFacts)
+    → AllByRecursion (λ later. place_cmp line.row later ≡ Less) (rows lines)
+    → AllByRecursion (λ later. facts_cmp line later ≡ Less) lines
 all_facts_above line [] above = tt
 all_facts_above line (later ∷ lines) above = (above.0, all_facts_above line lines above.1)
 

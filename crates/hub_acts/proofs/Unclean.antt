@@ -9,6 +9,8 @@ pub uncovered : (row : LineRow) → row.ordered < row.open_qty + row.refused + r
 uncovered row h = lt-leb (row.open_qty + row.refused + row.cancelled) row.ordered h
 
 -- where one is not covered, not all are
-pub one_uncovered : (before after : List LineRow) (row : LineRow) → is_covered row ≡ false → list_all is_covered (before ++ row ∷ after) ≡ false
+pub one_uncovered : (before after : List LineRow) (row : LineRow)
+    → is_covered row ≡ false
+    → list_all is_covered (before ++ row ∷ after) ≡ false
 one_uncovered [] after row h = cc
 one_uncovered (line ∷ before) after row h = let rest = one_uncovered before after row h in grind (arith, rest)

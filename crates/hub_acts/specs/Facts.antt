@@ -4,7 +4,7 @@ use Rattle.std.specs.List.{list_all}
 use Rattle.std.specs.Ordering.{is_lt}
 use Rattle.hub_lines.specs.declared.facts.LineFacts.{LineFacts}
 use Rattle.hub_tables.specs.declared.rows.LineRow.{LineRow}
-use Rattle.hub_texts.specs.Items.{place_cmp}
+use Rattle.hub_texts.specs.Articles.{place_cmp}
 
 -- what is despatched is what ordered leaves beside open, refused and cancelled
 abbrev pub AddsUp : LineFacts → Type 0
@@ -14,7 +14,7 @@ AddsUp line = line.row.ordered ≡ line.row.open_qty + line.row.refused + line.r
 abbrev pub is_covered : LineRow → Bool
 is_covered line = nat_le (line.open_qty + line.refused + line.cancelled) line.ordered
 
--- each line is below the next, by order number and line number, and the first above one before them
+-- each line stands before the next, by order number and line number, and the first after one before them
 abbrev pub steps_up : Option LineRow → List LineRow → Bool
 steps_up before [] = true
 steps_up None (line ∷ lines) = steps_up (Some line) lines

@@ -1,5 +1,4 @@
 -- What comes of a message.
-use Rattle.std.specs.Prelude.{Result, Ok, Err}
 use Rattle.edi_messages.specs.Fault as message_faults
 use Rattle.hub_law.specs.Told.{Refused, Act, act}
 use Rattle.hub_acts.specs.declared.judged.Judged.{Judged}

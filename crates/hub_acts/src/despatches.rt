@@ -23,7 +23,7 @@ use hub_tables::{LineRow, Side};
 use std::alloc::Global;
 use std::collections::BTreeSet;
 
-// Puts the number of an order behind others, where the order is there.
+// Puts the number of an order after others, where the order is there.
 fn put_if_there(
     alloc: Global,
     numbers: &mut Items<Items<u8>>,
@@ -38,7 +38,7 @@ fn put_if_there(
     Ok(())
 }
 
-// Puts rows behind others.
+// Puts rows after others.
 fn put_rows(rows: &mut Items<LineRow>, more: Items<LineRow>) -> Result<(), MemoryFault>
     ensures { OnOk result (rows.new ≡ rows.old ++ more) }
 {
@@ -48,7 +48,7 @@ fn put_rows(rows: &mut Items<LineRow>, more: Items<LineRow>) -> Result<(), Memor
     Ok(())
 }
 
-// Puts those of the orders that are there, and the lines of each, behind others.
+// Puts those of the orders that are there, and the lines of each, after others.
 fn put_known<S: Store>(
     alloc: Global,
     store: &mut S,
@@ -72,7 +72,7 @@ fn put_known<S: Store>(
     Ok(())
 }
 
-// Puts whether something is so behind others.
+// Puts whether something is so after others.
 fn put_answer(answers: &mut Items<bool>, answer: bool) -> Result<(), MemoryFault>
     ensures { OnOk result (answers.new ≡ answers.old ++ answer ∷ []) }
 {

@@ -6,7 +6,7 @@ ghost use Rattle.hub_tables.specs.Sets.{Rises};
 ghost use Rattle.hub_lines.specs.Book.{facts_cmp, IsCovered};
 ghost use Rattle.hub_judges.specs.Known.{rows};
 ghost use Rattle.hub_store.specs.declared.fault.StoreFault.TheVariants.{Unclean};
-ghost use Rattle.hub_texts.specs.Items.{place_cmp};
+ghost use Rattle.hub_texts.specs.Articles.{place_cmp};
 ghost use Rattle.hub_acts.specs.Facts.{AddsUp, AreUnclean, is_covered, steps_up};
 
 use edi_base::{Items, MemoryFault};
@@ -34,7 +34,7 @@ fn fact_of(row: LineRow) -> Result<LineFacts, StoreFault>
     Ok(LineFacts { row, despatched })
 }
 
-// Puts a line behind others.
+// Puts a line after others.
 fn put_line(lines: &mut Items<LineFacts>, line: LineFacts) -> Result<(), MemoryFault>
     ensures { OnOk result (lines.new ≡ lines.old ++ line ∷ []) }
 {
@@ -57,8 +57,8 @@ fn facts_of_each(alloc: Global, lines: Items<LineRow>) -> Result<Items<LineFacts
     Ok(facts)
 }
 
-// Whether a line is below another, by order number and line number.
-fn is_below(line: &LineRow, other: &LineRow) -> bool
+// Whether a line stands before another, by order number and line number.
+fn precedes(line: &LineRow, other: &LineRow) -> bool
     ensures { result ≡ is_lt (place_cmp line.now other.now) }
 {
     let place = line.line.cmp(&other.line);
@@ -66,14 +66,14 @@ fn is_below(line: &LineRow, other: &LineRow) -> bool
     order.then(place).is_lt()
 }
 
-/// Whether each line is below the next, by order number and line number.
+/// Whether each line stands before the next, by order number and line number.
 pub(crate) fn rise(lines: &[LineRow]) -> bool
     ensures { result ≡ steps_up None lines.now }
 {
     let mut before: Option<&LineRow> = None;
     for line in lines {
         if let Some(before) = before
-            && !is_below(before, line)
+            && !precedes(before, line)
         {
             return false;
         }

@@ -9,7 +9,7 @@ ghost use Rattle.hub_store.specs.Clean.{are_clean};
 ghost use Rattle.hub_store.specs.declared.fault.StoreFault.TheVariants.{Unclean};
 ghost use Rattle.hub_lines.specs.Book.{facts_cmp, IsCovered};
 ghost use Rattle.hub_rules.specs.Sound.{Kept};
-ghost use Rattle.hub_judges.specs.Known.{TellsForOrder, TellsForResponse, TellsForReceipt, TellsForCancel};
+ghost use Rattle.hub_judges.specs.Known.{TellsDespatched, TellsForCancel, TellsForOrder, TellsForReceipt, TellsForResponse, TellsLines, TellsOrder};
 ghost use Rattle.hub_acts.specs.Acts.{Stays};
 ghost use Rattle.hub_acts.specs.Facts.{AreUnclean};
 
@@ -68,9 +68,39 @@ fn order_if_there(
     Ok(orders)
 }
 
-/// What is known for an ORDRSP, by three look-ups. Where lines do not rise by line number, or more of one is open,
-/// refused and cancelled than is ordered, it is unknown: `Unclean`.
-#[tactic(auto, using(crate::proofs::LookUps::lines_known, crate::proofs::LookUps::despatched_known))]
+// What is known of an order and its lines, by two look-ups, beside what is remembered. Where lines do not rise by line
+// number, or more of one is open, refused and cancelled than is ordered, it is unknown: `Unclean`.
+fn known_of_order<S: Store>(
+    alloc: Global,
+    store: &mut S,
+    supplier: &Gln,
+    order: &[u8],
+    remembered: Option<Items<u8>>,
+) -> Result<Known, StoreFault>
+    ensures told { S.honest store.new → IfOk result (λ known. TellsOrder known (view supplier.now (S.content store.old)) order.now × TellsLines (view supplier.now (S.content store.old)) known.lines order.now × (Kept (view supplier.now (S.content store.old)) → TellsDespatched (view supplier.now (S.content store.old)) known.lines)) }
+    ensures remembered { IfOk result (λ known. known.remembered ≡ remembered) }
+    ensures rise { IfOk result (λ known. Rises facts_cmp known.lines) }
+    ensures unclean { S.honest store.new → S.broken store.old ≡ None → are_clean (S.content store.old) ≡ true → result ≡ Err Unclean → AreUnclean (lines_of (view supplier.now (S.content store.old)) order.now) }
+    ensures covered { IfOk result (λ known. AllByRecursion IsCovered known.lines) }
+    ensures stays { Stays S.content S.honest S.left store.old store.new }
+{
+    let is_there = store.order_known(supplier, order)?;
+    let lines = store.lines_of(supplier, order)?;
+    let orders = order_if_there(alloc, order, is_there)?;
+    let facts = facts_of(alloc, lines)?;
+    Ok(Known {
+        remembered,
+        orders,
+        lines: facts,
+        number_known: false,
+        mails: 0,
+        used: Items::new(alloc),
+        pallets: Items::new(alloc),
+    })
+}
+
+/// What is known for an ORDRSP, by three look-ups. `Unclean` where the order's lines do not rise by line number, or more
+/// of one is open, refused and cancelled than is ordered.
 pub(crate) fn known_for_response<S: Store>(
     alloc: Global,
     store: &mut S,
@@ -88,23 +118,11 @@ pub(crate) fn known_for_response<S: Store>(
     let control = incoming.control.as_slice();
     let message = incoming.message.as_slice();
     let remembered = store.remembered(supplier, Side::Supplier, control, message)?;
-    let is_there = store.order_known(supplier, order)?;
-    let lines = store.lines_of(supplier, order)?;
-    let orders = order_if_there(alloc, order, is_there)?;
-    let facts = facts_of(alloc, lines)?;
-    Ok(Known {
-        remembered,
-        orders,
-        lines: facts,
-        number_known: false,
-        mails: 0,
-        used: Items::new(alloc),
-        pallets: Items::new(alloc),
-    })
+    let known = known_of_order(alloc, store, supplier, order, remembered)?;
+    Ok(known)
 }
 
 /// What is known for a cancellation, by three look-ups; `Unclean` as for an ORDRSP.
-#[tactic(auto, using(crate::proofs::LookUps::lines_known))]
 pub(crate) fn known_for_cancel<S: Store>(
     alloc: Global,
     store: &mut S,
@@ -119,22 +137,11 @@ pub(crate) fn known_for_cancel<S: Store>(
     let order = cancel.order.as_slice();
     let control = cancel.reference.as_slice();
     let remembered = store.remembered(supplier, Side::Cancellation, control, &[])?;
-    let is_there = store.order_known(supplier, order)?;
-    let lines = store.lines_of(supplier, order)?;
-    let orders = order_if_there(alloc, order, is_there)?;
-    let facts = facts_of(alloc, lines)?;
-    Ok(Known {
-        remembered,
-        orders,
-        lines: facts,
-        number_known: false,
-        mails: 0,
-        used: Items::new(alloc),
-        pallets: Items::new(alloc),
-    })
+    let known = known_of_order(alloc, store, supplier, order, remembered)?;
+    Ok(known)
 }
 
-// Puts a pallet, or that there is none, behind others.
+// Puts a pallet, or that there is none, after others.
 fn put_pallet(
     pallets: &mut Items<Option<PalletRow>>,
     pallet: Option<PalletRow>,

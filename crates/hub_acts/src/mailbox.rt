@@ -16,11 +16,11 @@ use gs1_ids::Gln;
 use hub_law::{Outcome, Reply, acts_stay_sound};
 use hub_store::{Store, StoreFault};
 use hub_tables::{Change, Column};
-use hub_texts::{entry_text, list_text};
+use hub_texts::{LIST_LIMIT, entry_text, list_text};
 use std::alloc::Global;
 
 // How many entries are looked up for a list: those that it shows, and one that tells that there are more.
-const LISTED_AND_ONE: usize = 101;
+const LISTED_AND_ONE: usize = LIST_LIMIT + 1;
 
 /// A reply that something was done, with this text.
 pub(crate) fn done_reply(body: Items<u8>) -> Reply

@@ -23,7 +23,7 @@ use hub_store::{Store, StoreFault};
 use hub_texts::{Told, message_line};
 use std::alloc::Global;
 
-// Carries out what comes of a message, and puts its line behind the others. Room for the line and for one word more,
+// Carries out what comes of a message, and puts its line after the others. Room for the line and for one word more,
 // `stopped`, is taken before anything is done.
 fn finish<S: Store>(
     alloc: Global,
@@ -45,7 +45,7 @@ fn finish<S: Store>(
     Ok(told)
 }
 
-/// Takes a message of the retailer: reads and judges it, commits what comes of it as one act, and puts its line behind
+/// Takes a message of the retailer: reads and judges it, commits what comes of it as one act, and puts its line after
 /// the others of the reply. At a fault nothing was done, and no line is there. Where the reply had room for `stopped`
 /// and the end of its line, it has so after it.
 pub fn take_retailers_message<S: Store>(

@@ -9,7 +9,7 @@ ghost use Rattle.hub_store.specs.declared.fault.StoreFault.TheVariants.{Unclean}
 ghost use Rattle.hub_rules.specs.Sound.{Kept};
 ghost use Rattle.hub_law.specs.Replies.{done};
 ghost use Rattle.hub_law.specs.StatusText.{pallet_text, status_text};
-ghost use Rattle.hub_texts.specs.Items.{place_cmp};
+ghost use Rattle.hub_texts.specs.Articles.{place_cmp};
 ghost use Rattle.hub_texts.specs.Totals.{IsUnclean};
 ghost use Rattle.hub_acts.specs.Acts.{Stays};
 ghost use Rattle.hub_acts.specs.Status.{PalletUnclean, StatusUnclean};

@@ -1,5 +1,6 @@
 -- Lines and mail texts on their way to writers.
-use Rattle.std.proofs.Common.{subst, ◌≡◌, ℕ, true, false, List, ◌++◌, take, Option, Some, None, Result, Ok, Err, inl, inr, refl, sym, ap, ◌∙◌, append_assoc}
+use Rattle.std.proofs.Common.{subst, ◌≡◌, ℕ, true, false, List, ◌++◌, take, Option, Some, None, Result, Ok, Err, inl, inr}
+use Rattle.std.proofs.Common.{refl, sym, ap, ◌∙◌, append_assoc}
 use Rattle.std.specs.Prelude.{◌≢◌, ◌⊎◌, IfSome, OnOk, OnErr, is_ok}
 use Rattle.std.proofs.lemmas.Bool.{true≢false, false≢true}
 use Rattle.std.specs.Io.KnownBytes.{Appends, Consumes}
@@ -27,45 +28,90 @@ at_err (Ok x) p e = absurd (true≢false e)
 at_err (Err d) p e = p
 
 -- a front of a part is a front of the whole
-pub front_of_first : (old new : Option (List ℕ)) (first second : List ℕ) → AppendsFront old new first → AppendsFront old new (first ++ second)
+pub front_of_first : (old new : Option (List ℕ)) (first second : List ℕ)
+    → AppendsFront old new first
+    → AppendsFront old new (first ++ second)
 front_of_first old new first second h = (h.0, h.1 ++ second, ap (λ (t : List ℕ). t ++ second) h.2 ∙ append_assoc h.0 h.1 second, h.3)
 
-pub front_of_second : (old mid new : Option (List ℕ)) (first second : List ℕ) → Appends old mid first → AppendsFront mid new second → AppendsFront old new (first ++ second)
-front_of_second old mid new first second begun h =
-    (first ++ h.0, h.1, ap (λ (t : List ℕ). first ++ t) h.2 ∙ sym (append_assoc first h.0 h.1), Appends-trans old mid new first h.0 begun h.3)
+pub front_of_second : (old mid new : Option (List ℕ)) (first second : List ℕ)
+    → Appends old mid first
+    → AppendsFront mid new second
+    → AppendsFront old new (first ++ second)
+front_of_second old mid new first second begun h = (
+  first ++ h.0,
+  h.1,
+  ap (λ (t : List ℕ). first ++ t) h.2 ∙ sym (append_assoc first h.0 h.1),
+  Appends-trans old mid new first h.0 begun h.3,
+)
 
 -- what a run did, by what was read, relayed and written
-pub is_delivered : (known : Option (List ℕ)) (words : RelayWords) (old new : Option (List ℕ)) (read bytes mail : List ℕ) → IfSome known (λ k. read ≡ take read_limit k) → bytes ≡ read → relayed bytes words ≡ Ok mail → Appends old new mail → Delivers known words old new
+pub is_delivered : (known : Option (List ℕ)) (words : RelayWords) (old new : Option (List ℕ)) (read bytes mail : List ℕ)
+    → IfSome known (λ k. read ≡ take read_limit k)
+    → bytes ≡ read
+    → relayed bytes words ≡ Ok mail
+    → Appends old new mail
+    → Delivers known words old new
 is_delivered None words old new read bytes mail whole same mailed written = tt
-is_delivered (Some k) words old new read bytes mail whole same mailed written = (mail, ap (λ (t : List ℕ). relayed t words) (sym whole ∙ sym same) ∙ mailed, written)
+is_delivered (Some k) words old new read bytes mail whole same mailed written =
+    (mail, ap (λ (t : List ℕ). relayed t words) (sym whole ∙ sym same) ∙ mailed, written)
 
-pub is_front_delivered : (known : Option (List ℕ)) (words : RelayWords) (old new : Option (List ℕ)) (read bytes mail : List ℕ) → IfSome known (λ k. read ≡ take read_limit k) → bytes ≡ read → relayed bytes words ≡ Ok mail → AppendsFront old new mail → DeliversFront known words old new
+pub is_front_delivered : (known : Option (List ℕ)) (words : RelayWords) (old new : Option (List ℕ))
+    (read bytes mail : List ℕ)
+    → IfSome known (λ k. read ≡ take read_limit k)
+    → bytes ≡ read
+    → relayed bytes words ≡ Ok mail
+    → AppendsFront old new mail
+    → DeliversFront known words old new
 is_front_delivered None words old new read bytes mail whole same mailed written = tt
-is_front_delivered (Some k) words old new read bytes mail whole same mailed written = (mail, ap (λ (t : List ℕ). relayed t words) (sym whole ∙ sym same) ∙ mailed, written)
+is_front_delivered (Some k) words old new read bytes mail whole same mailed written =
+    (mail, ap (λ (t : List ℕ). relayed t words) (sym whole ∙ sym same) ∙ mailed, written)
 
-pub is_refused : (known : Option (List ℕ)) (words : RelayWords) (fault : RelayFault) (read bytes : List ℕ) → IfSome known (λ k. read ≡ take read_limit k) → bytes ≡ read → relayed bytes words ≡ Err fault → IsRefused known words fault
+pub is_refused : (known : Option (List ℕ)) (words : RelayWords) (fault : RelayFault) (read bytes : List ℕ)
+    → IfSome known (λ k. read ≡ take read_limit k)
+    → bytes ≡ read
+    → relayed bytes words ≡ Err fault
+    → IsRefused known words fault
 is_refused None words fault read bytes whole same refused = tt
 is_refused (Some k) words fault read bytes whole same refused = ap (λ (t : List ℕ). relayed t words) (sym whole ∙ sym same) ∙ refused
 
 -- where the reader stands
-pub stands : (old new : Option (List ℕ)) (read : List ℕ) → Consumes old new read → IfSome old (λ k. read ≡ take read_limit k) → IfSome old (λ k. Consumes old new (take read_limit k))
+pub stands : (old new : Option (List ℕ)) (read : List ℕ)
+    → Consumes old new read
+    → IfSome old (λ k. read ≡ take read_limit k)
+    → IfSome old (λ k. Consumes old new (take read_limit k))
 stands None new read consumed whole = tt
 stands (Some k) new read consumed whole = subst (λ (t : List ℕ). Consumes (Some k) new t) whole consumed
 
 -- what a run of `show` did, by what was read and written
-pub is_shown : (known : Option (List ℕ)) (status : ℕ) (old new : Option (List ℕ)) (read bytes lines : List ℕ) → IfSome known (λ k. read ≡ take read_limit k) → bytes ≡ read → status ≡ status_of bytes → lines ≡ lines_shown bytes → Appends old new lines → Shows known status old new
+pub is_shown : (known : Option (List ℕ)) (status : ℕ) (old new : Option (List ℕ)) (read bytes lines : List ℕ)
+    → IfSome known (λ k. read ≡ take read_limit k)
+    → bytes ≡ read
+    → status ≡ status_of bytes
+    → lines ≡ lines_shown bytes
+    → Appends old new lines
+    → Shows known status old new
 is_shown None status old new read bytes lines whole same told said written = tt
 is_shown (Some k) status old new read bytes lines whole same told said written = (
   told ∙ ap status_of (same ∙ whole),
   subst (λ (t : List ℕ). Appends old new t) (said ∙ ap lines_shown (same ∙ whole)) written,
 )
 
-pub is_front_shown : (known : Option (List ℕ)) (old new : Option (List ℕ)) (read bytes lines : List ℕ) → IfSome known (λ k. read ≡ take read_limit k) → bytes ≡ read → lines ≡ lines_shown bytes → AppendsFront old new lines → ShowsFront known old new
+pub is_front_shown : (known : Option (List ℕ)) (old new : Option (List ℕ)) (read bytes lines : List ℕ)
+    → IfSome known (λ k. read ≡ take read_limit k)
+    → bytes ≡ read
+    → lines ≡ lines_shown bytes
+    → AppendsFront old new lines
+    → ShowsFront known old new
 is_front_shown None old new read bytes lines whole same said written = tt
-is_front_shown (Some k) old new read bytes lines whole same said written = subst (λ (t : List ℕ). AppendsFront old new t) (said ∙ ap lines_shown (same ∙ whole)) written
+is_front_shown (Some k) old new read bytes lines whole same said written =
+    subst (λ (t : List ℕ). AppendsFront old new t) (said ∙ ap lines_shown (same ∙ whole)) written
 
 -- why nothing was read
-pub not_read : {T File Memory Up Same : Type 0} (fault : ReadFault) → (fault ≡ read_faults.Read → File) → (fault ≡ read_faults.Memory → Memory)
-    → (◌≡◌ {A = Result T ReadFault} (Err fault) (Err read_faults.Read) → Up) → (◌≢◌ {A = Result T ReadFault} (Err fault) (Err read_faults.Read) → Same) → (File × Up) ⊎ (Memory × Same)
+pub not_read : {T File Memory Up Same : Type 0} (fault : ReadFault)
+    → (fault ≡ read_faults.Read → File)
+    → (fault ≡ read_faults.Memory → Memory)
+    → (◌≡◌ {A = Result T ReadFault} (Err fault) (Err read_faults.Read) → Up)
+    → (◌≢◌ {A = Result T ReadFault} (Err fault) (Err read_faults.Read) → Same)
+    → (File × Up) ⊎ (Memory × Same)
 not_read read_faults.Read file memory up same = inl (file refl, up refl)
 not_read read_faults.Memory file memory up same = inr (memory refl, same (λ e. cc))

@@ -1,5 +1,6 @@
 -- The text of a register, by what was read.
-use Rattle.std.proofs.Common.{◌≡◌, ℕ, ◌+◌, ◌<◌, ◌≤◌, List, length, take, Option, Some, None, Result, Ok, Err, IsUtf8, sym, ap, ◌∙◌, subst, arith}
+use Rattle.std.proofs.Common.{◌≡◌, ℕ, ◌+◌, ◌<◌, ◌≤◌, List, length, take, Option, Some, None, Result, Ok, Err, IsUtf8, sym}
+use Rattle.std.proofs.Common.{ap, ◌∙◌, subst, arith}
 use Rattle.std.specs.Prelude.{IfSome}
 use Rattle.std.proofs.lemmas.List.{length-take, take_all}
 use Rattle.hub_parties.specs.Rows.{RegisterRows}
@@ -10,15 +11,25 @@ use Rattle.hub_app.specs.Check.{IsRegisterText, verdict_status}
 all_read : (limit : ℕ) (bytes read : List ℕ) → read ≡ take (limit + 1) bytes → length read ≤ limit → read ≡ bytes
 all_read limit bytes read is fits = is ∙ take_all (limit + 1) bytes (omega (arith, length-take (limit + 1) bytes, ap length is, fits))
 
-pub whole : (known : Option (List ℕ)) (read : List ℕ) → IfSome known (λ bytes. read ≡ take 1_048_577 bytes) → length read ≤ 1_048_576 → IfSome known (λ bytes. bytes ≡ read)
+pub whole : (known : Option (List ℕ)) (read : List ℕ)
+    → IfSome known (λ bytes. read ≡ take 1_048_577 bytes)
+    → length read ≤ 1_048_576
+    → IfSome known (λ bytes. bytes ≡ read)
 whole None read is fits = tt
 whole (Some bytes) read is fits = sym (all_read 1_048_576 bytes read is fits)
 
-pub too_long : (known : Option (List ℕ)) (read : List ℕ) → IfSome known (λ bytes. read ≡ take 1_048_577 bytes) → 1_048_576 < length read → IfSome known (λ bytes. ¬ IsRegisterText bytes)
+pub too_long : (known : Option (List ℕ)) (read : List ℕ)
+    → IfSome known (λ bytes. read ≡ take 1_048_577 bytes)
+    → 1_048_576 < length read
+    → IfSome known (λ bytes. ¬ IsRegisterText bytes)
 too_long None read is long = tt
 too_long (Some bytes) read is long = λ text. absurd (omega (arith, text.fits, length-take 1_048_577 bytes, ap length is, long))
 
-pub no_utf8 : (known : Option (List ℕ)) (read : List ℕ) → IfSome known (λ bytes. read ≡ take 1_048_577 bytes) → length read ≤ 1_048_576 → (IsUtf8 read → ⊥) → IfSome known (λ bytes. ¬ IsRegisterText bytes)
+pub no_utf8 : (known : Option (List ℕ)) (read : List ℕ)
+    → IfSome known (λ bytes. read ≡ take 1_048_577 bytes)
+    → length read ≤ 1_048_576
+    → (IsUtf8 read → ⊥)
+    → IfSome known (λ bytes. ¬ IsRegisterText bytes)
 no_utf8 None read is fits none = tt
 no_utf8 (Some bytes) read is fits none = λ text. none (subst IsUtf8 (sym (all_read 1_048_576 bytes read is fits)) text.utf8)
 

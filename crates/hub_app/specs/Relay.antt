@@ -13,7 +13,7 @@ use Rattle.edi_envelope.specs.declared.interchange.RawMessage.{RawMessage}
 use Rattle.edi_envelope.specs.declared.fault.EnvelopeFault.{EnvelopeFault}
 use Rattle.edi_envelope.specs.declared.fault.EnvelopeFault.TheVariants as envelope
 use Rattle.edi_envelope.specs.Interchange.{interchange_of}
-use Rattle.edi_envelope.specs.Mail.{mail_text}
+use Rattle.edi_envelope.specs.Mail.{last_number, mail_text}
 use Rattle.hub_app.specs.declared.relay.RelayWords.{RelayWords}
 use Rattle.hub_app.specs.declared.relay.RelayFault.{RelayFault}
 use Rattle.hub_app.specs.declared.relay.RelayFault.TheVariants.{Token, Envelope, Memory}
@@ -21,10 +21,14 @@ use Rattle.hub_app.specs.declared.relay.RelayFault.TheVariants.{Token, Envelope,
 abbrev pub are_gln_digits : List ℕ → Bool
 are_gln_digits text = length text == 13 && list_all is_digit text
 
+-- how many messages may come after the first
+abbrev pub messages_after : ℕ
+messages_after = 998
+
 -- the words, where both GLNs are 13 digits and the number is within its limits
 abbrev pub relay_words_of : List ℕ → List ℕ → ℕ → ℕ → Option RelayWords
 relay_words_of hub owner moment number =
-    if (are_gln_digits hub && are_gln_digits owner) && (nat_le 1 number && nat_le number 99_999_999_999_001)
+    if (are_gln_digits hub && are_gln_digits owner) && (nat_le 1 number && nat_le (number + messages_after) last_number)
     then Some (record { hub = hub; owner = owner; moment = moment; number = number })
     else None
 
@@ -33,7 +37,7 @@ pub record AreRelayWords (words : RelayWords) : Type 0 where
   pub hub : All (λ digit. IsTrue (is_digit digit)) words.hub
   pub owner : All (λ digit. IsTrue (is_digit digit)) words.owner
   pub least : 1 ≤ words.number
-  pub most : words.number ≤ 99_999_999_999_001
+  pub most : words.number + messages_after ≤ last_number
 
 -- the mail texts of messages, joined in order, with numbers that rise by one from the first
 abbrev pub mail_texts : RelayWords → ℕ → ℕ → List RawMessage → List ℕ

@@ -13,22 +13,22 @@ use edi_show::show_text;
 use edi_tokens::{MemoryFault, Sink, Source, read_to_limit, write_bytes};
 use std::alloc::Global;
 
-// What a text says, as it is reported.
+// What is written of a text, and the exit status that comes of it.
 #[derive(Drop)]
-struct Told {
+struct Report {
     lines: Vec<u8>,
     status: u8,
 }
 
 // The lines and the exit status of a text.
-fn told_text(alloc: Global, text: &[u8]) -> Result<Told, MemoryFault>
-    ensures lines { IfOk result (λ told. told.lines.items ≡ lines_shown text.now) }
-    ensures status { IfOk result (λ told. told.status ≡ status_of text.now) }
+fn report_of(alloc: Global, text: &[u8]) -> Result<Report, MemoryFault>
+    ensures lines { IfOk result (λ report. report.lines.items ≡ lines_shown text.now) }
+    ensures status { IfOk result (λ report. report.status ≡ status_of text.now) }
 {
     let shown = show_text(alloc, text)?;
     let lines = shown.to_lines(alloc)?;
     let status = if shown.is_refused() { REFUSED } else { DONE };
-    Ok(Told { lines, status })
+    Ok(Report { lines, status })
 }
 
 /// Reads an interchange, at most 1,048,577 bytes, and writes what it says to `out`, in lines. Answers the exit status: 0
@@ -59,13 +59,13 @@ pub fn show_run<R: Source, W: Sink, E: Sink>(
         Ok(text) => text,
         Err(fault) => return tell_read_fault(fault, err),
     };
-    let Ok(told) = told_text(alloc, text.as_slice()) else {
+    let Ok(report) = report_of(alloc, text.as_slice()) else {
         tell(b"memory\n", err);
         return FAILED;
     };
-    let lines = told.lines.as_slice();
+    let lines = report.lines.as_slice();
     match write_bytes(lines, out) {
-        Ok(()) => told.status,
+        Ok(()) => report.status,
         Err(_) => {
             tell(b"file\n", err);
             FAILED

@@ -1,5 +1,6 @@
 -- Answers judged from facts are judged as from the state that the facts tell.
-use Rattle.std.proofs.Common.{◌≡◌, ◌+◌, ◌≤◌, ℕ, Bool, true, false, cond, not, List, [], ◌∷◌, ◌++◌, map, filter, Option, Some, None, option_map, refl, sym, ◌∙◌, ap, ap₂}
+use Rattle.std.proofs.Common.{◌≡◌, ◌+◌, ◌≤◌, ℕ, Bool, true, false, cond, not, List, [], ◌∷◌, ◌++◌, map, filter, Option}
+use Rattle.std.proofs.Common.{Some, None, option_map, refl, sym, ◌∙◌, ap, ap₂}
 use Rattle.std.specs.List.{AllByRecursion}
 use Rattle.std.proofs.lemmas.List.{append_assoc}
 use Rattle.edi_orders.specs.declared.response.Answer.{Answer}
@@ -35,43 +36,70 @@ checked said sent line rest =
     refuse_if (not (same line.gtin said.gtin)) OtherItem rest))
 
 -- the first answer, and then the rest as it is judged
-module _ (order : List ℕ) (x : AnswerLine) (rest : List AnswerLine) (state : Tables) (lines : List LineFacts) (told : TellsLines state lines order) (sums : TellsDespatched state lines)
-    (ih : (st : Tables) (ls : List LineFacts) → TellsLines st ls order → TellsDespatched st ls → in_order (judge_answer order) rest st ≡ answers_from order rest ls) where
+module _ (order : List ℕ) (x : AnswerLine) (rest : List AnswerLine) (state : Tables) (lines : List LineFacts)
+    (told : TellsLines state lines order) (sums : TellsDespatched state lines)
+    (ih : (st : Tables) (ls : List LineFacts)
+    → TellsLines st ls order
+    → TellsDespatched st ls
+    → in_order (judge_answer order) rest st ≡ answers_from order rest ls) where
   abbrev after : LineFacts → LineRow
   after line = answered x.answer line.despatched line.row
 
-  step : (line : LineFacts) → joined (SetLine (after line) ∷ []) (in_order (judge_answer order) rest (apply (SetLine (after line)) state)) ≡ joined (SetLine (after line) ∷ []) (answers_from order rest (with_row (after line) lines))
-  step line = ap (joined (SetLine (after line) ∷ [])) (ih (apply (SetLine (after line)) state) (with_row (after line) lines) (lines_told_after state lines (after line) order told) (despatched_told_after state lines (after line) sums))
+  step : (line : LineFacts)
+      → joined (SetLine (after line) ∷ []) (in_order (judge_answer order) rest (apply (SetLine (after line)) state))
+      ≡ joined (SetLine (after line) ∷ []) (answers_from order rest (with_row (after line) lines))
+  step line =
+      ap (joined (SetLine (after line) ∷ [])) (ih (apply (SetLine (after line)) state) (with_row (after line) lines)
+      (lines_told_after state lines (after line) order told) (despatched_told_after state lines (after line) sums))
 
-  through : (line : LineFacts) (a b c : Bool) →
-      goes_on (refuse_if a NotWaiting (refuse_if b OutOfRange (refuse_if c OtherItem (Accept (SetLine (after line) ∷ []))))) (in_order (judge_answer order) rest) state
-      ≡ refuse_if a NotWaiting (refuse_if b OutOfRange (refuse_if c OtherItem (joined (SetLine (after line) ∷ []) (answers_from order rest (with_row (after line) lines)))))
+  through : (line : LineFacts) (a b c : Bool)
+      → goes_on
+      (refuse_if a NotWaiting (refuse_if b OutOfRange (refuse_if c OtherItem (Accept (SetLine (after line) ∷ [])))))
+      (in_order (judge_answer order) rest) state
+      ≡ refuse_if a NotWaiting (refuse_if b OutOfRange (refuse_if c OtherItem
+      (joined (SetLine (after line) ∷ []) (answers_from order rest (with_row (after line) lines)))))
   through line true b c = refl
   through line false true c = refl
   through line false false true = refl
   through line false false false = step line
 
-  one : (found : Option LineFacts) → facts_among (facts_of lines order) x.order_line x.gtin ≡ found →
-      goes_on (given (option_map (λ line. line.row) found) NoLine (λ line. checked x (despatched state line) line (Accept (SetLine (answered x.answer (despatched state line) line) ∷ [])))) (in_order (judge_answer order) rest) state
-      ≡ given found NoLine (λ line. checked x line.despatched line.row (joined (SetLine (after line) ∷ []) (answers_from order rest (with_row (after line) lines))))
+  one : (found : Option LineFacts) → facts_among (facts_of lines order) x.order_line x.gtin ≡ found
+      → goes_on (given (option_map (λ line. line.row) found) NoLine (λ line.
+      checked x (despatched state line) line (Accept (SetLine (answered x.answer (despatched state line) line) ∷ []))))
+      (in_order (judge_answer order) rest) state
+      ≡ given found NoLine (λ line. checked x line.despatched line.row
+      (joined (SetLine (after line) ∷ []) (answers_from order rest (with_row (after line) lines))))
   one None e = refl
   one (Some line) e =
-      let sent : despatched state line.row ≡ line.despatched = looked_up (λ line. despatched state line.row ≡ line.despatched) lines order x.order_line x.gtin line sums e in
-      ap (λ n. goes_on (checked x n line.row (Accept (SetLine (answered x.answer n line.row) ∷ []))) (in_order (judge_answer order) rest) state) sent
+      let sent : despatched state line.row ≡ line.despatched =
+      looked_up (λ line. despatched state line.row ≡ line.despatched) lines order x.order_line x.gtin line sums e in
+      ap (λ n. goes_on (checked x n line.row (Accept (SetLine (answered x.answer n line.row) ∷ [])))
+      (in_order (judge_answer order) rest) state) sent
       ∙ through line (not (waits line.row)) (is_out_of_range x.answer line.despatched line.row) (not (same line.row.gtin x.gtin))
 
-pub answers_alike : (order : List ℕ) (said : List AnswerLine) (state : Tables) (lines : List LineFacts) → TellsLines state lines order → TellsDespatched state lines → in_order (judge_answer order) said state ≡ answers_from order said lines
+pub answers_alike : (order : List ℕ) (said : List AnswerLine) (state : Tables) (lines : List LineFacts)
+    → TellsLines state lines order
+    → TellsDespatched state lines
+    → in_order (judge_answer order) said state ≡ answers_from order said lines
 answers_alike order [] state lines told sums = refl
 answers_alike order (x ∷ rest) state lines told sums =
-    ap (λ found. goes_on (given found NoLine (λ line. checked x (despatched state line) line (Accept (SetLine (answered x.answer (despatched state line) line) ∷ [])))) (in_order (judge_answer order) rest) state) (line_told state lines order x.order_line x.gtin told)
-    ∙ one order x rest state lines told sums (λ st ls a b. answers_alike order rest st ls a b) (facts_among (facts_of lines order) x.order_line x.gtin) refl
+    ap (λ found. goes_on (given found NoLine (λ line.
+    checked x (despatched state line) line (Accept (SetLine (answered x.answer (despatched state line) line) ∷ []))))
+    (in_order (judge_answer order) rest) state) (line_told state lines order x.order_line x.gtin told)
+    ∙ one order x rest state lines told sums (λ st ls a b. answers_alike order rest st ls a b)
+    (facts_among (facts_of lines order) x.order_line x.gtin) refl
 
 -- the same answer to all lines that wait
 module _ (answer : LineAnswer) (whatever : (sent : ℕ) (line : LineRow) → answered answer sent line ≡ answered answer 0 line) where
-  all_changes : (lines : List LineFacts) → map (λ line. SetLine (answered answer 0 line)) (filter waits (rows lines)) ≡ map (λ line. SetLine (answered answer line.despatched line.row)) (filter (λ line. waits line.row) lines)
+  all_changes : (lines : List LineFacts)
+      → map (λ line. SetLine (answered answer 0 line)) (filter waits (rows lines))
+      ≡ map (λ line. SetLine (answered answer line.despatched line.row)) (filter (λ line. waits line.row) lines)
   all_changes [] = refl
   all_changes (line ∷ lines) =
-      elim (waits line.row) as (λ v. map (λ line. SetLine (answered answer 0 line)) (cond v (line.row ∷ filter waits (rows lines)) (filter waits (rows lines))) ≡ map (λ line. SetLine (answered answer line.despatched line.row)) (cond v (line ∷ filter (λ line. waits line.row) lines) (filter (λ line. waits line.row) lines))) [
+      elim (waits line.row) as (λ v. map (λ line. SetLine (answered answer 0 line))
+      (cond v (line.row ∷ filter waits (rows lines)) (filter waits (rows lines)))
+      ≡ map (λ line. SetLine (answered answer line.despatched line.row))
+      (cond v (line ∷ filter (λ line. waits line.row) lines) (filter (λ line. waits line.row) lines))) [
         | true ↦ ap₂ (λ row changes. SetLine row ∷ changes) (sym (whatever line.despatched line.row)) (all_changes lines)
         | false ↦ all_changes lines
       ]
@@ -79,50 +107,84 @@ module _ (answer : LineAnswer) (whatever : (sent : ℕ) (line : LineRow) → ans
   none_alike : (lines : List LineFacts) → is_empty (filter waits (rows lines)) ≡ is_empty (filter (λ line. waits line.row) lines)
   none_alike [] = refl
   none_alike (line ∷ lines) =
-      elim (waits line.row) as (λ v. is_empty (cond v (line.row ∷ filter waits (rows lines)) (filter waits (rows lines))) ≡ is_empty (cond v (line ∷ filter (λ line. waits line.row) lines) (filter (λ line. waits line.row) lines))) [
+      elim (waits line.row) as (λ v. is_empty (cond v (line.row ∷ filter waits (rows lines)) (filter waits (rows lines)))
+      ≡ is_empty (cond v (line ∷ filter (λ line. waits line.row) lines) (filter (λ line. waits line.row) lines))) [
         | true ↦ refl
         | false ↦ none_alike lines
       ]
 
-  all_alike : (order : List ℕ) (state : Tables) (lines : List LineFacts) → TellsLines state lines order → judge_all answer order state ≡ all_from answer order lines
+  all_alike : (order : List ℕ) (state : Tables) (lines : List LineFacts)
+      → TellsLines state lines order
+      → judge_all answer order state ≡ all_from answer order lines
   all_alike order state lines told =
-      ap (λ ls. refuse_if (is_empty (filter waits ls)) NotWaiting (Accept (map (λ line. SetLine (answered answer 0 line)) (filter waits ls)))) told
+      ap (λ ls. refuse_if (is_empty (filter waits ls)) NotWaiting
+      (Accept (map (λ line. SetLine (answered answer 0 line)) (filter waits ls)))) told
       ∙ ap₂ (λ v changes. refuse_if v NotWaiting (Accept changes)) (none_alike (facts_of lines order)) (all_changes (facts_of lines order))
 
-said_alike : (answer : Answer) (order : List ℕ) (state : Tables) (lines : List LineFacts) → TellsLines state lines order → TellsDespatched state lines → judge_answers answer order state ≡ said_from answer order lines
+said_alike : (answer : Answer) (order : List ℕ) (state : Tables) (lines : List LineFacts)
+    → TellsLines state lines order
+    → TellsDespatched state lines
+    → judge_answers answer order state ≡ said_from answer order lines
 said_alike AllAccepted order state lines told sums = all_alike Accepted (λ sent line. refl) order state lines told
 said_alike AllRefused order state lines told sums = all_alike Refused (λ sent line. refl) order state lines told
 said_alike (Lines said) order state lines told sums = answers_alike order said state lines told sums
 
-pub response_alike : (known : Known) (response : Response) (state : Tables) → TellsOrder known state response.order → TellsLines state known.lines response.order → TellsDespatched state known.lines → judge_new_response response state ≡ response_from response known
-response_alike known response state order lines sums = ap₂ (λ v rest. refuse_if (not v) NoOrder rest) order (said_alike response.answer response.order state known.lines lines sums)
+pub response_alike : (known : Known) (response : Response) (state : Tables)
+    → TellsOrder known state response.order
+    → TellsLines state known.lines response.order
+    → TellsDespatched state known.lines
+    → judge_new_response response state ≡ response_from response known
+response_alike known response state order lines sums =
+    ap₂ (λ v rest. refuse_if (not v) NoOrder rest) order
+    (said_alike response.answer response.order state known.lines lines sums)
 
 -- the row that a book sets is the line after its answer
-same_row : (answer : LineAnswer) (line : LineFacts) → answered_row line.row (after_answer answer line).open_qty (after_answer answer line).refused (after_answer answer line).cancelled (after_answer answer line).answer ≡ after_answer answer line
+same_row : (answer : LineAnswer) (line : LineFacts)
+    → answered_row line.row (after_answer answer line).open_qty (after_answer answer line).refused
+    (after_answer answer line).cancelled (after_answer answer line).answer
+    ≡ after_answer answer line
 same_row Accepted line = refl
 same_row Refused line = refl
 same_row (Changed quantity) line = refl
 
-pub row_is_set : (answer : LineAnswer) (line : LineFacts) (row : LineRow) → row ≡ after_answer answer line → answered_row line.row row.open_qty row.refused row.cancelled row.answer ≡ row
-row_is_set answer line row is = ap (λ (r : LineRow). answered_row line.row r.open_qty r.refused r.cancelled r.answer) is ∙ same_row answer line ∙ sym is
+pub row_is_set : (answer : LineAnswer) (line : LineFacts) (row : LineRow)
+    → row ≡ after_answer answer line
+    → answered_row line.row row.open_qty row.refused row.cancelled row.answer ≡ row
+row_is_set answer line row is =
+    ap (λ (r : LineRow). answered_row line.row r.open_qty r.refused r.cancelled r.answer) is ∙ same_row answer line ∙ sym is
 
 -- lines stay covered where one is set that is
-pub covered_after : (row : LineRow) (lines : List LineFacts) → row.open_qty + row.refused + row.cancelled ≤ row.ordered → AllByRecursion IsCovered lines → AllByRecursion IsCovered (with_row row lines)
+pub covered_after : (row : LineRow) (lines : List LineFacts)
+    → row.open_qty + row.refused + row.cancelled ≤ row.ordered
+    → AllByRecursion IsCovered lines
+    → AllByRecursion IsCovered (with_row row lines)
 covered_after row [] h all = tt
-covered_after row (line ∷ lines) h all = (elim (same_line row line.row) as (λ v. IsCovered (cond v (record line { row = row }) line)) [ true ↦ h | false ↦ all.0 ], covered_after row lines h all.1)
+covered_after row (line ∷ lines) h all = (
+  elim (same_line row line.row) as (λ v. IsCovered (cond v (record line { row = row }) line))
+      [ true ↦ h | false ↦ all.0 ],
+  covered_after row lines h all.1,
+)
 
 -- one answer judged, and the rest on what it left
-pub answered_next : (order : List ℕ) (said : AnswerLine) (rest : List AnswerLine) (before : List Change) (lines after : List LineFacts) (line : LineFacts) (row : LineRow) →
-    facts_among (facts_of lines order) said.order_line said.gtin ≡ Some line → row ≡ after_answer said.answer line →
-    ((verdict : Verdict) → answer_checks said line verdict ≡ verdict) → after ≡ with_row (answered_row line.row row.open_qty row.refused row.cancelled row.answer) lines →
-    joined before (answers_from order (said ∷ rest) lines) ≡ joined (before ++ SetLine row ∷ []) (answers_from order rest after)
+pub answered_next :
+    (order : List ℕ) (said : AnswerLine) (rest : List AnswerLine) (before : List Change) (lines after : List LineFacts)
+    (line : LineFacts) (row : LineRow)
+    → facts_among (facts_of lines order) said.order_line said.gtin ≡ Some line → row ≡ after_answer said.answer line
+    → ((verdict : Verdict) → answer_checks said line verdict ≡ verdict)
+    → after ≡ with_row (answered_row line.row row.open_qty row.refused row.cancelled row.answer) lines
+    → joined before (answers_from order (said ∷ rest) lines) ≡ joined (before ++ SetLine row ∷ []) (answers_from order rest after)
 answered_next order said rest before lines after line row found is pass set =
-    let left : with_row (after_answer said.answer line) lines ≡ after = sym (set ∙ ap (λ r. with_row r lines) (row_is_set said.answer line row is ∙ is)) in
-    ap (λ one. joined before (given one NoLine (λ line. answer_checks said line (joined (SetLine (after_answer said.answer line) ∷ []) (answers_from order rest (with_row (after_answer said.answer line) lines)))))) found
-    ∙ ap (joined before) (pass (joined (SetLine (after_answer said.answer line) ∷ []) (answers_from order rest (with_row (after_answer said.answer line) lines))))
+    let left : with_row (after_answer said.answer line) lines ≡ after =
+    sym (set ∙ ap (λ r. with_row r lines) (row_is_set said.answer line row is ∙ is)) in
+    ap (λ one. joined before
+    (given one NoLine (λ line. answer_checks said line (joined (SetLine (after_answer said.answer line) ∷ [])
+    (answers_from order rest (with_row (after_answer said.answer line) lines)))))) found
+    ∙ ap (joined before) (pass (joined (SetLine (after_answer said.answer line) ∷ [])
+    (answers_from order rest (with_row (after_answer said.answer line) lines))))
     ∙ ap₂ (λ r ls. joined before (joined (SetLine r ∷ []) (answers_from order rest ls))) (sym is) left
     ∙ grouped before row (answers_from order rest after)
   where
-    grouped : (before : List Change) (row : LineRow) (v : Verdict) → joined before (joined (SetLine row ∷ []) v) ≡ joined (before ++ SetLine row ∷ []) v
+    grouped : (before : List Change) (row : LineRow) (v : Verdict)
+        → joined before (joined (SetLine row ∷ []) v) ≡ joined (before ++ SetLine row ∷ []) v
     grouped before row (Refuse code) = refl
     grouped before row (Accept rest) = ap Accept (sym (append_assoc before (SetLine row ∷ []) rest))

@@ -19,13 +19,21 @@ use Rattle.hub_judges.proofs.Facts.{line_told}
 
 -- what is judged of a line
 abbrev of_line : Cancel → LineRow → Verdict
-of_line cancel line = refuse_if (nat_lt line.open_qty cancel.quantity) CancelsMoreThanOpen (Accept (SetLine (record line { open_qty = line.open_qty - cancel.quantity; cancelled = line.cancelled + cancel.quantity }) ∷ []))
+of_line cancel line =
+    refuse_if (nat_lt line.open_qty cancel.quantity) CancelsMoreThanOpen (Accept
+    (SetLine (record line { open_qty = line.open_qty - cancel.quantity; cancelled = line.cancelled + cancel.quantity })
+    ∷ []))
 
-found : (cancel : Cancel) (line : Option LineFacts) → given (option_map (λ line. line.row) line) NoLine (of_line cancel) ≡ given line NoLine (λ line. of_line cancel line.row)
+found : (cancel : Cancel) (line : Option LineFacts)
+    → given (option_map (λ line. line.row) line) NoLine (of_line cancel) ≡ given line NoLine (λ line. of_line cancel line.row)
 found cancel None = refl
 found cancel (Some line) = refl
 
-pub cancel_alike : (known : Known) (cancel : Cancel) (state : Tables) → TellsForCancel known cancel state → judge_new_cancel cancel state ≡ cancelled_from cancel known
+pub cancel_alike : (known : Known) (cancel : Cancel) (state : Tables)
+    → TellsForCancel known cancel state
+    → judge_new_cancel cancel state ≡ cancelled_from cancel known
 cancel_alike known cancel state told =
-    ap₂ (λ v line. refuse_if (not v) NoOrder (given line NoLine (of_line cancel))) told.order (line_told state known.lines cancel.order (Some cancel.line) [] told.lines)
-    ∙ ap (refuse_if (not (is_among cancel.order known.orders)) NoOrder) (found cancel (facts_among (facts_of known.lines cancel.order) (Some cancel.line) []))
+    ap₂ (λ v line. refuse_if (not v) NoOrder (given line NoLine (of_line cancel))) told.order
+    (line_told state known.lines cancel.order (Some cancel.line) [] told.lines)
+    ∙ ap (refuse_if (not (is_among cancel.order known.orders)) NoOrder)
+    (found cancel (facts_among (facts_of known.lines cancel.order) (Some cancel.line) []))

@@ -1,5 +1,6 @@
 -- Despatches judged from facts are judged as from the state that the facts tell.
-use Rattle.std.proofs.Common.{◌≡◌, ℕ, ◌+◌, ◌-◌, nat_lt, Bool, true, false, not, ◌||◌, List, [], ◌∷◌, ◌++◌, map, Option, Some, None, option_map, refl, sym, subst, ◌∙◌, ap, ap₂}
+use Rattle.std.proofs.Common.{◌≡◌, ℕ, ◌+◌, ◌-◌, nat_lt, Bool, true, false, not, ◌||◌, List, [], ◌∷◌, ◌++◌, map, Option}
+use Rattle.std.proofs.Common.{Some, None, option_map, refl, sym, subst, ◌∙◌, ap, ap₂}
 use Rattle.std.specs.List.{AllByRecursion, list_any}
 use Rattle.std.specs.Str.{bytes_eq}
 use Rattle.std.proofs.lemmas.Bool.{or_parts}
@@ -29,7 +30,8 @@ use Rattle.hub_rules.specs.Judging.{Judge, refuse_if, given, joined, goes_on, in
 use Rattle.hub_rules.specs.declared.code.Code.TheVariants.{NoOrder, NoLine, OtherItem, MoreThanOpen, OtherPrefix, SsccUsed, AdviceKnown}
 use Rattle.hub_rules.specs.declared.verdict.Verdict.{Verdict}
 use Rattle.hub_rules.specs.declared.verdict.Verdict.TheVariants.{Accept, Refuse}
-use Rattle.hub_judges.specs.FromFacts.{after_despatch, new_content, despatch_checks, lines_from, new_pallet, unit_checks, units_from, despatch_from}
+use Rattle.hub_judges.specs.FromFacts.{after_despatch, new_content, despatch_checks, lines_from, new_pallet, unit_checks}
+use Rattle.hub_judges.specs.FromFacts.{units_from, despatch_from}
 use Rattle.hub_judges.specs.Known.{TellsOrder, TellsLines, names_order}
 use Rattle.hub_judges.specs.declared.known.Known.{Known}
 use Rattle.hub_judges.proofs.Facts.{line_told, lines_told_after}
@@ -48,18 +50,24 @@ applied_in_turn [] b state = refl
 applied_in_turn (change ∷ a) b state = applied_in_turn a b (apply change state)
 
 -- what follows a list of changes and a verdict follows the verdict, on what the changes left
-grouped : (a : List Change) (v : Verdict) (third : Judge) (state : Tables) → goes_on (joined a v) third state ≡ joined a (goes_on v third (apply_all a state))
+grouped : (a : List Change) (v : Verdict) (third : Judge) (state : Tables)
+    → goes_on (joined a v) third state ≡ joined a (goes_on v third (apply_all a state))
 grouped a (Refuse code) third state = refl
-grouped a (Accept b) third state = ap (λ st. joined (a ++ b) (third st)) (applied_in_turn a b state) ∙ joined_grouped a b (third (apply_all b (apply_all a state)))
+grouped a (Accept b) third state =
+    ap (λ st. joined (a ++ b) (third st)) (applied_in_turn a b state)
+    ∙ joined_grouped a b (third (apply_all b (apply_all a state)))
 
 -- facts that tell the lines of the named orders, in a state with these pallets
-pub record TellsNamed (named : List ℕ → Bool) (orders : List (List ℕ)) (pallets : List PalletRow) (state : Tables) (lines : List LineFacts) : Type 0 where
+pub record TellsNamed (named : List ℕ → Bool) (orders : List (List ℕ)) (pallets : List PalletRow) (state : Tables)
+    (lines : List LineFacts) : Type 0 where
   pub pallets_are : state.pallets ≡ pallets
   pub order : (number : List ℕ) → named number ≡ true → knows_order state number ≡ is_among number orders
   pub lines_are : (number : List ℕ) → named number ≡ true → TellsLines state lines number
 
 module _ (named : List ℕ → Bool) (orders : List (List ℕ)) where
-  after_line : (pallets : List PalletRow) (state : Tables) (lines : List LineFacts) (row : LineRow) (content : ContentRow) → TellsNamed named orders pallets state lines → TellsNamed named orders pallets (apply (AddContent content) (apply (SetLine row) state)) (with_row row lines)
+  after_line : (pallets : List PalletRow) (state : Tables) (lines : List LineFacts) (row : LineRow) (content : ContentRow)
+      → TellsNamed named orders pallets state lines
+      → TellsNamed named orders pallets (apply (AddContent content) (apply (SetLine row) state)) (with_row row lines)
   after_line pallets state lines row content t = record {
     pallets_are = t.pallets_are;
     order = λ number is. t.order number is;
@@ -67,66 +75,100 @@ module _ (named : List ℕ → Bool) (orders : List (List ℕ)) where
   }
 
   -- one line judged, and what follows
-  module _ (sscc : List ℕ) (n : ℕ) (said : DespatchLine) (rest : Judge) (third : Judge) (next : List LineFacts → Verdict) (state : Tables) (lines : List LineFacts) (pallets : List PalletRow) (t : TellsNamed named orders pallets state lines)
+  module _ (sscc : List ℕ) (n : ℕ) (said : DespatchLine) (rest : Judge) (third : Judge) (next : List LineFacts → Verdict)
+      (state : Tables) (lines : List LineFacts) (pallets : List PalletRow) (t : TellsNamed named orders pallets state lines)
       (ih : (st : Tables) (ls : List LineFacts) → TellsNamed named orders pallets st ls → goes_on (rest st) third st ≡ next ls) where
     abbrev changes_of : LineFacts → List Change
     changes_of line = SetLine (after_despatch said line) ∷ new_content sscc (n + 1) said line ∷ []
 
-    step : (line : LineFacts) → goes_on (joined (changes_of line) (rest (apply_all (changes_of line) state))) third state ≡ joined (changes_of line) (next (with_row (after_despatch said line) lines))
+    step : (line : LineFacts)
+        → goes_on (joined (changes_of line) (rest (apply_all (changes_of line) state))) third state
+        ≡ joined (changes_of line) (next (with_row (after_despatch said line) lines))
     step line =
         grouped (changes_of line) (rest (apply_all (changes_of line) state)) third state
-        ∙ ap (joined (changes_of line)) (ih (apply_all (changes_of line) state) (with_row (after_despatch said line) lines) (after_line pallets state lines (after_despatch said line) (record { sscc = sscc; place = n + 1; number = line.row.number; line = line.row.line; quantity = said.quantity }) t))
+        ∙ ap (joined (changes_of line)) (ih (apply_all (changes_of line) state) (with_row (after_despatch said line) lines)
+        (after_line pallets state lines (after_despatch said line) (record {
+          sscc = sscc;
+          place = n + 1;
+          number = line.row.number;
+          line = line.row.line;
+          quantity = said.quantity;
+        }) t))
 
-    through : (line : LineFacts) (a b : Bool) →
-        goes_on (goes_on (refuse_if a OtherItem (refuse_if b MoreThanOpen (Accept (changes_of line)))) rest state) third state
+    through : (line : LineFacts) (a b : Bool)
+        → goes_on (goes_on (refuse_if a OtherItem (refuse_if b MoreThanOpen (Accept (changes_of line)))) rest state) third state
         ≡ refuse_if a OtherItem (refuse_if b MoreThanOpen (joined (changes_of line) (next (with_row (after_despatch said line) lines))))
     through line true b = refl
     through line false true = refl
     through line false false = step line
 
-    found : (line : Option LineFacts) →
-        goes_on (goes_on (given (option_map (λ line. line.row) line) NoLine (λ row.
+    found : (line : Option LineFacts)
+        → goes_on (goes_on (given (option_map (λ line. line.row) line) NoLine (λ row.
         refuse_if (not (same row.gtin said.gtin)) OtherItem (refuse_if (nat_lt row.open_qty said.quantity) MoreThanOpen (
-        Accept (SetLine (record row { open_qty = row.open_qty - said.quantity }) ∷ AddContent (record { sscc = sscc; place = n + 1; number = row.number; line = row.line; quantity = said.quantity }) ∷ []))))) rest state) third state
-        ≡ given line NoLine (λ line. despatch_checks said line (joined (changes_of line) (next (with_row (after_despatch said line) lines))))
+        Accept (SetLine (record row { open_qty = row.open_qty - said.quantity })
+        ∷ AddContent
+        (record { sscc = sscc; place = n + 1; number = row.number; line = row.line; quantity = said.quantity })
+        ∷ []))))) rest state) third state
+        ≡ given line NoLine
+        (λ line. despatch_checks said line (joined (changes_of line) (next (with_row (after_despatch said line) lines))))
     found None = refl
     found (Some line) = through line (not (same line.row.gtin said.gtin)) (nat_lt line.row.open_qty said.quantity)
 
-    known : (v : Bool) (w x : Verdict) → goes_on (goes_on w rest state) third state ≡ x → goes_on (goes_on (refuse_if v NoOrder w) rest state) third state ≡ refuse_if v NoOrder x
+    known : (v : Bool) (w x : Verdict)
+        → goes_on (goes_on w rest state) third state ≡ x
+        → goes_on (goes_on (refuse_if v NoOrder w) rest state) third state ≡ refuse_if v NoOrder x
     known true w x h = refl
     known false w x h = h
 
     one_line : named said.order ≡ true → goes_on (goes_on (judge_despatched sscc (n + 1, said) state) rest state) third state
-        ≡ refuse_if (not (is_among said.order orders)) NoOrder (given (facts_among (facts_of lines said.order) said.order_line said.gtin) NoLine (λ line. despatch_checks said line (joined (changes_of line) (next (with_row (after_despatch said line) lines)))))
+        ≡ refuse_if (not (is_among said.order orders)) NoOrder
+        (given (facts_among (facts_of lines said.order) said.order_line said.gtin) NoLine (λ line.
+        despatch_checks said line (joined (changes_of line) (next (with_row (after_despatch said line) lines)))))
     one_line is =
         ap₂ (λ v line. goes_on (goes_on (refuse_if (not v) NoOrder (given line NoLine (λ row.
         refuse_if (not (same row.gtin said.gtin)) OtherItem (refuse_if (nat_lt row.open_qty said.quantity) MoreThanOpen (
-        Accept (SetLine (record row { open_qty = row.open_qty - said.quantity }) ∷ AddContent (record { sscc = sscc; place = n + 1; number = row.number; line = row.line; quantity = said.quantity }) ∷ [])))))) rest state) third state)
+        Accept (SetLine (record row { open_qty = row.open_qty - said.quantity })
+        ∷ AddContent
+        (record { sscc = sscc; place = n + 1; number = row.number; line = row.line; quantity = said.quantity })
+        ∷ [])))))) rest state) third state)
         (t.order said.order is) (line_told state lines said.order said.order_line said.gtin (t.lines_are said.order is))
         ∙ known (not (is_among said.order orders)) _ _ (found (facts_among (facts_of lines said.order) said.order_line said.gtin))
 
   -- the lines of a unit
-  lines_alike : (sscc : List ℕ) (pallets : List PalletRow) (third : Judge) (next : List LineFacts → Verdict) → ((st : Tables) (ls : List LineFacts) → TellsNamed named orders pallets st ls → third st ≡ next ls) →
-      (n : ℕ) (said : List DespatchLine) (state : Tables) (lines : List LineFacts) → AllByRecursion (λ line. named line.order ≡ true) said → TellsNamed named orders pallets state lines →
-      goes_on (in_order (judge_despatched sscc) (placed n said) state) third state ≡ lines_from sscc orders n said lines next
+  lines_alike : (sscc : List ℕ) (pallets : List PalletRow) (third : Judge) (next : List LineFacts → Verdict)
+      → ((st : Tables) (ls : List LineFacts) → TellsNamed named orders pallets st ls → third st ≡ next ls)
+      → (n : ℕ) (said : List DespatchLine) (state : Tables) (lines : List LineFacts)
+      → AllByRecursion (λ line. named line.order ≡ true) said
+      → TellsNamed named orders pallets state lines
+      → goes_on (in_order (judge_despatched sscc) (placed n said) state) third state ≡ lines_from sscc orders n said lines next
   lines_alike sscc pallets third next agree n [] state lines all t = joined_none (third state) ∙ agree state lines t
   lines_alike sscc pallets third next agree n (x ∷ said) state lines all t =
-      one_line sscc n x (in_order (judge_despatched sscc) (placed (n + 1) said)) third (λ ls. lines_from sscc orders (n + 1) said ls next) state lines pallets t
+      one_line sscc n x (in_order (judge_despatched sscc) (placed (n + 1) said)) third
+      (λ ls. lines_from sscc orders (n + 1) said ls next) state lines pallets t
       (λ st ls told. lines_alike sscc pallets third next agree (n + 1) said st ls all.1 told) all.0
 
   -- a new pallet leaves the facts
-  after_pallet : (pallets : List PalletRow) (state : Tables) (lines : List LineFacts) (pallet : PalletRow) → TellsNamed named orders pallets state lines → TellsNamed named orders (apply (AddPallet pallet) state).pallets (apply (AddPallet pallet) state) lines
-  after_pallet pallets state lines pallet t = record { pallets_are = refl; order = λ number is. t.order number is; lines_are = λ number is. t.lines_are number is }
+  after_pallet : (pallets : List PalletRow) (state : Tables) (lines : List LineFacts) (pallet : PalletRow)
+      → TellsNamed named orders pallets state lines
+      → TellsNamed named orders (apply (AddPallet pallet) state).pallets (apply (AddPallet pallet) state) lines
+  after_pallet pallets state lines pallet t =
+      record { pallets_are = refl; order = λ number is. t.order number is; lines_are = λ number is. t.lines_are number is }
 
   -- whether an SSCC is used, with what earlier units have
   abbrev Used : (List ℕ → Bool) → List PalletRow → Unit → Type 0
   Used used pallets unit = (used unit.sscc || list_any (λ pallet. same pallet.sscc unit.sscc) pallets) ≡ used unit.sscc
 
-  used_after : (used : List ℕ → Bool) (pallet : PalletRow) (pallets : List PalletRow) (units : List Unit) → list_any (bytes_eq pallet.sscc) (map (λ unit. unit.sscc) units) ≡ false → AllByRecursion (Used used pallets) units → AllByRecursion (Used used (put pallet_cmp pallet pallets)) units
+  used_after : (used : List ℕ → Bool) (pallet : PalletRow) (pallets : List PalletRow) (units : List Unit)
+      → list_any (bytes_eq pallet.sscc) (map (λ unit. unit.sscc) units) ≡ false
+      → AllByRecursion (Used used pallets) units
+      → AllByRecursion (Used used (put pallet_cmp pallet pallets)) units
   used_after used pallet pallets [] new all = tt
   used_after used pallet pallets (unit ∷ units) new all =
       let parts = or_parts (bytes_eq pallet.sscc unit.sscc) (list_any (bytes_eq pallet.sscc) (map (λ unit. unit.sscc) units)) new in (
-        ap (λ v. used unit.sscc || v) (any_put pallet_cmp (λ pallet. same pallet.sscc unit.sscc) pallets pallet ∙ ap (λ v. list_any (λ pallet. same pallet.sscc unit.sscc) pallets || (v || false)) parts.0 ∙ or_nothing (list_any (λ pallet. same pallet.sscc unit.sscc) pallets)) ∙ all.0,
+        ap (λ v. used unit.sscc || v) (any_put pallet_cmp (λ pallet. same pallet.sscc unit.sscc) pallets pallet
+            ∙ ap (λ v. list_any (λ pallet. same pallet.sscc unit.sscc) pallets || (v || false)) parts.0
+            ∙ or_nothing (list_any (λ pallet. same pallet.sscc unit.sscc) pallets))
+            ∙ all.0,
         used_after used pallet pallets units parts.1 all.1,
       )
     where
@@ -138,44 +180,66 @@ module _ (named : List ℕ → Bool) (orders : List (List ℕ)) where
     abbrev pallet_of : Unit → PalletRow
     pallet_of unit = record { sscc = unit.sscc; supplier = s.gln; advice = advice; received = 0 }
 
-    checked : (a b : Bool) (unit : Unit) (third : Judge) (state : Tables) (w x : Verdict) → goes_on w third state ≡ x →
-        goes_on (refuse_if a OtherPrefix (refuse_if b SsccUsed w)) third state ≡ refuse_if a OtherPrefix (refuse_if b SsccUsed x)
+    checked : (a b : Bool) (unit : Unit) (third : Judge) (state : Tables) (w x : Verdict) → goes_on w third state ≡ x
+        → goes_on (refuse_if a OtherPrefix (refuse_if b SsccUsed w)) third state ≡ refuse_if a OtherPrefix (refuse_if b SsccUsed x)
     checked true b unit third state w x h = refl
     checked false true unit third state w x h = refl
     checked false false unit third state w x h = h
 
-    units_alike : (units : List Unit) (state : Tables) (lines : List LineFacts) (pallets : List PalletRow) → AllByRecursion (λ unit. AllByRecursion (λ line. named line.order ≡ true) unit.lines) units →
-        has_twice (map (λ unit. unit.sscc) units) ≡ false → AllByRecursion (Used used pallets) units → TellsNamed named orders pallets state lines →
-        in_order (judge_unit s used advice) units state ≡ units_from s advice orders units (map (λ unit. used unit.sscc) units) lines
+    units_alike : (units : List Unit) (state : Tables) (lines : List LineFacts) (pallets : List PalletRow)
+        → AllByRecursion (λ unit. AllByRecursion (λ line. named line.order ≡ true) unit.lines) units
+        → has_twice (map (λ unit. unit.sscc) units) ≡ false
+        → AllByRecursion (Used used pallets) units
+        → TellsNamed named orders pallets state lines
+        → in_order (judge_unit s used advice) units state ≡ units_from s advice orders units (map (λ unit. used unit.sscc) units) lines
     units_alike [] state lines pallets all once flags t = refl
     units_alike (unit ∷ units) state lines pallets all once flags t =
-        let apart = or_parts (list_any (bytes_eq unit.sscc) (map (λ unit. unit.sscc) units)) (has_twice (map (λ unit. unit.sscc) units)) once in
+        let apart = or_parts (list_any (bytes_eq unit.sscc) (map (λ unit. unit.sscc) units))
+        (has_twice (map (λ unit. unit.sscc) units)) once in
         let first : List Change = AddPallet (pallet_of unit) ∷ [] in
         let third : Judge = in_order (judge_unit s used advice) units in
         let after : Tables = apply (AddPallet (pallet_of unit)) state in
         let next : List LineFacts → Verdict = λ left. units_from s advice orders units (map (λ unit. used unit.sscc) units) left in
-        let flag : (used unit.sscc || has_pallet state unit.sscc) ≡ used unit.sscc = ap (λ ps. used unit.sscc || list_any (λ pallet. same pallet.sscc unit.sscc) ps) t.pallets_are ∙ flags.0 in
-        let flags_after : AllByRecursion (Used used after.pallets) units = subst (λ ps. AllByRecursion (Used used (put pallet_cmp (pallet_of unit) ps)) units) (sym t.pallets_are) (used_after used (pallet_of unit) pallets units apart.0 flags.1) in
-        let whole : goes_on (joined first (in_order (judge_despatched unit.sscc) (placed 0 unit.lines) after)) third state ≡ joined first (lines_from unit.sscc orders 0 unit.lines lines next) =
+        let flag : (used unit.sscc || has_pallet state unit.sscc) ≡ used unit.sscc =
+        ap (λ ps. used unit.sscc || list_any (λ pallet. same pallet.sscc unit.sscc) ps) t.pallets_are ∙ flags.0 in
+        let flags_after : AllByRecursion (Used used after.pallets) units =
+        subst (λ ps. AllByRecursion (Used used (put pallet_cmp (pallet_of unit) ps)) units) (sym t.pallets_are)
+        (used_after used (pallet_of unit) pallets units apart.0 flags.1) in
+        let whole : goes_on (joined first (in_order (judge_despatched unit.sscc) (placed 0 unit.lines) after)) third state
+        ≡ joined first (lines_from unit.sscc orders 0 unit.lines lines next) =
         grouped first (in_order (judge_despatched unit.sscc) (placed 0 unit.lines) after) third state
-        ∙ ap (joined first) (lines_alike unit.sscc after.pallets third next (λ st ls told. units_alike units st ls after.pallets all.1 apart.1 flags_after told) 0 unit.lines after lines all.0 (after_pallet pallets state lines (pallet_of unit) t)) in
-        ap (λ v. goes_on (refuse_if (not (under_some unit.sscc s.prefixes)) OtherPrefix (refuse_if v SsccUsed (joined first (in_order (judge_despatched unit.sscc) (placed 0 unit.lines) after)))) third state) flag
+        ∙ ap (joined first) (lines_alike unit.sscc after.pallets third next
+        (λ st ls told. units_alike units st ls after.pallets all.1 apart.1 flags_after told) 0 unit.lines after lines
+        all.0 (after_pallet pallets state lines (pallet_of unit) t)) in
+        ap (λ v. goes_on (refuse_if (not (under_some unit.sscc s.prefixes)) OtherPrefix
+        (refuse_if v SsccUsed (joined first (in_order (judge_despatched unit.sscc) (placed 0 unit.lines) after)))) third
+        state) flag
         ∙ checked (not (under_some unit.sscc s.prefixes)) (used unit.sscc) unit third state _ _ whole
 
 -- each order of an advice's lines is named
 names_all : (units : List Unit) → AllByRecursion (λ unit. AllByRecursion (λ line. names_order units line.order ≡ true) unit.lines) units
 names_all [] = tt
 names_all (unit ∷ units) = (
-  all_weaker (λ line. list_any (λ other. same other.order line.order) unit.lines ≡ true) (λ line. names_order (unit ∷ units) line.order ≡ true) (λ line h. ap (λ v. v || names_order units line.order) h) unit.lines (all_itself (λ line other. same other.order line.order) (λ line. same_if line.order line.order refl) unit.lines),
-  all_weaker (λ other. AllByRecursion (λ line. names_order units line.order ≡ true) other.lines) (λ other. AllByRecursion (λ line. names_order (unit ∷ units) line.order ≡ true) other.lines)
-      (λ other all. all_weaker (λ line. names_order units line.order ≡ true) (λ line. names_order (unit ∷ units) line.order ≡ true) (λ line h. ap (λ v. list_any (λ one. same one.order line.order) unit.lines || v) h ∙ or_true (list_any (λ one. same one.order line.order) unit.lines)) other.lines all) units (names_all units),
+  all_weaker (λ line. list_any (λ other. same other.order line.order) unit.lines ≡ true)
+      (λ line. names_order (unit ∷ units) line.order ≡ true) (λ line h. ap (λ v. v || names_order units line.order) h)
+      unit.lines
+      (all_itself (λ line other. same other.order line.order) (λ line. same_if line.order line.order refl) unit.lines),
+  all_weaker (λ other. AllByRecursion (λ line. names_order units line.order ≡ true) other.lines)
+      (λ other. AllByRecursion (λ line. names_order (unit ∷ units) line.order ≡ true) other.lines)
+      (λ other all.
+      all_weaker (λ line. names_order units line.order ≡ true) (λ line. names_order (unit ∷ units) line.order ≡ true)
+      (λ line h. ap (λ v. list_any (λ one. same one.order line.order) unit.lines || v) h
+      ∙ or_true (list_any (λ one. same one.order line.order) unit.lines)) other.lines all) units (names_all units),
 )
   where
     or_true : (v : Bool) → (v || true) ≡ true
     or_true true = refl
     or_true false = refl
 
-used_all : (used : List ℕ → Bool) (state : Tables) → ((sscc : List ℕ) → has_pallet state sscc ≡ true → used sscc ≡ true) → (units : List Unit) → AllByRecursion (λ unit. (used unit.sscc || has_pallet state unit.sscc) ≡ used unit.sscc) units
+used_all : (used : List ℕ → Bool) (state : Tables)
+    → ((sscc : List ℕ) → has_pallet state sscc ≡ true → used sscc ≡ true)
+    → (units : List Unit)
+    → AllByRecursion (λ unit. (used unit.sscc || has_pallet state unit.sscc) ≡ used unit.sscc) units
 used_all used state there [] = tt
 used_all used state there (unit ∷ units) = (one, used_all used state there units)
   where
@@ -187,56 +251,97 @@ used_all used state there (unit ∷ units) = (one, used_all used state there uni
     one : (used unit.sscc || has_pallet state unit.sscc) ≡ used unit.sscc
     one = by_case (used unit.sscc) (has_pallet state unit.sscc) (there unit.sscc)
 
-pub despatch_alike : (s : SupplierRow) (used : List ℕ → Bool) (known : Known) (despatch : Despatch) (state : Tables) → knows_advice state despatch.number ≡ known.number_known →
-    map (λ unit. used unit.sscc) despatch.units ≡ known.used → ((sscc : List ℕ) → has_pallet state sscc ≡ true → used sscc ≡ true) →
-    ((order : List ℕ) → names_order despatch.units order ≡ true → TellsOrder known state order) → ((order : List ℕ) → names_order despatch.units order ≡ true → TellsLines state known.lines order) →
-    has_twice (map (λ unit. unit.sscc) despatch.units) ≡ false → judge_new_despatch s used despatch state ≡ despatch_from s despatch known
+pub despatch_alike : (s : SupplierRow) (used : List ℕ → Bool) (known : Known) (despatch : Despatch) (state : Tables)
+    → knows_advice state despatch.number ≡ known.number_known
+    → map (λ unit. used unit.sscc) despatch.units ≡ known.used → ((sscc : List ℕ) → has_pallet state sscc ≡ true → used sscc ≡ true)
+    → ((order : List ℕ) → names_order despatch.units order ≡ true → TellsOrder known state order)
+    → ((order : List ℕ) → names_order despatch.units order ≡ true → TellsLines state known.lines order)
+    → has_twice (map (λ unit. unit.sscc) despatch.units) ≡ false → judge_new_despatch s used despatch state ≡ despatch_from s despatch known
 despatch_alike s used known despatch state number flags there orders lines once =
     let advice : List Change = AddAdvice (record { supplier = s.gln; number = despatch.number }) ∷ [] in
     ap₂ (λ v rest. refuse_if v AdviceKnown (joined advice rest)) number
-    (units_alike (names_order despatch.units) known.orders s used despatch.number despatch.units (apply_all advice state) known.lines state.pallets (names_all despatch.units) once (used_all used state there despatch.units) (record { pallets_are = refl; order = orders; lines_are = lines })
+    (units_alike (names_order despatch.units) known.orders s used despatch.number despatch.units (apply_all advice state)
+    known.lines state.pallets (names_all despatch.units) once (used_all used state there despatch.units)
+    (record { pallets_are = refl; order = orders; lines_are = lines })
     ∙ ap (λ us. units_from s despatch.number known.orders despatch.units us known.lines) flags)
 
 -- one line judged by the code, and the rest on what it left
-pub despatched_next : (sscc : List ℕ) (orders : List (List ℕ)) (n : ℕ) (said : DespatchLine) (rest : List DespatchLine) (before : List Change) (lines after : List LineFacts) (line : LineFacts) (row : LineRow) (number : List ℕ) (next : List LineFacts → Verdict) →
-    not (is_among said.order orders) ≡ false → facts_among (facts_of lines said.order) said.order_line said.gtin ≡ Some line → ((verdict : Verdict) → despatch_checks said line verdict ≡ verdict) →
-    row ≡ line.row → number ≡ row.number → after ≡ with_row (answered_row line.row (row.open_qty - said.quantity) row.refused row.cancelled row.answer) lines →
-    joined before (lines_from sscc orders n (said ∷ rest) lines next)
-    ≡ joined ((before ++ SetLine (record row { open_qty = row.open_qty - said.quantity }) ∷ []) ++ AddContent (record { sscc = sscc; place = n + 1; number = number; line = row.line; quantity = said.quantity }) ∷ []) (lines_from sscc orders (n + 1) rest after next)
+pub despatched_next :
+    (sscc : List ℕ) (orders : List (List ℕ)) (n : ℕ) (said : DespatchLine) (rest : List DespatchLine) (before : List Change)
+    (lines after : List LineFacts) (line : LineFacts) (row : LineRow) (number : List ℕ) (next : List LineFacts → Verdict)
+    → not (is_among said.order orders) ≡ false
+    → facts_among (facts_of lines said.order) said.order_line said.gtin ≡ Some line
+    → ((verdict : Verdict) → despatch_checks said line verdict ≡ verdict)
+    → row ≡ line.row
+    → number ≡ row.number
+    → after ≡ with_row (answered_row line.row (row.open_qty - said.quantity) row.refused row.cancelled row.answer) lines
+    → joined before (lines_from sscc orders n (said ∷ rest) lines next)
+    ≡ joined ((before ++ SetLine (record row { open_qty = row.open_qty - said.quantity }) ∷ [])
+    ++ AddContent (record { sscc = sscc; place = n + 1; number = number; line = row.line; quantity = said.quantity })
+    ∷ []) (lines_from sscc orders (n + 1) rest after next)
 despatched_next sscc orders n said rest before lines after line row number next known found pass is number_is set =
     let set_line : Change = SetLine (after_despatch said line) in
     let content : Change = new_content sscc (n + 1) said line in
-    let left : with_row (after_despatch said line) lines ≡ after = sym (set ∙ ap (λ (r : LineRow). with_row (answered_row line.row (r.open_qty - said.quantity) r.refused r.cancelled r.answer) lines) is) in
+    let left : with_row (after_despatch said line) lines ≡ after =
+    sym (set
+    ∙ ap (λ (r : LineRow).
+    with_row (answered_row line.row (r.open_qty - said.quantity) r.refused r.cancelled r.answer) lines) is) in
     let tail : Verdict = lines_from sscc orders (n + 1) rest after next in
     let named : number ≡ line.row.number = number_is ∙ ap (λ (r : LineRow). r.number) is in
-    ap₂ (λ v one. joined before (refuse_if v NoOrder (given one NoLine (λ line. despatch_checks said line (joined (SetLine (after_despatch said line) ∷ new_content sscc (n + 1) said line ∷ []) (lines_from sscc orders (n + 1) rest (with_row (after_despatch said line) lines) next)))))) known found
-    ∙ ap (joined before) (pass (joined (set_line ∷ content ∷ []) (lines_from sscc orders (n + 1) rest (with_row (after_despatch said line) lines) next)))
+    ap₂ (λ v one. joined before (refuse_if v NoOrder (given one NoLine (λ line.
+    despatch_checks said line (joined (SetLine (after_despatch said line) ∷ new_content sscc (n + 1) said line ∷ [])
+    (lines_from sscc orders (n + 1) rest (with_row (after_despatch said line) lines) next)))))) known found
+    ∙ ap (joined before) (pass (joined (set_line ∷ content ∷ [])
+    (lines_from sscc orders (n + 1) rest (with_row (after_despatch said line) lines) next)))
     ∙ ap (λ ls. joined before (joined (set_line ∷ content ∷ []) (lines_from sscc orders (n + 1) rest ls next))) left
     ∙ ap (joined before) (joined_grouped (set_line ∷ []) (content ∷ []) tail)
-    ∙ sym (joined_grouped (before ++ set_line ∷ []) (content ∷ []) tail ∙ joined_grouped before (set_line ∷ []) (joined (content ∷ []) tail))
-    ∙ ap₂ (λ (r : LineRow) (name : List ℕ). joined ((before ++ SetLine (record r { open_qty = r.open_qty - said.quantity }) ∷ []) ++ AddContent (record { sscc = sscc; place = n + 1; number = name; line = r.line; quantity = said.quantity }) ∷ []) tail) (sym is) (sym named)
+    ∙ sym (joined_grouped (before ++ set_line ∷ []) (content ∷ []) tail
+    ∙ joined_grouped before (set_line ∷ []) (joined (content ∷ []) tail))
+    ∙ ap₂ (λ (r : LineRow) (name : List ℕ).
+    joined ((before ++ SetLine (record r { open_qty = r.open_qty - said.quantity }) ∷ [])
+    ++ AddContent (record { sscc = sscc; place = n + 1; number = name; line = r.line; quantity = said.quantity }) ∷ [])
+    tail) (sym is) (sym named)
 
 -- one unit judged by the code, up to its lines
-pub unit_next : (s : SupplierRow) (advice : List ℕ) (orders : List (List ℕ)) (unit : Unit) (units : List Unit) (used : Bool) (rest : List Bool) (before : List Change) (lines : List LineFacts) → ((verdict : Verdict) → unit_checks s unit.sscc used verdict ≡ verdict) →
-    joined before (units_from s advice orders (unit ∷ units) (used ∷ rest) lines) ≡ joined (before ++ new_pallet s advice unit.sscc ∷ []) (lines_from unit.sscc orders 0 unit.lines lines (λ left. units_from s advice orders units rest left))
+pub unit_next : (s : SupplierRow) (advice : List ℕ) (orders : List (List ℕ)) (unit : Unit) (units : List Unit) (used : Bool)
+    (rest : List Bool) (before : List Change) (lines : List LineFacts)
+    → ((verdict : Verdict) → unit_checks s unit.sscc used verdict ≡ verdict)
+    → joined before (units_from s advice orders (unit ∷ units) (used ∷ rest) lines)
+    ≡ joined (before ++ new_pallet s advice unit.sscc ∷ [])
+    (lines_from unit.sscc orders 0 unit.lines lines (λ left. units_from s advice orders units rest left))
 unit_next s advice orders unit units used rest before lines pass =
-    ap (joined before) (pass (joined (new_pallet s advice unit.sscc ∷ []) (lines_from unit.sscc orders 0 unit.lines lines (λ left. units_from s advice orders units rest left))))
-    ∙ sym (joined_grouped before (new_pallet s advice unit.sscc ∷ []) (lines_from unit.sscc orders 0 unit.lines lines (λ left. units_from s advice orders units rest left)))
+    ap (joined before) (pass (joined (new_pallet s advice unit.sscc ∷ [])
+    (lines_from unit.sscc orders 0 unit.lines lines (λ left. units_from s advice orders units rest left))))
+    ∙ sym (joined_grouped before (new_pallet s advice unit.sscc ∷ [])
+    (lines_from unit.sscc orders 0 unit.lines lines (λ left. units_from s advice orders units rest left)))
 
 -- the orders matter only by which are among them
 module _ (a b : List (List ℕ)) (same_orders : (order : List ℕ) → is_among order a ≡ is_among order b) where
-  lines_by_orders : (sscc : List ℕ) (f g : List LineFacts → Verdict) → ((lines : List LineFacts) → f lines ≡ g lines) → (n : ℕ) (said : List DespatchLine) (lines : List LineFacts) → lines_from sscc a n said lines f ≡ lines_from sscc b n said lines g
+  lines_by_orders : (sscc : List ℕ) (f g : List LineFacts → Verdict)
+      → ((lines : List LineFacts) → f lines ≡ g lines)
+      → (n : ℕ) (said : List DespatchLine) (lines : List LineFacts)
+      → lines_from sscc a n said lines f ≡ lines_from sscc b n said lines g
   lines_by_orders sscc f g alike n [] lines = alike lines
   lines_by_orders sscc f g alike n (x ∷ said) lines =
       ap₂ (λ v rest. refuse_if (not v) NoOrder rest) (same_orders x.order)
-      (elim (facts_among (facts_of lines x.order) x.order_line x.gtin) as (λ found. given found NoLine (λ line. despatch_checks x line (joined (SetLine (after_despatch x line) ∷ new_content sscc (n + 1) x line ∷ []) (lines_from sscc a (n + 1) said (with_row (after_despatch x line) lines) f))) ≡ given found NoLine (λ line. despatch_checks x line (joined (SetLine (after_despatch x line) ∷ new_content sscc (n + 1) x line ∷ []) (lines_from sscc b (n + 1) said (with_row (after_despatch x line) lines) g)))) [
+      (elim (facts_among (facts_of lines x.order) x.order_line x.gtin) as (λ found. given found NoLine
+      (λ line. despatch_checks x line (joined (SetLine (after_despatch x line) ∷ new_content sscc (n + 1) x line ∷ [])
+      (lines_from sscc a (n + 1) said (with_row (after_despatch x line) lines) f)))
+      ≡ given found NoLine
+      (λ line. despatch_checks x line (joined (SetLine (after_despatch x line) ∷ new_content sscc (n + 1) x line ∷ [])
+      (lines_from sscc b (n + 1) said (with_row (after_despatch x line) lines) g)))) [
         | None ↦ refl
-        | Some line ↦ ap (λ rest. despatch_checks x line (joined (SetLine (after_despatch x line) ∷ new_content sscc (n + 1) x line ∷ []) rest)) (lines_by_orders sscc f g alike (n + 1) said (with_row (after_despatch x line) lines))
+        | Some line ↦ ap (λ rest.
+            despatch_checks x line (joined (SetLine (after_despatch x line) ∷ new_content sscc (n + 1) x line ∷ []) rest))
+            (lines_by_orders sscc f g alike (n + 1) said (with_row (after_despatch x line) lines))
       ])
 
-  pub units_by_orders : (s : SupplierRow) (advice : List ℕ) (units : List Unit) (used : List Bool) (lines : List LineFacts) → units_from s advice a units used lines ≡ units_from s advice b units used lines
+  pub units_by_orders : (s : SupplierRow) (advice : List ℕ) (units : List Unit) (used : List Bool) (lines : List LineFacts)
+      → units_from s advice a units used lines ≡ units_from s advice b units used lines
   units_by_orders s advice [] used lines = refl
   units_by_orders s advice (unit ∷ units) [] lines = refl
   units_by_orders s advice (unit ∷ units) (flag ∷ used) lines =
       ap (λ rest. unit_checks s unit.sscc flag (joined (new_pallet s advice unit.sscc ∷ []) rest))
-      (lines_by_orders unit.sscc (λ left. units_from s advice a units used left) (λ left. units_from s advice b units used left) (λ left. units_by_orders s advice units used left) 0 unit.lines lines)
+      (lines_by_orders unit.sscc (λ left. units_from s advice a units used left)
+      (λ left. units_from s advice b units used left) (λ left. units_by_orders s advice units used left) 0 unit.lines
+      lines)

@@ -1,5 +1,6 @@
 -- Facts that tell the lines of a state, under look-ups and changes.
-use Rattle.std.proofs.Common.{◌≡◌, ℕ, Bool, true, false, cond, ◌&&◌, ◌==◌, inl, inr, List, [], ◌∷◌, filter, find, sum_by, Option, Some, None, option_map, refl, sym, ◌∙◌, ap, ap₂, subst, arith}
+use Rattle.std.proofs.Common.{◌≡◌, ℕ, Bool, true, false, cond, ◌&&◌, ◌==◌, inl, inr, List, [], ◌∷◌, filter, find, sum_by}
+use Rattle.std.proofs.Common.{Option, Some, None, option_map, refl, sym, ◌∙◌, ap, ap₂, subst, arith}
 use Rattle.std.specs.List.{AllByRecursion}
 use Rattle.std.proofs.lemmas.Bool.{and_parts}
 use Rattle.std.proofs.lemmas.Bool.Decides.{nat_tests}
@@ -19,37 +20,51 @@ use Rattle.hub_judges.specs.Known.{rows, TellsLines, TellsDespatched}
 -- look-ups
 filter_rows : (p : LineRow → Bool) (lines : List LineFacts) → filter p (rows lines) ≡ rows (filter (λ line. p line.row) lines)
 filter_rows p [] = refl
-filter_rows p (line ∷ lines) = elim (p line.row) as (λ v. cond v (line.row ∷ filter p (rows lines)) (filter p (rows lines)) ≡ rows (cond v (line ∷ filter (λ line. p line.row) lines) (filter (λ line. p line.row) lines))) [
-  | true ↦ ap (λ xs. line.row ∷ xs) (filter_rows p lines)
-  | false ↦ filter_rows p lines
-]
+filter_rows p (line ∷ lines) =
+    elim (p line.row) as (λ v. cond v (line.row ∷ filter p (rows lines)) (filter p (rows lines))
+    ≡ rows (cond v (line ∷ filter (λ line. p line.row) lines) (filter (λ line. p line.row) lines))) [
+      | true ↦ ap (λ xs. line.row ∷ xs) (filter_rows p lines)
+      | false ↦ filter_rows p lines
+    ]
 
-find_rows : (p : LineRow → Bool) (lines : List LineFacts) → find p (rows lines) ≡ option_map (λ line. line.row) (find (λ line. p line.row) lines)
+find_rows : (p : LineRow → Bool) (lines : List LineFacts)
+    → find p (rows lines) ≡ option_map (λ line. line.row) (find (λ line. p line.row) lines)
 find_rows p [] = refl
-find_rows p (line ∷ lines) = elim (p line.row) as (λ v. cond v (Some line.row) (find p (rows lines)) ≡ option_map (λ line. line.row) (cond v (Some line) (find (λ line. p line.row) lines))) [
-  | true ↦ refl
-  | false ↦ find_rows p lines
-]
+find_rows p (line ∷ lines) =
+    elim (p line.row) as (λ v. cond v (Some line.row) (find p (rows lines))
+    ≡ option_map (λ line. line.row) (cond v (Some line) (find (λ line. p line.row) lines))) [
+      | true ↦ refl
+      | false ↦ find_rows p lines
+    ]
 
 only_rows : (lines : List LineFacts) → the_only (rows lines) ≡ option_map (λ line. line.row) (the_only lines)
 only_rows [] = refl
 only_rows (line ∷ []) = refl
 only_rows (line ∷ other ∷ lines) = refl
 
-among_rows : (lines : List LineFacts) (number : Option ℕ) (gtin : List ℕ) → line_among (rows lines) number gtin ≡ option_map (λ line. line.row) (facts_among lines number gtin)
+among_rows : (lines : List LineFacts) (number : Option ℕ) (gtin : List ℕ)
+    → line_among (rows lines) number gtin ≡ option_map (λ line. line.row) (facts_among lines number gtin)
 among_rows lines (Some number) gtin = find_rows (λ line. line.line == number) lines
-among_rows lines None gtin = ap the_only (filter_rows (λ line. same line.gtin gtin) lines) ∙ only_rows (filter (λ line. same line.row.gtin gtin) lines)
+among_rows lines None gtin =
+    ap the_only (filter_rows (λ line. same line.gtin gtin) lines) ∙ only_rows (filter (λ line. same line.row.gtin gtin) lines)
 
-pub line_told : (state : Tables) (lines : List LineFacts) (order : List ℕ) (number : Option ℕ) (gtin : List ℕ) → TellsLines state lines order → line_of state order number gtin ≡ option_map (λ line. line.row) (facts_among (facts_of lines order) number gtin)
+pub line_told : (state : Tables) (lines : List LineFacts) (order : List ℕ) (number : Option ℕ) (gtin : List ℕ)
+    → TellsLines state lines order
+    → line_of state order number gtin ≡ option_map (λ line. line.row) (facts_among (facts_of lines order) number gtin)
 line_told state lines order number gtin told = ap (λ xs. line_among xs number gtin) told ∙ among_rows (facts_of lines order) number gtin
 
 -- what is looked up is one of the lines
 module _ (P : LineFacts → Type 0) where
   all_kept : (p : LineFacts → Bool) (lines : List LineFacts) → AllByRecursion P lines → AllByRecursion P (filter p lines)
   all_kept p [] all = tt
-  all_kept p (line ∷ lines) all = elim (p line) as (λ v. AllByRecursion P (cond v (line ∷ filter p lines) (filter p lines))) [ true ↦ (all.0, all_kept p lines all.1) | false ↦ all_kept p lines all.1 ]
+  all_kept p (line ∷ lines) all =
+      elim (p line) as (λ v. AllByRecursion P (cond v (line ∷ filter p lines) (filter p lines)))
+      [ true ↦ (all.0, all_kept p lines all.1) | false ↦ all_kept p lines all.1 ]
 
-  all_found : (p : LineFacts → Bool) (lines : List LineFacts) (line : LineFacts) → AllByRecursion P lines → find p lines ≡ Some line → P line
+  all_found : (p : LineFacts → Bool) (lines : List LineFacts) (line : LineFacts)
+      → AllByRecursion P lines
+      → find p lines ≡ Some line
+      → P line
   all_found p [] line all e = cc
   all_found p (x ∷ xs) line all e =
       elim (p x) as (λ v. cond v (Some x) (find p xs) ≡ Some line → P line) [
@@ -62,18 +77,35 @@ module _ (P : LineFacts → Type 0) where
   all_only (x ∷ []) line all e = let same_line : x ≡ line = cc in subst P same_line all.0
   all_only (x ∷ y ∷ xs) line all e = cc
 
-  pub looked_up : (lines : List LineFacts) (order : List ℕ) (number : Option ℕ) (gtin : List ℕ) (line : LineFacts) → AllByRecursion P lines → facts_among (facts_of lines order) number gtin ≡ Some line → P line
-  looked_up lines order (Some number) gtin line all e = all_found (λ line. line.row.line == number) (facts_of lines order) line (all_kept (λ line. same line.row.number order) lines all) e
-  looked_up lines order None gtin line all e = all_only (filter (λ line. same line.row.gtin gtin) (facts_of lines order)) line (all_kept (λ line. same line.row.gtin gtin) (facts_of lines order) (all_kept (λ line. same line.row.number order) lines all)) e
+  pub looked_up : (lines : List LineFacts) (order : List ℕ) (number : Option ℕ) (gtin : List ℕ) (line : LineFacts)
+      → AllByRecursion P lines
+      → facts_among (facts_of lines order) number gtin ≡ Some line
+      → P line
+  looked_up lines order (Some number) gtin line all e =
+      all_found (λ line. line.row.line == number) (facts_of lines order) line
+      (all_kept (λ line. same line.row.number order) lines all) e
+  looked_up lines order None gtin line all e =
+      all_only (filter (λ line. same line.row.gtin gtin) (facts_of lines order)) line
+      (all_kept (λ line. same line.row.gtin gtin) (facts_of lines order)
+      (all_kept (λ line. same line.row.number order) lines all)) e
 
 -- a line that is set
 number_kept : (row old : LineRow) → same_line row old ≡ true → old.number ≡ row.number
-number_kept row old e = same_is old.number row.number (and_parts (same old.number row.number) (old.line == row.line) (and_parts (same old.supplier row.supplier) (same old.number row.number && (old.line == row.line)) e).1).0
+number_kept row old e =
+    same_is old.number row.number (and_parts (same old.number row.number) (old.line == row.line)
+    (and_parts (same old.supplier row.supplier) (same old.number row.number && (old.line == row.line)) e).1).0
 
 line_kept : (row old : LineRow) → same_line row old ≡ true → old.line ≡ row.line
-line_kept row old e = grind (arith, nat_tests, (and_parts (same old.number row.number) (old.line == row.line) (and_parts (same old.supplier row.supplier) (same old.number row.number && (old.line == row.line)) e).1).1)
+line_kept row old e =
+    grind (
+      arith,
+      nat_tests,
+      (and_parts (same old.number row.number) (old.line == row.line)
+          (and_parts (same old.supplier row.supplier) (same old.number row.number && (old.line == row.line)) e).1).1,
+    )
 
-rows_set : (row : LineRow) (lines : List LineFacts) (order : List ℕ) → rows (facts_of (with_row row lines) order) ≡ replace (same_line row) row (rows (facts_of lines order))
+rows_set : (row : LineRow) (lines : List LineFacts) (order : List ℕ)
+    → rows (facts_of (with_row row lines) order) ≡ replace (same_line row) row (rows (facts_of lines order))
 rows_set row [] order = refl
 rows_set row (line ∷ lines) order =
     let ih = rows_set row lines order in
@@ -85,10 +117,13 @@ rows_set row (line ∷ lines) order =
       | inr e ↦ elim (decide (same line.row.number order)) [ inl k ↦ grind (arith, e, k, ih) | inr k ↦ grind (arith, e, k, ih) ]
     ]
 
-lines_set : (state : Tables) (row : LineRow) (order : List ℕ) → lines_of (apply (SetLine row) state) order ≡ replace (same_line row) row (lines_of state order)
+lines_set : (state : Tables) (row : LineRow) (order : List ℕ)
+    → lines_of (apply (SetLine row) state) order ≡ replace (same_line row) row (lines_of state order)
 lines_set state row order = go state.lines
   where
-    go : (ls : List LineRow) → filter (λ line. same line.number order) (replace (same_line row) row ls) ≡ replace (same_line row) row (filter (λ line. same line.number order) ls)
+    go : (ls : List LineRow)
+        → filter (λ line. same line.number order) (replace (same_line row) row ls)
+        ≡ replace (same_line row) row (filter (λ line. same line.number order) ls)
     go [] = refl
     go (old ∷ ls) =
         let ih = go ls in
@@ -99,19 +134,30 @@ lines_set state row order = go state.lines
           | inr e ↦ elim (decide (same old.number order)) [ inl k ↦ grind (arith, e, k, ih) | inr k ↦ grind (arith, e, k, ih) ]
         ]
 
-pub lines_told_after : (state : Tables) (lines : List LineFacts) (row : LineRow) (order : List ℕ) → TellsLines state lines order → TellsLines (apply (SetLine row) state) (with_row row lines) order
-lines_told_after state lines row order told = lines_set state row order ∙ ap (replace (same_line row) row) told ∙ sym (rows_set row lines order)
+pub lines_told_after : (state : Tables) (lines : List LineFacts) (row : LineRow) (order : List ℕ)
+    → TellsLines state lines order
+    → TellsLines (apply (SetLine row) state) (with_row row lines) order
+lines_told_after state lines row order told =
+    lines_set state row order ∙ ap (replace (same_line row) row) told ∙ sym (rows_set row lines order)
 
 -- what is despatched hangs on the order number and the line number alone
 despatched_by_key : (state : Tables) (a b : LineRow) → a.number ≡ b.number → a.line ≡ b.line → despatched state a ≡ despatched state b
-despatched_by_key state a b numbers lines = ap₂ (λ number line. sum_by (λ c. c.quantity) (filter (λ (c : ContentRow). same c.number number && (c.line == line)) state.contents)) numbers lines
+despatched_by_key state a b numbers lines =
+    ap₂ (λ number line.
+    sum_by (λ c. c.quantity) (filter (λ (c : ContentRow). same c.number number && (c.line == line)) state.contents)) numbers
+    lines
 
-pub despatched_told_after : (state : Tables) (lines : List LineFacts) (row : LineRow) → TellsDespatched state lines → TellsDespatched (apply (SetLine row) state) (with_row row lines)
+pub despatched_told_after : (state : Tables) (lines : List LineFacts) (row : LineRow)
+    → TellsDespatched state lines
+    → TellsDespatched (apply (SetLine row) state) (with_row row lines)
 despatched_told_after state [] row told = tt
 despatched_told_after state (line ∷ lines) row told = (one, despatched_told_after state lines row told.1)
   where
     one : despatched state (set_row row line).row ≡ (set_row row line).despatched
-    one = elim (same_line row line.row) as (λ v. same_line row line.row ≡ v → despatched state (cond v (record line { row = row }) line).row ≡ (cond v (record line { row = row }) line).despatched) [
-      | true ↦ λ e. despatched_by_key state row line.row (sym (number_kept row line.row e)) (sym (line_kept row line.row e)) ∙ told.0
-      | false ↦ λ e. told.0
-    ] refl
+    one =
+        elim (same_line row line.row) as (λ v. same_line row line.row ≡ v
+        → despatched state (cond v (record line { row = row }) line).row
+        ≡ (cond v (record line { row = row }) line).despatched) [
+          | true ↦ λ e. despatched_by_key state row line.row (sym (number_kept row line.row e)) (sym (line_kept row line.row e)) ∙ told.0
+          | false ↦ λ e. told.0
+        ] refl

@@ -23,14 +23,22 @@ module _ (state : Tables) where
   below : (a b : LineRow) → a.supplier ≡ b.supplier → line_cmp a b ≡ Less → facts_cmp (fact_in state a) (fact_in state b) ≡ Less
   below a b same h =
       let rest : Ordering = ordering_then (bytes_cmp a.number b.number) (nat_cmp a.line b.line) in
-      let tied : bytes_cmp a.supplier b.supplier ≡ Equal = ap (bytes_cmp a.supplier) (sym same) ∙ tied_itself nat_list_cmp_total a.supplier in
+      let tied : bytes_cmp a.supplier b.supplier ≡ Equal =
+      ap (bytes_cmp a.supplier) (sym same) ∙ tied_itself nat_list_cmp_total a.supplier in
       sym (ap (λ o. ordering_then o rest) tied) ∙ h
 
-  all_below : (gln : List ℕ) (row : LineRow) (rows : List LineRow) → row.supplier ≡ gln → AllByRecursion (λ row. row.supplier ≡ gln) rows → AllByRecursion (λ later. line_cmp row later ≡ Less) rows → AllByRecursion (λ later. facts_cmp (fact_in state row) later ≡ Less) (facts_in state rows)
+  all_below : (gln : List ℕ) (row : LineRow) (rows : List LineRow)
+      → row.supplier ≡ gln
+      → AllByRecursion (λ row. row.supplier ≡ gln) rows
+      → AllByRecursion (λ later. line_cmp row later ≡ Less) rows
+      → AllByRecursion (λ later. facts_cmp (fact_in state row) later ≡ Less) (facts_in state rows)
   all_below gln row [] own owns less = tt
   all_below gln row (later ∷ rows) own owns less = (below row later (own ∙ sym owns.0) less.0, all_below gln row rows own owns.1 less.1)
 
-  facts_rise : (gln : List ℕ) (rows : List LineRow) → AllByRecursion (λ row. row.supplier ≡ gln) rows → Rises line_cmp rows → Rises facts_cmp (facts_in state rows)
+  facts_rise : (gln : List ℕ) (rows : List LineRow)
+      → AllByRecursion (λ row. row.supplier ≡ gln) rows
+      → Rises line_cmp rows
+      → Rises facts_cmp (facts_in state rows)
   facts_rise gln [] owns rises = tt
   facts_rise gln (row ∷ rows) owns rises = (all_below gln row rows owns.0 owns.1 rises.0, facts_rise gln rows owns.1 rises.1)
 
@@ -43,8 +51,11 @@ module _ (suppliers : List SupplierRow) (gln : List ℕ) (t : Tables) (test : Li
   seen_rise =
       let whose : SupplierRow = record { gln = gln; prefixes = []; key = [] } in
       let good = good_view suppliers whose t sound in
-      facts_rise (view gln t) gln (filter test (view gln t).lines) (all_filter (λ row. row.supplier ≡ gln) test (view gln t).lines good.own.lines)
+      facts_rise (view gln t) gln (filter test (view gln t).lines)
+      (all_filter (λ row. row.supplier ≡ gln) test (view gln t).lines good.own.lines)
       (rises_filter line_cmp test (view gln t).lines (view_rises gln t (sound.rooted).ordered (sound.kept gln)).lines)
 
   pub seen_covered : AllByRecursion IsCovered (facts_in (view gln t) (filter test (view gln t).lines))
-  seen_covered = facts_covered (view gln t) (filter test (view gln t).lines) (all_filter (Balanced (view gln t)) test (view gln t).lines (sound.kept gln).balanced)
+  seen_covered =
+      facts_covered (view gln t) (filter test (view gln t).lines)
+      (all_filter (Balanced (view gln t)) test (view gln t).lines (sound.kept gln).balanced)

@@ -19,12 +19,18 @@ use Rattle.hub_rules.specs.declared.verdict.Verdict.{Verdict}
 abbrev pub first_of : SupplierRow → Side → IncomingMessage → List Change
 first_of s side incoming = Remember (remembered (referred_by s side incoming) incoming.content) ∷ []
 
-pub judged_message : (retailer : List ℕ) (supplier : Option SupplierRow) (side : Side) (incoming : IncomingMessage) (buyer : Option (List ℕ)) (named : List ℕ) (rest : SupplierRow → Judge) (s : SupplierRow) (state : Tables) (content : List ℕ) (verdict : Verdict) →
-    ((next : SupplierRow → Verdict) → refuse_if (is_other_buyer retailer buyer) Buyer (if_registered supplier named next) ≡ next s) → content ≡ incoming.content →
-    ((fresh : Verdict) → once (remembered_of state side incoming.control incoming.message) content fresh ≡ fresh) → rest s (apply_all (first_of s side incoming) state) ≡ verdict →
-    judge_message retailer supplier side incoming buyer named rest state ≡ joined (first_of s side incoming) verdict
+pub judged_message :
+    (retailer : List ℕ) (supplier : Option SupplierRow) (side : Side) (incoming : IncomingMessage) (buyer : Option (List ℕ))
+    (named : List ℕ) (rest : SupplierRow → Judge) (s : SupplierRow) (state : Tables) (content : List ℕ) (verdict : Verdict)
+    → ((next : SupplierRow → Verdict)
+    → refuse_if (is_other_buyer retailer buyer) Buyer (if_registered supplier named next) ≡ next s)
+    → content ≡ incoming.content
+    → ((fresh : Verdict) → once (remembered_of state side incoming.control incoming.message) content fresh ≡ fresh)
+    → rest s (apply_all (first_of s side incoming) state) ≡ verdict
+    → judge_message retailer supplier side incoming buyer named rest state ≡ joined (first_of s side incoming) verdict
 judged_message retailer supplier side incoming buyer named rest s state content verdict admitted is new judged =
     admitted (λ s. judge_once (referred_by s side incoming) incoming.content (rest s) state)
-    ∙ ap (λ bytes. once (remembered_of state side incoming.control incoming.message) bytes (in_turn (gives (first_of s side incoming)) (rest s) state)) (sym is)
+    ∙ ap (λ bytes. once (remembered_of state side incoming.control incoming.message) bytes
+    (in_turn (gives (first_of s side incoming)) (rest s) state)) (sym is)
     ∙ new (in_turn (gives (first_of s side incoming)) (rest s) state)
     ∙ ap (joined (first_of s side incoming)) judged

@@ -1,5 +1,6 @@
 -- The items of lines, each once, and those that are left.
-use Rattle.std.proofs.Common.{◌≡◌, ℕ, ◌+◌, ◌<◌, Bool, true, cond, not, is_some, inl, inr, List, [], ◌∷◌, length, get_or, drop, filter, Option, Some, None, refl, sym, ◌∙◌, ap, ap₂, arith}
+use Rattle.std.proofs.Common.{◌≡◌, ℕ, ◌+◌, ◌<◌, Bool, true, cond, not, is_some, inl, inr, List, [], ◌∷◌, length, get_or}
+use Rattle.std.proofs.Common.{drop, filter, Option, Some, None, refl, sym, ◌∙◌, ap, ap₂, arith}
 use Rattle.std.specs.List.{AllByRecursion}
 use Rattle.edi_base.proofs.Twice.{bytes_eq-sym}
 use Rattle.edi_goods.specs.declared.receipt.ReceiptLine.{ReceiptLine}
@@ -28,7 +29,9 @@ abbrev Comes : List ReceiptLine → List ℕ → Type 0
 Comes lines item = is_some (total_from None item lines) ≡ true
 
 comes_here : (line : ReceiptLine) (lines : List ReceiptLine) (item : List ℕ) → same line.gtin item ≡ true → Comes (line ∷ lines) item
-comes_here line lines item e = ap is_some (ap (λ v. total_from (cond v (Some (with_line nothing line)) None) item lines) e ∙ from_some (with_line nothing line) item lines)
+comes_here line lines item e =
+    ap is_some (ap (λ v. total_from (cond v (Some (with_line nothing line)) None) item lines) e
+    ∙ from_some (with_line nothing line) item lines)
 
 comes_later : (line : ReceiptLine) (lines : List ReceiptLine) (item : List ℕ) → Comes lines item → Comes (line ∷ lines) item
 comes_later line lines item h =
@@ -39,15 +42,26 @@ comes_later line lines item h =
 
 all_come : (lines : List ReceiptLine) → AllByRecursion (λ line. Comes lines line.gtin) lines
 all_come [] = tt
-all_come (line ∷ lines) = (comes_here line lines line.gtin (same_if line.gtin line.gtin refl), all_weaker (λ other. Comes lines other.gtin) (λ other. Comes (line ∷ lines) other.gtin) (λ other h. comes_later line lines other.gtin h) lines (all_come lines))
+all_come (line ∷ lines) = (
+  comes_here line lines line.gtin (same_if line.gtin line.gtin refl),
+  all_weaker (λ other. Comes lines other.gtin) (λ other. Comes (line ∷ lines) other.gtin)
+      (λ other h. comes_later line lines other.gtin h) lines (all_come lines),
+)
 
 -- at first every item is left
-pub all_left : (totals : List ℕ → Option Total) (lines : List ReceiptLine) → ((item : List ℕ) → totals item ≡ total_from None item lines) → left totals lines ≡ gtins lines
-all_left totals lines are = keeps_all (λ gtin. is_some (totals gtin)) (gtins lines) (of_gtins (λ gtin. is_some (totals gtin) ≡ true) lines (all_weaker (λ line. Comes lines line.gtin) (λ line. is_some (totals line.gtin) ≡ true) (λ line h. ap is_some (are line.gtin) ∙ h) lines (all_come lines)))
+pub all_left : (totals : List ℕ → Option Total) (lines : List ReceiptLine)
+    → ((item : List ℕ) → totals item ≡ total_from None item lines)
+    → left totals lines ≡ gtins lines
+all_left totals lines are =
+    keeps_all (λ gtin. is_some (totals gtin)) (gtins lines) (of_gtins (λ gtin. is_some (totals gtin) ≡ true) lines
+    (all_weaker (λ line. Comes lines line.gtin) (λ line. is_some (totals line.gtin) ≡ true)
+    (λ line h. ap is_some (are line.gtin) ∙ h) lines (all_come lines)))
 
 -- the receipt of an item with its total
-pub receipt_is : (sscc : List ℕ) (lines : List ReceiptLine) (gtin : List ℕ) (sum : Total) → total_from None gtin lines ≡ Some sum →
-    ◌≡◌ {A = Change} (AddReceipt (record { sscc = sscc; gtin = gtin; accepted = sum.accepted; returned = sum.returned; destroyed = sum.destroyed })) (new_receipt sscc lines gtin)
+pub receipt_is : (sscc : List ℕ) (lines : List ReceiptLine) (gtin : List ℕ) (sum : Total) → total_from None gtin lines ≡ Some sum
+    → ◌≡◌ {A = Change} (AddReceipt
+    (record { sscc = sscc; gtin = gtin; accepted = sum.accepted; returned = sum.returned; destroyed = sum.destroyed }))
+    (new_receipt sscc lines gtin)
 receipt_is sscc lines gtin sum h =
     let made : ℕ → ℕ → ℕ → Change = λ a r d. AddReceipt (record { sscc = sscc; gtin = gtin; accepted = a; returned = r; destroyed = d }) in
     let over = over_lines gtin lines sum h in
@@ -57,11 +71,16 @@ receipt_is sscc lines gtin sum h =
     let a : sum.accepted ≡ total (λ line. line.accepted) gtin lines = omega (arith, of_a) in
     let r : sum.returned ≡ total (λ line. line.returned) gtin lines = omega (arith, of_r) in
     let d : sum.destroyed ≡ total (λ line. line.destroyed) gtin lines = omega (arith, of_d) in
-    ap (λ v. made v sum.returned sum.destroyed) a ∙ ap (λ v. made (total (λ line. line.accepted) gtin lines) v sum.destroyed) r ∙ ap (made (total (λ line. line.accepted) gtin lines) (total (λ line. line.returned) gtin lines)) d
+    ap (λ v. made v sum.returned sum.destroyed) a
+    ∙ ap (λ v. made (total (λ line. line.accepted) gtin lines) v sum.destroyed) r
+    ∙ ap (made (total (λ line. line.accepted) gtin lines) (total (λ line. line.returned) gtin lines)) d
 
 -- an item whose total is taken
-module _ (old new : List ℕ → Option Total) (taken : List ℕ) (becomes : (item : List ℕ) → new item ≡ cond (same taken item) None (old item)) where
-  left_without : (gtins : List (List ℕ)) → filter (λ gtin. is_some (old gtin)) (filter (λ gtin. not (same gtin taken)) gtins) ≡ filter (λ gtin. is_some (new gtin)) gtins
+module _ (old new : List ℕ → Option Total) (taken : List ℕ)
+    (becomes : (item : List ℕ) → new item ≡ cond (same taken item) None (old item)) where
+  left_without : (gtins : List (List ℕ))
+      → filter (λ gtin. is_some (old gtin)) (filter (λ gtin. not (same gtin taken)) gtins)
+      ≡ filter (λ gtin. is_some (new gtin)) gtins
   left_without [] = refl
   left_without (gtin ∷ gtins) =
       let ih = left_without gtins in
@@ -69,16 +88,24 @@ module _ (old new : List ℕ → Option Total) (taken : List ℕ) (becomes : (it
       elim (decide (same gtin taken)) [
         | inl e ↦
             let none : new gtin ≡ None = becomes gtin ∙ ap (λ v. cond v None (old gtin)) (turn ∙ e) in
-            ap (λ v. filter (λ gtin. is_some (old gtin)) (cond (not v) (gtin ∷ filter (λ gtin. not (same gtin taken)) gtins) (filter (λ gtin. not (same gtin taken)) gtins))) e
-            ∙ ih ∙ sym (ap (λ v. cond (is_some v) (gtin ∷ filter (λ gtin. is_some (new gtin)) gtins) (filter (λ gtin. is_some (new gtin)) gtins)) none)
+            ap (λ v. filter (λ gtin. is_some (old gtin)) (cond (not v) (gtin ∷ filter (λ gtin. not (same gtin taken)) gtins)
+            (filter (λ gtin. not (same gtin taken)) gtins))) e
+            ∙ ih
+            ∙ sym (ap (λ v. cond (is_some v) (gtin ∷ filter (λ gtin. is_some (new gtin)) gtins)
+            (filter (λ gtin. is_some (new gtin)) gtins)) none)
         | inr e ↦
             let some : old gtin ≡ new gtin = sym (becomes gtin ∙ ap (λ v. cond v None (old gtin)) (turn ∙ e)) in
-            ap (λ v. filter (λ gtin. is_some (old gtin)) (cond (not v) (gtin ∷ filter (λ gtin. not (same gtin taken)) gtins) (filter (λ gtin. not (same gtin taken)) gtins))) e
+            ap (λ v. filter (λ gtin. is_some (old gtin)) (cond (not v) (gtin ∷ filter (λ gtin. not (same gtin taken)) gtins)
+            (filter (λ gtin. not (same gtin taken)) gtins))) e
             ∙ ap₂ (λ v rest. cond (is_some v) (gtin ∷ rest) rest) some ih
       ]
 
   -- the totals that are left are those before
-  pub still_told : (lines : List ReceiptLine) → ((item : List ℕ) (sum : Total) → old item ≡ Some sum → total_from None item lines ≡ Some sum) → (item : List ℕ) (sum : Total) → new item ≡ Some sum → total_from None item lines ≡ Some sum
+  pub still_told : (lines : List ReceiptLine)
+      → ((item : List ℕ) (sum : Total) → old item ≡ Some sum → total_from None item lines ≡ Some sum)
+      → (item : List ℕ) (sum : Total)
+      → new item ≡ Some sum
+      → total_from None item lines ≡ Some sum
   still_told lines told item sum h =
       elim (decide (same taken item)) [
         | inl e ↦ let none : None ≡ Some sum = sym (becomes item ∙ ap (λ v. cond v None (old item)) e) ∙ h in cc
@@ -86,9 +113,15 @@ module _ (old new : List ℕ → Option Total) (taken : List ℕ) (becomes : (it
       ]
 
 -- a line, whose item is taken
-module _ (lines : List ReceiptLine) (i : ℕ) (line : ReceiptLine) (inside : i < length lines) (at : line ≡ get_or lines i line) (old new : List ℕ → Option Total) (becomes : (item : List ℕ) → new item ≡ cond (same line.gtin item) None (old item)) where
-  left_from : left old (drop i lines) ≡ cond (is_some (old line.gtin)) (line.gtin ∷ left new (drop (i + 1) lines)) (left new (drop (i + 1) lines))
-  left_from = ap (left old) (rest_from lines i line inside at) ∙ ap (λ rest. cond (is_some (old line.gtin)) (line.gtin ∷ rest) rest) (left_without old new line.gtin becomes (gtins (drop (i + 1) lines)))
+module _ (lines : List ReceiptLine) (i : ℕ) (line : ReceiptLine) (inside : i < length lines)
+    (at : line ≡ get_or lines i line) (old new : List ℕ → Option Total)
+    (becomes : (item : List ℕ) → new item ≡ cond (same line.gtin item) None (old item)) where
+  left_from : left old (drop i lines)
+      ≡ cond (is_some (old line.gtin)) (line.gtin ∷ left new (drop (i + 1) lines)) (left new (drop (i + 1) lines))
+  left_from =
+      ap (left old) (rest_from lines i line inside at)
+      ∙ ap (λ rest. cond (is_some (old line.gtin)) (line.gtin ∷ rest) rest)
+      (left_without old new line.gtin becomes (gtins (drop (i + 1) lines)))
 
   pub left_taken : (sum : Total) → old line.gtin ≡ Some sum → left old (drop i lines) ≡ line.gtin ∷ left new (drop (i + 1) lines)
   left_taken sum e = left_from ∙ ap (λ v. cond (is_some v) (line.gtin ∷ left new (drop (i + 1) lines)) (left new (drop (i + 1) lines))) e

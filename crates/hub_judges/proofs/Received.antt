@@ -1,5 +1,6 @@
 -- Units judged from their pallets are judged as from the state that has them.
-use Rattle.std.proofs.Common.{◌≡◌, ℕ, ◌+◌, Bool, true, false, not, inl, inr, List, [], ◌∷◌, ◌++◌, length, map, find, Option, Some, None, refl, sym, ◌∙◌, ap, ap₂, append_assoc, arith}
+use Rattle.std.proofs.Common.{◌≡◌, ℕ, ◌+◌, Bool, true, false, not, inl, inr, List, [], ◌∷◌, ◌++◌, length, map, find, Option}
+use Rattle.std.proofs.Common.{Some, None, refl, sym, ◌∙◌, ap, ap₂, append_assoc, arith}
 use Rattle.std.proofs.lemmas.Bool.{or_parts}
 use Rattle.edi_base.specs.Seen.{is_among, has_twice}
 use Rattle.edi_goods.specs.declared.receipt.Receipt.{Receipt}
@@ -27,7 +28,10 @@ use Rattle.hub_rules.specs.declared.verdict.Verdict.TheVariants.{Accept, Refuse}
 use Rattle.hub_judges.specs.FromFacts.{received, receipts_from}
 
 -- a row that is set is not found, and neither is the one in whose place it is
-find_replace_out : {X : Type 0} (p at : X → Bool) (r : X) (xs : List X) → p r ≡ false → ((y : X) → at y ≡ true → p y ≡ false) → find p (replace at r xs) ≡ find p xs
+find_replace_out : {X : Type 0} (p at : X → Bool) (r : X) (xs : List X)
+    → p r ≡ false
+    → ((y : X) → at y ≡ true → p y ≡ false)
+    → find p (replace at r xs) ≡ find p xs
 find_replace_out p at r [] out all = refl
 find_replace_out p at r (y ∷ ys) out all =
     let ih = find_replace_out p at r ys out all in
@@ -40,7 +44,8 @@ find_replace_out p at r (y ∷ ys) out all =
 abbrev pallets_of : Tables → List ReceiptUnit → List (Option PalletRow)
 pallets_of state units = map (λ unit. pallet_of state unit.sscc) units
 
-receipts_keep : (sscc : List ℕ) (lines : List ReceiptLine) (gtins : List (List ℕ)) (state : Tables) → (apply_all (map (new_receipt sscc lines) gtins) state).pallets ≡ state.pallets
+receipts_keep : (sscc : List ℕ) (lines : List ReceiptLine) (gtins : List (List ℕ)) (state : Tables)
+    → (apply_all (map (new_receipt sscc lines) gtins) state).pallets ≡ state.pallets
 receipts_keep sscc lines [] state = refl
 receipts_keep sscc lines (gtin ∷ gtins) state = receipts_keep sscc lines gtins (apply (new_receipt sscc lines gtin) state)
 
@@ -49,11 +54,16 @@ module _ (unit : ReceiptUnit) (state : Tables) (row : PalletRow) (found : pallet
   pallet_kept : (sscc : List ℕ) → same unit.sscc sscc ≡ false → pallet_of (apply_all (received row unit) state) sscc ≡ pallet_of state sscc
   pallet_kept sscc apart =
       let set : PalletRow = record row { received = arrival_number Received } in
-      let which : row.sscc ≡ unit.sscc = same_is row.sscc unit.sscc (all_found (λ _. Unit {0}) (λ pallet. same pallet.sscc unit.sscc) state.pallets row (all_always (λ _. Unit {0}) (λ _. tt) state.pallets) found).1 in
+      let which : row.sscc ≡ unit.sscc =
+      same_is row.sscc unit.sscc (all_found (λ _. Unit {0}) (λ pallet. same pallet.sscc unit.sscc) state.pallets row
+      (all_always (λ _. Unit {0}) (λ _. tt) state.pallets) found).1 in
       ap (find (λ pallet. same pallet.sscc sscc)) (receipts_keep unit.sscc unit.lines (gtins unit.lines) (apply (SetPallet set) state))
-      ∙ find_replace_out (λ pallet. same pallet.sscc sscc) (same_pallet set) set state.pallets (ap (λ v. same v sscc) which ∙ apart) (λ y at. ap (λ v. same v sscc) (same_is y.sscc row.sscc at ∙ which) ∙ apart)
+      ∙ find_replace_out (λ pallet. same pallet.sscc sscc) (same_pallet set) set state.pallets
+      (ap (λ v. same v sscc) which ∙ apart) (λ y at. ap (λ v. same v sscc) (same_is y.sscc row.sscc at ∙ which) ∙ apart)
 
-  pallets_kept : (units : List ReceiptUnit) → is_among unit.sscc (map (λ unit. unit.sscc) units) ≡ false → pallets_of (apply_all (received row unit) state) units ≡ pallets_of state units
+  pallets_kept : (units : List ReceiptUnit)
+      → is_among unit.sscc (map (λ unit. unit.sscc) units) ≡ false
+      → pallets_of (apply_all (received row unit) state) units ≡ pallets_of state units
   pallets_kept [] apart = refl
   pallets_kept (other ∷ units) apart =
       let parts = or_parts (same unit.sscc other.sscc) (is_among unit.sscc (map (λ unit. unit.sscc) units)) apart in
@@ -62,24 +72,34 @@ module _ (unit : ReceiptUnit) (state : Tables) (row : PalletRow) (found : pallet
 -- the first unit, and then the rest as it is judged
 module _ (unit : ReceiptUnit) (rest : List ReceiptUnit) (state : Tables) (apart : is_among unit.sscc (map (λ unit. unit.sscc) rest) ≡ false)
     (ih : (st : Tables) → in_order judge_received rest st ≡ receipts_from rest (pallets_of st rest)) where
-  through : (row : PalletRow) (was_received : Bool) → pallet_of state unit.sscc ≡ Some row →
-      goes_on (refuse_if was_received PalletReceived (Accept (received row unit))) (in_order judge_received rest) state ≡ refuse_if was_received PalletReceived (joined (received row unit) (receipts_from rest (pallets_of state rest)))
+  through : (row : PalletRow) (was_received : Bool) → pallet_of state unit.sscc ≡ Some row
+      → goes_on (refuse_if was_received PalletReceived (Accept (received row unit))) (in_order judge_received rest) state
+      ≡ refuse_if was_received PalletReceived (joined (received row unit) (receipts_from rest (pallets_of state rest)))
   through row true found = refl
-  through row false found = ap (joined (received row unit)) (ih (apply_all (received row unit) state) ∙ ap (receipts_from rest) (pallets_kept unit state row found rest apart))
+  through row false found =
+      ap (joined (received row unit))
+      (ih (apply_all (received row unit) state) ∙ ap (receipts_from rest) (pallets_kept unit state row found rest apart))
 
-  one : (pallet : Option PalletRow) → pallet_of state unit.sscc ≡ pallet →
-      goes_on (given pallet NoPallet (λ row. refuse_if (not (is_announced row)) PalletReceived (Accept (received row unit)))) (in_order judge_received rest) state
+  one : (pallet : Option PalletRow) → pallet_of state unit.sscc ≡ pallet
+      → goes_on
+      (given pallet NoPallet (λ row. refuse_if (not (is_announced row)) PalletReceived (Accept (received row unit))))
+      (in_order judge_received rest) state
       ≡ receipts_from (unit ∷ rest) (pallet ∷ pallets_of state rest)
   one None found = refl
   one (Some row) found = through row (not (is_announced row)) found
 
-units_alike : (units : List ReceiptUnit) (state : Tables) → has_twice (map (λ unit. unit.sscc) units) ≡ false → in_order judge_received units state ≡ receipts_from units (pallets_of state units)
+units_alike : (units : List ReceiptUnit) (state : Tables)
+    → has_twice (map (λ unit. unit.sscc) units) ≡ false
+    → in_order judge_received units state ≡ receipts_from units (pallets_of state units)
 units_alike [] state apart = refl
 units_alike (unit ∷ rest) state apart =
     let parts = or_parts (is_among unit.sscc (map (λ unit. unit.sscc) rest)) (has_twice (map (λ unit. unit.sscc) rest)) apart in
     one unit rest state parts.0 (λ st. units_alike rest st parts.1) (pallet_of state unit.sscc) refl
 
-pub received_alike : (units : List ReceiptUnit) (state : Tables) (pallets : List (Option PalletRow)) → map (λ unit. pallet_of state unit.sscc) units ≡ pallets → has_twice (map (λ unit. unit.sscc) units) ≡ false → in_order judge_received units state ≡ receipts_from units pallets
+pub received_alike : (units : List ReceiptUnit) (state : Tables) (pallets : List (Option PalletRow))
+    → map (λ unit. pallet_of state unit.sscc) units ≡ pallets
+    → has_twice (map (λ unit. unit.sscc) units) ≡ false
+    → in_order judge_received units state ≡ receipts_from units pallets
 received_alike units state pallets told apart = units_alike units state apart ∙ ap (receipts_from units) told
 
 joined_joined : (first second : List Change) (rest : Verdict) → joined first (joined second rest) ≡ joined (first ++ second) rest
@@ -87,13 +107,21 @@ joined_joined first second (Refuse code) = refl
 joined_joined first second (Accept rest) = ap Accept (sym (append_assoc first second rest))
 
 -- what comes of a RECADV that is new, after a first change, where the mailbox has a number left
-pub new_receipt_alike : (first : Change) (supplier : List ℕ) (incoming : IncomingMessage) (body : List ℕ) (receipt : Receipt) (state : Tables) (mails : ℕ) (pallets : List (Option PalletRow))
-    → is_full mails ≡ false → length state.mail ≡ mails → map (λ unit. pallet_of state unit.sscc) receipt.units ≡ pallets → has_twice (map (λ unit. unit.sscc) receipt.units) ≡ false
-    → joined (first ∷ []) (judge_new_receipt supplier incoming body receipt state) ≡ joined (first ∷ mail_entry supplier (mails + 1) incoming kinds.Receipt receipt.number body ∷ []) (receipts_from receipt.units pallets)
+pub new_receipt_alike :
+    (first : Change) (supplier : List ℕ) (incoming : IncomingMessage) (body : List ℕ) (receipt : Receipt) (state : Tables)
+    (mails : ℕ) (pallets : List (Option PalletRow))
+    → is_full mails ≡ false
+    → length state.mail ≡ mails
+    → map (λ unit. pallet_of state unit.sscc) receipt.units ≡ pallets
+    → has_twice (map (λ unit. unit.sscc) receipt.units) ≡ false
+    → joined (first ∷ []) (judge_new_receipt supplier incoming body receipt state)
+    ≡ joined (first ∷ mail_entry supplier (mails + 1) incoming kinds.Receipt receipt.number body ∷ [])
+    (receipts_from receipt.units pallets)
 new_receipt_alike first supplier incoming body receipt state mails pallets room counted told apart =
     let entry : ℕ → Change = λ n. mail_entry supplier (n + 1) incoming kinds.Receipt receipt.number body in
     let behind : ℕ → Verdict = λ n. joined (entry n ∷ []) (in_order judge_received receipt.units (apply (entry n) state)) in
     ap (λ n. joined (first ∷ []) (refuse_if (is_full n) MailboxFull (behind n))) counted
     ∙ ap (λ full. joined (first ∷ []) (refuse_if full MailboxFull (behind mails))) room
-    ∙ ap (λ rest. joined (first ∷ []) (joined (entry mails ∷ []) rest)) (received_alike receipt.units (apply (entry mails) state) pallets told apart)
+    ∙ ap (λ rest. joined (first ∷ []) (joined (entry mails ∷ []) rest))
+    (received_alike receipt.units (apply (entry mails) state) pallets told apart)
     ∙ joined_joined (first ∷ []) (entry mails ∷ []) (receipts_from receipt.units pallets)

@@ -24,18 +24,31 @@ module _ (suppliers : List SupplierRow) (s : SupplierRow) (t : Tables) (sound : 
   nothing_done told = record { told = refl; apart = unchanged }
 
   -- one of two acts, by the same test
-  pub either : (test : Bool) (one other own_one own_other : Told × Tables) → Alike suppliers s t one own_one → Alike suppliers s t other own_other → Alike suppliers s t (cond test one other) (cond test own_one own_other)
+  pub either : (test : Bool) (one other own_one own_other : Told × Tables)
+      → Alike suppliers s t one own_one
+      → Alike suppliers s t other own_other
+      → Alike suppliers s t (cond test one other) (cond test own_one own_other)
   either true one other own_one own_other first second = first
   either false one other own_one own_other first second = second
 
-module _ (suppliers : List SupplierRow) (free : PrefixFree (company_prefixes suppliers)) (s : SupplierRow) (known : supplier_row suppliers s.gln ≡ Some s) (t : Tables) (sound : Sound suppliers t) where
+module _ (suppliers : List SupplierRow) (free : PrefixFree (company_prefixes suppliers)) (s : SupplierRow)
+    (known : supplier_row suppliers s.gln ≡ Some s) (t : Tables) (sound : Sound suppliers t) where
   -- one verdict, in the tables and in the supplier's rows
-  pub same_verdict : (shared own : Verdict) → shared ≡ own → ((changes : List Change) → own ≡ Accept changes → Keeps s (view s.gln t) changes) → Alike suppliers s t (act shared t) (act own (view s.gln t))
-  same_verdict (Refuse code) own e keeps = subst (λ v. Alike suppliers s t (act (Refuse code) t) (act v (view s.gln t))) e (nothing_done suppliers s t sound (told (Refuse code)))
-  same_verdict (Accept changes) own e keeps = subst (λ v. Alike suppliers s t (act (Accept changes) t) (act v (view s.gln t))) e (record { told = refl; apart = after_changes suppliers free s known t sound changes (keeps changes (sym e)) })
+  pub same_verdict : (shared own : Verdict)
+      → shared ≡ own
+      → ((changes : List Change) → own ≡ Accept changes → Keeps s (view s.gln t) changes)
+      → Alike suppliers s t (act shared t) (act own (view s.gln t))
+  same_verdict (Refuse code) own e keeps =
+      subst (λ v. Alike suppliers s t (act (Refuse code) t) (act v (view s.gln t))) e
+      (nothing_done suppliers s t sound (told (Refuse code)))
+  same_verdict (Accept changes) own e keeps =
+      subst (λ v. Alike suppliers s t (act (Accept changes) t) (act v (view s.gln t))) e
+      (record { told = refl; apart = after_changes suppliers free s known t sound changes (keeps changes (sym e)) })
 
   -- what is read, and one verdict on it
-  pub same_reading : {X : Type 0} (read : Result X MessageFault) (shared own : X → Verdict) → ((x : X) → shared x ≡ own x) → ((x : X) → read ≡ Ok x → (changes : List Change) → own x ≡ Accept changes → Keeps s (view s.gln t) changes) →
-      Alike suppliers s t (read_act read shared t) (read_act read own (view s.gln t))
+  pub same_reading : {X : Type 0} (read : Result X MessageFault) (shared own : X → Verdict)
+      → ((x : X) → shared x ≡ own x)
+      → ((x : X) → read ≡ Ok x → (changes : List Change) → own x ≡ Accept changes → Keeps s (view s.gln t) changes)
+      → Alike suppliers s t (read_act read shared t) (read_act read own (view s.gln t))
   same_reading (Err fault) shared own agree keeps = nothing_done suppliers s t sound (Refused (message_faults.code_text fault))
   same_reading (Ok x) shared own agree keeps = same_verdict (shared x) (own x) (agree x) (keeps x refl)

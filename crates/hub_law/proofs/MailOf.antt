@@ -15,7 +15,9 @@ use Rattle.hub_law.specs.Messages.{body_of}
 entry_alike : (made entry : MailRow) → AddMail made ≡ AddMail entry → made ≡ entry
 entry_alike made entry h = cc
 
-pub entry_of_message : (hub supplier document : List ℕ) (state : Tables) (message : RawMessage) (incoming : IncomingMessage) (kind : MailKind) (entry : MailRow) → new_mail supplier state incoming kind document (body_of message) ≡ AddMail entry
+pub entry_of_message : (hub supplier document : List ℕ) (state : Tables) (message : RawMessage) (incoming : IncomingMessage)
+    (kind : MailKind) (entry : MailRow)
+    → new_mail supplier state incoming kind document (body_of message) ≡ AddMail entry
     → entry_text hub entry ≡ messages.mail_text hub supplier incoming.moment incoming.decimal (next_mail state) message
 unfolding entry_text
 entry_of_message hub supplier document state message incoming kind entry h = sym (ap (entry_text hub) (entry_alike _ entry h))

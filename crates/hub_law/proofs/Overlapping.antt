@@ -21,14 +21,17 @@ pub same_items : items long_supplier.gln overlapping both_announce ≡ items lon
 unfolding interchange_in interchange_of fault_of contents_of is_framed is_row_of_messages is_outside_set order_of despatch_of digits
 same_items = refl
 
-pub both : replies_to long_supplier.gln both_announce (shared_run overlapping empty both_announce).0 ≡ advice_reply true (codes "refused" ∷ codes "B12" ∷ []) ∷ []
+pub both : replies_to long_supplier.gln both_announce (shared_run overlapping empty both_announce).0
+    ≡ advice_reply true (codes "refused" ∷ codes "B12" ∷ []) ∷ []
 unfolding interchange_in interchange_of fault_of contents_of is_framed is_row_of_messages is_outside_set order_of despatch_of digits
 both = refl
 
-pub one : replies_to long_supplier.gln one_announces (shared_run overlapping empty one_announces).0 ≡ advice_reply false (codes "accepted" ∷ []) ∷ []
+pub one : replies_to long_supplier.gln one_announces (shared_run overlapping empty one_announces).0
+    ≡ advice_reply false (codes "accepted" ∷ []) ∷ []
 unfolding interchange_in interchange_of fault_of contents_of is_framed is_row_of_messages is_outside_set order_of despatch_of digits
 one = refl
 
-pub alone : (fold (parties_of overlapping) long_supplier (items long_supplier.gln overlapping both_announce) empty).0 ≡ advice_reply false (codes "accepted" ∷ []) ∷ []
+pub alone : (fold (parties_of overlapping) long_supplier (items long_supplier.gln overlapping both_announce) empty).0
+    ≡ advice_reply false (codes "accepted" ∷ []) ∷ []
 unfolding interchange_in interchange_of fault_of contents_of is_framed is_row_of_messages is_outside_set order_of despatch_of digits
 alone = refl

@@ -1,9 +1,10 @@
 -- What was accepted in a run and comes again later in it.
-use Rattle.std.proofs.Common.{◌≡◌, ℕ, zero, suc, ◌+◌, ◌<◌, ◌≤◌, min, nat_lt, Bool, true, false, ◌&&◌, if◌then◌else◌, List, [], ◌∷◌, ◌++◌, length, map, slice_get, take, Option, Some, None, refl, sym, ◌∙◌, ap, subst, arith}
+use Rattle.std.proofs.Common.{◌≡◌, ℕ, zero, suc, ◌+◌, ◌<◌, ◌≤◌, min, nat_lt, Bool, true, false, ◌&&◌, if◌then◌else◌, List}
+use Rattle.std.proofs.Common.{[], ◌∷◌, ◌++◌, length, map, slice_get, take, Option, Some, None, refl, sym, ◌∙◌, ap, subst}
+use Rattle.std.proofs.Common.{arith}
 use Rattle.std.proofs.lemmas.Bool.Decides.{nat_tests}
 use Rattle.std.proofs.lemmas.List.{length-take}
 use Rattle.edi_envelope.specs.declared.interchange.RawMessage.{RawMessage}
-use Rattle.edi_envelope.specs.declared.interchange.Interchange.{Interchange}
 use Rattle.gs1_ids.specs.Overlap.{PrefixFree}
 use Rattle.hub_parties.specs.Rows.{RegisterRows, parties_of, company_prefixes, supplier_row, row_of, role_by, role_of}
 use Rattle.hub_parties.specs.declared.role.Role.TheVariants.{Retailer, Supplier}
@@ -18,16 +19,18 @@ use Rattle.hub_law.specs.Again.{MessageAt, Reaches, SameReference, tables_before
 use Rattle.hub_law.specs.Machine.{Inputs, shared_step, shared_run, step_as}
 use Rattle.hub_law.specs.Mark.{Mark, Whole, StoppedEmpty, StoppedBare, StoppedAfter, first_done}
 use Rattle.hub_law.specs.Messages.{incoming, messages_at, deliver_suppliers, cancel}
+use Rattle.hub_law.specs.Opening.{Opened}
 use Rattle.hub_law.specs.Remembered.{StaysRemembered}
 use Rattle.hub_law.specs.Replies.{cancel_reply}
-use Rattle.hub_law.specs.Requests.{deliver_named, retailer_request}
-use Rattle.hub_law.specs.Stops.{upload_by, upload_of, act_by, act_of}
+use Rattle.hub_law.specs.Requests.{deliver_named, from_supplier, from_retailer, retailer_request}
+use Rattle.hub_law.specs.Stops.{Upload, upload_from, upload_by, upload_of}
 use Rattle.hub_law.specs.Told.{Told, Accepted, Repeated, Act, in_row}
 use Rattle.hub_law.specs.declared.reply.Reply.{Reply}
 use Rattle.hub_law.specs.declared.request.Input.{Input}
+use Rattle.hub_law.specs.declared.request.Request.{Request}
 use Rattle.hub_law.specs.declared.request.Request.TheVariants as requests
 use Rattle.hub_law.proofs.Acts.{suppliers_act}
-use Rattle.hub_law.proofs.Cutting.{whole_upload, behind_some}
+use Rattle.hub_law.proofs.Cutting.{well_opened, whole_upload, behind_some}
 use Rattle.hub_law.proofs.Repeated.{named_repeated, suppliers_repeated, cancellation_repeated}
 use Rattle.hub_law.proofs.Retailers.{message_sound}
 use Rattle.hub_law.proofs.Runs.{run_sound}
@@ -36,19 +39,25 @@ use Rattle.hub_law.proofs.Steps.{gln_of}
 
 -- Acts in a row, and what is told of one at a place.
 module _ {X : Type 0} (step : X → Act) where
-  told_there : (xs : List X) (place : ℕ) (x : X) (t : Tables) → slice_get xs place ≡ Some x → slice_get (in_row step xs t).0 place ≡ Some (step x (in_row step (take place xs) t).1).0
+  told_there : (xs : List X) (place : ℕ) (x : X) (t : Tables)
+      → slice_get xs place ≡ Some x
+      → slice_get (in_row step xs t).0 place ≡ Some (step x (in_row step (take place xs) t).1).0
   told_there [] zero x t h = cc
   told_there [] (suc place) x t h = cc
   told_there (y ∷ xs) zero x t h = let same : y ≡ x = cc in ap (λ x. Some (step x t).0) same
   told_there (y ∷ xs) (suc place) x t h = told_there xs place x (step y t).1 h
 
-  behind_it : (xs : List X) (place : ℕ) (x : X) (t : Tables) → slice_get xs place ≡ Some x → (in_row step (take (suc place) xs) t).1 ≡ (step x (in_row step (take place xs) t).1).1
+  behind_it : (xs : List X) (place : ℕ) (x : X) (t : Tables)
+      → slice_get xs place ≡ Some x
+      → (in_row step (take (suc place) xs) t).1 ≡ (step x (in_row step (take place xs) t).1).1
   behind_it [] zero x t h = cc
   behind_it [] (suc place) x t h = cc
   behind_it (y ∷ xs) zero x t h = let same : y ≡ x = cc in ap (λ x. (step x t).1) same
   behind_it (y ∷ xs) (suc place) x t h = behind_it xs place x (step y t).1 h
 
-  next_there : (xs : List X) (place : ℕ) (x : X) (t : Tables) → slice_get xs place ≡ Some x → (in_row step (take (place + 1) xs) t).1 ≡ (step x (in_row step (take place xs) t).1).1
+  next_there : (xs : List X) (place : ℕ) (x : X) (t : Tables)
+      → slice_get xs place ≡ Some x
+      → (in_row step (take (place + 1) xs) t).1 ≡ (step x (in_row step (take place xs) t).1).1
   next_there xs place x t h = ap (λ n. (in_row step (take n xs) t).1) (one_more place) ∙ behind_it xs place x t h
     where
       one_more : (n : ℕ) → n + 1 ≡ suc n
@@ -56,9 +65,12 @@ module _ {X : Type 0} (step : X → Act) where
 
   -- what more acts leave still remembers
   module _ (stays : (xs : List X) (t : Tables) → StaysRemembered t (in_row step xs t).1) where
-    more_stay : (xs : List X) (few many : ℕ) (t : Tables) → few ≤ many → StaysRemembered (in_row step (take few xs) t).1 (in_row step (take many xs) t).1
+    more_stay : (xs : List X) (few many : ℕ) (t : Tables)
+        → few ≤ many
+        → StaysRemembered (in_row step (take few xs) t).1 (in_row step (take many xs) t).1
     more_stay xs zero many t less = stays (take many xs) t
-    more_stay [] (suc few) many t less = λ row there. subst (λ (rest : List X). Has (in_row step rest t).1.remembered row) (sym (take_none many)) there
+    more_stay [] (suc few) many t less =
+        λ row there. subst (λ (rest : List X). Has (in_row step rest t).1.remembered row) (sym (take_none many)) there
       where
         take_none : (n : ℕ) → ◌≡◌ {A = List X} (take n []) []
         take_none zero = refl
@@ -66,7 +78,11 @@ module _ {X : Type 0} (step : X → Act) where
     more_stay (x ∷ xs) (suc few) zero t less = absurd (omega arith)
     more_stay (x ∷ xs) (suc few) (suc many) t less = more_stay xs few many (step x t).1 (omega arith)
 
-  row_sound : (P : Tables → Type 0) → ((x : X) (t : Tables) → P t → P (step x t).1) → (xs : List X) (t : Tables) → P t → P (in_row step xs t).1
+  row_sound : (P : Tables → Type 0)
+      → ((x : X) (t : Tables) → P t → P (step x t).1)
+      → (xs : List X) (t : Tables)
+      → P t
+      → P (in_row step xs t).1
   row_sound P f [] t p = p
   row_sound P f (x ∷ xs) t p = row_sound P f xs (step x t).1 (f x t p)
 
@@ -81,13 +97,16 @@ within (y ∷ xs) zero x h = omega arith
 within (y ∷ xs) (suc place) x h = omega (arith, within xs place x h)
 
 -- what stands at a place stands there after a map
-at_place : {X Y : Type 0} (f : X → Y) (xs : List X) (place : ℕ) (x : X) → slice_get xs place ≡ Some x → slice_get (map f xs) place ≡ Some (f x)
+at_place : {X Y : Type 0} (f : X → Y) (xs : List X) (place : ℕ) (x : X)
+    → slice_get xs place ≡ Some x
+    → slice_get (map f xs) place ≡ Some (f x)
 at_place f [] zero x h = cc
 at_place f [] (suc place) x h = cc
 at_place f (y ∷ xs) zero x h = let same : y ≡ x = cc in ap (λ x. Some (f x)) same
 at_place f (y ∷ xs) (suc place) x h = at_place f xs place x h
 
-run_of_both : (register : RegisterRows) (t : Tables) (before later : Inputs) → (shared_run register t (before ++ later)).1 ≡ (shared_run register (shared_run register t before).1 later).1
+run_of_both : (register : RegisterRows) (t : Tables) (before later : Inputs)
+    → (shared_run register t (before ++ later)).1 ≡ (shared_run register (shared_run register t before).1 later).1
 run_of_both register t [] later = refl
 run_of_both register t ((input, mark) ∷ before) later = run_of_both register (shared_step register t input mark).1 before later
 
@@ -96,44 +115,93 @@ abbrev act_at : RegisterRows → Option SupplierRow → RawMessage × IncomingMe
 act_at register (Some s) = deliver_suppliers (view s.gln) (parties_of register) s
 act_at register None = deliver_named register
 
-module _ (register : RegisterRows) where
-  act_by_row : (input : Input) (upload : Interchange) (o : Option SupplierRow) → upload_by register (role_by register o input.caller input.key) o input.request ≡ Some upload → act_by register (role_by register o input.caller input.key) o ≡ act_at register o
-  act_by_row input upload (Some s) =
-      elim (same s.key input.key) as (λ v. upload_by register (if v then Some Supplier else None) (Some s) input.request ≡ Some upload → act_by register (if v then Some Supplier else None) (Some s) ≡ act_at register (Some s)) [ true ↦ λ h. refl | false ↦ λ h. cc ]
-  act_by_row input upload None =
-      elim (same register.retailer input.caller && same register.retailer_key input.key) as (λ v. upload_by register (if v then Some Retailer else None) None input.request ≡ Some upload → act_by register (if v then Some Retailer else None) None ≡ act_at register None) [ true ↦ λ h. refl | false ↦ λ h. cc ]
+act_kept : (opening : List ℕ → Opened) (act : RawMessage × IncomingMessage → Act) (request : Request) (upload : Upload)
+    → upload_from opening act request ≡ Some upload
+    → upload.act ≡ act
+act_kept opening act (requests.Upload bytes) upload h = (well_opened act (opening bytes) upload h).1
+act_kept opening act (requests.MailAfter number) upload h = cc
+act_kept opening act (requests.MailItem number) upload h = cc
+act_kept opening act (requests.MailTaken number) upload h = cc
+act_kept opening act requests.Status upload h = cc
+act_kept opening act (requests.StatusOf gln) upload h = cc
+act_kept opening act (requests.Cancel c) upload h = cc
 
-  act_is : (input : Input) (upload : Interchange) → upload_of register input ≡ Some upload → act_of register input ≡ act_at register (row_of register input.caller)
+module _ (register : RegisterRows) where
+  act_by_row : (input : Input) (upload : Upload) (o : Option SupplierRow)
+      → upload_by register (role_by register o input.caller input.key) o input.request ≡ Some upload
+      → upload.act ≡ act_at register o
+  act_by_row input upload (Some s) =
+      elim (same s.key input.key) as (λ v. upload_by register (if v then Some Supplier else None) (Some s) input.request ≡ Some upload
+      → upload.act ≡ act_at register (Some s)) [
+        | true ↦
+            λ h. act_kept (from_supplier (parties_of register) s) (deliver_suppliers (view s.gln) (parties_of register) s)
+            input.request upload h
+        | false ↦ λ h. cc
+      ]
+  act_by_row input upload None =
+      elim (same register.retailer input.caller && same register.retailer_key input.key) as (λ v. upload_by register (if v
+      then Some Retailer
+      else None) None input.request
+      ≡ Some upload
+      → upload.act ≡ act_at register None) [
+        | true ↦ λ h. act_kept (from_retailer (parties_of register)) (deliver_named register) input.request upload h
+        | false ↦ λ h. cc
+      ]
+
+  act_is : (input : Input) (upload : Upload)
+      → upload_of register input ≡ Some upload
+      → upload.act ≡ act_at register (row_of register input.caller)
   act_is input upload h = act_by_row input upload (row_of register input.caller) h
 
-  acts_stay : (o : Option SupplierRow) (sents : List (RawMessage × IncomingMessage)) (t : Tables) → StaysRemembered t (in_row (act_at register o) sents t).1
+  acts_stay : (o : Option SupplierRow) (sents : List (RawMessage × IncomingMessage)) (t : Tables)
+      → StaysRemembered t (in_row (act_at register o) sents t).1
   acts_stay (Some s) sents t = all_suppliers_stay (view s.gln) (parties_of register) s sents t
   acts_stay None sents t = all_retailers_stay register sents t
 
   module _ (free : PrefixFree (company_prefixes register.suppliers)) where
-    act_sound : (gln : List ℕ) (o : Option SupplierRow) → row_of register gln ≡ o → (sent : RawMessage × IncomingMessage) (t : Tables) → Sound register.suppliers t → Sound register.suppliers (act_at register o sent t).1
+    act_sound : (gln : List ℕ) (o : Option SupplierRow)
+        → row_of register gln ≡ o
+        → (sent : RawMessage × IncomingMessage) (t : Tables)
+        → Sound register.suppliers t
+        → Sound register.suppliers (act_at register o sent t).1
     act_sound gln (Some s) known sent t sound =
-        (suppliers_act register.suppliers free (parties_of register) s (ap (supplier_row register.suppliers) (gln_of register.suppliers gln s known) ∙ known) sent t sound).apart.sound
+        (suppliers_act register.suppliers free (parties_of register) s
+        (ap (supplier_row register.suppliers) (gln_of register.suppliers gln s known) ∙ known) sent t sound).apart.sound
     act_sound gln None known sent t sound = message_sound register free sent t sound
 
-    act_again : (o : Option SupplierRow) (message : RawMessage) (one other : IncomingMessage) (t u : Tables) → record one { moment = other.moment; decimal = other.decimal } ≡ other → (act_at register o (message, one) t).0 ≡ Accepted → StaysRemembered (act_at register o (message, one) t).1 u → Sound register.suppliers u → act_at register o (message, other) u ≡ (Repeated, u)
+    act_again : (o : Option SupplierRow) (message : RawMessage) (one other : IncomingMessage) (t u : Tables)
+        → record one { moment = other.moment; decimal = other.decimal } ≡ other
+        → (act_at register o (message, one) t).0 ≡ Accepted
+        → StaysRemembered (act_at register o (message, one) t).1 u
+        → Sound register.suppliers u
+        → act_at register o (message, other) u ≡ (Repeated, u)
     act_again o message one other t u same_again told stays sound =
         subst (λ (again : IncomingMessage). act_at register o (message, again) u ≡ (Repeated, u)) same_again (by_row o told stays)
       where
-        by_row : (o : Option SupplierRow) → (act_at register o (message, one) t).0 ≡ Accepted → StaysRemembered (act_at register o (message, one) t).1 u → act_at register o (message, record one { moment = other.moment; decimal = other.decimal }) u ≡ (Repeated, u)
-        by_row (Some s) told stays = suppliers_repeated register.suppliers (parties_of register) s (message, one) other.moment other.decimal t u told stays sound
+        by_row : (o : Option SupplierRow)
+            → (act_at register o (message, one) t).0 ≡ Accepted
+            → StaysRemembered (act_at register o (message, one) t).1 u
+            → act_at register o (message, record one { moment = other.moment; decimal = other.decimal }) u ≡ (Repeated, u)
+        by_row (Some s) told stays =
+            suppliers_repeated register.suppliers (parties_of register) s (message, one) other.moment other.decimal t u told
+            stays sound
         by_row None told stays = named_repeated register (message, one) other.moment other.decimal t u told stays sound
 
 -- the tables after an upload that reached a place still remember what was there after the message
-module _ (register : RegisterRows) (t : Tables) (input : Input) (upload : Interchange) (looked_at : upload_of register input ≡ Some upload) (place : ℕ) (stays : (sents : List (RawMessage × IncomingMessage)) (t : Tables) → StaysRemembered t (in_row (act_of register input) sents t).1) where
+module _ (register : RegisterRows) (t : Tables) (input : Input) (upload : Upload)
+    (looked_at : upload_of register input ≡ Some upload) (place : ℕ)
+    (stays : (sents : List (RawMessage × IncomingMessage)) (t : Tables) → StaysRemembered t (in_row (upload.act) sents t).1) where
   abbrev sents : List (RawMessage × IncomingMessage)
-  sents = messages_at input.moment upload
+  sents = messages_at input.moment upload.interchange
 
   -- what is reached of an upload that is stopped stands before the stop, which is before its end
-  reached_behind : (k : ℕ) (more : Bool) → nat_lt k (length upload.messages) ≡ more → place < length (first_done (StoppedAfter k) (if more then Some k else None) sents) → (place < k) × (k < length upload.messages)
+  reached_behind : (k : ℕ) (more : Bool)
+      → nat_lt k (length upload.interchange.messages) ≡ more
+      → place < length (first_done (StoppedAfter k) (if more then Some k else None) sents)
+      → (place < k) × (k < length upload.interchange.messages)
   reached_behind k true e reaches =
       let most : place < min k (length sents) = subst (λ n. place < n) (length-take k sents) reaches in
-      (below_min place k (length sents) most, is_less k (length upload.messages) e)
+      (below_min place k (length sents) most, is_less k (length upload.interchange.messages) e)
     where
       below_min : (a b c : ℕ) → a < min b c → a < b
       below_min a b c h = grind (arith, min)
@@ -142,20 +210,30 @@ module _ (register : RegisterRows) (t : Tables) (input : Input) (upload : Interc
       is_less a b h = grind (arith, nat_tests)
   reached_behind k false e reaches = absurd (omega (arith, reaches))
 
-  reached_stays : (mark : Mark) → place < length sents → Reaches mark input upload place → StaysRemembered (in_row (act_of register input) (take (place + 1) sents) t).1 (shared_step register t input mark).1
+  reached_stays : (mark : Mark)
+      → place < length sents
+      → Reaches mark input upload place
+      → StaysRemembered (in_row (upload.act) (take (place + 1) sents) t).1 (shared_step register t input mark).1
   reached_stays Whole there reaches =
-      subst (λ (after : Reply × Tables). StaysRemembered (in_row (act_of register input) (take (place + 1) sents) t).1 after.1) (sym (whole_upload register t input upload looked_at))
-      (subst (λ all. StaysRemembered (in_row (act_of register input) (take (place + 1) sents) t).1 (in_row (act_of register input) all t).1) (all_taken sents) (more_stay (act_of register input) stays sents (place + 1) (length sents) t (omega (arith, there))))
+      subst (λ (after : Reply × Tables). StaysRemembered (in_row (upload.act) (take (place + 1) sents) t).1 after.1)
+      (sym (whole_upload register t input upload looked_at))
+      (subst (λ all. StaysRemembered (in_row (upload.act) (take (place + 1) sents) t).1 (in_row (upload.act) all t).1)
+      (all_taken sents) (more_stay (upload.act) stays sents (place + 1) (length sents) t (omega (arith, there))))
   reached_stays StoppedEmpty there reaches = absurd (omega (arith, reaches))
   reached_stays StoppedBare there reaches = absurd (omega (arith, reaches))
   reached_stays (StoppedAfter k) there reaches =
-      let behind = reached_behind k (nat_lt k (length upload.messages)) refl reaches in
-      subst (λ (after : Reply × Tables). StaysRemembered (in_row (act_of register input) (take (place + 1) sents) t).1 after.1) (sym (behind_some register t input k upload looked_at behind.1))
-      (more_stay (act_of register input) stays sents (place + 1) k t (omega (arith, behind.0)))
+      let behind = reached_behind k (nat_lt k (length upload.interchange.messages)) refl reaches in
+      subst (λ (after : Reply × Tables). StaysRemembered (in_row (upload.act) (take (place + 1) sents) t).1 after.1)
+      (sym (behind_some register t input k upload looked_at behind.1))
+      (more_stay (upload.act) stays sents (place + 1) k t (omega (arith, behind.0)))
 
 -- The message that comes again.
-module _ (register : RegisterRows) (t : Tables) (before between : Inputs) (first second : Input) (mark : Mark) (place later : ℕ) (message : RawMessage) (one : MessageAt register first place message) (other : MessageAt register second later message)
-    (free : PrefixFree (company_prefixes register.suppliers)) (sound : Sound register.suppliers t) (alike : SameReference first second one.upload other.upload) (reaches : Reaches mark first one.upload place) (told : told_at register t before first one.upload place ≡ Some Accepted) where
+module _ (register : RegisterRows) (t : Tables) (before between : Inputs) (first second : Input) (mark : Mark)
+    (place later : ℕ) (message : RawMessage) (one : MessageAt register first place message)
+    (other : MessageAt register second later message)
+    (free : PrefixFree (company_prefixes register.suppliers)) (sound : Sound register.suppliers t)
+    (alike : SameReference first second one.upload other.upload) (reaches : Reaches mark first one.upload place)
+    (told : told_at register t before first one.upload place ≡ Some Accepted) where
   abbrev whose : Option SupplierRow
   whose = row_of register first.caller
 
@@ -174,71 +252,116 @@ module _ (register : RegisterRows) (t : Tables) (before between : Inputs) (first
   abbrev there : Tables
   there = tables_before register t whole_run second other.upload later
 
-  first_act : act_of register first ≡ act_at register whose
+  first_act : one.upload.act ≡ act_at register whose
   first_act = act_is register first one.upload one.looked_at
 
-  second_act : act_of register second ≡ act_at register whose
+  second_act : other.upload.act ≡ act_at register whose
   second_act = act_is register second other.upload other.looked_at ∙ ap (λ caller. act_at register (row_of register caller)) alike.caller
 
-  stays_of : (input : Input) → act_of register input ≡ act_at register whose → (sents : List (RawMessage × IncomingMessage)) (u : Tables) → StaysRemembered u (in_row (act_of register input) sents u).1
-  stays_of input is = subst (λ act. (sents : List (RawMessage × IncomingMessage)) (u : Tables) → StaysRemembered u (in_row act sents u).1) (sym is) (acts_stay register whose)
+  stays_of : (act : RawMessage × IncomingMessage → Act)
+      → act ≡ act_at register whose
+      → (sents : List (RawMessage × IncomingMessage)) (u : Tables)
+      → StaysRemembered u (in_row act sents u).1
+  stays_of act is =
+      subst (λ act. (sents : List (RawMessage × IncomingMessage)) (u : Tables) → StaysRemembered u (in_row act sents u).1)
+      (sym is) (acts_stay register whose)
 
   -- the message as it comes, and as it comes again
   abbrev sent : RawMessage × IncomingMessage
-  sent = (message, incoming first.moment one.upload message)
+  sent = (message, incoming first.moment one.upload.interchange message)
 
   abbrev again : RawMessage × IncomingMessage
-  again = (message, incoming second.moment other.upload message)
+  again = (message, incoming second.moment other.upload.interchange message)
 
-  first_there : slice_get (messages_at first.moment one.upload) place ≡ Some sent
-  first_there = at_place (λ message. (message, incoming first.moment one.upload message)) one.upload.messages place message one.there
+  first_there : slice_get (messages_at first.moment one.upload.interchange) place ≡ Some sent
+  first_there =
+      at_place (λ message. (message, incoming first.moment one.upload.interchange message)) one.upload.interchange.messages
+      place message one.there
 
-  second_there : slice_get (messages_at second.moment other.upload) later ≡ Some again
-  second_there = at_place (λ message. (message, incoming second.moment other.upload message)) other.upload.messages later message other.there
+  second_there : slice_get (messages_at second.moment other.upload.interchange) later ≡ Some again
+  second_there =
+      at_place (λ message. (message, incoming second.moment other.upload.interchange message))
+      other.upload.interchange.messages later message other.there
 
-  accepted : (act_of register first sent here).0 ≡ Accepted
-  accepted = let both : Some (act_of register first sent here).0 ≡ Some Accepted = sym (told_there (act_of register first) (messages_at first.moment one.upload) place sent at_first first_there) ∙ told in cc
+  accepted : (one.upload.act sent here).0 ≡ Accepted
+  accepted =
+      let both : Some (one.upload.act sent here).0 ≡ Some Accepted =
+      sym (told_there (one.upload.act) (messages_at first.moment one.upload.interchange) place sent at_first first_there)
+      ∙ told in
+      cc
 
-  remembers : StaysRemembered (act_of register first sent here).1 there
+  remembers : StaysRemembered (one.upload.act sent here).1 there
   remembers = λ row was.
-      let after : Has (in_row (act_of register first) (take (place + 1) (messages_at first.moment one.upload)) at_first).1.remembered row = subst (λ (u : Tables). Has u.remembered row) (sym (next_there (act_of register first) (messages_at first.moment one.upload) place sent at_first first_there)) was in
-      let stepped = reached_stays register at_first first one.upload one.looked_at place (stays_of first first_act) mark (within (messages_at first.moment one.upload) place sent first_there) reaches row after in
+      let after : Has
+      (in_row (one.upload.act) (take (place + 1) (messages_at first.moment one.upload.interchange)) at_first).1.remembered
+      row =
+      subst (λ (u : Tables). Has u.remembered row)
+      (sym (next_there (one.upload.act) (messages_at first.moment one.upload.interchange) place sent at_first first_there))
+      was in
+      let stepped = reached_stays register at_first first one.upload one.looked_at place
+      (stays_of one.upload.act first_act) mark
+      (within (messages_at first.moment one.upload.interchange) place sent first_there) reaches row after in
       let ran = run_stays register (shared_step register at_first first mark).1 between row stepped in
-      stays_of second second_act (take later (messages_at second.moment other.upload)) at_second row (subst (λ (u : Tables). Has u.remembered row) (sym (run_of_both register t before ((first, mark) ∷ between))) ran)
+      stays_of other.upload.act second_act (take later (messages_at second.moment other.upload.interchange)) at_second row
+      (subst (λ (u : Tables). Has u.remembered row) (sym (run_of_both register t before ((first, mark) ∷ between))) ran)
 
   sound_there : Sound register.suppliers there
   sound_there =
-      row_sound (act_of register second) (Sound register.suppliers)
-      (subst (λ act. (sent : RawMessage × IncomingMessage) (u : Tables) → Sound register.suppliers u → Sound register.suppliers (act sent u).1) (sym second_act) (act_sound register free first.caller whose refl))
-      (take later (messages_at second.moment other.upload)) at_second (run_sound register free t whole_run sound)
+      row_sound (other.upload.act) (Sound register.suppliers)
+      (subst (λ act. (sent : RawMessage × IncomingMessage) (u : Tables)
+      → Sound register.suppliers u
+      → Sound register.suppliers (act sent u).1) (sym second_act) (act_sound register free first.caller whose refl))
+      (take later (messages_at second.moment other.upload.interchange)) at_second (run_sound register free t whole_run sound)
 
-  repeated : act_of register second again there ≡ (Repeated, there)
+  repeated : other.upload.act again there ≡ (Repeated, there)
   repeated =
       subst (λ act. act again there ≡ (Repeated, there)) (sym second_act)
-      (act_again register free whose message sent.1 again.1 here there (λ k. record again.1 { control = sym alike.control k }) (subst (λ act. (act sent here).0 ≡ Accepted) first_act accepted) (subst (λ act. StaysRemembered (act sent here).1 there) first_act remembers) sound_there)
+      (act_again register free whose message sent.1 again.1 here there
+      (λ k. record again.1 { control = sym alike.control k })
+      (subst (λ act. (act sent here).0 ≡ Accepted) first_act accepted)
+      (subst (λ act. StaysRemembered (act sent here).1 there) first_act remembers) sound_there)
 
   pub told_again : told_at register t whole_run second other.upload later ≡ Some Repeated
-  told_again = told_there (act_of register second) (messages_at second.moment other.upload) later again at_second second_there ∙ ap (λ (after : Told × Tables). Some after.0) repeated
+  told_again =
+      told_there (other.upload.act) (messages_at second.moment other.upload.interchange) later again at_second second_there
+      ∙ ap (λ (after : Told × Tables). Some after.0) repeated
 
   pub left_again : tables_before register t whole_run second other.upload (later + 1) ≡ there
-  left_again = next_there (act_of register second) (messages_at second.moment other.upload) later again at_second second_there ∙ ap (λ (after : Told × Tables). after.1) repeated
+  left_again =
+      next_there (other.upload.act) (messages_at second.moment other.upload.interchange) later again at_second second_there
+      ∙ ap (λ (after : Told × Tables). after.1) repeated
 
 -- The cancellation that comes again.
 module _ (register : RegisterRows) (c : Cancel) where
   abbrev cancels : Act
   cancels = cancel (view c.supplier) (supplier_row register.suppliers c.supplier) c
 
-  step_cancels : (input : Input) (u : Tables) → role_of register input.caller input.key ≡ Some Retailer → input.request ≡ requests.Cancel c → shared_step register u input Whole ≡ (cancel_reply (cancels u).0, (cancels u).1)
-  step_cancels input u role asks = ap (λ role. step_as register role (row_of register input.caller) input Whole u) role ∙ ap (λ request. retailer_request register input.moment Whole request u) asks
+  step_cancels : (input : Input) (u : Tables)
+      → role_of register input.caller input.key ≡ Some Retailer
+      → input.request ≡ requests.Cancel c
+      → shared_step register u input Whole ≡ (cancel_reply (cancels u).0, (cancels u).1)
+  step_cancels input u role asks =
+      ap (λ role. step_as register role (row_of register input.caller) input Whole u) role
+      ∙ ap (λ request. retailer_request register input.moment Whole request u) asks
 
-  pub cancelled_again : (t : Tables) (before between : Inputs) (first second : Input) → PrefixFree (company_prefixes register.suppliers) → Sound register.suppliers t → role_of register first.caller first.key ≡ Some Retailer → role_of register second.caller second.key ≡ Some Retailer →
-      first.request ≡ requests.Cancel c → second.request ≡ requests.Cancel c → (cancels (shared_run register t before).1).0 ≡ Accepted →
-      shared_step register (shared_run register t (before ++ (first, Whole) ∷ between)).1 second Whole ≡ (cancel_reply Repeated, (shared_run register t (before ++ (first, Whole) ∷ between)).1)
+  pub cancelled_again : (t : Tables) (before between : Inputs) (first second : Input)
+      → PrefixFree (company_prefixes register.suppliers)
+      → Sound register.suppliers t
+      → role_of register first.caller first.key ≡ Some Retailer
+      → role_of register second.caller second.key ≡ Some Retailer
+      → first.request ≡ requests.Cancel c → second.request ≡ requests.Cancel c → (cancels (shared_run register t before).1).0 ≡ Accepted
+      → shared_step register (shared_run register t (before ++ (first, Whole) ∷ between)).1 second Whole
+      ≡ (cancel_reply Repeated, (shared_run register t (before ++ (first, Whole) ∷ between)).1)
   cancelled_again t before between first second free sound first_role second_role first_asks second_asks told =
       let at_first = (shared_run register t before).1 in
       let at_second = (shared_run register t (before ++ (first, Whole) ∷ between)).1 in
       let stays : StaysRemembered (cancels at_first).1 at_second = λ row was.
-      let stepped : Has (shared_step register at_first first Whole).1.remembered row = subst (λ (after : Reply × Tables). Has after.1.remembered row) (sym (step_cancels first at_first first_role first_asks)) was in
-      subst (λ (u : Tables). Has u.remembered row) (sym (run_of_both register t before ((first, Whole) ∷ between))) (run_stays register (shared_step register at_first first Whole).1 between row stepped) in
+      let stepped : Has (shared_step register at_first first Whole).1.remembered row =
+      subst (λ (after : Reply × Tables). Has after.1.remembered row)
+      (sym (step_cancels first at_first first_role first_asks)) was in
+      subst (λ (u : Tables). Has u.remembered row) (sym (run_of_both register t before ((first, Whole) ∷ between)))
+      (run_stays register (shared_step register at_first first Whole).1 between row stepped) in
       step_cancels second at_second second_role second_asks
-      ∙ ap (λ (after : Told × Tables). (cancel_reply after.0, after.1)) (cancellation_repeated register c at_first at_second told stays (run_sound register free t (before ++ (first, Whole) ∷ between) sound))
+      ∙ ap (λ (after : Told × Tables). (cancel_reply after.0, after.1))
+      (cancellation_repeated register c at_first at_second told stays
+      (run_sound register free t (before ++ (first, Whole) ∷ between) sound))

@@ -1,5 +1,6 @@
 -- What was accepted and comes again is repeated.
-use Rattle.std.proofs.Common.{◌≡◌, ℕ, Bool, true, false, cond, not, List, [], ◌∷◌, codes, Option, Some, None, Result, Ok, Err, refl, ◌∙◌, ap}
+use Rattle.std.proofs.Common.{◌≡◌, ℕ, Bool, true, false, cond, not, List, [], ◌∷◌, codes, Option, Some, None, Result, Ok}
+use Rattle.std.proofs.Common.{Err, refl, ◌∙◌, ap}
 use Rattle.edi_envelope.specs.declared.interchange.RawMessage.{RawMessage}
 use Rattle.edi_messages.specs.declared.fault.MessageFault.{MessageFault}
 use Rattle.edi_orders.specs.Order.{order_of}
@@ -41,22 +42,36 @@ use Rattle.hub_law.proofs.Steps.{gln_of}
 module _ (suppliers : List SupplierRow) where
   -- where a verdict accepts what is new, another accepts it as known in all tables that still remember it
   abbrev Recurs : Tables → Verdict → (Tables → Verdict) → Type 0
-  Recurs t first again = (change : Change) (changes : List Change) → first ≡ Accept (change ∷ changes) → (u : Tables) → StaysRemembered (apply_all (change ∷ changes) t) u → Sound suppliers u → again u ≡ Accept []
+  Recurs t first again =
+      (change : Change) (changes : List Change)
+      → first ≡ Accept (change ∷ changes)
+      → (u : Tables)
+      → StaysRemembered (apply_all (change ∷ changes) t) u
+      → Sound suppliers u
+      → again u ≡ Accept []
 
   -- the same of acts
   abbrev Repeats : Told × Tables → Act → Type 0
   Repeats first again = first.0 ≡ Accepted → (u : Tables) → StaysRemembered first.1 u → Sound suppliers u → again u ≡ (Repeated, u)
 
-  act_repeats : (t : Tables) (first : Verdict) (again : Tables → Verdict) → Recurs t first again → Repeats (act first t) (λ u. act (again u) u)
+  act_repeats : (t : Tables) (first : Verdict) (again : Tables → Verdict)
+      → Recurs t first again
+      → Repeats (act first t) (λ u. act (again u) u)
   act_repeats t (Refuse code) again f told = cc
   act_repeats t (Accept []) again f told = cc
   act_repeats t (Accept (change ∷ changes)) again f told = λ u stays sound. ap (λ v. act v u) (f change changes refl u stays sound)
 
-  read_repeats : {X : Type 0} (t : Tables) (read : Result X MessageFault) (first : X → Verdict) (again : Tables → X → Verdict) → ((x : X) → Recurs t (first x) (λ u. again u x)) → Repeats (read_act read first t) (λ u. read_act read (again u) u)
+  read_repeats : {X : Type 0} (t : Tables) (read : Result X MessageFault) (first : X → Verdict)
+      (again : Tables → X → Verdict)
+      → ((x : X) → Recurs t (first x) (λ u. again u x))
+      → Repeats (read_act read first t) (λ u. read_act read (again u) u)
   read_repeats t (Err fault) first again f = λ told. cc
   read_repeats t (Ok x) first again f = act_repeats t (first x) (λ u. again u x) (f x)
 
-  either_repeats : (test : Bool) (one other : Told × Tables) (one_again other_again : Act) → Repeats one one_again → Repeats other other_again → Repeats (cond test one other) (λ u. cond test (one_again u) (other_again u))
+  either_repeats : (test : Bool) (one other : Told × Tables) (one_again other_again : Act)
+      → Repeats one one_again
+      → Repeats other other_again
+      → Repeats (cond test one other) (λ u. cond test (one_again u) (other_again u))
   either_repeats true one other one_again other_again f g = f
   either_repeats false one other one_again other_again f g = g
 
@@ -65,61 +80,120 @@ module _ (suppliers : List SupplierRow) where
 
   -- judged on what the rows of a GLN are, for a supplier that has it
   module _ (gln : List ℕ) (t : Tables) where
-    registered_recurs : (supplier : Option SupplierRow) → ((s : SupplierRow) → supplier ≡ Some s → s.gln ≡ gln) → (of : List ℕ) (r : SupplierRow → Reference) → ((s : SupplierRow) → (r s).supplier ≡ s.gln) → (content : List ℕ) (fresh : SupplierRow → Judge) (other : Tables → SupplierRow → Judge) →
-        Recurs t (if_registered supplier of (λ s. judge_once (r s) content (fresh s) (view gln t))) (λ u. if_registered supplier of (λ s. judge_once (r s) content (other u s) (view gln u)))
+    registered_recurs : (supplier : Option SupplierRow)
+        → ((s : SupplierRow) → supplier ≡ Some s → s.gln ≡ gln)
+        → (of : List ℕ) (r : SupplierRow → Reference)
+        → ((s : SupplierRow) → (r s).supplier ≡ s.gln)
+        → (content : List ℕ) (fresh : SupplierRow → Judge) (other : Tables → SupplierRow → Judge)
+        → Recurs t (if_registered supplier of (λ s. judge_once (r s) content (fresh s) (view gln t)))
+        (λ u. if_registered supplier of (λ s. judge_once (r s) content (other u s) (view gln u)))
     registered_recurs None whose of r own content fresh other change changes h u stays sound = cc
     registered_recurs (Some s) whose of r own content fresh other change changes h u stays sound =
-        let passed = not_refused (not (same of s.gln)) rules.Supplier (judge_once (r s) content (fresh s) (view gln t)) (change ∷ changes) h in
+        let passed = not_refused (not (same of s.gln)) rules.Supplier (judge_once (r s) content (fresh s) (view gln t))
+        (change ∷ changes) h in
         let there = stays _ (accepted_has (r s) content (fresh s) (view gln t) t change changes passed.1) in
         let found = found_again gln u (r s) content (sound.kept gln).remembered (own s ∙ whose s refl) there in
-        ap (λ v. refuse_if v rules.Supplier (judge_once (r s) content (other u s) (view gln u))) passed.0 ∙ once_again (r s) content (other u s) (view gln u) found
+        ap (λ v. refuse_if v rules.Supplier (judge_once (r s) content (other u s) (view gln u))) passed.0
+        ∙ once_again (r s) content (other u s) (view gln u) found
 
     -- the same content under the same references, at any moment and with any decimal mark
-    message_recurs : (retailer : List ℕ) (supplier : Option SupplierRow) → ((s : SupplierRow) → supplier ≡ Some s → s.gln ≡ gln) → (side : Side) (incoming : IncomingMessage) (moment decimal : ℕ) (buyer : Option (List ℕ)) (of : List ℕ) (fresh : SupplierRow → Judge) (other : Tables → SupplierRow → Judge) →
-        Recurs t (judge_message retailer supplier side incoming buyer of fresh (view gln t)) (λ u. judge_message retailer supplier side (record incoming { moment = moment; decimal = decimal }) buyer of (other u) (view gln u))
+    message_recurs : (retailer : List ℕ) (supplier : Option SupplierRow)
+        → ((s : SupplierRow) → supplier ≡ Some s → s.gln ≡ gln)
+        → (side : Side) (incoming : IncomingMessage) (moment decimal : ℕ) (buyer : Option (List ℕ)) (of : List ℕ)
+        (fresh : SupplierRow → Judge) (other : Tables → SupplierRow → Judge)
+        → Recurs t (judge_message retailer supplier side incoming buyer of fresh (view gln t)) (λ u.
+        judge_message retailer supplier side (record incoming { moment = moment; decimal = decimal }) buyer of (other u)
+        (view gln u))
     message_recurs retailer supplier whose side incoming moment decimal buyer of fresh other change changes h u stays sound =
-        let passed = not_refused (is_other_buyer retailer buyer) rules.Buyer (if_registered supplier of (λ s. judge_once (referred_by s side incoming) incoming.content (fresh s) (view gln t))) (change ∷ changes) h in
-        let rest = registered_recurs supplier whose of (λ s. referred_by s side incoming) (λ s. refl) incoming.content fresh other change changes passed.1 u stays sound in
-        ap (λ v. refuse_if v rules.Buyer (if_registered supplier of (λ s. judge_once (referred_by s side incoming) incoming.content (other u s) (view gln u)))) passed.0 ∙ rest
+        let passed = not_refused (is_other_buyer retailer buyer) rules.Buyer (if_registered supplier of
+        (λ s. judge_once (referred_by s side incoming) incoming.content (fresh s) (view gln t)))
+        (change ∷ changes) h in
+        let rest = registered_recurs supplier whose of (λ s. referred_by s side incoming) (λ s. refl) incoming.content
+        fresh other change changes passed.1 u stays sound in
+        ap (λ v. refuse_if v rules.Buyer (if_registered supplier of
+        (λ s. judge_once (referred_by s side incoming) incoming.content (other u s) (view gln u)))) passed.0
+        ∙ rest
 
-    retailers_repeats : (parties : Parties) (supplier : Option SupplierRow) → ((s : SupplierRow) → supplier ≡ Some s → s.gln ≡ gln) → (sent : RawMessage × IncomingMessage) (moment decimal : ℕ) →
-        Repeats (deliver_retailers (view gln) parties supplier sent t) (deliver_retailers (view gln) parties supplier (sent.0, record sent.1 { moment = moment; decimal = decimal }))
+    retailers_repeats : (parties : Parties) (supplier : Option SupplierRow)
+        → ((s : SupplierRow) → supplier ≡ Some s → s.gln ≡ gln)
+        → (sent : RawMessage × IncomingMessage) (moment decimal : ℕ)
+        → Repeats (deliver_retailers (view gln) parties supplier sent t)
+        (deliver_retailers (view gln) parties supplier (sent.0, record sent.1 { moment = moment; decimal = decimal }))
     retailers_repeats parties supplier whose sent moment decimal =
         let again : RawMessage × IncomingMessage = (sent.0, record sent.1 { moment = moment; decimal = decimal }) in
         either_repeats (same sent.0.kind (codes "ORDERS")) _ _ _ _
-        (read_repeats t (order_of sent.0) (λ order. judge_order parties.retailer supplier sent.1 (body_of sent.0) order (view gln t)) (λ u order. judge_order parties.retailer supplier again.1 (body_of again.0) order (view gln u))
-        (λ order. message_recurs parties.retailer supplier whose sides.Retailer sent.1 moment decimal (Some order.buyer) order.supplier (λ s. judge_new_order s.gln sent.1 (body_of sent.0) order) (λ u s. judge_new_order s.gln again.1 (body_of again.0) order)))
+        (read_repeats t (order_of sent.0)
+        (λ order. judge_order parties.retailer supplier sent.1 (body_of sent.0) order (view gln t))
+        (λ u order. judge_order parties.retailer supplier again.1 (body_of again.0) order (view gln u))
+        (λ order. message_recurs parties.retailer supplier whose sides.Retailer sent.1 moment decimal (Some order.buyer)
+        order.supplier (λ s. judge_new_order s.gln sent.1 (body_of sent.0) order)
+        (λ u s. judge_new_order s.gln again.1 (body_of again.0) order)))
         (either_repeats (same sent.0.kind (codes "RECADV")) _ _ _ _
-        (read_repeats t (receipt_of sent.0) (λ receipt. judge_receipt parties.retailer supplier sent.1 (body_of sent.0) receipt (view gln t)) (λ u receipt. judge_receipt parties.retailer supplier again.1 (body_of again.0) receipt (view gln u))
-        (λ receipt. message_recurs parties.retailer supplier whose sides.Retailer sent.1 moment decimal receipt.buyer receipt.supplier (λ s. judge_new_receipt s.gln sent.1 (body_of sent.0) receipt) (λ u s. judge_new_receipt s.gln again.1 (body_of again.0) receipt)))
+        (read_repeats t (receipt_of sent.0)
+        (λ receipt. judge_receipt parties.retailer supplier sent.1 (body_of sent.0) receipt (view gln t))
+        (λ u receipt. judge_receipt parties.retailer supplier again.1 (body_of again.0) receipt (view gln u))
+        (λ receipt.
+        message_recurs parties.retailer supplier whose sides.Retailer sent.1 moment decimal receipt.buyer receipt.supplier
+        (λ s. judge_new_receipt s.gln sent.1 (body_of sent.0) receipt)
+        (λ u s. judge_new_receipt s.gln again.1 (body_of again.0) receipt)))
         (refused_never _ t _))
 
-    suppliers_repeats : (parties : Parties) (s : SupplierRow) → s.gln ≡ gln → (sent : RawMessage × IncomingMessage) (moment decimal : ℕ) →
-        Repeats (deliver_suppliers (view gln) parties s sent t) (deliver_suppliers (view gln) parties s (sent.0, record sent.1 { moment = moment; decimal = decimal }))
+    suppliers_repeats : (parties : Parties) (s : SupplierRow) → s.gln ≡ gln → (sent : RawMessage × IncomingMessage) (moment decimal : ℕ)
+        → Repeats (deliver_suppliers (view gln) parties s sent t)
+        (deliver_suppliers (view gln) parties s (sent.0, record sent.1 { moment = moment; decimal = decimal }))
     suppliers_repeats parties s whose sent moment decimal =
         let again : RawMessage × IncomingMessage = (sent.0, record sent.1 { moment = moment; decimal = decimal }) in
         let one : (other : SupplierRow) → ◌≡◌ {A = Option SupplierRow} (Some s) (Some other) → other.gln ≡ gln = λ other e. cc in
         either_repeats (same sent.0.kind (codes "ORDRSP")) _ _ _ _
-        (read_repeats t (response_of sent.0) (λ response. judge_response parties.retailer (Some s) sent.1 response (view gln t)) (λ u response. judge_response parties.retailer (Some s) again.1 response (view gln u))
-        (λ response. message_recurs parties.retailer (Some s) one sides.Supplier sent.1 moment decimal (Some response.buyer) response.supplier (λ s. judge_new_response response) (λ u s. judge_new_response response)))
+        (read_repeats t (response_of sent.0)
+        (λ response. judge_response parties.retailer (Some s) sent.1 response (view gln t))
+        (λ u response. judge_response parties.retailer (Some s) again.1 response (view gln u))
+        (λ response.
+        message_recurs parties.retailer (Some s) one sides.Supplier sent.1 moment decimal (Some response.buyer)
+        response.supplier (λ s. judge_new_response response) (λ u s. judge_new_response response)))
         (either_repeats (same sent.0.kind (codes "DESADV")) _ _ _ _
-        (read_repeats t (despatch_of sent.0) (λ despatch. judge_despatch parties.retailer (Some s) (has_pallet t) sent.1 despatch (view gln t)) (λ u despatch. judge_despatch parties.retailer (Some s) (has_pallet u) again.1 despatch (view gln u))
-        (λ despatch. message_recurs parties.retailer (Some s) one sides.Supplier sent.1 moment decimal despatch.buyer despatch.supplier (λ s. judge_new_despatch s (has_pallet t) despatch) (λ u s. judge_new_despatch s (has_pallet u) despatch)))
+        (read_repeats t (despatch_of sent.0)
+        (λ despatch. judge_despatch parties.retailer (Some s) (has_pallet t) sent.1 despatch (view gln t))
+        (λ u despatch. judge_despatch parties.retailer (Some s) (has_pallet u) again.1 despatch (view gln u))
+        (λ despatch.
+        message_recurs parties.retailer (Some s) one sides.Supplier sent.1 moment decimal despatch.buyer despatch.supplier
+        (λ s. judge_new_despatch s (has_pallet t) despatch) (λ u s. judge_new_despatch s (has_pallet u) despatch)))
         (refused_never _ t _))
 
-    cancel_repeats : (supplier : Option SupplierRow) → ((s : SupplierRow) → supplier ≡ Some s → s.gln ≡ gln) → (c : Cancel) → Repeats (cancel (view gln) supplier c t) (cancel (view gln) supplier c)
+    cancel_repeats : (supplier : Option SupplierRow)
+        → ((s : SupplierRow) → supplier ≡ Some s → s.gln ≡ gln)
+        → (c : Cancel)
+        → Repeats (cancel (view gln) supplier c t) (cancel (view gln) supplier c)
     cancel_repeats supplier whose c =
         act_repeats t (judge_cancel supplier (cancel_text c) c (view gln t)) (λ u. judge_cancel supplier (cancel_text c) c (view gln u))
-        (registered_recurs supplier whose c.supplier (λ s. record { supplier = s.gln; side = sides.Cancellation; control = c.reference; message = [] }) (λ s. refl) (cancel_text c) (λ s. judge_new_cancel c) (λ u s. judge_new_cancel c))
+        (registered_recurs supplier whose c.supplier
+        (λ s. record { supplier = s.gln; side = sides.Cancellation; control = c.reference; message = [] }) (λ s. refl)
+        (cancel_text c) (λ s. judge_new_cancel c) (λ u s. judge_new_cancel c))
 
-pub named_repeated : (register : RegisterRows) (sent : RawMessage × IncomingMessage) (moment decimal : ℕ) (t u : Tables) → (deliver_named register sent t).0 ≡ Accepted → StaysRemembered (deliver_named register sent t).1 u → Sound register.suppliers u → deliver_named register (sent.0, record sent.1 { moment = moment; decimal = decimal }) u ≡ (Repeated, u)
+pub named_repeated : (register : RegisterRows) (sent : RawMessage × IncomingMessage) (moment decimal : ℕ) (t u : Tables)
+    → (deliver_named register sent t).0 ≡ Accepted
+    → StaysRemembered (deliver_named register sent t).1 u
+    → Sound register.suppliers u
+    → deliver_named register (sent.0, record sent.1 { moment = moment; decimal = decimal }) u ≡ (Repeated, u)
 named_repeated register sent moment decimal t u told stays sound =
-    retailers_repeats register.suppliers (named sent.0) t (parties_of register) (supplier_row register.suppliers (named sent.0)) (gln_of register.suppliers (named sent.0)) sent moment decimal told u stays sound
+    retailers_repeats register.suppliers (named sent.0) t (parties_of register)
+    (supplier_row register.suppliers (named sent.0)) (gln_of register.suppliers (named sent.0)) sent moment decimal told u
+    stays sound
 
-pub suppliers_repeated : (suppliers : List SupplierRow) (parties : Parties) (s : SupplierRow) (sent : RawMessage × IncomingMessage) (moment decimal : ℕ) (t u : Tables) → (deliver_suppliers (view s.gln) parties s sent t).0 ≡ Accepted → StaysRemembered (deliver_suppliers (view s.gln) parties s sent t).1 u → Sound suppliers u → deliver_suppliers (view s.gln) parties s (sent.0, record sent.1 { moment = moment; decimal = decimal }) u ≡ (Repeated, u)
+pub suppliers_repeated : (suppliers : List SupplierRow) (parties : Parties) (s : SupplierRow)
+    (sent : RawMessage × IncomingMessage) (moment decimal : ℕ) (t u : Tables)
+    → (deliver_suppliers (view s.gln) parties s sent t).0 ≡ Accepted
+    → StaysRemembered (deliver_suppliers (view s.gln) parties s sent t).1 u
+    → Sound suppliers u
+    → deliver_suppliers (view s.gln) parties s (sent.0, record sent.1 { moment = moment; decimal = decimal }) u ≡ (Repeated, u)
 suppliers_repeated suppliers parties s sent moment decimal t u told stays sound =
     suppliers_repeats suppliers s.gln t parties s refl sent moment decimal told u stays sound
 
-pub cancellation_repeated : (register : RegisterRows) (c : Cancel) (t u : Tables) → (cancel (view c.supplier) (supplier_row register.suppliers c.supplier) c t).0 ≡ Accepted → StaysRemembered (cancel (view c.supplier) (supplier_row register.suppliers c.supplier) c t).1 u → Sound register.suppliers u → cancel (view c.supplier) (supplier_row register.suppliers c.supplier) c u ≡ (Repeated, u)
+pub cancellation_repeated : (register : RegisterRows) (c : Cancel) (t u : Tables)
+    → (cancel (view c.supplier) (supplier_row register.suppliers c.supplier) c t).0 ≡ Accepted
+    → StaysRemembered (cancel (view c.supplier) (supplier_row register.suppliers c.supplier) c t).1 u
+    → Sound register.suppliers u
+    → cancel (view c.supplier) (supplier_row register.suppliers c.supplier) c u ≡ (Repeated, u)
 cancellation_repeated register c t u told stays sound =
-    cancel_repeats register.suppliers c.supplier t (supplier_row register.suppliers c.supplier) (gln_of register.suppliers c.supplier) c told u stays sound
+    cancel_repeats register.suppliers c.supplier t (supplier_row register.suppliers c.supplier)
+    (gln_of register.suppliers c.supplier) c told u stays sound

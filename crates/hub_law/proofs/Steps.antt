@@ -25,10 +25,14 @@ use Rattle.hub_law.proofs.Acts.{suppliers_act, taking_act}
 
 pub gln_of : (suppliers : List SupplierRow) (gln : List ℕ) (s : SupplierRow) → supplier_row suppliers gln ≡ Some s → s.gln ≡ gln
 gln_of suppliers gln s known =
-    same_is s.gln gln (all_found (λ _. Unit {0}) (λ supplier. same supplier.gln gln) suppliers s (all_always (λ _. Unit {0}) (λ _. tt) suppliers) known).1
+    same_is s.gln gln (all_found (λ _. Unit {0}) (λ supplier. same supplier.gln gln) suppliers s
+    (all_always (λ _. Unit {0}) (λ _. tt) suppliers) known).1
 
 -- who has another GLN than is named is another supplier
-pub unlike : (suppliers : List SupplierRow) (gln : List ℕ) (w : SupplierRow) (other : List ℕ) → supplier_row suppliers gln ≡ Some w → same gln other ≡ false → other ≢ w.gln
+pub unlike : (suppliers : List SupplierRow) (gln : List ℕ) (w : SupplierRow) (other : List ℕ)
+    → supplier_row suppliers gln ≡ Some w
+    → same gln other ≡ false
+    → other ≢ w.gln
 unlike suppliers gln w other known e i = let matches = same_if gln other (sym (i ∙ gln_of suppliers gln w known)) in (cc)
 
 module _ (suppliers : List SupplierRow) (s : SupplierRow) where
@@ -37,8 +41,9 @@ module _ (suppliers : List SupplierRow) (s : SupplierRow) where
   idle t sound a = record { told = refl; apart = record { seen = refl; unseen = λ other ne. refl; sound = sound } }
 
   -- acts that are alike one by one are alike in a row
-  row_alike : {X : Type 0} (shared own : X → Act) → ((x : X) (t : Tables) → Sound suppliers t → Alike suppliers s t (shared x t) (own x (view s.gln t))) →
-      (xs : List X) (t : Tables) → Sound suppliers t → Alike suppliers s t (in_row shared xs t) (in_row own xs (view s.gln t))
+  row_alike : {X : Type 0} (shared own : X → Act)
+      → ((x : X) (t : Tables) → Sound suppliers t → Alike suppliers s t (shared x t) (own x (view s.gln t)))
+      → (xs : List X) (t : Tables) → Sound suppliers t → Alike suppliers s t (in_row shared xs t) (in_row own xs (view s.gln t))
   row_alike shared own each [] t sound = idle t sound []
   row_alike shared own each (x ∷ xs) t sound =
       let one = each x t sound in
@@ -52,23 +57,31 @@ module _ (suppliers : List SupplierRow) (s : SupplierRow) where
         };
       }
 
-module _ (suppliers : List SupplierRow) (free : PrefixFree (company_prefixes suppliers)) (parties : Parties) (s : SupplierRow) (known : supplier_row suppliers s.gln ≡ Some s) where
-  uploaded_alike : (moment : ℕ) (mark : Mark) (upload : Opened) (t : Tables) → Sound suppliers t →
-      Alike suppliers s t (uploaded (deliver_suppliers (view s.gln) parties s) moment mark upload t) (uploaded (deliver_suppliers (λ rows. rows) parties s) moment mark upload (view s.gln t))
+module _ (suppliers : List SupplierRow) (free : PrefixFree (company_prefixes suppliers)) (parties : Parties)
+    (s : SupplierRow) (known : supplier_row suppliers s.gln ≡ Some s) where
+  uploaded_alike : (moment : ℕ) (mark : Mark) (upload : Opened) (t : Tables) → Sound suppliers t
+      → Alike suppliers s t (uploaded (deliver_suppliers (view s.gln) parties s) moment mark upload t)
+      (uploaded (deliver_suppliers (λ rows. rows) parties s) moment mark upload (view s.gln t))
   uploaded_alike moment mark upload t sound =
-      let all = row_alike suppliers s (deliver_suppliers (view s.gln) parties s) (deliver_suppliers (λ rows. rows) parties s) (suppliers_act suppliers free parties s known) (looked_at moment mark upload) t sound in
+      let all = row_alike suppliers s (deliver_suppliers (view s.gln) parties s)
+      (deliver_suppliers (λ rows. rows) parties s) (suppliers_act suppliers free parties s known)
+      (looked_at moment mark upload) t sound in
       record { told = ap (upload_reply mark upload) all.told; apart = all.apart }
 
-  taken_alike : (mark : Mark) (number : ℕ) (found : Option MailRow) (t : Tables) → Sound suppliers t → entry_at (view s.gln t) number ≡ found →
-      Alike suppliers s t (taken mark found t) (taken mark found (view s.gln t))
+  taken_alike : (mark : Mark) (number : ℕ) (found : Option MailRow) (t : Tables)
+      → Sound suppliers t
+      → entry_at (view s.gln t) number ≡ found
+      → Alike suppliers s t (taken mark found t) (taken mark found (view s.gln t))
   taken_alike mark number None t sound h = idle suppliers s t sound _
-  taken_alike Whole number (Some entry) t sound h = record { told = refl; apart = taking_act suppliers free parties s known number entry t sound h }
+  taken_alike Whole number (Some entry) t sound h =
+      record { told = refl; apart = taking_act suppliers free parties s known number entry t sound h }
   taken_alike StoppedEmpty number (Some entry) t sound h = idle suppliers s t sound (reply Stopped [])
   taken_alike StoppedBare number (Some entry) t sound h = idle suppliers s t sound stopped
   taken_alike (StoppedAfter k) number (Some entry) t sound h = idle suppliers s t sound stopped
 
-  request_alike : (moment : ℕ) (mark : Mark) (request : Request) (t : Tables) → Sound suppliers t →
-      Alike suppliers s t (supplier_request (view s.gln) parties s moment mark request t) (supplier_request (λ rows. rows) parties s moment mark request (view s.gln t))
+  request_alike : (moment : ℕ) (mark : Mark) (request : Request) (t : Tables) → Sound suppliers t
+      → Alike suppliers s t (supplier_request (view s.gln) parties s moment mark request t)
+      (supplier_request (λ rows. rows) parties s moment mark request (view s.gln t))
   request_alike moment mark (requests.Upload bytes) t sound = uploaded_alike moment mark (from_supplier parties s bytes) t sound
   request_alike moment mark (requests.MailAfter number) t sound = idle suppliers s t sound _
   request_alike moment mark (requests.MailItem number) t sound = idle suppliers s t sound _
@@ -77,12 +90,15 @@ module _ (suppliers : List SupplierRow) (free : PrefixFree (company_prefixes sup
   request_alike moment mark (requests.StatusOf gln) t sound = idle suppliers s t sound _
   request_alike moment mark (requests.Cancel c) t sound = idle suppliers s t sound _
 
-  pub supplier_alike : (input : Input) (mark : Mark) (t : Tables) → Sound suppliers t →
-      Alike suppliers s t (supplier_step (view s.gln) parties s input mark t) (supplier_step (λ rows. rows) parties s input mark (view s.gln t))
+  pub supplier_alike : (input : Input) (mark : Mark) (t : Tables) → Sound suppliers t
+      → Alike suppliers s t (supplier_step (view s.gln) parties s input mark t)
+      (supplier_step (λ rows. rows) parties s input mark (view s.gln t))
   supplier_alike input mark t sound =
       elim (same s.key input.key) as (λ v. Alike suppliers s t
       (if v then supplier_request (view s.gln) parties s input.moment mark input.request t else replied mark denied t)
-      (if v then supplier_request (λ rows. rows) parties s input.moment mark input.request (view s.gln t) else replied mark denied (view s.gln t))) [
+      (if v
+      then supplier_request (λ rows. rows) parties s input.moment mark input.request (view s.gln t)
+      else replied mark denied (view s.gln t))) [
         | true ↦ request_alike input.moment mark input.request t sound
         | false ↦ idle suppliers s t sound _
       ]

@@ -1,5 +1,6 @@
 -- Inputs that are stopped, and what is said of them.
-use Rattle.std.proofs.Common.{◌≡◌, ◌≢◌, ◌↔◌, ℕ, List, Bool, true, false, cond, nat_lt, [], length, Option, Some, None, Ok, Err, refl, sym, subst, ap}
+use Rattle.std.proofs.Common.{◌≡◌, ◌≢◌, ◌↔◌, ℕ, List, Bool, true, false, cond, nat_lt, [], length, Option, Some, None, Ok}
+use Rattle.std.proofs.Common.{Err, refl, sym, subst, ap}
 use Rattle.edi_envelope.specs.declared.interchange.RawMessage.{RawMessage}
 use Rattle.hub_parties.specs.Rows.{Parties, RegisterRows, parties_of, supplier_row}
 use Rattle.hub_parties.specs.declared.row.SupplierRow.{SupplierRow}
@@ -13,7 +14,8 @@ use Rattle.hub_law.specs.Mark.{Mark, Whole, StoppedEmpty, StoppedBare, StoppedAf
 use Rattle.hub_law.specs.Messages.{messages_at, deliver_suppliers, cancel}
 use Rattle.hub_law.specs.Opening.{Opened}
 use Rattle.hub_law.specs.Replies.{reply, denied, stopped, entry_reply}
-use Rattle.hub_law.specs.Requests.{reply_by_stop, uploaded, from_supplier, from_retailer, taken, supplier_request, deliver_named, cancelled, report, retailer_request}
+use Rattle.hub_law.specs.Requests.{reply_by_stop, uploaded, from_supplier, from_retailer, taken, supplier_request}
+use Rattle.hub_law.specs.Requests.{deliver_named, cancelled, report, retailer_request}
 use Rattle.hub_law.specs.Told.{Told, Act, in_row}
 use Rattle.hub_law.specs.declared.reply.Outcome.TheVariants.{Stopped}
 use Rattle.hub_law.specs.declared.reply.Reply.{Reply}
@@ -42,11 +44,14 @@ report_is_whole (Some s) state = λ e. cc
 -- A property of what is replied and left, whatever is asked.
 module _ (mark : Mark) (P : Tables → Reply × Tables → Type 0)
     (unless : (t : Tables) (whole : Reply) → IsWhole whole → P t (replied mark whole t))
-    (upload : (deliver : RawMessage × IncomingMessage → Act) (moment : ℕ) (opened : Opened) (t : Tables) → P t (uploaded deliver moment mark opened t))
+    (upload : (deliver : RawMessage × IncomingMessage → Act) (moment : ℕ) (opened : Opened) (t : Tables)
+    → P t (uploaded deliver moment mark opened t))
     (entry : (found : Option MailRow) (t : Tables) → P t (taken mark found t))
     (cut : (after : Told × Tables) (t : Tables) → P t (cancelled mark after t)) where
-  of_supplier : (look : Tables → Tables) (parties : Parties) (s : SupplierRow) (moment : ℕ) (request : Request) (t : Tables) → P t (supplier_request look parties s moment mark request t)
-  of_supplier look parties s moment (requests.Upload bytes) t = upload (deliver_suppliers look parties s) moment (from_supplier parties s bytes) t
+  of_supplier : (look : Tables → Tables) (parties : Parties) (s : SupplierRow) (moment : ℕ) (request : Request) (t : Tables)
+      → P t (supplier_request look parties s moment mark request t)
+  of_supplier look parties s moment (requests.Upload bytes) t =
+      upload (deliver_suppliers look parties s) moment (from_supplier parties s bytes) t
   of_supplier look parties s moment (requests.MailAfter number) t = unless t _ (λ e. cc)
   of_supplier look parties s moment (requests.MailItem number) t = unless t _ (entry_is_whole parties.hub (entry_at (look t) number))
   of_supplier look parties s moment (requests.MailTaken number) t = entry (entry_at (look t) number) t
@@ -54,8 +59,10 @@ module _ (mark : Mark) (P : Tables → Reply × Tables → Type 0)
   of_supplier look parties s moment (requests.StatusOf gln) t = unless t _ (λ e. cc)
   of_supplier look parties s moment (requests.Cancel c) t = unless t _ (λ e. cc)
 
-  of_retailer : (register : RegisterRows) (moment : ℕ) (request : Request) (t : Tables) → P t (retailer_request register moment mark request t)
-  of_retailer register moment (requests.Upload bytes) t = upload (deliver_named register) moment (from_retailer (parties_of register) bytes) t
+  of_retailer : (register : RegisterRows) (moment : ℕ) (request : Request) (t : Tables)
+      → P t (retailer_request register moment mark request t)
+  of_retailer register moment (requests.Upload bytes) t =
+      upload (deliver_named register) moment (from_retailer (parties_of register) bytes) t
   of_retailer register moment (requests.MailAfter number) t = unless t _ (λ e. cc)
   of_retailer register moment (requests.MailItem number) t = unless t _ (λ e. cc)
   of_retailer register moment (requests.MailTaken number) t = unless t _ (λ e. cc)
@@ -65,22 +72,27 @@ module _ (mark : Mark) (P : Tables → Reply × Tables → Type 0)
 
   of_anybody : (register : RegisterRows) (o : Option SupplierRow) (input : Input) (t : Tables) → P t (step_by register o input mark t)
   of_anybody register (Some s) input t =
-      either (P t) (same s.key input.key) _ _ (of_supplier (view s.gln) (parties_of register) s input.moment input.request t) (unless t denied (λ e. cc))
+      either (P t) (same s.key input.key) _ _
+      (of_supplier (view s.gln) (parties_of register) s input.moment input.request t) (unless t denied (λ e. cc))
   of_anybody register None input t =
       either (P t) (is_retailers register input) _ _ (of_retailer register input.moment input.request t) (unless t denied (λ e. cc))
 
 module _ (register : RegisterRows) (t : Tables) (input : Input) where
-  anybody : (mark : Mark) (P : Tables → Reply × Tables → Type 0) →
-      ((t : Tables) (whole : Reply) → IsWhole whole → P t (replied mark whole t)) →
-      ((deliver : RawMessage × IncomingMessage → Act) (moment : ℕ) (opened : Opened) (t : Tables) → P t (uploaded deliver moment mark opened t)) →
-      ((found : Option MailRow) (t : Tables) → P t (taken mark found t)) →
-      ((after : Told × Tables) (t : Tables) → P t (cancelled mark after t)) → P t (shared_step register t input mark)
-  anybody mark P unless upload entry cut = subst (P t) (sym (step_is register input mark t)) (of_anybody mark P unless upload entry cut register (supplier_row register.suppliers input.caller) input t)
+  anybody : (mark : Mark) (P : Tables → Reply × Tables → Type 0)
+      → ((t : Tables) (whole : Reply) → IsWhole whole → P t (replied mark whole t))
+      → ((deliver : RawMessage × IncomingMessage → Act) (moment : ℕ) (opened : Opened) (t : Tables)
+      → P t (uploaded deliver moment mark opened t))
+      → ((found : Option MailRow) (t : Tables) → P t (taken mark found t))
+      → ((after : Told × Tables) (t : Tables) → P t (cancelled mark after t)) → P t (shared_step register t input mark)
+  anybody mark P unless upload entry cut =
+      subst (P t) (sym (step_is register input mark t))
+      (of_anybody mark P unless upload entry cut register (supplier_row register.suppliers input.caller) input t)
 
   whole : IsWhole (shared_step register t input Whole).0
   whole = anybody Whole (λ t after. IsWhole after.0) (λ t reply is_whole. is_whole) upload entry (λ after t e. cc)
     where
-      upload : (deliver : RawMessage × IncomingMessage → Act) (moment : ℕ) (opened : Opened) (t : Tables) → IsWhole (uploaded deliver moment Whole opened t).0
+      upload : (deliver : RawMessage × IncomingMessage → Act) (moment : ℕ) (opened : Opened) (t : Tables)
+          → IsWhole (uploaded deliver moment Whole opened t).0
       upload deliver moment (Err code) t = λ e. cc
       upload deliver moment (Ok i) t = λ e. cc
 
@@ -91,7 +103,8 @@ module _ (register : RegisterRows) (t : Tables) (input : Input) where
   pub empty_stop : shared_step register t input StoppedEmpty ≡ (reply Stopped [], t)
   empty_stop = anybody StoppedEmpty (λ t after. after ≡ (reply Stopped [], t)) (λ t whole is_whole. refl) upload entry (λ after t. refl)
     where
-      upload : (deliver : RawMessage × IncomingMessage → Act) (moment : ℕ) (opened : Opened) (t : Tables) → uploaded deliver moment StoppedEmpty opened t ≡ (reply Stopped [], t)
+      upload : (deliver : RawMessage × IncomingMessage → Act) (moment : ℕ) (opened : Opened) (t : Tables)
+          → uploaded deliver moment StoppedEmpty opened t ≡ (reply Stopped [], t)
       upload deliver moment (Err code) t = refl
       upload deliver moment (Ok i) t = refl
 
@@ -102,7 +115,8 @@ module _ (register : RegisterRows) (t : Tables) (input : Input) where
   pub bare_stop : shared_step register t input StoppedBare ≡ (stopped, t)
   bare_stop = anybody StoppedBare (λ t after. after ≡ (stopped, t)) (λ t whole is_whole. refl) upload entry (λ after t. refl)
     where
-      upload : (deliver : RawMessage × IncomingMessage → Act) (moment : ℕ) (opened : Opened) (t : Tables) → uploaded deliver moment StoppedBare opened t ≡ (stopped, t)
+      upload : (deliver : RawMessage × IncomingMessage → Act) (moment : ℕ) (opened : Opened) (t : Tables)
+          → uploaded deliver moment StoppedBare opened t ≡ (stopped, t)
       upload deliver moment (Err code) t = refl
       upload deliver moment (Ok i) t = refl
 
@@ -113,10 +127,13 @@ module _ (register : RegisterRows) (t : Tables) (input : Input) where
   stop_after : (k : ℕ) → (shared_step register t input (StoppedAfter k)).0.outcome ≡ Stopped
   stop_after k = anybody (StoppedAfter k) (λ t after. after.0.outcome ≡ Stopped) (λ t whole is_whole. refl) upload entry (λ after t. refl)
     where
-      upload : (deliver : RawMessage × IncomingMessage → Act) (moment : ℕ) (opened : Opened) (t : Tables) → (uploaded deliver moment (StoppedAfter k) opened t).0.outcome ≡ Stopped
+      upload : (deliver : RawMessage × IncomingMessage → Act) (moment : ℕ) (opened : Opened) (t : Tables)
+          → (uploaded deliver moment (StoppedAfter k) opened t).0.outcome ≡ Stopped
       upload deliver moment (Err code) t = refl
       upload deliver moment (Ok i) t =
-          either (λ (behind : Option ℕ). (reply_by_stop (StoppedAfter k) behind i (in_row deliver (first_done (StoppedAfter k) behind (messages_at moment i)) t).0).outcome ≡ Stopped)
+          either (λ (behind : Option ℕ). (reply_by_stop (StoppedAfter k) behind i
+          (in_row deliver (first_done (StoppedAfter k) behind (messages_at moment i)) t).0).outcome
+          ≡ Stopped)
           (nat_lt k (length i.messages)) (Some k) None refl refl
 
       entry : (found : Option MailRow) (t : Tables) → (taken (StoppedAfter k) found t).0.outcome ≡ Stopped

@@ -1,7 +1,6 @@
 -- What comes again in a run.
 use Rattle.std.specs.Prelude.{◌≡◌, ℕ, ◌<◌, List, length, slice_get, Option, Some, Ok}
 use Rattle.edi_envelope.specs.declared.interchange.RawMessage.{RawMessage}
-use Rattle.edi_envelope.specs.declared.interchange.Interchange.{Interchange}
 use Rattle.hub_parties.specs.Rows.{RegisterRows, role_of}
 use Rattle.hub_parties.specs.declared.role.Role.TheVariants.{Retailer}
 use Rattle.hub_parties.specs.declared.row.SupplierRow.{SupplierRow}
@@ -13,30 +12,30 @@ use Rattle.hub_law.specs.Machine.{Inputs, shared_run}
 use Rattle.hub_law.specs.Mark.{Mark}
 use Rattle.hub_law.specs.Remembered.{StaysRemembered}
 use Rattle.hub_law.specs.Requests.{looked_at}
-use Rattle.hub_law.specs.Stops.{upload_of, all_acts, first_acts}
+use Rattle.hub_law.specs.Stops.{Upload, upload_of, all_acts, first_acts}
 use Rattle.hub_law.specs.Told.{Told, Accepted}
 use Rattle.hub_law.specs.declared.request.Input.{Input}
 use Rattle.hub_law.specs.declared.request.Request.TheVariants as requests
 
 -- the message at a place, counted from 0, of an upload that is looked at
 pub record MessageAt (register : RegisterRows) (input : Input) (place : ℕ) (message : RawMessage) : Type 0 where
-  pub upload : Interchange
+  pub upload : Upload
   pub looked_at : upload_of register input ≡ Some upload
-  pub there : slice_get upload.messages place ≡ Some message
+  pub there : slice_get upload.interchange.messages place ≡ Some message
 
 -- the message at the place is among those that are looked at: the upload was not stopped before it was done
-abbrev pub Reaches : Mark → Input → Interchange → ℕ → Type 0
-Reaches mark input upload place = place < length (looked_at input.moment mark (Ok upload))
+abbrev pub Reaches : Mark → Input → Upload → ℕ → Type 0
+Reaches mark input upload place = place < length (looked_at input.moment mark (Ok upload.interchange))
 
 -- the tables when the message at a place of an upload comes, which is after a run
-abbrev pub tables_before : RegisterRows → Tables → Inputs → Input → Interchange → ℕ → Tables
+abbrev pub tables_before : RegisterRows → Tables → Inputs → Input → Upload → ℕ → Tables
 tables_before register t before input upload place =
-    (first_acts place register input upload (shared_run register t before).1).1
+    (first_acts place upload input.moment (shared_run register t before).1).1
 
 -- what is told of it
-abbrev pub told_at : RegisterRows → Tables → Inputs → Input → Interchange → ℕ → Option Told
+abbrev pub told_at : RegisterRows → Tables → Inputs → Input → Upload → ℕ → Option Told
 told_at register t before input upload place =
-    slice_get (all_acts register input upload (shared_run register t before).1).0 place
+    slice_get (all_acts upload input.moment (shared_run register t before).1).0 place
 
 -- From sound tables of free prefixes, and after a run, the message at a place of an upload is accepted, and the upload
 -- is not stopped before it is done.
@@ -48,9 +47,9 @@ pub record AcceptedAt (register : RegisterRows) (t : Tables) (before : Inputs) (
   pub accepted : told_at register t before input comes.upload place ≡ Some Accepted
 
 -- of the same caller, and with the same control reference
-pub record SameReference (first second : Input) (one other : Interchange) : Type 0 where
+pub record SameReference (first second : Input) (one other : Upload) : Type 0 where
   pub caller : second.caller ≡ first.caller
-  pub control : other.head.reference ≡ one.head.reference
+  pub control : other.interchange.head.reference ≡ one.interchange.head.reference
 
 -- what was accepted, and tables to which it comes again: sound ones that still remember all that was remembered after
 -- it

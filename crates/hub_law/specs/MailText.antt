@@ -20,8 +20,12 @@ type_of kind = if kind == kind_letter kinds.Orders then codes "ORDERS" else code
 abbrev pub entry_line : MailRow → List ℕ
 entry_line entry = line (right 14 (decimal entry.number) ∷ type_of entry.kind ∷ entry.document ∷ [])
 
--- the first 100, then whether there are more
+-- how many entries a list has at most
+abbrev pub list_limit : ℕ
+list_limit = 100
+
+-- the first of them, as many as a list may have, then whether there are more
 unfoldable pub list_text : List MailRow → List ℕ
 list_text entries =
-    flat_map entry_line (take 100 entries)
-    ++ line ((if nat_lt 100 (length entries) then codes "more" else codes "end") ∷ [])
+    flat_map entry_line (take list_limit entries)
+    ++ line ((if nat_lt list_limit (length entries) then codes "more" else codes "end") ∷ [])

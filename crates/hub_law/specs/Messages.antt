@@ -38,7 +38,7 @@ incoming moment interchange message = record {
 abbrev pub messages_at : ℕ → Interchange → List (RawMessage × IncomingMessage)
 messages_at moment interchange = map (λ message. (message, incoming moment interchange message)) interchange.messages
 
--- the text of its mailbox entry: that of its content, with `1` as the reference
+-- the body of its mailbox entry: its text, with `1` as the reference
 abbrev pub body_of : RawMessage → List ℕ
 body_of message = text (map renumbered message.segments)
 

@@ -1,13 +1,12 @@
 //! What is stopped: laws, each the contract of a function without a body.
 ghost use Rattle.std.specs.Prelude.{◌≡◌, ◌≢◌, ◌↔◌, ◌<◌, ◌≤◌, ℕ, [], length, Some, None};
-ghost use Rattle.edi_envelope.specs.declared.interchange.Interchange.{Interchange};
 ghost use Rattle.hub_parties.specs.Rows.{RegisterRows};
 ghost use Rattle.hub_tables.specs.Tables.{Tables};
 ghost use Rattle.hub_law.specs.Machine.{shared_step};
 ghost use Rattle.hub_law.specs.Mark.{Mark, Whole, StoppedEmpty, StoppedBare, StoppedAfter};
 ghost use Rattle.hub_law.specs.Replies.{reply, stopped, whole_reply};
 ghost use Rattle.hub_law.specs.Requests.{replied_by};
-ghost use Rattle.hub_law.specs.Stops.{upload_of, all_acts, first_acts, reply_behind};
+ghost use Rattle.hub_law.specs.Stops.{Upload, upload_of, all_acts, first_acts, reply_behind};
 ghost use Rattle.hub_law.specs.declared.reply.Outcome.TheVariants.{Stopped};
 ghost use Rattle.hub_law.specs.declared.request.Input.{Input};
 
@@ -27,15 +26,16 @@ pub fn stops_are_told()
 /// word, and the tables are those after the first k acts. A stop after k messages of anything else, or of no more than
 /// k, is one before anything was done.
 pub fn stops_cut_uploads()
-    ensures whole { (register : RegisterRows) (t : Tables) (input : Input) (i : Interchange) →
-        upload_of register input ≡ Some i →
-        shared_step register t input Whole ≡ replied_by (whole_reply i) (all_acts register input i t) }
-    ensures behind { (register : RegisterRows) (t : Tables) (input : Input) (k : ℕ) (i : Interchange) →
-        upload_of register input ≡ Some i → k < length i.messages →
+    ensures whole { (register : RegisterRows) (t : Tables) (input : Input) (upload : Upload) →
+        upload_of register input ≡ Some upload →
+        shared_step register t input Whole ≡
+        replied_by (whole_reply upload.interchange) (all_acts upload input.moment t) }
+    ensures behind { (register : RegisterRows) (t : Tables) (input : Input) (k : ℕ) (upload : Upload) →
+        upload_of register input ≡ Some upload → k < length upload.interchange.messages →
         shared_step register t input (StoppedAfter k) ≡
-        (reply_behind k i (all_acts register input i t).0, (first_acts k register input i t).1) }
-    ensures too_far { (register : RegisterRows) (t : Tables) (input : Input) (k : ℕ) (i : Interchange) →
-        upload_of register input ≡ Some i → length i.messages ≤ k →
+        (reply_behind k upload.interchange (all_acts upload input.moment t).0, (first_acts k upload input.moment t).1) }
+    ensures too_far { (register : RegisterRows) (t : Tables) (input : Input) (k : ℕ) (upload : Upload) →
+        upload_of register input ≡ Some upload → length upload.interchange.messages ≤ k →
         shared_step register t input (StoppedAfter k) ≡ (stopped, t) }
     ensures no_upload { (register : RegisterRows) (t : Tables) (input : Input) (k : ℕ) →
         upload_of register input ≡ None → shared_step register t input (StoppedAfter k) ≡ (stopped, t) }

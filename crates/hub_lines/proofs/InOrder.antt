@@ -1,5 +1,6 @@
 -- The first of a list in order that is not below a key.
-use Rattle.std.proofs.Common.{◌≡◌, ℕ, zero, suc, ◌+◌, ◌≤◌, Bool, true, false, cond, List, [], ◌∷◌, length, get_or, slice_get, map, find, Some, None, refl, sym, ap, ◌∙◌, arith}
+use Rattle.std.proofs.Common.{◌≡◌, ℕ, zero, suc, ◌+◌, ◌≤◌, Bool, true, false, cond, List, [], ◌∷◌, length, get_or}
+use Rattle.std.proofs.Common.{slice_get, map, find, Some, None, refl, sym, ap, ◌∙◌, arith}
 use Rattle.std.specs.List.{AllByRecursion, prefix_len}
 use Rattle.std.specs.List.Sorted.{IsPartitionedBy, IsPartitionPoint}
 use Rattle.std.specs.declared.cmp.Ordering.{Ordering}
@@ -22,9 +23,13 @@ prefix_len-map p key [] = refl
 prefix_len-map p key (x ∷ xs) = ap (λ n. cond (p (key x)) (1 + n) 0) (prefix_len-map p key xs)
 
 -- a partition point is the length of what passes
-pub from_point : {X : Type 0} (p : X → Bool) (xs : List X) (n : ℕ) → n ≤ length xs → IsPartitionPoint (λ x. p x ≡ true) (λ x. p x ≡ false) xs n → n ≡ prefix_len p xs
+pub from_point : {X : Type 0} (p : X → Bool) (xs : List X) (n : ℕ)
+    → n ≤ length xs
+    → IsPartitionPoint (λ x. p x ≡ true) (λ x. p x ≡ false) xs n
+    → n ≡ prefix_len p xs
 from_point p [] n bound point = omega arith
-from_point p (x ∷ xs) n bound point = sym (prefix_len_is p (x ∷ xs) n x bound (λ k l. point.0 k x (omega arith) l) (λ l. point.1 n x (omega arith) l))
+from_point p (x ∷ xs) n bound point =
+    sym (prefix_len_is p (x ∷ xs) n x bound (λ k l. point.0 k x (omega arith) l) (λ l. point.1 n x (omega arith) l))
 
 less_is : (o : Ordering) → is_lt o ≡ true → o ≡ Less
 less_is Less h = refl
@@ -53,22 +58,33 @@ module _ {X K : Type 0} {cmp : K → K → Ordering} (total : IsTotalOrder cmp) 
   parted [] o i j d le lt h = absurd (omega arith)
   parted (x ∷ xs) o zero zero d le lt h = h
   parted (x ∷ xs) o zero (suc j) d le lt h =
-      down (key x) (key (get_or xs j d)) (All-get_or (λ y. is_gt (cmp (key x) (key y)) ≡ false) xs j d (omega arith) (All-from_recursion (λ y. is_gt (cmp (key x) (key y)) ≡ false) xs o.0)) h
+      down (key x) (key (get_or xs j d)) (All-get_or (λ y. is_gt (cmp (key x) (key y)) ≡ false) xs j d (omega arith)
+      (All-from_recursion (λ y. is_gt (cmp (key x) (key y)) ≡ false) xs o.0)) h
   parted (x ∷ xs) o (suc i) zero d le lt h = absurd (omega arith)
   parted (x ∷ xs) o (suc i) (suc j) d le lt h = parted xs o.1 i j d (omega arith) (omega arith) h
 
   -- the first of the key stands after all that are below it, or there is none
-  pub first_at : (below : K → Bool) → ((k : K) → below k ≡ is_lt (cmp k t)) → (xs : List X) → InOrder (λ a b. cmp (key a) (key b)) xs →
-      find (λ x. is_eq (cmp (key x) t)) xs ≡ option_filter (λ x. is_eq (cmp (key x) t)) (slice_get xs (prefix_len below (map key xs)))
+  pub first_at : (below : K → Bool) → ((k : K) → below k ≡ is_lt (cmp k t)) → (xs : List X) → InOrder (λ a b. cmp (key a) (key b)) xs
+      → find (λ x. is_eq (cmp (key x) t)) xs ≡ option_filter (λ x. is_eq (cmp (key x) t)) (slice_get xs (prefix_len below (map key xs)))
   first_at below is [] o = refl
   first_at below is (x ∷ xs) o =
       let at : X → Bool = λ x. is_eq (cmp (key x) t) in
       let rest = prefix_len below (map key xs) in
       let more : 1 + rest ≡ suc rest = omega arith in
-      elim (cmp (key x) t) as (λ r. cmp (key x) t ≡ r → cond (at x) (Some x) (find at xs) ≡ option_filter at (slice_get (x ∷ xs) (cond (below (key x)) (1 + rest) 0))) [
-        | Less ↦ λ e. ap (λ v. cond v (Some x) (find at xs)) (ap is_eq e) ∙ first_at below is xs o.1 ∙ ap (λ n. option_filter at (slice_get (x ∷ xs) n)) (sym (ap (λ v. cond v (1 + rest) 0) (is (key x) ∙ ap is_lt e) ∙ more))
-        | Equal ↦ λ e. ap (λ v. cond v (Some x) (find at xs)) (ap is_eq e) ∙ sym (ap (λ v. option_filter at (slice_get (x ∷ xs) (cond v (1 + rest) 0))) (is (key x) ∙ ap is_lt e) ∙ ap (λ v. cond v (Some x) None) (ap is_eq e))
+      elim (cmp (key x) t) as (λ r. cmp (key x) t ≡ r
+      → cond (at x) (Some x) (find at xs) ≡ option_filter at (slice_get (x ∷ xs) (cond (below (key x)) (1 + rest) 0))) [
+        | Less ↦ λ e. ap (λ v. cond v (Some x) (find at xs)) (ap is_eq e)
+            ∙ first_at below is xs o.1
+            ∙ ap (λ n. option_filter at (slice_get (x ∷ xs) n))
+            (sym (ap (λ v. cond v (1 + rest) 0) (is (key x) ∙ ap is_lt e) ∙ more))
+        | Equal ↦ λ e. ap (λ v. cond v (Some x) (find at xs)) (ap is_eq e)
+            ∙ sym (ap (λ v. option_filter at (slice_get (x ∷ xs) (cond v (1 + rest) 0))) (is (key x) ∙ ap is_lt e)
+            ∙ ap (λ v. cond v (Some x) None) (ap is_eq e))
         | Greater ↦ λ e.
-            ap (λ v. cond v (Some x) (find at xs)) (ap is_eq e) ∙ find_none at xs (all_weaker (λ y. is_gt (cmp (key x) (key y)) ≡ false) (λ y. at y ≡ false) (λ y h. past (key x) (key y) h e) xs o.0)
-            ∙ sym (ap (λ v. option_filter at (slice_get (x ∷ xs) (cond v (1 + rest) 0))) (is (key x) ∙ ap is_lt e) ∙ ap (λ v. cond v (Some x) None) (ap is_eq e))
+            ap (λ v. cond v (Some x) (find at xs)) (ap is_eq e)
+            ∙ find_none at xs
+            (all_weaker (λ y. is_gt (cmp (key x) (key y)) ≡ false) (λ y. at y ≡ false) (λ y h. past (key x) (key y) h e)
+            xs o.0)
+            ∙ sym (ap (λ v. option_filter at (slice_get (x ∷ xs) (cond v (1 + rest) 0))) (is (key x) ∙ ap is_lt e)
+            ∙ ap (λ v. cond v (Some x) None) (ap is_eq e))
       ] refl

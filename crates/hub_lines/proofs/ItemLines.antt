@@ -1,5 +1,6 @@
 -- What the lines with an item come to: none, one or several.
-use Rattle.std.proofs.Common.{◌≡◌, ℕ, suc, ◌+◌, Bool, true, false, cond, List, [], ◌∷◌, map, filter, slice_get, Option, Some, None, refl, sym, subst, arith}
+use Rattle.std.proofs.Common.{◌≡◌, ℕ, suc, ◌+◌, Bool, true, false, cond, List, [], ◌∷◌, map, filter, slice_get, Option}
+use Rattle.std.proofs.Common.{Some, None, refl, sym, subst, arith}
 use Rattle.hub_tables.specs.State.{the_only}
 use Rattle.hub_lines.specs.ItemIndex.{lines_with}
 use Rattle.hub_lines.specs.Key.{LineKey}
@@ -19,13 +20,18 @@ Tells xs ys before (Some Several) = the_only ys ≡ None
 module _ {X : Type 0} (key : X → LineKey) (test : LineKey → Bool) where
   several : (place : ℕ) (xs : List X) → lines_with test (Some Several) place (map key xs) ≡ Some Several
   several place [] = refl
-  several place (x ∷ xs) = elim (test (key x)) as (λ v. lines_with test (cond v (Some Several) (Some Several)) (place + 1) (map key xs) ≡ Some Several) [ true ↦ several (place + 1) xs | false ↦ several (place + 1) xs ]
+  several place (x ∷ xs) =
+      elim (test (key x)) as
+      (λ v. lines_with test (cond v (Some Several) (Some Several)) (place + 1) (map key xs) ≡ Some Several)
+      [ true ↦ several (place + 1) xs | false ↦ several (place + 1) xs ]
 
-  after_one : (one place : ℕ) (xs : List X) → lines_with test (Some (One one)) place (map key xs) ≡ one_or_several one (filter (λ x. test (key x)) xs)
+  after_one : (one place : ℕ) (xs : List X)
+      → lines_with test (Some (One one)) place (map key xs) ≡ one_or_several one (filter (λ x. test (key x)) xs)
   unfolding one_or_several
   after_one one place [] = refl
   after_one one place (x ∷ xs) =
-      elim (test (key x)) as (λ v. lines_with test (cond v (Some Several) (Some (One one))) (place + 1) (map key xs) ≡ one_or_several one (cond v (x ∷ filter (λ x. test (key x)) xs) (filter (λ x. test (key x)) xs))) [
+      elim (test (key x)) as (λ v. lines_with test (cond v (Some Several) (Some (One one))) (place + 1) (map key xs)
+      ≡ one_or_several one (cond v (x ∷ filter (λ x. test (key x)) xs) (filter (λ x. test (key x)) xs))) [
         | true ↦ several (place + 1) xs
         | false ↦ after_one one (place + 1) xs
       ]
@@ -44,7 +50,8 @@ module _ {X : Type 0} (key : X → LineKey) (test : LineKey → Bool) where
   told place [] = refl
   told place (x ∷ xs) =
       let rest = filter (λ x. test (key x)) xs in
-      elim (test (key x)) as (λ v. Tells (x ∷ xs) (cond v (x ∷ rest) rest) place (lines_with test (cond v (Some (One place)) None) (place + 1) (map key xs))) [
+      elim (test (key x)) as (λ v. Tells (x ∷ xs) (cond v (x ∷ rest) rest) place
+      (lines_with test (cond v (Some (One place)) None) (place + 1) (map key xs))) [
         | true ↦ subst (Tells (x ∷ xs) (x ∷ rest) place) (sym (after_one place (place + 1) xs)) (starts x xs rest place)
         | false ↦ later x xs rest place (lines_with test None (place + 1) (map key xs)) (told (place + 1) xs)
       ]

@@ -1,5 +1,5 @@
 -- The definitions at small registers.
-use Rattle.std.proofs.Common.{◌≡◌, ℕ, List, [], ◌∷◌, Some, None, Ok, Err, codes, refl}
+use Rattle.std.proofs.Common.{◌≡◌, ℕ, List, [], ◌∷◌, ◌++◌, Some, None, Ok, Err, codes, refl}
 use Rattle.toml.proofs.OnLiterals.{toml_on_literals}
 use Rattle.hub_parties.specs.Rows.{RegisterRows, role_of}
 use Rattle.hub_parties.specs.declared.role.Role.TheVariants.{Retailer, Supplier}
@@ -36,7 +36,11 @@ two_suppliers = refl
 no_supplier : fault_of (of []) ≡ None
 no_supplier = refl
 
-first_and_last : fault_of (of (supplier (codes "3512345000005") (codes "8712345") ∷ supplier (codes "7612345000008") (codes "40123455") ∷ supplier alpha (codes "4012345") ∷ supplier beta (codes "8712") ∷ [])) ≡ Some (Overlap 1 4)
+first_and_last : fault_of (of (supplier (codes "3512345000005") (codes "8712345")
+    ∷ supplier (codes "7612345000008") (codes "40123455")
+    ∷ supplier alpha (codes "4012345")
+    ∷ supplier beta (codes "8712")
+    ∷ [])) ≡ Some (Overlap 1 4)
 first_and_last = refl
 
 equal_prefixes : fault_of (of (supplier alpha (codes "4012345") ∷ supplier beta (codes "4012345") ∷ [])) ≡ Some (Overlap 1 2)
@@ -48,7 +52,9 @@ three_digits = refl
 retailer_as_supplier : fault_of (of (supplier retailer (codes "4012345") ∷ [])) ≡ Some Twice
 retailer_as_supplier = refl
 
-wrong_gln_after_wrong_key : fault_of (of (row_with alpha (codes "4012345") (codes "short") ∷ supplier (codes "8712345000005") (codes "8712345") ∷ [])) ≡ Some Gln
+wrong_gln_after_wrong_key : fault_of (of (row_with alpha (codes "4012345") (codes "short")
+    ∷ supplier (codes "8712345000005") (codes "8712345")
+    ∷ [])) ≡ Some Gln
 wrong_gln_after_wrong_key = refl
 
 one_right_key : role_of (of (supplier alpha (codes "40123455") ∷ [])) alpha (codes "alpha-key-1") ≡ Some Supplier
@@ -60,7 +66,8 @@ retailers_key_for_a_supplier = refl
 retailer_is_known : role_of (of []) retailer (codes "retail-key") ≡ Some Retailer
 retailer_is_known = refl
 
-a_text : rows_of_text (codes "hub = \"5412345000006\"\n[retailer]\ngln = \"5412345000013\"\nkey = \"retail-key\"\n[[supplier]]\nname = \"A\"\ngln = \"4012345500004\"\nprefix = \"40123455\"\nkey = \"alpha-key-1\"\n")
+a_text : rows_of_text (codes "hub = \"5412345000006\"\n[retailer]\ngln = \"5412345000013\"\nkey = \"retail-key\"\n"
+    ++ codes "[[supplier]]\nname = \"A\"\ngln = \"4012345500004\"\nprefix = \"40123455\"\nkey = \"alpha-key-1\"\n")
     ≡ Some (of (supplier alpha (codes "40123455") ∷ []))
 unfolding toml_on_literals
 a_text = refl
@@ -73,7 +80,8 @@ a_number_for_a_key : register_of (codes "hub = \"5412345000006\"\nretailer = { g
 unfolding toml_on_literals
 a_number_for_a_key = refl
 
-one_supplier_as_a_table : register_of (codes "hub = \"5412345000006\"\nretailer = { gln = \"5412345000013\", key = \"retail-key\" }\n[supplier]\ngln = \"4012345500004\"\nprefix = \"40123455\"\nkey = \"alpha-key-1\"\n") ≡ Err Text
+one_supplier_as_a_table : register_of (codes "hub = \"5412345000006\"\nretailer = { gln = \"5412345000013\", key = \"retail-key\" }\n"
+    ++ codes "[supplier]\ngln = \"4012345500004\"\nprefix = \"40123455\"\nkey = \"alpha-key-1\"\n") ≡ Err Text
 unfolding toml_on_literals
 one_supplier_as_a_table = refl
 

@@ -17,7 +17,8 @@ by_place Q Greater a b c x y z = z
 length-put : (row : SupplierRow) (rows : List SupplierRow) → length (put row rows) ≤ length rows + 1
 length-put row [] = omega arith
 length-put row (r ∷ rs) =
-    by_place (λ rows. length rows ≤ length (r ∷ rs) + 1) (slice_cmp nat_cmp row.gln r.gln) (row ∷ r ∷ rs) (row ∷ rs) (r ∷ put row rs) (omega arith) (omega arith) (omega (arith, length-put row rs))
+    by_place (λ rows. length rows ≤ length (r ∷ rs) + 1) (slice_cmp nat_cmp row.gln r.gln) (row ∷ r ∷ rs) (row ∷ rs)
+    (r ∷ put row rs) (omega arith) (omega arith) (omega (arith, length-put row rs))
 
 pub length-put_all : (rows done : List SupplierRow) → length (put_all rows done) ≤ length rows + length done
 length-put_all [] done = omega arith
@@ -27,7 +28,10 @@ module _ {A : Type 0} (f : SupplierRow → A) (p : A → Bool) where
   both : {a b : Bool} → a ≡ true → b ≡ true → (a && b) ≡ true
   both x y = ap₂ (λ a b. a && b) x y
 
-  all-put : (row : SupplierRow) (rows : List SupplierRow) → p (f row) ≡ true → list_all p (map f rows) ≡ true → list_all p (map f (put row rows)) ≡ true
+  all-put : (row : SupplierRow) (rows : List SupplierRow)
+      → p (f row) ≡ true
+      → list_all p (map f rows) ≡ true
+      → list_all p (map f (put row rows)) ≡ true
   all-put row [] here there = both here refl
   all-put row (r ∷ rs) here there =
       let parts = and_parts (p (f r)) (list_all p (map f rs)) there in
@@ -35,7 +39,10 @@ module _ {A : Type 0} (f : SupplierRow → A) (p : A → Bool) where
       (both here there) (both here parts.1) (both parts.0 (all-put row rs here parts.1))
 
   -- a test that all rows pass
-  pub all-put_all : (rows done : List SupplierRow) → list_all p (map f rows) ≡ true → list_all p (map f done) ≡ true → list_all p (map f (put_all rows done)) ≡ true
+  pub all-put_all : (rows done : List SupplierRow)
+      → list_all p (map f rows) ≡ true
+      → list_all p (map f done) ≡ true
+      → list_all p (map f (put_all rows done)) ≡ true
   all-put_all [] done waiting put = put
   all-put_all (row ∷ rows) done waiting put =
       let parts = and_parts (p (f row)) (list_all p (map f rows)) waiting in
@@ -46,7 +53,8 @@ module _ (P : SupplierRow → Type 0) where
   pub every-put : (row : SupplierRow) (rows : List SupplierRow) → P row → AllByRecursion P rows → AllByRecursion P (put row rows)
   every-put row [] here there = (here, tt)
   every-put row (r ∷ rs) here there =
-      by_place (AllByRecursion P) (slice_cmp nat_cmp row.gln r.gln) (row ∷ r ∷ rs) (row ∷ rs) (r ∷ put row rs) (here, there) (here, there.1) (there.0, every-put row rs here there.1)
+      by_place (AllByRecursion P) (slice_cmp nat_cmp row.gln r.gln) (row ∷ r ∷ rs) (row ∷ rs) (r ∷ put row rs) (here, there)
+      (here, there.1) (there.0, every-put row rs here there.1)
 
   pub every-put_all : (rows done : List SupplierRow) → AllByRecursion P rows → AllByRecursion P done → AllByRecursion P (put_all rows done)
   every-put_all [] done waiting put = put
@@ -65,13 +73,21 @@ module _ (R : SupplierRow → SupplierRow → Type 0) (turned : (r s : SupplierR
       by_place (Apart R) (slice_cmp nat_cmp row.gln r.gln) (row ∷ r ∷ rs) (row ∷ rs) (r ∷ put row rs)
       (here, there) (here.1, there.1) (every-put (R r) row rs (turned row r here.0) there.0, apart-put row rs here.1 there.1)
 
-  next : (row : SupplierRow) (rows done : List SupplierRow) → AllByRecursion (R row) rows → AllByRecursion (λ r. AllByRecursion (R r) done) rows → AllByRecursion (λ r. AllByRecursion (R r) (put row done)) rows
+  next : (row : SupplierRow) (rows done : List SupplierRow)
+      → AllByRecursion (R row) rows
+      → AllByRecursion (λ r. AllByRecursion (R r) done) rows
+      → AllByRecursion (λ r. AllByRecursion (R r) (put row done)) rows
   next row [] done here there = tt
   next row (r ∷ rs) done here there = (every-put (R r) row done (turned row r here.0) there.0, next row rs done here.1 there.1)
 
-  apart-put_all : (rows done : List SupplierRow) → Apart R rows → Apart R done → AllByRecursion (λ r. AllByRecursion (R r) done) rows → Apart R (put_all rows done)
+  apart-put_all : (rows done : List SupplierRow)
+      → Apart R rows
+      → Apart R done
+      → AllByRecursion (λ r. AllByRecursion (R r) done) rows
+      → Apart R (put_all rows done)
   apart-put_all [] done waiting put between = put
-  apart-put_all (row ∷ rows) done waiting put between = apart-put_all rows _ waiting.1 (apart-put row done between.0 put) (next row rows done waiting.0 between.1)
+  apart-put_all (row ∷ rows) done waiting put between =
+      apart-put_all rows _ waiting.1 (apart-put row done between.0 put) (next row rows done waiting.0 between.1)
 
   from_none : (rows : List SupplierRow) → AllByRecursion (λ r. AllByRecursion (R r) []) rows
   from_none [] = tt

@@ -1,12 +1,14 @@
 -- Rows of different GLNs, put in the order of their GLNs, are the same rows.
-use Rattle.std.proofs.Common.{◌≡◌, ℕ, ◌+◌, Bool, true, false, not, nat_lt, length, option_map, if◌then◌else◌, List, [], ◌∷◌, ◌++◌, map, Ordering, Option, Some, None, Ok, refl, sym, ap, ◌∙◌}
+use Rattle.std.proofs.Common.{◌≡◌, ℕ, ◌+◌, Bool, true, false, not, nat_lt, length, option_map, if◌then◌else◌, List, [], ◌∷◌}
+use Rattle.std.proofs.Common.{◌++◌, map, Ordering, Option, Some, None, Ok, refl, sym, ap, ◌∙◌}
 use Rattle.std.specs.List.{AllByRecursion, list_all}
 use Rattle.std.specs.List.Sorted.{IsPermutation}
 use Rattle.std.specs.Ordering.{nat_cmp, match_ordering, is_eq}
 use Rattle.std.specs.Cmp.Lexicographic.{slice_cmp}
 use Rattle.std.specs.declared.cmp.Ordering.TheVariants.{Less, Equal, Greater}
 use Rattle.std.proofs.lemmas.Bool.{or_parts, true≢false}
-use Rattle.std.proofs.lemmas.List.Sorted.{IsPermutation-refl, IsPermutation-cons, IsPermutation-middle, IsPermutation-trans, IsPermutation-sym, IsPermutation-append_right}
+use Rattle.std.proofs.lemmas.List.Sorted.{IsPermutation-refl, IsPermutation-cons, IsPermutation-middle, IsPermutation-trans}
+use Rattle.std.proofs.lemmas.List.Sorted.{IsPermutation-sym, IsPermutation-append_right}
 use Rattle.std.proofs.lemmas.Map.Text.{is_eq-slice_cmp}
 use Rattle.edi_base.specs.Seen.{is_among, has_twice}
 use Rattle.gs1_ids.specs.Gln.{is_gln}
@@ -30,18 +32,27 @@ put-case : (o : Ordering) (row r : SupplierRow) (rs more : List SupplierRow) →
 put-case Less row r rs more differs ih = IsPermutation-refl (row ∷ r ∷ rs)
 put-case Equal row r rs more differs ih = absurd (true≢false differs)
 put-case Greater row r rs more differs ih =
-    IsPermutation-trans (row ∷ r ∷ rs) (r ∷ row ∷ rs) (r ∷ more) (IsPermutation-middle (row ∷ []) r rs) (IsPermutation-cons r (row ∷ rs) more ih)
+    IsPermutation-trans (row ∷ r ∷ rs) (r ∷ row ∷ rs) (r ∷ more) (IsPermutation-middle (row ∷ []) r rs)
+    (IsPermutation-cons r (row ∷ rs) more ih)
 
 put-permutes : (row : SupplierRow) (rows : List SupplierRow) → AllByRecursion (Differ row) rows → IsPermutation (row ∷ rows) (put row rows)
 put-permutes row [] differs = IsPermutation-refl (row ∷ [])
 put-permutes row (r ∷ rs) differs =
-    put-case (slice_cmp nat_cmp row.gln r.gln) row r rs (put row rs) (is_eq-slice_cmp row.gln r.gln ∙ differs.0) (put-permutes row rs differs.1)
+    put-case (slice_cmp nat_cmp row.gln r.gln) row r rs (put row rs) (is_eq-slice_cmp row.gln r.gln ∙ differs.0)
+    (put-permutes row rs differs.1)
 
-between-next : (row : SupplierRow) (rows done : List SupplierRow) → AllByRecursion (Differ row) rows → AllByRecursion (λ r. AllByRecursion (Differ r) done) rows → AllByRecursion (λ r. AllByRecursion (Differ r) (put row done)) rows
+between-next : (row : SupplierRow) (rows done : List SupplierRow)
+    → AllByRecursion (Differ row) rows
+    → AllByRecursion (λ r. AllByRecursion (Differ r) done) rows
+    → AllByRecursion (λ r. AllByRecursion (Differ r) (put row done)) rows
 between-next row [] done here there = tt
-between-next row (r ∷ rs) done here there = (every-put (Differ r) row done (differ-turned row r here.0) there.0, between-next row rs done here.1 there.1)
+between-next row (r ∷ rs) done here there =
+    (every-put (Differ r) row done (differ-turned row r here.0) there.0, between-next row rs done here.1 there.1)
 
-put_all-permutes : (rows done : List SupplierRow) → Apart Differ rows → AllByRecursion (λ r. AllByRecursion (Differ r) done) rows → IsPermutation (rows ++ done) (put_all rows done)
+put_all-permutes : (rows done : List SupplierRow)
+    → Apart Differ rows
+    → AllByRecursion (λ r. AllByRecursion (Differ r) done) rows
+    → IsPermutation (rows ++ done) (put_all rows done)
 put_all-permutes [] done apart between = IsPermutation-refl done
 put_all-permutes (row ∷ rows) done apart between =
     IsPermutation-trans (row ∷ (rows ++ done)) (rows ++ row ∷ done) (put_all rows (put row done))
@@ -59,7 +70,9 @@ with_nothing [] = refl
 with_nothing (row ∷ rows) = ap (λ rest. row ∷ rest) (with_nothing rows)
 
 -- what the third of the conditions says, where no fault stands against the rows
-third : (a b c : Bool) (f g h : RegisterFault) (rest : Option RegisterFault) → (if a then Some f else if b then Some g else if c then Some h else rest) ≡ None → c ≡ false
+third : (a b c : Bool) (f g h : RegisterFault) (rest : Option RegisterFault)
+    → (if a then Some f else if b then Some g else if c then Some h else rest) ≡ None
+    → c ≡ false
 third true b c f g h rest e = cc
 third false true c f g h rest e = cc
 third false false true f g h rest e = cc
@@ -71,12 +84,19 @@ ordered rows once =
     let second = or_parts (is_among rows.retailer (map (λ r. r.gln) rows.suppliers)) _ first.1 in
     rw (with_nothing rows.suppliers) at (put_all-permutes rows.suppliers [] (differ rows.suppliers second.1) (none rows.suppliers))
 
-by_fault : (rows register : RegisterRows) (fault : Option RegisterFault) → fault_of rows ≡ fault → judged rows fault ≡ Ok register → HasRows rows register
+by_fault : (rows register : RegisterRows) (fault : Option RegisterFault)
+    → fault_of rows ≡ fault
+    → judged rows fault ≡ Ok register
+    → HasRows rows register
 by_fault rows register None right e =
     let same : in_gln_order rows ≡ register = cc in
     let once : has_twice (glns rows) ≡ false =
     third (nat_lt 1000 (length rows.suppliers)) (not (list_all is_gln (glns rows))) (has_twice (glns rows)) Many Gln Twice
-    (if not (list_all is_prefix (prefixes rows)) then Some Prefix else if not (list_all is_party_key (keys rows)) then Some Key else option_map (λ places. Overlap (places.0 + 1) (places.1 + 1)) (first_overlap_of (prefixes rows)))
+    (if not (list_all is_prefix (prefixes rows))
+    then Some Prefix
+    else if not (list_all is_party_key (keys rows))
+    then Some Key
+    else option_map (λ places. Overlap (places.0 + 1) (places.1 + 1)) (first_overlap_of (prefixes rows)))
     right in
     record {
       right = right;
@@ -87,7 +107,10 @@ by_fault rows register None right e =
     }
 by_fault rows register (Some fault) right e = cc
 
-by_rows : (text : List ℕ) (register : RegisterRows) (read : Option RegisterRows) → rows_of_text text ≡ read → register_of_rows read ≡ Ok register → (rows : RegisterRows) × (rows_of_text text ≡ Some rows) × HasRows rows register
+by_rows : (text : List ℕ) (register : RegisterRows) (read : Option RegisterRows)
+    → rows_of_text text ≡ read
+    → register_of_rows read ≡ Ok register
+    → (rows : RegisterRows) × (rows_of_text text ≡ Some rows) × HasRows rows register
 by_rows text register None is e = cc
 by_rows text register (Some rows) is e = (rows, is, by_fault rows register (fault_of rows) refl e)
 

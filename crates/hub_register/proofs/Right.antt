@@ -1,5 +1,6 @@
 -- Rows that no fault stands against are those of a register, in the order of their GLNs too.
-use Rattle.std.proofs.Common.{◌≡◌, ℕ, suc, ◌≤◌, Bool, true, false, ◌&&◌, List, [], ◌∷◌, ◌++◌, length, get_or, map, refl, sym, ap, ap₂, ◌∙◌, arith, All}
+use Rattle.std.proofs.Common.{◌≡◌, ℕ, suc, ◌≤◌, Bool, true, false, ◌&&◌, List, [], ◌∷◌, ◌++◌, length, get_or, map, refl}
+use Rattle.std.proofs.Common.{sym, ap, ap₂, ◌∙◌, arith, All}
 use Rattle.std.specs.List.{list_all, flat_map, AllByRecursion}
 use Rattle.std.specs.Str.{bytes_eq}
 use Rattle.std.proofs.lemmas.Bool.{and_parts, or_parts, or_from}
@@ -24,11 +25,15 @@ Differ r s = bytes_eq r.gln s.gln ≡ false
 pub differ-turned : (r s : SupplierRow) → Differ r s → Differ s r
 differ-turned r s h = bytes_eq-sym s.gln r.gln ∙ h
 
-not_among : (text : List ℕ) (rows : List SupplierRow) → AllByRecursion (λ r. bytes_eq text r.gln ≡ false) rows → is_among text (map (λ r. r.gln) rows) ≡ false
+not_among : (text : List ℕ) (rows : List SupplierRow)
+    → AllByRecursion (λ r. bytes_eq text r.gln ≡ false) rows
+    → is_among text (map (λ r. r.gln) rows) ≡ false
 not_among text [] h = refl
 not_among text (r ∷ rs) h = or_from (bytes_eq text r.gln) _ h.0 (not_among text rs h.1)
 
-each_differs : (text : List ℕ) (rows : List SupplierRow) → is_among text (map (λ r. r.gln) rows) ≡ false → AllByRecursion (λ r. bytes_eq text r.gln ≡ false) rows
+each_differs : (text : List ℕ) (rows : List SupplierRow)
+    → is_among text (map (λ r. r.gln) rows) ≡ false
+    → AllByRecursion (λ r. bytes_eq text r.gln ≡ false) rows
 each_differs text [] h = tt
 each_differs text (r ∷ rs) h = let parts = or_parts (bytes_eq text r.gln) _ h in (parts.0, each_differs text rs parts.1)
 
@@ -40,13 +45,18 @@ pub differ : (rows : List SupplierRow) → has_twice (map (λ r. r.gln) rows) �
 differ [] h = tt
 differ (r ∷ rs) h = let parts = or_parts (is_among r.gln (map (λ s. s.gln) rs)) _ h in (each_differs r.gln rs parts.0, differ rs parts.1)
 
-glns-apart : (hub retailer : List ℕ) (rows : List SupplierRow) → has_twice (hub ∷ retailer ∷ map (λ r. r.gln) rows) ≡ false → has_twice (hub ∷ retailer ∷ map (λ r. r.gln) (put_all rows [])) ≡ false
+glns-apart : (hub retailer : List ℕ) (rows : List SupplierRow)
+    → has_twice (hub ∷ retailer ∷ map (λ r. r.gln) rows) ≡ false
+    → has_twice (hub ∷ retailer ∷ map (λ r. r.gln) (put_all rows [])) ≡ false
 glns-apart hub retailer rows h =
     let first = or_parts (is_among hub (retailer ∷ map (λ r. r.gln) rows)) _ h in
     let at_hub = or_parts (bytes_eq hub retailer) _ first.0 in
     let second = or_parts (is_among retailer (map (λ r. r.gln) rows)) _ first.1 in
-    let other : (text : List ℕ) → is_among text (map (λ r. r.gln) rows) ≡ false → is_among text (map (λ r. r.gln) (put_all rows [])) ≡ false =
-    λ text none. not_among text (put_all rows []) (every-put_all (λ r. bytes_eq text r.gln ≡ false) rows [] (each_differs text rows none) tt) in
+    let other : (text : List ℕ)
+    → is_among text (map (λ r. r.gln) rows) ≡ false
+    → is_among text (map (λ r. r.gln) (put_all rows [])) ≡ false =
+    λ text none. not_among text (put_all rows [])
+    (every-put_all (λ r. bytes_eq text r.gln ≡ false) rows [] (each_differs text rows none) tt) in
     or_from _ _ (or_from (bytes_eq hub retailer) _ at_hub.0 (other hub at_hub.1))
     (or_from _ _ (other retailer second.0) (once (put_all rows []) (apart_in_order Differ differ-turned rows (differ rows second.1))))
 
@@ -55,7 +65,10 @@ abbrev pub Free : SupplierRow → SupplierRow → Type 0
 Free r s = AreApart r.prefixes s.prefixes
 
 free-turned : (r s : SupplierRow) → Free r s → Free s r
-free-turned r s h = λ j e there i d here. or_comm (begins (get_or s.prefixes j e) (get_or r.prefixes i d)) (begins (get_or r.prefixes i d) (get_or s.prefixes j e)) ∙ h i d here j e there
+free-turned r s h =
+    λ j e there i d here.
+    or_comm (begins (get_or s.prefixes j e) (get_or r.prefixes i d)) (begins (get_or r.prefixes i d) (get_or s.prefixes j e))
+    ∙ h i d here j e there
 
 each_free : (r : SupplierRow) (rows : List SupplierRow) → All (AreApart r.prefixes) (company_prefixes rows) → AllByRecursion (Free r) rows
 each_free r [] h = tt
@@ -63,7 +76,10 @@ each_free r (s ∷ rows) h = (h 0 [] (omega arith), each_free r rows (λ k d wit
 
 free : (rows : List SupplierRow) → PrefixFree (company_prefixes rows) → Apart Free rows
 free [] h = tt
-free (r ∷ rows) h = (each_free r rows (λ k d within. h 0 (suc k) d (omega arith) (omega (arith, within))), free rows (λ i j d before within. h (suc i) (suc j) d (omega (arith, before)) (omega (arith, within))))
+free (r ∷ rows) h = (
+  each_free r rows (λ k d within. h 0 (suc k) d (omega arith) (omega (arith, within))),
+  free rows (λ i j d before within. h (suc i) (suc j) d (omega (arith, before)) (omega (arith, within))),
+)
 
 all_apart : (r : SupplierRow) (rows : List SupplierRow) → AllByRecursion (Free r) rows → All (AreApart r.prefixes) (company_prefixes rows)
 all_apart r [] h = All-nil (AreApart r.prefixes)
@@ -79,13 +95,22 @@ free_in_order rows h = prefix_free (put_all rows []) (apart_in_order Free free-t
 -- a test of every prefix is one of the prefixes of each supplier
 all_joined : (p : List ℕ → Bool) (xs ys : List (List ℕ)) → list_all p (xs ++ ys) ≡ (list_all p xs && list_all p ys)
 all_joined p [] ys = refl
-all_joined p (x ∷ xs) ys = elim (p x) as (λ v. (v && list_all p (xs ++ ys)) ≡ ((v && list_all p xs) && list_all p ys)) [ true ↦ all_joined p xs ys | false ↦ refl ]
+all_joined p (x ∷ xs) ys =
+    elim (p x) as (λ v. (v && list_all p (xs ++ ys)) ≡ ((v && list_all p xs) && list_all p ys))
+    [ true ↦ all_joined p xs ys | false ↦ refl ]
 
-all_flat : (p : List ℕ → Bool) (rows : List SupplierRow) → list_all p (flat_map (λ r. r.prefixes) rows) ≡ list_all (list_all p) (company_prefixes rows)
+all_flat : (p : List ℕ → Bool) (rows : List SupplierRow)
+    → list_all p (flat_map (λ r. r.prefixes) rows) ≡ list_all (list_all p) (company_prefixes rows)
 all_flat p [] = refl
-all_flat p (r ∷ rows) = all_joined p r.prefixes (flat_map (λ r. r.prefixes) rows) ∙ ap (λ rest. list_all p r.prefixes && rest) (all_flat p rows)
+all_flat p (r ∷ rows) =
+    all_joined p r.prefixes (flat_map (λ r. r.prefixes) rows) ∙ ap (λ rest. list_all p r.prefixes && rest) (all_flat p rows)
 
-pub register_right : (rows : RegisterRows) → length rows.suppliers ≤ 1000 → list_all is_gln (glns rows) ≡ true → has_twice (glns rows) ≡ false → list_all is_prefix (prefixes rows) ≡ true → list_all is_party_key (keys rows) ≡ true
+pub register_right : (rows : RegisterRows)
+    → length rows.suppliers ≤ 1000
+    → list_all is_gln (glns rows) ≡ true
+    → has_twice (glns rows) ≡ false
+    → list_all is_prefix (prefixes rows) ≡ true
+    → list_all is_party_key (keys rows) ≡ true
     → PrefixFree (company_prefixes rows.suppliers) → IsRegister (in_gln_order rows)
 register_right rows few right apart prefix key none =
     let hub = and_parts (is_gln rows.hub) _ right in
@@ -93,13 +118,22 @@ register_right rows few right apart prefix key none =
     let secret = and_parts (is_party_key rows.retailer_key) _ key in
     record {
       few = omega (arith, length-put_all rows.suppliers [], few);
-      glns_right = ap₂ (λ a b. a && b) hub.0 (ap₂ (λ a b. a && b) retailer.0 (all-put_all (λ r. r.gln) is_gln rows.suppliers [] retailer.1 refl));
+      glns_right =
+          ap₂ (λ a b. a && b) hub.0
+          (ap₂ (λ a b. a && b) retailer.0 (all-put_all (λ r. r.gln) is_gln rows.suppliers [] retailer.1 refl));
       glns_apart = glns-apart rows.hub rows.retailer rows.suppliers apart;
-      prefixes_right = all_flat is_prefix (put_all rows.suppliers []) ∙ all-put_all (λ r. r.prefixes) (list_all is_prefix) rows.suppliers [] (sym (all_flat is_prefix rows.suppliers) ∙ prefix) refl;
+      prefixes_right =
+          all_flat is_prefix (put_all rows.suppliers [])
+          ∙ all-put_all (λ r. r.prefixes) (list_all is_prefix) rows.suppliers []
+          (sym (all_flat is_prefix rows.suppliers) ∙ prefix) refl;
       keys_right = ap₂ (λ a b. a && b) secret.0 (all-put_all (λ r. r.key) is_party_key rows.suppliers [] secret.1 refl);
       prefixes_free = free_in_order rows.suppliers none;
     }
 
-pub same_rows : (hub retailer key : List ℕ) (suppliers : List SupplierRow) (rows : RegisterRows) → hub ≡ rows.hub → retailer ≡ rows.retailer → key ≡ rows.retailer_key → suppliers ≡ put_all rows.suppliers []
+pub same_rows : (hub retailer key : List ℕ) (suppliers : List SupplierRow) (rows : RegisterRows)
+    → hub ≡ rows.hub
+    → retailer ≡ rows.retailer
+    → key ≡ rows.retailer_key
+    → suppliers ≡ put_all rows.suppliers []
     → in_gln_order rows ≡ record { hub = hub; retailer = retailer; retailer_key = key; suppliers = suppliers }
 same_rows hub retailer key suppliers rows a b c d = rw (a, b, c, d)

@@ -16,7 +16,8 @@ use Rattle.hub_tables.specs.Tables.{Tables, empty}
 use Rattle.hub_tables.specs.declared.cases.Answered.{Answered}
 use Rattle.hub_tables.specs.declared.cases.Answered.TheVariants.{Waiting, Accepted, NotAccepted, Changed}
 use Rattle.hub_tables.specs.declared.cases.Arrival.TheVariants.{Announced, Received}
-use Rattle.hub_tables.specs.declared.change.Change.TheVariants.{AddOrder, AddLine, SetLine, AddAdvice, AddPallet, SetPallet, AddContent, AddReceipt, Remember, AddMail}
+use Rattle.hub_tables.specs.declared.change.Change.TheVariants.{AddOrder, AddLine, SetLine, AddAdvice, AddPallet, SetPallet}
+use Rattle.hub_tables.specs.declared.change.Change.TheVariants.{AddContent, AddReceipt, Remember, AddMail}
 use Rattle.hub_tables.specs.declared.rows.LineRow.{LineRow}
 use Rattle.hub_tables.specs.declared.rows.PalletRow.{PalletRow}
 use Rattle.hub_rules.specs.CancellationRules.{judge_new_cancel}
@@ -89,7 +90,9 @@ with_content quantity t = record t {
 
 -- an answer to a line that is ordered with 48 and waits, 12 of it despatched
 abbrev answered : Option ℕ → List ℕ → ℕ → Verdict
-answered n gtin quantity = judge_answer number (record { order_line = n; gtin = gtin; answer = says.Changed quantity }) (with_content 12 (with_lines (line 1 48 36 0 0 Waiting ∷ [])))
+answered n gtin quantity =
+    judge_answer number (record { order_line = n; gtin = gtin; answer = says.Changed quantity })
+    (with_content 12 (with_lines (line 1 48 36 0 0 Waiting ∷ [])))
 
 below_despatched : answered (Some 1) item 11 ≡ Refuse codes_of.OutOfRange
 below_despatched = refl
@@ -109,24 +112,36 @@ another_item = refl
 no_such_line : answered (Some 2) item 20 ≡ Refuse codes_of.NoLine
 no_such_line = refl
 
-answered_before : judge_answer number (record { order_line = Some 1; gtin = other_item; answer = says.Changed 20 }) (with_lines (line 1 48 48 0 0 Accepted ∷ [])) ≡ Refuse codes_of.NotWaiting
+answered_before : judge_answer number (record { order_line = Some 1; gtin = other_item; answer = says.Changed 20 })
+    (with_lines (line 1 48 48 0 0 Accepted ∷ []))
+    ≡ Refuse codes_of.NotWaiting
 answered_before = refl
 
-two_lines_of_an_item : judge_answer number (record { order_line = None; gtin = item; answer = says.Accepted }) (with_lines (line 1 48 48 0 0 Waiting ∷ line 2 48 48 0 0 Accepted ∷ [])) ≡ Refuse codes_of.NoLine
+two_lines_of_an_item : judge_answer number (record { order_line = None; gtin = item; answer = says.Accepted })
+    (with_lines (line 1 48 48 0 0 Waiting ∷ line 2 48 48 0 0 Accepted ∷ []))
+    ≡ Refuse codes_of.NoLine
 two_lines_of_an_item = refl
 
 -- the second answer sees what the first left
-answered_twice : judge_answers (answers.Lines (record { order_line = Some 1; gtin = item; answer = says.Refused } ∷ record { order_line = Some 1; gtin = item; answer = says.Accepted } ∷ [])) number (with_lines (line 1 48 48 0 0 Waiting ∷ [])) ≡ Refuse codes_of.NotWaiting
+answered_twice : judge_answers (answers.Lines (record { order_line = Some 1; gtin = item; answer = says.Refused }
+    ∷ record { order_line = Some 1; gtin = item; answer = says.Accepted }
+    ∷ [])) number (with_lines (line 1 48 48 0 0 Waiting ∷ []))
+    ≡ Refuse codes_of.NotWaiting
 answered_twice = refl
 
 -- 30 ordered, 12 despatched, and the rest refused
-rest_refused : judge_answers answers.AllRefused number (with_content 12 (with_lines (line 1 30 18 0 0 Waiting ∷ line 2 5 5 0 0 Accepted ∷ []))) ≡ Accept (SetLine (line 1 30 0 18 0 NotAccepted) ∷ [])
+rest_refused : judge_answers answers.AllRefused number
+    (with_content 12 (with_lines (line 1 30 18 0 0 Waiting ∷ line 2 5 5 0 0 Accepted ∷ [])))
+    ≡ Accept (SetLine (line 1 30 0 18 0 NotAccepted) ∷ [])
 rest_refused = refl
 
 none_waits : judge_answers answers.AllAccepted number (with_lines (line 1 30 18 0 0 Accepted ∷ [])) ≡ Refuse codes_of.NotWaiting
 none_waits = refl
 
-no_order_to_answer : judge_new_response (record { number = codes "R1"; buyer = buyer; supplier = gln; order = codes "128577"; answer = answers.AllAccepted }) (with_lines (line 1 30 18 0 0 Waiting ∷ [])) ≡ Refuse codes_of.NoOrder
+no_order_to_answer : judge_new_response
+    (record { number = codes "R1"; buyer = buyer; supplier = gln; order = codes "128577"; answer = answers.AllAccepted })
+    (with_lines (line 1 30 18 0 0 Waiting ∷ []))
+    ≡ Refuse codes_of.NoOrder
 no_order_to_answer = refl
 
 -- a despatch of units to a line of 48, 24 of it open
@@ -134,7 +149,9 @@ abbrev of_line : ℕ → DespatchLine
 of_line quantity = record { order = number; order_line = None; gtin = item; quantity = quantity }
 
 abbrev despatched_to : List ℕ → (List ℕ → Bool) → List Unit → Verdict
-despatched_to advice used units = judge_new_despatch alpha used (record { number = advice; buyer = None; supplier = gln; units = units }) (with_lines (line 1 48 24 24 0 Changed ∷ []))
+despatched_to advice used units =
+    judge_new_despatch alpha used (record { number = advice; buyer = None; supplier = gln; units = units })
+    (with_lines (line 1 48 24 24 0 Changed ∷ []))
 
 abbrev unused : List ℕ → Bool
 unused _ = false
@@ -149,22 +166,33 @@ two_lines_take_all : despatched_to (codes "DA2") unused (record { sscc = next_ss
     ∷ [])
 two_lines_take_all = refl
 
-two_lines_take_more : despatched_to (codes "DA2") unused (record { sscc = next_sscc; lines = of_line 20 ∷ of_line 5 ∷ [] } ∷ []) ≡ Refuse codes_of.MoreThanOpen
+two_lines_take_more :
+    despatched_to (codes "DA2") unused (record { sscc = next_sscc; lines = of_line 20 ∷ of_line 5 ∷ [] } ∷ [])
+    ≡ Refuse codes_of.MoreThanOpen
 two_lines_take_more = refl
 
-prefix_before_used : despatched_to (codes "DA2") (λ x. true) (record { sscc = theirs; lines = of_line 1 ∷ [] } ∷ []) ≡ Refuse codes_of.OtherPrefix
+prefix_before_used : despatched_to (codes "DA2") (λ x. true) (record { sscc = theirs; lines = of_line 1 ∷ [] } ∷ [])
+    ≡ Refuse codes_of.OtherPrefix
 prefix_before_used = refl
 
-used_before_lines : despatched_to (codes "DA2") (λ x. true) (record { sscc = sscc; lines = of_line 25 ∷ [] } ∷ []) ≡ Refuse codes_of.SsccUsed
+used_before_lines :
+    despatched_to (codes "DA2") (λ x. true) (record { sscc = sscc; lines = of_line 25 ∷ [] } ∷ []) ≡ Refuse codes_of.SsccUsed
 used_before_lines = refl
 
-first_unit_before_second : despatched_to (codes "DA2") unused (record { sscc = theirs; lines = of_line 1 ∷ [] } ∷ record { sscc = sscc; lines = record (of_line 1) { order = codes "128577" } ∷ [] } ∷ []) ≡ Refuse codes_of.OtherPrefix
+first_unit_before_second : despatched_to (codes "DA2") unused (record { sscc = theirs; lines = of_line 1 ∷ [] }
+    ∷ record { sscc = sscc; lines = record (of_line 1) { order = codes "128577" } ∷ [] }
+    ∷ [])
+    ≡ Refuse codes_of.OtherPrefix
 first_unit_before_second = refl
 
-order_before_line : despatched_to (codes "DA2") unused (record { sscc = sscc; lines = record (of_line 99) { order = codes "128577" } ∷ [] } ∷ []) ≡ Refuse codes_of.NoOrder
+order_before_line : despatched_to (codes "DA2") unused
+    (record { sscc = sscc; lines = record (of_line 99) { order = codes "128577" } ∷ [] } ∷ [])
+    ≡ Refuse codes_of.NoOrder
 order_before_line = refl
 
-item_before_open : despatched_to (codes "DA2") unused (record { sscc = sscc; lines = record (of_line 99) { order_line = Some 1; gtin = other_item } ∷ [] } ∷ []) ≡ Refuse codes_of.OtherItem
+item_before_open : despatched_to (codes "DA2") unused
+    (record { sscc = sscc; lines = record (of_line 99) { order_line = Some 1; gtin = other_item } ∷ [] } ∷ [])
+    ≡ Refuse codes_of.OtherItem
 item_before_open = refl
 
 -- a line number that the order does not have; and an item of two of its lines, where none is given
@@ -178,7 +206,9 @@ two_lines_of_the_item : judge_new_despatch alpha unused (
 two_lines_of_the_item = refl
 
 -- one SSCC in two units of a message
-sscc_of_an_earlier_unit : despatched_to (codes "DA2") unused (record { sscc = sscc; lines = of_line 1 ∷ [] } ∷ record { sscc = sscc; lines = of_line 1 ∷ [] } ∷ []) ≡ Refuse codes_of.SsccUsed
+sscc_of_an_earlier_unit : despatched_to (codes "DA2") unused
+    (record { sscc = sscc; lines = of_line 1 ∷ [] } ∷ record { sscc = sscc; lines = of_line 1 ∷ [] } ∷ [])
+    ≡ Refuse codes_of.SsccUsed
 sscc_of_an_earlier_unit = refl
 
 abbrev incoming : List ℕ → List ℕ → IncomingMessage
@@ -186,14 +216,29 @@ incoming control content = record { control = control; message = codes "1"; cont
 
 -- a receipt of units, on what is on the pallet
 abbrev received_of : List ReceiptUnit → Verdict
-received_of units = judge_new_receipt gln (incoming (codes "1005") []) (codes "body") (record { number = codes "G1"; buyer = Some buyer; supplier = gln; units = units }) (with_content 12 (with_lines (line 1 48 24 12 0 Changed ∷ [])))
+received_of units =
+    judge_new_receipt gln (incoming (codes "1005") []) (codes "body")
+    (record { number = codes "G1"; buyer = Some buyer; supplier = gln; units = units })
+    (with_content 12 (with_lines (line 1 48 24 12 0 Changed ∷ [])))
 
 abbrev received_line : List ℕ → ℕ → ℕ → ReceiptLine
 received_line gtin accepted returned = record { gtin = gtin; accepted = accepted; returned = returned; destroyed = 0 }
 
 -- two lines of one item are one receipt
-sums_of_items : received_of (record { sscc = sscc; lines = received_line item 6 1 ∷ received_line other_item 3 0 ∷ received_line item 4 0 ∷ [] } ∷ []) ≡ Accept (
-    AddMail (record { supplier = gln; number = 1; moment = 1748942400; decimal = 46; kind = 0x52; document = codes "G1"; body = codes "body"; taken = 0 })
+sums_of_items : received_of
+    (record { sscc = sscc; lines = received_line item 6 1 ∷ received_line other_item 3 0 ∷ received_line item 4 0 ∷ [] }
+    ∷ [])
+    ≡ Accept (
+    AddMail (record {
+      supplier = gln;
+      number = 1;
+      moment = 1748942400;
+      decimal = 46;
+      kind = 0x52;
+      document = codes "G1";
+      body = codes "body";
+      taken = 0;
+    })
     ∷ SetPallet (record pallet { received = arrival_number Received })
     ∷ AddReceipt (record { sscc = sscc; gtin = item; accepted = 10; returned = 1; destroyed = 0 })
     ∷ AddReceipt (record { sscc = sscc; gtin = other_item; accepted = 3; returned = 0; destroyed = 0 })
@@ -203,7 +248,11 @@ sums_of_items = refl
 no_such_pallet : received_of (record { sscc = next_sscc; lines = received_line item 1 0 ∷ [] } ∷ []) ≡ Refuse codes_of.NoPallet
 no_such_pallet = refl
 
-received_twice_before_unknown : received_of (record { sscc = sscc; lines = received_line item 1 0 ∷ [] } ∷ record { sscc = sscc; lines = [] } ∷ record { sscc = next_sscc; lines = [] } ∷ []) ≡ Refuse codes_of.PalletReceived
+received_twice_before_unknown : received_of (record { sscc = sscc; lines = received_line item 1 0 ∷ [] }
+    ∷ record { sscc = sscc; lines = [] }
+    ∷ record { sscc = next_sscc; lines = [] }
+    ∷ [])
+    ≡ Refuse codes_of.PalletReceived
 received_twice_before_unknown = refl
 
 -- a cancellation of line 1, 24 of it open, where C1 with ten is remembered, or nothing
@@ -214,15 +263,21 @@ abbrev open_line : Tables
 open_line = with_lines (line 1 48 24 12 0 Changed ∷ [])
 
 abbrev after_ten : Tables
-after_ten = record (with_lines (line 1 48 14 12 10 Changed ∷ [])) { remembered = record { supplier = gln; side = 0x43; control = codes "C1"; message = []; content = codes "ten" } ∷ [] }
+after_ten =
+    record (with_lines (line 1 48 14 12 10 Changed ∷ []))
+    { remembered = record { supplier = gln; side = 0x43; control = codes "C1"; message = []; content = codes "ten" } ∷ [] }
 
-ten_cancelled : judge_cancel (Some alpha) (codes "ten") (cancelled (codes "C1") number 10) open_line ≡ Accept (Remember (record { supplier = gln; side = 0x43; control = codes "C1"; message = []; content = codes "ten" }) ∷ SetLine (line 1 48 14 12 10 Changed) ∷ [])
+ten_cancelled : judge_cancel (Some alpha) (codes "ten") (cancelled (codes "C1") number 10) open_line
+    ≡ Accept (Remember (record { supplier = gln; side = 0x43; control = codes "C1"; message = []; content = codes "ten" })
+    ∷ SetLine (line 1 48 14 12 10 Changed)
+    ∷ [])
 ten_cancelled = refl
 
 ten_repeated : judge_cancel (Some alpha) (codes "ten") (cancelled (codes "C1") number 10) after_ten ≡ Accept []
 ten_repeated = refl
 
-eleven_under_its_reference : judge_cancel (Some alpha) (codes "eleven") (cancelled (codes "C1") number 11) after_ten ≡ Refuse codes_of.OtherContent
+eleven_under_its_reference :
+    judge_cancel (Some alpha) (codes "eleven") (cancelled (codes "C1") number 11) after_ten ≡ Refuse codes_of.OtherContent
 eleven_under_its_reference = refl
 
 all_cancelled : judge_new_cancel (cancelled (codes "C2") number 14) after_ten ≡ Accept (SetLine (line 1 48 0 12 24 Changed) ∷ [])
@@ -243,13 +298,24 @@ order = record { number = number; buyer = buyer; supplier = gln; lines = record 
 
 new_order : judge_order buyer (Some alpha) (incoming (codes "1001") (codes "content")) (codes "body") order empty ≡ Accept (
     Remember (record { supplier = gln; side = 0x52; control = codes "1001"; message = codes "1"; content = codes "content" })
-    ∷ AddMail (record { supplier = gln; number = 1; moment = 1748942400; decimal = 46; kind = 0x4F; document = number; body = codes "body"; taken = 0 })
+    ∷ AddMail (record {
+      supplier = gln;
+      number = 1;
+      moment = 1748942400;
+      decimal = 46;
+      kind = 0x4F;
+      document = number;
+      body = codes "body";
+      taken = 0;
+    })
     ∷ AddOrder (record { supplier = gln; number = number })
     ∷ AddLine (line 1 48 48 0 0 Waiting)
     ∷ [])
 new_order = refl
 
-order_known : judge_order buyer (Some alpha) (incoming (codes "1002") (codes "content")) (codes "body") order (with_lines []) ≡ Refuse codes_of.OrderKnown
+order_known :
+    judge_order buyer (Some alpha) (incoming (codes "1002") (codes "content")) (codes "body") order (with_lines [])
+    ≡ Refuse codes_of.OrderKnown
 order_known = refl
 
 buyer_before_supplier : judge_order gln None (incoming (codes "1002") (codes "content")) (codes "body") order empty ≡ Refuse codes_of.Buyer
@@ -257,10 +323,21 @@ buyer_before_supplier = refl
 
 -- an advice that is there, under its references and under others
 abbrev advised : Tables
-advised = record (with_lines []) { advices = record { supplier = gln; number = codes "DA1" } ∷ []; remembered = record { supplier = gln; side = 0x53; control = codes "S2"; message = codes "1"; content = codes "content" } ∷ [] }
+advised =
+    record (with_lines []) {
+      advices = record { supplier = gln; number = codes "DA1" } ∷ [];
+      remembered =
+          record { supplier = gln; side = 0x53; control = codes "S2"; message = codes "1"; content = codes "content" } ∷ [];
+    }
 
 abbrev advised_again : List ℕ → List ℕ → Verdict
-advised_again control content = judge_despatch buyer (Some alpha) unused (incoming control content) (record { number = codes "DA1"; buyer = None; supplier = gln; units = record { sscc = theirs; lines = of_line 1 ∷ [] } ∷ [] }) advised
+advised_again control content =
+    judge_despatch buyer (Some alpha) unused (incoming control content) (record {
+      number = codes "DA1";
+      buyer = None;
+      supplier = gln;
+      units = record { sscc = theirs; lines = of_line 1 ∷ [] } ∷ [];
+    }) advised
 
 advice_repeated : advised_again (codes "S2") (codes "content") ≡ Accept []
 advice_repeated = refl
@@ -272,12 +349,21 @@ advice_before_units : advised_again (codes "S3") (codes "content") ≡ Refuse co
 advice_before_units = refl
 
 -- another supplier's response
-not_the_caller : judge_response buyer (Some alpha) (incoming (codes "S1") []) (record { number = codes "R1"; buyer = buyer; supplier = codes "8712345000004"; order = number; answer = answers.AllAccepted }) (with_lines []) ≡ Refuse codes_of.Supplier
+not_the_caller : judge_response buyer (Some alpha) (incoming (codes "S1") []) (record {
+  number = codes "R1";
+  buyer = buyer;
+  supplier = codes "8712345000004";
+  order = number;
+  answer = answers.AllAccepted;
+}) (with_lines [])
+    ≡ Refuse codes_of.Supplier
 not_the_caller = refl
 
 -- the letters of lines: one that waits is accepted, refused, and changed
 abbrev answered_so : LineAnswer → Verdict
-answered_so answer = judge_answer number (record { order_line = Some 1; gtin = item; answer = answer }) (with_lines (record (line 1 48 48 0 0 Waiting) { answer = 0x57 } ∷ []))
+answered_so answer =
+    judge_answer number (record { order_line = Some 1; gtin = item; answer = answer })
+    (with_lines (record (line 1 48 48 0 0 Waiting) { answer = 0x57 } ∷ []))
 
 abbrev lettered : ℕ → ℕ → ℕ → Verdict
 lettered letter open_qty refused = Accept (SetLine (record (line 1 48 open_qty refused 0 Waiting) { answer = letter }) ∷ [])
@@ -291,7 +377,9 @@ refused_letter = refl
 changed_letter : answered_so (says.Changed 40) ≡ lettered 0x43 40 8
 changed_letter = refl
 
-answer_before_range : judge_answer number (record { order_line = Some 1; gtin = item; answer = says.Changed 99 }) (with_lines (line 1 48 48 0 0 Accepted ∷ [])) ≡ Refuse codes_of.NotWaiting
+answer_before_range : judge_answer number (record { order_line = Some 1; gtin = item; answer = says.Changed 99 })
+    (with_lines (line 1 48 48 0 0 Accepted ∷ []))
+    ≡ Refuse codes_of.NotWaiting
 answer_before_range = refl
 
 range_before_item : answered (Some 1) other_item 49 ≡ Refuse codes_of.OutOfRange
@@ -301,26 +389,48 @@ range_before_item = refl
 abbrev response : Response
 response = record { number = codes "R1"; buyer = buyer; supplier = gln; order = number; answer = answers.AllAccepted }
 
-response_remembered : judge_response buyer (Some alpha) (incoming (codes "1001") (codes "content")) response (with_lines (line 1 48 48 0 0 Waiting ∷ [])) ≡ Accept (
+response_remembered : judge_response buyer (Some alpha) (incoming (codes "1001") (codes "content")) response
+    (with_lines (line 1 48 48 0 0 Waiting ∷ []))
+    ≡ Accept (
     Remember (record { supplier = gln; side = 0x53; control = codes "1001"; message = codes "1"; content = codes "content" })
     ∷ SetLine (record (line 1 48 48 0 0 Waiting) { answer = 0x41 })
     ∷ [])
 response_remembered = refl
 
-receipt_remembered : judge_receipt buyer (Some alpha) (record (incoming (codes "1005") (codes "content")) { decimal = 44 }) (codes "body") (record { number = codes "G1"; buyer = None; supplier = gln; units = [] }) empty ≡ Accept (
+receipt_remembered :
+    judge_receipt buyer (Some alpha) (record (incoming (codes "1005") (codes "content")) { decimal = 44 }) (codes "body")
+    (record { number = codes "G1"; buyer = None; supplier = gln; units = [] }) empty
+    ≡ Accept (
     Remember (record { supplier = gln; side = 0x52; control = codes "1005"; message = codes "1"; content = codes "content" })
-    ∷ AddMail (record { supplier = gln; number = 1; moment = 1748942400; decimal = 44; kind = 0x52; document = codes "G1"; body = codes "body"; taken = 0 })
+    ∷ AddMail (record {
+      supplier = gln;
+      number = 1;
+      moment = 1748942400;
+      decimal = 44;
+      kind = 0x52;
+      document = codes "G1";
+      body = codes "body";
+      taken = 0;
+    })
     ∷ [])
 receipt_remembered = refl
 
 -- another message of the same interchange, and one of the other side under the same references, are new
 abbrev remembering : ℕ → List ℕ → Tables
-remembering side message = record empty { remembered = record { supplier = gln; side = side; control = codes "1001"; message = message; content = codes "other" } ∷ [] }
+remembering side message =
+    record empty {
+      remembered =
+          record { supplier = gln; side = side; control = codes "1001"; message = message; content = codes "other" } ∷ [];
+    }
 
-another_message_is_new : judge_order buyer (Some alpha) (incoming (codes "1001") (codes "content")) (codes "body") order (remembering 0x52 (codes "2")) ≡ judge_order buyer (Some alpha) (incoming (codes "1001") (codes "content")) (codes "body") order empty
+another_message_is_new : judge_order buyer (Some alpha) (incoming (codes "1001") (codes "content")) (codes "body") order
+    (remembering 0x52 (codes "2"))
+    ≡ judge_order buyer (Some alpha) (incoming (codes "1001") (codes "content")) (codes "body") order empty
 another_message_is_new = refl
 
-other_side_is_new : judge_order buyer (Some alpha) (incoming (codes "1001") (codes "content")) (codes "body") order (remembering 0x53 (codes "1")) ≡ judge_order buyer (Some alpha) (incoming (codes "1001") (codes "content")) (codes "body") order empty
+other_side_is_new : judge_order buyer (Some alpha) (incoming (codes "1001") (codes "content")) (codes "body") order
+    (remembering 0x53 (codes "1"))
+    ≡ judge_order buyer (Some alpha) (incoming (codes "1001") (codes "content")) (codes "body") order empty
 other_side_is_new = refl
 
 -- the checks of a mailbox that is full, whatever else is there
@@ -332,11 +442,22 @@ passed_at : (test : Bool) (code : Code) (rest : Verdict) → test ≡ false → 
 passed_at true code rest h = cc
 passed_at false code rest h = refl
 
-known_before_full : (state : Tables) → knows_order state number ≡ true → judge_new_order gln (incoming [] []) [] order state ≡ Refuse codes_of.OrderKnown
+known_before_full : (state : Tables)
+    → knows_order state number ≡ true
+    → judge_new_order gln (incoming [] []) [] order state ≡ Refuse codes_of.OrderKnown
 known_before_full state known = refused_at (knows_order state number) codes_of.OrderKnown _ known
 
-full_for_an_order : (state : Tables) → knows_order state number ≡ false → nat_lt 99_999_999_999_999 (length state.mail + 1) ≡ true → judge_new_order gln (incoming [] []) [] order state ≡ Refuse codes_of.MailboxFull
-full_for_an_order state new full = passed_at (knows_order state number) codes_of.OrderKnown _ new ∙ refused_at (nat_lt 99_999_999_999_999 (length state.mail + 1)) codes_of.MailboxFull _ full
+full_for_an_order : (state : Tables)
+    → knows_order state number ≡ false
+    → nat_lt 99_999_999_999_999 (length state.mail + 1) ≡ true
+    → judge_new_order gln (incoming [] []) [] order state ≡ Refuse codes_of.MailboxFull
+full_for_an_order state new full =
+    passed_at (knows_order state number) codes_of.OrderKnown _ new
+    ∙ refused_at (nat_lt 99_999_999_999_999 (length state.mail + 1)) codes_of.MailboxFull _ full
 
-full_for_a_receipt : (state : Tables) (units : List ReceiptUnit) → nat_lt 99_999_999_999_999 (length state.mail + 1) ≡ true → judge_new_receipt gln (incoming [] []) [] (record { number = codes "G1"; buyer = None; supplier = gln; units = units }) state ≡ Refuse codes_of.MailboxFull
+full_for_a_receipt : (state : Tables) (units : List ReceiptUnit)
+    → nat_lt 99_999_999_999_999 (length state.mail + 1) ≡ true
+    → judge_new_receipt gln (incoming [] []) [] (record { number = codes "G1"; buyer = None; supplier = gln; units = units })
+    state
+    ≡ Refuse codes_of.MailboxFull
 full_for_a_receipt state units full = refused_at (nat_lt 99_999_999_999_999 (length state.mail + 1)) codes_of.MailboxFull _ full

@@ -6,10 +6,12 @@ use Rattle.std.proofs.lemmas.Bool.Decides.{nat_tests}
 use Rattle.edi_base.proofs.Twice.{bytes_eq-sym, nat_eq-sym}
 use Rattle.hub_tables.specs.Change.{apply}
 use Rattle.hub_tables.specs.Keys.{InOrder}
-use Rattle.hub_tables.specs.Rows.{same, order_cmp, line_cmp, advice_cmp, pallet_cmp, content_cmp, receipt_cmp, remembered_cmp, same_line, same_pallet}
+use Rattle.hub_tables.specs.Rows.{same, order_cmp, line_cmp, advice_cmp, pallet_cmp, content_cmp, receipt_cmp}
+use Rattle.hub_tables.specs.Rows.{remembered_cmp, same_line, same_pallet}
 use Rattle.hub_tables.specs.State.{knows_order, names, despatched}
 use Rattle.hub_tables.specs.Tables.{Tables, has_pallet}
-use Rattle.hub_tables.specs.declared.change.Change.TheVariants.{AddOrder, AddLine, SetLine, AddAdvice, AddPallet, SetPallet, AddContent, AddReceipt, Remember, AddMail}
+use Rattle.hub_tables.specs.declared.change.Change.TheVariants.{AddOrder, AddLine, SetLine, AddAdvice, AddPallet, SetPallet}
+use Rattle.hub_tables.specs.declared.change.Change.TheVariants.{AddContent, AddReceipt, Remember, AddMail}
 use Rattle.hub_tables.specs.declared.rows.OrderRow.{OrderRow}
 use Rattle.hub_tables.specs.declared.rows.LineRow.{LineRow}
 use Rattle.hub_tables.specs.declared.rows.AdviceRow.{AdviceRow}
@@ -20,8 +22,10 @@ use Rattle.hub_tables.specs.declared.rows.RememberedRow.{RememberedRow}
 use Rattle.hub_tables.specs.declared.rows.MailRow.{MailRow}
 use Rattle.hub_tables.proofs.KeyOrder.{all_put, any_more}
 use Rattle.hub_tables.proofs.Lists.{decide, same_is, same_if, all_replace, all_replaced, all_weaker}
-use Rattle.hub_rules.specs.Sound.{Balanced, Single, same_order, same_line_number, same_advice, same_sscc, same_gtin, same_reference, knows_line, was_received, Kept, same_place}
-use Rattle.hub_rules.proofs.KeptLists.{any_replaced, single_replace, numbered_put, contents_put, sent_more, sent_same, receipts_put, is_received, received_more, single_put}
+use Rattle.hub_rules.specs.Sound.{Balanced, Single, same_order, same_line_number, same_advice, same_sscc, same_gtin}
+use Rattle.hub_rules.specs.Sound.{same_reference, knows_line, was_received, Kept, same_place}
+use Rattle.hub_rules.proofs.KeptLists.{any_replaced, single_replace, numbered_put, contents_put, sent_more, sent_same}
+use Rattle.hub_rules.proofs.KeptLists.{receipts_put, is_received, received_more, single_put}
 
 -- a line set in place of another has its number and its place
 line_key : (r y : LineRow) → same_line r y ≡ true → (y.number ≡ r.number) × (y.line ≡ r.line)
@@ -41,16 +45,25 @@ module _ (state : Tables) (kept : Kept state) where
     receipts = kept.receipts;
     remembered = kept.remembered;
     mail = kept.mail;
-    line_orders = all_weaker (λ l. knows_order state l.number ≡ true) (λ l. knows_order (apply (AddOrder r) state) l.number ≡ true) (λ l h. any_more order_cmp (λ o. same o.number l.number) state.orders r h) state.lines kept.line_orders;
+    line_orders =
+        all_weaker (λ l. knows_order state l.number ≡ true) (λ l. knows_order (apply (AddOrder r) state) l.number ≡ true)
+        (λ l h. any_more order_cmp (λ o. same o.number l.number) state.orders r h) state.lines kept.line_orders;
     content_lines = kept.content_lines;
     receipt_pallets = kept.receipt_pallets;
     balanced = kept.balanced;
   }
 
-  pub kept_line : (r : LineRow) → knows_order state r.number ≡ true → Balanced state r → list_any (λ l. same_line_number l r) state.lines ≡ false → Kept (apply (AddLine r) state)
+  pub kept_line : (r : LineRow)
+      → knows_order state r.number ≡ true
+      → Balanced state r
+      → list_any (λ l. same_line_number l r) state.lines ≡ false
+      → Kept (apply (AddLine r) state)
   kept_line r known balance fresh = record {
     orders = kept.orders;
-    lines = single_put line_cmp same_line_number (λ x y. ap₂ (λ v w. v && w) (bytes_eq-sym x.number y.number) (nat_eq-sym x.line y.line)) state.lines r kept.lines fresh;
+    lines =
+        single_put line_cmp same_line_number
+        (λ x y. ap₂ (λ v w. v && w) (bytes_eq-sym x.number y.number) (nat_eq-sym x.line y.line)) state.lines r kept.lines
+        fresh;
     advices = kept.advices;
     pallets = kept.pallets;
     contents = kept.contents;
@@ -58,13 +71,19 @@ module _ (state : Tables) (kept : Kept state) where
     remembered = kept.remembered;
     mail = kept.mail;
     line_orders = all_put line_cmp (λ l. knows_order state l.number ≡ true) state.lines r kept.line_orders known;
-    content_lines = all_weaker (λ c. knows_line state c.number c.line ≡ true) (λ c. knows_line (apply (AddLine r) state) c.number c.line ≡ true) (λ c h. any_more line_cmp (λ l. same l.number c.number && (l.line == c.line)) state.lines r h) state.contents kept.content_lines;
+    content_lines =
+        all_weaker (λ c. knows_line state c.number c.line ≡ true)
+        (λ c. knows_line (apply (AddLine r) state) c.number c.line ≡ true)
+        (λ c h. any_more line_cmp (λ l. same l.number c.number && (l.line == c.line)) state.lines r h) state.contents
+        kept.content_lines;
     receipt_pallets = kept.receipt_pallets;
     balanced = all_put line_cmp (Balanced state) state.lines r kept.balanced balance;
   }
 
   lines_known : (r : LineRow) (number : List ℕ) (n : ℕ) → knows_line (apply (SetLine r) state) number n ≡ knows_line state number n
-  lines_known r number n = any_replaced (λ l. same l.number number && (l.line == n)) (same_line r) r state.lines (λ y e. let key = line_key r y e in ap₂ (λ m k. same m number && (k == n)) key.0 key.1)
+  lines_known r number n =
+      any_replaced (λ l. same l.number number && (l.line == n)) (same_line r) r state.lines
+      (λ y e. let key = line_key r y e in ap₂ (λ m k. same m number && (k == n)) key.0 key.1)
 
   lines_single : (r : LineRow) → Single same_line_number (apply (SetLine r) state).lines
   lines_single r =
@@ -83,17 +102,24 @@ module _ (state : Tables) (kept : Kept state) where
     remembered = kept.remembered;
     mail = kept.mail;
     line_orders = all_replace (λ l. knows_order state l.number ≡ true) (same_line r) r state.lines kept.line_orders known;
-    content_lines = all_weaker (λ c. knows_line state c.number c.line ≡ true) (λ c. knows_line (apply (SetLine r) state) c.number c.line ≡ true) (λ c h. lines_known r c.number c.line ∙ h) state.contents kept.content_lines;
+    content_lines =
+        all_weaker (λ c. knows_line state c.number c.line ≡ true)
+        (λ c. knows_line (apply (SetLine r) state) c.number c.line ≡ true) (λ c h. lines_known r c.number c.line ∙ h)
+        state.contents kept.content_lines;
     receipt_pallets = kept.receipt_pallets;
     balanced = all_replace (Balanced state) (same_line r) r state.lines kept.balanced balance;
   }
 
   -- a line set together with a content that names it
-  pub kept_despatched : (s : List ℕ) (r : LineRow) (c : ContentRow) → InOrder content_cmp state.contents → AllByRecursion (λ l. l.supplier ≡ s) state.lines → r.supplier ≡ s → knows_order state r.number ≡ true →
-      c.number ≡ r.number → c.line ≡ r.line → knows_line state r.number r.line ≡ true →
-      r.ordered ≡ r.open_qty + r.refused + r.cancelled + (despatched state r + c.quantity) →
-      list_any (λ d. same_place d c) (filter (λ d. same d.sscc c.sscc) state.contents) ≡ false →
-      Kept (apply (AddContent c) (apply (SetLine r) state))
+  pub kept_despatched : (s : List ℕ) (r : LineRow) (c : ContentRow)
+      → InOrder content_cmp state.contents
+      → AllByRecursion (λ l. l.supplier ≡ s) state.lines
+      → r.supplier ≡ s
+      → knows_order state r.number ≡ true
+      → c.number ≡ r.number → c.line ≡ r.line → knows_line state r.number r.line ≡ true
+      → r.ordered ≡ r.open_qty + r.refused + r.cancelled + (despatched state r + c.quantity)
+      → list_any (λ d. same_place d c) (filter (λ d. same d.sscc c.sscc) state.contents) ≡ false
+      → Kept (apply (AddContent c) (apply (SetLine r) state))
   kept_despatched s r c ordered own whose known number line there balance fresh = record {
     orders = kept.orders;
     lines = lines_single r;
@@ -105,7 +131,9 @@ module _ (state : Tables) (kept : Kept state) where
     mail = kept.mail;
     line_orders = all_replace (λ l. knows_order state l.number ≡ true) (same_line r) r state.lines kept.line_orders known;
     content_lines = all_put content_cmp (λ c. knows_line (apply (SetLine r) state) c.number c.line ≡ true) state.contents c
-        (all_weaker (λ c. knows_line state c.number c.line ≡ true) (λ c. knows_line (apply (SetLine r) state) c.number c.line ≡ true) (λ c h. lines_known r c.number c.line ∙ h) state.contents kept.content_lines)
+        (all_weaker (λ c. knows_line state c.number c.line ≡ true)
+        (λ c. knows_line (apply (SetLine r) state) c.number c.line ≡ true) (λ c h. lines_known r c.number c.line ∙ h)
+        state.contents kept.content_lines)
         (lines_known r c.number c.line ∙ ap₂ (knows_line state) number line ∙ there);
     receipt_pallets = kept.receipt_pallets;
     balanced = all_replaced (Balanced after) (same_line r) r state.lines
@@ -134,7 +162,10 @@ module _ (state : Tables) (kept : Kept state) where
           ] in
           balance ∙ ap (λ v. y.open_qty + y.refused + y.cancelled + v) (sym (sent_same (names y) state.contents c not_named))
 
-      others : (ls : List LineRow) → AllByRecursion (Balanced state) ls → AllByRecursion (λ l. l.supplier ≡ s) ls → AllByRecursion (λ y. same_line r y ≡ false → Balanced after y) ls
+      others : (ls : List LineRow)
+          → AllByRecursion (Balanced state) ls
+          → AllByRecursion (λ l. l.supplier ≡ s) ls
+          → AllByRecursion (λ y. same_line r y ≡ false → Balanced after y) ls
       others [] a b = tt
       others (l ∷ ls) a b = (other l a.0 b.0, others ls a.1 b.1)
 
@@ -166,7 +197,10 @@ module _ (state : Tables) (kept : Kept state) where
     mail = kept.mail;
     line_orders = kept.line_orders;
     content_lines = kept.content_lines;
-    receipt_pallets = all_weaker (λ x. was_received state x.sscc ≡ true) (λ x. was_received (apply (AddPallet r) state) x.sscc ≡ true) (λ x h. any_more pallet_cmp (λ p. same p.sscc x.sscc && is_received p) state.pallets r h) state.receipts kept.receipt_pallets;
+    receipt_pallets =
+        all_weaker (λ x. was_received state x.sscc ≡ true) (λ x. was_received (apply (AddPallet r) state) x.sscc ≡ true)
+        (λ x h. any_more pallet_cmp (λ p. same p.sscc x.sscc && is_received p) state.pallets r h) state.receipts
+        kept.receipt_pallets;
     balanced = kept.balanced;
   }
 
@@ -175,18 +209,27 @@ module _ (state : Tables) (kept : Kept state) where
     orders = kept.orders;
     lines = kept.lines;
     advices = kept.advices;
-    pallets = single_replace same_sscc (same_pallet r) r state.pallets (λ y z e. ap (λ n. same n z.sscc) (sym (same_is y.sscc r.sscc e))) (λ y z e. ap (same z.sscc) (same_is y.sscc r.sscc e)) kept.pallets;
+    pallets =
+        single_replace same_sscc (same_pallet r) r state.pallets
+        (λ y z e. ap (λ n. same n z.sscc) (sym (same_is y.sscc r.sscc e)))
+        (λ y z e. ap (same z.sscc) (same_is y.sscc r.sscc e)) kept.pallets;
     contents = kept.contents;
     receipts = kept.receipts;
     remembered = kept.remembered;
     mail = kept.mail;
     line_orders = kept.line_orders;
     content_lines = kept.content_lines;
-    receipt_pallets = all_weaker (λ x. was_received state x.sscc ≡ true) (λ x. was_received (apply (SetPallet r) state) x.sscc ≡ true) (λ x h. received_more r state.pallets x.sscc now h) state.receipts kept.receipt_pallets;
+    receipt_pallets =
+        all_weaker (λ x. was_received state x.sscc ≡ true) (λ x. was_received (apply (SetPallet r) state) x.sscc ≡ true)
+        (λ x h. received_more r state.pallets x.sscc now h) state.receipts kept.receipt_pallets;
     balanced = kept.balanced;
   }
 
-  pub kept_receipt : (r : ReceiptRow) → InOrder receipt_cmp state.receipts → was_received state r.sscc ≡ true → list_any (λ y. same_gtin y r) (filter (λ y. same y.sscc r.sscc) state.receipts) ≡ false → Kept (apply (AddReceipt r) state)
+  pub kept_receipt : (r : ReceiptRow)
+      → InOrder receipt_cmp state.receipts
+      → was_received state r.sscc ≡ true
+      → list_any (λ y. same_gtin y r) (filter (λ y. same y.sscc r.sscc) state.receipts) ≡ false
+      → Kept (apply (AddReceipt r) state)
   kept_receipt r ordered received fresh = record {
     orders = kept.orders;
     lines = kept.lines;
@@ -202,7 +245,9 @@ module _ (state : Tables) (kept : Kept state) where
     balanced = kept.balanced;
   }
 
-  pub kept_remembered : (r : RememberedRow) → list_any (λ row. same_reference row r) state.remembered ≡ false → Kept (apply (Remember r) state)
+  pub kept_remembered : (r : RememberedRow)
+      → list_any (λ row. same_reference row r) state.remembered ≡ false
+      → Kept (apply (Remember r) state)
   kept_remembered r fresh = record {
     orders = kept.orders;
     lines = kept.lines;
@@ -210,7 +255,10 @@ module _ (state : Tables) (kept : Kept state) where
     pallets = kept.pallets;
     contents = kept.contents;
     receipts = kept.receipts;
-    remembered = single_put remembered_cmp same_reference (λ x y. ap₂ (λ v w. v && w) (nat_eq-sym x.side y.side) (ap₂ (λ v w. v && w) (bytes_eq-sym x.control y.control) (bytes_eq-sym x.message y.message))) state.remembered r kept.remembered fresh;
+    remembered =
+        single_put remembered_cmp same_reference (λ x y. ap₂ (λ v w. v && w) (nat_eq-sym x.side y.side)
+        (ap₂ (λ v w. v && w) (bytes_eq-sym x.control y.control) (bytes_eq-sym x.message y.message))) state.remembered r
+        kept.remembered fresh;
     mail = kept.mail;
     line_orders = kept.line_orders;
     content_lines = kept.content_lines;
@@ -218,7 +266,11 @@ module _ (state : Tables) (kept : Kept state) where
     balanced = kept.balanced;
   }
 
-  pub kept_mail : (s : List ℕ) (r : MailRow) → AllByRecursion (λ entry. entry.supplier ≡ s) state.mail → r.supplier ≡ s → r.number ≡ length state.mail + 1 → Kept (apply (AddMail r) state)
+  pub kept_mail : (s : List ℕ) (r : MailRow)
+      → AllByRecursion (λ entry. entry.supplier ≡ s) state.mail
+      → r.supplier ≡ s
+      → r.number ≡ length state.mail + 1
+      → Kept (apply (AddMail r) state)
   kept_mail s r own whose next = record {
     orders = kept.orders;
     lines = kept.lines;

@@ -1,5 +1,6 @@
 -- What receipts leave of a supplier's rows.
-use Rattle.std.proofs.Common.{◌≡◌, ℕ, Bool, true, false, cond, not, ◌||◌, inl, inr, List, [], ◌∷◌, map, filter, Some, refl, sym, ◌∙◌, ap, ap₂, arith, length}
+use Rattle.std.proofs.Common.{◌≡◌, ℕ, Bool, true, false, cond, not, ◌||◌, inl, inr, List, [], ◌∷◌, map, filter, Some, refl}
+use Rattle.std.proofs.Common.{sym, ◌∙◌, ap, ap₂, arith, length}
 use Rattle.std.specs.List.{AllByRecursion, list_any}
 use Rattle.std.proofs.lemmas.Bool.{or_parts, or_from}
 use Rattle.edi_base.proofs.Twice.{bytes_eq-sym}
@@ -35,7 +36,8 @@ use Rattle.hub_rules.proofs.Keeping.{kept_received, kept_receipt, kept_mail}
 use Rattle.hub_rules.proofs.KeptByMessages.{leads_message}
 use Rattle.hub_rules.proofs.KeptLists.{is_received, received_now, found_unreceived}
 use Rattle.hub_rules.proofs.Owned.{pallet_stays}
-use Rattle.hub_rules.proofs.Verdicts.{not_refused, was_given, Leaves, Leads, leaves_given, leaves_nothing, leaves_next, leads_in_order, leaves_in_turn}
+use Rattle.hub_rules.proofs.Verdicts.{not_refused, was_given, Leaves, Leads, leaves_given, leaves_nothing, leaves_next}
+use Rattle.hub_rules.proofs.Verdicts.{leads_in_order, leaves_in_turn}
 
 -- what does not come in a list does not come in a part of it
 any_less : {X : Type 0} (q p : X → Bool) (xs : List X) → list_any q xs ≡ false → list_any q (filter p xs) ≡ false
@@ -49,7 +51,9 @@ any_less q p (x ∷ xs) h =
 
 single_filter : {X : Type 0} (alike : X → X → Bool) (p : X → Bool) (xs : List X) → Single alike xs → Single alike (filter p xs)
 single_filter alike p [] a = tt
-single_filter alike p (x ∷ xs) a = elim (p x) as (λ v. Single alike (cond v (x ∷ filter p xs) (filter p xs))) [ true ↦ (any_less (alike x) p xs a.0, single_filter alike p xs a.1) | false ↦ single_filter alike p xs a.1 ]
+single_filter alike p (x ∷ xs) a =
+    elim (p x) as (λ v. Single alike (cond v (x ∷ filter p xs) (filter p xs)))
+    [ true ↦ (any_less (alike x) p xs a.0, single_filter alike p xs a.1) | false ↦ single_filter alike p xs a.1 ]
 
 gone : (gtin : List ℕ) (gtins : List (List ℕ)) → list_any (same gtin) (filter (λ other. not (same other gtin)) gtins) ≡ false
 gone gtin [] = refl
@@ -61,7 +65,8 @@ gone gtin (other ∷ others) =
 -- each item comes once
 gtins_single : (lines : List ReceiptLine) → Single same (gtins lines)
 gtins_single [] = tt
-gtins_single (line ∷ lines) = (gone line.gtin (gtins lines), single_filter same (λ gtin. not (same gtin line.gtin)) (gtins lines) (gtins_single lines))
+gtins_single (line ∷ lines) =
+    (gone line.gtin (gtins lines), single_filter same (λ gtin. not (same gtin line.gtin)) (gtins lines) (gtins_single lines))
 
 abbrev receipt_of : List ℕ → List ReceiptLine → List ℕ → ReceiptRow
 receipt_of sscc lines gtin = record {
@@ -77,24 +82,38 @@ abbrev Lacks : List ℕ → Tables → List ℕ → Type 0
 Lacks sscc state gtin = list_any (λ y. same y.gtin gtin) (filter (λ y. same y.sscc sscc) state.receipts) ≡ false
 
 module _ (s : SupplierRow) where
-  still_lacking : (sscc : List ℕ) (lines : List ReceiptLine) (gtin : List ℕ) (state : Tables) → KeptOwn s state → (others : List (List ℕ)) → list_any (same gtin) others ≡ false → AllByRecursion (Lacks sscc state) others → AllByRecursion (Lacks sscc (apply (AddReceipt (receipt_of sscc lines gtin)) state)) others
+  still_lacking : (sscc : List ℕ) (lines : List ReceiptLine) (gtin : List ℕ) (state : Tables)
+      → KeptOwn s state
+      → (others : List (List ℕ))
+      → list_any (same gtin) others ≡ false
+      → AllByRecursion (Lacks sscc state) others
+      → AllByRecursion (Lacks sscc (apply (AddReceipt (receipt_of sscc lines gtin)) state)) others
   still_lacking sscc lines gtin state good [] apart lacking = tt
   still_lacking sscc lines gtin state good (other ∷ others) apart lacking =
       let parts = or_parts (same gtin other) (list_any (same gtin) others) apart in (
-        ap (list_any (λ y. same y.gtin other)) (filter_put_in receipt_total (λ y. same y.sscc sscc) state.receipts (receipt_of sscc lines gtin) good.own.ordered.receipts (same_if sscc sscc refl))
+        ap (list_any (λ y. same y.gtin other))
+            (filter_put_in receipt_total (λ y. same y.sscc sscc) state.receipts (receipt_of sscc lines gtin)
+            good.own.ordered.receipts (same_if sscc sscc refl))
             ∙ any_put receipt_cmp (λ y. same y.gtin other) (filter (λ y. same y.sscc sscc) state.receipts) (receipt_of sscc lines gtin)
             ∙ ap₂ (λ v w. v || (w || false)) lacking.0 parts.0,
         still_lacking sscc lines gtin state good others parts.1 lacking.1,
       )
 
   -- receipts of items that are all different, on a received pallet that has none of them
-  leaves_receipts : (sscc : List ℕ) (lines : List ReceiptLine) (gtins : List (List ℕ)) (state : Tables) → KeptOwn s state → has_pallet state sscc ≡ true → was_received state sscc ≡ true → Single same gtins → AllByRecursion (Lacks sscc state) gtins →
-      Leaves s (KeptOwn s) state (map (new_receipt sscc lines) gtins)
+  leaves_receipts : (sscc : List ℕ) (lines : List ReceiptLine) (gtins : List (List ℕ)) (state : Tables)
+      → KeptOwn s state
+      → has_pallet state sscc ≡ true
+      → was_received state sscc ≡ true
+      → Single same gtins
+      → AllByRecursion (Lacks sscc state) gtins
+      → Leaves s (KeptOwn s) state (map (new_receipt sscc lines) gtins)
   leaves_receipts sscc lines [] state good there received single lacking = leaves_nothing s (KeptOwn s) state good
   leaves_receipts sscc lines (gtin ∷ gtins) state good there received single lacking =
       let row = receipt_of sscc lines gtin in
       leaves_next s (KeptOwn s) state (AddReceipt row) (map (new_receipt sscc lines) gtins) there
-      (leaves_receipts sscc lines gtins (apply (AddReceipt row) state) (good_after s state (AddReceipt row) there good.own (kept_receipt state good.kept row good.own.ordered.receipts received lacking.0)) there received single.1 (still_lacking sscc lines gtin state good gtins single.0 lacking.1))
+      (leaves_receipts sscc lines gtins (apply (AddReceipt row) state) (good_after s state (AddReceipt row) there good.own
+      (kept_receipt state good.kept row good.own.ordered.receipts received lacking.0)) there received single.1
+      (still_lacking sscc lines gtin state good gtins single.0 lacking.1))
 
   leads_received : (unit : ReceiptUnit) → Leads s (KeptOwn s) (KeptOwn s) (judge_received unit)
   leads_received unit state changes good h =
@@ -109,14 +128,22 @@ module _ (s : SupplierRow) where
       let received : was_received after unit.sscc ≡ true = ap (was_received after) (sym which) ∙ received_now row state.pallets refl here in
       let not_yet = found_unreceived unit.sscc state.pallets p.0 good.kept.pallets p.1 a.0 in
       let none : filter (λ y. same y.sscc unit.sscc) state.receipts ≡ [] =
-      filter_none (λ y. same y.sscc unit.sscc) state.receipts (all_weaker (λ r. was_received state r.sscc ≡ true) (λ r. same r.sscc unit.sscc ≡ false) (λ r was. differ r.sscc unit.sscc (λ e. let both = ap (was_received state) e in (cc))) state.receipts good.kept.receipt_pallets) in
-      let lacking : AllByRecursion (Lacks unit.sscc after) (gtins unit.lines) = all_always (Lacks unit.sscc after) (λ gtin. ap (list_any (λ (y : ReceiptRow). same y.gtin gtin)) none) (gtins unit.lines) in
+      filter_none (λ y. same y.sscc unit.sscc) state.receipts
+      (all_weaker (λ r. was_received state r.sscc ≡ true) (λ r. same r.sscc unit.sscc ≡ false)
+      (λ r was. differ r.sscc unit.sscc (λ e. let both = ap (was_received state) e in (cc))) state.receipts
+      good.kept.receipt_pallets) in
+      let lacking : AllByRecursion (Lacks unit.sscc after) (gtins unit.lines) =
+      all_always (Lacks unit.sscc after) (λ gtin. ap (list_any (λ (y : ReceiptRow). same y.gtin gtin)) none)
+      (gtins unit.lines) in
       let belongs : (row.supplier ≡ s.gln) × (has_pallet state row.sscc ≡ true) = (found.0, here) in
       leaves_given s (KeptOwn s) state (SetPallet row ∷ map (new_receipt unit.sscc unit.lines) (gtins unit.lines)) changes a.1
       (leaves_next s (KeptOwn s) state (SetPallet row) (map (new_receipt unit.sscc unit.lines) (gtins unit.lines)) belongs
-      (leaves_receipts unit.sscc unit.lines (gtins unit.lines) after (good_after s state (SetPallet row) belongs good.own (kept_received state good.kept row refl)) (pallet_stays unit.sscc state (SetPallet row) there) received (gtins_single unit.lines) lacking))
+      (leaves_receipts unit.sscc unit.lines (gtins unit.lines) after
+      (good_after s state (SetPallet row) belongs good.own (kept_received state good.kept row refl))
+      (pallet_stays unit.sscc state (SetPallet row) there) received (gtins_single unit.lines) lacking))
 
-  leads_new_receipt : (incoming : IncomingMessage) (body : List ℕ) (receipt : Receipt) → Leads s (KeptOwn s) (KeptOwn s) (judge_new_receipt s.gln incoming body receipt)
+  leads_new_receipt : (incoming : IncomingMessage) (body : List ℕ) (receipt : Receipt)
+      → Leads s (KeptOwn s) (KeptOwn s) (judge_new_receipt s.gln incoming body receipt)
   leads_new_receipt incoming body receipt state changes good h =
       let a = not_refused (is_full (length state.mail)) codes.MailboxFull _ changes h in
       let mail : Change = new_mail s.gln state incoming kinds.Receipt receipt.number body in
@@ -124,5 +151,8 @@ module _ (s : SupplierRow) where
       (leaves_good s state mail refl good.own (kept_mail state good.kept s.gln _ good.own.mail refl refl))
       (leads_in_order s (KeptOwn s) judge_received leads_received receipt.units) a.1
 
-  pub leads_receipt : (retailer : List ℕ) (incoming : IncomingMessage) (body : List ℕ) (receipt : Receipt) → Leads s (KeptOwn s) (KeptOwn s) (judge_receipt retailer (Some s) incoming body receipt)
-  leads_receipt retailer incoming body receipt = leads_message s retailer sides.Retailer incoming receipt.buyer receipt.supplier (λ s. judge_new_receipt s.gln incoming body receipt) (leads_new_receipt incoming body receipt)
+  pub leads_receipt : (retailer : List ℕ) (incoming : IncomingMessage) (body : List ℕ) (receipt : Receipt)
+      → Leads s (KeptOwn s) (KeptOwn s) (judge_receipt retailer (Some s) incoming body receipt)
+  leads_receipt retailer incoming body receipt =
+      leads_message s retailer sides.Retailer incoming receipt.buyer receipt.supplier
+      (λ s. judge_new_receipt s.gln incoming body receipt) (leads_new_receipt incoming body receipt)

@@ -16,7 +16,8 @@ numbered_set n [] r a = tt
 numbered_set n (entry ∷ entries) r a = (
   elim (decide (same_mail r entry)) [
     | inl e ↦
-        let number : entry.number ≡ r.number = grind (arith, nat_tests, (and_parts (same entry.supplier r.supplier) (entry.number == r.number) e).1) in
+        let number : entry.number ≡ r.number =
+        grind (arith, nat_tests, (and_parts (same entry.supplier r.supplier) (entry.number == r.number) e).1) in
         ap (λ v. (cond v r entry).number) e ∙ sym number ∙ a.0
     | inr e ↦ ap (λ v. (cond v r entry).number) e ∙ a.0
   ],

@@ -20,7 +20,8 @@ use Rattle.hub_rules.proofs.Views.{view_own}
 pub good_view : (suppliers : List SupplierRow) (s : SupplierRow) (t : Tables) → Sound suppliers t → KeptOwn s (view s.gln t)
 good_view suppliers s t sound = record { own = view_own s t (sound.rooted).ordered; kept = sound.kept s.gln }
 
-module _ (suppliers : List SupplierRow) (free : PrefixFree (company_prefixes suppliers)) (s : SupplierRow) (known : supplier_row suppliers s.gln ≡ Some s) (t : Tables) (sound : Sound suppliers t) where
+module _ (suppliers : List SupplierRow) (free : PrefixFree (company_prefixes suppliers)) (s : SupplierRow)
+    (known : supplier_row suppliers s.gln ≡ Some s) (t : Tables) (sound : Sound suppliers t) where
   pub after_changes : (changes : List Change) → Keeps s (view s.gln t) changes → KeepsApart suppliers s t changes
   after_changes changes keeps =
       let all = follows suppliers free s known changes t sound.rooted keeps.belong in
@@ -30,7 +31,8 @@ module _ (suppliers : List SupplierRow) (free : PrefixFree (company_prefixes sup
         sound = record {
           rooted = all.rooted;
           kept = λ gln. elim (decide (same gln s.gln)) [
-            | inl e ↦ subst (λ who. Kept (view who (apply_all changes t))) (sym (same_is gln s.gln e)) (subst Kept (sym all.seen) keeps.kept)
+            | inl e ↦ subst (λ who. Kept (view who (apply_all changes t))) (sym (same_is gln s.gln e))
+                (subst Kept (sym all.seen) keeps.kept)
             | inr e ↦ subst Kept (sym (all.unseen gln (λ h. let yes = same_if gln s.gln h in (cc)))) (sound.kept gln)
           ];
         };

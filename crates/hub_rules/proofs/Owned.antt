@@ -3,10 +3,12 @@ use Rattle.std.proofs.Common.{◌≡◌, ℕ, true, ◌||◌, List, [], ◌∷�
 use Rattle.std.specs.List.{list_any}
 use Rattle.hub_parties.specs.declared.row.SupplierRow.{SupplierRow}
 use Rattle.hub_tables.specs.Change.{apply}
-use Rattle.hub_tables.specs.Rows.{same, order_cmp, line_cmp, advice_cmp, pallet_cmp, content_cmp, receipt_cmp, remembered_cmp, mail_cmp, same_line, same_pallet, same_mail}
+use Rattle.hub_tables.specs.Rows.{same, order_cmp, line_cmp, advice_cmp, pallet_cmp, content_cmp, receipt_cmp}
+use Rattle.hub_tables.specs.Rows.{remembered_cmp, mail_cmp, same_line, same_pallet, same_mail}
 use Rattle.hub_tables.specs.Tables.{Tables, has_pallet}
 use Rattle.hub_tables.specs.declared.change.Change.{Change}
-use Rattle.hub_tables.specs.declared.change.Change.TheVariants.{AddOrder, AddLine, SetLine, AddAdvice, AddPallet, SetPallet, AddContent, AddReceipt, Remember, AddMail, SetMail}
+use Rattle.hub_tables.specs.declared.change.Change.TheVariants.{AddOrder, AddLine, SetLine, AddAdvice, AddPallet, SetPallet}
+use Rattle.hub_tables.specs.declared.change.Change.TheVariants.{AddContent, AddReceipt, Remember, AddMail, SetMail}
 use Rattle.hub_tables.proofs.KeyOrder.{all_put, any_put}
 use Rattle.hub_tables.proofs.KindOrders.{ordered_after}
 use Rattle.hub_tables.proofs.Lists.{all_replace, all_weaker}
@@ -15,12 +17,15 @@ use Rattle.hub_rules.proofs.Belonging.{Belongs}
 use Rattle.hub_rules.proofs.Changes.{has_set}
 
 -- a pallet stays
-pub pallet_stays : (sscc : List ℕ) (state : Tables) (change : Change) → has_pallet state sscc ≡ true → has_pallet (apply change state) sscc ≡ true
+pub pallet_stays : (sscc : List ℕ) (state : Tables) (change : Change)
+    → has_pallet state sscc ≡ true
+    → has_pallet (apply change state) sscc ≡ true
 pallet_stays sscc state (AddOrder r) h = h
 pallet_stays sscc state (AddLine r) h = h
 pallet_stays sscc state (SetLine r) h = h
 pallet_stays sscc state (AddAdvice r) h = h
-pallet_stays sscc state (AddPallet r) h = any_put pallet_cmp (λ p. same p.sscc sscc) state.pallets r ∙ ap (λ v. v || list_any (λ p. same p.sscc sscc) (r ∷ [])) h
+pallet_stays sscc state (AddPallet r) h =
+    any_put pallet_cmp (λ p. same p.sscc sscc) state.pallets r ∙ ap (λ v. v || list_any (λ p. same p.sscc sscc) (r ∷ [])) h
 pallet_stays sscc state (SetPallet r) h = has_set r state.pallets sscc ∙ h
 pallet_stays sscc state (AddContent r) h = h
 pallet_stays sscc state (AddReceipt r) h = h
@@ -80,8 +85,12 @@ own_after s state (AddPallet r) h own = record {
   lines = own.lines;
   advices = own.advices;
   pallets = all_put pallet_cmp (λ pallet. pallet.supplier ≡ s.gln) state.pallets r own.pallets h.0;
-  contents = all_weaker (λ c. has_pallet state c.sscc ≡ true) (λ c. has_pallet (apply (AddPallet r) state) c.sscc ≡ true) (λ c there. pallet_stays c.sscc state (AddPallet r) there) state.contents own.contents;
-  receipts = all_weaker (λ c. has_pallet state c.sscc ≡ true) (λ c. has_pallet (apply (AddPallet r) state) c.sscc ≡ true) (λ c there. pallet_stays c.sscc state (AddPallet r) there) state.receipts own.receipts;
+  contents =
+      all_weaker (λ c. has_pallet state c.sscc ≡ true) (λ c. has_pallet (apply (AddPallet r) state) c.sscc ≡ true)
+      (λ c there. pallet_stays c.sscc state (AddPallet r) there) state.contents own.contents;
+  receipts =
+      all_weaker (λ c. has_pallet state c.sscc ≡ true) (λ c. has_pallet (apply (AddPallet r) state) c.sscc ≡ true)
+      (λ c there. pallet_stays c.sscc state (AddPallet r) there) state.receipts own.receipts;
   remembered = own.remembered;
   mail = own.mail;
 }
@@ -91,8 +100,12 @@ own_after s state (SetPallet r) h own = record {
   lines = own.lines;
   advices = own.advices;
   pallets = all_replace (λ pallet. pallet.supplier ≡ s.gln) (same_pallet r) r state.pallets own.pallets h.0;
-  contents = all_weaker (λ c. has_pallet state c.sscc ≡ true) (λ c. has_pallet (apply (SetPallet r) state) c.sscc ≡ true) (λ c there. pallet_stays c.sscc state (SetPallet r) there) state.contents own.contents;
-  receipts = all_weaker (λ c. has_pallet state c.sscc ≡ true) (λ c. has_pallet (apply (SetPallet r) state) c.sscc ≡ true) (λ c there. pallet_stays c.sscc state (SetPallet r) there) state.receipts own.receipts;
+  contents =
+      all_weaker (λ c. has_pallet state c.sscc ≡ true) (λ c. has_pallet (apply (SetPallet r) state) c.sscc ≡ true)
+      (λ c there. pallet_stays c.sscc state (SetPallet r) there) state.contents own.contents;
+  receipts =
+      all_weaker (λ c. has_pallet state c.sscc ≡ true) (λ c. has_pallet (apply (SetPallet r) state) c.sscc ≡ true)
+      (λ c there. pallet_stays c.sscc state (SetPallet r) there) state.receipts own.receipts;
   remembered = own.remembered;
   mail = own.mail;
 }

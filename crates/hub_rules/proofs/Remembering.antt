@@ -23,25 +23,47 @@ use Rattle.hub_rules.specs.declared.verdict.Verdict.TheVariants.{Accept, Refuse}
 
 module _ (r : Reference) (content : List ℕ) (state : Tables) where
   -- one that is new
-  new_remembers : remembered_of state r.side r.control r.message ≡ None → (rest : Verdict) → Remembers r content ⊤ state (joined (Remember (remembered r content) ∷ []) rest)
-  new_remembers none (Refuse code) = record { first = λ change changes h. cc; again = (λ h. cc, λ there. let both : None ≡ Some (there.1).row = sym none ∙ (there.1).found in absurd (cc)) }
-  new_remembers none (Accept rest) = record { first = λ change changes h. cc; again = (λ h. cc, λ there. let both : None ≡ Some (there.1).row = sym none ∙ (there.1).found in absurd (cc)) }
+  new_remembers : remembered_of state r.side r.control r.message ≡ None
+      → (rest : Verdict)
+      → Remembers r content ⊤ state (joined (Remember (remembered r content) ∷ []) rest)
+  new_remembers none (Refuse code) =
+      record {
+        first = λ change changes h. cc;
+        again = (λ h. cc, λ there. let both : None ≡ Some (there.1).row = sym none ∙ (there.1).found in absurd (cc));
+      }
+  new_remembers none (Accept rest) =
+      record {
+        first = λ change changes h. cc;
+        again = (λ h. cc, λ there. let both : None ≡ Some (there.1).row = sym none ∙ (there.1).found in absurd (cc));
+      }
 
   -- one that is there
-  old_remembers : (row : RememberedRow) → remembered_of state r.side r.control r.message ≡ Some row → (v : Bool) → same row.content content ≡ v → Remembers r content ⊤ state (cond v (Accept []) (Refuse codes.OtherContent))
-  old_remembers row found true e = record { first = λ change changes h. cc; again = (λ h. (tt, record { row = row; found = found; says = same_is row.content content e }), λ there. refl) }
+  old_remembers : (row : RememberedRow)
+      → remembered_of state r.side r.control r.message ≡ Some row
+      → (v : Bool)
+      → same row.content content ≡ v
+      → Remembers r content ⊤ state (cond v (Accept []) (Refuse codes.OtherContent))
+  old_remembers row found true e =
+      record {
+        first = λ change changes h. cc;
+        again = (λ h. (tt, record { row = row; found = found; says = same_is row.content content e }), λ there. refl);
+      }
   old_remembers row found false e = record {
     first = λ change changes h. cc;
     again = (
       λ h. cc,
       λ there.
           let one : row ≡ (there.1).row = cc in
-          let yes : same row.content content ≡ true = same_if row.content content (ap (λ (x : RememberedRow). x.content) one ∙ (there.1).says) in
+          let yes : same row.content content ≡ true =
+          same_if row.content content (ap (λ (x : RememberedRow). x.content) one ∙ (there.1).says) in
           absurd (cc),
     );
   }
 
-  once_remembers : (fresh : Judge) (found : Option RememberedRow) → remembered_of state r.side r.control r.message ≡ found → Remembers r content ⊤ state (once found content (joined (Remember (remembered r content) ∷ []) (fresh (apply_all (Remember (remembered r content) ∷ []) state))))
+  once_remembers : (fresh : Judge) (found : Option RememberedRow)
+      → remembered_of state r.side r.control r.message ≡ found
+      → Remembers r content ⊤ state (once found content
+      (joined (Remember (remembered r content) ∷ []) (fresh (apply_all (Remember (remembered r content) ∷ []) state))))
   once_remembers fresh None e = new_remembers e (fresh (apply_all (Remember (remembered r content) ∷ []) state))
   once_remembers fresh (Some row) e = old_remembers row e (same row.content content) refl
 
@@ -49,18 +71,36 @@ module _ (r : Reference) (content : List ℕ) (state : Tables) where
   judged_remembers fresh = once_remembers fresh (remembered_of state r.side r.control r.message) refl
 
   -- after a check
-  checked_remembers : (A : Type 0) (b : Bool) (code : Code) (rest : Verdict) → Remembers r content A state rest → Remembers r content ((b ≡ false) × A) state (refuse_if b code rest)
-  checked_remembers A true code rest there = record { first = λ change changes h. cc; again = (λ h. cc, λ both. let no = (both.0).0 in absurd (cc)) }
-  checked_remembers A false code rest there = record { first = there.first; again = (λ h. let found = (there.again).0 h in ((refl, found.0), found.1), λ both. (there.again).1 ((both.0).1, both.1)) }
+  checked_remembers : (A : Type 0) (b : Bool) (code : Code) (rest : Verdict)
+      → Remembers r content A state rest
+      → Remembers r content ((b ≡ false) × A) state (refuse_if b code rest)
+  checked_remembers A true code rest there =
+      record { first = λ change changes h. cc; again = (λ h. cc, λ both. let no = (both.0).0 in absurd (cc)) }
+  checked_remembers A false code rest there =
+      record {
+        first = there.first;
+        again =
+            (λ h. let found = (there.again).0 h in ((refl, found.0), found.1), λ both. (there.again).1 ((both.0).1, both.1));
+      }
 
   -- admitted by another fact
-  admitted_by : (A B : Type 0) (verdict : Verdict) → (A → B) → (B → A) → Remembers r content A state verdict → Remembers r content B state verdict
-  admitted_by A B verdict f g there = record { first = there.first; again = (λ h. let found = (there.again).0 h in (f found.0, found.1), λ both. (there.again).1 (g both.0, both.1)) }
+  admitted_by : (A B : Type 0) (verdict : Verdict)
+      → (A → B)
+      → (B → A)
+      → Remembers r content A state verdict
+      → Remembers r content B state verdict
+  admitted_by A B verdict f g there =
+      record {
+        first = there.first;
+        again = (λ h. let found = (there.again).0 h in (f found.0, found.1), λ both. (there.again).1 (g both.0, both.1));
+      }
 
   -- of the supplier itself
-  pub registered_remembers : (s : SupplierRow) (named : List ℕ) (fresh : Judge) → Remembers r content (named ≡ s.gln) state (if_registered (Some s) named (λ s. judge_once r content fresh state))
+  pub registered_remembers : (s : SupplierRow) (named : List ℕ) (fresh : Judge)
+      → Remembers r content (named ≡ s.gln) state (if_registered (Some s) named (λ s. judge_once r content fresh state))
   registered_remembers s named fresh =
-      admitted_by ((not (same named s.gln) ≡ false) × ⊤) (named ≡ s.gln) _ (λ a. same_is named s.gln (not_false (same named s.gln) a.0)) (λ e. (ap not (same_if named s.gln e), tt))
+      admitted_by ((not (same named s.gln) ≡ false) × ⊤) (named ≡ s.gln) _
+      (λ a. same_is named s.gln (not_false (same named s.gln) a.0)) (λ e. (ap not (same_if named s.gln e), tt))
       (checked_remembers ⊤ (not (same named s.gln)) codes.Supplier (judge_once r content fresh state) (judged_remembers fresh))
     where
       not_false : (v : Bool) → not v ≡ false → v ≡ true
@@ -68,8 +108,10 @@ module _ (r : Reference) (content : List ℕ) (state : Tables) where
       not_false false h = cc
 
 -- a message
-pub message_remembers : (s : SupplierRow) (state : Tables) (retailer : List ℕ) (side : Side) (incoming : IncomingMessage) (buyer : Option (List ℕ)) (named : List ℕ) (rest : SupplierRow → Judge) →
-    Remembers (referred_by s side incoming) incoming.content ((is_other_buyer retailer buyer ≡ false) × (named ≡ s.gln)) state (judge_message retailer (Some s) side incoming buyer named rest state)
+pub message_remembers : (s : SupplierRow) (state : Tables) (retailer : List ℕ) (side : Side) (incoming : IncomingMessage)
+    (buyer : Option (List ℕ)) (named : List ℕ) (rest : SupplierRow → Judge)
+    → Remembers (referred_by s side incoming) incoming.content ((is_other_buyer retailer buyer ≡ false) × (named ≡ s.gln))
+    state (judge_message retailer (Some s) side incoming buyer named rest state)
 message_remembers s state retailer side incoming buyer named rest =
     checked_remembers (referred_by s side incoming) incoming.content state (named ≡ s.gln) (is_other_buyer retailer buyer) codes.Buyer _
     (registered_remembers (referred_by s side incoming) incoming.content state s named (rest s))

@@ -1,5 +1,6 @@
 -- What is accepted is remembered, and what is remembered is repeated.
-use Rattle.std.proofs.Common.{◌≡◌, ℕ, Bool, true, false, cond, ◌&&◌, ◌==◌, inl, inr, List, [], ◌∷◌, filter, find, Option, Some, None, refl, sym, ◌∙◌, ap, subst, arith}
+use Rattle.std.proofs.Common.{◌≡◌, ℕ, Bool, true, false, cond, ◌&&◌, ◌==◌, inl, inr, List, [], ◌∷◌, filter, find, Option}
+use Rattle.std.proofs.Common.{Some, None, refl, sym, ◌∙◌, ap, subst, arith}
 use Rattle.std.specs.List.{list_any}
 use Rattle.std.specs.declared.cmp.Ordering.{Ordering}
 use Rattle.std.specs.Ordering.{is_gt}
@@ -13,7 +14,8 @@ use Rattle.hub_tables.specs.Sets.{Has}
 use Rattle.hub_tables.specs.State.{remembered_of}
 use Rattle.hub_tables.specs.Tables.{Tables, view}
 use Rattle.hub_tables.specs.declared.change.Change.{Change}
-use Rattle.hub_tables.specs.declared.change.Change.TheVariants.{AddOrder, AddLine, SetLine, AddAdvice, AddPallet, SetPallet, AddContent, AddReceipt, Remember, AddMail, SetMail}
+use Rattle.hub_tables.specs.declared.change.Change.TheVariants.{AddOrder, AddLine, SetLine, AddAdvice, AddPallet, SetPallet}
+use Rattle.hub_tables.specs.declared.change.Change.TheVariants.{AddContent, AddReceipt, Remember, AddMail, SetMail}
 use Rattle.hub_tables.specs.declared.rows.RememberedRow.{RememberedRow}
 use Rattle.hub_tables.proofs.Lists.{same_if}
 use Rattle.hub_rules.specs.Judging.{Judge, gives, joined, in_turn}
@@ -47,12 +49,24 @@ none_has p (y ∷ ys) x none h =
     elim h [ inl one ↦ ap p one ∙ parts.0 | inr g ↦ none_has p ys x parts.1 g ]
 
 -- the one row that passes is found
-found_single : {X : Type 0} (alike : X → X → Bool) (p : X → Bool) (x : X) → ((y : X) → p y ≡ true → alike y x ≡ true) → p x ≡ true → (xs : List X) → Single alike xs → Has xs x → find p xs ≡ Some x
+found_single : {X : Type 0} (alike : X → X → Bool) (p : X → Bool) (x : X)
+    → ((y : X) → p y ≡ true → alike y x ≡ true)
+    → p x ≡ true
+    → (xs : List X)
+    → Single alike xs
+    → Has xs x
+    → find p xs ≡ Some x
 found_single alike p x tied passes [] single h = absurd h
 found_single alike p x tied passes (y ∷ ys) single h =
     elim (p y) as (λ v. p y ≡ v → cond v (Some y) (find p ys) ≡ Some x) [
-      | true ↦ λ e. elim h [ inl one ↦ ap Some (sym one) | inr g ↦ let yes = tied y e in let no = none_has (alike y) ys x single.0 g in absurd (cc) ]
-      | false ↦ λ e. elim h [ inl one ↦ let same_test : p x ≡ p y = ap p one in absurd (cc) | inr g ↦ found_single alike p x tied passes ys single.1 g ]
+      | true ↦ λ e. elim h [
+        | inl one ↦ ap Some (sym one)
+        | inr g ↦ let yes = tied y e in let no = none_has (alike y) ys x single.0 g in absurd (cc)
+      ]
+      | false ↦ λ e. elim h [
+        | inl one ↦ let same_test : p x ≡ p y = ap p one in absurd (cc)
+        | inr g ↦ found_single alike p x tied passes ys single.1 g
+      ]
     ] refl
 
 -- a row that is remembered stays
@@ -69,36 +83,58 @@ has_after (Remember r) t row h = put_has remembered_cmp t.remembered r row (inr 
 has_after (AddMail r) t row h = h
 has_after (SetMail r) t row h = h
 
-pub has_after_all : (changes : List Change) (t : Tables) (row : RememberedRow) → Has t.remembered row → Has (apply_all changes t).remembered row
+pub has_after_all : (changes : List Change) (t : Tables) (row : RememberedRow)
+    → Has t.remembered row
+    → Has (apply_all changes t).remembered row
 has_after_all [] t row h = h
 has_after_all (change ∷ changes) t row h = has_after_all changes (apply change t) row (has_after change t row h)
 
 -- what tables remember of a supplier is found among what it sees, where its keys are single
-pub found_again : (gln : List ℕ) (t : Tables) (r : Reference) (content : List ℕ) → Single same_reference (view gln t).remembered → r.supplier ≡ gln → Has t.remembered (remembered r content) → remembered_of (view gln t) r.side r.control r.message ≡ Some (remembered r content)
+pub found_again : (gln : List ℕ) (t : Tables) (r : Reference) (content : List ℕ)
+    → Single same_reference (view gln t).remembered
+    → r.supplier ≡ gln
+    → Has t.remembered (remembered r content)
+    → remembered_of (view gln t) r.side r.control r.message ≡ Some (remembered r content)
 found_again gln t r content single whose there =
-    found_single same_reference (λ row. (row.side == side_letter r.side) && (same row.control r.control && same row.message r.message)) (remembered r content) (λ row e. e)
-    (and_from (side_letter r.side == side_letter r.side) (same r.control r.control && same r.message r.message) (grind (arith, nat_tests)) (and_from (same r.control r.control) (same r.message r.message) (same_if r.control r.control refl) (same_if r.message r.message refl)))
+    found_single same_reference
+    (λ row. (row.side == side_letter r.side) && (same row.control r.control && same row.message r.message))
+    (remembered r content) (λ row e. e)
+    (and_from (side_letter r.side == side_letter r.side) (same r.control r.control && same r.message r.message)
+    (grind (arith, nat_tests))
+    (and_from (same r.control r.control) (same r.message r.message) (same_if r.control r.control refl)
+    (same_if r.message r.message refl)))
     (view gln t).remembered single
     (filter_has (λ row. same row.supplier gln) t.remembered (remembered r content) there (same_if r.supplier gln whose))
 
-once_first : (row : Option RememberedRow) (content : List ℕ) (first : Change) (rest : Verdict) (change : Change) (changes : List Change) → once row content (joined (first ∷ []) rest) ≡ Accept (change ∷ changes) → first ≡ change
+once_first : (row : Option RememberedRow) (content : List ℕ) (first : Change) (rest : Verdict) (change : Change)
+    (changes : List Change)
+    → once row content (joined (first ∷ []) rest) ≡ Accept (change ∷ changes)
+    → first ≡ change
 once_first None content first (Refuse code) change changes h = cc
 once_first None content first (Accept rest) change changes h = cc
 once_first (Some row) content first rest change changes h =
-    elim (same row.content content) as (λ v. ◌≡◌ {A = Verdict} (cond v (Accept []) (Refuse OtherContent)) (Accept (change ∷ changes)) → first ≡ change) [
+    elim (same row.content content) as
+    (λ v. ◌≡◌ {A = Verdict} (cond v (Accept []) (Refuse OtherContent)) (Accept (change ∷ changes)) → first ≡ change) [
       | true ↦ λ g. cc
       | false ↦ λ g. cc
     ] h
 
 -- what is accepted with changes is remembered by them
-pub accepted_has : (r : Reference) (content : List ℕ) (fresh : Judge) (state t : Tables) (change : Change) (changes : List Change) → judge_once r content fresh state ≡ Accept (change ∷ changes) → Has (apply_all (change ∷ changes) t).remembered (remembered r content)
+pub accepted_has : (r : Reference) (content : List ℕ) (fresh : Judge) (state t : Tables) (change : Change)
+    (changes : List Change)
+    → judge_once r content fresh state ≡ Accept (change ∷ changes)
+    → Has (apply_all (change ∷ changes) t).remembered (remembered r content)
 accepted_has r content fresh state t change changes h =
-    let first = once_first (remembered_of state r.side r.control r.message) content (Remember (remembered r content)) (fresh (apply (Remember (remembered r content)) state)) change changes h in
+    let first = once_first (remembered_of state r.side r.control r.message) content (Remember (remembered r content))
+    (fresh (apply (Remember (remembered r content)) state)) change changes h in
     subst (λ c. Has (apply_all (c ∷ changes) t).remembered (remembered r content)) first
-    (has_after_all changes (apply (Remember (remembered r content)) t) (remembered r content) (put_has remembered_cmp t.remembered (remembered r content) (remembered r content) (inl refl)))
+    (has_after_all changes (apply (Remember (remembered r content)) t) (remembered r content)
+    (put_has remembered_cmp t.remembered (remembered r content) (remembered r content) (inl refl)))
 
 -- what is remembered is repeated
-pub once_again : (r : Reference) (content : List ℕ) (fresh : Judge) (state : Tables) → remembered_of state r.side r.control r.message ≡ Some (remembered r content) → judge_once r content fresh state ≡ Accept []
+pub once_again : (r : Reference) (content : List ℕ) (fresh : Judge) (state : Tables)
+    → remembered_of state r.side r.control r.message ≡ Some (remembered r content)
+    → judge_once r content fresh state ≡ Accept []
 once_again r content fresh state found =
     ap (λ row. once row content (in_turn (gives (Remember (remembered r content) ∷ [])) fresh state)) found
     ∙ ap (λ v. cond v (Accept []) (Refuse OtherContent)) (same_if content content refl)

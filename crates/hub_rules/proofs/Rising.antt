@@ -1,5 +1,6 @@
 -- Rows in key order with single keys rise strictly: those of one supplier, and those of all.
-use Rattle.std.proofs.Common.{◌≡◌, ℕ, ◌+◌, ◌≤◌, nat_lt, Bool, true, false, cond, ◌&&◌, ◌||◌, ◌==◌, inl, inr, List, [], ◌∷◌, filter, refl, sym, ◌∙◌, ap, ap₂, subst, arith}
+use Rattle.std.proofs.Common.{◌≡◌, ℕ, ◌+◌, ◌≤◌, nat_lt, Bool, true, false, cond, ◌&&◌, ◌||◌, ◌==◌, inl, inr, List, [], ◌∷◌}
+use Rattle.std.proofs.Common.{filter, refl, sym, ◌∙◌, ap, ap₂, subst, arith}
 use Rattle.std.specs.Bool.{⊤}
 use Rattle.std.specs.List.{AllByRecursion, list_any}
 use Rattle.std.specs.declared.cmp.Ordering.{Ordering}
@@ -19,7 +20,8 @@ use Rattle.hub_tables.specs.Tables.{Tables, Ordered, has_pallet, holds, view}
 use Rattle.hub_tables.specs.declared.rows.MailRow.{MailRow}
 use Rattle.hub_tables.proofs.KeyOrder.{in_order_filter}
 use Rattle.hub_tables.proofs.Lists.{decide, same_is, same_if, filter_none, all_filter, all_weaker, all_always}
-use Rattle.hub_rules.specs.Sound.{Numbered, Single, same_order, same_line_number, same_advice, same_sscc, same_place, same_gtin, same_reference, Kept, IsRooted, Rooted}
+use Rattle.hub_rules.specs.Sound.{Numbered, Single, same_order, same_line_number, same_advice, same_sscc, same_place}
+use Rattle.hub_rules.specs.Sound.{same_gtin, same_reference, Kept, IsRooted, Rooted}
 use Rattle.hub_rules.proofs.Prefixes.{any_found, owner}
 use Rattle.hub_rules.proofs.Views.{view_own}
 
@@ -38,7 +40,12 @@ text_tied : (a b : List ℕ) → bytes_cmp a b ≡ Equal → same a b ≡ true
 text_tied a b h = sym (is_eq-slice_cmp a b) ∙ ap is_eq h
 
 number_tied : (a b : ℕ) → nat_cmp a b ≡ Equal → (a == b) ≡ true
-number_tied a b h = elim (decide (a == b)) [ inl e ↦ e | inr e ↦ elim (decide (nat_lt a b)) [ inl k ↦ absurd (grind (arith, e, k, h)) | inr k ↦ absurd (grind (arith, e, k, h)) ] ]
+number_tied a b h =
+    elim (decide (a == b)) [
+      | inl e ↦ e
+      | inr e ↦
+          elim (decide (nat_lt a b)) [ inl k ↦ absurd (grind (arith, e, k, h)) | inr k ↦ absurd (grind (arith, e, k, h)) ]
+    ]
 
 only_less : (o : Ordering) → is_gt o ≡ false → (o ≡ Equal → ⊥) → o ≡ Less
 only_less Less g ne = refl
@@ -47,7 +54,9 @@ only_less Greater g ne = cc
 
 pub rises_filter : {X : Type 0} (cmp : X → X → Ordering) (p : X → Bool) (xs : List X) → Rises cmp xs → Rises cmp (filter p xs)
 rises_filter cmp p [] a = tt
-rises_filter cmp p (x ∷ xs) a = elim (p x) as (λ v. Rises cmp (cond v (x ∷ filter p xs) (filter p xs))) [ true ↦ (all_filter (λ y. cmp x y ≡ Less) p xs a.0, rises_filter cmp p xs a.1) | false ↦ rises_filter cmp p xs a.1 ]
+rises_filter cmp p (x ∷ xs) a =
+    elim (p x) as (λ v. Rises cmp (cond v (x ∷ filter p xs) (filter p xs)))
+    [ true ↦ (all_filter (λ y. cmp x y ≡ Less) p xs a.0, rises_filter cmp p xs a.1) | false ↦ rises_filter cmp p xs a.1 ]
 
 -- rows in order of which no two are alike, where those of one key are alike
 module _ {X : Type 0} (cmp : X → X → Ordering) (alike : X → X → Bool) (tied : (x y : X) → cmp x y ≡ Equal → alike x y ≡ true) where
@@ -55,32 +64,58 @@ module _ {X : Type 0} (cmp : X → X → Ordering) (alike : X → X → Bool) (t
   rises [] a b = tt
   rises (x ∷ xs) a b = (below xs a.0 b.0, rises xs a.1 b.1)
     where
-      below : (ys : List X) → AllByRecursion (λ y. is_gt (cmp x y) ≡ false) ys → list_any (alike x) ys ≡ false → AllByRecursion (λ y. cmp x y ≡ Less) ys
+      below : (ys : List X)
+          → AllByRecursion (λ y. is_gt (cmp x y) ≡ false) ys
+          → list_any (alike x) ys ≡ false
+          → AllByRecursion (λ y. cmp x y ≡ Less) ys
       below [] c d = tt
       below (y ∷ ys) c d =
           let parts = or_parts (alike x y) (list_any (alike x) ys) d in
           (only_less (cmp x y) c.0 (λ e. let yes = tied x y e in (cc)), below ys c.1 parts.1)
 
 -- rows in order that rise where one part of them is the same, where those of one key have the same part
-module _ {X : Type 0} (cmp : X → X → Ordering) (part : X → List ℕ) (P : X → Type 0) (tied : (x y : X) → P x → P y → cmp x y ≡ Equal → part y ≡ part x) where
-  rises_by_parts : (xs : List X) → InOrder cmp xs → AllByRecursion P xs → ((of : List ℕ) → Rises cmp (filter (λ x. same (part x) of) xs)) → Rises cmp xs
+module _ {X : Type 0} (cmp : X → X → Ordering) (part : X → List ℕ) (P : X → Type 0)
+    (tied : (x y : X) → P x → P y → cmp x y ≡ Equal → part y ≡ part x) where
+  rises_by_parts : (xs : List X)
+      → InOrder cmp xs
+      → AllByRecursion P xs
+      → ((of : List ℕ) → Rises cmp (filter (λ x. same (part x) of) xs))
+      → Rises cmp xs
   rises_by_parts [] a all f = tt
-  rises_by_parts (x ∷ xs) a all f = (below xs a.0 all.1 (first (same (part x) (part x)) (same_if (part x) (part x) refl) (f (part x))), rises_by_parts xs a.1 all.1 (λ of. rest of (same (part x) of) (f of)))
+  rises_by_parts (x ∷ xs) a all f = (
+    below xs a.0 all.1 (first (same (part x) (part x)) (same_if (part x) (part x) refl) (f (part x))),
+    rises_by_parts xs a.1 all.1 (λ of. rest of (same (part x) of) (f of)),
+  )
     where
-      rest : (of : List ℕ) (v : Bool) → Rises cmp (cond v (x ∷ filter (λ y. same (part y) of) xs) (filter (λ y. same (part y) of) xs)) → Rises cmp (filter (λ y. same (part y) of) xs)
+      rest : (of : List ℕ) (v : Bool)
+          → Rises cmp (cond v (x ∷ filter (λ y. same (part y) of) xs) (filter (λ y. same (part y) of) xs))
+          → Rises cmp (filter (λ y. same (part y) of) xs)
       rest of true h = h.1
       rest of false h = h
 
-      first : (v : Bool) → v ≡ true → Rises cmp (cond v (x ∷ filter (λ y. same (part y) (part x)) xs) (filter (λ y. same (part y) (part x)) xs)) → AllByRecursion (λ y. cmp x y ≡ Less) (filter (λ y. same (part y) (part x)) xs)
+      first : (v : Bool)
+          → v ≡ true
+          → Rises cmp (cond v (x ∷ filter (λ y. same (part y) (part x)) xs) (filter (λ y. same (part y) (part x)) xs))
+          → AllByRecursion (λ y. cmp x y ≡ Less) (filter (λ y. same (part y) (part x)) xs)
       first true e h = h.0
       first false e h = cc
 
-      below : (ys : List X) → AllByRecursion (λ y. is_gt (cmp x y) ≡ false) ys → AllByRecursion P ys → AllByRecursion (λ y. cmp x y ≡ Less) (filter (λ y. same (part y) (part x)) ys) → AllByRecursion (λ y. cmp x y ≡ Less) ys
+      below : (ys : List X)
+          → AllByRecursion (λ y. is_gt (cmp x y) ≡ false) ys
+          → AllByRecursion P ys
+          → AllByRecursion (λ y. cmp x y ≡ Less) (filter (λ y. same (part y) (part x)) ys)
+          → AllByRecursion (λ y. cmp x y ≡ Less) ys
       below [] c d e = tt
       below (y ∷ ys) c d e =
-          elim (same (part y) (part x)) as (λ v. same (part y) (part x) ≡ v → AllByRecursion (λ y. cmp x y ≡ Less) (cond v (y ∷ filter (λ y. same (part y) (part x)) ys) (filter (λ y. same (part y) (part x)) ys)) → AllByRecursion (λ y. cmp x y ≡ Less) (y ∷ ys)) [
+          elim (same (part y) (part x)) as (λ v. same (part y) (part x) ≡ v
+          → AllByRecursion (λ y. cmp x y ≡ Less)
+          (cond v (y ∷ filter (λ y. same (part y) (part x)) ys) (filter (λ y. same (part y) (part x)) ys))
+          → AllByRecursion (λ y. cmp x y ≡ Less) (y ∷ ys)) [
             | true ↦ λ same_part g. (g.0, below ys c.1 d.1 g.1)
-            | false ↦ λ other g. (only_less (cmp x y) c.0 (λ k. let yes = same_if (part y) (part x) (tied x y all.0 d.0 k) in (cc)), below ys c.1 d.1 g)
+            | false ↦ λ other g. (
+              only_less (cmp x y) c.0 (λ k. let yes = same_if (part y) (part x) (tied x y all.0 d.0 k) in (cc)),
+              below ys c.1 d.1 g,
+            )
           ] refl e
 
 module _ {X : Type 0} (cmp : X → X → Ordering) (part : X → List ℕ) (tied : (x y : X) → cmp x y ≡ Equal → part y ≡ part x) where
@@ -108,22 +143,38 @@ module _ (a b : List ℕ) (o : Ordering) (h : ordering_then (bytes_cmp a b) o �
 -- what one supplier has as it is to be rises
 pub kept_rises : (state : Tables) → Ordered state → Kept state → Rising state
 kept_rises state ordered kept = record {
-  orders = rises order_cmp same_order (λ x y h. text_tied x.number y.number (rest_tied x.supplier y.supplier _ h)) state.orders ordered.orders kept.orders;
+  orders =
+      rises order_cmp same_order (λ x y h. text_tied x.number y.number (rest_tied x.supplier y.supplier _ h)) state.orders
+      ordered.orders kept.orders;
   lines = rises line_cmp same_line_number (λ x y h.
       let rest = rest_tied x.supplier y.supplier _ h in
-      and_from (same x.number y.number) (x.line == y.line) (text_tied x.number y.number (first_tied (bytes_cmp x.number y.number) _ rest)) (number_tied x.line y.line (rest_tied x.number y.number _ rest))) state.lines ordered.lines kept.lines;
-  advices = rises advice_cmp same_advice (λ x y h. text_tied x.number y.number (rest_tied x.supplier y.supplier _ h)) state.advices ordered.advices kept.advices;
+      and_from (same x.number y.number) (x.line == y.line)
+      (text_tied x.number y.number (first_tied (bytes_cmp x.number y.number) _ rest))
+      (number_tied x.line y.line (rest_tied x.number y.number _ rest))) state.lines ordered.lines kept.lines;
+  advices =
+      rises advice_cmp same_advice (λ x y h. text_tied x.number y.number (rest_tied x.supplier y.supplier _ h)) state.advices
+      ordered.advices kept.advices;
   pallets = rises pallet_cmp same_sscc (λ x y h. text_tied x.sscc y.sscc h) state.pallets ordered.pallets kept.pallets;
   contents = rises_by_part content_cmp (λ c. c.sscc) (λ x y h. first_same x.sscc y.sscc _ h) state.contents ordered.contents
-      (λ sscc. rises content_cmp same_place (λ x y h. number_tied x.place y.place (rest_tied x.sscc y.sscc _ h)) (filter (λ c. same c.sscc sscc) state.contents) (in_order_filter content_cmp (λ c. same c.sscc sscc) state.contents ordered.contents) (kept.contents sscc));
+      (λ sscc. rises content_cmp same_place (λ x y h. number_tied x.place y.place (rest_tied x.sscc y.sscc _ h))
+      (filter (λ c. same c.sscc sscc) state.contents)
+      (in_order_filter content_cmp (λ c. same c.sscc sscc) state.contents ordered.contents) (kept.contents sscc));
   receipts = rises_by_part receipt_cmp (λ r. r.sscc) (λ x y h. first_same x.sscc y.sscc _ h) state.receipts ordered.receipts
-      (λ sscc. rises receipt_cmp same_gtin (λ x y h. text_tied x.gtin y.gtin (rest_tied x.sscc y.sscc _ h)) (filter (λ r. same r.sscc sscc) state.receipts) (in_order_filter receipt_cmp (λ r. same r.sscc sscc) state.receipts ordered.receipts) (kept.receipts sscc));
+      (λ sscc. rises receipt_cmp same_gtin (λ x y h. text_tied x.gtin y.gtin (rest_tied x.sscc y.sscc _ h))
+      (filter (λ r. same r.sscc sscc) state.receipts)
+      (in_order_filter receipt_cmp (λ r. same r.sscc sscc) state.receipts ordered.receipts) (kept.receipts sscc));
   remembered = rises remembered_cmp same_reference (λ x y h.
       let rest = rest_tied x.supplier y.supplier _ h in
       let last = then_tied (nat_cmp x.side y.side) _ rest in
-      and_from (x.side == y.side) (same x.control y.control && same x.message y.message) (number_tied x.side y.side (first_tied (nat_cmp x.side y.side) _ rest))
-      (and_from (same x.control y.control) (same x.message y.message) (text_tied x.control y.control (first_tied (bytes_cmp x.control y.control) _ last)) (text_tied x.message y.message (rest_tied x.control y.control _ last)))) state.remembered ordered.remembered kept.remembered;
-  mail = rises mail_cmp (λ a b. a.number == b.number) (λ x y h. number_tied x.number y.number (rest_tied x.supplier y.supplier _ h)) state.mail ordered.mail (numbered_single 0 state.mail kept.mail);
+      and_from (x.side == y.side) (same x.control y.control && same x.message y.message)
+      (number_tied x.side y.side (first_tied (nat_cmp x.side y.side) _ rest))
+      (and_from (same x.control y.control) (same x.message y.message)
+      (text_tied x.control y.control (first_tied (bytes_cmp x.control y.control) _ last))
+      (text_tied x.message y.message (rest_tied x.control y.control _ last)))) state.remembered ordered.remembered kept.remembered;
+  mail =
+      rises mail_cmp (λ a b. a.number == b.number)
+      (λ x y h. number_tied x.number y.number (rest_tied x.supplier y.supplier _ h)) state.mail ordered.mail
+      (numbered_single 0 state.mail kept.mail);
 }
 
 -- what a supplier sees of tables in key order rises, where it is as it is to be
@@ -141,34 +192,62 @@ filter_again p q (x ∷ xs) f =
 
 -- the rows of one pallet are among those that its supplier sees
 module _ {X : Type 0} (cmp : X → X → Ordering) (sscc : X → List ℕ) (t : Tables) (xs : List X) where
-  rises_on_pallet : (of : List ℕ) → AllByRecursion (λ x. has_pallet t (sscc x) ≡ true) xs → ((gln : List ℕ) → Rises cmp (filter (λ x. holds gln t.pallets (sscc x)) xs)) → Rises cmp (filter (λ x. same (sscc x) of) xs)
+  rises_on_pallet : (of : List ℕ)
+      → AllByRecursion (λ x. has_pallet t (sscc x) ≡ true) xs
+      → ((gln : List ℕ) → Rises cmp (filter (λ x. holds gln t.pallets (sscc x)) xs))
+      → Rises cmp (filter (λ x. same (sscc x) of) xs)
   rises_on_pallet of there f =
       elim (decide (has_pallet t of)) [
         | inl e ↦
             let pallet = any_found (λ p. same p.sscc of) t.pallets e in
             let gln = (pallet.0).supplier in
-            let held : holds gln t.pallets of ≡ true = pallet.2 (λ p. same p.supplier gln && same p.sscc of) (and_from (same gln gln) (same (pallet.0).sscc of) (same_if gln gln refl) pallet.1) in
-            subst (Rises cmp) (filter_again (λ x. same (sscc x) of) (λ x. holds gln t.pallets (sscc x)) xs (λ x h. ap (holds gln t.pallets) (same_is (sscc x) of h) ∙ held))
+            let held : holds gln t.pallets of ≡ true =
+            pallet.2 (λ p. same p.supplier gln && same p.sscc of)
+            (and_from (same gln gln) (same (pallet.0).sscc of) (same_if gln gln refl) pallet.1) in
+            subst (Rises cmp) (filter_again (λ x. same (sscc x) of) (λ x. holds gln t.pallets (sscc x)) xs
+            (λ x h. ap (holds gln t.pallets) (same_is (sscc x) of h) ∙ held))
             (rises_filter cmp (λ x. same (sscc x) of) (filter (λ x. holds gln t.pallets (sscc x)) xs) (f gln))
-        | inr e ↦ subst (Rises cmp) (sym (filter_none (λ x. same (sscc x) of) xs (all_weaker (λ x. has_pallet t (sscc x) ≡ true) (λ x. same (sscc x) of ≡ false) (λ x h.
-            elim (decide (same (sscc x) of)) [ inl k ↦ let one : has_pallet t (sscc x) ≡ has_pallet t of = ap (has_pallet t) (same_is (sscc x) of k) in absurd (cc) | inr k ↦ k ]) xs there))) tt
+        | inr e ↦ subst (Rises cmp)
+            (sym (filter_none (λ x. same (sscc x) of) xs
+            (all_weaker (λ x. has_pallet t (sscc x) ≡ true) (λ x. same (sscc x) of ≡ false) (λ x h.
+            elim (decide (same (sscc x) of)) [
+              | inl k ↦ let one : has_pallet t (sscc x) ≡ has_pallet t of = ap (has_pallet t) (same_is (sscc x) of k) in
+                  absurd (cc)
+              | inr k ↦ k
+            ]) xs there))) tt
       ]
 
 -- the rows of all suppliers rise, where those that each sees are as they are to be
-pub all_rise : (suppliers : List SupplierRow) (t : Tables) → PrefixFree (company_prefixes suppliers) → Rooted suppliers t → ((gln : List ℕ) → Kept (view gln t)) → Rising t
+pub all_rise : (suppliers : List SupplierRow) (t : Tables)
+    → PrefixFree (company_prefixes suppliers)
+    → Rooted suppliers t
+    → ((gln : List ℕ) → Kept (view gln t))
+    → Rising t
 all_rise suppliers t free rooted kept =
     let ordered = rooted.ordered in
     let seen : (gln : List ℕ) → Rising (view gln t) = λ gln. view_rises gln t ordered (kept gln) in
     record {
-      orders = rises_by_part order_cmp (λ r. r.supplier) (λ x y h. first_same x.supplier y.supplier _ h) t.orders ordered.orders (λ gln. (seen gln).orders);
-      lines = rises_by_part line_cmp (λ r. r.supplier) (λ x y h. first_same x.supplier y.supplier _ h) t.lines ordered.lines (λ gln. (seen gln).lines);
-      advices = rises_by_part advice_cmp (λ r. r.supplier) (λ x y h. first_same x.supplier y.supplier _ h) t.advices ordered.advices (λ gln. (seen gln).advices);
+      orders =
+          rises_by_part order_cmp (λ r. r.supplier) (λ x y h. first_same x.supplier y.supplier _ h) t.orders ordered.orders
+          (λ gln. (seen gln).orders);
+      lines =
+          rises_by_part line_cmp (λ r. r.supplier) (λ x y h. first_same x.supplier y.supplier _ h) t.lines ordered.lines
+          (λ gln. (seen gln).lines);
+      advices =
+          rises_by_part advice_cmp (λ r. r.supplier) (λ x y h. first_same x.supplier y.supplier _ h) t.advices ordered.advices
+          (λ gln. (seen gln).advices);
       pallets = rises_by_parts pallet_cmp (λ r. r.supplier) (IsRooted suppliers) (λ x y one other h.
-          owner suppliers free x.supplier one.supplier one.known y other (ap (λ v. under_some v one.supplier.prefixes) (sym (same_is x.sscc y.sscc (text_tied x.sscc y.sscc h))) ∙ one.is_under)) t.pallets ordered.pallets rooted.pallets (λ gln. (seen gln).pallets);
+          owner suppliers free x.supplier one.supplier one.known y other
+          (ap (λ v. under_some v one.supplier.prefixes) (sym (same_is x.sscc y.sscc (text_tied x.sscc y.sscc h)))
+          ∙ one.is_under)) t.pallets ordered.pallets rooted.pallets (λ gln. (seen gln).pallets);
       contents = rises_by_part content_cmp (λ r. r.sscc) (λ x y h. first_same x.sscc y.sscc _ h) t.contents ordered.contents
           (λ sscc. rises_on_pallet content_cmp (λ r. r.sscc) t t.contents sscc rooted.contents (λ gln. (seen gln).contents));
       receipts = rises_by_part receipt_cmp (λ r. r.sscc) (λ x y h. first_same x.sscc y.sscc _ h) t.receipts ordered.receipts
           (λ sscc. rises_on_pallet receipt_cmp (λ r. r.sscc) t t.receipts sscc rooted.receipts (λ gln. (seen gln).receipts));
-      remembered = rises_by_part remembered_cmp (λ r. r.supplier) (λ x y h. first_same x.supplier y.supplier _ h) t.remembered ordered.remembered (λ gln. (seen gln).remembered);
-      mail = rises_by_part mail_cmp (λ r. r.supplier) (λ x y h. first_same x.supplier y.supplier _ h) t.mail ordered.mail (λ gln. (seen gln).mail);
+      remembered =
+          rises_by_part remembered_cmp (λ r. r.supplier) (λ x y h. first_same x.supplier y.supplier _ h) t.remembered
+          ordered.remembered (λ gln. (seen gln).remembered);
+      mail =
+          rises_by_part mail_cmp (λ r. r.supplier) (λ x y h. first_same x.supplier y.supplier _ h) t.mail ordered.mail
+          (λ gln. (seen gln).mail);
     }

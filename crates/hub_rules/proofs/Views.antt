@@ -23,13 +23,18 @@ ordered_view gln t o = record {
 }
 
 -- rows that are picked by a GLN have it
-picked : {X : Type 0} (gln : List ℕ) (supplier : X → List ℕ) (rows : List X) → AllByRecursion (λ row. supplier row ≡ gln) (filter (λ row. same (supplier row) gln) rows)
-picked gln supplier rows = all_weaker (λ row. same (supplier row) gln ≡ true) (λ row. supplier row ≡ gln) (λ row e. same_is (supplier row) gln e) (filter (λ row. same (supplier row) gln) rows) (all_passes (λ row. same (supplier row) gln) rows)
+picked : {X : Type 0} (gln : List ℕ) (supplier : X → List ℕ) (rows : List X)
+    → AllByRecursion (λ row. supplier row ≡ gln) (filter (λ row. same (supplier row) gln) rows)
+picked gln supplier rows =
+    all_weaker (λ row. same (supplier row) gln ≡ true) (λ row. supplier row ≡ gln) (λ row e. same_is (supplier row) gln e)
+    (filter (λ row. same (supplier row) gln) rows) (all_passes (λ row. same (supplier row) gln) rows)
 
 -- rows on pallets that a supplier holds are on pallets that it sees
-on_seen : {X : Type 0} (gln : List ℕ) (t : Tables) (sscc : X → List ℕ) (rows : List X) → AllByRecursion (λ row. has_pallet (view gln t) (sscc row) ≡ true) (filter (λ row. holds gln t.pallets (sscc row)) rows)
+on_seen : {X : Type 0} (gln : List ℕ) (t : Tables) (sscc : X → List ℕ) (rows : List X)
+    → AllByRecursion (λ row. has_pallet (view gln t) (sscc row) ≡ true) (filter (λ row. holds gln t.pallets (sscc row)) rows)
 on_seen gln t sscc rows =
-    all_weaker (λ row. holds gln t.pallets (sscc row) ≡ true) (λ row. has_pallet (view gln t) (sscc row) ≡ true) (λ row e. holds_seen gln t.pallets (sscc row) ∙ e)
+    all_weaker (λ row. holds gln t.pallets (sscc row) ≡ true) (λ row. has_pallet (view gln t) (sscc row) ≡ true)
+    (λ row e. holds_seen gln t.pallets (sscc row) ∙ e)
     (filter (λ row. holds gln t.pallets (sscc row)) rows) (all_passes (λ row. holds gln t.pallets (sscc row)) rows)
 
 pub view_own : (s : SupplierRow) (t : Tables) → Ordered t → IsOwn s (view s.gln t)

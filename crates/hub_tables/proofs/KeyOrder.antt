@@ -1,5 +1,6 @@
 -- Lists in the order of a key, under a put, a filter and a replacing.
-use Rattle.std.proofs.Common.{◌≡◌, ℕ, ◌+◌, Bool, true, false, cond, ◌||◌, inl, inr, List, [], ◌∷◌, ◌++◌, filter, map, sum_by, refl, sym, ◌∙◌, ap, arith}
+use Rattle.std.proofs.Common.{◌≡◌, ℕ, ◌+◌, Bool, true, false, cond, ◌||◌, inl, inr, List, [], ◌∷◌, ◌++◌, filter, map}
+use Rattle.std.proofs.Common.{sum_by, refl, sym, ◌∙◌, ap, arith}
 use Rattle.std.specs.List.{AllByRecursion, list_any}
 use Rattle.std.specs.declared.cmp.Ordering.{Ordering}
 use Rattle.std.specs.declared.cmp.Ordering.TheVariants.{Less, Equal, Greater}
@@ -14,7 +15,9 @@ use Rattle.hub_tables.proofs.Lists.{decide, all_filter, all_weaker}
 module _ {X : Type 0} (cmp : X → X → Ordering) where
   pub all_put : (P : X → Type 0) (xs : List X) (x : X) → AllByRecursion P xs → P x → AllByRecursion P (put cmp x xs)
   all_put P [] x a b = (b, tt)
-  all_put P (y ∷ ys) x a b = elim (is_gt (cmp y x)) as (λ v. AllByRecursion P (cond v (x ∷ y ∷ ys) (y ∷ put cmp x ys))) [ true ↦ (b, a) | false ↦ (a.0, all_put P ys x a.1 b) ]
+  all_put P (y ∷ ys) x a b =
+      elim (is_gt (cmp y x)) as (λ v. AllByRecursion P (cond v (x ∷ y ∷ ys) (y ∷ put cmp x ys)))
+      [ true ↦ (b, a) | false ↦ (a.0, all_put P ys x a.1 b) ]
 
   pub any_put : (p : X → Bool) (xs : List X) (x : X) → list_any p (put cmp x xs) ≡ (list_any p xs || (p x || false))
   any_put p [] x = refl
@@ -51,7 +54,10 @@ module _ {X : Type 0} (cmp : X → X → Ordering) where
   sum_put f (y ∷ ys) x =
       elim (is_gt (cmp y x)) as (λ v. sum_by f (cond v (x ∷ y ∷ ys) (y ∷ put cmp x ys)) ≡ sum_by f (y ∷ ys) + f x) [
         | true ↦ sum_by-cons f x (y ∷ ys) ∙ turned (f x) (sum_by f (y ∷ ys))
-        | false ↦ sum_by-cons f y (put cmp x ys) ∙ ap (λ n. f y + n) (sum_put f ys x) ∙ regrouped (f y) (sum_by f ys) (f x) ∙ ap (λ n. n + f x) (sym (sum_by-cons f y ys))
+        | false ↦ sum_by-cons f y (put cmp x ys)
+            ∙ ap (λ n. f y + n) (sum_put f ys x)
+            ∙ regrouped (f y) (sum_by f ys) (f x)
+            ∙ ap (λ n. n + f x) (sym (sum_by-cons f y ys))
       ]
     where
       turned : (a b : ℕ) → a + b ≡ b + a
@@ -70,14 +76,20 @@ module _ {X : Type 0} (cmp : X → X → Ordering) where
 
   pub in_order_filter : (p : X → Bool) (xs : List X) → InOrder cmp xs → InOrder cmp (filter p xs)
   in_order_filter p [] a = tt
-  in_order_filter p (x ∷ xs) a = elim (p x) as (λ v. InOrder cmp (cond v (x ∷ filter p xs) (filter p xs))) [ true ↦ (all_filter (λ y. is_gt (cmp x y) ≡ false) p xs a.0, in_order_filter p xs a.1) | false ↦ in_order_filter p xs a.1 ]
+  in_order_filter p (x ∷ xs) a =
+      elim (p x) as (λ v. InOrder cmp (cond v (x ∷ filter p xs) (filter p xs))) [
+        | true ↦ (all_filter (λ y. is_gt (cmp x y) ≡ false) p xs a.0, in_order_filter p xs a.1)
+        | false ↦ in_order_filter p xs a.1
+      ]
 
   -- a function that keeps keys
   pub in_order_map : (f : X → X) → ((x y : X) → cmp (f x) (f y) ≡ cmp x y) → (xs : List X) → InOrder cmp xs → InOrder cmp (map f xs)
   in_order_map f e [] a = tt
   in_order_map f e (x ∷ xs) a = (mapped xs a.0, in_order_map f e xs a.1)
     where
-      mapped : (ys : List X) → AllByRecursion (λ y. is_gt (cmp x y) ≡ false) ys → AllByRecursion (λ y. is_gt (cmp (f x) y) ≡ false) (map f ys)
+      mapped : (ys : List X)
+          → AllByRecursion (λ y. is_gt (cmp x y) ≡ false) ys
+          → AllByRecursion (λ y. is_gt (cmp (f x) y) ≡ false) (map f ys)
       mapped [] b = tt
       mapped (y ∷ ys) b = (ap is_gt (e x y) ∙ b.0, mapped ys b.1)
 
@@ -92,7 +104,10 @@ module _ {X : Type 0} {cmp : X → X → Ordering} (total : IsTotalOrder cmp) wh
       by_answer Greater g = refl
 
   -- what is after a greater one is greater
-  all_greater : (x y : X) (ys : List X) → is_gt (cmp y x) ≡ true → AllByRecursion (λ z. is_gt (cmp y z) ≡ false) ys → AllByRecursion (λ z. is_gt (cmp z x) ≡ true) ys
+  all_greater : (x y : X) (ys : List X)
+      → is_gt (cmp y x) ≡ true
+      → AllByRecursion (λ z. is_gt (cmp y z) ≡ false) ys
+      → AllByRecursion (λ z. is_gt (cmp z x) ≡ true) ys
   all_greater x y ys h all = all_weaker (λ z. is_gt (cmp y z) ≡ false) (λ z. is_gt (cmp z x) ≡ true) (λ z g.
       elim (decide (is_gt (cmp z x))) [ inl k ↦ k | inr k ↦ let no = upto total y z x g k in absurd (cc) ]) ys all
 
@@ -100,7 +115,14 @@ module _ {X : Type 0} {cmp : X → X → Ordering} (total : IsTotalOrder cmp) wh
   in_order_put [] x a = (tt, tt)
   in_order_put (y ∷ ys) x a =
       elim (is_gt (cmp y x)) as (λ v. is_gt (cmp y x) ≡ v → InOrder cmp (cond v (x ∷ y ∷ ys) (y ∷ put cmp x ys))) [
-        | true ↦ λ h. ((less_back x y h, all_weaker (λ z. is_gt (cmp y z) ≡ false) (λ z. is_gt (cmp x z) ≡ false) (λ z g. upto total x y z (less_back x y h) g) ys a.0), a)
+        | true ↦ λ h. (
+          (
+            less_back x y h,
+            all_weaker (λ z. is_gt (cmp y z) ≡ false) (λ z. is_gt (cmp x z) ≡ false)
+                (λ z g. upto total x y z (less_back x y h) g) ys a.0,
+          ),
+          a,
+        )
         | false ↦ λ h. (all_put cmp (λ z. is_gt (cmp y z) ≡ false) ys x a.0 h, in_order_put ys x a.1)
       ] refl
 
@@ -110,7 +132,10 @@ module _ {X : Type 0} {cmp : X → X → Ordering} (total : IsTotalOrder cmp) wh
       let ih = filter_put_in p ys x a.1 e in
       elim (decide (is_gt (cmp y x))) [
         | inl g ↦
-            let first = put_first cmp (filter p (y ∷ ys)) x (all_filter (λ z. is_gt (cmp z x) ≡ true) p (y ∷ ys) (g, all_greater x y ys g a.0)) in
-            ap (λ v. filter p (cond v (x ∷ y ∷ ys) (y ∷ put cmp x ys))) g ∙ ap (λ v. cond v (x ∷ filter p (y ∷ ys)) (filter p (y ∷ ys))) e ∙ sym first
+            let first = put_first cmp (filter p (y ∷ ys)) x
+            (all_filter (λ z. is_gt (cmp z x) ≡ true) p (y ∷ ys) (g, all_greater x y ys g a.0)) in
+            ap (λ v. filter p (cond v (x ∷ y ∷ ys) (y ∷ put cmp x ys))) g
+            ∙ ap (λ v. cond v (x ∷ filter p (y ∷ ys)) (filter p (y ∷ ys))) e
+            ∙ sym first
         | inr g ↦ elim (decide (p y)) [ inl h ↦ grind (arith, g, h, ih) | inr h ↦ grind (arith, g, h, ih) ]
       ]

@@ -8,7 +8,8 @@ use Rattle.std.specs.Cmp.{IsTotalOrder}
 use Rattle.std.proofs.lemmas.Cmp.{tied_itself}
 use Rattle.hub_tables.specs.Tables.{Tables}
 use Rattle.hub_tables.specs.Sets.{Rises, Has, SameSet, Rising, SameRows}
-use Rattle.hub_tables.proofs.KindOrders.{order_total, line_total, advice_total, pallet_total, content_total, receipt_total, remembered_total, mail_total}
+use Rattle.hub_tables.proofs.KindOrders.{order_total, line_total, advice_total, pallet_total, content_total, receipt_total}
+use Rattle.hub_tables.proofs.KindOrders.{remembered_total, mail_total}
 
 all_has : {X : Type 0} (P : X → Type 0) (xs : List X) (x : X) → AllByRecursion P xs → Has xs x → P x
 all_has P [] x a h = absurd h
@@ -22,7 +23,12 @@ module _ {X : Type 0} {cmp : X → X → Ordering} (total : IsTotalOrder cmp) wh
   not_both_below x y h g = let both : Less ≡ Greater = sym h ∙ total.antisymm x y ∙ ap ordering_reverse g in cc
 
   -- rising lists with the same rows are equal
-  pub one_list : (xs ys : List X) → Rises cmp xs → Rises cmp ys → ((x : X) → Has xs x → Has ys x) → ((x : X) → Has ys x → Has xs x) → xs ≡ ys
+  pub one_list : (xs ys : List X)
+      → Rises cmp xs
+      → Rises cmp ys
+      → ((x : X) → Has xs x → Has ys x)
+      → ((x : X) → Has ys x → Has xs x)
+      → xs ≡ ys
   one_list [] [] a b f g = refl
   one_list [] (y ∷ ys) a b f g = absurd (g y (inl refl))
   one_list (x ∷ xs) [] a b f g = absurd (f x (inl refl))
@@ -35,8 +41,16 @@ module _ {X : Type 0} {cmp : X → X → Ordering} (total : IsTotalOrder cmp) wh
         ]
       ] in
       let tails : xs ≡ ys = one_list xs ys a.1 b.1
-      (λ z h. elim (f z (inr h)) [ inl e ↦ absurd (not_below_itself x (subst (λ v. cmp x v ≡ Less) (e ∙ sym heads) (all_has (λ z. cmp x z ≡ Less) xs z a.0 h))) | inr k ↦ k ])
-      (λ z h. elim (g z (inr h)) [ inl e ↦ absurd (not_below_itself y (subst (λ v. cmp y v ≡ Less) (e ∙ heads) (all_has (λ z. cmp y z ≡ Less) ys z b.0 h))) | inr k ↦ k ]) in
+      (λ z h. elim (f z (inr h)) [
+        | inl e ↦ absurd (not_below_itself x
+            (subst (λ v. cmp x v ≡ Less) (e ∙ sym heads) (all_has (λ z. cmp x z ≡ Less) xs z a.0 h)))
+        | inr k ↦ k
+      ])
+      (λ z h. elim (g z (inr h)) [
+        | inl e ↦ absurd
+            (not_below_itself y (subst (λ v. cmp y v ≡ Less) (e ∙ heads) (all_has (λ z. cmp y z ≡ Less) ys z b.0 h)))
+        | inr k ↦ k
+      ]) in
       λ i. heads i ∷ tails i
 
   one_set : (xs ys : List X) → Rises cmp xs → Rises cmp ys → SameSet xs ys → xs ≡ ys
@@ -52,4 +66,13 @@ rows_are_one t u a b s =
     let receipts = one_set receipt_total t.receipts u.receipts a.receipts b.receipts s.receipts in
     let remembered = one_set remembered_total t.remembered u.remembered a.remembered b.remembered s.remembered in
     let mail = one_set mail_total t.mail u.mail a.mail b.mail s.mail in
-    λ i. record { orders = orders i; lines = lines i; advices = advices i; pallets = pallets i; contents = contents i; receipts = receipts i; remembered = remembered i; mail = mail i }
+    λ i. record {
+      orders = orders i;
+      lines = lines i;
+      advices = advices i;
+      pallets = pallets i;
+      contents = contents i;
+      receipts = receipts i;
+      remembered = remembered i;
+      mail = mail i;
+    }

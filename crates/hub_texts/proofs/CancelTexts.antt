@@ -1,5 +1,6 @@
 -- The body of a cancellation is five lines, and is written back.
-use Rattle.std.proofs.Common.{◌≡◌, ℕ, true, false, cond, not, ◌&&◌, ◌==◌, List, [], ◌∷◌, ◌++◌, length, Option, Some, None, refl, sym, ap, ap₂, ◌∙◌, append_assoc, arith}
+use Rattle.std.proofs.Common.{◌≡◌, ℕ, true, false, cond, not, ◌&&◌, ◌==◌, List, [], ◌∷◌, ◌++◌, length, Option, Some, None}
+use Rattle.std.proofs.Common.{refl, sym, ap, ap₂, ◌∙◌, append_assoc, arith}
 use Rattle.std.specs.Char.{is_ascii_digit}
 use Rattle.std.specs.Fmt.{decimal}
 use Rattle.std.specs.List.{AllByRecursion, list_all, slice_split, join_with_byte}
@@ -23,7 +24,13 @@ abbrev OneLine : List ℕ → Type 0
 OneLine field = AllByRecursion (λ b. is_end b ≡ false) field
 
 -- five lines, cut at their ends
-five_cut : (s r o l q : List ℕ) → OneLine s → OneLine r → OneLine o → OneLine l → OneLine q → slice_split is_end (five_lines s r o l q) ≡ s ∷ r ∷ o ∷ l ∷ q ∷ [] ∷ []
+five_cut : (s r o l q : List ℕ)
+    → OneLine s
+    → OneLine r
+    → OneLine o
+    → OneLine l
+    → OneLine q
+    → slice_split is_end (five_lines s r o l q) ≡ s ∷ r ∷ o ∷ l ∷ q ∷ [] ∷ []
 five_cut s r o l q in_s in_r in_o in_l in_q =
     let end = λ (field : List ℕ). line (field ∷ []) in
     cut_line s (end r ++ (end o ++ (end l ++ (end q ++ [])))) in_s
@@ -55,7 +62,8 @@ gln_inside field h =
     in_one_line is_ascii_digit ascii_digit_inside field (and_parts (list_all is_ascii_digit field) _ rest).0
 
 reference_inside : (field : List ℕ) → is_reference field ≡ true → OneLine field
-reference_inside field h = in_one_line is_printable printable_inside field (and_parts (has_length 1 14 field) (list_all is_printable field) h).1
+reference_inside field h =
+    in_one_line is_printable printable_inside field (and_parts (has_length 1 14 field) (list_all is_printable field) h).1
 
 order_inside : (field : List ℕ) → is_document_number field ≡ true → OneLine field
 order_inside field h = in_one_line is_printable printable_inside field (and_parts (has_length 1 35 field) (list_all is_printable field) h).1
@@ -70,8 +78,10 @@ positive_inside most field n h =
 pub said : (body : List ℕ) (c : Cancel) → Says body c → cancel_of body ≡ Some c
 said body c says =
     ap cancel_of says.lines
-    ∙ ap cancel_in (five_cut c.supplier c.reference c.order says.number says.quantity (gln_inside c.supplier says.supplier) (reference_inside c.reference says.reference)
-    (order_inside c.order says.order) (positive_inside 6 says.number c.line says.is_line) (positive_inside 9 says.quantity c.quantity says.is_quantity))
+    ∙ ap cancel_in (five_cut c.supplier c.reference c.order says.number says.quantity (gln_inside c.supplier says.supplier)
+    (reference_inside c.reference says.reference)
+    (order_inside c.order says.order) (positive_inside 6 says.number c.line says.is_line)
+    (positive_inside 9 says.quantity c.quantity says.is_quantity))
     ∙ ap₂ (cancel_with c.supplier c.reference c.order) says.is_line says.is_quantity
     ∙ ap (λ v. cond v (Some c) None) (ap₂ (λ a b. a && b) says.supplier (ap₂ (λ a b. a && b) says.reference says.order))
 
@@ -81,7 +91,11 @@ pub record Given (s r o l q : List ℕ) (c : Cancel) : Type 0 where
   pub right : (is_gln s ≡ true) × (is_reference r ≡ true) × (is_document_number o ≡ true)
   pub numbers : (positive 6 l ≡ Some c.line) × (positive 9 q ≡ Some c.quantity)
 
-given_with : (s r o l q : List ℕ) (n m : Option ℕ) (c : Cancel) → positive 6 l ≡ n → positive 9 q ≡ m → cancel_with s r o n m ≡ Some c → Given s r o l q c
+given_with : (s r o l q : List ℕ) (n m : Option ℕ) (c : Cancel)
+    → positive 6 l ≡ n
+    → positive 9 q ≡ m
+    → cancel_with s r o n m ≡ Some c
+    → Given s r o l q c
 given_with s r o l q None m c is_n is_m h = absurd (cc)
 given_with s r o l q (Some n) None c is_n is_m h = absurd (cc)
 given_with s r o l q (Some n) (Some m) c is_n is_m h =
@@ -139,5 +153,9 @@ written_back body c h =
     })
 
 -- two cancellations that bodies say have one text where they are one
-pub one_text : (first second : List ℕ) (c d : Cancel) → cancel_of first ≡ Some c → cancel_of second ≡ Some d → cancel_text c ≡ cancel_text d → c ≡ d
+pub one_text : (first second : List ℕ) (c d : Cancel)
+    → cancel_of first ≡ Some c
+    → cancel_of second ≡ Some d
+    → cancel_text c ≡ cancel_text d
+    → c ≡ d
 one_text first second c d h g e = same_Some c d (sym (written_back first c h) ∙ ap cancel_of e ∙ written_back second d g)

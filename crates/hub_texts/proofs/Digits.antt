@@ -1,5 +1,6 @@
 -- Digits and the numbers that they write.
-use Rattle.std.proofs.Common.{◌≡◌, ℕ, ◌^◌, ◌<◌, ◌≤◌, true, not, ◌&&◌, ◌==◌, List, length, fold, cond, Some, None, nat_le, ap, ap₂, ◌∙◌, arith, rules}
+use Rattle.std.proofs.Common.{◌≡◌, ℕ, ◌^◌, ◌<◌, ◌≤◌, true, not, ◌&&◌, ◌==◌, List, length, fold, cond, Some, None, nat_le}
+use Rattle.std.proofs.Common.{ap, ap₂, ◌∙◌, arith, rules}
 use Rattle.std.specs.Fmt.{decimal}
 use Rattle.std.specs.List.{list_all}
 use Rattle.std.proofs.lemmas.Bool.{and_parts, le-leb, leb-true}
@@ -41,7 +42,8 @@ decimal_positive most n some above below small =
     let high : nat_le (length (decimal n)) most ≡ true = le-leb _ _ (length-decimal-le most n some below small) in
     let digits : are_digits 1 most (decimal n) ≡ true = ap₂ (λ a b. a && b) (ap₂ (λ a b. a && b) low high) all in
     let some_digit : not (n == 0) ≡ true = grind (arith, nat_tests) in
-    let test : (are_digits 1 most (decimal n) && not (number_of (decimal n) == 0)) ≡ true = ap₂ (λ a b. a && b) digits (ap (λ k. not (k == 0)) value ∙ some_digit) in
+    let test : (are_digits 1 most (decimal n) && not (number_of (decimal n) == 0)) ≡ true =
+    ap₂ (λ a b. a && b) digits (ap (λ k. not (k == 0)) value ∙ some_digit) in
     ap₂ (λ v k. cond v (Some k) None) test value
 
 -- what is read is a number of no more digits, and not zero

@@ -16,7 +16,7 @@ use Rattle.hub_tables.specs.declared.rows.LineRow.{LineRow}
 use Rattle.hub_tables.proofs.Lists.{all_weaker}
 use Rattle.hub_lines.proofs.ByNumber.{is_eq-nat_cmp, find-filter}
 use Rattle.hub_lines.proofs.InOrder.{first_at, prefix_len-map}
-use Rattle.hub_texts.specs.Items.{place_cmp, is_below, named_by}
+use Rattle.hub_texts.specs.Articles.{place_cmp, precedes_named, line_named}
 
 -- an order number and a line number
 abbrev pub Place : Type 0
@@ -36,18 +36,33 @@ named_place content = (content.number, content.line)
 
 pub in_order : (lines : List LineRow) → Rises place_cmp lines → InOrder (λ a b. cmp_places (place_of a) (place_of b)) lines
 in_order [] rise = tt
-in_order (row ∷ rows) rise = (all_weaker (λ later. place_cmp row later ≡ Less) (λ later. is_gt (place_cmp row later) ≡ false) (λ later less. ap is_gt less) rows rise.0, in_order rows rise.1)
+in_order (row ∷ rows) rise = (
+  all_weaker (λ later. place_cmp row later ≡ Less) (λ later. is_gt (place_cmp row later) ≡ false)
+      (λ later less. ap is_gt less) rows rise.0,
+  in_order rows rise.1,
+)
 
--- what is at the place below which a search finds the others
-pub named_at : (lines : List LineRow) (content : ContentRow) (n : ℕ) → Rises place_cmp lines → n ≡ prefix_len (is_below content) lines → (found : Option LineRow) → slice_get lines n ≡ found →
-    named_by lines content ≡ option_filter (λ row. same row.number content.number && (row.line == content.line)) found
+-- what is at the place before which a search finds the others
+pub named_at : (lines : List LineRow) (content : ContentRow) (n : ℕ)
+    → Rises place_cmp lines
+    → n ≡ prefix_len (precedes_named content) lines
+    → (found : Option LineRow)
+    → slice_get lines n ≡ found
+    → line_named lines content ≡ option_filter (λ row. same row.number content.number && (row.line == content.line)) found
 named_at lines content n rise is found at =
     find-filter (λ line. line.line == content.line) (λ line. same line.number content.number) lines
     ∙ sym (λ i. find (λ row. alike row i) lines)
-    ∙ first_at places_total place_of (named_place content) (λ p. is_lt (cmp_places p (named_place content))) (λ p. refl) lines (in_order lines rise)
-    ∙ (λ i. option_filter (λ row. alike row i) (slice_get lines (sym (prefix_len-map (λ p. is_lt (cmp_places p (named_place content))) place_of lines) i)))
+    ∙ first_at places_total place_of (named_place content) (λ p. is_lt (cmp_places p (named_place content))) (λ p. refl)
+    lines (in_order lines rise)
+    ∙ (λ i. option_filter (λ row. alike row i)
+    (slice_get lines (sym (prefix_len-map (λ p. is_lt (cmp_places p (named_place content))) place_of lines) i)))
     ∙ ap (λ k. option_filter (λ (row : LineRow). same row.number content.number && (row.line == content.line)) (slice_get lines k)) (sym is)
     ∙ ap (option_filter (λ (row : LineRow). same row.number content.number && (row.line == content.line))) at
   where
-    alike : (row : LineRow) → is_eq (cmp_places (place_of row) (named_place content)) ≡ (same row.number content.number && (row.line == content.line))
-    alike row = sym (both_tied (same row.number content.number) (row.line == content.line) (bytes_cmp row.number content.number) (nat_cmp row.line content.line) (sym (is_eq-slice_cmp row.number content.number)) (sym (is_eq-nat_cmp row.line content.line)))
+    alike : (row : LineRow)
+        → is_eq (cmp_places (place_of row) (named_place content))
+        ≡ (same row.number content.number && (row.line == content.line))
+    alike row =
+        sym (both_tied (same row.number content.number) (row.line == content.line) (bytes_cmp row.number content.number)
+        (nat_cmp row.line content.line) (sym (is_eq-slice_cmp row.number content.number))
+        (sym (is_eq-nat_cmp row.line content.line)))

@@ -29,12 +29,12 @@ cancel_with supplier reference order (Some line) (Some quantity) =
     else None
 cancel_with supplier reference order _ _ = None
 
--- five lines, and nothing behind the end of the last one: line numbers have 1 to 6 digits, quantities 1 to 9
+-- five lines, and nothing after the end of the last one: line numbers have 1 to 6 digits, quantities 1 to 9
 abbrev pub cancel_in : List (List ℕ) → Option Cancel
 cancel_in (supplier ∷ reference ∷ order ∷ line ∷ quantity ∷ [] ∷ []) =
     cancel_with supplier reference order (positive 6 line) (positive 9 quantity)
 cancel_in _ = None
 
--- the cancellation that a body says, by what stands before, between and behind its ends of lines
+-- the cancellation that a body says, by what stands before, between and after its ends of lines
 abbrev pub cancel_of : List ℕ → Option Cancel
 cancel_of body = cancel_in (slice_split is_end body)

@@ -1,6 +1,6 @@
 pub mod Cancel
 pub mod CancelLaw
-pub mod Items
+pub mod Articles
 pub mod Lines
 pub mod Pallets
 pub mod Told

@@ -8,11 +8,11 @@ use Rattle.hub_law.specs.Widths.{left, right}
 abbrev pub rest_of : LineRow → ℕ
 rest_of row = row.ordered - row.open_qty - row.refused - row.cancelled
 
--- a number behind another field
+-- a number after another field
 abbrev pub number_text : ℕ → ℕ → List ℕ
 number_text width number = 0x20 ∷ right width (decimal number)
 
--- where a line stands, its item and its answer
+-- where a line stands, its article and its answer
 abbrev pub place_text : LineRow → List ℕ
 place_text row =
     codes "L" ++ (0x20 ∷ left 35 row.number ++ (number_text 6 row.line ++ (0x20 ∷ row.gtin ++ 0x20 ∷ row.answer ∷ [])))

@@ -1,4 +1,4 @@
--- What is announced and received of the items on a pallet.
+-- What is announced and received of the articles on a pallet.
 use Rattle.std.specs.Prelude.{◌≡◌, ◌⊎◌, ℕ, ◌+◌, ◌^◌, ◌≤◌, true, not, List, ◌++◌, map, filter, sum_by, None}
 use Rattle.std.specs.List.{list_any}
 use Rattle.std.specs.BTreeMap.{insert_entry}
@@ -12,7 +12,7 @@ use Rattle.hub_tables.specs.declared.rows.LineRow.{LineRow}
 use Rattle.hub_tables.specs.declared.rows.PalletRow.{PalletRow}
 use Rattle.hub_tables.specs.declared.rows.ReceiptRow.{ReceiptRow}
 use Rattle.hub_law.specs.StatusText.{in_digit_order, article_text}
-use Rattle.hub_texts.specs.Items.{item_among, item_in}
+use Rattle.hub_texts.specs.Articles.{article_among, article_in}
 use Rattle.hub_texts.specs.declared.totals.Totals.{Totals}
 
 abbrev pub Table : Type 0
@@ -21,7 +21,7 @@ Table = List (List ℕ × Totals)
 abbrev pub nothing : Totals
 nothing = record { despatched = 0; accepted = 0; returned = 0; destroyed = 0 }
 
--- the totals of an item in a table
+-- the totals of an article in a table
 abbrev pub totals_at : Table → List ℕ → Totals
 totals_at table gtin = unwrap_or (lookup (λ other. is_eq (bytes_cmp gtin other)) table) nothing
 
@@ -38,44 +38,44 @@ with_receipt receipt t = record {
   destroyed = t.destroyed + receipt.destroyed;
 }
 
--- a table with other totals of an item
+-- a table with other totals of an article
 abbrev pub with_totals : Table → List ℕ → (Totals → Totals) → Table
 with_totals table gtin change = insert_entry bytes_cmp table gtin (change (totals_at table gtin))
 
 abbrev pub count_content : List LineRow → ContentRow → Table → Table
-count_content lines content table = with_totals table (item_in lines content) (with_content content)
+count_content lines content table = with_totals table (article_in lines content) (with_content content)
 
 abbrev pub count_receipt : ReceiptRow → Table → Table
 count_receipt receipt table = with_totals table receipt.gtin (with_receipt receipt)
 
--- what is received of an item in all, and by one receipt
+-- what is received of an article in all, and by one receipt
 abbrev pub received : Totals → ℕ
 received t = t.accepted + t.returned + t.destroyed
 
 abbrev pub pieces_of : ReceiptRow → ℕ
 pieces_of receipt = receipt.accepted + receipt.returned + receipt.destroyed
 
--- a content cannot be counted: it names no line, or the sum of its item is past 64 bits
+-- a content cannot be counted: it names no line, or the sum of its article is past 64 bits
 abbrev pub Uncounted : List LineRow → ContentRow → Table → Type 0
 Uncounted lines content table =
-    (item_among lines content ≡ None) ⊎ (2 ^ 64 ≤ (totals_at table (item_in lines content)).despatched + content.quantity)
+    (article_among lines content ≡ None) ⊎ (2 ^ 64 ≤ (totals_at table (article_in lines content)).despatched + content.quantity)
 
 -- a content names no line, or the pieces of contents or receipts together are past 64 bits
 abbrev pub IsUnclean : List LineRow → List ContentRow → List ReceiptRow → Type 0
 IsUnclean lines contents receipts =
-    (list_any (λ content. not (is_some (item_among lines content))) contents ≡ true)
+    (list_any (λ content. not (is_some (article_among lines content))) contents ≡ true)
     ⊎ ((2 ^ 64 ≤ sum_by (λ content. content.quantity) contents) ⊎ (2 ^ 64 ≤ sum_by pieces_of receipts))
 
--- what of an item is despatched by contents
+-- what of an article is despatched by contents
 abbrev pub despatched_by : List LineRow → List ContentRow → List ℕ → ℕ
 despatched_by lines contents gtin =
-    sum_by (λ content. content.quantity) (filter (λ content. same (item_in lines content) gtin) contents)
+    sum_by (λ content. content.quantity) (filter (λ content. same (article_in lines content) gtin) contents)
 
--- the sum of one kind of an item by receipts
+-- the sum of one kind of an article by receipts
 abbrev pub received_by : (ReceiptRow → ℕ) → List ReceiptRow → List ℕ → ℕ
 received_by kind receipts gtin = sum_by kind (filter (λ receipt. same receipt.gtin gtin) receipts)
 
--- the totals of an item on a pallet with these contents and receipts
+-- the totals of an article on a pallet with these contents and receipts
 abbrev pub totals_of : List LineRow → List ContentRow → List ReceiptRow → List ℕ → Totals
 totals_of lines contents receipts gtin = record {
   despatched = despatched_by lines contents gtin;
@@ -84,15 +84,15 @@ totals_of lines contents receipts gtin = record {
   destroyed = received_by (λ receipt. receipt.destroyed) receipts gtin;
 }
 
--- the items of such a pallet
-abbrev pub items_of : List LineRow → List ContentRow → List ReceiptRow → List (List ℕ)
-items_of lines contents receipts = in_digit_order (map (item_in lines) contents ++ map (λ receipt. receipt.gtin) receipts)
+-- the articles of such a pallet
+abbrev pub articles_of : List LineRow → List ContentRow → List ReceiptRow → List (List ℕ)
+articles_of lines contents receipts = in_digit_order (map (article_in lines) contents ++ map (λ receipt. receipt.gtin) receipts)
 
 -- each with its totals
 abbrev pub table_of : List LineRow → List ContentRow → List ReceiptRow → Table
 table_of lines contents receipts =
-    map (λ gtin. (gtin, totals_of lines contents receipts gtin)) (items_of lines contents receipts)
+    map (λ gtin. (gtin, totals_of lines contents receipts gtin)) (articles_of lines contents receipts)
 
--- the text of an item with its totals
+-- the text of an article with its totals
 abbrev pub article_line : PalletRow → List ℕ × Totals → List ℕ
 article_line pallet entry = article_text pallet entry.0 entry.1.despatched entry.1.accepted entry.1.returned entry.1.destroyed

@@ -52,14 +52,14 @@ fn line_len(text: &[u8]) -> usize
     text.len()
 }
 
-// The first line of a text without its end, and what stands behind it.
+// The first line of a text without its end, and what stands after it.
 fn first_line(text: &[u8]) -> Option<(&[u8], &[u8])>
     ensures some { IfSome result (λ parts. slice_split is_end text.now ≡ parts.0.now ∷ slice_split is_end parts.1.now) }
     ensures none { IfNone result (slice_split is_end text.now ≡ text.now ∷ []) }
 {
     let (line, rest) = text.split_at(line_len(text));
     match rest.split_first() {
-        Some((_, behind)) => Some((line, behind)),
+        Some((_, after)) => Some((line, after)),
         None => None,
     }
 }
@@ -74,7 +74,7 @@ struct Fields<'a> {
     quantity: &'a [u8],
 }
 
-// The five lines of a body, where there are so many and nothing behind them.
+// The five lines of a body, where there are so many and nothing after them.
 fn fields_of(body: &[u8]) -> Option<Fields<'_>>
     ensures some { IfSome result (λ fields. slice_split is_end body.now ≡ fields.supplier.now ∷ fields.reference.now ∷ fields.order.now ∷ fields.line.now ∷ fields.quantity.now ∷ [] ∷ []) }
     ensures none { IfNone result (cancel_of body.now ≡ None) }

@@ -16,7 +16,7 @@ pub(crate) fn put_blanks(out: &mut Vec<u8>, count: usize) -> Result<(), MemoryFa
     Ok(())
 }
 
-/// Appends a field behind another one.
+/// Appends a field after another one.
 pub(crate) fn put_next(out: &mut Vec<u8>, field: &[u8]) -> Result<(), MemoryFault>
     ensures { OnOk result (out.new.items ≡ out.old.items ++ 0x20 ∷ field.now) }
 {
@@ -25,7 +25,7 @@ pub(crate) fn put_next(out: &mut Vec<u8>, field: &[u8]) -> Result<(), MemoryFaul
     Ok(())
 }
 
-/// Appends a field at the left of so many places, behind another one.
+/// Appends a field at the left of so many places, after another one.
 pub(crate) fn put_left(out: &mut Vec<u8>, width: usize, field: &[u8]) -> Result<(), MemoryFault>
     ensures { OnOk result (out.new.items ≡ out.old.items ++ 0x20 ∷ left width field.now) }
 {
@@ -56,7 +56,7 @@ pub(crate) fn put_first_number(
     put_right(out, width, text.as_bytes())
 }
 
-/// Appends a number at the right of so many places, behind a field.
+/// Appends a number at the right of so many places, after a field.
 pub(crate) fn put_number(out: &mut Vec<u8>, width: usize, number: u64) -> Result<(), MemoryFault>
     ensures { OnOk result (out.new.items ≡ out.old.items ++ 0x20 ∷ right width (decimal number)) }
 {

@@ -10,7 +10,7 @@ ghost use Rattle.hub_law.specs.CancelText.{cancel_text};
 ghost use Rattle.hub_rules.specs.declared.cancel.Cancel.{Cancel};
 ghost use Rattle.hub_texts.specs.Cancel.{cancel_of};
 ghost use Rattle.hub_texts.specs.CancelLaw.{Says};
-ghost use Rattle.hub_texts.specs.Items.{place_cmp};
+ghost use Rattle.hub_texts.specs.Articles.{place_cmp};
 
 /// A body says a cancellation exactly where it is five lines within their limits that give the cancellation's fields,
 /// the numbers perhaps with leading zeros.

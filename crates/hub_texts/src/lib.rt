@@ -2,10 +2,10 @@
 //! report, and cancellations, which are read here too.
 #![tactic(auto)]
 
+mod articles;
 mod cancel;
 mod fault;
 mod fields;
-mod items;
 mod laws;
 mod lines;
 mod mail;
@@ -18,7 +18,7 @@ pub use cancel::{cancel_text, read_cancel};
 pub use fault::TextFault;
 pub use laws::{cancel_is_five_lines, cancel_is_written_back, status_is_given_what_it_asks};
 pub use lines::put_lines;
-pub use mail::{entry_text, list_text};
+pub use mail::{LIST_LIMIT, entry_text, list_text};
 pub use pallets::put_pallet;
 pub use replies::{interchange_line, message_line, refused_line, told_line};
 pub use told::Told;

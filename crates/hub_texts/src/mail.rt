@@ -1,5 +1,5 @@
 //! Mailbox entries, and lists of them.
-ghost use Rattle.std.specs.Prelude.{◌≡◌, ◌++◌, List, codes, length, nat_lt, take, if◌then◌else◌, IfOk, OnOk};
+ghost use Rattle.std.specs.Prelude.{◌≡◌, ◌+◌, ◌++◌, List, codes, length, nat_lt, take, if◌then◌else◌, IfOk, OnOk};
 ghost use Rattle.std.specs.List.{flat_map};
 ghost use Rattle.edi_envelope.specs.Moment.{date_text, time_text};
 ghost use Rattle.hub_tables.specs.declared.rows.MailRow.{MailRow};
@@ -15,7 +15,7 @@ use itoa::Buffer;
 use std::alloc::Global;
 
 /// How many entries a list has at most.
-const LISTED: usize = 100;
+pub const LIST_LIMIT: usize = 100;
 
 /// How many bytes of an entry stand round its message at most: the service string, UNB and UNZ.
 const FRAME: usize = 114;
@@ -53,10 +53,10 @@ fn put_entries(out: &mut Vec<u8>, entries: &[MailRow]) -> Result<(), MemoryFault
 
 // The entries that a list has.
 fn listed(entries: &[MailRow]) -> &[MailRow]
-    ensures { result.now ≡ take 100 entries.now }
+    ensures { result.now ≡ take spec.list_limit entries.now }
 {
-    if entries.len() > LISTED {
-        &entries[..LISTED]
+    if entries.len() > LIST_LIMIT {
+        &entries[..LIST_LIMIT]
     } else {
         entries
     }
@@ -64,18 +64,18 @@ fn listed(entries: &[MailRow]) -> &[MailRow]
 
 // The word that ends a list.
 fn last_word(entries: &[MailRow]) -> &'static str
-    ensures { result.now ≡ (if nat_lt 100 (length entries.now) then codes "more" else codes "end") }
+    ensures { result.now ≡ (if nat_lt spec.list_limit (length entries.now) then codes "more" else codes "end") }
 {
-    if entries.len() > LISTED {
+    if entries.len() > LIST_LIMIT {
         "more"
     } else {
         "end"
     }
 }
 
-/// The list of the entries of a mailbox that are not taken, by the first 101 of them.
+/// The list of the entries of a mailbox that are not taken, by the first of them: one more than a list has.
 pub fn list_text(alloc: Global, entries: &[MailRow]) -> Result<Items<u8>, MemoryFault>
-    ensures { IfOk result (λ text. (all : List MailRow) → take 101 all ≡ entries.now → text ≡ spec.list_text all) }
+    ensures { IfOk result (λ text. (all : List MailRow) → take (spec.list_limit + 1) all ≡ entries.now → text ≡ spec.list_text all) }
 {
     let mut out = Vec::new(alloc);
     put_entries(&mut out, listed(entries))?;

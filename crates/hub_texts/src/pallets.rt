@@ -7,7 +7,7 @@ ghost use Rattle.hub_tables.specs.State.{is_announced, contents_of, receipts_of}
 ghost use Rattle.hub_tables.specs.Tables.{Tables};
 ghost use Rattle.hub_law.specs.StatusText as law;
 ghost use Rattle.hub_law.specs.Widths.{right};
-ghost use Rattle.hub_texts.specs.Items.{place_cmp};
+ghost use Rattle.hub_texts.specs.Articles.{place_cmp};
 ghost use Rattle.hub_texts.specs.Pallets as spec;
 ghost use Rattle.hub_texts.specs.Totals.{article_line, IsUnclean};
 ghost use Rattle.hub_texts.specs.declared.fault.TextFault.TheVariants.{Unclean};
@@ -15,7 +15,7 @@ ghost use Rattle.hub_texts.specs.declared.totals.Totals.{Totals};
 
 use crate::fault::TextFault;
 use crate::fields::{put_blanks, put_end, put_next, put_number};
-use crate::totals::{ItemTotals, Totals, item_totals};
+use crate::totals::{ArticleTotals, Totals, article_totals};
 use edi_base::MemoryFault;
 use gs1_ids::Gtin;
 use hub_tables::{Arrival, ContentRow, LineRow, PalletRow, ReceiptRow};
@@ -36,7 +36,7 @@ fn letter_of(pallet: &PalletRow) -> &'static str
     if is_announced(pallet) { "A" } else { "R" }
 }
 
-// Appends a number with its sign at the right of 15 places, behind a field.
+// Appends a number with its sign at the right of 15 places, after a field.
 fn put_signed(out: &mut Vec<u8>, sign: u8, number: u128) -> Result<(), MemoryFault>
     ensures { OnOk result (out.new.items ≡ out.old.items ++ 0x20 ∷ right 15 (sign ∷ decimal number)) }
 {
@@ -67,9 +67,9 @@ fn put_difference(
     }
 }
 
-// Appends the beginning of an item's line, up to the arrival.
-fn put_item_start(out: &mut Vec<u8>, pallet: &PalletRow, gtin: &Gtin) -> Result<(), MemoryFault>
-    ensures { OnOk result (out.new.items ≡ out.old.items ++ spec.item_start pallet.now gtin.now) }
+// Appends the beginning of an article's line, up to the arrival.
+fn put_article_start(out: &mut Vec<u8>, pallet: &PalletRow, gtin: &Gtin) -> Result<(), MemoryFault>
+    ensures { OnOk result (out.new.items ≡ out.old.items ++ spec.article_start pallet.now gtin.now) }
 {
     out.push(b'P')?;
     put_next(out, pallet.sscc.digits())?;
@@ -78,7 +78,7 @@ fn put_item_start(out: &mut Vec<u8>, pallet: &PalletRow, gtin: &Gtin) -> Result<
     Ok(())
 }
 
-// Appends the totals of an item's line.
+// Appends the totals of an article's line.
 fn put_totals(out: &mut Vec<u8>, totals: &Totals) -> Result<(), MemoryFault>
     ensures { OnOk result (out.new.items ≡ out.old.items ++ spec.totals_text totals.now) }
 {
@@ -89,15 +89,15 @@ fn put_totals(out: &mut Vec<u8>, totals: &Totals) -> Result<(), MemoryFault>
     Ok(())
 }
 
-// What is received of an item in all.
+// What is received of an article in all.
 fn received(totals: &Totals) -> u128
     ensures { result ≡ totals.now.accepted + totals.now.returned + totals.now.destroyed }
 {
     totals.accepted as u128 + totals.returned as u128 + totals.destroyed as u128
 }
 
-// Appends the line of an item.
-fn put_item(
+// Appends the line of an article.
+fn put_article(
     out: &mut Vec<u8>,
     pallet: &PalletRow,
     gtin: &Gtin,
@@ -105,19 +105,23 @@ fn put_item(
 ) -> Result<(), MemoryFault>
     ensures { OnOk result (out.new.items ≡ out.old.items ++ article_line pallet.now (gtin.now, totals.now)) }
 {
-    put_item_start(out, pallet, gtin)?;
+    put_article_start(out, pallet, gtin)?;
     put_totals(out, totals)?;
     put_difference(out, pallet, received(totals), totals.despatched as u128)?;
     put_end(out)?;
     Ok(())
 }
 
-// Appends the lines of items.
-fn put_items(out: &mut Vec<u8>, pallet: &PalletRow, items: &ItemTotals) -> Result<(), MemoryFault>
-    ensures { OnOk result (out.new.items ≡ out.old.items ++ flat_map (article_line pallet.now) items.now.entries) }
+// Appends the lines of articles.
+fn put_articles(
+    out: &mut Vec<u8>,
+    pallet: &PalletRow,
+    articles: &ArticleTotals,
+) -> Result<(), MemoryFault>
+    ensures { OnOk result (out.new.items ≡ out.old.items ++ flat_map (article_line pallet.now) articles.now.entries) }
 {
-    for (gtin, totals) in items {
-        put_item(out, pallet, gtin, totals)?;
+    for (gtin, totals) in articles {
+        put_article(out, pallet, gtin, totals)?;
     }
     Ok(())
 }
@@ -137,7 +141,7 @@ pub fn put_pallet(
         OnOk result (out.new.items ≡ out.old.items ++ law.pallet_text state pallet.now) }
     ensures unclean { result ≡ Err Unclean → IsUnclean lines.now contents.now receipts.now }
 {
-    let items = item_totals(alloc, lines, contents, receipts)?;
-    put_items(out, pallet, &items)?;
+    let articles = article_totals(alloc, lines, contents, receipts)?;
+    put_articles(out, pallet, &articles)?;
     Ok(())
 }

@@ -1,21 +1,21 @@
-//! What is announced and received of the items on a pallet.
+//! What is announced and received of the articles on a pallet.
 ghost use Rattle.std.specs.Prelude.{◌≡◌, ◌+◌, ◌^◌, ◌≤◌, List, [], Err, sum_by, IfOk, IfErr, OnOk, OnErr};
 ghost use Rattle.std.specs.BTreeMap.{insert_entry};
 ghost use Rattle.hub_tables.specs.Keys.{bytes_cmp};
 ghost use Rattle.hub_tables.specs.Sets.{Rises};
 ghost use Rattle.hub_tables.specs.declared.rows.LineRow.{LineRow};
-ghost use Rattle.hub_texts.specs.Items.{place_cmp};
+ghost use Rattle.hub_texts.specs.Articles.{place_cmp};
 ghost use Rattle.hub_texts.specs.Totals as spec;
 ghost use Rattle.hub_texts.specs.declared.fault.TextFault.TheVariants.{Memory, Unclean};
 
+use crate::articles::article_of;
 use crate::fault::TextFault;
-use crate::items::item_of;
 use gs1_ids::Gtin;
 use hub_tables::{ContentRow, LineRow, ReceiptRow};
 use std::alloc::Global;
 use std::collections::BTreeMap;
 
-/// What is announced and received of an item on a pallet, in pieces.
+/// What is announced and received of an article on a pallet, in pieces.
 #[derive(Clone, Copy, Debug)]
 pub(crate) struct Totals {
     pub(crate) despatched: u64,
@@ -24,11 +24,11 @@ pub(crate) struct Totals {
     pub(crate) destroyed: u64,
 }
 
-/// Totals by item.
-pub(crate) type ItemTotals = BTreeMap<Gtin, Totals>;
+/// Totals by article.
+pub(crate) type ArticleTotals = BTreeMap<Gtin, Totals>;
 
-// The totals of an item; nothing where it has none.
-fn totals_of(table: &ItemTotals, gtin: &Gtin) -> Totals
+// The totals of an article; nothing where it has none.
+fn totals_of(table: &ArticleTotals, gtin: &Gtin) -> Totals
     ensures { result ≡ spec.totals_at table.now.entries gtin.now }
 {
     match table.get(gtin) {
@@ -79,8 +79,8 @@ fn with_receipt(totals: Totals, receipt: &ReceiptRow) -> Result<Totals, TextFaul
     })
 }
 
-// Sets the totals of an item.
-fn set_totals(table: &mut ItemTotals, gtin: Gtin, totals: Totals) -> Result<(), TextFault>
+// Sets the totals of an article.
+fn set_totals(table: &mut ArticleTotals, gtin: Gtin, totals: Totals) -> Result<(), TextFault>
     ensures ok { OnOk result (table.new.entries ≡ insert_entry bytes_cmp table.old.entries gtin totals) }
     ensures err { IfErr result (λ fault. fault ≡ Memory) }
 {
@@ -90,7 +90,7 @@ fn set_totals(table: &mut ItemTotals, gtin: Gtin, totals: Totals) -> Result<(), 
 
 // Counts a content.
 fn count_content(
-    table: &mut ItemTotals,
+    table: &mut ArticleTotals,
     lines: &[LineRow],
     content: &ContentRow,
 ) -> Result<(), TextFault>
@@ -98,7 +98,7 @@ fn count_content(
     ensures ok { OnOk result (table.new.entries ≡ spec.count_content lines.now content.now table.old.entries) }
     ensures unclean { result ≡ Err Unclean → spec.Uncounted lines.now content.now table.old.entries }
 {
-    let Some(gtin) = item_of(lines, content) else {
+    let Some(gtin) = article_of(lines, content) else {
         return Err(TextFault::Unclean);
     };
     let totals = with_content(totals_of(table, &gtin), content)?;
@@ -106,7 +106,7 @@ fn count_content(
 }
 
 // Counts a receipt.
-fn count_receipt(table: &mut ItemTotals, receipt: &ReceiptRow) -> Result<(), TextFault>
+fn count_receipt(table: &mut ArticleTotals, receipt: &ReceiptRow) -> Result<(), TextFault>
     ensures ok { OnOk result (table.new.entries ≡ spec.count_receipt receipt.now table.old.entries) }
     ensures unclean { result ≡ Err Unclean → 2 ^ 64 ≤ spec.received (spec.totals_at table.old.entries receipt.now.gtin) + spec.pieces_of receipt.now }
 {
@@ -116,7 +116,7 @@ fn count_receipt(table: &mut ItemTotals, receipt: &ReceiptRow) -> Result<(), Tex
 }
 
 // Counts receipts of a pallet, from the last one on.
-fn count_receipts(table: &mut ItemTotals, receipts: &[ReceiptRow]) -> Result<(), TextFault>
+fn count_receipts(table: &mut ArticleTotals, receipts: &[ReceiptRow]) -> Result<(), TextFault>
     requires { table.old.entries ≡ [] }
     ensures ok { (lines : List LineRow) → OnOk result (table.new.entries ≡ spec.table_of lines [] receipts.now) }
     ensures unclean { result ≡ Err Unclean → 2 ^ 64 ≤ sum_by spec.pieces_of receipts.now }
@@ -131,7 +131,7 @@ fn count_receipts(table: &mut ItemTotals, receipts: &[ReceiptRow]) -> Result<(),
 
 // Counts contents of a pallet with these receipts, from the last one on.
 fn count_contents(
-    table: &mut ItemTotals,
+    table: &mut ArticleTotals,
     lines: &[LineRow],
     contents: &[ContentRow],
     receipts: &[ReceiptRow],
@@ -149,14 +149,14 @@ fn count_contents(
     Ok(())
 }
 
-/// The items on a pallet with their totals, by their digits. The time grows with contents and receipts, times a
+/// The articles on a pallet with their totals, by their digits. The time grows with contents and receipts, times a
 /// logarithm of these and of the lines.
-pub(crate) fn item_totals(
+pub(crate) fn article_totals(
     alloc: Global,
     lines: &[LineRow],
     contents: &[ContentRow],
     receipts: &[ReceiptRow],
-) -> Result<ItemTotals, TextFault>
+) -> Result<ArticleTotals, TextFault>
     requires { Rises place_cmp lines.now }
     ensures ok { IfOk result (λ table. table.entries ≡ spec.table_of lines.now contents.now receipts.now) }
     ensures unclean { result ≡ Err Unclean → spec.IsUnclean lines.now contents.now receipts.now }

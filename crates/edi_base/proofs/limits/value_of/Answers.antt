@@ -4,4 +4,5 @@ use Rattle.edi_base.proofs.limits.value_of.Goals as goal
 
 pub returns-then-number-gt-GREATEST : goal.returns-then-number-gt-GREATEST
 returns-then-number-gt-GREATEST c =
-    past_greatest c.loop-digit.number c.args.digits.now c.loop-digit.digit-index 0 c.loop-digit.invariant.value c.loop-digit-test.true (omega (arith, c.if-number-gt-GREATEST.true, c.saturating_sub.ensures))
+    past_greatest c.loop-digit.number c.args.digits.now c.loop-digit.digit-index 0 c.loop-digit.invariant.value
+    c.loop-digit-test.true (omega (arith, c.if-number-gt-GREATEST.true, c.saturating_sub.ensures))

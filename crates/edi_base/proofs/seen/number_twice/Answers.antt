@@ -24,9 +24,12 @@ loop-number-preserved c =
     let new : comes_among nat_eq number (map number_itself c.loop-number.seen.keys) ≡ false =
     sym (contains-number number c.loop-number.seen.keys) ∙ not-true _ (sym c.in_ok-insert.ensures.added ∙ c.if-not-branch.false) in
     record {
-      once = comes_first nat_eq nat_eq-sym numbers i number c.loop-number-test.true at c.loop-number.invariant.once (sym (c.loop-number.invariant.seen number) ∙ new);
+      once =
+          comes_first nat_eq nat_eq-sym numbers i number c.loop-number-test.true at c.loop-number.invariant.once
+          (sym (c.loop-number.invariant.seen number) ∙ new);
       seen = λ other.
-          ap (λ keys. comes_among nat_eq other (map number_itself keys)) c.in_ok-insert.ensures.keys ∙ number-insert other c.loop-number.seen.keys number
+          ap (λ keys. comes_among nat_eq other (map number_itself keys)) c.in_ok-insert.ensures.keys
+          ∙ number-insert other c.loop-number.seen.keys number
           ∙ ap (λ rest. nat_eq other number || rest) (c.loop-number.invariant.seen other)
           ∙ sym (among_more nat_eq nat_eq-sym numbers i number c.loop-number-test.true at other);
     }

@@ -9,4 +9,6 @@ pub returns-clause-text : goal.returns-clause-text
 returns-clause-text c =
     let a = c.args in
     let same : c.push-2.new.self ≡ mail_segments a.hub.now a.owner.now a.moment a.number a.message.now = grind (arith, common_steps) in
-    ap text same ∙ text-mail_segments a.hub.now a.owner.now a.moment a.number a.message.now (AreDigits-from_All _ c.requires.hub) (AreDigits-from_All _ c.requires.owner) (omega arith)
+    ap text same
+    ∙ text-mail_segments a.hub.now a.owner.now a.moment a.number a.message.now (AreDigits-from_All _ c.requires.hub)
+    (AreDigits-from_All _ c.requires.owner) (omega arith)

@@ -6,4 +6,6 @@ use Rattle.edi_envelope.proofs.mail.wrap.Given as goal
 
 abbrev pub invariant-loop-segment : goal.invariant-loop-segment
 invariant-loop-segment l =
-    l.segments ≡ unb_from l.hub l.owner (date_text l.fn.moment) (time_text l.fn.moment) (decimal l.fn.number) ∷ map renumbered (take l.segment-index l.message.segments)
+    l.segments
+    ≡ unb_from l.hub l.owner (date_text l.fn.moment) (time_text l.fn.moment) (decimal l.fn.number)
+    ∷ map renumbered (take l.segment-index l.message.segments)

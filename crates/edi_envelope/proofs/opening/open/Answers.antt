@@ -14,13 +14,17 @@ returns-then-not-is_framed-clause-fault c = λ _.
 pub returns-then-not-has_header-clause-fault : goal.returns-then-not-has_header-clause-fault
 returns-then-not-has_header-clause-fault c = λ _.
     let framed = sym (ap is_framed c.as_slice.ensures) ∙ sym c.is_framed.ensures ∙ c.if-not-is_framed.false in
-    let header = sym (ap (λ segments. is_header (first_segment segments)) c.as_slice-2.ensures) ∙ sym c.has_header.ensures ∙ c.if-not-has_header.true in
+    let header = sym (ap (λ segments. is_header (first_segment segments)) c.as_slice-2.ensures)
+    ∙ sym c.has_header.ensures
+    ∙ c.if-not-has_header.true in
     interchange_of-header c.args.tokens framed header
 
 pub returns-in-Some-clause-fault : goal.returns-in-Some-clause-fault
 returns-in-Some-clause-fault c = λ _.
     let framed = sym (ap is_framed c.as_slice.ensures) ∙ sym c.is_framed.ensures ∙ c.if-not-is_framed.false in
-    let header = sym (ap (λ segments. is_header (first_segment segments)) c.as_slice-2.ensures) ∙ sym c.has_header.ensures ∙ c.if-not-has_header.false in
+    let header = sym (ap (λ segments. is_header (first_segment segments)) c.as_slice-2.ensures)
+    ∙ sym c.has_header.ensures
+    ∙ c.if-not-has_header.false in
     let outside = c.is_outside_set-outside.ensures ∙ ap is_outside_set c.as_slice-3.ensures in
     let apart : IsTakenApart c.args.tokens.segments c.in_ok-parts.parts = rw c.into_vec.ensures at c.in_ok-parts.ensures in
     let found = sym (ap (fault_of_parts c.in_ok-parts.parts) outside) ∙ sym c.in_ok-fault.ensures ∙ c.in-Some.is in
@@ -29,7 +33,9 @@ returns-in-Some-clause-fault c = λ _.
 pub returns-clause-interchange : goal.returns-clause-interchange
 returns-clause-interchange c =
     let framed = sym (ap is_framed c.as_slice.ensures) ∙ sym c.is_framed.ensures ∙ c.if-not-is_framed.false in
-    let header = sym (ap (λ segments. is_header (first_segment segments)) c.as_slice-2.ensures) ∙ sym c.has_header.ensures ∙ c.if-not-has_header.false in
+    let header = sym (ap (λ segments. is_header (first_segment segments)) c.as_slice-2.ensures)
+    ∙ sym c.has_header.ensures
+    ∙ c.if-not-has_header.false in
     let outside = c.is_outside_set-outside.ensures ∙ ap is_outside_set c.as_slice-3.ensures in
     let apart : IsTakenApart c.args.tokens.segments c.in_ok-parts.parts = rw c.into_vec.ensures at c.in_ok-parts.ensures in
     let none = sym (ap (fault_of_parts c.in_ok-parts.parts) outside) ∙ sym c.in_ok-fault.ensures ∙ c.in_default.is in

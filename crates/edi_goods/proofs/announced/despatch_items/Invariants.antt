@@ -7,5 +7,6 @@ use Rattle.edi_goods.proofs.announced.despatch_items.Given as goal
 abbrev pub invariant-loop-item : goal.invariant-loop-item
 invariant-loop-item l = record {
   groups : l.items ≡ l.lines.items ++ drop l.item-index l.items;
-  right : list_all (λ group. is_some (despatched group)) l.items ≡ list_all (λ group. is_some (despatched group)) (drop l.item-index l.items);
+  right : list_all (λ group. is_some (despatched group)) l.items
+      ≡ list_all (λ group. is_some (despatched group)) (drop l.item-index l.items);
 }

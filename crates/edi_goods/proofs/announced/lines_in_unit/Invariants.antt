@@ -5,4 +5,5 @@ use Rattle.edi_goods.proofs.announced.lines_in_unit.Given as goal
 
 -- the lines are those so far and those of the rest
 abbrev pub invariant-loop-line : goal.invariant-loop-line
-invariant-loop-line l = lines_in_unit l.header_order l.unit ≡ l.lines ++ map (line_of l.header_order) (drop l.line-index (line_groups l.unit))
+invariant-loop-line l =
+    lines_in_unit l.header_order l.unit ≡ l.lines ++ map (line_of l.header_order) (drop l.line-index (line_groups l.unit))

@@ -5,4 +5,6 @@ use Rattle.edi_goods.proofs.units.head_len.Given as goal
 
 -- no LIN so far
 abbrev pub invariant-loop-place : goal.invariant-loop-place
-invariant-loop-place l = prefix_len (λ segment. not (is_lin segment)) l.unit ≡ l.place + prefix_len (λ segment. not (is_lin segment)) (drop l.place l.unit)
+invariant-loop-place l =
+    prefix_len (λ segment. not (is_lin segment)) l.unit
+    ≡ l.place + prefix_len (λ segment. not (is_lin segment)) (drop l.place l.unit)

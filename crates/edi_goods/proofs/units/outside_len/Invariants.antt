@@ -5,4 +5,6 @@ use Rattle.edi_goods.proofs.units.outside_len.Given as goal
 
 -- no CPS so far
 abbrev pub invariant-loop-place : goal.invariant-loop-place
-invariant-loop-place l = prefix_len (λ segment. not (is_cps segment)) l.message ≡ l.place + prefix_len (λ segment. not (is_cps segment)) (drop l.place l.message)
+invariant-loop-place l =
+    prefix_len (λ segment. not (is_cps segment)) l.message
+    ≡ l.place + prefix_len (λ segment. not (is_cps segment)) (drop l.place l.message)

@@ -5,4 +5,6 @@ use Rattle.edi_goods.proofs.units.rest_len.Given as goal
 
 -- no segment passed so far ends the unit
 abbrev pub invariant-loop-place : goal.invariant-loop-place
-invariant-loop-place l = prefix_len (λ segment. not (ends_unit segment)) l.segments ≡ l.place + prefix_len (λ segment. not (ends_unit segment)) (drop l.place l.segments)
+invariant-loop-place l =
+    prefix_len (λ segment. not (ends_unit segment)) l.segments
+    ≡ l.place + prefix_len (λ segment. not (ends_unit segment)) (drop l.place l.segments)

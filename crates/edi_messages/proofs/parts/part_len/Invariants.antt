@@ -5,4 +5,6 @@ use Rattle.edi_messages.proofs.parts.part_len.Given as goal
 
 -- no segment passed so far ends the part
 abbrev pub invariant-loop-place : goal.invariant-loop-place
-invariant-loop-place l = prefix_len (λ segment. not (ends_part segment)) l.segments ≡ l.place + prefix_len (λ segment. not (ends_part segment)) (drop l.place l.segments)
+invariant-loop-place l =
+    prefix_len (λ segment. not (ends_part segment)) l.segments
+    ≡ l.place + prefix_len (λ segment. not (ends_part segment)) (drop l.place l.segments)

@@ -7,5 +7,6 @@ use Rattle.edi_orders.proofs.answers.answered_items.Given as goal
 abbrev pub invariant-loop-line : goal.invariant-loop-line
 invariant-loop-line l = record {
   groups : l.items ≡ l.answered.items ++ drop l.line-index l.items;
-  right : list_all (λ group. is_some (line_answer group)) l.items ≡ list_all (λ group. is_some (line_answer group)) (drop l.line-index l.items);
+  right : list_all (λ group. is_some (line_answer group)) l.items
+      ≡ list_all (λ group. is_some (line_answer group)) (drop l.line-index l.items);
 }

@@ -4,4 +4,6 @@ use Rattle.edi_show.specs.Goods.{receipt_unit_lines}
 use Rattle.edi_show.proofs.goods.put_receipt_units.Given as goal
 
 abbrev pub invariant-loop-unit : goal.invariant-loop-unit
-invariant-loop-unit l = l.out.items ++ flat_map receipt_unit_lines (drop l.unit-index l.units) ≡ l.fn.out.items ++ flat_map receipt_unit_lines l.units
+invariant-loop-unit l =
+    l.out.items ++ flat_map receipt_unit_lines (drop l.unit-index l.units)
+    ≡ l.fn.out.items ++ flat_map receipt_unit_lines l.units

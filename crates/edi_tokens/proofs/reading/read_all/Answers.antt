@@ -10,7 +10,8 @@ returns-clause-spelled c = is_spelled c.args.text.now c.read.result c.read.ensur
 
 pub returns-clause-only : goal.returns-clause-only
 returns-clause-only c = λ service segments spelled.
-    subst (λ (given : Result Tokens TokenFault). Answers (λ tokens. tokens) c.read.result given) (spelled_is_read c.args.text.now service segments spelled) c.read.ensures
+    subst (λ (given : Result Tokens TokenFault). Answers (λ tokens. tokens) c.read.result given)
+    (spelled_is_read c.args.text.now service segments spelled) c.read.ensures
 
 pub returns-clause-shown : goal.returns-clause-shown
 returns-clause-shown c = is_shown c.args.text.now c.read.result c.read.ensures

@@ -5,7 +5,8 @@ use Rattle.edi_tokens.proofs.text.put_component.Given as goal
 
 abbrev pub invariant-loop-byte : goal.invariant-loop-byte
 invariant-loop-byte g l = record {
-  bytes : Goes (g.W.Sink.contents l.fn.out) (g.W.Sink.contents l.out) l.fn.buffer l.buffer (component_text l.rest) (component_text l.component);
+  bytes : Goes (g.W.Sink.contents l.fn.out) (g.W.Sink.contents l.out) l.fn.buffer l.buffer (component_text l.rest)
+      (component_text l.component);
   flag : g.W.Sink.failed l.out ≡ g.W.Sink.failed l.fn.out;
 }
 

@@ -6,6 +6,7 @@ use Rattle.edi_tokens.proofs.text.put_text.Given as goal
 
 abbrev pub invariant-loop-segment : goal.invariant-loop-segment
 invariant-loop-segment g l = record {
-  bytes : Goes (g.W.Sink.contents l.fn.out) (g.W.Sink.contents l.out) l.fn.buffer l.buffer (flat_map segment_text (drop l.segment-index l.segments)) (text l.segments);
+  bytes : Goes (g.W.Sink.contents l.fn.out) (g.W.Sink.contents l.out) l.fn.buffer l.buffer
+      (flat_map segment_text (drop l.segment-index l.segments)) (text l.segments);
   flag : g.W.Sink.failed l.out ≡ g.W.Sink.failed l.fn.out;
 }

@@ -8,5 +8,6 @@ use Rattle.gs1_ids.proofs.digits.write_digits.Goals as goal
 
 pub unwrap-text-requires : goal.unwrap-text-requires
 unwrap-text-requires g c =
-    let text : IsUtf8 c.args.digits.now = IsUtf8-from_ascii _ (IsAscii-from_all _ (All-weaker IsAsciiDigit (λ b. b < 128) (λ b digit. omega arith) _ c.requires)) in
+    let text : IsUtf8 c.args.digits.now =
+    IsUtf8-from_ascii _ (IsAscii-from_all _ (All-weaker IsAsciiDigit (λ b. b < 128) (λ b digit. omega arith) _ c.requires)) in
     search rules

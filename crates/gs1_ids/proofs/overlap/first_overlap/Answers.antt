@@ -2,7 +2,8 @@ use Rattle.std.proofs.Common.{◌≡◌, ◌+◌, refl, sym, subst, ap, ◌∙�
 use Rattle.std.proofs.lemmas.Bool.{cases_lt, true≢false}
 use Rattle.std.proofs.lemmas.List.{drop_all}
 use Rattle.gs1_ids.specs.Overlap.{OverlapAt, IsFirstOverlap, first_overlap_of}
-use Rattle.gs1_ids.proofs.Overlaps.{search_behind, found_behind, none_behind, free_if_none, none_if_free, moved_by, moved_by-0, found_next, found_later}
+use Rattle.gs1_ids.proofs.Overlaps.{search_behind, found_behind, none_behind, free_if_none, none_if_free, moved_by}
+use Rattle.gs1_ids.proofs.Overlaps.{moved_by-0, found_next, found_later}
 use Rattle.gs1_ids.proofs.overlap.first_overlap.Goals as goal
 use Rattle.gs1_ids.proofs.overlap.first_overlap.Goals.{In-Some}
 
@@ -41,14 +42,18 @@ loop-first-preserved c =
     let first = c.loop-first.first in
     let e = search_behind ps first _ _ c.loop-first-test.true c.index-prefixes-first.is c.overlapped.ensures in
     record {
-      none = λ i j h o. ⊎_elim (λ passed. c.loop-first.invariant.none i j passed o) (λ past. let last : i ≡ first = omega arith in none_behind ps first (sym e ∙ c.in_default.is) j (subst (λ n. OverlapAt ps n j) last o)) (cases_lt i first);
+      none =
+          λ i j h o.
+          ⊎_elim (λ passed. c.loop-first.invariant.none i j passed o) (λ past. let last : i ≡ first = omega arith in
+          none_behind ps first (sym e ∙ c.in_default.is) j (subst (λ n. OverlapAt ps n j) last o)) (cases_lt i first);
       left = c.loop-first.invariant.left ∙ found_later ps first c.loop-first-test.true (sym e ∙ c.in_default.is);
     }
 
 pub returns-clause-value : goal.returns-clause-value
 returns-clause-value c =
     let ps = c.args.prefixes.now in
-    sym (c.loop-first.invariant.left ∙ ap (λ rest. moved_by c.loop-first.first (first_overlap_of rest)) (drop_all c.loop-first.first ps (omega arith)))
+    sym (c.loop-first.invariant.left
+    ∙ ap (λ rest. moved_by c.loop-first.first (first_overlap_of rest)) (drop_all c.loop-first.first ps (omega arith)))
 
 pub returns-clause-free : goal.returns-clause-free
 returns-clause-free c =

@@ -1,4 +1,4 @@
-use Rattle.std.proofs.Common.{◌≡◌, sym, ap, ◌∙◌}
+use Rattle.std.proofs.Common.{sym, ap, ◌∙◌}
 use Rattle.hub_tables.specs.Tables.{Tables, view}
 use Rattle.hub_rules.specs.Rules.{judge_cancel}
 use Rattle.hub_law.specs.Mark.{Whole}
@@ -22,6 +22,8 @@ returns-clause-carried g c = λ hub.
     after_looking g.S.Store.content g.S.Store.honest g.S.Store.left c.args.store.now c.known_for_cancel.new.store c.finish.new.store
     does (λ t. replied_by cancel_reply (act c.in_ok-verdict.verdict t)) as_told
     c.in_ok-known.ensures.stays c.finish.ensures.unharmed.was_honest
-    (λ honest. ap (λ verdict. replied_by cancel_reply (act verdict t)) (sym (c.in_ok-verdict.ensures state (c.in_ok-known.ensures.told honest) ∙ (λ i. judge_cancel (supplier i) (content i) cancel state))))
+    (λ honest. ap (λ verdict. replied_by cancel_reply (act verdict t))
+    (sym (c.in_ok-verdict.ensures state (c.in_ok-known.ensures.told honest)
+    ∙ (λ i. judge_cancel (supplier i) (content i) cancel state))))
     (c.acts_stay_sound.ensures.cancellation register cancel t hub).rising
     c.finish.result c.finish.ensures.carried

@@ -25,13 +25,20 @@ returns-clause-told g c = λ honest kept.
     let known = c.in_ok-number_known.ensures.looks.answers second in
     let numbers = map (λ number. number.now) c.in_ok-named.named.keys in
     let same_state = ap (view supplier) (three ∙ two ∙ one) in
-    let orders = c.in_ok-put_known.ensures.orders honest ∙ ap₂ (λ so_far s. so_far ++ filter (knows_order s) numbers) c.new-orders.ensures same_state in
-    let found = c.in_ok-put_known.ensures.rows honest ∙ ap₂ (λ so_far s. so_far ++ flat_map (lines_of s) numbers) c.new-lines.ensures same_state in
-    let is_named : (order : List ℕ) → names_order c.args.despatch.now.units order ≡ true → is_among order numbers ≡ true = λ order names. c.in_ok-named.ensures.orders order ∙ ap (λ units. names_order units order) c.as_slice-units.ensures ∙ names in
+    let orders = c.in_ok-put_known.ensures.orders honest
+    ∙ ap₂ (λ so_far s. so_far ++ filter (knows_order s) numbers) c.new-orders.ensures same_state in
+    let found = c.in_ok-put_known.ensures.rows honest
+    ∙ ap₂ (λ so_far s. so_far ++ flat_map (lines_of s) numbers) c.new-lines.ensures same_state in
+    let is_named : (order : List ℕ) → names_order c.args.despatch.now.units order ≡ true → is_among order numbers ≡ true =
+    λ order names.
+    c.in_ok-named.ensures.orders order ∙ ap (λ units. names_order units order) c.as_slice-units.ensures ∙ names in
     record {
       remembered = cc;
       number = cc;
-      used_told = ap₂ (λ tables units. map (λ unit. has_pallet tables unit.sscc) units) (sym (two ∙ one)) (sym c.as_slice-units.ensures) ∙ c.in_ok-used.ensures.used third;
+      used_told =
+          ap₂ (λ tables units. map (λ unit. has_pallet tables unit.sscc) units) (sym (two ∙ one))
+          (sym c.as_slice-units.ensures)
+          ∙ c.in_ok-used.ensures.used third;
       used_there = λ sscc h. seen_is_there supplier t sscc h;
       orders = λ order names. known_among (knows_order state) order numbers (is_named order names) ∙ ap (is_among order) (sym orders);
       lines = λ order names.
@@ -50,7 +57,9 @@ returns-in_err-facts-clause-unclean g c = λ honest going clean unclean.
     let three = c.in_ok-used.ensures.stays.content_stays third in
     let keys = c.in_ok-named.named.keys in
     let numbers = map (λ number. number.now) keys in
-    let found = c.in_ok-put_known.ensures.rows honest ∙ ap₂ (λ so_far s. so_far ++ flat_map (lines_of s) numbers) c.new-lines.ensures (ap (view supplier) (three ∙ two ∙ one)) in
+    let found = c.in_ok-put_known.ensures.rows honest
+    ∙ ap₂ (λ so_far s. so_far ++ flat_map (lines_of s) numbers) c.new-lines.ensures
+    (ap (view supplier) (three ∙ two ∙ one)) in
     let given = c.from_residual-in_err-facts.ensures in
     record {
       orders = numbers;

@@ -18,10 +18,12 @@ loop-number-preserved g c =
       orders = λ honest.
           let known = c.lines_of.ensures.looks.was_honest honest in
           let was = c.order_known.ensures.looks.was_honest known in
-          let there = c.in_ok-is_there.ensures.looks.answers known ∙ ap (λ t. knows_order (view supplier t) number) (before.stays.content_stays was) in
+          let there = c.in_ok-is_there.ensures.looks.answers known
+          ∙ ap (λ t. knows_order (view supplier t) number) (before.stays.content_stays was) in
           ap (λ xs. xs ++ filter (knows_order state) later) c.in_ok-put_if_there.ensures
           ∙ kept_more (knows_order state) c.loop-number.orders number c.in_ok-is_there.is_there later there
-          ∙ ap (λ ahead. c.loop-number.orders ++ filter (knows_order state) (map (λ number. number.now) ahead)) (sym c.in-Some.ensures.steps)
+          ∙ ap (λ ahead. c.loop-number.orders ++ filter (knows_order state) (map (λ number. number.now) ahead))
+          (sym c.in-Some.ensures.steps)
           ∙ before.orders was;
       rows = λ honest.
           let known = c.lines_of.ensures.looks.was_honest honest in

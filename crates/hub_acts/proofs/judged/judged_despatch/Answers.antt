@@ -1,4 +1,4 @@
-use Rattle.std.proofs.Common.{◌≡◌, Some, ap, ◌∙◌}
+use Rattle.std.proofs.Common.{Some, ap, ◌∙◌}
 use Rattle.hub_rules.specs.Rules.{judge_despatch}
 use Rattle.hub_rules.specs.declared.verdict.Verdict.{Verdict}
 use Rattle.hub_tables.specs.Tables.{view, has_pallet}
@@ -14,6 +14,9 @@ returns-clause-judged g c = λ honest kept.
     let despatch = c.in-Ok.despatch in
     let told = c.in_ok-known.ensures.told honest kept in
     let retailer = c.retailer-retailer.ensures.value in
-    let judge : Despatch → Verdict = λ despatch. judge_despatch c.args.register.now.retailer (Some s) (has_pallet t) c.args.incoming despatch (view s.gln t) in
-    let verdict = c.in_ok-verdict.ensures (has_pallet t) (view s.gln t) told ∙ ap (λ gln. judge_despatch gln (Some s) (has_pallet t) c.args.incoming despatch (view s.gln t)) retailer in
+    let judge : Despatch → Verdict =
+    λ despatch. judge_despatch c.args.register.now.retailer (Some s) (has_pallet t) c.args.incoming despatch (view s.gln t) in
+    let verdict = c.in_ok-verdict.ensures (has_pallet t) (view s.gln t) told
+    ∙ ap (λ gln. judge_despatch gln (Some s) (has_pallet t) c.args.incoming despatch (view s.gln t))
+    retailer in
     ap (λ read. read_act read judge t) c.in-Ok.ensures.ok ∙ act_of_read judge despatch c.in_ok-verdict.verdict t verdict

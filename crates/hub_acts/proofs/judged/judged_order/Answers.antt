@@ -1,6 +1,5 @@
-use Rattle.std.proofs.Common.{◌≡◌, sym, subst, ap, ◌∙◌}
+use Rattle.std.proofs.Common.{sym, subst, ap, ◌∙◌}
 use Rattle.hub_parties.specs.Rows.{supplier_row}
-use Rattle.hub_parties.specs.declared.row.SupplierRow.{SupplierRow}
 use Rattle.hub_rules.specs.Rules.{judge_order}
 use Rattle.hub_rules.specs.Sound.{Kept}
 use Rattle.hub_rules.specs.declared.verdict.Verdict.{Verdict}
@@ -22,6 +21,10 @@ returns-clause-judged g c = λ honest kept.
     let retailer = c.retailer-retailer.ensures.value in
     let supplier = c.supplier-supplier.ensures.value ∙ ap (supplier_row suppliers) (sym is) in
     let body = c.in_ok-body.ensures in
-    let judge : Order → Verdict = λ order. judge_order c.args.register.now.retailer (supplier_row suppliers (named message)) c.args.incoming (body_of message) order (view (named message) t) in
-    let verdict = c.in_ok-verdict.ensures (view order.supplier t) told ∙ (λ i. judge_order (retailer i) (supplier i) c.args.incoming (body i) order (view (sym is i) t)) in
+    let judge : Order → Verdict =
+    λ order.
+    judge_order c.args.register.now.retailer (supplier_row suppliers (named message)) c.args.incoming (body_of message)
+    order (view (named message) t) in
+    let verdict = c.in_ok-verdict.ensures (view order.supplier t) told
+    ∙ (λ i. judge_order (retailer i) (supplier i) c.args.incoming (body i) order (view (sym is i) t)) in
     ap (λ read. read_act read judge t) c.in-Ok.ensures.ok ∙ act_of_read judge order c.in_ok-verdict.verdict t verdict

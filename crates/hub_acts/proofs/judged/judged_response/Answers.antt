@@ -1,4 +1,4 @@
-use Rattle.std.proofs.Common.{◌≡◌, Some, ap, ◌∙◌}
+use Rattle.std.proofs.Common.{Some, ap, ◌∙◌}
 use Rattle.hub_rules.specs.Rules.{judge_response}
 use Rattle.hub_rules.specs.declared.verdict.Verdict.{Verdict}
 use Rattle.hub_tables.specs.Tables.{view}
@@ -14,6 +14,8 @@ returns-clause-judged g c = λ honest kept.
     let response = c.in-Ok.response in
     let told = c.in_ok-known.ensures.told honest kept in
     let retailer = c.retailer-retailer.ensures.value in
-    let judge : Response → Verdict = λ response. judge_response c.args.register.now.retailer (Some s) c.args.incoming response (view s.gln t) in
-    let verdict = c.in_ok-verdict.ensures (view s.gln t) told ∙ ap (λ gln. judge_response gln (Some s) c.args.incoming response (view s.gln t)) retailer in
+    let judge : Response → Verdict =
+    λ response. judge_response c.args.register.now.retailer (Some s) c.args.incoming response (view s.gln t) in
+    let verdict = c.in_ok-verdict.ensures (view s.gln t) told
+    ∙ ap (λ gln. judge_response gln (Some s) c.args.incoming response (view s.gln t)) retailer in
     ap (λ read. read_act read judge t) c.in-Ok.ensures.ok ∙ act_of_read judge response c.in_ok-verdict.verdict t verdict

@@ -1,4 +1,3 @@
-use Rattle.std.proofs.Common.{◌≡◌, sym, ap, ◌∙◌}
 use Rattle.hub_tables.specs.Tables.{view}
 use Rattle.hub_acts.proofs.LookUps.{mails_known}
 use Rattle.hub_acts.proofs.knowing.known_for_order.Goals as goal

@@ -1,4 +1,4 @@
-use Rattle.std.proofs.Common.{◌≡◌, map, sym, ap₂, ◌∙◌}
+use Rattle.std.proofs.Common.{map, sym, ap₂, ◌∙◌}
 use Rattle.hub_tables.specs.State.{pallet_of}
 use Rattle.hub_tables.specs.Tables.{view}
 use Rattle.hub_acts.proofs.LookUps.{mails_known}
@@ -17,5 +17,8 @@ returns-clause-told g c = λ honest kept.
     record {
       remembered = cc;
       mails = cc;
-      pallets = ap₂ (λ t units. map (λ unit. pallet_of (view supplier t) unit.sscc) units) (sym (two ∙ one)) (sym c.as_slice-units.ensures) ∙ c.in_ok-pallets.ensures.found honest;
+      pallets =
+          ap₂ (λ t units. map (λ unit. pallet_of (view supplier t) unit.sscc) units) (sym (two ∙ one))
+          (sym c.as_slice-units.ensures)
+          ∙ c.in_ok-pallets.ensures.found honest;
     }

@@ -1,4 +1,4 @@
-use Rattle.std.proofs.Common.{◌≡◌, sym, ap, ◌∙◌}
+use Rattle.std.proofs.Common.{sym, ap, ◌∙◌}
 use Rattle.hub_law.specs.Messages.{incoming, named}
 use Rattle.hub_law.specs.Requests.{deliver_named}
 use Rattle.hub_texts.specs.Told.{told_of}
@@ -15,6 +15,7 @@ returns-clause-carried g c = λ hub.
     after_looking g.S.Store.content g.S.Store.honest g.S.Store.left c.args.store.now c.judged_for_retailer.new.store c.finish.new.store
     (deliver_named register (message, came)) (act_of c.in_ok-judged.judged) told_of
     c.in_ok-judged.ensures.stays c.finish.ensures.unharmed.was_honest
-    (λ honest. ap (λ one. deliver_named register (message, one) t) (sym c.in_ok-came.ensures) ∙ c.in_ok-judged.ensures.judged honest (hub.sound.kept (named message)))
+    (λ honest. ap (λ one. deliver_named register (message, one) t) (sym c.in_ok-came.ensures)
+    ∙ c.in_ok-judged.ensures.judged honest (hub.sound.kept (named message)))
     (c.acts_stay_sound.ensures.retailers register message came t hub).rising
     c.finish.result c.finish.ensures.carried

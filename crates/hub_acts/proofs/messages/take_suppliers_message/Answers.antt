@@ -1,4 +1,4 @@
-use Rattle.std.proofs.Common.{◌≡◌, sym, ap, ◌∙◌}
+use Rattle.std.proofs.Common.{sym, ap, ◌∙◌}
 use Rattle.hub_parties.specs.Rows.{parties_of}
 use Rattle.hub_tables.specs.Tables.{view}
 use Rattle.hub_law.specs.Messages.{incoming, deliver_suppliers}
@@ -17,6 +17,8 @@ returns-clause-carried g c = λ here.
     after_looking g.S.Store.content g.S.Store.honest g.S.Store.left c.args.store.now c.judged_for_supplier.new.store c.finish.new.store
     (deliver_suppliers (view s.gln) (parties_of register) s (message, came)) (act_of c.in_ok-judged.judged) told_of
     c.in_ok-judged.ensures.stays c.finish.ensures.unharmed.was_honest
-    (λ honest. ap (λ one. deliver_suppliers (view s.gln) (parties_of register) s (message, one) t) (sym c.in_ok-came.ensures) ∙ c.in_ok-judged.ensures.judged honest (here.sound.kept s.gln))
+    (λ honest.
+    ap (λ one. deliver_suppliers (view s.gln) (parties_of register) s (message, one) t) (sym c.in_ok-came.ensures)
+    ∙ c.in_ok-judged.ensures.judged honest (here.sound.kept s.gln))
     (c.acts_stay_sound.ensures.suppliers register s message came t here).rising
     c.finish.result c.finish.ensures.carried

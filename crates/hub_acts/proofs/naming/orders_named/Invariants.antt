@@ -8,7 +8,8 @@ use Rattle.hub_acts.proofs.naming.orders_named.Given as goal
 -- an order is one of those in the set, or of those that the units that are left name
 abbrev pub invariant-loop-unit : goal.invariant-loop-unit
 invariant-loop-unit l = record {
-  orders : (order : List ℕ) →
-      (is_among order (map (λ number. number.now) l.orders.keys) || names_order (drop l.unit-index l.units) order) ≡ names_order l.units order;
+  orders : (order : List ℕ)
+      → (is_among order (map (λ number. number.now) l.orders.keys) || names_order (drop l.unit-index l.units) order)
+      ≡ names_order l.units order;
   ordered : IsOrdered by_number l.orders;
 }

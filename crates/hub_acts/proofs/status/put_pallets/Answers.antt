@@ -14,7 +14,8 @@ loop-pallet-preserved g c =
     let state = view supplier (g.S.Store.content c.args.store.now) in
     let pallet = c.pallet-item.result in
     let rest = drop (c.loop-pallet.pallet-index + 1) c.args.pallets.now in
-    let next = drop_more c.args.pallets.now c.loop-pallet.pallet-index pallet c.loop-pallet-test.true ∙ ap (λ one. one ∷ rest) (sym c.pallet-item.is) in
+    let next = drop_more c.args.pallets.now c.loop-pallet.pallet-index pallet c.loop-pallet-test.true
+    ∙ ap (λ one. one ∷ rest) (sym c.pallet-item.is) in
     let before = c.loop-pallet.invariant in
     record {
       stays = search rules;
@@ -24,8 +25,12 @@ loop-pallet-preserved g c =
           let first = c.contents_of.ensures.looks.was_honest second in
           let was = before.stays.content_stays first in
           let then = c.contents_of.ensures.looks.content_stays second ∙ was in
-          let contents = sym (c.as_slice-contents.ensures ∙ c.in_ok-announced.ensures.looks.answers second ∙ ap (λ t. contents_of (view supplier t) pallet.sscc) was) in
-          let receipts = sym (c.as_slice-receipts.ensures ∙ c.in_ok-received.ensures.looks.answers honest ∙ ap (λ t. receipts_of (view supplier t) pallet.sscc) then) in
+          let contents = sym (c.as_slice-contents.ensures
+          ∙ c.in_ok-announced.ensures.looks.answers second
+          ∙ ap (λ t. contents_of (view supplier t) pallet.sscc) was) in
+          let receipts = sym (c.as_slice-receipts.ensures
+          ∙ c.in_ok-received.ensures.looks.answers honest
+          ∙ ap (λ t. receipts_of (view supplier t) pallet.sscc) then) in
           ap (λ xs. xs ++ flat_map (pallet_text state) rest) (c.in_ok-put_text.ensures.text state same contents receipts)
           ∙ append_assoc c.loop-pallet.out.items (pallet_text state pallet) (flat_map (pallet_text state) rest)
           ∙ ap (λ xs. c.loop-pallet.out.items ++ flat_map (pallet_text state) xs) (sym next)
@@ -46,8 +51,12 @@ returns-in_err-put_text-clause-unclean g c = λ honest going clean unclean.
     let first = c.contents_of.ensures.looks.was_honest second in
     let was = c.loop-pallet.invariant.stays.content_stays first in
     let then = c.contents_of.ensures.looks.content_stays second ∙ was in
-    let contents = c.as_slice-contents.ensures ∙ c.in_ok-announced.ensures.looks.answers second ∙ ap (λ t. contents_of (view supplier t) pallet.sscc) was in
-    let receipts = c.as_slice-receipts.ensures ∙ c.in_ok-received.ensures.looks.answers honest ∙ ap (λ t. receipts_of (view supplier t) pallet.sscc) then in
+    let contents = c.as_slice-contents.ensures
+    ∙ c.in_ok-announced.ensures.looks.answers second
+    ∙ ap (λ t. contents_of (view supplier t) pallet.sscc) was in
+    let receipts = c.as_slice-receipts.ensures
+    ∙ c.in_ok-received.ensures.looks.answers honest
+    ∙ ap (λ t. receipts_of (view supplier t) pallet.sscc) then in
     record {
       pallet = pallet;
       there = has_at pallets i pallet rest next;

@@ -1,4 +1,4 @@
-use Rattle.std.proofs.Common.{◌≡◌, [], ◌++◌, codes, sym, subst, ap, ap₂, ◌∙◌}
+use Rattle.std.proofs.Common.{◌++◌, codes, sym, subst, ap, ap₂, ◌∙◌}
 use Rattle.std.specs.List.{AllByRecursion, flat_map}
 use Rattle.hub_tables.specs.Tables.{view}
 use Rattle.hub_rules.specs.Sound.{Balanced}
@@ -19,7 +19,10 @@ returns-clause-reply g c = λ honest kept.
     let pallets = c.as_slice-pallets.ensures ∙ c.in_ok-despatched.ensures.looks.answers third ∙ ap (λ t. (view supplier t).pallets) one in
     let same = ap (view supplier) (two ∙ one) in
     let balanced = subst (AllByRecursion (Balanced state)) (sym lines) kept.balanced in
-    let first_text = c.in_ok-put_lines.ensures state balanced ∙ ap₂ (λ xs rows. xs ++ flat_map (line_text state) rows) c.new-text.ensures.items lines in
-    let second_text = c.in_ok-put_pallets.ensures.text honest (ap (λ s. s.lines) same ∙ sym lines) ∙ ap₂ (λ s rows. c.put_lines.new.out.items ++ flat_map (pallet_text s) rows) same pallets ∙ ap (λ xs. xs ++ flat_map (pallet_text state) state.pallets) first_text in
+    let first_text = c.in_ok-put_lines.ensures state balanced
+    ∙ ap₂ (λ xs rows. xs ++ flat_map (line_text state) rows) c.new-text.ensures.items lines in
+    let second_text = c.in_ok-put_pallets.ensures.text honest (ap (λ s. s.lines) same ∙ sym lines)
+    ∙ ap₂ (λ s rows. c.put_lines.new.out.items ++ flat_map (pallet_text s) rows) same pallets
+    ∙ ap (λ xs. xs ++ flat_map (pallet_text state) state.pallets) first_text in
     let third_text = c.in_ok-extend_from_slice.ensures.items ∙ ap (λ xs. xs ++ codes "end\n") second_text in
     c.done_reply.ensures ∙ ap done (c.from_vec-body.ensures ∙ third_text ∙ sym (report_is state))

@@ -7,7 +7,8 @@ use Rattle.hub_app.proofs.check.read_register_text.Goals as goal
 
 pub returns-then-len-gt-TEXT_LIMIT-clause-file : goal.returns-then-len-gt-TEXT_LIMIT-clause-file
 returns-then-len-gt-TEXT_LIMIT-clause-file g c = λ _.
-    inr (too_long (g.R.Source.remaining c.args.input.now) c.in_ok-bytes.bytes.items c.in_ok-bytes.ensures.whole (omega (arith, c.len.ensures, c.if-len-gt-TEXT_LIMIT.true)))
+    inr (too_long (g.R.Source.remaining c.args.input.now) c.in_ok-bytes.bytes.items c.in_ok-bytes.ensures.whole
+    (omega (arith, c.len.ensures, c.if-len-gt-TEXT_LIMIT.true)))
 
 pub returns-in-Ok-clause-text : goal.returns-in-Ok-clause-text
 returns-in-Ok-clause-text g c =
@@ -18,8 +19,10 @@ pub returns-in-Ok-clause-whole : goal.returns-in-Ok-clause-whole
 returns-in-Ok-clause-whole g c =
     let same : string_bytes c.in-Ok.text ≡ c.in_ok-bytes.bytes.items = ap (λ v. v.items) c.in-Ok.ensures.ok in
     subst (λ read. IfSome (g.R.Source.remaining c.args.input.now) (λ bytes. bytes ≡ read)) (sym same)
-    (whole (g.R.Source.remaining c.args.input.now) c.in_ok-bytes.bytes.items c.in_ok-bytes.ensures.whole (omega (arith, c.len.ensures, c.if-len-gt-TEXT_LIMIT.false)))
+    (whole (g.R.Source.remaining c.args.input.now) c.in_ok-bytes.bytes.items c.in_ok-bytes.ensures.whole
+    (omega (arith, c.len.ensures, c.if-len-gt-TEXT_LIMIT.false)))
 
 pub returns-clause-file : goal.returns-clause-file
 returns-clause-file g c = λ _.
-    inr (no_utf8 (g.R.Source.remaining c.args.input.now) c.in_ok-bytes.bytes.items c.in_ok-bytes.ensures.whole (omega (arith, c.len.ensures, c.if-len-gt-TEXT_LIMIT.false)) (λ utf8. false≢true (c.in-Err.ensures.succeeds utf8)))
+    inr (no_utf8 (g.R.Source.remaining c.args.input.now) c.in_ok-bytes.bytes.items c.in_ok-bytes.ensures.whole
+    (omega (arith, c.len.ensures, c.if-len-gt-TEXT_LIMIT.false)) (λ utf8. false≢true (c.in-Err.ensures.succeeds utf8)))

@@ -12,7 +12,8 @@ returns-then-is_ok-clause-done g c = λ _.
     let new = g.W.Sink.contents c.write_bytes.new.out in
     let written = at_ok c.write_bytes.result c.write_bytes.ensures.ok (sym c.is_ok.ensures.value ∙ c.if-is_ok.true) in
     let mail = subst (λ (t : List ℕ). Appends old new t) c.as_slice-in-Ok-relay_text.ensures.value written in (
-      is_delivered (g.R.Source.remaining c.args.input.now) c.args.words.now old new c.in-Ok.text.items c.as_slice.result.now c.in-Ok-relay_text.mail.items
+      is_delivered (g.R.Source.remaining c.args.input.now) c.args.words.now old new c.in-Ok.text.items c.as_slice.result.now
+          c.in-Ok-relay_text.mail.items
           c.in-Ok.ensures.whole c.as_slice.ensures.value c.in-Ok-relay_text.ensures mail,
       Keeps-refl (g.E.Sink.contents c.args.err.now),
     )
@@ -29,7 +30,8 @@ returns-in-Ok-relay_text-clause-failed g c = λ _.
       c.tell.ensures,
       inr (
         up,
-        is_front_delivered (g.R.Source.remaining c.args.input.now) c.args.words.now old new c.in-Ok.text.items c.as_slice.result.now c.in-Ok-relay_text.mail.items
+        is_front_delivered (g.R.Source.remaining c.args.input.now) c.args.words.now old new c.in-Ok.text.items
+            c.as_slice.result.now c.in-Ok-relay_text.mail.items
             c.in-Ok.ensures.whole c.as_slice.ensures.value c.in-Ok-relay_text.ensures mail,
       ),
     )
@@ -50,7 +52,8 @@ pub returns-clause-refused : goal.returns-clause-refused
 returns-clause-refused g c = λ _. (
   Keeps-refl (g.W.Sink.contents c.args.out.now),
   Envelope c.in-Err-Envelope.fault,
-  is_refused (g.R.Source.remaining c.args.input.now) c.args.words.now (Envelope c.in-Err-Envelope.fault) c.in-Ok.text.items c.as_slice.result.now
+  is_refused (g.R.Source.remaining c.args.input.now) c.args.words.now (Envelope c.in-Err-Envelope.fault) c.in-Ok.text.items
+      c.as_slice.result.now
       c.in-Ok.ensures.whole c.as_slice.ensures.value (rw c.in-Err-Envelope.field-0-is at c.in-Err-Envelope.ensures),
   c.tell_refusal-in-Err-Envelope.ensures,
 )
@@ -65,22 +68,27 @@ pub returns-clause-read : goal.returns-clause-read
 returns-clause-read g c = inl (c.in-Ok.ensures.kept (λ e. absurd cc))
 
 pub returns-then-is_ok-clause-stands : goal.returns-then-is_ok-clause-stands
-returns-then-is_ok-clause-stands g c = λ _. stands (g.R.Source.remaining c.args.input.now) _ c.in-Ok.text.items c.in-Ok.ensures.bytes c.in-Ok.ensures.whole
+returns-then-is_ok-clause-stands g c =
+    λ _. stands (g.R.Source.remaining c.args.input.now) _ c.in-Ok.text.items c.in-Ok.ensures.bytes c.in-Ok.ensures.whole
 
 pub returns-in-Err-Token-clause-stands : goal.returns-in-Err-Token-clause-stands
-returns-in-Err-Token-clause-stands g c = λ _. stands (g.R.Source.remaining c.args.input.now) _ c.in-Ok.text.items c.in-Ok.ensures.bytes c.in-Ok.ensures.whole
+returns-in-Err-Token-clause-stands g c =
+    λ _. stands (g.R.Source.remaining c.args.input.now) _ c.in-Ok.text.items c.in-Ok.ensures.bytes c.in-Ok.ensures.whole
 
 pub returns-clause-stands : goal.returns-clause-stands
-returns-clause-stands g c = λ _. stands (g.R.Source.remaining c.args.input.now) _ c.in-Ok.text.items c.in-Ok.ensures.bytes c.in-Ok.ensures.whole
+returns-clause-stands g c =
+    λ _. stands (g.R.Source.remaining c.args.input.now) _ c.in-Ok.text.items c.in-Ok.ensures.bytes c.in-Ok.ensures.whole
 
 pub returns-in-Err-clause-read : goal.returns-in-Err-clause-read
 returns-in-Err-clause-read g c =
-    elim (not_read c.in-Err.fault c.tell_read_fault.ensures.file c.tell_read_fault.ensures.memory c.in-Err.ensures.read c.in-Err.ensures.kept) [ inl h ↦ inr (c.tell_read_fault.ensures.status, h.0) | inr h ↦ inl h.1 ]
+    elim (not_read c.in-Err.fault c.tell_read_fault.ensures.file c.tell_read_fault.ensures.memory c.in-Err.ensures.read
+    c.in-Err.ensures.kept) [ inl h ↦ inr (c.tell_read_fault.ensures.status, h.0) | inr h ↦ inl h.1 ]
 
 pub returns-in-Err-clause-failed : goal.returns-in-Err-clause-failed
 returns-in-Err-clause-failed g c = λ _.
     let untouched = Keeps-refl (g.W.Sink.contents c.args.out.now) in
-    elim (not_read c.in-Err.fault c.tell_read_fault.ensures.file c.tell_read_fault.ensures.memory c.in-Err.ensures.read c.in-Err.ensures.kept) [ inl h ↦ inl (h.0, inl (h.1, untouched)) | inr h ↦ inr (h.0, untouched) ]
+    elim (not_read c.in-Err.fault c.tell_read_fault.ensures.file c.tell_read_fault.ensures.memory c.in-Err.ensures.read
+    c.in-Err.ensures.kept) [ inl h ↦ inl (h.0, inl (h.1, untouched)) | inr h ↦ inr (h.0, untouched) ]
 
 pub returns-in-Err-clause-refused : goal.returns-in-Err-clause-refused
 returns-in-Err-clause-refused g c = λ e. absurd (omega (arith, c.tell_read_fault.ensures.status, e))

@@ -9,15 +9,22 @@ use Rattle.hub_app.proofs.run.write_refusal.Goals as goal
 
 pub returns-in_err-write_bytes-clause-err : goal.returns-in_err-write_bytes-clause-err
 returns-in_err-write_bytes-clause-err g c =
-    on_err c.from_residual.result (front_of_first (g.E.Sink.contents c.args.err.now) (g.E.Sink.contents c.write_bytes.new.out) (codes "refused ") (code_of c.args.fault ++ codes "\n") c.in_err-write_bytes.ensures.err)
+    on_err c.from_residual.result
+    (front_of_first (g.E.Sink.contents c.args.err.now) (g.E.Sink.contents c.write_bytes.new.out) (codes "refused ")
+    (code_of c.args.fault ++ codes "\n") c.in_err-write_bytes.ensures.err)
 
 pub returns-in_err-write_bytes-2-clause-err : goal.returns-in_err-write_bytes-2-clause-err
 returns-in_err-write_bytes-2-clause-err g c =
     let code : c.as_bytes.result.now ≡ code_of c.args.fault = c.as_bytes.ensures.value ∙ c.code.ensures in
-    let middle = subst (λ (t : List ℕ). AppendsFront (g.E.Sink.contents c.write_bytes.new.out) (g.E.Sink.contents c.write_bytes-2.new.out) t) code c.in_err-write_bytes-2.ensures.err in
+    let middle = subst (λ (t : List ℕ).
+    AppendsFront (g.E.Sink.contents c.write_bytes.new.out) (g.E.Sink.contents c.write_bytes-2.new.out) t)
+    code c.in_err-write_bytes-2.ensures.err in
     on_err c.from_residual-in_err-write_bytes-2.result
-    (front_of_second (g.E.Sink.contents c.args.err.now) (g.E.Sink.contents c.write_bytes.new.out) (g.E.Sink.contents c.write_bytes-2.new.out) (codes "refused ") (code_of c.args.fault ++ codes "\n") c.in_ok-write_bytes.ensures.ok
-    (front_of_first (g.E.Sink.contents c.write_bytes.new.out) (g.E.Sink.contents c.write_bytes-2.new.out) (code_of c.args.fault) (codes "\n") middle))
+    (front_of_second (g.E.Sink.contents c.args.err.now) (g.E.Sink.contents c.write_bytes.new.out)
+    (g.E.Sink.contents c.write_bytes-2.new.out) (codes "refused ") (code_of c.args.fault ++ codes "\n")
+    c.in_ok-write_bytes.ensures.ok
+    (front_of_first (g.E.Sink.contents c.write_bytes.new.out) (g.E.Sink.contents c.write_bytes-2.new.out)
+    (code_of c.args.fault) (codes "\n") middle))
 
 pub returns-clause-err : goal.returns-clause-err
 returns-clause-err g c =

@@ -21,15 +21,23 @@ returns-in-Some-2 c =
     let lines : List LineFacts = c.loop-index.book in
     let next : List LineFacts → Verdict = λ left. units_from s advice orders units rest left in
     let all = c.as_slice-unit-items.result.now in
-    let ahead = ap (drop i) (sym c.as_slice-unit-items.ensures) ∙ drop_more all i unit c.loop-index-test.true ∙ ap₂ (λ one xs. one ∷ drop (i + 1) xs) (sym c.unit-item.is) c.as_slice-unit-items.ensures in
+    let ahead = ap (drop i) (sym c.as_slice-unit-items.ensures)
+    ∙ drop_more all i unit c.loop-index-test.true
+    ∙ ap₂ (λ one xs. one ∷ drop (i + 1) xs) (sym c.unit-item.is) c.as_slice-unit-items.ensures in
     let flag : Bool = get_or c.args.used.now i false in
-    let flags : drop i c.args.used.now ≡ flag ∷ rest = drop_more c.args.used.now i false (omega (arith, ap length c.as_slice-unit-items.ensures, c.requires, c.loop-index-test.true)) in
-    let pushed = c.in_ok-push.ensures.ok ∙ ap (λ change. c.loop-index.changes ++ change ∷ []) (c.in_ok-pallet.ensures ∙ ap (λ number. new_pallet s number unit.sscc) c.as_slice-number.ensures) in
+    let flags : drop i c.args.used.now ≡ flag ∷ rest =
+    drop_more c.args.used.now i false
+    (omega (arith, ap length c.as_slice-unit-items.ensures, c.requires, c.loop-index-test.true)) in
+    let pushed = c.in_ok-push.ensures.ok
+    ∙ ap (λ change. c.loop-index.changes ++ change ∷ [])
+    (c.in_ok-pallet.ensures ∙ ap (λ number. new_pallet s number unit.sscc) c.as_slice-number.ensures) in
     sym (c.loop-index.invariant
     ∙ ap₂ (λ us flags. joined c.loop-index.changes (units_from s advice orders us flags lines)) ahead flags
     ∙ unit_next s advice orders unit units flag rest c.loop-index.changes lines c.in_default.ensures.none
     ∙ ap (λ changes. joined changes (lines_from unit.sscc orders 0 unit.lines lines next)) (sym pushed)
-    ∙ subst (λ fault. IfSome fault (λ code. (next : List LineFacts → Verdict) → joined c.push.new.self (lines_from unit.sscc orders 0 unit.lines lines next) ≡ Refuse code)) c.in-Some-2.is c.in_ok-code.ensures.refused next)
+    ∙ subst (λ fault. IfSome fault (λ code. (next : List LineFacts → Verdict)
+    → joined c.push.new.self (lines_from unit.sscc orders 0 unit.lines lines next) ≡ Refuse code)) c.in-Some-2.is
+    c.in_ok-code.ensures.refused next)
 
 pub loop-index-preserved : goal.loop-index-preserved
 loop-index-preserved c =
@@ -43,12 +51,20 @@ loop-index-preserved c =
     let lines : List LineFacts = c.loop-index.book in
     let next : List LineFacts → Verdict = λ left. units_from s advice orders units rest left in
     let all = c.as_slice-unit-items.result.now in
-    let ahead = ap (drop i) (sym c.as_slice-unit-items.ensures) ∙ drop_more all i unit c.loop-index-test.true ∙ ap₂ (λ one xs. one ∷ drop (i + 1) xs) (sym c.unit-item.is) c.as_slice-unit-items.ensures in
+    let ahead = ap (drop i) (sym c.as_slice-unit-items.ensures)
+    ∙ drop_more all i unit c.loop-index-test.true
+    ∙ ap₂ (λ one xs. one ∷ drop (i + 1) xs) (sym c.unit-item.is) c.as_slice-unit-items.ensures in
     let flag : Bool = get_or c.args.used.now i false in
-    let flags : drop i c.args.used.now ≡ flag ∷ rest = drop_more c.args.used.now i false (omega (arith, ap length c.as_slice-unit-items.ensures, c.requires, c.loop-index-test.true)) in
-    let pushed = c.in_ok-push.ensures.ok ∙ ap (λ change. c.loop-index.changes ++ change ∷ []) (c.in_ok-pallet.ensures ∙ ap (λ number. new_pallet s number unit.sscc) c.as_slice-number.ensures) in
+    let flags : drop i c.args.used.now ≡ flag ∷ rest =
+    drop_more c.args.used.now i false
+    (omega (arith, ap length c.as_slice-unit-items.ensures, c.requires, c.loop-index-test.true)) in
+    let pushed = c.in_ok-push.ensures.ok
+    ∙ ap (λ change. c.loop-index.changes ++ change ∷ [])
+    (c.in_ok-pallet.ensures ∙ ap (λ number. new_pallet s number unit.sscc) c.as_slice-number.ensures) in
     c.loop-index.invariant
     ∙ ap₂ (λ us flags. joined c.loop-index.changes (units_from s advice orders us flags lines)) ahead flags
     ∙ unit_next s advice orders unit units flag rest c.loop-index.changes lines c.in_default.ensures.none
     ∙ ap (λ changes. joined changes (lines_from unit.sscc orders 0 unit.lines lines next)) (sym pushed)
-    ∙ subst (λ fault. IfNone fault ((next : List LineFacts → Verdict) → joined c.push.new.self (lines_from unit.sscc orders 0 unit.lines lines next) ≡ joined c.load.new.changes (next c.load.new.book))) c.in_default-2.is c.in_ok-code.ensures.loaded next
+    ∙ subst (λ fault. IfNone fault ((next : List LineFacts → Verdict)
+    → joined c.push.new.self (lines_from unit.sscc orders 0 unit.lines lines next)
+    ≡ joined c.load.new.changes (next c.load.new.book))) c.in_default-2.is c.in_ok-code.ensures.loaded next

@@ -21,15 +21,25 @@ loop-index-preserved c = λ next.
     let before : List LineFacts = c.loop-index.book in
     let rest = drop (i + 1) unit.lines in
     let all = c.as_slice-lines.result.now in
-    let ahead = ap (drop i) (sym c.as_slice-lines.ensures) ∙ drop_more all i said c.loop-index-test.true ∙ ap₂ (λ one xs. one ∷ drop (i + 1) xs) (sym c.index-lines-index.is) c.as_slice-lines.ensures in
-    let known : not (is_among said.order orders) ≡ false = ap not (sym (c.has.ensures ∙ ap (λ order. is_among order orders) c.as_slice-order.ensures) ∙ c.if-not-has.false) in
+    let ahead = ap (drop i) (sym c.as_slice-lines.ensures)
+    ∙ drop_more all i said c.loop-index-test.true
+    ∙ ap₂ (λ one xs. one ∷ drop (i + 1) xs) (sym c.index-lines-index.is) c.as_slice-lines.ensures in
+    let known : not (is_among said.order orders) ≡ false =
+    ap not (sym (c.has.ensures ∙ ap (λ order. is_among order orders) c.as_slice-order.ensures) ∙ c.if-not-has.false) in
     let number : List ℕ = c.in_ok-copied.field-0 in
     let found : facts_among (facts_of before said.order) said.order_line said.gtin ≡ Some line =
-    ap (λ order. facts_among (facts_of before order) said.order_line said.gtin) (sym c.as_slice-order.ensures) ∙ c.in-Some.ensures.some.1 ∙ c.line-line.ensures in
-    let content : Change = AddContent (record { sscc = unit.sscc; place = i + 1; number = number; line = row.line; quantity = said.quantity }) in
+    ap (λ order. facts_among (facts_of before order) said.order_line said.gtin) (sym c.as_slice-order.ensures)
+    ∙ c.in-Some.ensures.some.1
+    ∙ c.line-line.ensures in
+    let content : Change =
+    AddContent (record { sscc = unit.sscc; place = i + 1; number = number; line = row.line; quantity = said.quantity }) in
     let set : c.set.new.self ≡ with_row (answered_row line.row (row.open_qty - said.quantity) row.refused row.cancelled row.answer) before =
-    c.set.ensures line c.line-line.ensures ∙ ap (λ answer. with_row (answered_row line.row (row.open_qty - said.quantity) row.refused row.cancelled answer) before) c.case.ensures in
+    c.set.ensures line c.line-line.ensures
+    ∙ ap (λ answer. with_row (answered_row line.row (row.open_qty - said.quantity) row.refused row.cancelled answer) before)
+    c.case.ensures in
     c.loop-index.invariant next
     ∙ ap (λ said. joined c.loop-index.changes (lines_from unit.sscc orders i said before next)) ahead
-    ∙ despatched_next unit.sscc orders i said rest c.loop-index.changes before c.set.new.self line row number next known found c.in_default.ensures.none c.in_ok-row.ensures (c.in_ok-copied.ensures ∙ c.as_slice.ensures) set
-    ∙ ap (λ changes. joined changes (lines_from unit.sscc orders (i + 1) rest c.set.new.self next)) (sym (c.in_ok-push-2.ensures.ok ∙ ap (λ changes. changes ++ content ∷ []) c.in_ok-push.ensures.ok))
+    ∙ despatched_next unit.sscc orders i said rest c.loop-index.changes before c.set.new.self line row number next known
+    found c.in_default.ensures.none c.in_ok-row.ensures (c.in_ok-copied.ensures ∙ c.as_slice.ensures) set
+    ∙ ap (λ changes. joined changes (lines_from unit.sscc orders (i + 1) rest c.set.new.self next))
+    (sym (c.in_ok-push-2.ensures.ok ∙ ap (λ changes. changes ++ content ∷ []) c.in_ok-push.ensures.ok))

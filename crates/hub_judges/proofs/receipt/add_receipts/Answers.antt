@@ -1,4 +1,5 @@
-use Rattle.std.proofs.Common.{◌≡◌, ℕ, ◌+◌, ◌++◌, ◌∷◌, [], ◌<◌, length, get_or, drop, map, List, Option, Some, None, cond, sym, ◌∙◌, ap, subst, append_assoc}
+use Rattle.std.proofs.Common.{◌≡◌, ℕ, ◌+◌, ◌++◌, ◌∷◌, [], ◌<◌, length, get_or, drop, map, List, Option, Some, None, cond}
+use Rattle.std.proofs.Common.{sym, ◌∙◌, ap, subst, append_assoc}
 use Rattle.std.specs.BTreeMap.{get}
 use Rattle.std.specs.Cmp.Lexicographic.{slice_cmp}
 use Rattle.std.specs.Ordering.{nat_cmp}
@@ -15,7 +16,8 @@ pub loop-line-init : goal.loop-line-init
 loop-line-init c =
     let unit = c.args.unit.now in
     let totals : List ℕ → Option Total = get (slice_cmp nat_cmp) c.in_ok-totals.totals in
-    let are : (item : List ℕ) → totals item ≡ total_from None item unit.lines = λ item. c.in_ok-totals.ensures item ∙ ap (total_from None item) c.as_slice-lines.ensures in
+    let are : (item : List ℕ) → totals item ≡ total_from None item unit.lines =
+    λ item. c.in_ok-totals.ensures item ∙ ap (total_from None item) c.as_slice-lines.ensures in
     record {
       receipts = ap (λ gtins. c.args.changes.now ++ map (new_receipt unit.sscc unit.lines) gtins) (sym (all_left totals unit.lines are));
       sums = λ item sum e. sym (are item) ∙ e;
@@ -40,14 +42,18 @@ loop-line-preserved c =
         | in-Some+in_ok-push w ↦
             let there : old line.gtin ≡ Some w.in-Some.total = sym c.remove.ensures.value ∙ w.in-Some.is in
             let added : c.match-remove.changes ≡ so_far ++ receipt line.gtin ∷ [] =
-            w.changes-is ∙ w.in_ok-push.ensures.ok ∙ ap (λ one. so_far ++ one ∷ []) (receipt_is unit.sscc unit.lines line.gtin w.in-Some.total (c.loop-line.invariant.sums line.gtin w.in-Some.total there)) in
+            w.changes-is
+            ∙ w.in_ok-push.ensures.ok
+            ∙ ap (λ one. so_far ++ one ∷ []) (receipt_is unit.sscc unit.lines line.gtin w.in-Some.total
+            (c.loop-line.invariant.sums line.gtin w.in-Some.total there)) in
             c.loop-line.invariant.receipts
             ∙ ap (λ gtins. so_far ++ map receipt gtins) (left_taken unit.lines i line inside at old new becomes w.in-Some.total there)
             ∙ sym (append_assoc so_far (receipt line.gtin ∷ []) rest)
             ∙ ap (λ changes. changes ++ rest) (sym added)
         | in_default w ↦
             c.loop-line.invariant.receipts
-            ∙ ap (λ gtins. so_far ++ map receipt gtins) (left_passed unit.lines i line inside at old new becomes (sym c.remove.ensures.value ∙ w.in_default.is))
+            ∙ ap (λ gtins. so_far ++ map receipt gtins)
+            (left_passed unit.lines i line inside at old new becomes (sym c.remove.ensures.value ∙ w.in_default.is))
             ∙ ap (λ changes. changes ++ rest) (sym w.changes-is)
       ];
       sums = still_told old new line.gtin becomes unit.lines c.loop-line.invariant.sums;

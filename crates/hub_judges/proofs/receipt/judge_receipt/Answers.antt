@@ -26,18 +26,27 @@ returns c =
     let reference = referred_by s sides.Retailer incoming in
     let memory : Change = Remember (remembered reference incoming.content) in
     let entry : Change = mail_entry s.gln (known.mails + 1) incoming kinds.Receipt receipt.number body in
-    let mail : c.in_ok-mail.mail ≡ entry = c.in_ok-mail.ensures ∙ ap (λ number. mail_entry s.gln (known.mails + 1) incoming kinds.Receipt number body) c.as_slice-number.ensures in
+    let mail : c.in_ok-mail.mail ≡ entry =
+    c.in_ok-mail.ensures
+    ∙ ap (λ number. mail_entry s.gln (known.mails + 1) incoming kinds.Receipt number body) c.as_slice-number.ensures in
     let changes : c.push-2.new.self ≡ memory ∷ entry ∷ [] =
-    c.in_ok-push-2.ensures.ok ∙ ap₂ (λ (before : List Change) one. before ++ one ∷ []) (c.in_ok-push.ensures.ok ∙ ap₂ (λ (before : List Change) one. before ++ one ∷ []) c.new-changes.ensures c.remember.ensures) mail in
-    IfOk-weaker c.judge_units.result (λ verdict. verdict ≡ joined c.push-2.new.self (receipts_from c.as_slice-units.result.now c.as_slice-pallets.result.now)) _ (λ verdict judged state told.
+    c.in_ok-push-2.ensures.ok
+    ∙ ap₂ (λ (before : List Change) one. before ++ one ∷ []) (c.in_ok-push.ensures.ok
+    ∙ ap₂ (λ (before : List Change) one. before ++ one ∷ []) c.new-changes.ensures c.remember.ensures) mail in
+    IfOk-weaker c.judge_units.result (λ verdict.
+    verdict ≡ joined c.push-2.new.self (receipts_from c.as_slice-units.result.now c.as_slice-pallets.result.now)) _
+    (λ verdict judged state told.
     let row = remembered_of state sides.Retailer incoming.control incoming.message in
     let fresh : Verdict = joined (memory ∷ []) (judge_new_receipt s.gln incoming body receipt (apply memory state)) in
     judged
     ∙ ap (λ all. joined all (receipts_from c.as_slice-units.result.now c.as_slice-pallets.result.now)) changes
     ∙ ap₂ (λ units pallets. joined (memory ∷ entry ∷ []) (receipts_from units pallets)) c.as_slice-units.ensures c.as_slice-pallets.ensures
     ∙ sym (
-    c.in-Ok.ensures.ok (λ s. judge_once (referred_by s sides.Retailer incoming) incoming.content (judge_new_receipt s.gln incoming body receipt) state)
+    c.in-Ok.ensures.ok (λ s.
+    judge_once (referred_by s sides.Retailer incoming) incoming.content (judge_new_receipt s.gln incoming body receipt)
+    state)
     ∙ ap (λ content. once row content fresh) (sym c.as_slice.ensures)
     ∙ c.in_default.ensures.none row fresh told.remembered
-    ∙ new_receipt_alike memory s.gln incoming body receipt (apply memory state) known.mails known.pallets (sym c.is_full.ensures.value ∙ c.if-is_full.false) told.mails told.pallets c.requires.apart
+    ∙ new_receipt_alike memory s.gln incoming body receipt (apply memory state) known.mails known.pallets
+    (sym c.is_full.ensures.value ∙ c.if-is_full.false) told.mails told.pallets c.requires.apart
     )) c.judge_units.ensures

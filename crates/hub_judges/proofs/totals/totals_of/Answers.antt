@@ -13,7 +13,9 @@ pub with_line-total-requires : goal.with_line-total-requires
 with_line-total-requires c =
     let line = c.line-item.result in
     let old : Option Total = get (slice_cmp nat_cmp) c.loop-line.totals line.gtin in
-    let fit = subst (λ before. Fits before line) (sym c.total_so_far-before.ensures) (fits c.args.lines.now c.loop-line.line-index line c.loop-line-test.true c.line-item.is old c.requires (c.loop-line.invariant line.gtin)) in
+    let fit = subst (λ before. Fits before line) (sym c.total_so_far-before.ensures)
+    (fits c.args.lines.now c.loop-line.line-index line c.loop-line-test.true c.line-item.is old c.requires
+    (c.loop-line.invariant line.gtin)) in
     record { accepted = fit.accepted; returned = fit.returned; destroyed = fit.destroyed }
 
 pub loop-line-preserved : goal.loop-line-preserved
@@ -24,4 +26,6 @@ loop-line-preserved c =
     let new : List ℕ → Option Total = get (slice_cmp nat_cmp) c.insert.new.self in
     let becomes : (item : List ℕ) → new item ≡ cond (same line.gtin item) (Some sum) (old item) =
     λ item. c.in_ok-insert.ensures.updates.0 item ∙ ap (λ v. cond v (Some sum) (old item)) (is_eq-slice_cmp line.gtin item) in
-    totals_next c.args.lines.now c.loop-line.line-index line c.loop-line-test.true c.line-item.is old new sum becomes (c.with_line-total.ensures ∙ ap (λ before. spec.with_line before line) c.total_so_far-before.ensures) c.loop-line.invariant
+    totals_next c.args.lines.now c.loop-line.line-index line c.loop-line-test.true c.line-item.is old new sum becomes
+    (c.with_line-total.ensures ∙ ap (λ before. spec.with_line before line) c.total_so_far-before.ensures)
+    c.loop-line.invariant

@@ -9,4 +9,5 @@ returns-clause-told c first second s t u xs ys agree = both_told first second s 
 
 pub returns-clause-status : goal.returns-clause-status
 returns-clause-status c first second s t u xs xs_later ys ys_later x y before =
-    both_statuses first second s t u before.agree.here before.agree.there xs xs_later ys ys_later x y before.agree before.as_many before.asks before.asks_too
+    both_statuses first second s t u before.agree.here before.agree.there xs xs_later ys ys_later x y before.agree
+    before.as_many before.asks before.asks_too

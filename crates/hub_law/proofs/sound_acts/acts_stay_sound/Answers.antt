@@ -16,14 +16,18 @@ stay suppliers t free sound = record { sound = sound; rising = all_rise supplier
 
 pub returns-clause-suppliers : goal.returns-clause-suppliers
 returns-clause-suppliers c register s message incoming t here =
-    stay register.suppliers _ here.free (suppliers_act register.suppliers here.free (parties_of register) s here.known (message, incoming) t here.sound).apart.sound
+    stay register.suppliers _ here.free
+    (suppliers_act register.suppliers here.free (parties_of register) s here.known (message, incoming) t here.sound).apart.sound
 
 pub returns-clause-retailers : goal.returns-clause-retailers
-returns-clause-retailers c register message incoming t here = stay register.suppliers _ here.free (message_sound register here.free (message, incoming) t here.sound)
+returns-clause-retailers c register message incoming t here =
+    stay register.suppliers _ here.free (message_sound register here.free (message, incoming) t here.sound)
 
 pub returns-clause-cancellation : goal.returns-clause-cancellation
-returns-clause-cancellation c register cancellation t here = stay register.suppliers _ here.free (cancelled_sound register here.free Whole cancellation t here.sound)
+returns-clause-cancellation c register cancellation t here =
+    stay register.suppliers _ here.free (cancelled_sound register here.free Whole cancellation t here.sound)
 
 pub returns-clause-taken : goal.returns-clause-taken
 returns-clause-taken c register s number entry t here found =
-    stay register.suppliers _ here.free (taking_act register.suppliers here.free (parties_of register) s here.known number entry t here.sound found).sound
+    stay register.suppliers _ here.free
+    (taking_act register.suppliers here.free (parties_of register) s here.known number entry t here.sound found).sound

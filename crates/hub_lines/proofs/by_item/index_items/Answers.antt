@@ -12,5 +12,8 @@ loop-place-preserved c = λ item.
     let line = c.index-lines-place.result in
     let first = c.place_from-first.ensures ∙ ap (λ order. place_from order 0 (keys_of lines)) c.as_slice.ensures in
     c.loop-place.invariant item
-    ∙ item_step lines place line (get item_cmp c.loop-place.items) (get item_cmp c.insert.new.self) c.one_more-found.result (c.place_from-first.result, line.row.gtin) c.loop-place-test.true c.index-lines-place.is
-    (ap (λ n. (n, line.row.gtin)) first) (c.one_more-found.ensures ∙ ap (λ known. one_more known place) c.item_lines.ensures) c.in_ok-insert.ensures.updates.0 item
+    ∙ item_step lines place line (get item_cmp c.loop-place.items) (get item_cmp c.insert.new.self) c.one_more-found.result
+    (c.place_from-first.result, line.row.gtin) c.loop-place-test.true c.index-lines-place.is
+    (ap (λ n. (n, line.row.gtin)) first)
+    (c.one_more-found.ensures ∙ ap (λ known. one_more known place) c.item_lines.ensures) c.in_ok-insert.ensures.updates.0
+    item

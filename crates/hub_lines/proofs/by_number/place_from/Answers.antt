@@ -11,6 +11,10 @@ returns c =
     let lines = c.args.lines.now in
     let order = c.args.order.now in
     let number = c.args.line_number in
-    let point = c.partition_point.ensures.partitioned (λ (line : LineFacts). is_below order number (key_of line)) (search (rules, of_calls, always_returns_same))
+    let point =
+    c.partition_point.ensures.partitioned (λ (line : LineFacts). is_below order number (key_of line))
+    (search (rules, of_calls, always_returns_same))
     (parted key_total key_of (number_key order number) lines (rise_in_order lines c.requires)) in
-    from_point (λ line. is_below order number (key_of line)) lines c.partition_point.result c.partition_point.ensures.bound point ∙ prefix_len-map (is_below order number) key_of lines
+    from_point (λ line. is_below order number (key_of line)) lines c.partition_point.result c.partition_point.ensures.bound
+    point
+    ∙ prefix_len-map (is_below order number) key_of lines

@@ -9,5 +9,6 @@ use Rattle.hub_register.proofs.columns.glns.Given as goal
 abbrev pub invariant-loop-entry : goal.invariant-loop-entry
 invariant-loop-entry l = record {
   read : glns (rows_from l.document) ≡ l.glns.items ++ map (λ row. row.gln) (map row_in (drop l.entry-index l.document.suppliers.items));
-  right : list_all is_gln (glns (rows_from l.document)) ≡ list_all is_gln (map (λ row. row.gln) (map row_in (drop l.entry-index l.document.suppliers.items)));
+  right : list_all is_gln (glns (rows_from l.document))
+      ≡ list_all is_gln (map (λ row. row.gln) (map row_in (drop l.entry-index l.document.suppliers.items)));
 }

@@ -7,6 +7,8 @@ use Rattle.hub_register.proofs.columns.prefixes.Given as goal
 -- the prefixes of all rows are those read so far, which are valid, and those of the rest
 abbrev pub invariant-loop-entry : goal.invariant-loop-entry
 invariant-loop-entry l = record {
-  read : flat_map (λ row. row.prefixes) (map row_in l.entries) ≡ l.prefixes.items ++ flat_map (λ row. row.prefixes) (map row_in (drop l.entry-index l.entries));
-  right : list_all is_prefix (flat_map (λ row. row.prefixes) (map row_in l.entries)) ≡ list_all is_prefix (flat_map (λ row. row.prefixes) (map row_in (drop l.entry-index l.entries)));
+  read : flat_map (λ row. row.prefixes) (map row_in l.entries)
+      ≡ l.prefixes.items ++ flat_map (λ row. row.prefixes) (map row_in (drop l.entry-index l.entries));
+  right : list_all is_prefix (flat_map (λ row. row.prefixes) (map row_in l.entries))
+      ≡ list_all is_prefix (flat_map (λ row. row.prefixes) (map row_in (drop l.entry-index l.entries)));
 }

@@ -11,12 +11,22 @@ use Rattle.hub_register.proofs.Rest.{same_row, prefixes_are, at_place, prefix_at
 use Rattle.hub_register.proofs.columns.suppliers.Goals as goal
 
 abbrev nothing : Entry
-nothing = record { gln = record { ref_ptr = (0, 0); now = [] }; prefix = record { ref_ptr = (0, 0); now = [] }; key = record { ref_ptr = (0, 0); now = [] } }
+nothing =
+    record {
+      gln = record { ref_ptr = (0, 0); now = [] };
+      prefix = record { ref_ptr = (0, 0); now = [] };
+      key = record { ref_ptr = (0, 0); now = [] };
+    }
 
 pub bounds-prefixes-place : goal.bounds-prefixes-place
 bounds-prefixes-place c =
     let entries = c.args.entries.now in
-    omega (arith, ap length (c.requires.prefixes ∙ prefixes_are entries), length-map entries (λ (entry : Entry). entry.prefix.now), c.loop-place-test.true)
+    omega (
+      arith,
+      ap length (c.requires.prefixes ∙ prefixes_are entries),
+      length-map entries (λ (entry : Entry). entry.prefix.now),
+      c.loop-place-test.true,
+    )
 
 pub loop-place-preserved : goal.loop-place-preserved
 loop-place-preserved c =
@@ -29,7 +39,8 @@ loop-place-preserved c =
     (at_place entries i nothing within (λ r. r.gln) _ _ c.requires.glns c.index-glns-place.is)
     (prefix_at_place entries i nothing within _ _ c.requires.prefixes c.index-prefixes-place.is)
     c.in_ok-key.ensures.ok.0 in
-    let entered = c.in_ok-insert.ensures.entries ∙ ap (λ r. insert_entry by_gln c.loop-place.suppliers.entries row.gln r) c.in_ok-row.ensures.ok in
+    let entered = c.in_ok-insert.ensures.entries
+    ∙ ap (λ r. insert_entry by_gln c.loop-place.suppliers.entries row.gln r) c.in_ok-row.ensures.ok in
     let before : AtGln c.loop-place.suppliers.entries = c.loop-place.invariant.at_gln in
     record {
       rows = c.loop-place.invariant.rows ∙ rows_next entries i nothing within (values c.loop-place.suppliers)

@@ -11,5 +11,6 @@ abbrev pub invariant-loop-place : goal.invariant-loop-place
 invariant-loop-place l = record {
   rows : put_all (map row_in l.entries) [] ≡ put_all (map row_in (drop l.place l.entries)) (values l.suppliers);
   at_gln : keys l.suppliers ≡ map (λ row. row.gln) (values l.suppliers);
-  right : list_all is_party_key (map (λ row. row.key) (map row_in l.entries)) ≡ list_all is_party_key (map (λ row. row.key) (map row_in (drop l.place l.entries)));
+  right : list_all is_party_key (map (λ row. row.key) (map row_in l.entries))
+      ≡ list_all is_party_key (map (λ row. row.key) (map row_in (drop l.place l.entries)));
 }

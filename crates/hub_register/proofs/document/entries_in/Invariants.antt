@@ -7,4 +7,6 @@ use Rattle.hub_register.proofs.document.entries_in.Given as goal
 
 -- the rows of all values are those read so far and those of the rest
 abbrev pub invariant-loop-value : goal.invariant-loop-value
-invariant-loop-value l = suppliers_in (items_view l.values) ≡ after (map row_in l.entries.items) (suppliers_in (items_view (drop l.value-index l.values)))
+invariant-loop-value l =
+    suppliers_in (items_view l.values)
+    ≡ after (map row_in l.entries.items) (suppliers_in (items_view (drop l.value-index l.values)))

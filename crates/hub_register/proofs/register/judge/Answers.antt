@@ -20,12 +20,20 @@ assembled-requires-clause-right c =
     let same : entries ≡ items = c.as_slice-entries.ensures.value in
     let few : length rows.suppliers ≤ 1000 = omega (arith, length-map items row_in, ap length same, c.if-entries-gt-MOST_SUPPLIERS.false) in
     let read = c.in_ok-glns.ensures.ok in
-    let once : has_twice (glns rows) ≡ false = sym (ap has_twice read.0) ∙ sym (ap has_twice c.as_slice.ensures.value) ∙ sym c.in_ok-has_twice.ensures.ok ∙ c.if-branch.false in
+    let once : has_twice (glns rows) ≡ false =
+    sym (ap has_twice read.0)
+    ∙ sym (ap has_twice c.as_slice.ensures.value)
+    ∙ sym c.in_ok-has_twice.ensures.ok
+    ∙ c.if-branch.false in
     let prefix : list_all is_prefix (prefixes rows) ≡ true = rw (← same) c.in_ok-prefixes.ensures.ok.1 in
-    let key : list_all is_party_key (keys rows) ≡ true = ap₂ (λ a b. a && b) c.in_ok-retailer_key.ensures.ok.1 (rw (← same) c.in_ok-suppliers.ensures.keys) in
+    let key : list_all is_party_key (keys rows) ≡ true =
+    ap₂ (λ a b. a && b) c.in_ok-retailer_key.ensures.ok.1 (rw (← same) c.in_ok-suppliers.ensures.keys) in
     let free : PrefixFree (company_prefixes rows.suppliers) =
-    subst PrefixFree (ap (map (λ p. p ∷ [])) (c.as_slice-3.ensures.value ∙ c.in_ok-prefixes.ensures.ok.0) ∙ one_each entries ∙ ap (λ es. company_prefixes (map row_in es)) same) (c.in_default.ensures.free.0 refl) in
+    subst PrefixFree (ap (map (λ p. p ∷ [])) (c.as_slice-3.ensures.value ∙ c.in_ok-prefixes.ensures.ok.0)
+    ∙ one_each entries
+    ∙ ap (λ es. company_prefixes (map row_in es)) same) (c.in_default.ensures.free.0 refl) in
     subst IsRegister
-    (same_rows _ _ _ _ rows (c.index.ensures ∙ ap (λ xs. get_or xs 0 c.index.result.now) read.0) (c.index-2.ensures ∙ ap (λ xs. get_or xs 1 c.index-2.result.now) read.0) c.in_ok-retailer_key.ensures.ok.0
+    (same_rows _ _ _ _ rows (c.index.ensures ∙ ap (λ xs. get_or xs 0 c.index.result.now) read.0)
+    (c.index-2.ensures ∙ ap (λ xs. get_or xs 1 c.index-2.result.now) read.0) c.in_ok-retailer_key.ensures.ok.0
     (c.in_ok-suppliers.ensures.rows ∙ ap (λ es. put_all (map row_in es) []) same))
     (register_right rows few read.1 once prefix key free)

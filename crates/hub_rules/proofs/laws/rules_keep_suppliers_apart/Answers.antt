@@ -9,20 +9,25 @@ use Rattle.hub_rules.proofs.laws.rules_keep_suppliers_apart.Goals as goal
 
 pub returns-clause-order : goal.returns-clause-order
 returns-clause-order c suppliers s t retailer incoming body order changes here single h =
-    apart_from suppliers here.free s here.known t here.sound changes (leads_order s retailer incoming body order single (view s.gln t) changes (good_view suppliers s t here.sound) h)
+    apart_from suppliers here.free s here.known t here.sound changes
+    (leads_order s retailer incoming body order single (view s.gln t) changes (good_view suppliers s t here.sound) h)
 
 pub returns-clause-response : goal.returns-clause-response
 returns-clause-response c suppliers s t retailer incoming response changes here h =
-    apart_from suppliers here.free s here.known t here.sound changes (leads_response s retailer incoming response (view s.gln t) changes (good_view suppliers s t here.sound) h)
+    apart_from suppliers here.free s here.known t here.sound changes
+    (leads_response s retailer incoming response (view s.gln t) changes (good_view suppliers s t here.sound) h)
 
 pub returns-clause-despatch : goal.returns-clause-despatch
 returns-clause-despatch c suppliers s t retailer used incoming despatch changes here h =
-    apart_from suppliers here.free s here.known t here.sound changes (leads_despatch s retailer used incoming despatch (view s.gln t) changes (good_view suppliers s t here.sound) h)
+    apart_from suppliers here.free s here.known t here.sound changes
+    (leads_despatch s retailer used incoming despatch (view s.gln t) changes (good_view suppliers s t here.sound) h)
 
 pub returns-clause-receipt : goal.returns-clause-receipt
 returns-clause-receipt c suppliers s t retailer incoming body receipt changes here h =
-    apart_from suppliers here.free s here.known t here.sound changes (leads_receipt s retailer incoming body receipt (view s.gln t) changes (good_view suppliers s t here.sound) h)
+    apart_from suppliers here.free s here.known t here.sound changes
+    (leads_receipt s retailer incoming body receipt (view s.gln t) changes (good_view suppliers s t here.sound) h)
 
 pub returns-clause-cancel : goal.returns-clause-cancel
 returns-clause-cancel c suppliers s t content cancel changes here h =
-    apart_from suppliers here.free s here.known t here.sound changes (leads_cancel s content cancel (view s.gln t) changes (good_view suppliers s t here.sound) h)
+    apart_from suppliers here.free s here.known t here.sound changes
+    (leads_cancel s content cancel (view s.gln t) changes (good_view suppliers s t here.sound) h)

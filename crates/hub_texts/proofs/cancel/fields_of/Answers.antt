@@ -1,7 +1,7 @@
 use Rattle.std.proofs.Common.{◌<◌, ◌∷◌, List, ℕ, length, ap, ◌∙◌, arith}
 use Rattle.std.proofs.lemmas.Bool.Decides.{nat_tests}
 use Rattle.hub_texts.specs.Cancel.{cancel_in}
-use Rattle.hub_texts.proofs.Cutting.{more_behind}
+use Rattle.hub_texts.proofs.Cutting.{more_after}
 use Rattle.hub_texts.proofs.cancel.fields_of.Goals as goal
 
 pub returns-then-not-is_empty-clause-none : goal.returns-then-not-is_empty-clause-none
@@ -18,4 +18,4 @@ returns-then-not-is_empty-clause-none c =
     ∙ ap (λ (parts : List (List ℕ)). reference ∷ parts) (c.in_ok-order.ensures.some
     ∙ ap (λ (parts : List (List ℕ)). order ∷ parts) (c.in_ok-line.ensures.some
     ∙ ap (λ (parts : List (List ℕ)). line ∷ parts) c.in_ok-quantity.ensures.some))))
-    ∙ more_behind supplier reference order line quantity rest some
+    ∙ more_after supplier reference order line quantity rest some

@@ -4,7 +4,8 @@ use Rattle.hub_texts.proofs.cancel.first_line.Goals as goal
 
 pub returns-in-Some-clause-some : goal.returns-in-Some-clause-some
 returns-in-Some-clause-some c =
-    cut_at c.args.text.now c.split_at.result.0.now c.split_at.result.1.now c.line_len.result c.in-Some.field-0-0.now c.in-Some.behind.now c.line_len.ensures.value c.split_at.ensures.front c.split_at.ensures.back c.in-Some.ensures.cases.0
+    cut_at c.args.text.now c.split_at.result.0.now c.split_at.result.1.now c.line_len.result c.in-Some.field-0-0.now
+    c.in-Some.after.now c.line_len.ensures.value c.split_at.ensures.front c.split_at.ensures.back c.in-Some.ensures.cases.0
 
 pub returns-in-None-clause-none : goal.returns-in-None-clause-none
 returns-in-None-clause-none c =

@@ -5,4 +5,5 @@ use Rattle.hub_texts.proofs.cancel.line_len.Given as goal
 
 -- no line has ended so far
 abbrev pub invariant-loop-place : goal.invariant-loop-place
-invariant-loop-place l = prefix_len (λ byte. not (is_end byte)) l.text ≡ l.place + prefix_len (λ byte. not (is_end byte)) (drop l.place l.text)
+invariant-loop-place l =
+    prefix_len (λ byte. not (is_end byte)) l.text ≡ l.place + prefix_len (λ byte. not (is_end byte)) (drop l.place l.text)

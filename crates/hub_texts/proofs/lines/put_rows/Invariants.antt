@@ -5,4 +5,6 @@ use Rattle.hub_texts.specs.Lines.{text_with, rest_of}
 use Rattle.hub_texts.proofs.lines.put_rows.Given as goal
 
 abbrev pub invariant-loop-row : goal.invariant-loop-row
-invariant-loop-row l = l.out.items ++ flat_map (λ (row : LineRow). text_with row (rest_of row)) (drop l.row-index l.rows) ≡ l.fn.out.items ++ flat_map (λ (row : LineRow). text_with row (rest_of row)) l.rows
+invariant-loop-row l =
+    l.out.items ++ flat_map (λ (row : LineRow). text_with row (rest_of row)) (drop l.row-index l.rows)
+    ≡ l.fn.out.items ++ flat_map (λ (row : LineRow). text_with row (rest_of row)) l.rows

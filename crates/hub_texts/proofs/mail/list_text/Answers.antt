@@ -9,6 +9,8 @@ use Rattle.hub_texts.proofs.mail.list_text.Goals as goal
 pub returns : goal.returns
 returns c = λ all h.
     c.from_vec.ensures ∙ c.in_ok-put_line.ensures
-    ∙ ap₂ (λ (items word : List ℕ). items ++ line (word ∷ [])) (c.in_ok-put_entries.ensures ∙ ap₂ (λ (items : List ℕ) (entries : List MailRow). items ++ flat_map entry_line entries) c.new-out.ensures.items c.listed.ensures)
+    ∙ ap₂ (λ (items word : List ℕ). items ++ line (word ∷ [])) (c.in_ok-put_entries.ensures
+    ∙ ap₂ (λ (items : List ℕ) (entries : List MailRow). items ++ flat_map entry_line entries) c.new-out.ensures.items
+    c.listed.ensures)
     (c.as_bytes.ensures.value ∙ c.last_word.ensures)
     ∙ list_of_first all c.args.entries.now h

@@ -16,7 +16,8 @@ returns c =
     (joined out date (codes ":")
     (c.in_ok-extend_from_slice.ensures.items ∙ ap (λ (digits : List ℕ). out ++ digits) c.date_digits.ensures)
     c.in_ok-extend_from_slice-2.ensures.items)
-    (c.in_ok-extend_from_slice-3.ensures.items ∙ ap (λ (digits : List ℕ). c.extend_from_slice-2.new.self.items ++ digits) c.time_digits.ensures))
+    (c.in_ok-extend_from_slice-3.ensures.items
+    ∙ ap (λ (digits : List ℕ). c.extend_from_slice-2.new.self.items ++ digits) c.time_digits.ensures))
     c.in_ok-extend_from_slice-4.ensures.items)
     c.in_ok-extend_from_slice-5.ensures.items)
     c.in_ok-extend_from_slice-6.ensures.items

@@ -13,7 +13,9 @@ returns c =
     (joined out (start ++ hub ++ qualifier) owner
     (joined out (start ++ hub) qualifier
     (joined out start hub c.in_ok-extend_from_slice.ensures.items
-    (c.in_ok-extend_from_slice-2.ensures.items ∙ ap (λ (digits : List ℕ). c.extend_from_slice.new.self.items ++ digits) c.digits.ensures.value))
+    (c.in_ok-extend_from_slice-2.ensures.items
+    ∙ ap (λ (digits : List ℕ). c.extend_from_slice.new.self.items ++ digits) c.digits.ensures.value))
     c.in_ok-extend_from_slice-3.ensures.items)
-    (c.in_ok-extend_from_slice-4.ensures.items ∙ ap (λ (digits : List ℕ). c.extend_from_slice-3.new.self.items ++ digits) c.digits-2.ensures.value))
+    (c.in_ok-extend_from_slice-4.ensures.items
+    ∙ ap (λ (digits : List ℕ). c.extend_from_slice-3.new.self.items ++ digits) c.digits-2.ensures.value))
     c.in_ok-extend_from_slice-5.ensures.items

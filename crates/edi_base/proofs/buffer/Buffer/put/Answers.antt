@@ -9,5 +9,8 @@ returns-in_err-flush-clause-bytes g c =
 
 pub returns-then-bytes-gt-ROOM-clause-bytes : goal.returns-then-bytes-gt-ROOM-clause-bytes
 returns-then-bytes-gt-ROOM-clause-bytes g c =
-    let flushed = goes_put {ahead = c.args.bytes.now} (goes_none (g.W.Sink.contents c.args.out.now) c.args.self.now c.args.bytes.now) c.in_ok-flush.ensures.bytes in
-    rw c.in_ok-flush.ensures.empty (puts_last c.write_whole.result (g.W.Sink.contents c.write_whole.new.out) [] flushed c.write_whole.ensures.bytes)
+    let flushed = goes_put {ahead = c.args.bytes.now}
+    (goes_none (g.W.Sink.contents c.args.out.now) c.args.self.now c.args.bytes.now)
+    c.in_ok-flush.ensures.bytes in
+    rw c.in_ok-flush.ensures.empty
+    (puts_last c.write_whole.result (g.W.Sink.contents c.write_whole.new.out) [] flushed c.write_whole.ensures.bytes)

@@ -11,4 +11,5 @@ returns-clause-apart c =
     let segments = c.as_slice-segments.result.now in
     let order = c.in_ok-order.order.now in
     let units_are : c.in_ok-units_of.field-0 ≡ map (spec.unit_from order) (read_units segments) = search rules in
-    ap (λ (units : List DespatchUnit). has_twice (map (λ unit. unit.sscc) units)) units_are ∙ despatch_units_apart order segments c.in_ok-ssccs.ensures.ok.1
+    ap (λ (units : List DespatchUnit). has_twice (map (λ unit. unit.sscc) units)) units_are
+    ∙ despatch_units_apart order segments c.in_ok-ssccs.ensures.ok.1

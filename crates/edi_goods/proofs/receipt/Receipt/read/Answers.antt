@@ -11,7 +11,8 @@ pub returns-clause-apart : goal.returns-clause-apart
 returns-clause-apart c =
     let segments = c.as_slice-segments.result.now in
     let units_are : c.in_ok-units_of.field-0 ≡ map spec.unit_from (read_units segments) = search rules in
-    ap (λ (units : List ReceiptUnit). has_twice (map (λ unit. unit.sscc) units)) units_are ∙ receipt_units_apart segments c.in_ok-ssccs.ensures.ok.1
+    ap (λ (units : List ReceiptUnit). has_twice (map (λ unit. unit.sscc) units)) units_are
+    ∙ receipt_units_apart segments c.in_ok-ssccs.ensures.ok.1
 
 pub returns-clause-sums : goal.returns-clause-sums
 returns-clause-sums c =

@@ -12,4 +12,5 @@ loop-byte-preserved c =
     let rest : take (length after - count) (drop count after) ≡ drop count after = take_all _ _ (omega (arith, length-drop count after)) in
     let so_far = sym (ap (run (reading_of c.loop-byte.self)) c.in-Some.ensures.cases.0) ∙ c.loop-byte.invariant in
     ap (run (reading_of c.push_plain.new.self)) rest
-    ∙ goes_on (reading_of c.loop-byte.self) (reading_of c.push.new.self) (reading_of c.push_plain.new.self) c.in-Some.byte.now count after _ c.in_ok-push.ensures c.in_ok-count.ensures.taken so_far
+    ∙ goes_on (reading_of c.loop-byte.self) (reading_of c.push.new.self) (reading_of c.push_plain.new.self)
+    c.in-Some.byte.now count after _ c.in_ok-push.ensures c.in_ok-count.ensures.taken so_far

@@ -10,5 +10,6 @@ invariant_of-result c = rw c.in_field.ensures (HoldsPrefix-filled c.args.text.no
 pub returns-clause-value : goal.returns-clause-value
 returns-clause-value c =
     let text = c.args.text.now in
-    let digits : take (length text) c.in_field.result ≡ text = ap (take (length text)) c.in_field.ensures ∙ take_at text _ (length text) refl in
+    let digits : take (length text) c.in_field.result ≡ text =
+    ap (take (length text)) c.in_field.ensures ∙ take_at text _ (length text) refl in
     found _ _ text _ (Decides-is_prefix text) (c.if-not-is_prefix.ensures.0 refl) digits

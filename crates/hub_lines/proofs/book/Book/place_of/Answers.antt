@@ -6,15 +6,27 @@ use Rattle.hub_lines.proofs.book.Book.place_of.Goals as goal
 
 pub returns-in-Some-clause-some : goal.returns-in-Some-clause-some
 returns-in-Some-clause-some c =
-    subst (λ number. IfSome c.place_by_number.result (λ place. (place < length c.args.self.now) × (facts_among (facts_of c.args.self.now c.args.order.now) number c.args.gtin.now ≡ slice_get c.args.self.now place))) (sym c.in-Some.is)
-    (subst (λ (lines : List LineFacts). IfSome c.place_by_number.result (λ place. (place < length lines) × (facts_among (facts_of lines c.args.order.now) (Some c.in-Some.line_number) c.args.gtin.now ≡ slice_get lines place))) (c.as_slice.ensures.value ∙ c.self.view_is) c.place_by_number.ensures.some)
+    subst (λ number. IfSome c.place_by_number.result (λ place. (place < length c.args.self.now)
+    × (facts_among (facts_of c.args.self.now c.args.order.now) number c.args.gtin.now ≡ slice_get c.args.self.now place)))
+    (sym c.in-Some.is)
+    (subst (λ (lines : List LineFacts). IfSome c.place_by_number.result (λ place. (place < length lines)
+    × (facts_among (facts_of lines c.args.order.now) (Some c.in-Some.line_number) c.args.gtin.now
+    ≡ slice_get lines place))) (c.as_slice.ensures.value ∙ c.self.view_is) c.place_by_number.ensures.some)
 
 pub returns-in-None-clause-some : goal.returns-in-None-clause-some
 returns-in-None-clause-some c =
-    subst (λ number. IfSome c.place_by_item.result (λ place. (place < length c.args.self.now) × (facts_among (facts_of c.args.self.now c.args.order.now) number c.args.gtin.now ≡ slice_get c.args.self.now place))) (sym c.in-None.is)
-    (subst (λ (lines : List LineFacts). IfSome c.place_by_item.result (λ place. (place < length lines) × (facts_among (facts_of lines c.args.order.now) None c.args.gtin.now ≡ slice_get lines place))) (c.as_slice-in-None.ensures.value ∙ c.self.view_is) c.place_by_item.ensures.some)
+    subst (λ number. IfSome c.place_by_item.result (λ place. (place < length c.args.self.now)
+    × (facts_among (facts_of c.args.self.now c.args.order.now) number c.args.gtin.now ≡ slice_get c.args.self.now place)))
+    (sym c.in-None.is)
+    (subst (λ (lines : List LineFacts). IfSome c.place_by_item.result (λ place. (place < length lines)
+    × (facts_among (facts_of lines c.args.order.now) None c.args.gtin.now ≡ slice_get lines place)))
+    (c.as_slice-in-None.ensures.value ∙ c.self.view_is) c.place_by_item.ensures.some)
 
 pub returns-in-None-clause-none : goal.returns-in-None-clause-none
 returns-in-None-clause-none c =
-    subst (λ number. IfNone c.place_by_item.result (facts_among (facts_of c.args.self.now c.args.order.now) number c.args.gtin.now ≡ None)) (sym c.in-None.is)
-    (subst (λ (lines : List LineFacts). IfNone c.place_by_item.result (facts_among (facts_of lines c.args.order.now) None c.args.gtin.now ≡ None)) (c.as_slice-in-None.ensures.value ∙ c.self.view_is) c.place_by_item.ensures.none)
+    subst (λ number.
+    IfNone c.place_by_item.result (facts_among (facts_of c.args.self.now c.args.order.now) number c.args.gtin.now ≡ None))
+    (sym c.in-None.is)
+    (subst (λ (lines : List LineFacts).
+    IfNone c.place_by_item.result (facts_among (facts_of lines c.args.order.now) None c.args.gtin.now ≡ None))
+    (c.as_slice-in-None.ensures.value ∙ c.self.view_is) c.place_by_item.ensures.none)

@@ -8,7 +8,8 @@ use Rattle.hub_lines.proofs.book.Book.set.Goals as goal
 
 pub invariant_of-self : goal.invariant_of-self
 invariant_of-self c =
-    answered_kept c.self.inside.lines.items c.self.inside.items c.args.place c.index_mut-line.result.now c.args.open_qty c.args.refused c.args.cancelled c.of-line.result c.self.invariant
+    answered_kept c.self.inside.lines.items c.self.inside.items c.args.place c.index_mut-line.result.now c.args.open_qty
+    c.args.refused c.args.cancelled c.of-line.result c.self.invariant
     (subst (λ (lines : List LineFacts). c.args.place < length lines) (sym c.self.view_is) c.requires) c.index_mut-line.ensures.value
 
 pub returns : goal.returns
@@ -16,8 +17,10 @@ returns c = λ line at.
     let lines = c.self.inside.lines.items in
     let old = c.index_mut-line.result.now in
     let within = subst (λ (xs : List LineFacts). c.args.place < length xs) (sym c.self.view_is) c.requires in
-    let here : slice_get lines c.args.place ≡ Some old = slice_get-get_or lines c.args.place old within ∙ ap Some (sym c.index_mut-line.ensures.value) in
+    let here : slice_get lines c.args.place ≡ Some old =
+    slice_get-get_or lines c.args.place old within ∙ ap Some (sym c.index_mut-line.ensures.value) in
     let it : old ≡ line = same_Some old line (sym here ∙ ap (λ xs. slice_get xs c.args.place) c.self.view_is ∙ at) in
     answered_is lines c.args.place old c.args.open_qty c.args.refused c.args.cancelled c.of-line.result c.self.invariant.rise here
-    ∙ ap₂ (λ (one : LineFacts) letter. with_row (answered_row one.row c.args.open_qty c.args.refused c.args.cancelled letter) lines) it c.of-line.ensures
+    ∙ ap₂ (λ (one : LineFacts) letter.
+    with_row (answered_row one.row c.args.open_qty c.args.refused c.args.cancelled letter) lines) it c.of-line.ensures
     ∙ ap (with_row (answered_row line.row c.args.open_qty c.args.refused c.args.cancelled (answer_letter c.args.answer))) c.self.view_is

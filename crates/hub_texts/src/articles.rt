@@ -1,16 +1,16 @@
-//! The item that a content of a pallet has.
+//! The article that a content of a pallet has.
 ghost use Rattle.std.specs.Prelude.{◌≡◌, ◌==◌, ◌&&◌};
 ghost use Rattle.std.specs.List.{prefix_len};
 ghost use Rattle.hub_tables.specs.Rows.{same};
 ghost use Rattle.hub_tables.specs.Sets.{Rises};
-ghost use Rattle.hub_texts.specs.Items as spec;
+ghost use Rattle.hub_texts.specs.Articles as spec;
 
 use gs1_ids::Gtin;
 use hub_tables::{ContentRow, LineRow};
 
-// Whether a line is below the one that a content names.
-fn is_below(row: &LineRow, content: &ContentRow) -> bool
-    ensures { result ≡ spec.is_below content.now row.now }
+// Whether a line stands before the one that a content names.
+fn precedes_named(row: &LineRow, content: &ContentRow) -> bool
+    ensures { result ≡ spec.precedes_named content.now row.now }
 {
     row.number
         .as_slice()
@@ -19,12 +19,12 @@ fn is_below(row: &LineRow, content: &ContentRow) -> bool
         .is_lt()
 }
 
-// How many lines are below the one that a content names.
-fn count_below(lines: &[LineRow], content: &ContentRow) -> usize
+// How many lines stand before the one that a content names.
+fn count_before(lines: &[LineRow], content: &ContentRow) -> usize
     requires { Rises spec.place_cmp lines.now }
-    ensures { result ≡ prefix_len (spec.is_below content.now) lines.now }
+    ensures { result ≡ prefix_len (spec.precedes_named content.now) lines.now }
 {
-    lines.partition_point(|row| is_below(row, content))
+    lines.partition_point(|row| precedes_named(row, content))
 }
 
 // Whether a line is the one that a content names.
@@ -34,12 +34,12 @@ fn is_named(row: &LineRow, content: &ContentRow) -> bool
     row.number.as_slice() == content.number.as_slice() && row.line == content.line
 }
 
-/// The item of the line that a content names.
-pub(crate) fn item_of(lines: &[LineRow], content: &ContentRow) -> Option<Gtin>
+/// The article of the line that a content names.
+pub(crate) fn article_of(lines: &[LineRow], content: &ContentRow) -> Option<Gtin>
     requires { Rises spec.place_cmp lines.now }
-    ensures { result ≡ spec.item_among lines.now content.now }
+    ensures { result ≡ spec.article_among lines.now content.now }
 {
-    match lines.get(count_below(lines, content)) {
+    match lines.get(count_before(lines, content)) {
         Some(row) if is_named(row, content) => Some(row.gtin),
         _ => None,
     }

@@ -1,0 +1,21 @@
+use Rattle.std.proofs.Common.{◌≡◌, ap, ◌∙◌}
+use Rattle.hub_tables.specs.State.{lines_of}
+use Rattle.hub_tables.specs.Tables.{view}
+use Rattle.hub_judges.specs.Known.{rows}
+use Rattle.hub_acts.proofs.LookUps.{lines_known, despatched_known}
+use Rattle.hub_acts.proofs.knowing.known_of_order.Goals as goal
+
+pub returns-clause-told : goal.returns-clause-told
+returns-clause-told g c = λ honest.
+    let supplier = c.args.supplier.now in
+    let state = view supplier (g.S.Store.content c.args.store.now) in
+    let order = c.args.order.now in
+    let first = c.lines_of.ensures.looks.was_honest honest in
+    let stays = ap (λ t. lines_of (view supplier t) order) (c.order_known.ensures.looks.content_stays first) in
+    let there = c.in_ok-is_there.ensures.looks.answers first in
+    let known = c.in_ok-orders.ensures in
+    let found = c.in_ok-lines.ensures.looks.answers honest in
+    let facts = c.in_ok-facts.facts in
+    let told : rows facts ≡ lines_of state order = c.in_ok-facts.ensures.rows ∙ found ∙ stays in
+    let adds_up = c.in_ok-facts.ensures.adds_up in
+    (cc, lines_known state order facts told, λ kept. despatched_known state order facts kept told adds_up)

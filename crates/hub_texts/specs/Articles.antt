@@ -1,0 +1,30 @@
+-- The article that a content of a pallet has: that of the line which it names.
+use Rattle.std.specs.Prelude.{ℕ, Bool, List, [], filter, Option, Some, option_map}
+use Rattle.std.specs.Option.{unwrap_or}
+use Rattle.std.specs.declared.cmp.Ordering.{Ordering}
+use Rattle.std.specs.Ordering.{nat_cmp, ordering_then, is_lt}
+use Rattle.hub_tables.specs.Keys.{bytes_cmp}
+use Rattle.hub_tables.specs.Rows.{same}
+use Rattle.hub_tables.specs.State.{line_among}
+use Rattle.hub_tables.specs.declared.rows.ContentRow.{ContentRow}
+use Rattle.hub_tables.specs.declared.rows.LineRow.{LineRow}
+
+-- lines by order number and line number
+abbrev pub place_cmp : LineRow → LineRow → Ordering
+place_cmp a b = ordering_then (bytes_cmp a.number b.number) (nat_cmp a.line b.line)
+
+-- the line stands before the one that a content names
+abbrev pub precedes_named : ContentRow → LineRow → Bool
+precedes_named content row = is_lt (ordering_then (bytes_cmp row.number content.number) (nat_cmp row.line content.line))
+
+-- the line that a content names
+abbrev pub line_named : List LineRow → ContentRow → Option LineRow
+line_named lines content = line_among (filter (λ line. same line.number content.number) lines) (Some content.line) []
+
+-- its article
+abbrev pub article_among : List LineRow → ContentRow → Option (List ℕ)
+article_among lines content = option_map (λ row. row.gtin) (line_named lines content)
+
+-- the same, and no digits where there is no such line
+abbrev pub article_in : List LineRow → ContentRow → List ℕ
+article_in lines content = unwrap_or (article_among lines content) []
