@@ -1,7 +1,6 @@
 -- What comes again in a run of a hub.
 use Rattle.std.proofs.Common.{◌≡◌, inl, inr, ℕ, zero, suc, ◌<◌, ◌≤◌, nat_lt, Bool, true, false, List, [], ◌∷◌, ◌++◌, length, slice_get, take, if◌then◌else◌, Some, None, refl, sym, ap, ◌∙◌, arith}
 use Rattle.std.proofs.lemmas.Bool.Decides.{nat_tests}
-use Rattle.edi_envelope.specs.declared.interchange.Interchange.{Interchange}
 use Rattle.hub_parties.specs.Rows.{RegisterRows}
 use Rattle.hub_tables.specs.Tables.{Tables}
 use Rattle.hub_law.specs.Again.{Reaches}
@@ -10,7 +9,7 @@ use Rattle.hub_law.specs.Mark.{Mark, Whole, StoppedEmpty, StoppedBare, StoppedAf
 use Rattle.hub_law.specs.Messages.{messages_at}
 use Rattle.hub_law.specs.Replies.{whole_reply}
 use Rattle.hub_law.specs.Requests.{replied_by}
-use Rattle.hub_law.specs.Stops.{all_acts, first_acts, reply_behind}
+use Rattle.hub_law.specs.Stops.{Upload, all_acts, first_acts, reply_behind}
 use Rattle.hub_law.specs.Told.{Told}
 use Rattle.hub_law.specs.declared.reply.Reply.{Reply}
 use Rattle.hub_law.specs.declared.request.Input.{Input}
@@ -38,27 +37,27 @@ under : {X : Type 0} (k : ℕ) (xs : List X) (place : ℕ) → place < length (t
 under k xs place below = let less = no_more k xs in omega arith
 
 -- what the reply to an upload that is looked at tells of a message that it reaches
-module _ (register : RegisterRows) (t : Tables) (input : Input) (upload : Interchange) (place : ℕ) (what : Told)
-    (there : slice_get (all_acts register input upload t).0 place ≡ Some what) where
-  tells_cut : (k : ℕ) (below : Bool) → nat_lt k (length upload.messages) ≡ below →
-      (k < length upload.messages → shared_step register t input (StoppedAfter k) ≡ (reply_behind k upload (all_acts register input upload t).0, (first_acts k register input upload t).1)) →
-      place < length (first_done (StoppedAfter k) (if below then Some k else None) (messages_at input.moment upload)) →
-      TellsOf upload place what (shared_step register t input (StoppedAfter k)).0
+module _ (register : RegisterRows) (t : Tables) (input : Input) (upload : Upload) (place : ℕ) (what : Told)
+    (there : slice_get (all_acts upload input.moment t).0 place ≡ Some what) where
+  tells_cut : (k : ℕ) (below : Bool) → nat_lt k (length upload.interchange.messages) ≡ below →
+      (k < length upload.interchange.messages → shared_step register t input (StoppedAfter k) ≡ (reply_behind k upload.interchange (all_acts upload input.moment t).0, (first_acts k upload input.moment t).1)) →
+      place < length (first_done (StoppedAfter k) (if below then Some k else None) (messages_at input.moment upload.interchange)) →
+      TellsOf upload.interchange place what (shared_step register t input (StoppedAfter k)).0
   tells_cut k true e cut reached = record {
-    told = (all_acts register input upload t).0;
+    told = (all_acts upload input.moment t).0;
     there = there;
-    is = inr (k, under k (messages_at input.moment upload) place reached, ap (λ (r : Reply × Tables). r.0) (cut (grind (arith, nat_tests))));
+    is = inr (k, under k (messages_at input.moment upload.interchange) place reached, ap (λ (r : Reply × Tables). r.0) (cut (grind (arith, nat_tests))));
   }
   tells_cut k false e cut reached = absurd (omega arith)
 
-  pub tells : (mark : Mark) → shared_step register t input Whole ≡ replied_by (whole_reply upload) (all_acts register input upload t) →
-      ((k : ℕ) → k < length upload.messages → shared_step register t input (StoppedAfter k) ≡ (reply_behind k upload (all_acts register input upload t).0, (first_acts k register input upload t).1)) →
-      Reaches mark input upload place → TellsOf upload place what (shared_step register t input mark).0
+  pub tells : (mark : Mark) → shared_step register t input Whole ≡ replied_by (whole_reply upload.interchange) (all_acts upload input.moment t) →
+      ((k : ℕ) → k < length upload.interchange.messages → shared_step register t input (StoppedAfter k) ≡ (reply_behind k upload.interchange (all_acts upload input.moment t).0, (first_acts k upload input.moment t).1)) →
+      Reaches mark input upload place → TellsOf upload.interchange place what (shared_step register t input mark).0
   tells Whole whole cut reached = record {
-    told = (all_acts register input upload t).0;
+    told = (all_acts upload input.moment t).0;
     there = there;
     is = inl (ap (λ (r : Reply × Tables). r.0) whole);
   }
   tells StoppedEmpty whole cut reached = absurd (omega arith)
   tells StoppedBare whole cut reached = absurd (omega arith)
-  tells (StoppedAfter k) whole cut reached = tells_cut k (nat_lt k (length upload.messages)) refl (cut k) reached
+  tells (StoppedAfter k) whole cut reached = tells_cut k (nat_lt k (length upload.interchange.messages)) refl (cut k) reached

@@ -9,7 +9,7 @@ use Rattle.hub_law.specs.Mark.{Whole, StoppedBare}
 use Rattle.hub_law.specs.Opening.{Opened}
 use Rattle.hub_law.specs.Replies.{refused_reply}
 use Rattle.hub_law.specs.Requests.{uploaded}
-use Rattle.hub_law.specs.Stops.{opened_well}
+use Rattle.hub_law.specs.Stops.{opened_for}
 use Rattle.hub_law.specs.Told.{Act}
 use Rattle.hub_law.specs.declared.reply.Reply.{Reply}
 use Rattle.hub_acts.specs.Acts.{Stays, Carried, Unharmed, as_told}
@@ -62,7 +62,7 @@ module _ {S : Type 0} (content : S → Tables) (honest : S → Type 0) (left : S
 -- an upload
 module _ {S : Type 0} (content : S → Tables) (honest : S → Type 0) (left : S → Tables → Type 0) (deliver : RawMessage × IncomingMessage → Act) (moment : ℕ) where
   abbrev pub AskedOf : S → S → Opened → Reply → Type 0
-  AskedOf old new opened reply = Asked content honest left old new (acts_of (opened_well opened)) (λ mark t. uploaded deliver moment mark opened t) (Ok reply)
+  AskedOf old new opened reply = Asked content honest left old new (acts_of (opened_for deliver opened)) (λ mark t. uploaded deliver moment mark opened t) (Ok reply)
 
   pub upload_refused : (store : S) (opened : Opened) (code : List ℕ) (reply : Reply) → opened ≡ Err code → reply ≡ refused_reply code → AskedOf store store opened reply
   upload_refused store opened code reply is says =

@@ -42,7 +42,7 @@ opening_of register caller bytes = addressed_by register caller (interchange_in 
 
 -- how many acts a request is
 abbrev pub acts_by : RegisterRows → Caller → Request → ℕ
-acts_by register caller request = acts_of (upload_from (opening_of register caller) request)
+acts_by register caller request = acts_of (upload_from (opening_of register caller) (delivered register caller) request)
 
 -- what somebody asks, as the shared machine answers it
 abbrev pub request_of : RegisterRows → Caller → ℕ → Request → Does

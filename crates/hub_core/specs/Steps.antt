@@ -1,7 +1,6 @@
 -- What a request did, what a step and a run of a hub did, and what a crash leaves after them.
 use Rattle.std.specs.Prelude.{◌≡◌, ◌≢◌, ◌⊎◌, ◌↔◌, ◌+◌, ⊤, ℕ, nat_lt, List, [], ◌∷◌, ◌++◌, length, map, slice_get, if◌then◌else◌, Option, Some, None, Result, IfOk, OnErr}
 use Rattle.std.specs.List.{AllByRecursion}
-use Rattle.edi_envelope.specs.declared.interchange.Interchange.{Interchange}
 use Rattle.hub_parties.specs.Rows.{RegisterRows, supplier_row}
 use Rattle.hub_parties.specs.declared.row.SupplierRow.{SupplierRow}
 use Rattle.hub_tables.specs.Tables.{Tables, view}
@@ -13,7 +12,7 @@ use Rattle.hub_law.specs.Machine.{Inputs, shared_step, shared_run, replies_to}
 use Rattle.hub_law.specs.Mark.{Mark, Whole, StoppedEmpty, StoppedBare, StoppedAfter}
 use Rattle.hub_law.specs.Replies.{done}
 use Rattle.hub_law.specs.StatusText.{status_text}
-use Rattle.hub_law.specs.Stops.{upload_of}
+use Rattle.hub_law.specs.Stops.{Upload, upload_of}
 use Rattle.hub_law.specs.declared.reply.Outcome.TheVariants.{Stopped}
 use Rattle.hub_law.specs.declared.reply.Reply.{Reply}
 use Rattle.hub_law.specs.declared.request.Input.{Input}
@@ -24,8 +23,8 @@ abbrev pub Does : Type 0
 Does = Mark → Tables → Reply × Tables
 
 -- how many acts a request is: each message of an upload is one, and so is any other request
-abbrev pub acts_of : Option Interchange → ℕ
-acts_of (Some upload) = length upload.messages
+abbrev pub acts_of : Option Upload → ℕ
+acts_of (Some upload) = length upload.interchange.messages
 acts_of None = 1
 
 -- how many of so many acts were done

@@ -51,7 +51,7 @@ pub fn repeated_by_hubs()
         SameReference first second one.comes.upload other.upload →
         Reaches other_mark second other.upload other_place →
         slice_get replies (length (before ++ (first, mark) ∷ between)) ≡ Some reply →
-        TellsOf other.upload other_place Repeated reply }
+        TellsOf other.upload.interchange other_place Repeated reply }
     ensures cancellation { (register : RegisterRows) (t after : Tables) (xs : List Input) (replies : List Reply)
         (run : RunBy register t after xs replies) (before between later : Inputs) (first second : Input) (c : Cancel) →
         run.marked ≡ (before ++ (first, Whole) ∷ between) ++ (second, Whole) ∷ later →

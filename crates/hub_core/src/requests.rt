@@ -2,7 +2,7 @@
 ghost use Rattle.std.specs.Prelude.{◌≡◌, Ok, Err};
 ghost use Rattle.std.specs.Option.{IfSome, IfNone};
 ghost use Rattle.hub_law.specs.Requests.{uploaded};
-ghost use Rattle.hub_law.specs.Stops.{opened_well};
+ghost use Rattle.hub_law.specs.Stops.{opened_for};
 ghost use Rattle.hub_core.specs.Callers.{delivered, addressed_by, opening_of, acts_by, request_of, MayDeliver};
 ghost use Rattle.hub_core.specs.Steps.{Asked, acts_of};
 ghost use Rattle.hub_core.specs.declared.caller.Caller.TheVariants.{Retailer, Supplier};
@@ -49,7 +49,7 @@ fn upload<S: Store>(
     moment: Moment,
     bytes: &[u8],
 ) -> Result<Reply, StoreFault>
-    ensures asked { MayDeliver register.now caller.entry (S.content store.old) → Asked S.content S.honest S.left store.old store.new (acts_of (opened_well (opening_of register.now caller.entry bytes.now))) (λ mark t. uploaded (delivered register.now caller.entry) moment mark (opening_of register.now caller.entry bytes.now) t) result }
+    ensures asked { MayDeliver register.now caller.entry (S.content store.old) → Asked S.content S.honest S.left store.old store.new (acts_of (opened_for (delivered register.now caller.entry) (opening_of register.now caller.entry bytes.now))) (λ mark t. uploaded (delivered register.now caller.entry) moment mark (opening_of register.now caller.entry bytes.now) t) result }
     ensures was_honest { S.honest store.new → S.honest store.old }
 {
     let interchange = match opened(alloc, bytes)? {

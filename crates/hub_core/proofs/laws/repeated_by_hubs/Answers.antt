@@ -16,7 +16,7 @@ returns-clause-message c register t after xs replies run before between later fi
     let at = reply_at register t after run.marked earlier later second other_mark replies run.is e in
     let is = ap (λ (given : Option Reply). unwrap_or given reply) (sym at ∙ there) in
     let told = c.repeated_in_runs.ensures.message register t before between first second mark place other_place message one other same in
-    subst (λ (reply : Reply). TellsOf other.upload other_place Repeated reply) is
+    subst (λ (reply : Reply). TellsOf other.upload.interchange other_place Repeated reply) is
     (tells register here second other.upload other_place Repeated told other_mark
     (c.stops_cut_uploads.ensures.whole register here second other.upload other.looked_at)
     (λ k below. c.stops_cut_uploads.ensures.behind register here second k other.upload other.looked_at below) reached)
