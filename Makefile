@@ -30,6 +30,7 @@ bench: edihub
 	rustc --edition 2021 -O -o crates/edihub/out/plain bench/plain.rs
 	python3 bench/run.py ./edihub crates/edihub/out/plain
 	python3 bench/store.py
+	mkdir -p crates/hub_script/out
 	cd crates/hub_script && rt run < stdin > out/printed
 	rustc --edition 2021 -O -o crates/hub_script/out/plain bench/hub.rs
 	python3 bench/hub.py crates/hub_script/out/hub_script crates/hub_script/out/plain

@@ -6,7 +6,8 @@ from registers import ALPHA, BETA, DELTA, HUB, RETAILER, register
 MOMENT = "1748942400"
 KEYS = {RETAILER: "retail-key", ALPHA: "alpha-key-1", BETA: "beta-key-1"}
 TWO_SUPPLIERS = register((ALPHA, "40123455", KEYS[ALPHA]), (BETA, "8712345", KEYS[BETA]))
-PALLET, OTHER_PALLET = "340123455000000012", "340123455000000029"
+PALLET, OTHER_PALLET, THIRD_PALLET = "340123455000000012", "340123455000000029", "340123455000000036"
+PALLET_OF_BETA = "387123450000000012"
 
 
 def bytes_of(text):
@@ -17,7 +18,7 @@ class Play:
     """A script, and what it prints."""
 
     def __init__(self, store="", of=TWO_SUPPLIERS):
-        self.script, self.printed, self.who = b"", b"", None
+        self.script, self.printed, self.who, self.moment = b"", b"", None, MOMENT
         self.say("hub", of, store)
 
     def say(self, word, payload=None, rest=""):
@@ -28,9 +29,9 @@ class Play:
         return self
 
     def ask(self, who, line, outcome, body, payload=None, refused=False, key=None):
-        caller = (who, key or KEYS.get(who, "a-key-of-nobody"))
+        caller = (who, key or KEYS.get(who, "a-key-of-nobody"), self.moment)
         if caller != self.who:
-            self.say(f"as {MOMENT} {caller[0]} {caller[1]}")
+            self.say(f"as {caller[2]} {caller[0]} {caller[1]}")
             self.who = caller
         self.say(line, payload)
         body = bytes_of(body)
@@ -41,6 +42,14 @@ class Play:
         """An upload, and the lines of its reply."""
         body = "".join(line + "\n" for line in lines)
         return self.ask(who, "upload", outcome, body, text, " refused " in f" {body}".replace("\n", " "), key)
+
+    def stopping(self, upload):
+        """An upload whose reply ends in `stopped`."""
+        printed = self.printed
+        upload()
+        reply = self.printed[len(printed) :].split(b"\n", 1)[1]
+        self.printed = printed + f"stopped {len(reply)}\n".encode() + reply
+        return self
 
     def cancel(self, reference, line, quantity, told, order="128576", supplier=ALPHA):
         body = f"{supplier}\n{reference}\n{order}\n{line}\n{quantity}\n"
@@ -94,15 +103,25 @@ def response(number, function, *lines, order="128576", supplier=ALPHA):
 
 
 def despatch(number, sscc, *quantities, order="128576", supplier=ALPHA):
-    head = (f"BGM+351+{number}+9", "DTM+137:20250604:102", f"RFF+ON:{order}", *parties(supplier))
-    lines = [it for place, quantity in enumerate(quantities, 1) for it in (f"LIN+{place}++4000862141404:SRV", f"QTY+12:{quantity}")]
-    return message("DESADV:D:01B:UN:EAN007", 1, *head, "CPS+1", "PAC+1", "PCI+33E", f"GIN+BJ+{sscc}", *lines)
+    return advice(number, (sscc, *((order, quantity) for quantity in quantities)), order=order, supplier=supplier)
 
 
-def receipt(number, sscc=PALLET, supplier=ALPHA):
-    head = (f"BGM+632+{number}+9", "DTM+137:20250605:102", *parties(supplier), "CPS+1", "PAC+1", "PCI+33E", f"GIN+BJ+{sscc}")
-    lines = ("LIN+1++4000862141404:SRV", "QTY+194:10", "QTY+195:1", "LIN+2++4000862141411:SRV", "QTY+194:3")
-    return message("RECADV:D:01B:UN:EAN005", 1, *head, *lines)
+def advice(number, *units, order="128576", supplier=ALPHA):
+    """A despatch advice. A unit is its SSCC and its lines, each an order and a quantity."""
+    segments = [f"BGM+351+{number}+9", "DTM+137:20250604:102", f"RFF+ON:{order}", *parties(supplier)]
+    for place, (sscc, *lines) in enumerate(units, 1):
+        segments += [f"CPS+{place}", "PAC+1", "PCI+33E", f"GIN+BJ+{sscc}"]
+        for line, (named, quantity) in enumerate(lines, 1):
+            segments += [f"LIN+{line}++4000862141404:SRV", f"QTY+12:{quantity}", *([] if named == order else [f"RFF+ON:{named}"])]
+    return message("DESADV:D:01B:UN:EAN007", 1, *segments)
+
+
+def receipt(number, *pallets, supplier=ALPHA):
+    segments = [f"BGM+632+{number}+9", "DTM+137:20250605:102", *parties(supplier)]
+    for place, sscc in enumerate(pallets or [PALLET], 1):
+        segments += [f"CPS+{place}", "PAC+1", "PCI+33E", f"GIN+BJ+{sscc}"]
+        segments += ["LIN+1++4000862141404:SRV", "QTY+194:10", "QTY+195:1", "LIN+2++4000862141411:SRV", "QTY+194:3"]
+    return message("RECADV:D:01B:UN:EAN005", 1, *segments)
 
 
 CHANGED = ("LIN+1+3+4000862141404:SRV", "QTY+113:36")
@@ -132,6 +151,12 @@ STATUS = (
     "P 340123455000000012 04000862141404 R             12             10              1              0              -1",
     "P 340123455000000012 04000862141411 R              0              3              0              0              +3",
     "P 340123455000000029 04000862141404 A             12              0              0              0              +0",
+)
+THIRD_MAIL = (
+    "UNA:+.? 'UNB+UNOC:3+5412345000006:14+4012345500004:14+250603:0920+3'"
+    "UNH+1+RECADV:D:01B:UN:EAN005'BGM+632+G1+9'DTM+137:20250605:102'"
+    "NAD+BY+5412345000013::9'NAD+SU+4012345500004::9'CPS+1'PAC+1'PCI+33E'GIN+BJ+340123455000000012'"
+    "LIN+1++4000862141404:SRV'QTY+194:10'QTY+195:1'LIN+2++4000862141411:SRV'QTY+194:3'UNT+15+1'UNZ+1+3'"
 )
 assert len(FIRST_MAIL) == 249 and sum(len(it) + 1 for it in STATUS) + 4 == 570
 
@@ -174,17 +199,41 @@ def goods_in_turn():
     for reference, code, text in (
         ("S3", "B10", despatch("DA2", OTHER_PALLET, 20, 5)),
         ("S4", "B12", despatch("DA3", PALLET, 1)),
-        ("S5", "B11", despatch("DA3", "387123450000000012", 1)),
+        ("S5", "B11", despatch("DA3", PALLET_OF_BETA, 1)),
     ):
         play.upload(ALPHA, interchange(ALPHA, reference, text), *(it.format(v) for it, v in zip(refused, (reference, code))))
     play.status(line_status("128576", "C", 48, 24, 12, 0, 12), waiting, announced)
     accepted(play, ALPHA, "S6", "DESADV", interchange(ALPHA, "S6", despatch("DA4", OTHER_PALLET, 12, order="128577")))
+    play.status(line_status("128576", "C", 48, 24, 12, 0, 12), line_status("128577", "W", 30, 18, 0, 0, 12), announced, STATUS[4])
     accepted(play, ALPHA, "S7", "ORDRSP", interchange(ALPHA, "S7", response("R2", 27, order="128577")))
     accepted(play, RETAILER, "1005", "RECADV", RECEIPT)
     play.upload(RETAILER, interchange(RETAILER, "1006", receipt("G2")), "interchange 1006 messages 1", "1 RECADV refused B15")
     play.status(*STATUS)
-    play.list(2, (3, "RECADV", "G1"))
+    play.list(2, (3, "RECADV", "G1")).item(3, THIRD_MAIL)
+    play.take(1).list(0, (2, "ORDERS", "128577"), (3, "RECADV", "G1")).item(1, FIRST_MAIL)
     return play
+
+
+def numbers_of_refused():
+    """An advice that was refused is unknown, and a pallet of another supplier is under none of one's prefixes, used or not."""
+    play = accepted(ordered(), ALPHA, "S1", "ORDRSP", RESPONSE)
+    play.upload(ALPHA, interchange(ALPHA, "S3", despatch("DA2", OTHER_PALLET, 20, 17)), "interchange S3 messages 1", "1 DESADV refused B10")
+    accepted(play, ALPHA, "S4", "DESADV", interchange(ALPHA, "S4", despatch("DA2", OTHER_PALLET, 20, 5)))
+    play.upload(ALPHA, interchange(ALPHA, "S5", despatch("DA2", PALLET, 1)), "interchange S5 messages 1", "1 DESADV refused B13")
+    accepted(play, RETAILER, "1001", "ORDERS", interchange(RETAILER, "1001", order(supplier=BETA)))
+    accepted(play, BETA, "S1", "DESADV", interchange(BETA, "S1", despatch("DA1", PALLET_OF_BETA, 5, supplier=BETA)))
+    play.upload(ALPHA, interchange(ALPHA, "S6", despatch("DA3", PALLET_OF_BETA, 1)), "interchange S6 messages 1", "1 DESADV refused B11")
+    play.upload(RETAILER, interchange(RETAILER, "1005", receipt("G1", PALLET_OF_BETA)), "interchange 1005 messages 1", "1 RECADV refused B14")
+    return play
+
+
+def later():
+    """What comes again at a later moment."""
+    play = goods_in_turn()
+    play.moment = str(int(MOMENT) + 86_400)
+    play.upload(RETAILER, SPELLED, "interchange 1001 messages 1", "1 ORDERS repeated")
+    play.upload(ALPHA, RESPONSE, "interchange S1 messages 1", "1 ORDRSP repeated").upload(ALPHA, DESPATCH, "interchange S2 messages 1", "1 DESADV repeated")
+    return play.upload(RETAILER, RECEIPT, "interchange 1005 messages 1", "1 RECADV repeated").status(*STATUS).item(1, FIRST_MAIL)
 
 
 def cancelled():
@@ -196,6 +245,7 @@ def cancelled():
     play.cancel("C1", "01", "010", "repeated")
     play.cancel("C3", 2, 1, "refused B06").cancel("C4", 1, 1, "refused B05", order="128578")
     play.cancel("C5", 1, 14, "accepted")
+    play.cancel("C6", 1, 1, "refused B02", supplier=DELTA)
     play.status(line_status("128576", "C", 48, 0, 12, 24, 12), *STATUS[1:])
     return play
 
@@ -278,6 +328,8 @@ def of_one(play, lines):
         accepted(play, who, reference, kind, text)
         yield
         play.list(0, *seen[0])
+        for (number, _, _), mail in zip(seen[0], (FIRST_MAIL, SECOND_MAIL, THIRD_MAIL)):
+            play.item(number, mail)
         play.status(*seen[1])
 
 
@@ -342,7 +394,46 @@ def counted():
     play.cancel("C1", 1, 10, "accepted").counts(3, 1).say("mend")
     play.cancel("C1", 1, 10, "repeated").counts(3, 0).say("mend")
     play.upload(RETAILER, ORDERS, "interchange 1001 messages 1", "1 ORDERS repeated").counts(3, 0).say("mend")
-    return play.take(1).counts(1, 1).say("mend").take(1).counts(1, 0)
+    play.take(1).counts(1, 1).say("mend").take(1).counts(1, 0).say("mend")
+    accepted(play, RETAILER, "1002", "ORDERS", SECOND).counts(3, 1).say("mend")
+    accepted(play, RETAILER, "1003", "ORDERS", interchange(RETAILER, "1003", order("128578"))).counts(3, 1).say("mend")
+    # two units over three orders
+    units = (OTHER_PALLET, ("128576", 1), ("128577", 1)), (THIRD_PALLET, ("128577", 1), ("128578", 1))
+    text = interchange(ALPHA, "S3", advice("DA2", *units))
+    accepted(play, ALPHA, "S3", "DESADV", text).counts(10, 1).say("mend")
+    # two units that are known, and a third that is not
+    accepted(play, RETAILER, "1006", "RECADV", interchange(RETAILER, "1006", receipt("G2", OTHER_PALLET, THIRD_PALLET))).counts(4, 1).say("mend")
+    text = interchange(RETAILER, "1007", receipt("G3", "340123455000000043", OTHER_PALLET, THIRD_PALLET))
+    return play.upload(RETAILER, text, "interchange 1007 messages 1", "1 RECADV refused B14").counts(5, 0)
+
+
+def stopped_once(calls, fault):
+    """One message of each kind, a cancellation and a mark; the store fails at the call after so many. What was stopped
+    did nothing: opened anew, the store takes it. With a fault for good all that comes after it is stopped too."""
+    inputs = [
+        (4, lambda play, *told: play.upload(RETAILER, ORDERS, "interchange 1001 messages 1", *told), "1 ORDERS "),
+        (4, lambda play, *told: play.upload(ALPHA, RESPONSE, "interchange S1 messages 1", *told), "1 ORDRSP "),
+        (6, lambda play, *told: play.upload(ALPHA, DESPATCH, "interchange S2 messages 1", *told), "1 DESADV "),
+        (4, lambda play, *told: play.upload(RETAILER, RECEIPT, "interchange 1005 messages 1", *told), "1 RECADV "),
+    ]
+    play, before = Play(f"{fault} {calls}"), 0
+    for cost, ask, words in inputs:
+        if before <= calls < before + cost:
+            play.stopping(lambda: ask(play, "stopped"))
+            if fault == "disk":
+                play.stopping(lambda: ask(play, "stopped"))
+                play.ask(ALPHA, "after 0", "stopped", "stopped\n")
+            play.say("mend")
+        ask(play, words + "accepted")
+        before += cost
+    for cost, line, body in ((4, "cancel", f"{ALPHA}\nC1\n128576\n1\n10\n"), (2, "taken 1", None)):
+        who, told = (RETAILER, "accepted\n") if body else (ALPHA, "taken\n")
+        if before <= calls < before + cost:
+            play.ask(who, line, "stopped", "stopped\n", body).say("mend")
+        play.ask(who, line, "done", told, body)
+        before += cost
+    play.status(line_status("128576", "C", 48, 14, 12, 10, 12), *STATUS[2:4])
+    return play.list(0, (2, "RECADV", "G1")).case(f"messages of each kind, over a store that fails with {fault} after {calls} calls")
 
 
 def stopped_at(calls, fault):
@@ -351,7 +442,9 @@ def stopped_at(calls, fault):
     done = min(calls // 4, 2)
     play = Play(f"{fault} {calls}")
     lines = [f"{k} ORDERS accepted" for k in range(1, done + 1)]
-    if done < 2:
+    if done == 2:
+        play.upload(RETAILER, text, "interchange 1001 messages 2", *lines)
+    else:
         play.upload(RETAILER, text, "interchange 1001 messages 2", *lines, "stopped", outcome="stopped")
     if fault == "disk" and done < 2:
         play.upload(RETAILER, text, "interchange 1001 messages 2", "stopped", outcome="stopped")
@@ -363,6 +456,12 @@ def stopped_at(calls, fault):
     return play.case(f"two orders, over a store that fails with {fault} after {calls} calls")
 
 
+NO_CANCELLATIONS = [
+    ("no end of the last line", b"4012345500004\nC1\n128576\n01\n10"),
+    ("a quantity of zero", b"4012345500004\nC1\n128576\n01\n0\n"),
+    ("a sixth line", b"4012345500004\nC1\n128576\n01\n10\n\n"),
+]
+
 BOUNDS = [
     ("999999999", "accepted", 999999999),
     ("1000000000", "refused M08"),
@@ -373,6 +472,9 @@ BOUNDS = [
 HUBS = [
     goods_in_turn().case("orders, answers, despatches and receipts, one after another"),
     cancelled().case("cancellations"),
+    numbers_of_refused().case("numbers of what was refused, and another supplier's pallet"),
+    later().case("the same again on a later day"),
+    *(Case(f"a script with a cancellation that is none: {name}", [], b"cancel %d\n%s\n" % (len(body), body), error=b"line\n", status=1) for name, body in NO_CANCELLATIONS),
     two_suppliers().case("one order number and one reference for two suppliers"),
     *(bounds(*row).case(f"an order of {row[0]} pieces") for row in BOUNDS),
     lengths(1_048_576, "interchange 1001 messages 1", "1 ORDERS accepted").case("an upload of 1,048,576 bytes"),
@@ -385,5 +487,6 @@ HUBS = [
     Play().say("run").say("end").case("a run of nothing"),
     *runs(),
     counted().case("look-ups and commits of each message"),
-    *(stopped_at(calls, fault) for fault in ("memory", "disk") for calls in range(8)),
+    *(stopped_at(calls, fault) for fault in ("memory", "disk") for calls in range(9)),
+    *(stopped_once(calls, fault) for fault in ("memory", "disk") for calls in range(24)),
 ]

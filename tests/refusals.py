@@ -1,87 +1,138 @@
-"""Each allocation of a program refused in turn: the same inputs sent again give the same end.
+"""Each allocation of a program refused in turn: what is stopped says so and did nothing, and the same input sent again does it.
 
-Each input is sent twice, and nothing is printed; then the end is asked for. Wherever one allocation was refused, the first
-or the second sending did it, so the end is the same; or the program ran out of memory for the script itself, and says so; or
-one answer of the end was stopped."""
+Each input of a script is sent twice. Where none is refused it is answered, and then answered again: a message as repeated, a
+look-up as before. Where one allocation is refused, at most one answer is a stop in one of its forms, and the next sending
+is answered as if it had not been there; or the program ran out of memory for the script itself, and says so."""
 import os
 import subprocess
 import tempfile
+from collections import Counter
 from concurrent.futures import ThreadPoolExecutor
+from dataclasses import dataclass
 
 from hubs import ALPHA, DESPATCH, FIRST_MAIL, ORDERS, OTHER_PALLET, RECEIPT, RESPONSE, RETAILER, SECOND, SECOND_MAIL, STATUS
-from hubs import Play, despatch, interchange, line_status, response
+from hubs import Play, despatch, interchange, line_status, order, response
 
 SHIM = os.path.join(os.path.dirname(os.path.abspath(__file__)), "refuse.c")
-# where there is no memory even for the word, the body is empty
-STOPPED = (b"stopped 8\nstopped\n", b"stopped 0\n")
+# the forms of a stop in which nothing was done: the word, and where there is no memory even for it, nothing
+STOPPED = {b"stopped 8\nstopped\n", b"stopped 0\n"}
+# how many allocations there are at least, and how many of them are the script's own at most
+FEWEST, MOST_OF_SCRIPT = 1000, 200
+
+
+@dataclass
+class Asked:
+    """An input that is sent twice: what is answered, what is answered again, and the stops of the first and of the second."""
+
+    first: bytes
+    again: bytes
+    stops: set
 
 
 def sent_twice():
-    """A script, and the answers of its end."""
-    play = Play()
-    play.say("quiet")
-    inputs = [
-        lambda: play.upload(RETAILER, ORDERS),
-        lambda: play.upload(RETAILER, SECOND),
-        lambda: play.upload(ALPHA, RESPONSE),
-        lambda: play.upload(ALPHA, DESPATCH),
-        lambda: play.upload(ALPHA, interchange(ALPHA, "S6", despatch("DA4", OTHER_PALLET, 12, order="128577"))),
-        lambda: play.upload(ALPHA, interchange(ALPHA, "S7", response("R2", 27, order="128577"))),
-        lambda: play.upload(RETAILER, RECEIPT),
-        lambda: play.cancel("C1", 1, 10, "accepted"),
-        lambda: play.take(1),
-        lambda: play.status(),
-        lambda: play.status(line=f"status-of {ALPHA}", who=RETAILER),
-        lambda: play.list(0),
-        lambda: play.item(2, ""),
-    ]
-    for one in inputs:
-        one()
-        one()
-    play.say("loud")
-    asked = [
-        lambda: play.status(line_status("128576", "C", 48, 14, 12, 10, 12), *STATUS[1:]),
-        lambda: play.list(0, (2, "ORDERS", "128577"), (3, "RECADV", "G1")),
-        lambda: play.item(1, FIRST_MAIL),
-        lambda: play.item(2, SECOND_MAIL),
-    ]
-    answers = []
-    for one in asked:
+    """A script, and what is asked in it."""
+    play, asked = Play(), []
+
+    def answered(one):
         play.printed = b""
         one()
-        answers.append(play.printed)
-    return play.script, answers
+        return play.printed
+
+    def twice(first, again, *heads):
+        stops = STOPPED | {b"stopped %d\n%s" % (len(head), head) for head in heads}
+        asked.append(Asked(answered(first), answered(again), stops))
+
+    def sends(who, reference, kind, text, told="accepted", again="repeated"):
+        head = f"interchange {reference} messages 1"
+        twice(
+            lambda: play.upload(who, text, head, f"1 {kind} {told}"),
+            lambda: play.upload(who, text, head, f"1 {kind} {again}"),
+            f"{head}\nstopped\n".encode(),
+        )
+
+    def looks(one):
+        twice(one, one)
+
+    sends(RETAILER, "1001", "ORDERS", ORDERS)
+    sends(RETAILER, "1002", "ORDERS", SECOND)
+    sends(RETAILER, "1003", "ORDERS", interchange(RETAILER, "1003", order()), "refused B04", "refused B04")
+    sends(ALPHA, "S1", "ORDRSP", RESPONSE)
+    sends(ALPHA, "S2", "DESADV", DESPATCH)
+    sends(ALPHA, "S6", "DESADV", interchange(ALPHA, "S6", despatch("DA4", OTHER_PALLET, 12, order="128577")))
+    sends(ALPHA, "S7", "ORDRSP", interchange(ALPHA, "S7", response("R2", 27, order="128577")))
+    sends(RETAILER, "1005", "RECADV", RECEIPT)
+    twice(lambda: play.cancel("C1", 1, 10, "accepted"), lambda: play.cancel("C1", 1, 10, "repeated"))
+    looks(lambda: play.take(1))
+    looks(lambda: play.upload(RETAILER, "", "refused E06", outcome="bad"))
+    looks(lambda: play.ask(RETAILER, "status", "denied", "denied\n"))
+    looks(lambda: play.ask(ALPHA, "item 9", "unknown", "unknown\n"))
+    looks(lambda: play.status(line_status("128576", "C", 48, 14, 12, 10, 12), *STATUS[1:]))
+    looks(lambda: play.status(line_status("128576", "C", 48, 14, 12, 10, 12), *STATUS[1:], who=RETAILER, line=f"status-of {ALPHA}"))
+    looks(lambda: play.list(0, (2, "ORDERS", "128577"), (3, "RECADV", "G1")))
+    looks(lambda: play.item(1, FIRST_MAIL))
+    looks(lambda: play.item(2, SECOND_MAIL))
+    return play.script, asked
 
 
-def is_end(output, answers):
-    """The answers of the end, at most one of which was stopped."""
-    ends = [answers] + [[*answers[:place], stop, *answers[place + 1 :]] for place in range(len(answers)) for stop in STOPPED]
-    return any(output == b"".join(end) for end in ends)
+def pairs(output):
+    """The replies of an output, two by two."""
+    replies = []
+    while output:
+        head, _, rest = output.partition(b"\n")
+        length = int(head.split()[-1])
+        replies.append(head + b"\n" + rest[:length])
+        output = rest[length:]
+    return list(zip(replies[::2], replies[1::2]))
+
+
+def stops_of(output, asked):
+    """How many stops an output has where it is right, and nothing where it is wrong."""
+    found = pairs(output)
+    if len(found) != len(asked):
+        return None
+    stops = 0
+    for (first, second), one in zip(found, asked):
+        if first in one.stops and second == one.first or first == one.first and second in one.stops:
+            stops += 1
+        elif (first, second) != (one.first, one.again):
+            return None
+    return stops
+
+
+def outcome(program, shim, script, asked, number):
+    """What becomes of the script where the allocation of this number is refused."""
+    ran = subprocess.run([program], input=script, capture_output=True, env={"LD_PRELOAD": shim, "REFUSE": str(number)}, timeout=60)
+    if ran.returncode == 3 and ran.stderr == b"memory\n":
+        return "script"
+    stops = stops_of(ran.stdout, asked) if ran.returncode == 0 else None
+    return {None: "wrong", 0: "none", 1: "stop"}.get(stops, "wrong")
+
+
+def tried(program, folder):
+    script, asked = sent_twice()
+    shim, count = os.path.join(folder, "refuse.so"), os.path.join(folder, "count")
+    subprocess.run(["cc", "-O2", "-shared", "-fPIC", "-o", shim, SHIM, "-ldl"], check=True)
+    whole = subprocess.run([program], input=script, capture_output=True, env={"LD_PRELOAD": shim, "COUNT": count}, timeout=60)
+    if whole.returncode or stops_of(whole.stdout, asked) != 0:
+        return f"with ample memory: {whole.stdout!r:.300}"
+    with open(count, encoding="ascii") as file:
+        allocations = int(file.read())
+    numbers = range(1, allocations + 1)
+    with ThreadPoolExecutor(len(os.sched_getaffinity(0))) as pool:
+        outcomes = list(pool.map(lambda number: outcome(program, shim, script, asked, number), numbers))
+    found = Counter(outcomes)
+    print(f"{allocations} allocations refused in turn: {found['stop']} stops, {found['none']} made up for, {found['script']} of the script's own")
+    if found["wrong"]:
+        return f"wrong where one of these is refused: {[number for number, it in zip(numbers, outcomes) if it == 'wrong'][:20]}"
+    if allocations < FEWEST or found["script"] > MOST_OF_SCRIPT or found["stop"] < allocations // 2:
+        return "too few allocations of the hub were refused"
+    return None
 
 
 def refusals(program):
-    """How many allocations were refused in turn, and what is wrong, if anything."""
-    script, answers = sent_twice()
+    """What is wrong where an allocation of the program is refused, if anything."""
     with tempfile.TemporaryDirectory() as folder:
-        shim, count = os.path.join(folder, "refuse.so"), os.path.join(folder, "count")
-        subprocess.run(["cc", "-O2", "-shared", "-fPIC", "-o", shim, SHIM, "-ldl"], check=True)
-
-        def run(**how):
-            return subprocess.run([program], input=script, capture_output=True, env={"LD_PRELOAD": shim, **how}, timeout=60)
-
-        whole = run(COUNT=count)
-        if whole.returncode or whole.stdout != b"".join(answers):
-            return 0, f"with ample memory: {whole.stdout!r:.300}"
-        with open(count, encoding="ascii") as file:
-            allocations = int(file.read())
-
-        def refused(number):
-            ran = run(REFUSE=str(number))
-            if ran.returncode == 3:
-                return ran.stderr == b"memory\n"
-            return ran.returncode == 0 and is_end(ran.stdout, answers)
-
-        with ThreadPoolExecutor(len(os.sched_getaffinity(0))) as pool:
-            right = list(pool.map(refused, range(1, allocations + 1)))
-    wrong = [number for number, it in enumerate(right, 1) if not it]
-    return allocations, f"another end, or another fault, where one of these is refused: {wrong[:20]}" if wrong else None
+        try:
+            return tried(program, folder)
+        except (OSError, subprocess.SubprocessError) as why:
+            return f"not tried: {why}"

@@ -28,6 +28,17 @@ void *malloc(size_t size) {
     return refused() ? NULL : real(size);
 }
 
+void *calloc(size_t count, size_t size) {
+    static void *(*real)(size_t, size_t);
+    /* dlsym itself asks for memory in this way, and does without */
+    static int looking;
+    if (looking) return NULL;
+    looking = 1;
+    if (!real) real = dlsym(RTLD_NEXT, "calloc");
+    looking = 0;
+    return refused() ? NULL : real(count, size);
+}
+
 void *realloc(void *old, size_t size) {
     static void *(*real)(void *, size_t);
     if (!real) real = dlsym(RTLD_NEXT, "realloc");

@@ -99,8 +99,9 @@ def main(words):
         more_passed, more_failed = program_cases(program, of_program)
         passed, failed = passed + more_passed, failed + more_failed
     if os.path.isfile(built("hub_script")):
-        allocations, why = refusals.refusals(built("hub_script"))
-        print(f"{allocations} allocations refused in turn" + (f": {why}" if why else ""))
+        why = refusals.refusals(built("hub_script"))
+        if why:
+            print(f"allocations refused in turn: {why}")
         passed, failed = (passed, failed + 1) if why else (passed + 1, failed)
     spent = resource.getrusage(resource.RUSAGE_CHILDREN)
     print(f"processor time: {(spent.ru_utime + spent.ru_stime) / 60:.1f} minutes")

@@ -1,28 +1,33 @@
 -- What comes again in a run of a hub.
-use Rattle.std.proofs.Common.{◌≡◌, inl, inr, ℕ, zero, suc, ◌<◌, ◌≤◌, nat_lt, Bool, true, false, List, [], ◌∷◌, ◌++◌, length, slice_get, take, if◌then◌else◌, Some, None, refl, sym, ap, ◌∙◌, arith}
+use Rattle.std.proofs.Common.{◌≡◌, inl, inr, ℕ, zero, suc, ◌<◌, ◌≤◌, nat_lt, Bool, true, false, List, [], ◌∷◌, ◌++◌, length}
+use Rattle.std.proofs.Common.{map, slice_get, take, if◌then◌else◌, Some, None, refl, sym, ap, ◌∙◌, arith}
 use Rattle.std.proofs.lemmas.Bool.Decides.{nat_tests}
 use Rattle.hub_parties.specs.Rows.{RegisterRows}
 use Rattle.hub_tables.specs.Tables.{Tables}
 use Rattle.hub_law.specs.Again.{Reaches}
 use Rattle.hub_law.specs.Machine.{Inputs, shared_step, shared_run}
 use Rattle.hub_law.specs.Mark.{Mark, Whole, StoppedEmpty, StoppedBare, StoppedAfter, first_done}
-use Rattle.hub_law.specs.Messages.{messages_at}
+use Rattle.hub_law.specs.Messages.{incoming, messages_at}
 use Rattle.hub_law.specs.Replies.{whole_reply}
 use Rattle.hub_law.specs.Requests.{replied_by}
 use Rattle.hub_law.specs.Stops.{Upload, all_acts, first_acts, reply_behind}
-use Rattle.hub_law.specs.Told.{Told}
+use Rattle.hub_law.specs.Told.{Told, Act, in_row}
 use Rattle.hub_law.specs.declared.reply.Reply.{Reply}
 use Rattle.hub_law.specs.declared.request.Input.{Input}
 use Rattle.hub_core.specs.Laws.{TellsOf}
 
 -- the reply at a place of a run
-reply_there : (register : RegisterRows) (t : Tables) (before : Inputs) (input : Input) (mark : Mark) (later : Inputs) →
-    slice_get (shared_run register t (before ++ (input, mark) ∷ later)).0 (length before) ≡ Some (shared_step register (shared_run register t before).1 input mark).0
+reply_there : (register : RegisterRows) (t : Tables) (before : Inputs) (input : Input) (mark : Mark) (later : Inputs)
+    → slice_get (shared_run register t (before ++ (input, mark) ∷ later)).0 (length before)
+    ≡ Some (shared_step register (shared_run register t before).1 input mark).0
 reply_there register t [] input mark later = refl
 reply_there register t (x ∷ before) input mark later = reply_there register (shared_step register t x.0 x.1).1 before input mark later
 
-pub reply_at : (register : RegisterRows) (t after : Tables) (marked before later : Inputs) (input : Input) (mark : Mark) (replies : List Reply) → shared_run register t marked ≡ (replies, after) →
-    marked ≡ before ++ (input, mark) ∷ later → slice_get replies (length before) ≡ Some (shared_step register (shared_run register t before).1 input mark).0
+pub reply_at : (register : RegisterRows) (t after : Tables) (marked before later : Inputs) (input : Input) (mark : Mark)
+    (replies : List Reply)
+    → shared_run register t marked ≡ (replies, after)
+    → marked ≡ before ++ (input, mark) ∷ later
+    → slice_get replies (length before) ≡ Some (shared_step register (shared_run register t before).1 input mark).0
 reply_at register t after marked before later input mark replies is e =
     sym (ap (λ (r : List Reply × Tables). slice_get r.0 (length before)) is)
     ∙ ap (λ xs. slice_get (shared_run register t xs).0 (length before)) e
@@ -36,25 +41,52 @@ no_more (suc k) (x ∷ xs) = let less = no_more k xs in omega arith
 under : {X : Type 0} (k : ℕ) (xs : List X) (place : ℕ) → place < length (take k xs) → place < k
 under k xs place below = let less = no_more k xs in omega arith
 
+-- something is told of each
+row_length : {X : Type 0} (step : X → Act) (xs : List X) (t : Tables) → length (in_row step xs t).0 ≡ length xs
+row_length step [] t = refl
+row_length step (x ∷ xs) t = ap suc (row_length step xs (step x t).1)
+
+map_length : {X Y : Type 0} (f : X → Y) (xs : List X) → length (map f xs) ≡ length xs
+map_length f [] = refl
+map_length f (x ∷ xs) = ap suc (map_length f xs)
+
+told_each : (upload : Upload) (moment : ℕ) (t : Tables) → length (all_acts upload moment t).0 ≡ length upload.interchange.messages
+told_each upload moment t =
+    row_length upload.act (messages_at moment upload.interchange) t
+    ∙ map_length (λ message. (message, incoming moment upload.interchange message)) upload.interchange.messages
+
 -- what the reply to an upload that is looked at tells of a message that it reaches
 module _ (register : RegisterRows) (t : Tables) (input : Input) (upload : Upload) (place : ℕ) (what : Told)
     (there : slice_get (all_acts upload input.moment t).0 place ≡ Some what) where
-  tells_cut : (k : ℕ) (below : Bool) → nat_lt k (length upload.interchange.messages) ≡ below →
-      (k < length upload.interchange.messages → shared_step register t input (StoppedAfter k) ≡ (reply_behind k upload.interchange (all_acts upload input.moment t).0, (first_acts k upload input.moment t).1)) →
-      place < length (first_done (StoppedAfter k) (if below then Some k else None) (messages_at input.moment upload.interchange)) →
-      TellsOf upload.interchange place what (shared_step register t input (StoppedAfter k)).0
+  tells_cut : (k : ℕ) (below : Bool) → nat_lt k (length upload.interchange.messages) ≡ below
+      → (k < length upload.interchange.messages
+      → shared_step register t input (StoppedAfter k)
+      ≡ (reply_behind k upload.interchange (all_acts upload input.moment t).0, (first_acts k upload input.moment t).1))
+      → place < length (first_done (StoppedAfter k) (if below then Some k else None) (messages_at input.moment upload.interchange))
+      → TellsOf upload.interchange place what (shared_step register t input (StoppedAfter k)).0
   tells_cut k true e cut reached = record {
     told = (all_acts upload input.moment t).0;
+    each = told_each upload input.moment t;
     there = there;
-    is = inr (k, under k (messages_at input.moment upload.interchange) place reached, ap (λ (r : Reply × Tables). r.0) (cut (grind (arith, nat_tests))));
+    is =
+        inr (
+          k,
+          under k (messages_at input.moment upload.interchange) place reached,
+          ap (λ (r : Reply × Tables). r.0) (cut (grind (arith, nat_tests))),
+        );
   }
   tells_cut k false e cut reached = absurd (omega arith)
 
-  pub tells : (mark : Mark) → shared_step register t input Whole ≡ replied_by (whole_reply upload.interchange) (all_acts upload input.moment t) →
-      ((k : ℕ) → k < length upload.interchange.messages → shared_step register t input (StoppedAfter k) ≡ (reply_behind k upload.interchange (all_acts upload input.moment t).0, (first_acts k upload input.moment t).1)) →
-      Reaches mark input upload place → TellsOf upload.interchange place what (shared_step register t input mark).0
+  pub tells : (mark : Mark)
+      → shared_step register t input Whole ≡ replied_by (whole_reply upload.interchange) (all_acts upload input.moment t)
+      → ((k : ℕ)
+      → k < length upload.interchange.messages
+      → shared_step register t input (StoppedAfter k)
+      ≡ (reply_behind k upload.interchange (all_acts upload input.moment t).0, (first_acts k upload input.moment t).1))
+      → Reaches mark input upload place → TellsOf upload.interchange place what (shared_step register t input mark).0
   tells Whole whole cut reached = record {
     told = (all_acts upload input.moment t).0;
+    each = told_each upload input.moment t;
     there = there;
     is = inl (ap (λ (r : Reply × Tables). r.0) whole);
   }

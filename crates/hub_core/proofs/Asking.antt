@@ -15,24 +15,37 @@ use Rattle.hub_law.specs.declared.reply.Reply.{Reply}
 use Rattle.hub_acts.specs.Acts.{Stays, Carried, Unharmed, as_told}
 use Rattle.hub_core.specs.Steps.{Does, OneMore, Answered, Asked, acts_of}
 
-module _ {S : Type 0} (content : S → Tables) (honest : S → Type 0) (left : S → Tables → Type 0) (old new : S) (count : ℕ) (does : Does) where
-  still : honest new → Stays content honest left old new → (reply : Reply) → does Whole (content old) ≡ (reply, content old) → Answered content left old new count does reply
+module _ {S : Type 0} (content : S → Tables) (honest : S → Type 0) (left : S → Tables → Type 0) (old new : S) (count : ℕ)
+    (does : Does) where
+  still : honest new
+      → Stays content honest left old new
+      → (reply : Reply)
+      → does Whole (content old) ≡ (reply, content old)
+      → Answered content left old new count does reply
   still h stays reply is = record {
     mark = Whole;
     is = is ∙ ap (λ t. (reply, t)) (sym (stays.content_stays h));
     kept = λ u l. inr (inl (stays.content_stays h, stays.left_stays h u l));
   }
 
-  pub by_look : (result : Result Reply StoreFault) (reply : Reply) → Stays content honest left old new → (honest new → IfOk result (λ given. given ≡ reply)) →
-      does Whole (content old) ≡ (reply, content old) → Asked content honest left old new count does result
-  by_look (Ok given) reply stays says is = record { answered = λ h. still h stays given (is ∙ ap (λ reply. (reply, content old)) (sym (says h))); undone = λ h. tt }
+  pub by_look : (result : Result Reply StoreFault) (reply : Reply)
+      → Stays content honest left old new
+      → (honest new → IfOk result (λ given. given ≡ reply))
+      → does Whole (content old) ≡ (reply, content old) → Asked content honest left old new count does result
+  by_look (Ok given) reply stays says is =
+      record {
+        answered = λ h. still h stays given (is ∙ ap (λ reply. (reply, content old)) (sym (says h)));
+        undone = λ h. tt;
+      }
   by_look (Err fault) reply stays says is = record {
     answered = λ h. tt;
     undone = λ h. record { same = stays.content_stays h; kept = λ u l. inl (stays.left_stays h u l) };
   }
 
-  pub by_act : (act : Tables → Reply × Tables) (result : Result Reply StoreFault) → count ≡ 1 → ((t : Tables) → does Whole t ≡ act t) →
-      Carried content honest left old new act as_told result → Unharmed content honest old new result → Asked content honest left old new count does result
+  pub by_act : (act : Tables → Reply × Tables) (result : Result Reply StoreFault) → count ≡ 1 → ((t : Tables) → does Whole t ≡ act t)
+      → Carried content honest left old new act as_told result
+      → Unharmed content honest old new result
+      → Asked content honest left old new count does result
   by_act act (Ok reply) one is carried unharmed = record {
     answered = λ h. record {
       mark = Whole;
@@ -60,17 +73,26 @@ module _ {S : Type 0} (content : S → Tables) (honest : S → Type 0) (left : S
   }
 
 -- an upload
-module _ {S : Type 0} (content : S → Tables) (honest : S → Type 0) (left : S → Tables → Type 0) (deliver : RawMessage × IncomingMessage → Act) (moment : ℕ) where
+module _ {S : Type 0} (content : S → Tables) (honest : S → Type 0) (left : S → Tables → Type 0)
+    (deliver : RawMessage × IncomingMessage → Act) (moment : ℕ) where
   abbrev pub AskedOf : S → S → Opened → Reply → Type 0
-  AskedOf old new opened reply = Asked content honest left old new (acts_of (opened_for deliver opened)) (λ mark t. uploaded deliver moment mark opened t) (Ok reply)
+  AskedOf old new opened reply =
+      Asked content honest left old new (acts_of (opened_for deliver opened))
+      (λ mark t. uploaded deliver moment mark opened t) (Ok reply)
 
-  pub upload_refused : (store : S) (opened : Opened) (code : List ℕ) (reply : Reply) → opened ≡ Err code → reply ≡ refused_reply code → AskedOf store store opened reply
+  pub upload_refused : (store : S) (opened : Opened) (code : List ℕ) (reply : Reply)
+      → opened ≡ Err code
+      → reply ≡ refused_reply code
+      → AskedOf store store opened reply
   upload_refused store opened code reply is says =
       subst (λ opened. AskedOf store store opened reply) (sym is)
       (by_look content honest left store store 1 (λ mark t. uploaded deliver moment mark (Err code) t) (Ok reply) (refused_reply code)
       (record { content_stays = λ h. refl; left_stays = λ h u l. l; was_honest = λ h. h }) (λ h. says) refl)
 
-  pub upload_taken : (old new : S) (opened : Opened) (interchange : Interchange) (reply : Reply) → opened ≡ Ok interchange →
-      (honest new → Answered content left old new (length interchange.messages) (λ mark t. uploaded deliver moment mark (Ok interchange) t) reply) → AskedOf old new opened reply
+  pub upload_taken : (old new : S) (opened : Opened) (interchange : Interchange) (reply : Reply) → opened ≡ Ok interchange
+      → (honest new
+      → Answered content left old new (length interchange.messages)
+      (λ mark t. uploaded deliver moment mark (Ok interchange) t) reply)
+      → AskedOf old new opened reply
   upload_taken old new opened interchange reply is answered =
       subst (λ opened. AskedOf old new opened reply) (sym is) (record { answered = answered; undone = λ h. tt })

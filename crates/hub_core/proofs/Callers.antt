@@ -18,11 +18,17 @@ use Rattle.hub_core.specs.declared.caller.Caller.{Caller}
 use Rattle.hub_core.specs.declared.caller.Caller.TheVariants.{Retailer, Supplier}
 
 -- what a message leaves is such that its caller may send another
-pub holds_after : {S X Y : Type 0} (holds : Tables → Type 0) (content : S → Tables) (honest : S → Type 0) (left : S → Tables → Type 0) (old new : S)
-    (act : Tables → Y × Tables) (seen : X → Y) (result : Result X StoreFault) → Carried content honest left old new act seen result → Unharmed content honest old new result →
-    honest new → holds (content old) → holds (act (content old)).1 → holds (content new)
-holds_after holds content honest left old new act seen (Ok x) carried unharmed h before after = subst holds (ap (λ r. r.1) (carried.done h)) after
-holds_after holds content honest left old new act seen (Err fault) carried unharmed h before after = subst holds (sym (unharmed.same h)) before
+pub holds_after :
+    {S X Y : Type 0} (holds : Tables → Type 0) (content : S → Tables) (honest : S → Type 0) (left : S → Tables → Type 0)
+    (old new : S)
+    (act : Tables → Y × Tables) (seen : X → Y) (result : Result X StoreFault)
+    → Carried content honest left old new act seen result
+    → Unharmed content honest old new result
+    → honest new → holds (content old) → holds (act (content old)).1 → holds (content new)
+holds_after holds content honest left old new act seen (Ok x) carried unharmed h before after =
+    subst holds (ap (λ r. r.1) (carried.done h)) after
+holds_after holds content honest left old new act seen (Err fault) carried unharmed h before after =
+    subst holds (sym (unharmed.same h)) before
 
 module _ (register : RegisterRows) (input : Input) where
   abbrev pub Known : Caller → Type 0
@@ -36,10 +42,14 @@ module _ (register : RegisterRows) (input : Input) where
     sound = hub.sound;
   }
 
-  step_is : (caller : Caller) → Known caller → (mark : Mark) (t : Tables) → request_of register caller input.moment input.request mark t ≡ shared_step register t input mark
+  step_is : (caller : Caller)
+      → Known caller
+      → (mark : Mark) (t : Tables)
+      → request_of register caller input.moment input.request mark t ≡ shared_step register t input mark
   step_is Retailer known mark t = sym (ap (λ role. step_as register role (row_of register input.caller) input mark t) known)
   step_is (Supplier s) known mark t =
-      sym (ap (λ role. step_as register role (row_of register input.caller) input mark t) known.0 ∙ ap (λ row. step_as register (Some roles.Supplier) row input mark t) known.1)
+      sym (ap (λ role. step_as register role (row_of register input.caller) input mark t) known.0
+      ∙ ap (λ row. step_as register (Some roles.Supplier) row input mark t) known.1)
 
   acts_are : (caller : Caller) → Known caller → acts_by register caller input.request ≡ acts_of (upload_of register input)
   acts_are Retailer known = sym (ap (λ role. acts_of (upload_by register role (row_of register input.caller) input.request)) known)
@@ -47,9 +57,18 @@ module _ (register : RegisterRows) (input : Input) where
       sym (ap (λ role. acts_of (upload_by register role (row_of register input.caller) input.request)) known.0
       ∙ ap (λ row. acts_of (upload_by register (Some roles.Supplier) row input.request)) known.1)
 
-  pub asked_as : {S : Type 0} (content : S → Tables) (honest : S → Type 0) (left : S → Tables → Type 0) (old new : S) (caller : Caller) (result : Result Reply StoreFault) → Known caller →
-      (MayDeliver register caller (content old) → Asked content honest left old new (acts_by register caller input.request) (request_of register caller input.moment input.request) result) →
-      SoundHub register.suppliers (content old) → Asked content honest left old new (acts_of (upload_of register input)) (λ mark t. shared_step register t input mark) result
+  pub asked_as : {S : Type 0} (content : S → Tables) (honest : S → Type 0) (left : S → Tables → Type 0) (old new : S)
+      (caller : Caller) (result : Result Reply StoreFault)
+      → Known caller
+      → (MayDeliver register caller (content old)
+      → Asked content honest left old new (acts_by register caller input.request)
+      (request_of register caller input.moment input.request) result)
+      → SoundHub register.suppliers (content old)
+      → Asked content honest left old new (acts_of (upload_of register input))
+      (λ mark t. shared_step register t input mark) result
   asked_as content honest left old new caller result known asked hub =
-      subst (λ (does : Does). Asked content honest left old new (acts_of (upload_of register input)) does result) (λ i mark t. step_is caller known mark t i)
-      (subst (λ count. Asked content honest left old new count (request_of register caller input.moment input.request) result) (acts_are caller known) (asked (may (content old) caller known hub)))
+      subst (λ (does : Does). Asked content honest left old new (acts_of (upload_of register input)) does result)
+      (λ i mark t. step_is caller known mark t i)
+      (subst
+      (λ count. Asked content honest left old new count (request_of register caller input.moment input.request) result)
+      (acts_are caller known) (asked (may (content old) caller known hub)))

@@ -1,5 +1,6 @@
 -- What a step and a run did is what the laws say of the machine.
-use Rattle.std.proofs.Common.{◌≡◌, ◌≢◌, ◌↔◌, inl, inr, List, [], ◌∷◌, ◌++◌, length, map, Option, Some, refl, sym, ap, subst, ◌∙◌, append_assoc}
+use Rattle.std.proofs.Common.{◌≡◌, ◌≢◌, ◌↔◌, inl, inr, List, [], ◌∷◌, ◌++◌, length, map, Option, Some, refl, sym, ap, subst}
+use Rattle.std.proofs.Common.{◌∙◌, append_assoc}
 use Rattle.std.specs.Prelude.{slice_get}
 use Rattle.std.specs.Option.{unwrap_or}
 use Rattle.hub_parties.specs.Rows.{RegisterRows, supplier_row}
@@ -17,61 +18,80 @@ use Rattle.hub_law.specs.Stops.{upload_of}
 use Rattle.hub_law.specs.declared.reply.Outcome.TheVariants.{Stopped}
 use Rattle.hub_law.specs.declared.reply.Reply.{Reply}
 use Rattle.hub_law.specs.declared.request.Input.{Input}
-use Rattle.hub_core.specs.Steps.{OneMore, LeavesOf, Answered, Stepped, RunAlone, StoppedSince, RunLeaves, StopsTold, LinesBalance, Ran, acts_of}
+use Rattle.hub_core.specs.Steps.{OneMore, LeavesOf, Answered, Stepped, RunAlone, StoppedSince, RunLeaves, StopsTold}
+use Rattle.hub_core.specs.Steps.{LinesBalance, Ran, acts_of}
 
 module _ (register : RegisterRows)
-    (own : (s : SupplierRow) (t : Tables) (input : Input) (mark : Mark) → Registered register.suppliers s t → StepIsOwn register s t input mark)
-    (stays : (t : Tables) (input : Input) (mark : Mark) → SoundHub register.suppliers t → Sound register.suppliers (shared_step register t input mark).1)
+    (own : (s : SupplierRow) (t : Tables) (input : Input) (mark : Mark)
+    → Registered register.suppliers s t
+    → StepIsOwn register s t input mark)
+    (stays : (t : Tables) (input : Input) (mark : Mark)
+    → SoundHub register.suppliers t
+    → Sound register.suppliers (shared_step register t input mark).1)
     (stops : (t : Tables) (input : Input) (mark : Mark) → ((shared_step register t input mark).0.outcome ≡ Stopped) ↔ (mark ≢ Whole))
-    (statuses : (s : SupplierRow) (t : Tables) (before later : Inputs) (input : Input) → Registered register.suppliers s t → AsksStatus register s input →
-    reply_between register t before input later ≡ Some (done (status_text (alone register s (items s.gln register before) t).1)))
+    (statuses : (s : SupplierRow) (t : Tables) (before later : Inputs) (input : Input)
+    → Registered register.suppliers s t
+    → AsksStatus register s input
+    → reply_between register t before input later ≡ Some (done (status_text (alone register s (items s.gln register before) t).1)))
     (balance : (t : Tables) → Sound register.suppliers t → LinesBalance t) where
   -- what a crash leaves after an input is sound
-  kept_sound : (t after : Tables) (before left : Tables → Type 0) (input : Input) (mark : Mark) →
-      SoundHub register.suppliers t → Sound register.suppliers after → ((u : Tables) → before u → Sound register.suppliers u) →
-      (u : Tables) → LeavesOf register t input mark after before u → Sound register.suppliers u
+  kept_sound : (t after : Tables) (before left : Tables → Type 0) (input : Input) (mark : Mark)
+      → SoundHub register.suppliers t → Sound register.suppliers after → ((u : Tables) → before u → Sound register.suppliers u)
+      → (u : Tables) → LeavesOf register t input mark after before u → Sound register.suppliers u
   kept_sound t after before left input mark hub sound were u (inl e) = subst (λ (u : Tables). Sound register.suppliers u) (sym e) sound
   kept_sound t after before left input mark hub sound were u (inr (inl e)) = were u e.1
   kept_sound t after before left input mark hub sound were u (inr (inr more)) =
       subst (λ (u : Tables). Sound register.suppliers u) more.is (stays t input more.more hub)
 
-  pub stepped : {S : Type 0} (content : S → Tables) (left : S → Tables → Type 0) (old new : S) (input : Input) (reply : Reply) →
-      SoundHub register.suppliers (content old) →
-      Answered content left old new (acts_of (upload_of register input)) (λ mark t. shared_step register t input mark) reply →
-      Stepped register (content old) (content new) (left old) (left new) input reply
+  pub stepped : {S : Type 0} (content : S → Tables) (left : S → Tables → Type 0) (old new : S) (input : Input) (reply : Reply)
+      → SoundHub register.suppliers (content old)
+      → Answered content left old new (acts_of (upload_of register input)) (λ mark t. shared_step register t input mark) reply
+      → Stepped register (content old) (content new) (left old) (left new) input reply
   stepped content left old new input reply hub a =
       let t = content old in
-      let sound : Sound register.suppliers (content new) = subst (λ (x : Reply × Tables). Sound register.suppliers x.1) a.is (stays t input a.mark hub) in
+      let sound : Sound register.suppliers (content new) =
+      subst (λ (x : Reply × Tables). Sound register.suppliers x.1) a.is (stays t input a.mark hub) in
       record {
         mark = a.mark;
         is = a.is;
         stop = subst (λ (x : Reply × Tables). (x.0.outcome ≡ Stopped) ↔ (a.mark ≢ Whole)) a.is (stops t input a.mark);
         sound = sound;
         balance = balance (content new) sound;
-        alone = λ s known. let law : StepIsOwn register s t input a.mark = own s t input a.mark (record { free = hub.free; known = known; sound = hub.sound }) in record {
-          seen = sym (ap (λ (x : Reply × Tables). view s.gln x.1) a.is) ∙ law.seen;
-          told = λ called. law.told called ∙ ap (λ (x : Reply × Tables). x.0 ∷ []) a.is;
-          status = λ asks whole.
-              let one : (shared_step register t input Whole).0 ≡ done (status_text (view s.gln t)) = ap (λ (given : Option Reply). unwrap_or given reply) (statuses s t [] [] input (record { free = hub.free; known = known; sound = hub.sound }) asks) in
-              sym (ap (λ (x : Reply × Tables). x.0) a.is) ∙ ap (λ mark. (shared_step register t input mark).0) whole ∙ one;
-        };
+        alone =
+            λ s known. let law : StepIsOwn register s t input a.mark =
+            own s t input a.mark (record { free = hub.free; known = known; sound = hub.sound }) in record {
+              seen = sym (ap (λ (x : Reply × Tables). view s.gln x.1) a.is) ∙ law.seen;
+              told = λ called. law.told called ∙ ap (λ (x : Reply × Tables). x.0 ∷ []) a.is;
+              status = λ asks whole.
+                  let one : (shared_step register t input Whole).0 ≡ done (status_text (view s.gln t)) =
+                  ap (λ (given : Option Reply). unwrap_or given reply)
+                  (statuses s t [] [] input (record { free = hub.free; known = known; sound = hub.sound }) asks) in
+                  sym (ap (λ (x : Reply × Tables). x.0) a.is) ∙ ap (λ mark. (shared_step register t input mark).0) whole ∙ one;
+            };
         kept = a.kept;
         kept_sound = λ were u l. kept_sound t (content new) (left old) (left new) input a.mark hub sound were u (a.kept u l);
       }
 
 -- a run, and one input more
-run_more : (register : RegisterRows) (t : Tables) (inputs : Inputs) (input : Input) (mark : Mark) →
-    shared_run register t (inputs ++ (input, mark) ∷ []) ≡ ((shared_run register t inputs).0 ++ (shared_step register (shared_run register t inputs).1 input mark).0 ∷ [], (shared_step register (shared_run register t inputs).1 input mark).1)
+run_more : (register : RegisterRows) (t : Tables) (inputs : Inputs) (input : Input) (mark : Mark)
+    → shared_run register t (inputs ++ (input, mark) ∷ [])
+    ≡ (
+      (shared_run register t inputs).0
+          ++ (shared_step register (shared_run register t inputs).1 input mark).0 ∷ [],
+      (shared_step register (shared_run register t inputs).1 input mark).1,
+    )
 run_more register t [] input mark = refl
 run_more register t (x ∷ inputs) input mark =
-    ap (λ (r : List Reply × Tables). ((shared_step register t x.0 x.1).0 ∷ r.0, r.1)) (run_more register (shared_step register t x.0 x.1).1 inputs input mark)
+    ap (λ (r : List Reply × Tables). ((shared_step register t x.0 x.1).0 ∷ r.0, r.1))
+    (run_more register (shared_step register t x.0 x.1).1 inputs input mark)
 
-firsts_more : (marked : Inputs) (x : Input) (mark : Mark) → map (λ (x : Input × Mark). x.0) (marked ++ (x, mark) ∷ []) ≡ map (λ (x : Input × Mark). x.0) marked ++ x ∷ []
+firsts_more : (marked : Inputs) (x : Input) (mark : Mark)
+    → map (λ (x : Input × Mark). x.0) (marked ++ (x, mark) ∷ []) ≡ map (λ (x : Input × Mark). x.0) marked ++ x ∷ []
 firsts_more [] x mark = refl
 firsts_more (y ∷ marked) x mark = ap (λ xs. y.0 ∷ xs) (firsts_more marked x mark)
 
-stops_more : (marked : Inputs) (replies : List Reply) (x : Input) (mark : Mark) (reply : Reply) → StopsTold marked replies →
-    ((reply.outcome ≡ Stopped) ↔ (mark ≢ Whole)) → StopsTold (marked ++ (x, mark) ∷ []) (replies ++ reply ∷ [])
+stops_more : (marked : Inputs) (replies : List Reply) (x : Input) (mark : Mark) (reply : Reply) → StopsTold marked replies
+    → ((reply.outcome ≡ Stopped) ↔ (mark ≢ Whole)) → StopsTold (marked ++ (x, mark) ∷ []) (replies ++ reply ∷ [])
 stops_more [] [] x mark reply told one = (one, tt)
 stops_more [] (r ∷ replies) x mark reply told one = absurd told
 stops_more (y ∷ marked) [] x mark reply told one = absurd told
@@ -79,10 +99,14 @@ stops_more (y ∷ marked) (r ∷ replies) x mark reply told one = (told.0, stops
 
 module _ (register : RegisterRows)
     (own : (s : SupplierRow) (t : Tables) (inputs : Inputs) → Registered register.suppliers s t → RunIsOwn register s t inputs)
-    (statuses : (s : SupplierRow) (t : Tables) (before later : Inputs) (input : Input) → Registered register.suppliers s t → AsksStatus register s input →
-    reply_between register t before input later ≡ Some (done (status_text (alone register s (items s.gln register before) t).1))) where
-  run_alone : (t after : Tables) (marked : Inputs) (replies : List Reply) → SoundHub register.suppliers t → shared_run register t marked ≡ (replies, after) →
-      (s : SupplierRow) → supplier_row register.suppliers s.gln ≡ Some s → RunAlone register s t after marked replies
+    (statuses : (s : SupplierRow) (t : Tables) (before later : Inputs) (input : Input)
+    → Registered register.suppliers s t
+    → AsksStatus register s input
+    → reply_between register t before input later ≡ Some (done (status_text (alone register s (items s.gln register before) t).1))) where
+  run_alone : (t after : Tables) (marked : Inputs) (replies : List Reply)
+      → SoundHub register.suppliers t
+      → shared_run register t marked ≡ (replies, after)
+      → (s : SupplierRow) → supplier_row register.suppliers s.gln ≡ Some s → RunAlone register s t after marked replies
   run_alone t after marked replies hub is s known =
       let law : RunIsOwn register s t marked = own s t marked (record { free = hub.free; known = known; sound = hub.sound }) in record {
         seen = sym (ap (λ (x : List Reply × Tables). view s.gln x.1) is) ∙ law.seen;
@@ -108,8 +132,10 @@ module _ (register : RegisterRows)
     kept_sound = λ were u l. were u l;
   }
 
-  since_more : (t middle after : Tables) (marked : Inputs) (x : Input) (mark : Mark) (u : Tables) → (shared_step register middle x mark).1 ≡ after → after ≡ middle →
-      StoppedSince register t middle marked u → StoppedSince register t after (marked ++ (x, mark) ∷ []) u
+  since_more : (t middle after : Tables) (marked : Inputs) (x : Input) (mark : Mark) (u : Tables)
+      → (shared_step register middle x mark).1 ≡ after
+      → after ≡ middle
+      → StoppedSince register t middle marked u → StoppedSince register t after (marked ++ (x, mark) ∷ []) u
   since_more t middle after marked x mark u is same s = record {
     earlier = s.earlier;
     input = s.input;
@@ -120,10 +146,10 @@ module _ (register : RegisterRows)
     since = s.since ∙ sym same;
   }
 
-  kept_more : (t middle after : Tables) (before left then : Tables → Type 0) (marked : Inputs) (x : Input) (mark : Mark) →
-      (shared_run register t marked).1 ≡ middle → (shared_step register middle x mark).1 ≡ after →
-      ((u : Tables) → left u → RunLeaves register t marked middle before u) → (u : Tables) → LeavesOf register middle x mark after left u →
-      RunLeaves register t (marked ++ (x, mark) ∷ []) after before u
+  kept_more : (t middle after : Tables) (before left then : Tables → Type 0) (marked : Inputs) (x : Input) (mark : Mark)
+      → (shared_run register t marked).1 ≡ middle → (shared_step register middle x mark).1 ≡ after
+      → ((u : Tables) → left u → RunLeaves register t marked middle before u) → (u : Tables) → LeavesOf register middle x mark after left u
+      → RunLeaves register t (marked ++ (x, mark) ∷ []) after before u
   kept_more t middle after before left then marked x mark here is kept u (inl e) = inl e
   kept_more t middle after before left then marked x mark here is kept u (inr (inl e)) = elim (kept u e.1) [
     | inl a ↦ inl (a ∙ sym e.0)
@@ -136,13 +162,20 @@ module _ (register : RegisterRows)
     mark = mark;
     later = [];
     are = refl;
-    more = subst (λ (m : Tables). OneMore (acts_of (upload_of register x)) (λ mark t. shared_step register t x mark) m mark u) (sym here) more;
-    since = ap (λ (r : List Reply × Tables). r.1) (run_more register t marked x mark) ∙ ap (λ (m : Tables). (shared_step register m x mark).1) here ∙ is;
+    more =
+        subst (λ (m : Tables). OneMore (acts_of (upload_of register x)) (λ mark t. shared_step register t x mark) m mark u)
+        (sym here) more;
+    since =
+        ap (λ (r : List Reply × Tables). r.1) (run_more register t marked x mark)
+        ∙ ap (λ (m : Tables). (shared_step register m x mark).1) here
+        ∙ is;
   }))
 
-  pub ran_more : (t middle after : Tables) (before left then : Tables → Type 0) (inputs : List Input) (x : Input) (replies : List Reply) (reply : Reply) →
-      SoundHub register.suppliers t → Ran register t middle before left inputs replies → Stepped register middle after left then x reply →
-      Ran register t after before then (inputs ++ x ∷ []) (replies ++ reply ∷ [])
+  pub ran_more :
+      (t middle after : Tables) (before left then : Tables → Type 0) (inputs : List Input) (x : Input) (replies : List Reply)
+      (reply : Reply)
+      → SoundHub register.suppliers t → Ran register t middle before left inputs replies → Stepped register middle after left then x reply
+      → Ran register t after before then (inputs ++ x ∷ []) (replies ++ reply ∷ [])
   ran_more t middle after before left then inputs x replies reply hub before_it s =
       let r = before_it.run in
       let is : shared_run register t (r.marked ++ (x, s.mark) ∷ []) ≡ (replies ++ reply ∷ [], after) =
@@ -159,6 +192,9 @@ module _ (register : RegisterRows)
           balance = s.balance;
           alone = run_alone t after (r.marked ++ (x, s.mark) ∷ []) (replies ++ reply ∷ []) hub is;
         };
-        kept = λ u l. kept_more t middle after before left then r.marked x s.mark (ap (λ (y : List Reply × Tables). y.1) r.is) (ap (λ (y : Reply × Tables). y.1) s.is) before_it.kept u (s.kept u l);
+        kept =
+            λ u l. kept_more t middle after before left
+            then r.marked x s.mark (ap (λ (y : List Reply × Tables). y.1) r.is) (ap (λ (y : Reply × Tables). y.1) s.is)
+            before_it.kept u (s.kept u l);
         kept_sound = λ were u l. s.kept_sound (before_it.kept_sound were) u l;
       }

@@ -29,7 +29,8 @@ MayDeliver register (Supplier s) t = Registered register.suppliers s.now t
 -- it is known so, by a GLN and a key
 abbrev pub IsCaller : RegisterRows → List ℕ → List ℕ → Caller → Type 0
 IsCaller register gln key Retailer = role_of register gln key ≡ Some roles.Retailer
-IsCaller register gln key (Supplier s) = (role_of register gln key ≡ Some roles.Supplier) × (row_of register gln ≡ Some s.now)
+IsCaller register gln key (Supplier s) =
+    (role_of register gln key ≡ Some roles.Supplier) × (row_of register gln ≡ Some s.now)
 
 -- a supplier sends to the hub or to the retailer, the retailer to the hub
 abbrev pub addressed_by : RegisterRows → Caller → Opened → Opened

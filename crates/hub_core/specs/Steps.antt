@@ -1,5 +1,6 @@
 -- What a request did, what a step and a run of a hub did, and what a crash leaves after them.
-use Rattle.std.specs.Prelude.{◌≡◌, ◌≢◌, ◌⊎◌, ◌↔◌, ◌+◌, ⊤, ℕ, nat_lt, List, [], ◌∷◌, ◌++◌, length, map, slice_get, if◌then◌else◌, Option, Some, None, Result, IfOk, OnErr}
+use Rattle.std.specs.Prelude.{◌≡◌, ◌≢◌, ◌⊎◌, ◌↔◌, ◌+◌, ⊤, ℕ, nat_lt, List, [], ◌∷◌, ◌++◌, length, map, slice_get}
+use Rattle.std.specs.Prelude.{if◌then◌else◌, Option, Some, None, Result, IfOk, OnErr}
 use Rattle.std.specs.List.{AllByRecursion}
 use Rattle.hub_parties.specs.Rows.{RegisterRows, supplier_row}
 use Rattle.hub_parties.specs.declared.row.SupplierRow.{SupplierRow}
@@ -68,8 +69,8 @@ pub record Asked {S : Type 0} (content : S → Tables) (honest : S → Type 0) (
 abbrev pub input_of : ℕ → List ℕ → List ℕ → Request → Input
 input_of moment caller key request = record { moment = moment; caller = caller; key = key; request = request }
 
--- What a registered supplier sees after a step is what comes of its items alone, and where it is the caller the reply is
--- what it is told alone. A status of it for which the retailer asks is the text of what it sees.
+-- What a registered supplier sees after a step is what comes of its items alone, and where it is the caller the reply
+-- is what it is told alone. A status of it for which the retailer asks is the text of what it sees.
 pub record SeenAlone (register : RegisterRows) (s : SupplierRow) (t after : Tables) (input : Input) (mark : Mark)
     (reply : Reply) : Type 0 where
   pub seen : view s.gln after ≡ (alone register s (items_of_input s.gln register input mark) t).1
@@ -86,8 +87,8 @@ abbrev pub LinesBalance : Tables → Type 0
 LinesBalance t = AllByRecursion (λ line. Balanced (view line.supplier t) line) t.lines
 
 -- A step: the shared machine's, whole, or stopped at some place, which the reply says. Tables stay sound, so lines
--- balance, and each supplier sees and is told what it would be alone. What a crash leaves is the acts done, or they and one more, and it
--- is sound where it was.
+-- balance, and each supplier sees and is told what it would be alone. What a crash leaves is the acts done, or they
+-- and one more, and it is sound where it was.
 pub record Stepped (register : RegisterRows) (t after : Tables) (before left : Tables → Type 0) (input : Input)
     (reply : Reply) : Type 0 where
   pub mark : Mark
@@ -95,11 +96,11 @@ pub record Stepped (register : RegisterRows) (t after : Tables) (before left : T
   pub stop : (reply.outcome ≡ Stopped) ↔ (mark ≢ Whole)
   pub sound : Sound register.suppliers after
   pub balance : LinesBalance after
-  pub alone : (s : SupplierRow) → supplier_row register.suppliers s.gln ≡ Some s →
-      SeenAlone register s t after input mark reply
+  pub alone : (s : SupplierRow) → supplier_row register.suppliers s.gln ≡ Some s
+      → SeenAlone register s t after input mark reply
   pub kept : (u : Tables) → left u → LeavesOf register t input mark after before u
-  pub kept_sound : ((u : Tables) → before u → Sound register.suppliers u) → (u : Tables) → left u →
-      Sound register.suppliers u
+  pub kept_sound : ((u : Tables) → before u → Sound register.suppliers u) → (u : Tables) → left u
+      → Sound register.suppliers u
 
 -- The same of a run: what it sees in the end, all replies to it, and a status of it for which the retailer asks at some
 -- place, which is the text of what it sees there.
@@ -107,8 +108,8 @@ pub record RunAlone (register : RegisterRows) (s : SupplierRow) (t after : Table
     (replies : List Reply) : Type 0 where
   pub seen : view s.gln after ≡ (alone register s (items s.gln register inputs) t).1
   pub told : replies_to s.gln inputs replies ≡ (alone register s (items s.gln register inputs) t).0
-  pub status : (earlier later : Inputs) (input : Input) → inputs ≡ earlier ++ (input, Whole) ∷ later →
-      AsksStatus register s input → slice_get replies (length earlier) ≡
+  pub status : (earlier later : Inputs) (input : Input) → inputs ≡ earlier ++ (input, Whole) ∷ later
+      → AsksStatus register s input → slice_get replies (length earlier) ≡
       Some (done (status_text (alone register s (items s.gln register earlier) t).1))
 
 -- each input was stopped exactly where the reply to it says so
@@ -145,13 +146,13 @@ pub record RunBy (register : RegisterRows) (t after : Tables) (inputs : List Inp
   pub stops : StopsTold marked replies
   pub sound : Sound register.suppliers after
   pub balance : LinesBalance after
-  pub alone : (s : SupplierRow) → supplier_row register.suppliers s.gln ≡ Some s →
-      RunAlone register s t after marked replies
+  pub alone : (s : SupplierRow) → supplier_row register.suppliers s.gln ≡ Some s
+      → RunAlone register s t after marked replies
 
 -- the same, and what a crash leaves is the acts done, or they and one more, and it is sound where it was
 pub record Ran (register : RegisterRows) (t after : Tables) (before left : Tables → Type 0) (inputs : List Input)
     (replies : List Reply) : Type 0 where
   pub run : RunBy register t after inputs replies
   pub kept : (u : Tables) → left u → RunLeaves register t run.marked after before u
-  pub kept_sound : ((u : Tables) → before u → Sound register.suppliers u) → (u : Tables) → left u →
-      Sound register.suppliers u
+  pub kept_sound : ((u : Tables) → before u → Sound register.suppliers u) → (u : Tables) → left u
+      → Sound register.suppliers u

@@ -1,16 +1,17 @@
 //! Laws of hubs that ran, each the contract of a function that does nothing.
-ghost use Rattle.std.specs.Prelude.{◌≡◌, ℕ, List, length, slice_get, ◌∷◌, ◌++◌, Some};
+ghost use Rattle.std.specs.Prelude.{◌≡◌, ℕ, ◌+◌, List, length, slice_get, ◌∷◌, ◌++◌, Some};
 ghost use Rattle.edi_envelope.specs.declared.interchange.RawMessage.{RawMessage};
 ghost use Rattle.hub_parties.specs.Rows.{RegisterRows};
 ghost use Rattle.hub_parties.specs.declared.row.SupplierRow.{SupplierRow};
 ghost use Rattle.hub_rules.specs.declared.cancel.Cancel.{Cancel};
 ghost use Rattle.hub_tables.specs.Tables.{Tables, view};
 ghost use Rattle.hub_law.specs.Again.{MessageAt, Reaches, AcceptedAt, SameReference, AsksCancel};
-ghost use Rattle.hub_law.specs.Laws.{Agree};
-ghost use Rattle.hub_law.specs.Machine.{Inputs, replies_to, shared_run};
+ghost use Rattle.hub_law.specs.Laws.{Agree, AgreeBefore};
+ghost use Rattle.hub_law.specs.Machine.{Inputs, replies_to, shared_run, shared_step};
 ghost use Rattle.hub_law.specs.Mark.{Mark, Whole};
 ghost use Rattle.hub_law.specs.Replies.{cancel_reply};
 ghost use Rattle.hub_law.specs.Requests.{cancel_named};
+ghost use Rattle.hub_law.specs.Stops.{first_acts};
 ghost use Rattle.hub_law.specs.Told.{Accepted, Repeated};
 ghost use Rattle.hub_law.specs.declared.reply.Reply.{Reply};
 ghost use Rattle.hub_law.specs.declared.request.Input.{Input};
@@ -23,7 +24,8 @@ use hub_law::{repeated_in_runs, runs_alike, stops_cut_uploads};
 /// Two runs, each of a hub and a store of its own, that agree on a supplier are alike for it: it sees the same in the
 /// end, and all replies to it are the same, byte for byte. They agree on its GLN, prefixes and key, on the GLNs of hub
 /// and retailer, on its rows at the start, and on its items. The other suppliers, the retailer's key, all other rows
-/// and all other inputs may differ.
+/// and all other inputs may differ. And a status of it for which the retailer asks after as many of its items in the
+/// one as in the other is the same.
 pub fn hubs_alike()
     ensures seen { (s : SupplierRow) (first second : RegisterRows) (t after u later : Tables) (xs ys : List Input)
         (replies answers : List Reply) (one : RunBy first t after xs replies)
@@ -34,8 +36,39 @@ pub fn hubs_alike()
         (other : RunBy second u later ys answers) →
         Agree s first second t u one.marked other.marked →
         replies_to s.gln one.marked replies ≡ replies_to s.gln other.marked answers }
+    ensures status { (s : SupplierRow) (first second : RegisterRows) (t after u later : Tables) (xs ys : List Input)
+        (replies answers : List Reply) (one : RunBy first t after xs replies)
+        (other : RunBy second u later ys answers) (xs_before xs_rest ys_before ys_rest : Inputs) (x y : Input) →
+        one.marked ≡ xs_before ++ (x, Whole) ∷ xs_rest → other.marked ≡ ys_before ++ (y, Whole) ∷ ys_rest →
+        AgreeBefore s first second t u xs_before xs_rest ys_before ys_rest x y →
+        slice_get replies (length xs_before) ≡ slice_get answers (length ys_before) }
 {
     runs_alike();
+}
+
+/// A message that was accepted and comes again, whatever steps and runs of a hub lie between, and whatever a crash
+/// left of them: each leaves the tables of the machine after some inputs with some marks. A step to which it comes
+/// again, and which is not stopped before it, tells of it as repeated, and its act changes nothing.
+pub fn repeated_by_steps()
+    ensures told { (register : RegisterRows) (t u : Tables) (before between : Inputs) (first second : Input)
+        (mark other_mark : Mark) (place other_place : ℕ) (message : RawMessage)
+        (one : AcceptedAt register t before first mark place message)
+        (other : MessageAt register second other_place message) →
+        (shared_run register t (before ++ (first, mark) ∷ between)).1 ≡ u →
+        SameReference first second one.comes.upload other.upload →
+        Reaches other_mark second other.upload other_place →
+        TellsOf other.upload.interchange other_place Repeated (shared_step register u second other_mark).0 }
+    ensures stays { (register : RegisterRows) (t u : Tables) (before between : Inputs) (first second : Input)
+        (mark : Mark) (place other_place : ℕ) (message : RawMessage)
+        (one : AcceptedAt register t before first mark place message)
+        (other : MessageAt register second other_place message) →
+        (shared_run register t (before ++ (first, mark) ∷ between)).1 ≡ u →
+        SameReference first second one.comes.upload other.upload →
+        (first_acts (other_place + 1) other.upload second.moment u).1 ≡
+        (first_acts other_place other.upload second.moment u).1 }
+{
+    repeated_in_runs();
+    stops_cut_uploads();
 }
 
 /// In a run of a hub, a message that was accepted and comes again in a later upload that is looked at and was not

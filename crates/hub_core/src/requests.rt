@@ -22,7 +22,7 @@ use hub_texts::interchange_line;
 use std::alloc::Global;
 
 // Why an interchange is not one that its caller may send: E08 or E09.
-fn fault_of_address(
+fn address_fault_for(
     register: &Register,
     caller: Caller<'_>,
     interchange: &Interchange,
@@ -56,7 +56,7 @@ fn upload<S: Store>(
         Ok(interchange) => interchange,
         Err(code) => return Ok(refused_upload(alloc, code)?),
     };
-    if let Some(code) = fault_of_address(register, caller, &interchange) {
+    if let Some(code) = address_fault_for(register, caller, &interchange) {
         return Ok(refused_upload(alloc, code)?);
     }
     let mut reply = interchange_line(alloc, &interchange)?;

@@ -95,8 +95,8 @@ impl Trial {
             return self.ask(request, out);
         }
         match word {
-            b"hub" => self.found(words, script),
-            b"as" => self.call(words),
+            b"hub" => self.make_hub(words, script),
+            b"as" => self.set_caller(words),
             b"run" => {
                 self.run = Some(Vec::new(self.alloc));
                 Ok(())
@@ -117,7 +117,11 @@ impl Trial {
     }
 
     // A new hub, by the text of its register.
-    fn found(&mut self, words: &mut Words<'_>, script: &mut Script<'_>) -> Result<(), ScriptFault> {
+    fn make_hub(
+        &mut self,
+        words: &mut Words<'_>,
+        script: &mut Script<'_>,
+    ) -> Result<(), ScriptFault> {
         let text = str::from_utf8(payload(words, script)?).map_err(|_| ScriptFault::Register)?;
         let register = Register::from_toml(self.alloc, text)?;
         let store = store_of(self.alloc, words)?;
@@ -126,7 +130,7 @@ impl Trial {
     }
 
     // Who asks from now on, and when.
-    fn call(&mut self, words: &mut Words<'_>) -> Result<(), ScriptFault> {
+    fn set_caller(&mut self, words: &mut Words<'_>) -> Result<(), ScriptFault> {
         let moment = words
             .next_number()
             .and_then(Moment::new)

@@ -10,7 +10,8 @@ use Rattle.hub_core.proofs.Again.{reply_at, tells}
 use Rattle.hub_core.proofs.laws.repeated_by_hubs.Goals as goal
 
 pub returns-clause-message : goal.returns-clause-message
-returns-clause-message c register t after xs replies run before between later first second mark other_mark place other_place message one other reply e same reached there =
+returns-clause-message c register t after xs replies run before between later first second mark other_mark place other_place
+    message one other reply e same reached there =
     let earlier = before ++ (first, mark) ∷ between in
     let here : Tables = (shared_run register t earlier).1 in
     let at = reply_at register t after run.marked earlier later second other_mark replies run.is e in
@@ -24,4 +25,5 @@ returns-clause-message c register t after xs replies run before between later fi
 pub returns-clause-cancellation : goal.returns-clause-cancellation
 returns-clause-cancellation c register t after xs replies run before between later first second cancel e hub asks again accepted =
     reply_at register t after run.marked (before ++ (first, Whole) ∷ between) later second Whole replies run.is e
-    ∙ ap (λ (r : Reply × Tables). Some r.0) (c.repeated_in_runs.ensures.cancellation register t before between first second cancel hub asks again accepted)
+    ∙ ap (λ (r : Reply × Tables). Some r.0)
+    (c.repeated_in_runs.ensures.cancellation register t before between first second cancel hub asks again accepted)

@@ -18,5 +18,8 @@ returns-in-MailItem-clause-asked g c may =
     let t = g.S.Store.content c.args.store.now in
     let entry = entry_at (view c.args.supplier.now.gln t) c.in-MailItem.number in
     rw c.in-MailItem.is (by_look g.S.Store.content g.S.Store.honest g.S.Store.left c.args.store.now c.mailbox_entry.new.store 1
-    (request_of register (Supplier c.args.supplier) c.args.moment (MailItem c.in-MailItem.number)) c.mailbox_entry.result (entry_reply register.hub entry) c.mailbox_entry.ensures.stays
-    (λ honest. subst (λ hub. IfOk c.mailbox_entry.result (λ (reply : Reply). reply ≡ entry_reply hub entry)) c.hub.ensures.value (c.mailbox_entry.ensures.reply honest)) refl)
+    (request_of register (Supplier c.args.supplier) c.args.moment (MailItem c.in-MailItem.number)) c.mailbox_entry.result
+    (entry_reply register.hub entry) c.mailbox_entry.ensures.stays
+    (λ honest.
+    subst (λ hub. IfOk c.mailbox_entry.result (λ (reply : Reply). reply ≡ entry_reply hub entry)) c.hub.ensures.value
+    (c.mailbox_entry.ensures.reply honest)) refl)

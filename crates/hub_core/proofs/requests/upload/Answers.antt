@@ -9,7 +9,8 @@ returns-in-Some-clause-asked g c may =
     let register = c.args.register.now in
     let opening = addressed_by register c.args.caller in
     let is = ap opening (c.in_ok-interchange.ensures ∙ ap spec.opened c.in-Ok.is) ∙ c.in-Some.ensures.some in
-    upload_refused g.S.Store.content g.S.Store.honest g.S.Store.left (delivered register c.args.caller) c.args.moment c.args.store.now (opening_of register c.args.caller c.args.bytes.now)
+    upload_refused g.S.Store.content g.S.Store.honest g.S.Store.left (delivered register c.args.caller) c.args.moment
+    c.args.store.now (opening_of register c.args.caller c.args.bytes.now)
     c.in-Some.code.now c.in_ok-refused_upload.field-0 is c.in_ok-refused_upload.ensures
 
 pub returns-clause-asked : goal.returns-clause-asked
@@ -17,5 +18,6 @@ returns-clause-asked g c may =
     let register = c.args.register.now in
     let opening = addressed_by register c.args.caller in
     let is = ap opening (c.in_ok-interchange.ensures ∙ ap spec.opened c.in-Ok.is) ∙ c.in_default.ensures.none in
-    upload_taken g.S.Store.content g.S.Store.honest g.S.Store.left (delivered register c.args.caller) c.args.moment c.args.store.now c.take_messages.new.store (opening_of register c.args.caller c.args.bytes.now)
+    upload_taken g.S.Store.content g.S.Store.honest g.S.Store.left (delivered register c.args.caller) c.args.moment
+    c.args.store.now c.take_messages.new.store (opening_of register c.args.caller c.args.bytes.now)
     c.in-Ok.interchange c.take_messages.result is (λ honest. c.take_messages.ensures.answered honest may)

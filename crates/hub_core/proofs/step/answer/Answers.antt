@@ -4,5 +4,6 @@ use Rattle.hub_core.proofs.step.answer.Goals as goal
 
 pub returns-in-Some-clause-asked : goal.returns-in-Some-clause-asked
 returns-in-Some-clause-asked g c =
-    asked_as c.args.register.now (input_of c.args.moment c.args.caller.now c.args.key.now c.args.request.now) g.S.Store.content g.S.Store.honest g.S.Store.left c.args.store.now c.asked.new.store
+    asked_as c.args.register.now (input_of c.args.moment c.args.caller.now c.args.key.now c.args.request.now)
+    g.S.Store.content g.S.Store.honest g.S.Store.left c.args.store.now c.asked.new.store
     c.in-Some.caller c.asked.result c.in-Some.ensures.some c.asked.ensures.asked

@@ -27,11 +27,18 @@ loop-input-preserved g c =
           let was = c.step-reply.ensures.was_honest honest in
           let so_far = c.loop-input.invariant.ran was sound in
           let hub : SoundHub register.suppliers t = record { free = c.prefixes_are_free.ensures; sound = sound } in
-          let asked : input_of c.input-item.result.moment c.input-item.result.caller c.as_slice-key.result.now c.input-item.result.request ≡ c.input-item.result = ap (λ key. input_of c.input-item.result.moment c.input-item.result.caller key c.input-item.result.request) c.as_slice-key.ensures in
-          let one = subst (λ (input : Input). Stepped register middle after left then input c.step-reply.result) asked (c.step-reply.ensures.stepped honest so_far.run.sound) in
+          let asked : input_of c.input-item.result.moment c.input-item.result.caller c.as_slice-key.result.now
+          c.input-item.result.request
+          ≡ c.input-item.result =
+          ap (λ key. input_of c.input-item.result.moment c.input-item.result.caller key c.input-item.result.request)
+          c.as_slice-key.ensures in
+          let one = subst (λ (input : Input). Stepped register middle after left then input c.step-reply.result) asked
+          (c.step-reply.ensures.stepped honest so_far.run.sound) in
           subst (λ (xs : List Input). Ran register t after before then xs c.push.new.self.items) (sym taken)
           (subst (λ (rs : List Reply). Ran register t after before then (earlier ++ c.input-item.result ∷ []) rs) (sym pushed)
-          (ran_more register (c.run_is_own.ensures.run register) (c.run_is_own.ensures.status register) t middle after before left then earlier c.input-item.result c.loop-input.replies.items c.step-reply.result hub so_far one));
+          (ran_more register (c.run_is_own.ensures.run register) (c.run_is_own.ensures.status register) t middle after
+          before left
+          then earlier c.input-item.result c.loop-input.replies.items c.step-reply.result hub so_far one));
     }
 
 pub loop-input-init : goal.loop-input-init
@@ -39,9 +46,15 @@ loop-input-init g c = record {
   count = grind (arith, common_steps);
   room = grind (arith, common_steps);
   was_honest = λ honest. honest;
-  ran = λ honest sound. subst (λ (rs : List Reply). Ran c.args.register.now (g.S.Store.content c.args.store.now) (g.S.Store.content c.args.store.now) (g.S.Store.left c.args.store.now) (g.S.Store.left c.args.store.now) [] rs) (grind (arith, common_steps))
-      (ran_none c.args.register.now (c.run_is_own.ensures.run c.args.register.now) (c.run_is_own.ensures.status c.args.register.now) (g.S.Store.content c.args.store.now) (g.S.Store.left c.args.store.now)
-      (record { free = c.prefixes_are_free.ensures; sound = sound }) (c.each_line_balances.ensures c.args.register.now.suppliers (g.S.Store.content c.args.store.now) sound));
+  ran =
+      λ honest sound. subst
+      (λ (rs : List Reply). Ran c.args.register.now (g.S.Store.content c.args.store.now) (g.S.Store.content c.args.store.now)
+      (g.S.Store.left c.args.store.now) (g.S.Store.left c.args.store.now) [] rs) (grind (arith, common_steps))
+      (ran_none c.args.register.now (c.run_is_own.ensures.run c.args.register.now)
+      (c.run_is_own.ensures.status c.args.register.now) (g.S.Store.content c.args.store.now)
+      (g.S.Store.left c.args.store.now)
+      (record { free = c.prefixes_are_free.ensures; sound = sound })
+      (c.each_line_balances.ensures c.args.register.now.suppliers (g.S.Store.content c.args.store.now) sound));
 }
 
 pub returns-clause-ran : goal.returns-clause-ran
@@ -53,4 +66,5 @@ returns-clause-ran g c honest sound =
     let left = g.S.Store.left c.loop-input.store in
     let all : take c.loop-input.input-index c.args.inputs.now ≡ c.args.inputs.now = grind (arith, common_steps) in
     subst (λ (xs : List Input). Ran register t after before left xs c.from_vec.result) all
-    (subst (λ (rs : List Reply). Ran register t after before left (take c.loop-input.input-index c.args.inputs.now) rs) (sym c.from_vec.ensures) (c.loop-input.invariant.ran honest sound))
+    (subst (λ (rs : List Reply). Ran register t after before left (take c.loop-input.input-index c.args.inputs.now) rs)
+    (sym c.from_vec.ensures) (c.loop-input.invariant.ran honest sound))

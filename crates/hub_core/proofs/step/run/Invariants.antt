@@ -8,6 +8,7 @@ invariant-loop-input g l = record {
   count : vec_len l.replies ≡ l.input-index;
   room : length l.inputs ≤ vec_capacity l.replies;
   was_honest : g.S.Store.honest l.store → g.S.Store.honest l.fn.store;
-  ran : g.S.Store.honest l.store → Sound l.register.suppliers (g.S.Store.content l.fn.store) →
-      Ran l.register (g.S.Store.content l.fn.store) (g.S.Store.content l.store) (g.S.Store.left l.fn.store) (g.S.Store.left l.store) (take l.input-index l.inputs) l.replies.items;
+  ran : g.S.Store.honest l.store → Sound l.register.suppliers (g.S.Store.content l.fn.store)
+      → Ran l.register (g.S.Store.content l.fn.store) (g.S.Store.content l.store) (g.S.Store.left l.fn.store)
+      (g.S.Store.left l.store) (take l.input-index l.inputs) l.replies.items;
 }

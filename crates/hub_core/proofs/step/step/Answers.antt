@@ -12,8 +12,11 @@ returns-in_default-clause-stepped g c honest sound =
     let register = c.args.register.now in
     let t = g.S.Store.content c.args.store.now in
     let input = input_of c.args.moment c.args.caller.now c.args.key.now c.args.request.now in
-    stepped register (c.step_is_own.ensures register) (c.hub_stays_sound.ensures.step register) (c.stops_are_told.ensures.outcome register) (c.run_is_own.ensures.status register) (c.each_line_balances.ensures register.suppliers)
-    g.S.Store.content g.S.Store.left c.args.store.now c.args.store.now input (reply Stopped c.new.result) (record { free = c.prefixes_are_free.ensures; sound = sound })
+    stepped register (c.step_is_own.ensures register) (c.hub_stays_sound.ensures.step register)
+    (c.stops_are_told.ensures.outcome register) (c.run_is_own.ensures.status register)
+    (c.each_line_balances.ensures register.suppliers)
+    g.S.Store.content g.S.Store.left c.args.store.now c.args.store.now input (reply Stopped c.new.result)
+    (record { free = c.prefixes_are_free.ensures; sound = sound })
     (record {
       mark = StoppedEmpty;
       is = c.stops_are_told.ensures.empty register t input ∙ ap (λ (body : List _). (reply Stopped body, t)) (sym c.new.ensures);
@@ -24,9 +27,13 @@ pub returns-in-Ok-answer-clause-stepped : goal.returns-in-Ok-answer-clause-stepp
 returns-in-Ok-answer-clause-stepped g c honest sound =
     let register = c.args.register.now in
     let input = input_of c.args.moment c.args.caller.now c.args.key.now c.args.request.now in
-    let hub : SoundHub register.suppliers (g.S.Store.content c.args.store.now) = record { free = c.prefixes_are_free.ensures; sound = sound } in
-    stepped register (c.step_is_own.ensures register) (c.hub_stays_sound.ensures.step register) (c.stops_are_told.ensures.outcome register) (c.run_is_own.ensures.status register) (c.each_line_balances.ensures register.suppliers)
-    g.S.Store.content g.S.Store.left c.args.store.now c.answer.new.store input c.in-Ok-answer.reply hub ((c.in-Ok-answer.ensures.asked hub).answered honest)
+    let hub : SoundHub register.suppliers (g.S.Store.content c.args.store.now) =
+    record { free = c.prefixes_are_free.ensures; sound = sound } in
+    stepped register (c.step_is_own.ensures register) (c.hub_stays_sound.ensures.step register)
+    (c.stops_are_told.ensures.outcome register) (c.run_is_own.ensures.status register)
+    (c.each_line_balances.ensures register.suppliers)
+    g.S.Store.content g.S.Store.left c.args.store.now c.answer.new.store input c.in-Ok-answer.reply hub
+    ((c.in-Ok-answer.ensures.asked hub).answered honest)
 
 pub returns-in-Err-clause-stepped : goal.returns-in-Err-clause-stepped
 returns-in-Err-clause-stepped g c honest sound =
@@ -35,7 +42,9 @@ returns-in-Err-clause-stepped g c honest sound =
     let input = input_of c.args.moment c.args.caller.now c.args.key.now c.args.request.now in
     let hub : SoundHub register.suppliers t = record { free = c.prefixes_are_free.ensures; sound = sound } in
     let undone = (c.in-Err.ensures.asked hub).undone honest in
-    stepped register (c.step_is_own.ensures register) (c.hub_stays_sound.ensures.step register) (c.stops_are_told.ensures.outcome register) (c.run_is_own.ensures.status register) (c.each_line_balances.ensures register.suppliers)
+    stepped register (c.step_is_own.ensures register) (c.hub_stays_sound.ensures.step register)
+    (c.stops_are_told.ensures.outcome register) (c.run_is_own.ensures.status register)
+    (c.each_line_balances.ensures register.suppliers)
     g.S.Store.content g.S.Store.left c.args.store.now c.answer.new.store input (reply Stopped c.in-Ok.stopped) hub
     (record {
       mark = StoppedBare;
