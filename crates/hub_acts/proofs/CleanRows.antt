@@ -87,17 +87,116 @@ CleanChange (AddMail row) = clean_mail row ≡ true
 CleanChange (SetMail row) = clean_mail row ≡ true
 
 clean_after : (change : Change) (t : Tables) → CleanChange change → CleanRows t → CleanRows (apply change t)
-clean_after (AddOrder row) t c h = record { orders = all_put order_cmp _ t.orders row h.orders c; lines = h.lines; advices = h.advices; pallets = h.pallets; contents = h.contents; receipts = h.receipts; remembered = h.remembered; mail = h.mail }
-clean_after (AddLine row) t c h = record { orders = h.orders; lines = all_put line_cmp _ t.lines row h.lines c; advices = h.advices; pallets = h.pallets; contents = h.contents; receipts = h.receipts; remembered = h.remembered; mail = h.mail }
-clean_after (SetLine row) t c h = record { orders = h.orders; lines = all_replace _ (same_line row) row t.lines h.lines c; advices = h.advices; pallets = h.pallets; contents = h.contents; receipts = h.receipts; remembered = h.remembered; mail = h.mail }
-clean_after (AddAdvice row) t c h = record { orders = h.orders; lines = h.lines; advices = all_put advice_cmp _ t.advices row h.advices c; pallets = h.pallets; contents = h.contents; receipts = h.receipts; remembered = h.remembered; mail = h.mail }
-clean_after (AddPallet row) t c h = record { orders = h.orders; lines = h.lines; advices = h.advices; pallets = all_put pallet_cmp _ t.pallets row h.pallets c; contents = h.contents; receipts = h.receipts; remembered = h.remembered; mail = h.mail }
-clean_after (SetPallet row) t c h = record { orders = h.orders; lines = h.lines; advices = h.advices; pallets = all_replace _ (same_pallet row) row t.pallets h.pallets c; contents = h.contents; receipts = h.receipts; remembered = h.remembered; mail = h.mail }
-clean_after (AddContent row) t c h = record { orders = h.orders; lines = h.lines; advices = h.advices; pallets = h.pallets; contents = all_put content_cmp _ t.contents row h.contents c; receipts = h.receipts; remembered = h.remembered; mail = h.mail }
-clean_after (AddReceipt row) t c h = record { orders = h.orders; lines = h.lines; advices = h.advices; pallets = h.pallets; contents = h.contents; receipts = all_put receipt_cmp _ t.receipts row h.receipts c; remembered = h.remembered; mail = h.mail }
-clean_after (Remember row) t c h = record { orders = h.orders; lines = h.lines; advices = h.advices; pallets = h.pallets; contents = h.contents; receipts = h.receipts; remembered = all_put remembered_cmp _ t.remembered row h.remembered c; mail = h.mail }
-clean_after (AddMail row) t c h = record { orders = h.orders; lines = h.lines; advices = h.advices; pallets = h.pallets; contents = h.contents; receipts = h.receipts; remembered = h.remembered; mail = all_put mail_cmp _ t.mail row h.mail c }
-clean_after (SetMail row) t c h = record { orders = h.orders; lines = h.lines; advices = h.advices; pallets = h.pallets; contents = h.contents; receipts = h.receipts; remembered = h.remembered; mail = all_replace _ (same_mail row) row t.mail h.mail c }
+clean_after (AddOrder row) t c h = record {
+  orders = all_put order_cmp _ t.orders row h.orders c;
+  lines = h.lines;
+  advices = h.advices;
+  pallets = h.pallets;
+  contents = h.contents;
+  receipts = h.receipts;
+  remembered = h.remembered;
+  mail = h.mail;
+}
+clean_after (AddLine row) t c h = record {
+  orders = h.orders;
+  lines = all_put line_cmp _ t.lines row h.lines c;
+  advices = h.advices;
+  pallets = h.pallets;
+  contents = h.contents;
+  receipts = h.receipts;
+  remembered = h.remembered;
+  mail = h.mail;
+}
+clean_after (SetLine row) t c h = record {
+  orders = h.orders;
+  lines = all_replace _ (same_line row) row t.lines h.lines c;
+  advices = h.advices;
+  pallets = h.pallets;
+  contents = h.contents;
+  receipts = h.receipts;
+  remembered = h.remembered;
+  mail = h.mail;
+}
+clean_after (AddAdvice row) t c h = record {
+  orders = h.orders;
+  lines = h.lines;
+  advices = all_put advice_cmp _ t.advices row h.advices c;
+  pallets = h.pallets;
+  contents = h.contents;
+  receipts = h.receipts;
+  remembered = h.remembered;
+  mail = h.mail;
+}
+clean_after (AddPallet row) t c h = record {
+  orders = h.orders;
+  lines = h.lines;
+  advices = h.advices;
+  pallets = all_put pallet_cmp _ t.pallets row h.pallets c;
+  contents = h.contents;
+  receipts = h.receipts;
+  remembered = h.remembered;
+  mail = h.mail;
+}
+clean_after (SetPallet row) t c h = record {
+  orders = h.orders;
+  lines = h.lines;
+  advices = h.advices;
+  pallets = all_replace _ (same_pallet row) row t.pallets h.pallets c;
+  contents = h.contents;
+  receipts = h.receipts;
+  remembered = h.remembered;
+  mail = h.mail;
+}
+clean_after (AddContent row) t c h = record {
+  orders = h.orders;
+  lines = h.lines;
+  advices = h.advices;
+  pallets = h.pallets;
+  contents = all_put content_cmp _ t.contents row h.contents c;
+  receipts = h.receipts;
+  remembered = h.remembered;
+  mail = h.mail;
+}
+clean_after (AddReceipt row) t c h = record {
+  orders = h.orders;
+  lines = h.lines;
+  advices = h.advices;
+  pallets = h.pallets;
+  contents = h.contents;
+  receipts = all_put receipt_cmp _ t.receipts row h.receipts c;
+  remembered = h.remembered;
+  mail = h.mail;
+}
+clean_after (Remember row) t c h = record {
+  orders = h.orders;
+  lines = h.lines;
+  advices = h.advices;
+  pallets = h.pallets;
+  contents = h.contents;
+  receipts = h.receipts;
+  remembered = all_put remembered_cmp _ t.remembered row h.remembered c;
+  mail = h.mail;
+}
+clean_after (AddMail row) t c h = record {
+  orders = h.orders;
+  lines = h.lines;
+  advices = h.advices;
+  pallets = h.pallets;
+  contents = h.contents;
+  receipts = h.receipts;
+  remembered = h.remembered;
+  mail = all_put mail_cmp _ t.mail row h.mail c;
+}
+clean_after (SetMail row) t c h = record {
+  orders = h.orders;
+  lines = h.lines;
+  advices = h.advices;
+  pallets = h.pallets;
+  contents = h.contents;
+  receipts = h.receipts;
+  remembered = h.remembered;
+  mail = all_replace _ (same_mail row) row t.mail h.mail c;
+}
 
 pub clean_all : (changes : List Change) (t : Tables) → AllByRecursion CleanChange changes → CleanRows t → CleanRows (apply_all changes t)
 clean_all [] t all h = h

@@ -37,12 +37,14 @@ both_clean : (a b : List Change) → Clean a → Clean b → Clean (a ++ b)
 both_clean [] b first second = second
 both_clean (change ∷ changes) b first second = (first.0, both_clean changes b first.1 second)
 
-joined_rest : (first : List Change) (verdict : Verdict) (changes : List Change) → joined first verdict ≡ Accept changes → (rest : List Change) × (verdict ≡ Accept rest) × (first ++ rest ≡ changes)
+joined_rest : (first : List Change) (verdict : Verdict) (changes : List Change) → joined first verdict ≡ Accept changes →
+    (rest : List Change) × (verdict ≡ Accept rest) × (first ++ rest ≡ changes)
 joined_rest first (Refuse code) changes h = cc
 joined_rest first (Accept rest) changes h = (rest, refl, cc)
 
 -- changes that are given, and what a judge makes of what they left
-pub cleans_rest : (first : List Change) (second : Judge) (state : Tables) (changes : List Change) → CleanRows state → Clean first → Cleans second → in_turn (gives first) second state ≡ Accept changes → Clean changes
+pub cleans_rest : (first : List Change) (second : Judge) (state : Tables) (changes : List Change) → CleanRows state → Clean first →
+    Cleans second → in_turn (gives first) second state ≡ Accept changes → Clean changes
 cleans_rest first second state changes rows clean f h =
     let rest = joined_rest first (second (apply_all first state)) changes h in
     subst Clean rest.2 (both_clean first rest.0 clean (f (apply_all first state) rest.0 (clean_all first state clean rows) rest.1))
@@ -54,18 +56,22 @@ cleans_in_turn first second f g state changes rows h =
       | Accept a ↦ λ e rest. cleans_rest a second state changes rows (f state a rows e) g rest
     ] refl h
 
-pub cleans_in_order : {X : Type 0} (judge : X → Judge) (xs : List X) → AllByRecursion (λ x. Cleans (judge x)) xs → Cleans (in_order judge xs)
+pub cleans_in_order : {X : Type 0} (judge : X → Judge) (xs : List X) → AllByRecursion (λ x. Cleans (judge x)) xs →
+    Cleans (in_order judge xs)
 cleans_in_order judge [] all state changes rows h = accepted [] changes h tt
-cleans_in_order judge (x ∷ xs) all state changes rows h = cleans_in_turn (judge x) (in_order judge xs) all.0 (cleans_in_order judge xs all.1) state changes rows h
+cleans_in_order judge (x ∷ xs) all state changes rows h = cleans_in_turn (judge x) (in_order judge xs) all.0
+    (cleans_in_order judge xs all.1) state changes rows h
 
 -- Tables after what is accepted.
 
-pub cleaned : (s : SupplierRow) (t : Tables) (judge : Judge) → Cleans judge → are_clean t ≡ true → are_clean (changed (judge (view s.gln t)) t) ≡ true
+pub cleaned : (s : SupplierRow) (t : Tables) (judge : Judge) → Cleans judge → are_clean t ≡ true →
+    are_clean (changed (judge (view s.gln t)) t) ≡ true
 cleaned s t judge f h =
     let rows = clean_rows t h in
     elim (judge (view s.gln t)) as (λ v. judge (view s.gln t) ≡ v → are_clean (changed v t) ≡ true) [
       | Refuse code ↦ λ e. h
-      | Accept changes ↦ λ e. rows_clean (apply_all changes t) (clean_all changes t (f (view s.gln t) changes (clean_view s.gln t rows) e) rows)
+      | Accept changes ↦ λ e. rows_clean (apply_all changes t) (clean_all changes t (f (view s.gln t) changes
+          (clean_view s.gln t rows) e) rows)
     ] refl
 
 clean_taking : (entry : MailRow) → clean_mail entry ≡ true → Clean (taking entry)
@@ -82,9 +88,11 @@ clean_taking entry clean = elim (is_taken entry) as (λ v. Clean (cond v [] (Set
       (both_true a.0 (both_true b.0 (both_true c.0 (both_true d.0 (both_true e.0 (both_true f.0 (both_true g.0 refl)))))), tt)
 ]
 
-pub cleaned_taken : (gln : List ℕ) (number : ℕ) (t : Tables) (entry : MailRow) → are_clean t ≡ true → entry_at (view gln t) number ≡ Some entry → are_clean (apply_all (taking entry) t) ≡ true
+pub cleaned_taken : (gln : List ℕ) (number : ℕ) (t : Tables) (entry : MailRow) → are_clean t ≡ true →
+    entry_at (view gln t) number ≡ Some entry → are_clean (apply_all (taking entry) t) ≡ true
 cleaned_taken gln number t entry h found =
     let rows = clean_rows t h in
     let seen = clean_view gln t rows in
-    let clean = (all_found (λ entry. clean_mail entry ≡ true) (λ entry. entry.number == number) (view gln t).mail entry seen.mail found).0 in
+    let clean = (all_found (λ entry. clean_mail entry ≡ true) (λ entry. entry.number == number)
+    (view gln t).mail entry seen.mail found).0 in
     rows_clean (apply_all (taking entry) t) (clean_all (taking entry) t (clean_taking entry clean) rows)

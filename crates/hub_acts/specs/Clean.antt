@@ -66,4 +66,5 @@ pub record WithinReceipt (receipt : Receipt) : Type 0 where
 
 -- where the supplier's GLN is one and all rows are of the kinds, they are so after what a judge of what it sees accepts
 abbrev pub Cleaned : SupplierRow → Tables → Judge → Type 0
-Cleaned s t judge = is_gln s.gln ≡ true → are_clean t ≡ true → are_clean (changed (judge (view s.gln t)) t) ≡ true
+Cleaned s t judge =
+    is_gln s.gln ≡ true → are_clean t ≡ true → are_clean (changed (judge (view s.gln t)) t) ≡ true

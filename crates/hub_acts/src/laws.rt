@@ -17,19 +17,23 @@ ghost use Rattle.hub_rules.specs.declared.incoming.IncomingMessage.{IncomingMess
 ghost use Rattle.hub_law.specs.Requests.{taking};
 ghost use Rattle.hub_acts.specs.Clean.{WithinIncoming, WithinOrder, WithinDespatch, WithinReceipt, Cleaned};
 
-/// Where all rows are of the kinds that a hub keeps, and a message or cancellation of a supplier is within the limits of
-/// what it says, the rows are so after what the rules accept of it, and after a taken mark. Of an answer nothing but its
-/// references, content and moment has a limit.
+/// Where all rows are of the kinds that a hub keeps, and a message or cancellation of a supplier is within the limits
+/// of what it says, the rows are so after what the rules accept of it, and after a taken mark. Of an answer only what
+/// comes with it has limits.
 pub fn rules_keep_rows_clean()
-    ensures order { (retailer : List ℕ) (s : SupplierRow) (t : Tables) (incoming : IncomingMessage) (body : List ℕ) (order : Order) →
+    ensures order { (retailer : List ℕ) (s : SupplierRow) (t : Tables) (incoming : IncomingMessage)
+        (body : List ℕ) (order : Order) →
         WithinIncoming incoming → are_bytes body ≡ true → WithinOrder order →
         Cleaned s t (judge_order retailer (Some s) incoming body order) }
-    ensures response { (retailer : List ℕ) (s : SupplierRow) (t : Tables) (incoming : IncomingMessage) (response : Response) →
+    ensures response { (retailer : List ℕ) (s : SupplierRow) (t : Tables) (incoming : IncomingMessage)
+        (response : Response) →
         WithinIncoming incoming → Cleaned s t (judge_response retailer (Some s) incoming response) }
-    ensures despatch { (retailer : List ℕ) (s : SupplierRow) (t : Tables) (used : List ℕ → Bool) (incoming : IncomingMessage) (despatch : Despatch) →
+    ensures despatch { (retailer : List ℕ) (s : SupplierRow) (t : Tables) (used : List ℕ → Bool)
+        (incoming : IncomingMessage) (despatch : Despatch) →
         WithinIncoming incoming → WithinDespatch despatch →
         Cleaned s t (judge_despatch retailer (Some s) used incoming despatch) }
-    ensures receipt { (retailer : List ℕ) (s : SupplierRow) (t : Tables) (incoming : IncomingMessage) (body : List ℕ) (receipt : Receipt) →
+    ensures receipt { (retailer : List ℕ) (s : SupplierRow) (t : Tables) (incoming : IncomingMessage)
+        (body : List ℕ) (receipt : Receipt) →
         WithinIncoming incoming → are_bytes body ≡ true → WithinReceipt receipt →
         Cleaned s t (judge_receipt retailer (Some s) incoming body receipt) }
     ensures cancel { (s : SupplierRow) (t : Tables) (content : List ℕ) (cancel : Cancel) →
