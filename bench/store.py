@@ -1,7 +1,7 @@
 """Times each look-up of a store of plain lists over 10 rows of each kind and over 100,000, and prints both and
-their ratio: of several measurements of one look-up the least. The program, store.rt.in, is proved and built in a folder of its own, over copies of this
-repository's crates with what earlier checks kept: the gate reads every .rt file here as a crate's. Where a look-up
-takes more than five times as long, it says so and ends with status 1."""
+their ratio: of several measurements of one look-up the least. The program, store.rt.in, is proved and built in a
+folder of its own, over copies of this repository's crates with what earlier checks kept: the gate reads every .rt
+file here as a crate's. Where a look-up takes more than five times as long, it says so and ends with status 1."""
 import os
 import re
 import shutil

@@ -1,4 +1,7 @@
 pub mod Afterwards
+pub mod CleanJudges
+pub mod CleanRows
+pub mod CleanVerdicts
 pub mod LookUps
 pub mod Named
 pub mod Reading

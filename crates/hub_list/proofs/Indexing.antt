@@ -20,11 +20,22 @@ use Rattle.hub_list.proofs.Setting.{equal_is, has, below, rises_put, all_above, 
 module _ {X : Type 0} (cmp : X → X → Ordering) where
   pub rises_in_order : (xs : List X) → Rises cmp xs → InOrder cmp xs
   rises_in_order [] rises = tt
-  rises_in_order (x ∷ xs) rises = (all_weaker (λ y. cmp x y ≡ Less) (λ y. is_gt (cmp x y) ≡ false) (λ y less. ap is_gt less) xs rises.0, rises_in_order xs rises.1)
+  rises_in_order (x ∷ xs) rises = (
+    all_weaker (λ y. cmp x y ≡ Less) (λ y. is_gt (cmp x y) ≡ false)
+        (λ y less. ap is_gt less) xs rises.0,
+    rises_in_order xs rises.1,
+  )
 
   pub rises_filter : (p : X → Bool) (xs : List X) → Rises cmp xs → Rises cmp (filter p xs)
   rises_filter p [] rises = tt
-  rises_filter p (x ∷ xs) rises = elim (p x) as (λ v. Rises cmp (cond v (x ∷ filter p xs) (filter p xs))) [ true ↦ (all_filter (λ y. cmp x y ≡ Less) p xs rises.0, rises_filter p xs rises.1) | false ↦ rises_filter p xs rises.1 ]
+  rises_filter p (x ∷ xs) rises = elim (p x) as (λ v. Rises cmp (cond v (x ∷ filter p xs) (filter p xs))) [
+    | true ↦ (
+      all_filter
+          (λ y. cmp x y ≡ Less) p xs rises.0,
+      rises_filter p xs rises.1,
+    )
+    | false ↦ rises_filter p xs rises.1
+  ]
 
 module _ {X : Type 0} {cmp : X → X → Ordering} (total : IsTotalOrder cmp) (r : X) where
   abbrev pub at : X → Bool
@@ -41,14 +52,16 @@ module _ {X : Type 0} {cmp : X → X → Ordering} (total : IsTotalOrder cmp) (r
 
   pub all_kept : (xs : List X) → has total r xs ≡ false → but xs ≡ xs
   all_kept [] none = refl
-  all_kept (x ∷ xs) none = let all = none_any at (x ∷ xs) none in keeps_others x xs all.0 ∙ ap (λ ys. x ∷ ys) (all_kept xs (any_none at xs all.1))
+  all_kept (x ∷ xs) none = let all = none_any at (x ∷ xs) none in keeps_others x xs all.0
+      ∙ ap (λ ys. x ∷ ys) (all_kept xs (any_none at xs all.1))
 
   greater_kept : (xs : List X) → AllByRecursion (λ y. cmp y r ≡ Greater) xs → but xs ≡ xs
   greater_kept [] all = refl
   greater_kept (x ∷ xs) all = keeps_others x xs (ap is_eq all.0) ∙ ap (λ ys. x ∷ ys) (greater_kept xs all.1)
 
   pub none_left : (xs : List X) → has total r (but xs) ≡ false
-  none_left xs = any_none at (but xs) (all_weaker (λ x. not (at x) ≡ true) (λ x. at x ≡ false) (λ x h. turned (at x) h) (but xs) (all_passes (λ x. not (at x)) xs))
+  none_left xs = any_none at (but xs) (all_weaker (λ x. not (at x) ≡ true) (λ x. at x ≡ false) (λ x h. turned (at x) h) (but xs)
+      (all_passes (λ x. not (at x)) xs))
     where
       turned : (v : Bool) → not v ≡ true → v ≡ false
       turned true h = sym h
@@ -62,8 +75,10 @@ module _ {X : Type 0} {cmp : X → X → Ordering} (total : IsTotalOrder cmp) (r
   pub replace_is_put : (xs : List X) → Rises cmp xs → has total r xs ≡ true → replace at r xs ≡ put cmp r (but xs)
   replace_is_put [] rises there = cc
   replace_is_put (x ∷ xs) rises there =
-      elim (cmp x r) as (λ o. cmp x r ≡ o → (is_eq o || has total r xs) ≡ true → cond (is_eq o) r x ∷ replace at r xs ≡ put cmp r (cond (not (is_eq o)) (x ∷ but xs) (but xs))) [
-        | Less ↦ λ e there. ap (λ ys. x ∷ ys) (replace_is_put xs rises.1 there) ∙ ap (λ o. cond (is_gt o) (r ∷ x ∷ but xs) (x ∷ put cmp r (but xs))) (sym e)
+      elim (cmp x r) as (λ o. cmp x r ≡ o → (is_eq o || has total r xs) ≡ true →
+      cond (is_eq o) r x ∷ replace at r xs ≡ put cmp r (cond (not (is_eq o)) (x ∷ but xs) (but xs))) [
+        | Less ↦ λ e there. ap (λ ys. x ∷ ys) (replace_is_put xs rises.1 there)
+            ∙ ap (λ o. cond (is_gt o) (r ∷ x ∷ but xs) (x ∷ put cmp r (but xs))) (sym e)
         | Equal ↦ λ e there.
             let all = after_equal total r x xs e rises.0 in
             let first = put_first cmp xs r (all_weaker (λ y. cmp y r ≡ Greater) (λ y. is_gt (cmp y r) ≡ true) (λ y g. ap is_gt g) xs all) in
@@ -72,15 +87,30 @@ module _ {X : Type 0} {cmp : X → X → Ordering} (total : IsTotalOrder cmp) (r
       ] refl there
 
   -- the row that has the key is the only one
-  pub only_one : (old : X) (xs : List X) → Rises cmp xs → slice_get (filter at xs) 0 ≡ Some old → (at old ≡ true) × AllByRecursion (λ x. at x ≡ true → x ≡ old) xs
+  pub only_one : (old : X) (xs : List X) → Rises cmp xs → slice_get (filter at xs) 0 ≡ Some old →
+      (at old ≡ true) × AllByRecursion (λ x. at x ≡ true → x ≡ old) xs
   only_one old [] rises first = cc
   only_one old (x ∷ xs) rises first =
-      elim (cmp x r) as (λ o. cmp x r ≡ o → slice_get (cond (is_eq o) (x ∷ filter at xs) (filter at xs)) 0 ≡ Some old → (at old ≡ true) × ((at x ≡ true → x ≡ old) × AllByRecursion (λ x. at x ≡ true → x ≡ old) xs)) [
-        | Less ↦ λ e f. let rest = only_one old xs rises.1 f in (rest.0, (λ h. let no : true ≡ false = sym h ∙ ap is_eq e in absurd (cc (no)), rest.1))
+      elim (cmp x r) as (λ o. cmp x r ≡ o → slice_get (cond (is_eq o) (x ∷ filter at xs) (filter at xs)) 0 ≡ Some old →
+      (at old ≡ true) × ((at x ≡ true → x ≡ old) × AllByRecursion (λ x. at x ≡ true → x ≡ old) xs)) [
+        | Less ↦ λ e f. let rest = only_one old xs rises.1 f in (
+          rest.0,
+          (
+            λ h. let no : true ≡ false = sym h
+                ∙ ap is_eq e in absurd (cc (no)),
+            rest.1,
+          ),
+        )
         | Equal ↦ λ e f.
             let is : x ≡ old = cc in
-            let all = after_equal total r x xs e rises.0 in
-            (subst (λ z. at z ≡ true) is (ap is_eq e), (λ h. is, all_weaker (λ y. cmp y r ≡ Greater) (λ y. at y ≡ true → y ≡ old) (λ y g h. let no : true ≡ false = sym h ∙ ap is_eq g in absurd (cc (no))) xs all))
+            let all = after_equal total r x xs e rises.0 in (
+              subst (λ z. at z ≡ true) is (ap is_eq e),
+              (
+                λ h. is,
+                all_weaker (λ y. cmp y r ≡ Greater) (λ y. at y ≡ true →
+                    y ≡ old) (λ y g h. let no : true ≡ false = sym h ∙ ap is_eq g in absurd (cc (no))) xs all,
+              ),
+            )
         | Greater ↦ λ e f.
             let all = all_above total r x xs e rises.0 in
             let none = filter_none at xs (all_weaker (λ y. cmp y r ≡ Greater) (λ y. at y ≡ false) (λ y g. ap is_eq g) xs all) in
@@ -91,7 +121,8 @@ module _ {X : Type 0} {cmp : X → X → Ordering} (total : IsTotalOrder cmp) (r
   removed [] rises there = cc
   removed (x ∷ xs) rises there =
       let more : 1 + below total r xs ≡ suc (below total r xs) = omega arith in
-      elim (cmp x r) as (λ o. cmp x r ≡ o → (is_eq o || has total r xs) ≡ true → remove (x ∷ xs) (cond (is_lt o) (1 + below total r xs) 0) ≡ cond (not (is_eq o)) (x ∷ but xs) (but xs)) [
+      elim (cmp x r) as (λ o. cmp x r ≡ o → (is_eq o || has total r xs) ≡ true →
+      remove (x ∷ xs) (cond (is_lt o) (1 + below total r xs) 0) ≡ cond (not (is_eq o)) (x ∷ but xs) (but xs)) [
         | Less ↦ λ e there. ap (remove (x ∷ xs)) more ∙ ap (λ ys. x ∷ ys) (removed xs rises.1 there)
         | Equal ↦ λ e there. sym (greater_kept xs (after_equal total r x xs e rises.0))
         | Greater ↦ λ e there. let none = none_above total r xs (all_above total r x xs e rises.0) in absurd (cc (none, there))
@@ -117,19 +148,27 @@ module _ {X K : Type 0} {cmp : X → X → Ordering} {kcmp : K → K → Orderin
   not_listed r index rows is new =
       let gln = supplier (key r) in
       let ours : List X = filter listed (filter (from gln) rows) in
-      let each = all_weaker (λ x. is_eq (cmp x r) ≡ false) (λ x. is_eq (kcmp (key x) (key r)) ≡ false) other rows (none_any (λ x. is_eq (cmp x r)) rows new) in
+      let each = all_weaker (λ x. is_eq (cmp x r) ≡ false) (λ x. is_eq (kcmp (key x) (key r)) ≡ false) other rows (none_any (λ x. is_eq
+      (cmp x r)) rows new) in
       sym (any_among (of gln) (λ k. is_eq (kcmp k (key r))) (λ k h. same_if (supplier k) gln (tied k (key r) h)) index)
       ∙ ap (list_any (λ k. is_eq (kcmp k (key r)))) (is.each gln)
       ∙ any_of_map (λ k. is_eq (kcmp k (key r))) key ours
-      ∙ any_none (λ x. is_eq (kcmp (key x) (key r))) ours (all_filter (λ x. is_eq (kcmp (key x) (key r)) ≡ false) listed (filter (from gln) rows) (all_filter (λ x. is_eq (kcmp (key x) (key r)) ≡ false) (from gln) rows each))
+      ∙ any_none (λ x. is_eq (kcmp (key x) (key r))) ours (all_filter (λ x. is_eq (kcmp (key x) (key r)) ≡ false) listed (filter
+      (from gln) rows) (all_filter (λ x. is_eq (kcmp (key x) (key r)) ≡ false) (from gln) rows each))
     where
       other : (x : X) → is_eq (cmp x r) ≡ false → is_eq (kcmp (key x) (key r)) ≡ false
-      other x e = elim (decide (is_eq (kcmp (key x) (key r)))) [ inl h ↦ let no : true ≡ false = sym (one_key x r h) ∙ e in absurd (cc (no)) | inr h ↦ h ]
+      other x e = elim (decide (is_eq (kcmp (key x) (key r)))) [
+        | inl h ↦ let no : true ≡ false = sym (one_key x r h)
+            ∙ e in absurd (cc (no))
+        | inr h ↦ h
+      ]
 
-  map_put : (r : X) (xs : List X) → AllByRecursion (λ x. kcmp (key x) (key r) ≡ cmp x r) xs → map key (put cmp r xs) ≡ put kcmp (key r) (map key xs)
+  map_put : (r : X) (xs : List X) → AllByRecursion (λ x. kcmp (key x) (key r) ≡ cmp x r) xs →
+      map key (put cmp r xs) ≡ put kcmp (key r) (map key xs)
   map_put r [] all = refl
   map_put r (x ∷ xs) all =
-      elim (is_gt (cmp x r)) as (λ v. map key (cond v (r ∷ x ∷ xs) (x ∷ put cmp r xs)) ≡ cond v (key r ∷ key x ∷ map key xs) (key x ∷ put kcmp (key r) (map key xs))) [
+      elim (is_gt (cmp x r)) as (λ v. map key (cond v (r ∷ x ∷ xs) (x ∷ put cmp r xs)) ≡ cond v (key r ∷ key x ∷ map key xs)
+      (key x ∷ put kcmp (key r) (map key xs))) [
         | true ↦ refl
         | false ↦ ap (λ ks. key x ∷ ks) (map_put r xs all.1)
       ]
@@ -137,7 +176,8 @@ module _ {X K : Type 0} {cmp : X → X → Ordering} {kcmp : K → K → Orderin
 
   -- A new row.
 
-  listed_put : (r : X) (index : List K) (rows : List X) → Is index rows → Rises cmp rows → has total r rows ≡ false → listed r ≡ true → Is (put kcmp (key r) index) (put cmp r rows)
+  listed_put : (r : X) (index : List K) (rows : List X) → Is index rows → Rises cmp rows → has total r rows ≡ false → listed r ≡ true →
+      Is (put kcmp (key r) index) (put cmp r rows)
   listed_put r index rows is rises new is_listed = record {
     rises = rises_put ktotal (key r) index is.rises (not_listed r index rows is new);
     each = λ gln.
@@ -150,9 +190,11 @@ module _ {X K : Type 0} {cmp : X → X → Ordering} {kcmp : K → K → Orderin
               filter_put_in ktotal (of gln) index (key r) (rises_in_order kcmp index is.rises) e
               ∙ ap (put kcmp (key r)) (is.each gln)
               ∙ sym (map_put r ours all)
-              ∙ ap (map key) (sym (filter_put_in total listed (filter (from gln) rows) r (in_order_filter cmp (from gln) rows order) is_listed))
+              ∙ ap (map key) (sym (filter_put_in total listed (filter (from gln) rows) r (in_order_filter cmp
+              (from gln) rows order) is_listed))
               ∙ ap (λ xs. map key (filter listed xs)) (sym (filter_put_in total (from gln) rows r order e))
-          | inr e ↦ filter_put_out kcmp (of gln) index (key r) e ∙ is.each gln ∙ ap (λ xs. map key (filter listed xs)) (sym (filter_put_out cmp (from gln) rows r e))
+          | inr e ↦ filter_put_out kcmp (of gln) index (key r) e ∙ is.each gln
+              ∙ ap (λ xs. map key (filter listed xs)) (sym (filter_put_out cmp (from gln) rows r e))
         ];
   }
     where
@@ -163,7 +205,8 @@ module _ {X K : Type 0} {cmp : X → X → Ordering} {kcmp : K → K → Orderin
   unlisted_put r index rows is rises not_so = record {
     rises = is.rises;
     each = λ gln. is.each gln ∙ ap (map key) (sym (elim (decide (from gln r)) [
-      | inl e ↦ ap (filter listed) (filter_put_in total (from gln) rows r (rises_in_order cmp rows rises) e) ∙ filter_put_out cmp listed (filter (from gln) rows) r not_so
+      | inl e ↦ ap (filter listed) (filter_put_in total (from gln) rows r (rises_in_order cmp rows rises) e)
+          ∙ filter_put_out cmp listed (filter (from gln) rows) r not_so
       | inr e ↦ ap (filter listed) (filter_put_out cmp (from gln) rows r e)
     ]));
   }
@@ -171,15 +214,18 @@ module _ {X K : Type 0} {cmp : X → X → Ordering} {kcmp : K → K → Orderin
   abbrev with_key : X → List K → List K
   with_key r index = if listed r then put kcmp (key r) index else index
 
-  pub put_kept : (r : X) (index : List K) (rows : List X) → Is index rows → Rises cmp rows → has total r rows ≡ false → Is (with_key r index) (put cmp r rows)
-  put_kept r index rows is rises new = elim (listed r) as (λ v. listed r ≡ v → Is (cond v (put kcmp (key r) index) index) (put cmp r rows)) [
-    | true ↦ λ e. listed_put r index rows is rises new e
-    | false ↦ λ e. unlisted_put r index rows is rises e
-  ] refl
+  pub put_kept : (r : X) (index : List K) (rows : List X) → Is index rows → Rises cmp rows → has total r rows ≡ false →
+      Is (with_key r index) (put cmp r rows)
+  put_kept r index rows is rises new = elim (listed r) as (λ v. listed r ≡ v →
+      Is (cond v (put kcmp (key r) index) index) (put cmp r rows)) [
+        | true ↦ λ e. listed_put r index rows is rises new e
+        | false ↦ λ e. unlisted_put r index rows is rises e
+      ] refl
 
   -- A row that is set.
 
-  taken_out : (k : K) (test : X → Bool) (index : List K) (rows : List X) → Is index rows → AllByRecursion (λ x. is_eq (kcmp (key x) k) ≡ test x) rows →
+  taken_out : (k : K) (test : X → Bool) (index : List K) (rows : List X) → Is index rows →
+      AllByRecursion (λ x. is_eq (kcmp (key x) k) ≡ test x) rows →
       Is (filter (λ j. not (is_eq (kcmp j k))) index) (filter (λ x. not (test x)) rows)
   taken_out k test index rows is all = record {
     rises = rises_filter kcmp (λ j. not (is_eq (kcmp j k))) index is.rises;
@@ -187,7 +233,8 @@ module _ {X K : Type 0} {cmp : X → X → Ordering} {kcmp : K → K → Orderin
         let out : K → Bool = λ j. not (is_eq (kcmp j k)) in
         let ours : List X = filter listed (filter (from gln) rows) in
         let each = all_weaker (λ x. is_eq (kcmp (key x) k) ≡ test x) (λ x. out (key x) ≡ not (test x)) (λ x e. ap not e) ours
-        (all_filter (λ x. is_eq (kcmp (key x) k) ≡ test x) listed (filter (from gln) rows) (all_filter (λ x. is_eq (kcmp (key x) k) ≡ test x) (from gln) rows all)) in
+        (all_filter (λ x. is_eq (kcmp (key x) k) ≡ test x) listed (filter (from gln) rows) (all_filter (λ x. is_eq (kcmp
+        (key x) k) ≡ test x) (from gln) rows all)) in
         filter_swap (of gln) out index
         ∙ ap (filter out) (is.each gln)
         ∙ filter_of_map out key ours
@@ -199,7 +246,8 @@ module _ {X K : Type 0} {cmp : X → X → Ordering} {kcmp : K → K → Orderin
   module _ (r old : X) (index : List K) (rows : List X) (is : Is index rows) (rises : Rises cmp rows)
       (first : slice_get (filter (λ x. is_eq (cmp x r)) rows) 0 ≡ Some old) where
     out_of_both : Is (but ktotal (key old) index) (but total r rows)
-    out_of_both = taken_out (key old) (λ x. is_eq (cmp x r)) index rows is (all_weaker (λ x. is_eq (cmp x r) ≡ true → x ≡ old) (λ x. is_eq (kcmp (key x) (key old)) ≡ is_eq (cmp x r)) one rows only.1)
+    out_of_both = taken_out (key old) (λ x. is_eq (cmp x r)) index rows is (all_weaker (λ x. is_eq (cmp x r) ≡ true →
+        x ≡ old) (λ x. is_eq (kcmp (key x) (key old)) ≡ is_eq (cmp x r)) one rows only.1)
       where
         only : (is_eq (cmp old r) ≡ true) × AllByRecursion (λ x. is_eq (cmp x r) ≡ true → x ≡ old) rows
         only = only_one total r old rows rises first
@@ -218,7 +266,8 @@ module _ {X K : Type 0} {cmp : X → X → Ordering} {kcmp : K → K → Orderin
     there : has total r rows ≡ true
     there = elim (decide (has total r rows)) [
       | inl e ↦ e
-      | inr e ↦ let none = filter_none (λ x. is_eq (cmp x r)) rows (none_any (λ x. is_eq (cmp x r)) rows e) in let no = sym (ap (λ xs. slice_get xs 0) none) ∙ first in absurd (cc (no))
+      | inr e ↦ let none = filter_none (λ x. is_eq (cmp x r)) rows (none_any (λ x. is_eq (cmp x r)) rows e) in let no = sym (ap
+          (λ xs. slice_get xs 0) none) ∙ first in absurd (cc (no))
     ]
 
     anew : put cmp r (but total r rows) ≡ replace (λ x. is_eq (cmp x r)) r rows
@@ -231,22 +280,34 @@ module _ {X K : Type 0} {cmp : X → X → Ordering} {kcmp : K → K → Orderin
     key_is_new = not_listed r (but ktotal (key old) index) (but total r rows) out_of_both (none_left total r rows)
 
     pub set_kept : Is (with_key r (but ktotal (key old) index)) (replace (λ x. is_eq (cmp x r)) r rows)
-    set_kept = subst (Is (with_key r (but ktotal (key old) index))) anew (put_kept r (but ktotal (key old) index) (but total r rows) out_of_both rest_rises (none_left total r rows))
+    set_kept = subst (Is (with_key r (but ktotal (key old) index))) anew (put_kept r (but ktotal (key old) index)
+        (but total r rows) out_of_both rest_rises (none_left total r rows))
 
 -- Rows that are found again by their keys.
 
-module _ {X K : Type 0} {cmp : X → X → Ordering} (total : IsTotalOrder cmp) (key : X → K) (wanted : K → X → Bool) (exact : (x y : X) → is_eq (cmp y x) ≡ wanted (key x) y) where
+module _ {X K : Type 0} {cmp : X → X → Ordering} (total : IsTotalOrder cmp) (key : X → K) (wanted : K → X → Bool) (exact : (x y : X) →
+    is_eq (cmp y x) ≡ wanted (key x) y) where
   abbrev pub Again : List X → X → Type 0
   Again rows x = find (wanted (key x)) rows ≡ Some x
 
-  later : (y : X) (ys xs : List X) → AllByRecursion (λ x. cmp y x ≡ Less) xs → AllByRecursion (Again ys) xs → AllByRecursion (Again (y ∷ ys)) xs
+  later : (y : X) (ys xs : List X) → AllByRecursion (λ x. cmp y x ≡ Less) xs → AllByRecursion (Again ys) xs →
+      AllByRecursion (Again (y ∷ ys)) xs
   later y ys [] below again = tt
-  later y ys (x ∷ xs) below again = (ap (λ v. cond v (Some y) (find (wanted (key x)) ys)) (sym (exact x y) ∙ ap is_eq below.0) ∙ again.0, later y ys xs below.1 again.1)
+  later y ys (x ∷ xs) below again = (
+    ap (λ v. cond v (Some y) (find (wanted (key x)) ys)) (sym (exact x y) ∙ ap is_eq below.0)
+        ∙ again.0,
+    later y ys xs below.1 again.1,
+  )
 
   pub all_again : (rows : List X) → Rises cmp rows → AllByRecursion (Again rows) rows
   all_again [] rises = tt
-  all_again (x ∷ xs) rises = (ap (λ v. cond v (Some x) (find (wanted (key x)) xs)) (sym (exact x x) ∙ ap is_eq (tied_itself total x)), later x xs xs rises.0 (all_again xs rises.1))
+  all_again (x ∷ xs) rises = (
+    ap (λ v. cond v (Some x) (find (wanted (key x)) xs)) (sym (exact x x)
+        ∙ ap is_eq (tied_itself total x)),
+    later x xs xs rises.0 (all_again xs rises.1),
+  )
 
   pub found_again : (rows xs : List X) → AllByRecursion (Again rows) xs → filter_map (λ k. find (wanted k) rows) (map key xs) ≡ xs
   found_again rows [] again = refl
-  found_again rows (x ∷ xs) again = ap (λ one. cons_option one (filter_map (λ k. find (wanted k) rows) (map key xs))) again.0 ∙ ap (λ ys. x ∷ ys) (found_again rows xs again.1)
+  found_again rows (x ∷ xs) again = ap (λ one. cons_option one (filter_map (λ k. find (wanted k) rows) (map key xs))) again.0
+      ∙ ap (λ ys. x ∷ ys) (found_again rows xs again.1)

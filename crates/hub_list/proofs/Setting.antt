@@ -28,12 +28,15 @@ module _ {X : Type 0} {cmp : X → X → Ordering} (total : IsTotalOrder cmp) (r
       let back : cmp r x ≡ Less = total.antisymm r x ∙ ap ordering_reverse g in
       total.antisymm y r ∙ ap ordering_reverse (total.trans r x y back less)
 
-  pub all_above : (x : X) (xs : List X) → cmp x r ≡ Greater → AllByRecursion (λ y. cmp x y ≡ Less) xs → AllByRecursion (λ y. cmp y r ≡ Greater) xs
+  pub all_above : (x : X) (xs : List X) → cmp x r ≡ Greater → AllByRecursion (λ y. cmp x y ≡ Less) xs →
+      AllByRecursion (λ y. cmp y r ≡ Greater) xs
   all_above x xs g all = all_weaker (λ y. cmp x y ≡ Less) (λ y. cmp y r ≡ Greater) (λ y less. above_next x y g less) xs all
 
   -- what is above one at r is above r
-  pub after_equal : (x : X) (xs : List X) → cmp x r ≡ Equal → AllByRecursion (λ y. cmp x y ≡ Less) xs → AllByRecursion (λ y. cmp y r ≡ Greater) xs
-  after_equal x xs e all = all_weaker (λ y. cmp x y ≡ Less) (λ y. cmp y r ≡ Greater) (λ y less. total.antisymm y r ∙ ap ordering_reverse (sym (total.congr x r y e) ∙ less)) xs all
+  pub after_equal : (x : X) (xs : List X) → cmp x r ≡ Equal → AllByRecursion (λ y. cmp x y ≡ Less) xs →
+      AllByRecursion (λ y. cmp y r ≡ Greater) xs
+  after_equal x xs e all = all_weaker (λ y. cmp x y ≡ Less) (λ y. cmp y r ≡ Greater) (λ y less. total.antisymm y r
+      ∙ ap ordering_reverse (sym (total.congr x r y e) ∙ less)) xs all
 
   pub none_above : (xs : List X) → AllByRecursion (λ y. cmp y r ≡ Greater) xs → has xs ≡ false
   none_above [] all = refl
@@ -43,11 +46,16 @@ module _ {X : Type 0} {cmp : X → X → Ordering} (total : IsTotalOrder cmp) (r
 
   all_put : (P : X → Type 0) (xs : List X) → AllByRecursion P xs → P r → AllByRecursion P (put cmp r xs)
   all_put P [] a b = (b, tt)
-  all_put P (y ∷ ys) a b = elim (is_gt (cmp y r)) as (λ v. AllByRecursion P (cond v (r ∷ y ∷ ys) (y ∷ put cmp r ys))) [ true ↦ (b, a) | false ↦ (a.0, all_put P ys a.1 b) ]
+  all_put P (y ∷ ys) a b = elim (is_gt (cmp y r)) as (λ v. AllByRecursion P (cond v (r ∷ y ∷ ys) (y ∷ put cmp r ys))) [
+    | true ↦
+        (b, a)
+    | false ↦ (a.0, all_put P ys a.1 b)
+  ]
 
   put_has : (P : X → Type 0) (xs : List X) → AllByRecursion P (put cmp r xs) → P r
   put_has P [] a = a.0
-  put_has P (y ∷ ys) a = elim (is_gt (cmp y r)) as (λ v. AllByRecursion P (cond v (r ∷ y ∷ ys) (y ∷ put cmp r ys)) → P r) [ true ↦ λ h. h.0 | false ↦ λ h. put_has P ys h.1 ] a
+  put_has P (y ∷ ys) a = elim (is_gt (cmp y r)) as (λ v. AllByRecursion P (cond v (r ∷ y ∷ ys) (y ∷ put cmp r ys)) →
+      P r) [ true ↦ λ h. h.0 | false ↦ λ h. put_has P ys h.1 ] a
 
   -- where its key is new
   pub rises_put : (xs : List X) → Rises cmp xs → has xs ≡ false → Rises cmp (put cmp r xs)
@@ -65,7 +73,8 @@ module _ {X : Type 0} {cmp : X → X → Ordering} (total : IsTotalOrder cmp) (r
   put_is_insert [] new = refl
   put_is_insert (x ∷ xs) new =
       let more : 1 + below xs ≡ suc (below xs) = omega arith in
-      elim (cmp x r) as (λ o. (is_eq o || has xs) ≡ false → cond (is_gt o) (r ∷ x ∷ xs) (x ∷ put cmp r xs) ≡ insert (x ∷ xs) (cond (is_lt o) (1 + below xs) 0) r) [
+      elim (cmp x r) as (λ o. (is_eq o || has xs) ≡ false → cond (is_gt o) (r ∷ x ∷ xs) (x ∷ put cmp r xs) ≡ insert (x ∷ xs) (cond
+      (is_lt o) (1 + below xs) 0) r) [
         | Less ↦ λ new. ap (λ ys. x ∷ ys) (put_is_insert xs new) ∙ ap (λ n. insert (x ∷ xs) n r) (sym more)
         | Equal ↦ λ new. absurd (cc (new))
         | Greater ↦ λ new. refl
@@ -108,7 +117,8 @@ module _ {X : Type 0} {cmp : X → X → Ordering} (total : IsTotalOrder cmp) (r
     replace_found [] rises there = cc
     replace_found (x ∷ xs) rises there =
         let more : 1 + below xs ≡ suc (below xs) = omega arith in
-        elim (cmp x r) as (λ o. cmp x r ≡ o → (is_eq o || has xs) ≡ true → slice_set (x ∷ xs) (cond (is_lt o) (1 + below xs) 0) r ≡ cond (alike x) r x ∷ replace alike r xs) [
+        elim (cmp x r) as (λ o. cmp x r ≡ o → (is_eq o || has xs) ≡ true →
+        slice_set (x ∷ xs) (cond (is_lt o) (1 + below xs) 0) r ≡ cond (alike x) r x ∷ replace alike r xs) [
           | Less ↦ λ e there.
               ap (λ n. slice_set (x ∷ xs) n r) more ∙ ap (λ ys. x ∷ ys) (replace_found xs rises.1 there)
               ∙ ap (λ v. cond v r x ∷ replace alike r xs) (sym (sym (exact x) ∙ ap is_eq e))
@@ -137,7 +147,8 @@ module _ {X : Type 0} {cmp : X → X → Ordering} (total : IsTotalOrder cmp) (r
           | false ↦ λ e. refl
         ] refl
 
-    all_set : (x : X) (xs : List X) → AllByRecursion (λ y. cmp x y ≡ Less) xs → AllByRecursion (λ y. cmp (cond (alike x) r x) y ≡ Less) (replace alike r xs)
+    all_set : (x : X) (xs : List X) → AllByRecursion (λ y. cmp x y ≡ Less) xs →
+        AllByRecursion (λ y. cmp (cond (alike x) r x) y ≡ Less) (replace alike r xs)
     all_set x [] all = tt
     all_set x (y ∷ ys) all = (set_alike x y ∙ all.0, all_set x ys all.1)
 

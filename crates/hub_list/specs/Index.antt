@@ -48,7 +48,8 @@ pub owned_total : IsTotalOrder owned_cmp
 owned_total = then_total (on_total (λ k. k.supplier) nat_list_cmp_total) (on_total (λ k. k.sscc) nat_list_cmp_total)
 
 one_supplier : (a b : List ℕ) (o : Ordering) → is_eq (ordering_then (bytes_cmp a b) o) ≡ true → a ≡ b
-one_supplier a b o h = same_is a b (and_parts (same a b) (is_eq o) (sym (both (bytes_cmp a b) o (same_bytes a b) refl) ∙ h)).0
+one_supplier a b o h =
+    same_is a b (and_parts (same a b) (is_eq o) (sym (both (bytes_cmp a b) o (same_bytes a b) refl) ∙ h)).0
 
 pub entry_tied : (a b : EntryKey) → is_eq (entry_cmp a b) ≡ true → a.supplier ≡ b.supplier
 entry_tied a b h = one_supplier a.supplier b.supplier (nat_cmp a.number b.number) h
@@ -56,7 +57,8 @@ entry_tied a b h = one_supplier a.supplier b.supplier (nat_cmp a.number b.number
 pub owned_tied : (a b : PalletKey) → is_eq (owned_cmp a b) ≡ true → a.supplier ≡ b.supplier
 owned_tied a b h = one_supplier a.supplier b.supplier (bytes_cmp a.sscc b.sscc) h
 
-pub owned_in_order : (x y : PalletRow) → x.supplier ≡ y.supplier → owned_cmp (owned_key x) (owned_key y) ≡ pallet_cmp x y
+pub owned_in_order : (x y : PalletRow) → x.supplier ≡ y.supplier →
+    owned_cmp (owned_key x) (owned_key y) ≡ pallet_cmp x y
 owned_in_order x y e =
     ap (λ o. ordering_then o (bytes_cmp x.sscc y.sscc))
     (ap (bytes_cmp x.supplier) (sym e) ∙ tied_itself nat_list_cmp_total x.supplier)

@@ -89,7 +89,8 @@ pub(crate) trait Indexed<K: Row>: Settable {
     ghost tied: { (a b : K) → is_eq (K.compared a b) ≡ true → supplier a ≡ supplier b };
 
     /// The keys of one supplier stand in the order of its rows.
-    ghost in_order: { (x y : Self) → supplier (key x) ≡ supplier (key y) → K.compared (key x) (key y) ≡ Self.compared x y };
+    ghost in_order: { (x y : Self) → supplier (key x) ≡ supplier (key y) →
+        K.compared (key x) (key y) ≡ Self.compared x y };
 }
 
 impl Indexed<EntryKey> for MailRow {
@@ -146,7 +147,8 @@ impl Indexed<PalletKey> for PalletRow {
 fn list_key<T: Indexed<K>, K: Row>(index: &mut Vec<K>, row: &T)
     requires room { vec_len index.old < vec_capacity index.old }
     requires rises { Rises K.compared index.old.items }
-    ensures items { list_any (λ old. is_eq (K.compared old (T.key row.now))) index.old.items ≡ false → index.new.items ≡ (if T.listed row.now then put K.compared (T.key row.now) index.old.items else index.old.items) }
+    ensures items { list_any (λ old. is_eq (K.compared old (T.key row.now))) index.old.items ≡ false →
+        index.new.items ≡ (if T.listed row.now then put K.compared (T.key row.now) index.old.items else index.old.items) }
     ensures len { vec_len index.new ≤ vec_len index.old + 1 }
     ensures capacity { vec_capacity index.new ≡ vec_capacity index.old }
 {

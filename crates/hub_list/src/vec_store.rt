@@ -16,8 +16,8 @@ use std::marker::Model;
 /// answered find no memory, of a commit where the copies of its changes find none. Of the changes of a commit, a row
 /// that is added under a key that is there is left out, and so is a row that is set where none has its key.
 ///
-/// A look-up takes a binary search and a copy of what it answers; `all_pallets` and `mail_after` search in an index, and
-/// then for each row that they answer. A commit moves the rows that stand behind a new one, and the keys in an index.
+/// A look-up takes a binary search and a copy of what it answers; `all_pallets` and `mail_after` search in an index,
+/// and then for each row that they answer. A commit moves the rows and keys that stand behind a new one.
 #[derive(Debug, Drop)]
 pub struct VecStore {
     alloc: Global,

@@ -29,10 +29,14 @@ returns-clause-index g c =
     let there : slice_get c.rows_at.result.now 0 ≡ Some old = search rules in
     let found = c.rows_at.ensures ∙ ap (filter (λ x. is_eq (g.T.Row.compared x row))) c.as_slice.ensures.value in
     let first = ap (λ xs. slice_get xs 0) (sym found) ∙ there in
-    let new = key_is_new g.met.T.Row.total g.met.K.Row.total T.supplier T.key T.listed met.tied met.in_order row old index rows c.requires.index c.requires.rises first in
-    let kept = set_kept g.met.T.Row.total g.met.K.Row.total T.supplier T.key T.listed met.tied met.in_order row old index rows c.requires.index c.requires.rises first in
+    let new = key_is_new g.met.T.Row.total g.met.K.Row.total T.supplier T.key T.listed met.tied met.in_order
+    row old index rows c.requires.index c.requires.rises first in
+    let kept = set_kept g.met.T.Row.total g.met.K.Row.total T.supplier T.key T.listed met.tied met.in_order
+    row old index rows c.requires.index c.requires.rises first in
     let dropped = c.drop_row.ensures.items ∙ ap (λ key. filter (λ k. not (is_eq (K.compared k key))) index) c.index_key.ensures in
-    let listed = c.list_key.ensures.items (ap (list_any (λ k. is_eq (K.compared k (T.key row)))) dropped ∙ new) ∙ ap (λ keys. if T.listed row then put K.compared (T.key row) keys else keys) dropped in
+    let listed = c.list_key.ensures.items (ap (list_any (λ k. is_eq (K.compared k (T.key row)))) dropped ∙ new)
+    ∙ ap (λ keys. if T.listed row then put K.compared (T.key row) keys else keys) dropped in
     let set_in = c.set_row.ensures.items ∙ (λ i. replace (λ x. sym (g.met.T.Settable.same_key row x) i) row rows) in
     subst (IsIndex K.compared T.supplier T.key T.listed c.list_key.new.index.items) (sym set_in)
-    (subst (λ keys. IsIndex K.compared T.supplier T.key T.listed keys (replace (λ x. is_eq (g.T.Row.compared x row)) row rows)) (sym listed) kept)
+    (subst (λ keys. IsIndex K.compared T.supplier T.key T.listed keys (replace (λ x. is_eq (g.T.Row.compared x row)) row rows))
+    (sym listed) kept)

@@ -13,7 +13,8 @@ loop-change-preserved c =
     let t = tables_in c.loop-change.lists in
     let end = apply_all c.args.changes.items (tables_in c.args.lists.now) in
     let cut = (c.in-Some.ensures.steps).0 in
-    let room : Room (length later + 1) c.loop-change.lists = rw add-one (subst (λ (cs : List Change). Room (length cs) c.loop-change.lists) cut c.loop-change.invariant.room) in
+    let room : Room (length later + 1) c.loop-change.lists = rw add-one (subst (λ (cs : List Change). Room
+    (length cs) c.loop-change.lists) cut c.loop-change.invariant.room) in
     record {
       kept = c.apply_one.ensures.kept;
       left = λ fit.

@@ -9,6 +9,7 @@ use Rattle.hub_list.proofs.lists.apply_each.Given as goal
 abbrev pub invariant-loop-change : goal.invariant-loop-change
 invariant-loop-change l = record {
   kept : Kept l.lists;
-  left : Rising (apply_all l.fn.changes.items (tables_in l.fn.lists)) → apply_all (into_iter_items l.change-iterator) (tables_in l.lists) ≡ apply_all l.fn.changes.items (tables_in l.fn.lists);
+  left : Rising (apply_all l.fn.changes.items (tables_in l.fn.lists)) →
+      apply_all (into_iter_items l.change-iterator) (tables_in l.lists) ≡ apply_all l.fn.changes.items (tables_in l.fn.lists);
   room : Room (length (into_iter_items l.change-iterator)) l.lists;
 }

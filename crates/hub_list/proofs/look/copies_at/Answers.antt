@@ -14,7 +14,8 @@ loop-key-preserved g c =
     let within : i < length keys = search rules in
     let later = filter_map at (drop (i + 1) keys) in
     let step = c.loop-key.invariant ∙ ap (λ rest. found ++ rest) (filter_map_step at keys i c.key-item.result within c.key-item.is) in
-    let first = sym (first_is_found (g.K.Key.wanted c.key-item.result) c.args.rows.now) ∙ ap (λ rows. slice_get rows 0) (sym c.rows_at.ensures) in
+    let first = sym (first_is_found (g.K.Key.wanted c.key-item.result) c.args.rows.now)
+    ∙ ap (λ rows. slice_get rows 0) (sym c.rows_at.ensures) in
     elim c.match-first.branch [
       | in-Some+in_ok-copy+in_ok-push w ↦
           let there : slice_get c.rows_at.result.now 0 ≡ Some w.in_ok-copy.field-0 = search rules in

@@ -22,7 +22,8 @@ returns c =
     let limit = c.args.limit in
     let mail = c.args.mail.now in
     let wanted = λ (key : EntryKey) (row : MailRow). same row.supplier key.supplier && (row.number == key.number) in
-    let exact = λ (x y : MailRow). both (bytes_cmp y.supplier x.supplier) (nat_cmp y.number x.number) (same_bytes y.supplier x.supplier) (same_numbers y.number x.number) in
+    let exact = λ (x y : MailRow). both (bytes_cmp y.supplier x.supplier) (nat_cmp y.number x.number) (same_bytes y.supplier x.supplier)
+    (same_numbers y.number x.number) in
     let from = λ (row : MailRow). same row.supplier gln in
     let later = λ (row : MailRow). nat_lt number row.number in
     let late_key = λ (key : EntryKey). nat_lt number key.number in
@@ -43,7 +44,8 @@ returns c =
     ∙ take_of_map entry_key limit rows in
     let all = all_taken (Again mail_total entry_key wanted exact mail) limit rows
     (all_filter (Again mail_total entry_key wanted exact mail) listed ours
-    (all_filter (Again mail_total entry_key wanted exact mail) from mail (all_again mail_total entry_key wanted exact mail c.requires.mail))) in
+    (all_filter (Again mail_total entry_key wanted exact mail) from mail
+    (all_again mail_total entry_key wanted exact mail c.requires.mail))) in
     let again = found_again mail_total entry_key wanted exact mail (take limit rows) all in
     subst (λ (found_rows : List MailRow). IfOk c.copies_at.result (λ found. found ≡ found_rows))
     (ap (filter_map (λ (key : EntryKey). find (wanted key) mail)) asked ∙ again) c.copies_at.ensures

@@ -7,5 +7,6 @@ use Rattle.hub_list.proofs.look.holds_pallet.Goals as goal
 
 pub returns : goal.returns
 returns c =
-    let either = any_of_either (λ (row : PalletRow). same row.sscc c.args.sscc.now) (λ row. same row.supplier c.args.supplier.now) c.args.pallets.now in
+    let either = any_of_either (λ (row : PalletRow). same row.sscc c.args.sscc.now)
+    (λ row. same row.supplier c.args.supplier.now) c.args.pallets.now in
     c.any_from.ensures ∙ ap (list_any (λ (row : PalletRow). same row.supplier c.args.supplier.now)) c.rows_at.ensures ∙ either

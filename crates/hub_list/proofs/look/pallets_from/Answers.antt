@@ -19,7 +19,8 @@ returns c =
     let exact = λ (x y : PalletRow). same_bytes y.sscc x.sscc in
     let from = λ (row : PalletRow). same row.supplier gln in
     let keys = c.rows_at.ensures ∙ c.requires.owned.each gln ∙ ap (map owned_key) (filter_true (filter from pallets)) in
-    let all = all_filter (Again pallet_total owned_key wanted exact pallets) from pallets (all_again pallet_total owned_key wanted exact pallets c.requires.pallets) in
+    let all = all_filter (Again pallet_total owned_key wanted exact pallets) from pallets
+    (all_again pallet_total owned_key wanted exact pallets c.requires.pallets) in
     let again = found_again pallet_total owned_key wanted exact pallets (filter from pallets) all in
     subst (λ (rows : List PalletRow). IfOk c.copies_at.result (λ found. found ≡ rows))
     (ap (filter_map (λ (key : PalletKey). find (wanted key) pallets)) keys ∙ again) c.copies_at.ensures

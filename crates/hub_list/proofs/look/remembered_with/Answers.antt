@@ -12,7 +12,8 @@ returns-in_ok-copied-in-Some c =
     (λ row. (row.side == side_letter key.side) && (same row.control key.control.now && same row.message key.message.now)) c.args.rows.now in
     let there : slice_get c.rows_at.result.now 0 ≡ Some c.in-Some.row.now = search rules in
     let content : Some c.in_ok-copied-in-Some.field-0 ≡ Some c.in-Some.row.now.content = search rules in
-    content ∙ sym (ap (option_map (λ (row : RememberedRow). row.content)) (sym first ∙ ap (λ rows. slice_get rows 0) (sym c.rows_at.ensures) ∙ there))
+    content ∙ sym (ap (option_map (λ (row : RememberedRow). row.content)) (sym first
+    ∙ ap (λ rows. slice_get rows 0) (sym c.rows_at.ensures) ∙ there))
 
 pub returns-in-None : goal.returns-in-None
 returns-in-None c =

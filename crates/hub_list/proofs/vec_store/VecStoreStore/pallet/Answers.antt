@@ -6,7 +6,8 @@ use Rattle.hub_list.proofs.vec_store.VecStoreStore.pallet.Goals as goal
 
 pub returns-clause-looks : goal.returns-clause-looks
 returns-clause-looks c = record {
-  answers = λ _. let e : c.in_ok-pallet_with.field-0 ≡ pallet_of (view c.args.supplier.now (tables_in c.self.inside.lists)) c.args.sscc.now = rw c.as_slice-pallets.ensures.value at c.in_ok-pallet_with.ensures in
+  answers = λ _. let e : c.in_ok-pallet_with.field-0 ≡ pallet_of (view c.args.supplier.now
+      (tables_in c.self.inside.lists)) c.args.sscc.now = rw c.as_slice-pallets.ensures.value at c.in_ok-pallet_with.ensures in
       subst (λ (t : Tables). c.in_ok-pallet_with.field-0 ≡ pallet_of (view c.args.supplier.now t) c.args.sscc.now) c.self.view_is e;
   content_stays = λ _. refl;
   left_stays = λ _ t h. h;

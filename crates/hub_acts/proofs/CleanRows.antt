@@ -1,0 +1,203 @@
+-- Changes of rows of the kinds leave tables of such rows.
+use Rattle.std.proofs.Common.{◌≡◌, ℕ, Bool, true, ◌&&◌, List, [], ◌∷◌, refl, ap, ◌∙◌}
+use Rattle.std.specs.List.{AllByRecursion, list_all}
+use Rattle.std.proofs.lemmas.Bool.{and_parts}
+use Rattle.hub_tables.specs.Change.{apply, apply_all}
+use Rattle.hub_tables.specs.Rows.{same, order_cmp, line_cmp, advice_cmp, pallet_cmp, content_cmp, receipt_cmp, remembered_cmp, mail_cmp, same_line, same_pallet, same_mail}
+use Rattle.hub_tables.specs.Tables.{Tables, view, holds}
+use Rattle.hub_tables.specs.declared.change.Change.{Change}
+use Rattle.hub_tables.specs.declared.change.Change.TheVariants.{AddOrder, AddLine, SetLine, AddAdvice, AddPallet, SetPallet, AddContent, AddReceipt, Remember, AddMail, SetMail}
+use Rattle.hub_tables.proofs.KeyOrder.{all_put}
+use Rattle.hub_tables.proofs.Lists.{all_filter, all_replace}
+use Rattle.hub_store.specs.Clean.{clean_order, clean_line, clean_advice, clean_pallet, clean_content, clean_receipt, clean_remembered, clean_mail, are_clean}
+
+pub both_true : {a b : Bool} → a ≡ true → b ≡ true → (a && b) ≡ true
+both_true {a} {b} p q = ap (λ v. v && b) p ∙ q
+
+all_true : {X : Type 0} (p : X → Bool) (xs : List X) → AllByRecursion (λ x. p x ≡ true) xs → list_all p xs ≡ true
+all_true p [] all = refl
+all_true p (x ∷ xs) all = both_true all.0 (all_true p xs all.1)
+
+true_all : {X : Type 0} (p : X → Bool) (xs : List X) → list_all p xs ≡ true → AllByRecursion (λ x. p x ≡ true) xs
+true_all p [] h = tt
+true_all p (x ∷ xs) h = let parts = and_parts (p x) (list_all p xs) h in (parts.0, true_all p xs parts.1)
+
+pub record CleanRows (t : Tables) : Type 0 where
+  pub orders : AllByRecursion (λ row. clean_order row ≡ true) t.orders
+  pub lines : AllByRecursion (λ row. clean_line row ≡ true) t.lines
+  pub advices : AllByRecursion (λ row. clean_advice row ≡ true) t.advices
+  pub pallets : AllByRecursion (λ row. clean_pallet row ≡ true) t.pallets
+  pub contents : AllByRecursion (λ row. clean_content row ≡ true) t.contents
+  pub receipts : AllByRecursion (λ row. clean_receipt row ≡ true) t.receipts
+  pub remembered : AllByRecursion (λ row. clean_remembered row ≡ true) t.remembered
+  pub mail : AllByRecursion (λ row. clean_mail row ≡ true) t.mail
+
+pub clean_rows : (t : Tables) → are_clean t ≡ true → CleanRows t
+clean_rows t h =
+    let a = and_parts (list_all clean_order t.orders) _ h in
+    let b = and_parts (list_all clean_line t.lines) _ a.1 in
+    let c = and_parts (list_all clean_advice t.advices) _ b.1 in
+    let d = and_parts (list_all clean_pallet t.pallets) _ c.1 in
+    let e = and_parts (list_all clean_content t.contents) _ d.1 in
+    let f = and_parts (list_all clean_receipt t.receipts) _ e.1 in
+    let g = and_parts (list_all clean_remembered t.remembered) (list_all clean_mail t.mail) f.1 in
+    record {
+      orders = true_all clean_order t.orders a.0;
+      lines = true_all clean_line t.lines b.0;
+      advices = true_all clean_advice t.advices c.0;
+      pallets = true_all clean_pallet t.pallets d.0;
+      contents = true_all clean_content t.contents e.0;
+      receipts = true_all clean_receipt t.receipts f.0;
+      remembered = true_all clean_remembered t.remembered g.0;
+      mail = true_all clean_mail t.mail g.1;
+    }
+
+pub rows_clean : (t : Tables) → CleanRows t → are_clean t ≡ true
+rows_clean t h =
+    both_true (all_true clean_order t.orders h.orders) (both_true (all_true clean_line t.lines h.lines)
+    (both_true (all_true clean_advice t.advices h.advices) (both_true (all_true clean_pallet t.pallets h.pallets)
+    (both_true (all_true clean_content t.contents h.contents) (both_true (all_true clean_receipt t.receipts h.receipts)
+    (both_true (all_true clean_remembered t.remembered h.remembered) (all_true clean_mail t.mail h.mail)))))))
+
+-- what a supplier sees
+pub clean_view : (supplier : List ℕ) (t : Tables) → CleanRows t → CleanRows (view supplier t)
+clean_view supplier t h = record {
+  orders = all_filter _ (λ row. same row.supplier supplier) t.orders h.orders;
+  lines = all_filter _ (λ row. same row.supplier supplier) t.lines h.lines;
+  advices = all_filter _ (λ row. same row.supplier supplier) t.advices h.advices;
+  pallets = all_filter _ (λ row. same row.supplier supplier) t.pallets h.pallets;
+  contents = all_filter _ (λ row. holds supplier t.pallets row.sscc) t.contents h.contents;
+  receipts = all_filter _ (λ row. holds supplier t.pallets row.sscc) t.receipts h.receipts;
+  remembered = all_filter _ (λ row. same row.supplier supplier) t.remembered h.remembered;
+  mail = all_filter _ (λ row. same row.supplier supplier) t.mail h.mail;
+}
+
+-- a change of a row of the kinds
+abbrev pub CleanChange : Change → Type 0
+CleanChange (AddOrder row) = clean_order row ≡ true
+CleanChange (AddLine row) = clean_line row ≡ true
+CleanChange (SetLine row) = clean_line row ≡ true
+CleanChange (AddAdvice row) = clean_advice row ≡ true
+CleanChange (AddPallet row) = clean_pallet row ≡ true
+CleanChange (SetPallet row) = clean_pallet row ≡ true
+CleanChange (AddContent row) = clean_content row ≡ true
+CleanChange (AddReceipt row) = clean_receipt row ≡ true
+CleanChange (Remember row) = clean_remembered row ≡ true
+CleanChange (AddMail row) = clean_mail row ≡ true
+CleanChange (SetMail row) = clean_mail row ≡ true
+
+clean_after : (change : Change) (t : Tables) → CleanChange change → CleanRows t → CleanRows (apply change t)
+clean_after (AddOrder row) t c h = record {
+  orders = all_put order_cmp _ t.orders row h.orders c;
+  lines = h.lines;
+  advices = h.advices;
+  pallets = h.pallets;
+  contents = h.contents;
+  receipts = h.receipts;
+  remembered = h.remembered;
+  mail = h.mail;
+}
+clean_after (AddLine row) t c h = record {
+  orders = h.orders;
+  lines = all_put line_cmp _ t.lines row h.lines c;
+  advices = h.advices;
+  pallets = h.pallets;
+  contents = h.contents;
+  receipts = h.receipts;
+  remembered = h.remembered;
+  mail = h.mail;
+}
+clean_after (SetLine row) t c h = record {
+  orders = h.orders;
+  lines = all_replace _ (same_line row) row t.lines h.lines c;
+  advices = h.advices;
+  pallets = h.pallets;
+  contents = h.contents;
+  receipts = h.receipts;
+  remembered = h.remembered;
+  mail = h.mail;
+}
+clean_after (AddAdvice row) t c h = record {
+  orders = h.orders;
+  lines = h.lines;
+  advices = all_put advice_cmp _ t.advices row h.advices c;
+  pallets = h.pallets;
+  contents = h.contents;
+  receipts = h.receipts;
+  remembered = h.remembered;
+  mail = h.mail;
+}
+clean_after (AddPallet row) t c h = record {
+  orders = h.orders;
+  lines = h.lines;
+  advices = h.advices;
+  pallets = all_put pallet_cmp _ t.pallets row h.pallets c;
+  contents = h.contents;
+  receipts = h.receipts;
+  remembered = h.remembered;
+  mail = h.mail;
+}
+clean_after (SetPallet row) t c h = record {
+  orders = h.orders;
+  lines = h.lines;
+  advices = h.advices;
+  pallets = all_replace _ (same_pallet row) row t.pallets h.pallets c;
+  contents = h.contents;
+  receipts = h.receipts;
+  remembered = h.remembered;
+  mail = h.mail;
+}
+clean_after (AddContent row) t c h = record {
+  orders = h.orders;
+  lines = h.lines;
+  advices = h.advices;
+  pallets = h.pallets;
+  contents = all_put content_cmp _ t.contents row h.contents c;
+  receipts = h.receipts;
+  remembered = h.remembered;
+  mail = h.mail;
+}
+clean_after (AddReceipt row) t c h = record {
+  orders = h.orders;
+  lines = h.lines;
+  advices = h.advices;
+  pallets = h.pallets;
+  contents = h.contents;
+  receipts = all_put receipt_cmp _ t.receipts row h.receipts c;
+  remembered = h.remembered;
+  mail = h.mail;
+}
+clean_after (Remember row) t c h = record {
+  orders = h.orders;
+  lines = h.lines;
+  advices = h.advices;
+  pallets = h.pallets;
+  contents = h.contents;
+  receipts = h.receipts;
+  remembered = all_put remembered_cmp _ t.remembered row h.remembered c;
+  mail = h.mail;
+}
+clean_after (AddMail row) t c h = record {
+  orders = h.orders;
+  lines = h.lines;
+  advices = h.advices;
+  pallets = h.pallets;
+  contents = h.contents;
+  receipts = h.receipts;
+  remembered = h.remembered;
+  mail = all_put mail_cmp _ t.mail row h.mail c;
+}
+clean_after (SetMail row) t c h = record {
+  orders = h.orders;
+  lines = h.lines;
+  advices = h.advices;
+  pallets = h.pallets;
+  contents = h.contents;
+  receipts = h.receipts;
+  remembered = h.remembered;
+  mail = all_replace _ (same_mail row) row t.mail h.mail c;
+}
+
+pub clean_all : (changes : List Change) (t : Tables) → AllByRecursion CleanChange changes → CleanRows t → CleanRows (apply_all changes t)
+clean_all [] t all h = h
+clean_all (change ∷ changes) t all h = clean_all changes (apply change t) all.1 (clean_after change t all.0 h)

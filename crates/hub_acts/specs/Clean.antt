@@ -1,0 +1,70 @@
+-- Messages and cancellations within the limits of what they say, from which rows of the kinds are made.
+use Rattle.std.specs.Prelude.{◌≡◌, ◌≤◌, true, List, length}
+use Rattle.std.specs.List.{AllByRecursion}
+use Rattle.edi_base.specs.Limits.{greatest}
+use Rattle.edi_tokens.specs.Service.{is_decimal}
+use Rattle.edi_envelope.specs.Limits.{is_reference}
+use Rattle.edi_envelope.specs.Moment.{last_moment}
+use Rattle.gs1_ids.specs.Digits.{is_key}
+use Rattle.gs1_ids.specs.Gln.{is_gln}
+use Rattle.edi_orders.specs.declared.order.Order.{Order}
+use Rattle.edi_orders.specs.declared.order.OrderLine.{OrderLine}
+use Rattle.edi_goods.specs.declared.despatch.Despatch.{Despatch}
+use Rattle.edi_goods.specs.declared.despatch.DespatchLine.{DespatchLine}
+use Rattle.edi_goods.specs.declared.despatch.Unit.{Unit}
+use Rattle.edi_goods.specs.declared.receipt.Receipt.{Receipt}
+use Rattle.edi_goods.specs.declared.receipt.ReceiptLine.{ReceiptLine}
+use Rattle.edi_goods.specs.declared.receipt.ReceiptUnit.{ReceiptUnit}
+use Rattle.hub_parties.specs.declared.row.SupplierRow.{SupplierRow}
+use Rattle.hub_tables.specs.Tables.{Tables, view}
+use Rattle.hub_rules.specs.Judging.{Judge}
+use Rattle.hub_rules.specs.ReceiptRules.{total}
+use Rattle.hub_rules.specs.declared.incoming.IncomingMessage.{IncomingMessage}
+use Rattle.hub_store.specs.Clean.{are_bytes, is_number, is_line, is_quantity, are_clean}
+use Rattle.hub_law.specs.Told.{changed}
+
+-- references, content, moment and decimal mark
+pub record WithinIncoming (incoming : IncomingMessage) : Type 0 where
+  pub control : is_reference incoming.control ≡ true
+  pub message : is_reference incoming.message ≡ true
+  pub content : are_bytes incoming.content ≡ true
+  pub moment : incoming.moment ≤ last_moment
+  pub decimal : is_decimal incoming.decimal ≡ true
+
+pub record WithinOrderLine (line : OrderLine) : Type 0 where
+  pub number : is_line line.line ≡ true
+  pub item : is_key 14 line.gtin ≡ true
+  pub quantity : is_quantity line.quantity ≡ true
+
+pub record WithinOrder (order : Order) : Type 0 where
+  pub number : is_number order.number ≡ true
+  pub lines : AllByRecursion WithinOrderLine order.lines
+
+pub record WithinUnit (unit : Unit) : Type 0 where
+  pub sscc : is_key 18 unit.sscc ≡ true
+  pub places : length unit.lines ≤ 999_999
+  pub quantities : AllByRecursion (λ (line : DespatchLine). is_quantity line.quantity ≡ true) unit.lines
+
+pub record WithinDespatch (despatch : Despatch) : Type 0 where
+  pub number : is_number despatch.number ≡ true
+  pub units : AllByRecursion WithinUnit despatch.units
+
+-- a line of a unit, and the sums of its item over the unit
+pub record WithinReceiptLine (lines : List ReceiptLine) (line : ReceiptLine) : Type 0 where
+  pub item : is_key 14 line.gtin ≡ true
+  pub accepted : total (λ line. line.accepted) line.gtin lines ≤ greatest
+  pub returned : total (λ line. line.returned) line.gtin lines ≤ greatest
+  pub destroyed : total (λ line. line.destroyed) line.gtin lines ≤ greatest
+
+pub record WithinReceiptUnit (unit : ReceiptUnit) : Type 0 where
+  pub sscc : is_key 18 unit.sscc ≡ true
+  pub lines : AllByRecursion (WithinReceiptLine unit.lines) unit.lines
+
+pub record WithinReceipt (receipt : Receipt) : Type 0 where
+  pub number : is_number receipt.number ≡ true
+  pub units : AllByRecursion WithinReceiptUnit receipt.units
+
+-- where the supplier's GLN is one and all rows are of the kinds, they are so after what a judge of what it sees accepts
+abbrev pub Cleaned : SupplierRow → Tables → Judge → Type 0
+Cleaned s t judge =
+    is_gln s.gln ≡ true → are_clean t ≡ true → are_clean (changed (judge (view s.gln t)) t) ≡ true
