@@ -1,4 +1,5 @@
-//! Tests of the public calls of the hub's layers, in one crate, so that no crate below is proved twice.
+//! Tests of the public calls of the register, the tables, the stores and the program's parts, in one crate, so that no
+//! crate below is proved twice.
 #![tactic(auto)]
 
 #[cfg(test)]
@@ -6,15 +7,7 @@ mod app;
 #[cfg(test)]
 mod faults;
 #[cfg(test)]
-mod judges;
-#[cfg(test)]
-mod lines;
-#[cfg(test)]
 mod register;
-#[cfg(test)]
-mod rising;
-#[cfg(test)]
-mod rules;
 #[cfg(test)]
 mod store;
 #[cfg(test)]

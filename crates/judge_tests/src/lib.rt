@@ -1,0 +1,12 @@
+//! Tests of the public calls of the rules, the lines and the judges, in one crate, so that no crate below is proved
+//! twice.
+#![tactic(auto)]
+
+#[cfg(test)]
+mod judges;
+#[cfg(test)]
+mod lines;
+#[cfg(test)]
+mod rising;
+#[cfg(test)]
+mod rules;
