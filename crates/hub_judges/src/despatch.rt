@@ -1,17 +1,20 @@
 //! The rules of DESADV.
-ghost use Rattle.std.specs.Prelude.{◌≡◌, ◌≤◌, ℕ, Bool, List, false, length, map, IfOk, option_copied};
+ghost use Rattle.std.specs.Prelude.{◌≡◌, ◌≤◌, ℕ, Bool, List, [], ◌∷◌, false, length, map, IfOk, option_copied};
 ghost use Rattle.std.specs.Option.{IfSome, IfNone};
 ghost use Rattle.edi_base.specs.Seen.{has_twice};
 ghost use Rattle.gs1_ids.specs.Sscc.{under_some};
 ghost use Rattle.hub_tables.specs.Sets.{Rises};
 ghost use Rattle.hub_tables.specs.Tables.{Tables};
+ghost use Rattle.hub_tables.specs.declared.cases.Side.TheVariants.{Supplier};
+ghost use Rattle.hub_tables.specs.declared.change.Change.TheVariants.{Remember};
 ghost use Rattle.hub_lines.specs.Book.{facts_cmp};
 ghost use Rattle.hub_lines.specs.declared.facts.LineFacts.{LineFacts};
 ghost use Rattle.hub_rules.specs.Judging.{joined};
+ghost use Rattle.hub_rules.specs.RepeatRules.{remembered};
 ghost use Rattle.hub_rules.specs.Rules as rules;
 ghost use Rattle.hub_rules.specs.declared.verdict.Verdict.{Verdict};
 ghost use Rattle.hub_rules.specs.declared.verdict.Verdict.TheVariants.{Refuse};
-ghost use Rattle.hub_judges.specs.FromFacts.{despatch_checks, lines_from, new_pallet, unit_checks, units_from};
+ghost use Rattle.hub_judges.specs.FromFacts.{despatch_checks, despatch_from, lines_from, new_pallet, unit_checks, units_from};
 ghost use Rattle.hub_judges.specs.Known.{TellsForDespatch};
 
 use crate::known::Known;
@@ -160,6 +163,42 @@ fn judge_units<'a>(
     Ok(Verdict::Accept(changes))
 }
 
+// What comes of a DESADV that is admitted and new, and whose number is not known: it is remembered, and its units are
+// judged.
+fn judge_new(
+    alloc: Global,
+    row: &SupplierRow,
+    known: Known,
+    incoming: IncomingMessage,
+    despatch: &Despatch,
+) -> Result<Verdict, MemoryFault>
+    requires each_unit { length known.used ≡ length despatch.now.units }
+    requires rise { Rises facts_cmp known.lines }
+    requires apart { has_twice (map (λ unit. unit.sscc) despatch.now.units) ≡ false }
+    requires new { known.number_known ≡ false }
+    ensures { IfOk result (λ verdict. verdict ≡ joined (Remember (remembered (rules.referred_by row.now Supplier incoming) incoming.content) ∷ []) (despatch_from row.now despatch.now known)) }
+{
+    let Known {
+        orders,
+        lines,
+        used,
+        ..
+    } = known;
+    let orders = orders.as_slice();
+    let numbers = OrderNumbers::new(alloc, orders)?;
+    let book = Book::new(alloc, lines)?;
+    let advice = AdviceRow {
+        supplier: row.gln,
+        number: copied(alloc, despatch.number.as_slice())?,
+    };
+    let mut changes = Items::new(alloc);
+    changes.push(remember(row.gln, Side::Supplier, incoming))?;
+    changes.push(Change::AddAdvice(advice))?;
+    let used = used.as_slice();
+    let verdict = judge_units(alloc, row, despatch, &numbers, used, book, changes)?;
+    Ok(verdict)
+}
+
 /// What comes of a DESADV: B01, B02, B03 and B13 are asked in this order; then of each unit B11 and B12, and of each of its
 /// lines B05, B06, B09 and B10, on what the earlier lines left. Asks that it is known of each unit whether its SSCC is used, that
 /// the lines that are known rise by order number and line number, and that no SSCC stands in two units. `MemoryFault` where
@@ -177,35 +216,16 @@ pub fn judge_despatch(
     requires apart { has_twice (map (λ unit. unit.sscc) despatch.now.units) ≡ false }
     ensures { IfOk result (λ verdict. (used : List ℕ → Bool) (state : Tables) → TellsForDespatch known used incoming despatch.now state → verdict ≡ rules.judge_despatch retailer.now (option_copied supplier.entry) used incoming despatch.now state) }
 {
-    let Known {
-        remembered,
-        orders,
-        lines,
-        number_known,
-        used,
-        ..
-    } = known;
     let row = match admitted(retailer, supplier, despatch.buyer, &despatch.supplier) {
         Ok(row) => row,
         Err(code) => return Ok(Verdict::Refuse(code)),
     };
-    if let Some(verdict) = repeats(alloc, &remembered, incoming.content.as_slice()) {
+    if let Some(verdict) = repeats(alloc, &known.remembered, incoming.content.as_slice()) {
         return Ok(verdict);
     }
-    if number_known {
+    if known.number_known {
         return Ok(Verdict::Refuse(Code::AdviceKnown));
     }
-    let orders = orders.as_slice();
-    let numbers = OrderNumbers::new(alloc, orders)?;
-    let book = Book::new(alloc, lines)?;
-    let advice = AdviceRow {
-        supplier: row.gln,
-        number: copied(alloc, despatch.number.as_slice())?,
-    };
-    let mut changes = Items::new(alloc);
-    changes.push(remember(row.gln, Side::Supplier, incoming))?;
-    changes.push(Change::AddAdvice(advice))?;
-    let used = used.as_slice();
-    let verdict = judge_units(alloc, row, despatch, &numbers, used, book, changes)?;
+    let verdict = judge_new(alloc, row, known, incoming, despatch)?;
     Ok(verdict)
 }

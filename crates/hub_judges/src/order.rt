@@ -1,7 +1,12 @@
 //! The rules of ORDERS.
-ghost use Rattle.std.specs.Prelude.{◌≡◌, ◌++◌, map, IfOk, option_copied};
+ghost use Rattle.std.specs.Prelude.{◌≡◌, ◌+◌, ◌<◌, ◌++◌, ◌∷◌, map, IfOk, option_copied};
 ghost use Rattle.hub_tables.specs.Tables.{Tables};
+ghost use Rattle.hub_tables.specs.declared.cases.MailKind.TheVariants as kinds;
+ghost use Rattle.hub_tables.specs.declared.cases.Side.TheVariants as sides;
+ghost use Rattle.hub_tables.specs.declared.change.Change.TheVariants.{AddOrder, Remember};
+ghost use Rattle.hub_rules.specs.MailboxRules.{mail_entry};
 ghost use Rattle.hub_rules.specs.OrderRules.{new_line};
+ghost use Rattle.hub_rules.specs.RepeatRules.{remembered};
 ghost use Rattle.hub_rules.specs.Rules as rules;
 ghost use Rattle.hub_judges.specs.Known.{TellsForOrder};
 
@@ -10,6 +15,7 @@ use crate::mail::{is_full, new_mail};
 use crate::party::admitted;
 use crate::remembering::{remember, repeats};
 use edi_base::{Items, MemoryFault, copied};
+use edi_envelope::LAST_MAIL_NUMBER;
 use edi_orders::Order;
 use gs1_ids::Gln;
 use hub_parties::SupplierRow;
@@ -42,6 +48,39 @@ fn add_lines(
     Ok(())
 }
 
+// What a new order changes: it is remembered, and its mailbox entry, the order and its lines are there.
+fn new_order(
+    alloc: Global,
+    row: &SupplierRow,
+    mails: u64,
+    incoming: IncomingMessage,
+    body: Items<u8>,
+    order: &Order,
+) -> Result<Items<Change>, MemoryFault>
+    requires { mails < LAST_MAIL_NUMBER }
+    ensures { IfOk result (λ changes. changes ≡ Remember (remembered (rules.referred_by row.now sides.Retailer incoming) incoming.content) ∷ mail_entry row.now.gln (mails + 1) incoming kinds.Orders order.now.number body ∷ AddOrder (record { supplier = row.now.gln; number = order.now.number }) ∷ map (new_line row.now.gln order.now.number) order.now.lines) }
+{
+    let number = order.number.as_slice();
+    let mail = new_mail(
+        alloc,
+        row.gln,
+        mails,
+        &incoming,
+        MailKind::Orders,
+        number,
+        body,
+    )?;
+    let mut changes = Items::new(alloc);
+    changes.push(remember(row.gln, Side::Retailer, incoming))?;
+    changes.push(mail)?;
+    changes.push(Change::AddOrder(OrderRow {
+        supplier: row.gln,
+        number: copied(alloc, number)?,
+    }))?;
+    add_lines(alloc, row.gln, order, &mut changes)?;
+    Ok(changes)
+}
+
 /// What comes of an ORDERS: B01, B02, B03, B04 and B16 are asked in this order. `body` is the canonical text of the message's
 /// segments, UNH to UNT, with `1` for its reference, as the mailbox entry keeps it. `MemoryFault` where memory ran out.
 pub fn judge_order(
@@ -68,22 +107,5 @@ pub fn judge_order(
     if is_full(known.mails) {
         return Ok(Verdict::Refuse(Code::MailboxFull));
     }
-    let mail = new_mail(
-        alloc,
-        row.gln,
-        known.mails,
-        &incoming,
-        MailKind::Orders,
-        order.number.as_slice(),
-        body,
-    )?;
-    let mut changes = Items::new(alloc);
-    changes.push(remember(row.gln, Side::Retailer, incoming))?;
-    changes.push(mail)?;
-    changes.push(Change::AddOrder(OrderRow {
-        supplier: row.gln,
-        number: copied(alloc, order.number.as_slice())?,
-    }))?;
-    add_lines(alloc, row.gln, order, &mut changes)?;
-    Ok(Verdict::Accept(changes))
+    Ok(Verdict::Accept(new_order(alloc, row, known.mails, incoming, body, order)?))
 }

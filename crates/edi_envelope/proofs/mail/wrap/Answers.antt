@@ -1,4 +1,4 @@
-use Rattle.std.proofs.Common.{◌≡◌, arith, ◌∙◌, ap}
+use Rattle.std.proofs.Common.{◌≡◌, arith, ◌∙◌, ap, rules}
 use Rattle.std.proofs.lemmas.Grind.{common_steps}
 use Rattle.edi_tokens.specs.Text.{text}
 use Rattle.edi_envelope.specs.Mail.{mail_segments}
@@ -12,3 +12,6 @@ returns-clause-text c =
     ap text same
     ∙ text-mail_segments a.hub.now a.owner.now a.moment a.number a.message.now (AreDigits-from_All _ c.requires.hub)
     (AreDigits-from_All _ c.requires.owner) (omega arith)
+
+pub loop-segment-init : goal.loop-segment-init
+loop-segment-init c = search rules

@@ -1,4 +1,4 @@
-use Rattle.std.proofs.Common.{sym, ap, ◌∙◌}
+use Rattle.std.proofs.Common.{sym, ap, ◌∙◌, rules}
 use Rattle.edi_envelope.specs.Segments.{first_segment}
 use Rattle.edi_envelope.specs.Header.{is_header}
 use Rattle.edi_envelope.specs.Interchange.{is_framed, is_outside_set}
@@ -43,3 +43,6 @@ returns-clause-interchange c =
 
 pub returns-clause-few : goal.returns-clause-few
 returns-clause-few c = few_messages c.args.tokens _ (returns-clause-interchange c)
+
+pub take_apart-requires : goal.take_apart-requires
+take_apart-requires c = search rules

@@ -1,4 +1,4 @@
-use Rattle.std.proofs.Common.{[], ◌++◌, sym}
+use Rattle.std.proofs.Common.{[], ◌++◌, sym, rules}
 use Rattle.std.proofs.lemmas.List.{append-nil}
 use Rattle.edi_base.specs.Buffer.{Goes}
 use Rattle.edi_tokens.specs.Text.{text}
@@ -33,3 +33,6 @@ returns-clause-bytes g c =
     puts_last c.flush.result (g.W.Sink.contents c.flush.new.out) []
     (goes_put (text_next g (goal.at.returns-clause-bytes g c).After-put_text) c.in_ok-put_text.ensures.bytes)
     c.flush.ensures.bytes
+
+pub returns-clause-flag : goal.returns-clause-flag
+returns-clause-flag c = search rules

@@ -1,3 +1,4 @@
+use Rattle.std.proofs.lemmas.Grind.{common_steps}
 use Rattle.std.proofs.Common.{◌<◌, length, arith, sym}
 use Rattle.std.specs.Char.{IsAsciiDigit}
 use Rattle.std.proofs.lemmas.Bool.Decides.{nat_tests}
@@ -20,3 +21,6 @@ returns-clause-value c =
     let some : 0 < length xs = grind (arith, nat_tests) in
     let all = All-same IsAsciiDigit xs _ (sym (take_all i xs (omega arith))) c.loop-i.invariant.ascii in
     ((some, all), check_all xs i c.loop-i.sum (omega arith) c.loop-i.invariant.small c.loop-i.invariant.so_far)
+
+pub returns-clause-tens : goal.returns-clause-tens
+returns-clause-tens c = grind (arith, common_steps)

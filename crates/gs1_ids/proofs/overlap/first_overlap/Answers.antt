@@ -1,4 +1,4 @@
-use Rattle.std.proofs.Common.{◌≡◌, ◌+◌, refl, sym, subst, ap, ◌∙◌, ⊎_elim, arith}
+use Rattle.std.proofs.Common.{◌≡◌, ◌+◌, refl, sym, subst, ap, ◌∙◌, ⊎_elim, arith, rules}
 use Rattle.std.proofs.lemmas.Bool.{cases_lt, true≢false}
 use Rattle.std.proofs.lemmas.List.{drop_all}
 use Rattle.gs1_ids.specs.Overlap.{OverlapAt, IsFirstOverlap, first_overlap_of}
@@ -59,3 +59,6 @@ pub returns-clause-free : goal.returns-clause-free
 returns-clause-free c =
     let ps = c.args.prefixes.now in
     (λ _. free_if_none ps (λ i j o. c.loop-first.invariant.none i j (omega arith) o), λ _. refl)
+
+pub returns-clause-least : goal.returns-clause-least
+returns-clause-least c = search rules

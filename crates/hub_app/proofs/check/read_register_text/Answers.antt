@@ -1,4 +1,4 @@
-use Rattle.std.proofs.Common.{◌≡◌, length, inr, sym, ap, subst, arith, string_bytes}
+use Rattle.std.proofs.Common.{◌≡◌, length, inr, sym, ap, subst, arith, string_bytes, rules}
 use Rattle.std.specs.Prelude.{IfSome}
 use Rattle.std.proofs.lemmas.Bool.{false≢true}
 use Rattle.std.proofs.lemmas.Str.{IsUtf8-string_bytes}
@@ -26,3 +26,6 @@ pub returns-clause-file : goal.returns-clause-file
 returns-clause-file g c = λ _.
     inr (no_utf8 (g.R.Source.remaining c.args.input.now) c.in_ok-bytes.bytes.items c.in_ok-bytes.ensures.whole
     (omega (arith, c.len.ensures, c.if-len-gt-TEXT_LIMIT.false)) (λ utf8. false≢true (c.in-Err.ensures.succeeds utf8)))
+
+pub returns-in-Ok-clause-kept : goal.returns-in-Ok-clause-kept
+returns-in-Ok-clause-kept c = search rules

@@ -1,4 +1,4 @@
-use Rattle.std.proofs.Common.{◌≡◌, ◌+◌, List, ◌∷◌, [], ◌++◌, sym, ◌∙◌, ap, ap₂}
+use Rattle.std.proofs.Common.{◌≡◌, ◌+◌, List, ◌∷◌, [], ◌++◌, sym, ◌∙◌, ap, ap₂, rules}
 use Rattle.std.proofs.lemmas.Result.{IfOk-weaker}
 use Rattle.hub_tables.specs.Change.{apply}
 use Rattle.hub_tables.specs.State.{remembered_of}
@@ -50,3 +50,6 @@ returns c =
     ∙ new_receipt_alike memory s.gln incoming body receipt (apply memory state) known.mails known.pallets
     (sym c.is_full.ensures.value ∙ c.if-is_full.false) told.mails told.pallets c.requires.apart
     )) c.judge_units.ensures
+
+pub new_mail-requires : goal.new_mail-requires
+new_mail-requires c = search rules

@@ -1,3 +1,4 @@
+use Rattle.std.proofs.lemmas.Grind.{common_steps}
 use Rattle.std.proofs.Common.{◌≡◌, ◌≤◌, ◌&&◌, true, false, length, get_or, map, [], ◌∷◌, refl, sym, subst, ap, ap₂, ◌∙◌, arith}
 use Rattle.std.specs.List.{list_all}
 use Rattle.std.proofs.lemmas.List.{length-map}
@@ -37,3 +38,27 @@ assembled-requires-clause-right c =
     (c.index-2.ensures ∙ ap (λ xs. get_or xs 1 c.index-2.result.now) read.0) c.in_ok-retailer_key.ensures.ok.0
     (c.in_ok-suppliers.ensures.rows ∙ ap (λ es. put_all (map row_in es) []) same))
     (register_right rows few read.1 once prefix key free)
+
+pub returns-then-entries-gt-MOST_SUPPLIERS-clause-err : goal.returns-then-entries-gt-MOST_SUPPLIERS-clause-err
+returns-then-entries-gt-MOST_SUPPLIERS-clause-err c = grind (arith, common_steps)
+
+pub returns-in_err-prefixes-clause-err : goal.returns-in_err-prefixes-clause-err
+returns-in_err-prefixes-clause-err c = grind (arith, common_steps)
+
+pub returns-in_err-retailer_key-clause-err : goal.returns-in_err-retailer_key-clause-err
+returns-in_err-retailer_key-clause-err c = grind (arith, common_steps)
+
+pub returns-in_err-suppliers-clause-err : goal.returns-in_err-suppliers-clause-err
+returns-in_err-suppliers-clause-err c = grind (arith, common_steps)
+
+pub returns-in-Some-clause-err : goal.returns-in-Some-clause-err
+returns-in-Some-clause-err c = grind (arith, common_steps)
+
+pub returns-clause-ok : goal.returns-clause-ok
+returns-clause-ok c = grind (arith, common_steps)
+
+pub returns-in_err-glns-clause-err : goal.returns-in_err-glns-clause-err
+returns-in_err-glns-clause-err c = grind (arith, common_steps)
+
+pub returns-then-branch-clause-err : goal.returns-then-branch-clause-err
+returns-then-branch-clause-err c = grind (arith, common_steps)

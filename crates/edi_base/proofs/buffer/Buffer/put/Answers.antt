@@ -1,4 +1,4 @@
-use Rattle.std.proofs.Common.{[]}
+use Rattle.std.proofs.Common.{[], rules}
 use Rattle.edi_base.proofs.Going.{goes_none, goes_put, goes_cut, puts_cut, puts_last}
 use Rattle.edi_base.proofs.buffer.Buffer.put.Goals as goal
 
@@ -14,3 +14,6 @@ returns-then-bytes-gt-ROOM-clause-bytes g c =
     c.in_ok-flush.ensures.bytes in
     rw c.in_ok-flush.ensures.empty
     (puts_last c.write_whole.result (g.W.Sink.contents c.write_whole.new.out) [] flushed c.write_whole.ensures.bytes)
+
+pub returns-clause-bytes : goal.returns-clause-bytes
+returns-clause-bytes c = search rules

@@ -1,3 +1,4 @@
+use Rattle.edi_goods.specs.Despatch.{despatch_of}
 use Rattle.std.proofs.Common.{rules, ◌≡◌, List, map, ap, ◌∙◌}
 use Rattle.edi_base.specs.Seen.{has_twice}
 use Rattle.edi_goods.specs.Despatch as spec
@@ -13,3 +14,7 @@ returns-clause-apart c =
     let units_are : c.in_ok-units_of.field-0 ≡ map (spec.unit_from order) (read_units segments) = search rules in
     ap (λ (units : List DespatchUnit). has_twice (map (λ unit. unit.sscc) units)) units_are
     ∙ despatch_units_apart order segments c.in_ok-ssccs.ensures.ok.1
+
+pub returns-clause-ok : goal.returns-clause-ok
+unfolding despatch_of
+returns-clause-ok c = search rules

@@ -1,4 +1,4 @@
-use Rattle.std.proofs.Common.{◌∙◌}
+use Rattle.std.proofs.Common.{◌∙◌, rules}
 use Rattle.gs1_ids.proofs.Decided.{Decides-is_key, found, refused}
 use Rattle.gs1_ids.proofs.sscc.Sscc.parse.Goals as goal
 
@@ -10,3 +10,6 @@ returns-clause-value c =
 pub returns-in_err-digits-clause-value : goal.returns-in_err-digits-clause-value
 returns-in_err-digits-clause-value c =
     c.from_residual.ensures ∙ refused _ _ c.args.text.now (Decides-is_key 18 c.args.text.now) c.in_err-digits.ensures
+
+pub returns-clause-exact : goal.returns-clause-exact
+returns-clause-exact c = search rules

@@ -1,0 +1,8 @@
+use Rattle.std.proofs.Common.{rules}
+use Rattle.edi_messages.proofs.header.party.Goals as goal
+
+pub returns-in_err-only_qualified : goal.returns-in_err-only_qualified
+returns-in_err-only_qualified c = search rules
+
+pub returns : goal.returns
+returns c = search rules
