@@ -1,0 +1,4 @@
+pub mod Cells
+pub mod Rows
+pub mod Schema
+pub mod State

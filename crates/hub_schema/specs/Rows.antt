@@ -1,0 +1,100 @@
+-- What a stored row says. Its columns are counted from 1, behind the row number.
+use Rattle.std.specs.Prelude.{List, map, fold, []}
+use Rattle.std.specs.declared.cmp.Ordering.{Ordering}
+use Rattle.sqlite_value.specs.Order.{Row, column}
+use Rattle.sqlite_trees.specs.Tree.{Trees}
+use Rattle.hub_tables.specs.Keys.{put}
+use Rattle.hub_tables.specs.Rows.{order_cmp, line_cmp, advice_cmp, pallet_cmp, content_cmp, receipt_cmp, remembered_cmp, mail_cmp}
+use Rattle.hub_tables.specs.Tables.{Tables}
+use Rattle.hub_tables.specs.declared.rows.OrderRow.{OrderRow}
+use Rattle.hub_tables.specs.declared.rows.LineRow.{LineRow}
+use Rattle.hub_tables.specs.declared.rows.AdviceRow.{AdviceRow}
+use Rattle.hub_tables.specs.declared.rows.PalletRow.{PalletRow}
+use Rattle.hub_tables.specs.declared.rows.ContentRow.{ContentRow}
+use Rattle.hub_tables.specs.declared.rows.ReceiptRow.{ReceiptRow}
+use Rattle.hub_tables.specs.declared.rows.RememberedRow.{RememberedRow}
+use Rattle.hub_tables.specs.declared.rows.MailRow.{MailRow}
+use Rattle.hub_schema.specs.Cells.{bytes_in, number_in}
+
+abbrev pub order_in : Row → OrderRow
+order_in row = record { supplier = bytes_in (column row 1); number = bytes_in (column row 2) }
+
+abbrev pub line_in : Row → LineRow
+line_in row = record {
+  supplier = bytes_in (column row 1);
+  number = bytes_in (column row 2);
+  line = number_in (column row 3);
+  gtin = bytes_in (column row 4);
+  ordered = number_in (column row 5);
+  open_qty = number_in (column row 6);
+  refused = number_in (column row 7);
+  cancelled = number_in (column row 8);
+  answer = number_in (column row 9);
+}
+
+abbrev pub advice_in : Row → AdviceRow
+advice_in row = record { supplier = bytes_in (column row 1); number = bytes_in (column row 2) }
+
+abbrev pub pallet_in : Row → PalletRow
+pallet_in row = record {
+  sscc = bytes_in (column row 1);
+  supplier = bytes_in (column row 2);
+  advice = bytes_in (column row 3);
+  received = number_in (column row 4);
+}
+
+abbrev pub content_in : Row → ContentRow
+content_in row = record {
+  sscc = bytes_in (column row 1);
+  place = number_in (column row 2);
+  number = bytes_in (column row 3);
+  line = number_in (column row 4);
+  quantity = number_in (column row 5);
+}
+
+abbrev pub receipt_in : Row → ReceiptRow
+receipt_in row = record {
+  sscc = bytes_in (column row 1);
+  gtin = bytes_in (column row 2);
+  accepted = number_in (column row 3);
+  returned = number_in (column row 4);
+  destroyed = number_in (column row 5);
+}
+
+abbrev pub remembered_in : Row → RememberedRow
+remembered_in row = record {
+  supplier = bytes_in (column row 1);
+  side = number_in (column row 2);
+  control = bytes_in (column row 3);
+  message = bytes_in (column row 4);
+  content = bytes_in (column row 5);
+}
+
+abbrev pub mail_in : Row → MailRow
+mail_in row = record {
+  supplier = bytes_in (column row 1);
+  number = number_in (column row 2);
+  moment = number_in (column row 3);
+  decimal = number_in (column row 4);
+  kind = number_in (column row 5);
+  document = bytes_in (column row 6);
+  body = bytes_in (column row 7);
+  taken = number_in (column row 8);
+}
+
+-- the rows in the order of their keys, put one after another
+abbrev pub in_key_order : {X : Type 0} → (X → X → Ordering) → List X → List X
+in_key_order cmp = fold (λ sorted row. put cmp row sorted) []
+
+-- what the rows of all tables say
+abbrev pub tables_in : Trees → Tables
+tables_in trees = record {
+  orders = in_key_order order_cmp (map order_in (trees 1));
+  lines = in_key_order line_cmp (map line_in (trees 3));
+  advices = in_key_order advice_cmp (map advice_in (trees 5));
+  pallets = in_key_order pallet_cmp (map pallet_in (trees 7));
+  contents = in_key_order content_cmp (map content_in (trees 10));
+  receipts = in_key_order receipt_cmp (map receipt_in (trees 12));
+  remembered = in_key_order remembered_cmp (map remembered_in (trees 14));
+  mail = in_key_order mail_cmp (map mail_in (trees 16));
+}

@@ -1,0 +1,97 @@
+-- The tables of a hub in SQL, and their keys. All bytes are BLOB and all numbers INTEGER; tables are STRICT, no column takes
+-- NULL, and the key of each kind is its PRIMARY KEY. Table and column names stay: files that are written have them.
+use Rattle.std.specs.Prelude.{ℕ, true, false, List, [], ◌∷◌, map, None, codes}
+use Rattle.sqlite.specs.declared.types.Value.TheVariants.{Null}
+use Rattle.sqlite.specs.Collation.TheVariants.{Binary}
+use Rattle.sqlite.specs.Kind.{Kind}
+use Rattle.sqlite.specs.Kind.TheVariants.{Integer, Blob}
+use Rattle.sqlite.specs.Schema.{Schema}
+use Rattle.sqlite.specs.Table.{Table}
+use Rattle.sqlite_catalog.specs.Listing.{automatic}
+use Rattle.sqlite_schema.specs.declared.schema.Column.{Column}
+use Rattle.sqlite_value.specs.Keys.{plain}
+
+abbrev pub column_of : List ℕ → Kind → Column
+column_of name kind = record { name = name; kind = kind; is_strict = true; not_null = true; default = Null; collation = Binary }
+
+abbrev pub bytes : List ℕ → Column
+bytes name = column_of name Blob
+
+abbrev pub number : List ℕ → Column
+number name = column_of name Integer
+
+-- a table with the keys that it has, the primary one first; columns are counted from 1
+abbrev pub table_of : ℕ → List ℕ → List Column → List ℕ → List (List ℕ) → Table
+table_of tree name columns primary keys = record {
+  name = name;
+  tree = tree;
+  columns = columns;
+  key = None;
+  primary = primary;
+  uniques = keys;
+  orders = map (λ _. plain) keys;
+  checks = [];
+  references = [];
+  computed = [];
+  stamps = record { places = []; terms = []; formats = [] };
+  is_counted = false;
+}
+
+abbrev pub keyed : ℕ → List ℕ → List Column → List ℕ → Table
+keyed tree name columns primary = table_of tree name columns primary (primary ∷ [])
+
+-- the number of the schema, in its one row
+abbrev pub schema_table : Table
+schema_table = table_of 0 (codes "schema") (number (codes "number") ∷ []) [] []
+
+abbrev pub order_table : Table
+order_table = keyed 1 (codes "order") (bytes (codes "supplier") ∷ bytes (codes "number") ∷ []) (1 ∷ 2 ∷ [])
+
+abbrev pub line_table : Table
+line_table = keyed 3 (codes "line") (
+    bytes (codes "supplier") ∷ bytes (codes "number") ∷ number (codes "line") ∷ bytes (codes "gtin") ∷ number (codes "ordered")
+    ∷ number (codes "open_qty") ∷ number (codes "refused") ∷ number (codes "cancelled") ∷ number (codes "answer") ∷ []) (1 ∷ 2 ∷ 3 ∷ [])
+
+abbrev pub advice_table : Table
+advice_table = keyed 5 (codes "advice") (bytes (codes "supplier") ∷ bytes (codes "number") ∷ []) (1 ∷ 2 ∷ [])
+
+-- a second key, so that the pallets of one supplier are found by it
+abbrev pub pallet_table : Table
+pallet_table = table_of 7 (codes "pallet") (
+    bytes (codes "sscc") ∷ bytes (codes "supplier") ∷ bytes (codes "advice") ∷ number (codes "received") ∷ []) (1 ∷ []) ((1 ∷ []) ∷ (2 ∷ 1 ∷ []) ∷ [])
+
+abbrev pub content_table : Table
+content_table = keyed 10 (codes "content") (
+    bytes (codes "sscc") ∷ number (codes "place") ∷ bytes (codes "number") ∷ number (codes "line") ∷ number (codes "quantity") ∷ []) (1 ∷ 2 ∷ [])
+
+abbrev pub receipt_table : Table
+receipt_table = keyed 12 (codes "receipt") (
+    bytes (codes "sscc") ∷ bytes (codes "gtin") ∷ number (codes "accepted") ∷ number (codes "returned") ∷ number (codes "destroyed") ∷ []) (1 ∷ 2 ∷ [])
+
+abbrev pub remembered_table : Table
+remembered_table = keyed 14 (codes "remembered") (
+    bytes (codes "supplier") ∷ number (codes "side") ∷ bytes (codes "control") ∷ bytes (codes "message") ∷ bytes (codes "content") ∷ []) (1 ∷ 2 ∷ 3 ∷ 4 ∷ [])
+
+abbrev pub mail_table : Table
+mail_table = keyed 16 (codes "mail") (
+    bytes (codes "supplier") ∷ number (codes "number") ∷ number (codes "moment") ∷ number (codes "decimal") ∷ number (codes "kind")
+    ∷ bytes (codes "document") ∷ bytes (codes "body") ∷ number (codes "taken") ∷ []) (1 ∷ 2 ∷ [])
+
+abbrev pub no_schema : Schema
+no_schema = record { tables = []; indexes = []; views = [] }
+
+-- the tables in the order of their making
+abbrev pub hub_tables : List Table
+hub_tables =
+    schema_table ∷ order_table ∷ line_table ∷ advice_table ∷ pallet_table ∷ content_table ∷ receipt_table ∷ remembered_table ∷ mail_table ∷ []
+
+-- with an index for each key
+abbrev pub hub_schema : Schema
+hub_schema = record {
+  tables = hub_tables;
+  indexes =
+      automatic order_table 0 (1 ∷ 2 ∷ []) 2 ∷ automatic line_table 0 (1 ∷ 2 ∷ 3 ∷ []) 4 ∷ automatic advice_table 0 (1 ∷ 2 ∷ []) 6
+      ∷ automatic pallet_table 0 (1 ∷ []) 8 ∷ automatic pallet_table 1 (2 ∷ 1 ∷ []) 9 ∷ automatic content_table 0 (1 ∷ 2 ∷ []) 11
+      ∷ automatic receipt_table 0 (1 ∷ 2 ∷ []) 13 ∷ automatic remembered_table 0 (1 ∷ 2 ∷ 3 ∷ 4 ∷ []) 15 ∷ automatic mail_table 0 (1 ∷ 2 ∷ []) 17 ∷ [];
+  views = [];
+}

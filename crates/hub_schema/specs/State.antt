@@ -1,0 +1,84 @@
+-- What a connection shows that holds the tables of a hub, and what calls do to it.
+use Rattle.std.specs.Prelude.{◌≡◌, ◌≢◌, ◌⊎◌, ℕ, pos, false, IsTrue, List, [], ◌∷◌, map, Result, Ok, Err, IfOk, OnOk, OnErr}
+use Rattle.std.specs.List.{AllByRecursion}
+use Rattle.sqlite_value.specs.declared.value.Value.TheVariants.{Int}
+use Rattle.sqlite_value.specs.Order.{column}
+use Rattle.sqlite_trees.specs.Tree.{Trees}
+use Rattle.sqlite_trees.specs.View.{IsShaped}
+use Rattle.sqlite_trees.specs.declared.store.Shape.TheVariants.{Table}
+use Rattle.sqlite.specs.Effect.{IsDatabase}
+use Rattle.sqlite.specs.State.{State, HasCleanDisk, Survives}
+use Rattle.hub_tables.specs.Change.{apply_all}
+use Rattle.hub_tables.specs.Sets.{Rising}
+use Rattle.hub_tables.specs.Tables.{Tables}
+use Rattle.hub_tables.specs.declared.change.Change.{Change}
+use Rattle.hub_store.specs.Clean.{are_clean}
+use Rattle.hub_store.specs.declared.fault.StoreFault.{StoreFault}
+use Rattle.hub_store.specs.declared.fault.StoreFault.TheVariants.{Unclean}
+use Rattle.hub_schema.specs.Rows.{tables_in}
+use Rattle.hub_schema.specs.Schema.{hub_schema}
+
+-- the row numbers of each table rise
+abbrev pub AreOrdered : Trees → Type 0
+AreOrdered trees = AllByRecursion (λ tree. IsShaped Table (trees tree)) (0 ∷ 1 ∷ 3 ∷ 5 ∷ 7 ∷ 10 ∷ 12 ∷ 14 ∷ 16 ∷ [])
+
+-- the one row of the table with the schema's number, which is 1
+abbrev pub IsNumbered : Trees → Type 0
+IsNumbered trees = map (λ row. column row 1) (trees 0) ≡ Int (pos 1) ∷ []
+
+-- the connection holds the tables of a hub
+pub record IsHub (s : State) : Type 0 where
+  pub schema : s.now.schema ≡ hub_schema
+  pub numbered : IsNumbered s.now.trees
+  pub ordered : AreOrdered s.now.trees
+  pub sound : IsDatabase s.now
+
+-- the tables become these, in the transaction alone
+pub record Makes (change : Tables → Tables) (old new : State) : Type 0 where
+  pub hub : IsHub new
+  pub tables : tables_in new.now.trees ≡ change (tables_in old.now.trees)
+  pub committed : new.committed ≡ old.committed
+  pub mode : IsTrue new.in_transaction
+
+-- the changes do not fit to the tables, or some row is none of the kinds, before or after them
+abbrev pub MayRefuse : List Change → Tables → Type 0
+MayRefuse changes t =
+    Rising (apply_all changes t) → (are_clean t ≡ false) ⊎ (are_clean (apply_all changes t) ≡ false)
+
+-- where the connection is open it holds the tables of a hub
+abbrev pub Holds : State → Type 0
+Holds s = IsTrue s.is_open → IsHub s
+
+-- a look-up outside a transaction: what it answers of the tables, and that it changes nothing. `Unclean` comes only
+-- where some row is none of the kinds.
+pub record LooksUp {X : Type 0} (answer : Tables → X) (old new : State) (result : Result X StoreFault) : Type 0 where
+  pub answers : HasCleanDisk new → Holds old → IfOk result (λ x. x ≡ answer (tables_in old.now.trees))
+  pub same : HasCleanDisk new → OnOk result (IsTrue old.is_open × IsTrue new.is_open × (new.now ≡ old.now))
+  pub stays :
+      HasCleanDisk new → old.in_transaction ≡ false → old.now.schema ≡ hub_schema → IsTrue new.is_open →
+      IsTrue old.is_open × (new.now ≡ old.now)
+  pub mode : old.in_transaction ≡ false → new.in_transaction ≡ false
+  pub crash : Survives old new (λ trees. old.now.schema ≢ hub_schema)
+  pub unclean :
+      HasCleanDisk new → Holds old → result ≡ Err Unclean →
+      IsTrue old.is_open × (are_clean (tables_in old.now.trees) ≡ false)
+
+-- a commit: all changes at Ok, and none at a fault. A crash leaves what it did before, or all changes. `Unclean` comes
+-- where the changes do not fit to the rows, where some row is none of the kinds, before or after them, or where they
+-- make such a row of any tables.
+pub record CommitsTo (changes : List Change) (old new : State) (result : Result (Unit {0}) StoreFault) : Type 0 where
+  pub done :
+      HasCleanDisk new → Holds old →
+      OnOk result (IsTrue new.is_open × IsHub new × (tables_in new.now.trees ≡ apply_all changes (tables_in old.now.trees)))
+  pub ran : HasCleanDisk new → OnOk result (IsTrue old.is_open)
+  pub kept :
+      HasCleanDisk new → Holds old → IsTrue new.is_open → OnErr result (IsTrue old.is_open × (new.now ≡ old.now))
+  pub mode : new.in_transaction ≡ false
+  pub crash :
+      Survives old new (λ trees. Holds old →
+      IsTrue old.is_open × Rising (tables_in trees) × (tables_in trees ≡ apply_all changes (tables_in old.now.trees)))
+  pub durable : HasCleanDisk new → OnOk result ((trees : Trees) → new.may_leave trees → trees ≡ new.now.trees)
+  pub unclean :
+      HasCleanDisk new → Holds old → result ≡ Err Unclean →
+      (IsTrue old.is_open × MayRefuse changes (tables_in old.now.trees))
+      ⊎ ((t : Tables) → are_clean (apply_all changes t) ≡ false)

@@ -1,0 +1,2 @@
+//! The tables of a hub in SQL: their schema, what their rows say, and their making.
+#![tactic(auto)]
