@@ -13,7 +13,7 @@ use Rattle.hub_tables.proofs.KeyOrder.{filter_put_in, filter_put_out, in_order_f
 use Rattle.hub_tables.proofs.Lists.{decide, same_is, same_if, all_filter, all_weaker, all_passes, filter_alike, filter_none}
 use Rattle.hub_list.specs.Index.{IsIndex}
 use Rattle.hub_list.proofs.Filters.{filter_swap, filter_of_map, any_none, none_any, any_among, any_of_map}
-use Rattle.hub_list.proofs.Setting.{equal_is, has, below, rises_put, all_above, after_equal, none_above}
+use Rattle.hub_tables.proofs.Setting.{equal_is, has, below, rises_put, all_above, after_equal, none_above}
 
 -- Rows that rise.
 

@@ -2,4 +2,3 @@ pub mod Back
 pub mod Filters
 pub mod Indexing
 pub mod Searching
-pub mod Setting

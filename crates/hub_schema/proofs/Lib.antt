@@ -1,1 +1,2 @@
+pub mod InKeyOrder
 pub mod Texts

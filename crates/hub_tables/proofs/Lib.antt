@@ -2,3 +2,4 @@ pub mod KeyOrder
 pub mod KindOrders
 pub mod Lists
 pub mod Sets
+pub mod Setting

@@ -4,7 +4,7 @@ use Rattle.std.specs.Ordering.{is_eq}
 use Rattle.hub_tables.specs.Keys.{put}
 use Rattle.hub_list.specs.Index.{IsIndex}
 use Rattle.hub_list.proofs.Indexing.{not_listed, put_kept}
-use Rattle.hub_list.proofs.Setting.{not_put}
+use Rattle.hub_tables.proofs.Setting.{not_put}
 use Rattle.hub_list.proofs.index.put_indexed.Goals as goal
 
 pub returns-then-is_there-clause-items : goal.returns-then-is_there-clause-items

@@ -5,7 +5,7 @@ use Rattle.hub_tables.specs.Keys.{put, replace}
 use Rattle.hub_list.specs.Index.{IsIndex}
 use Rattle.hub_list.proofs.Filters.{none_first}
 use Rattle.hub_list.proofs.Indexing.{key_is_new, set_kept}
-use Rattle.hub_list.proofs.Setting.{replace_none}
+use Rattle.hub_tables.proofs.Setting.{replace_none}
 use Rattle.hub_list.proofs.index.set_indexed.Goals as goal
 
 pub returns-in_default-clause-items : goal.returns-in_default-clause-items
