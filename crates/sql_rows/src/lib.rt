@@ -1,0 +1,2 @@
+//! Laws of rows in SQL, for any tables: what INSERT, UPDATE, SELECT and CREATE do, and what a transaction leaves. Proofs alone.
+#![tactic(auto)]
