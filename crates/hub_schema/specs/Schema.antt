@@ -1,41 +1,23 @@
 -- The tables of a hub in SQL, and their keys. All bytes are BLOB and all numbers INTEGER; tables are STRICT, no column takes
 -- NULL, and the key of each kind is its PRIMARY KEY. Table and column names stay: files that are written have them.
-use Rattle.std.specs.Prelude.{ℕ, true, false, List, [], ◌∷◌, map, None, codes}
-use Rattle.sqlite.specs.declared.types.Value.TheVariants.{Null}
-use Rattle.sqlite.specs.Collation.TheVariants.{Binary}
-use Rattle.sqlite.specs.Kind.{Kind}
+use Rattle.std.specs.Prelude.{ℕ, List, [], ◌∷◌, map, codes}
 use Rattle.sqlite.specs.Kind.TheVariants.{Integer, Blob}
 use Rattle.sqlite.specs.Schema.{Schema}
 use Rattle.sqlite.specs.Table.{Table}
 use Rattle.sqlite_catalog.specs.Listing.{automatic}
 use Rattle.sqlite_schema.specs.declared.schema.Column.{Column}
 use Rattle.sqlite_value.specs.Keys.{plain}
-
-abbrev pub column_of : List ℕ → Kind → Column
-column_of name kind = record { name = name; kind = kind; is_strict = true; not_null = true; default = Null; collation = Binary }
+use Rattle.sql_rows.specs.Tables.{strict_column, plain_table}
 
 abbrev pub bytes : List ℕ → Column
-bytes name = column_of name Blob
+bytes name = strict_column name Blob
 
 abbrev pub number : List ℕ → Column
-number name = column_of name Integer
+number name = strict_column name Integer
 
 -- a table with the keys that it has, the primary one first; columns are counted from 1
 abbrev pub table_of : ℕ → List ℕ → List Column → List ℕ → List (List ℕ) → Table
-table_of tree name columns primary keys = record {
-  name = name;
-  tree = tree;
-  columns = columns;
-  key = None;
-  primary = primary;
-  uniques = keys;
-  orders = map (λ _. plain) keys;
-  checks = [];
-  references = [];
-  computed = [];
-  stamps = record { places = []; terms = []; formats = [] };
-  is_counted = false;
-}
+table_of tree name columns primary keys = plain_table tree name columns primary keys (map (λ _. plain) keys)
 
 abbrev pub keyed : ℕ → List ℕ → List Column → List ℕ → Table
 keyed tree name columns primary = table_of tree name columns primary (primary ∷ [])
