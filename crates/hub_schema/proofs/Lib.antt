@@ -1,2 +1,3 @@
 pub mod InKeyOrder
+pub mod Single
 pub mod Texts
