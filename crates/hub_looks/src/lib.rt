@@ -2,6 +2,7 @@
 #![tactic(auto)]
 
 mod ask;
+mod cells;
 mod documents;
 
 pub use documents::{advice_known, order_known};
