@@ -6,3 +6,4 @@ pub mod Texts
 pub mod Counting
 pub mod Stored
 pub mod Knowing
+pub mod Unclean

@@ -4,5 +4,6 @@
 mod ask;
 mod cells;
 mod documents;
+mod shown;
 
 pub use documents::{advice_known, order_known};
