@@ -25,7 +25,7 @@ use Rattle.hub_looks.specs.Asks.{Asks}
 use Rattle.hub_looks.proofs.Counting.{cell_bytes, any_filter, any_shown, some_pass, all_such}
 use Rattle.hub_looks.proofs.Finding.{passes, Finds, finds}
 use Rattle.hub_looks.proofs.Looking.{looks}
-use Rattle.hub_looks.proofs.Stored as stored
+use Rattle.hub_schema.proofs.Single.{order_cells, advice_cells}
 use Rattle.hub_looks.proofs.Texts.{given_at, document, order_text, order_selects, advice_text, advice_selects}
 
 -- the row is of the supplier, and has the number
@@ -47,7 +47,7 @@ orders_right s supplier number rows hub answer =
     let db = s.now.trees in
     let both : OrderRow → Bool = λ order. same order.supplier supplier && same order.number number in
     counted (db 1) supplier number rows (finds db 1 _ _ _ _ _ rows refl answer)
-    ∙ any_shown order_in both (passes (given_at 1 0 ∷ given_at 2 1 ∷ []) (Blob supplier ∷ Blob number ∷ [])) (db 1) (all_such _ _ (passed supplier number) (db 1) (stored.orders s hub))
+    ∙ any_shown order_in both (passes (given_at 1 0 ∷ given_at 2 1 ∷ []) (Blob supplier ∷ Blob number ∷ [])) (db 1) (all_such _ _ (passed supplier number) (db 1) (order_cells s.now hub.schema hub.sound hub.ordered))
     ∙ sym (listed_any order_cmp both (map order_in (db 1)))
     ∙ sym (any_filter (λ order. same order.supplier supplier) (λ order. same order.number number) (tables_in db).orders)
 
@@ -63,7 +63,7 @@ advices_right s supplier number rows hub answer =
     let db = s.now.trees in
     let both : AdviceRow → Bool = λ advice. same advice.supplier supplier && same advice.number number in
     counted (db 5) supplier number rows (finds db 5 _ _ _ _ _ rows refl answer)
-    ∙ any_shown advice_in both (passes (given_at 1 0 ∷ given_at 2 1 ∷ []) (Blob supplier ∷ Blob number ∷ [])) (db 5) (all_such _ _ (passed supplier number) (db 5) (stored.advices s hub))
+    ∙ any_shown advice_in both (passes (given_at 1 0 ∷ given_at 2 1 ∷ []) (Blob supplier ∷ Blob number ∷ [])) (db 5) (all_such _ _ (passed supplier number) (db 5) (advice_cells s.now hub.schema hub.sound hub.ordered))
     ∙ sym (listed_any advice_cmp both (map advice_in (db 5)))
     ∙ sym (any_filter (λ advice. same advice.supplier supplier) (λ advice. same advice.number number) (tables_in db).advices)
 

@@ -4,6 +4,8 @@ pub mod Finding
 pub mod Looking
 pub mod Texts
 pub mod Counting
-pub mod Stored
 pub mod Knowing
 pub mod Unclean
+pub mod Sorting
+pub mod Ranking
+pub mod Listing
