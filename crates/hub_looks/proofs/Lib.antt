@@ -9,3 +9,6 @@ pub mod Unclean
 pub mod Sorting
 pub mod Ranking
 pub mod Listing
+pub mod OfLines
+pub mod Single
+pub mod OfPallets

@@ -92,3 +92,8 @@ module _ {X : Type 0} {cmp : X → X → Ordering} (total : IsTotalOrder cmp) (f
 pub shown_say : {X : Type 0} (f shown : Row → X) (columns : List Term) (params : Row) (sources : List Row) → ((row : Row) → shown (eval_all columns (params ∷ row ∷ [])) ≡ f row)
     → map shown (map (λ row. eval_all columns (params ∷ row ∷ [])) sources) ≡ map f sources
 shown_say f shown columns params sources says = map_twice shown (λ row. eval_all columns (params ∷ row ∷ [])) sources ∙ map_same _ f says sources
+
+pub filter_both : {X : Type 0} (p q : X → Bool) (xs : List X) → filter q (filter p xs) ≡ filter (λ x. p x && q x) xs
+filter_both p q [] = refl
+filter_both p q (x ∷ xs) = elim (p x) as (λ v. filter q (cond v (x ∷ filter p xs) (filter p xs)) ≡ cond (v && q x) (x ∷ filter (λ x. p x && q x) xs) (filter (λ x. p x && q x) xs))
+    [ true ↦ ap (λ ys. cond (q x) (x ∷ ys) ys) (filter_both p q xs) | false ↦ filter_both p q xs ]

@@ -1,5 +1,5 @@
 //! Rows of an answer as rows of the hub. A query shows all columns of a row, in their order.
-ghost use Rattle.std.specs.Prelude.{◌≡◌, ◌<◌, ◌^◌, ◌∷◌, Bool, false, ⊤, IfOk, Err, map};
+ghost use Rattle.std.specs.Prelude.{◌≡◌, ◌<◌, ◌^◌, ◌∷◌, Bool, false, ⊤, IfOk, Err, map, slice_get};
 ghost use Rattle.std.specs.List.{AllByRecursion, list_all};
 ghost use Rattle.hub_store.specs.Clean.{clean_line, clean_pallet, clean_content, clean_receipt, clean_mail};
 ghost use Rattle.hub_looks.specs.Shown.{shown_line, shown_pallet, shown_content, shown_receipt, shown_mail};
@@ -182,4 +182,15 @@ pub(crate) fn all_shown<T: Shown>(alloc: Global, rows: &[Row]) -> Result<Items<T
         }
     }
     Ok(items)
+}
+
+/// The first row, where it is of the kind.
+pub(crate) fn first_shown<T: Shown>(rows: &[Row]) -> Result<Option<T>, StoreFault>
+    ensures ok { IfOk result (λ first. first ≡ slice_get (map T.shown rows.now) 0) }
+    ensures unclean { result ≡ Err StoreFault.Unclean → list_all T.clean (map T.shown rows.now) ≡ false }
+{
+    match rows.first() {
+        Some(row) => Ok(Some(T::of_row(row)?)),
+        None => Ok(None),
+    }
 }
