@@ -1,5 +1,5 @@
 -- What a query does, from its clauses.
-use Rattle.std.proofs.Common.{Vec, Result, Ok, Err, IfOk, IfErr, OnOk, ◌≡◌, ◌≢◌, ◌⊎◌, inl, inr, ℕ, true, false, not, List, IsTrue, refl, sym, ap, ◌∙◌, subst}
+use Rattle.std.proofs.Common.{Vec, Ok, Err, ◌≡◌, ◌≢◌, ◌⊎◌, inl, inr, ℕ, false, List, IsTrue, refl, sym, ◌∙◌, subst}
 use Rattle.std.specs.declared.alloc.Global.{Global}
 use Rattle.sqlite_value.specs.Order.{Row}
 use Rattle.sqlite.specs.declared.error.Error.{Error}

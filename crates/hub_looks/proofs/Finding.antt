@@ -1,11 +1,11 @@
 -- What a query of one table finds there.
-use Rattle.std.proofs.Common.{◌≡◌, ℕ, zero, suc, ◌+◌, ◌<◌, Bool, true, false, ◌&&◌, List, [], ◌∷◌, map, filter, length, take, drop, get_or, slice_set, Ordering, None, Some, refl, sym, ap, ap₂, subst, ◌∙◌, pos, negsuc, IsTrue, if◌then◌else◌}
-use Rattle.std.specs.List.{AllByRecursion, list_all, swap, flat_map}
+use Rattle.std.proofs.Common.{◌≡◌, ℕ, zero, suc, ◌+◌, ◌<◌, Bool, false, List, [], ◌∷◌, map, filter, get_or, slice_set, Ordering, None, refl, sym, ap, ap₂, subst, ◌∙◌, pos, negsuc, if◌then◌else◌}
+use Rattle.std.specs.List.{list_all, swap, flat_map}
 use Rattle.std.specs.List.Sorted.{IsPermutation, IsSorted, SwapsInRange, apply_swaps}
 use Rattle.std.specs.Ordering.{on}
 use Rattle.sqlite_value.specs.declared.keys.Key.{Key}
-use Rattle.sqlite_value.specs.declared.value.Value.TheVariants.{Null, Int}
-use Rattle.sqlite_value.specs.Order.{Row, column}
+use Rattle.sqlite_value.specs.declared.value.Value.TheVariants.{Int}
+use Rattle.sqlite_value.specs.Order.{Row}
 use Rattle.sqlite_trees.specs.Tree.{Trees}
 use Rattle.sqlite_sql.specs.Term.{Term, Env, lit, holds, eval, eval_all}
 use Rattle.sqlite_sql.specs.Query.{Query, inner, end, IsAnswer, Output, output, output_cmp, sort_cmp, limited, as_count}

@@ -1,16 +1,13 @@
 -- Whether a document is known.
-use Rattle.std.proofs.Common.{◌≡◌, ℕ, negsuc, ◌==◌, Bool, not, ◌&&◌, Result, List, [], ◌∷◌, map, filter, length, refl, sym, ap, ap₂, ◌∙◌}
-use Rattle.std.specs.List.{AllByRecursion, list_any}
-use Rattle.std.proofs.lemmas.List.Sorted.{length_permutation}
-use Rattle.sqlite_value.specs.declared.value.Value.TheVariants.{Blob, Int}
+use Rattle.std.proofs.Common.{◌≡◌, ℕ, ◌==◌, Bool, not, ◌&&◌, Result, List, [], ◌∷◌, map, length, refl, sym, ap₂, ◌∙◌}
+use Rattle.sqlite_value.specs.declared.value.Value.TheVariants.{Blob}
 use Rattle.sqlite_value.specs.Order.{Row, column}
 use Rattle.sqlite_schema.specs.declared.schema.Kind.TheVariants as kind
-use Rattle.sqlite_sql.specs.Term.{col, lit}
 use Rattle.sqlite_sql.specs.Query.{IsAnswer}
 use Rattle.sqlite_sql.specs.Program.{overlay}
 use Rattle.sqlite.specs.State.{State}
 use Rattle.sql_rows.specs.Cells.{AreOf}
-use Rattle.sql_rows.proofs.Answers.{and_true, length_map}
+use Rattle.sql_rows.proofs.Answers.{and_true}
 use Rattle.hub_store.specs.declared.fault.StoreFault.{StoreFault}
 use Rattle.hub_tables.specs.Rows.{same, order_cmp, advice_cmp}
 use Rattle.hub_tables.specs.State.{knows_order, knows_advice}

@@ -1,61 +1,48 @@
 -- What a query finds of the last number of a mailbox.
-use Rattle.std.proofs.Common.{◌≡◌, ℕ, ◌%◌, ◌*◌, ◌+◌, ◌==◌, ◌≤◌, ◌<◌, ◌^◌, nat_lt, zero, suc, ℤ, Bool, true, false, not, cond, ◌&&◌, ◌||◌, ◌⊎◌, inl, inr, Result, Ok, Err, Option, Some, None, List, [], ◌∷◌, pos, negsuc, map, filter, take, length, refl, sym, ap, ap₂, subst, ◌∙◌, arith, true≢false}
+use Rattle.std.proofs.Common.{◌≡◌, ℕ, ◌%◌, ◌==◌, ◌≤◌, ◌^◌, nat_lt, Bool, true, false, not, ◌&&◌, inl, inr, Result, Ok, Option, Some, None, List, [], ◌∷◌, map, filter, take, refl, sym, ap, ap₂, subst, ◌∙◌, arith}
 use Rattle.std.specs.List.{AllByRecursion, list_all, list_any}
-use Rattle.std.specs.Ordering.{is_eq, is_ne, int_cmp, nat_cmp, ordering_then}
+use Rattle.std.specs.Ordering.{is_eq, nat_cmp, ordering_then}
 use Rattle.std.proofs.lemmas.Bool.{and_parts, and_from, or_parts, cases_Bool}
 use Rattle.std.proofs.lemmas.Bool.Decides.{nat_tests}
-use Rattle.std.proofs.lemmas.Int.{ints}
-use Rattle.sqlite_value.specs.declared.value.Value.{Value}
-use Rattle.sqlite_value.specs.declared.value.Value.TheVariants.{Blob, Int}
+use Rattle.sqlite_value.specs.declared.value.Value.TheVariants.{Blob}
 use Rattle.sqlite_value.specs.declared.keys.Key.{Key}
-use Rattle.sqlite_value.specs.declared.keys.Collation.TheVariants.{Binary}
-use Rattle.sqlite_value.specs.Order.{Row, column, value_cmp}
-use Rattle.sqlite_value.proofs.OrderLemmas.{value_cmp-Int}
-use Rattle.sqlite_schema.specs.declared.schema.Kind.TheVariants as kind
-use Rattle.sqlite_sql.specs.declared.ops.CompareOp.TheVariants.{Ne}
-use Rattle.sqlite_sql.specs.declared.ops.BinaryOp.TheVariants.{Compare}
-use Rattle.sqlite_sql.specs.Ops.{is_true, binary}
-use Rattle.sqlite_sql.specs.Term.{Term, col, eval_all}
-use Rattle.sqlite_sql.specs.Query.{IsAnswer, sort_cmp, limited, as_count}
+use Rattle.sqlite_value.specs.Order.{Row, column}
+use Rattle.sqlite_sql.specs.Term.{Term, col}
+use Rattle.sqlite_sql.specs.Query.{IsAnswer, sort_cmp}
 use Rattle.sqlite_sql.specs.Program.{overlay}
 use Rattle.sqlite.specs.State.{State}
-use Rattle.sqlite.specs.Values.{bound_value}
-use Rattle.sql_rows.specs.Cells.{IsOf, AreOf}
+use Rattle.sql_rows.specs.Cells.{AreOf}
 use Rattle.sql_rows.proofs.Answers.{and_true}
 use Rattle.edi_envelope.specs.Mail.{last_number}
 use Rattle.hub_store.specs.Clean.{are_clean, clean_mail}
 use Rattle.hub_store.specs.declared.fault.StoreFault.{StoreFault}
-use Rattle.hub_store.specs.declared.fault.StoreFault.TheVariants.{Unclean}
 use Rattle.hub_tables.specs.Rows.{same, mail_cmp}
-use Rattle.hub_tables.specs.State.{is_taken, untaken_after}
-use Rattle.hub_tables.specs.Tables.{Tables, view}
+use Rattle.hub_tables.specs.Tables.{view}
 use Rattle.hub_tables.specs.declared.rows.MailRow.{MailRow}
 use Rattle.hub_tables.proofs.KindOrders.{mail_total}
 use Rattle.hub_tables.proofs.Lists.{all_passes, filter_alike}
-use Rattle.hub_schema.specs.Cells.{natural, number_in}
 use Rattle.hub_schema.specs.Rows.{mail_in, tables_in}
 use Rattle.hub_schema.specs.State.{IsHub, LooksUp}
 use Rattle.hub_schema.proofs.Single.{mail_kinds, mail_cells, hub_rises}
 use Rattle.hub_looks.specs.Asks.{Asks}
-use Rattle.hub_looks.specs.Numbers.{is_low, is_above, low_of, above_of}
-use Rattle.hub_looks.specs.Shown.{shown_mail}
-use Rattle.hub_looks.proofs.Comparing.{cell_above, cell_untaken, rank_above}
+use Rattle.hub_looks.specs.Numbers.{is_low, is_above, low_of}
+use Rattle.hub_looks.proofs.Comparing.{cell_above, rank_above}
 use Rattle.hub_looks.proofs.Counting.{cell_bytes, all_such}
 use Rattle.hub_looks.proofs.Finding.{some_of, passes, Finds, finds}
-use Rattle.hub_looks.proofs.Joining.{looks_on, looks_spoilt, looks_then}
-use Rattle.hub_looks.proofs.Listing.{shown_say, sources_have, sources_pass, sources_are, sources_sorted, sources_spoil, filter_both, all_both, all_clean, clean_all}
+use Rattle.hub_looks.proofs.Joining.{looks_on, looks_then}
+use Rattle.hub_looks.proofs.Listing.{shown_say, sources_have, sources_pass, sources_spoil, filter_both, all_both}
 use Rattle.hub_looks.proofs.Looking.{looks}
-use Rattle.hub_looks.proofs.OfMail.{all_not, none_found, low_spoils, not_low}
-use Rattle.hub_looks.proofs.Ranking.{rank_bytes, then_none}
-use Rattle.hub_looks.proofs.Texts.{given_at, rising, above_test, untaken_test, mail_columns, after_text, after_selects}
-use Rattle.hub_looks.proofs.Unclean.{mail_unclean, first_fails, later_fails}
+use Rattle.hub_looks.proofs.OfMail.{all_not}
+use Rattle.hub_looks.proofs.Ranking.{then_none}
+use Rattle.hub_looks.proofs.Texts.{given_at}
+use Rattle.hub_looks.proofs.Unclean.{mail_unclean}
 
 use Rattle.std.specs.Option.{unwrap_or}
 use Rattle.std.specs.List.{last_or}
 use Rattle.std.specs.List.Sorted.{IsPermutation, IsSorted}
 use Rattle.std.specs.declared.cmp.Ordering.{Ordering}
 use Rattle.std.specs.declared.cmp.Ordering.TheVariants.{Less, Equal, Greater}
-use Rattle.std.specs.Ordering.{is_lt, on}
+use Rattle.std.specs.Ordering.{is_lt}
 use Rattle.std.proofs.Common.{option_map, slice_get}
 use Rattle.std.proofs.lemmas.Cmp.{nat_cmp_total}
 use Rattle.std.proofs.lemmas.List.Elements.{recursion_from_All}
@@ -237,10 +224,14 @@ all_above supplier mail none =
       | inr e ↦ ap (λ b. b && is_above 0 entry.number) e ∙ sym e
     ]
 
-pub last_look : (old mid new : State) (supplier : List ℕ) (low : Bool) (highest : Option ℕ) (last : ℕ) → low ≡ false → last ≡ unwrap_or highest 0
-    → LooksUp (λ t. list_any (low_of supplier) t.mail) old mid (Ok low)
-    → LooksUp (λ t. option_map (λ entry. entry.number) (last_or None (filter (λ entry. is_above 0 entry.number) (view supplier t).mail))) mid new (Ok highest)
-    → LooksUp (λ t. last_mail (view supplier t)) old new (Ok last)
-last_look old mid new supplier low highest last none is first second =
-    looks_on (λ t. option_map (λ (entry : MailRow). entry.number) (last_or None (view supplier t).mail)) (λ t. last_mail (view supplier t)) old new highest last (λ t e. is ∙ ap (λ o. unwrap_or o 0) e)
-    (looks_then _ _ _ old mid new low (λ t h. ap (λ xs. option_map (λ (entry : MailRow). entry.number) (last_or None xs)) (all_above supplier t.mail (sym h ∙ none))) first (Ok highest) second)
+pub zero_look : (old new : State) (supplier : List ℕ) (highest : Option ℕ) (last : ℕ) → last ≡ unwrap_or highest 0
+    → LooksUp (λ t. option_map (λ entry. entry.number) (last_or None (filter (λ entry. is_above 0 entry.number) (view supplier t).mail))) old new (Ok highest)
+    → LooksUp (λ t. unwrap_or (option_map (λ entry. entry.number) (last_or None (filter (λ entry. is_above 0 entry.number) (view supplier t).mail))) 0) old new (Ok last)
+zero_look old new supplier highest last is = looks_on _ _ old new highest last (λ t e. is ∙ ap (λ o. unwrap_or o 0) e)
+
+pub last_look : (old mid new : State) (supplier : List ℕ) (low : Bool) → low ≡ false
+    → LooksUp (λ t. list_any (low_of supplier) t.mail) old mid (Ok low) → (result : Result ℕ StoreFault)
+    → LooksUp (λ t. unwrap_or (option_map (λ entry. entry.number) (last_or None (filter (λ entry. is_above 0 entry.number) (view supplier t).mail))) 0) mid new result
+    → LooksUp (λ t. last_mail (view supplier t)) old new result
+last_look old mid new supplier low none =
+    looks_then _ _ _ old mid new low (λ t h. ap (λ xs. unwrap_or (option_map (λ (entry : MailRow). entry.number) (last_or None xs)) 0) (all_above supplier t.mail (sym h ∙ none)))

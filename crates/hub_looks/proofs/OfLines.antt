@@ -1,16 +1,14 @@
 -- What a query finds of lines.
-use Rattle.std.proofs.Common.{◌≡◌, ℕ, ◌<◌, ◌^◌, Bool, true, false, ◌&&◌, Result, List, [], ◌∷◌, map, filter, refl, sym, ap, ap₂, subst, ◌∙◌}
+use Rattle.std.proofs.Common.{◌≡◌, ℕ, ◌<◌, ◌^◌, Bool, false, ◌&&◌, Result, List, [], ◌∷◌, map, filter, refl, sym, ap, ap₂, subst, ◌∙◌}
 use Rattle.std.specs.List.{AllByRecursion, list_all}
 use Rattle.std.specs.Ordering.{ordering_then}
 use Rattle.sqlite_value.specs.declared.value.Value.TheVariants.{Blob}
 use Rattle.sqlite_value.specs.Order.{Row, column}
-use Rattle.sqlite_schema.specs.declared.schema.Kind.TheVariants as kind
 use Rattle.sqlite_sql.specs.Term.{Term}
 use Rattle.sqlite_sql.specs.Query.{IsAnswer, sort_cmp}
 use Rattle.sqlite_sql.specs.Program.{overlay}
 use Rattle.sqlite.specs.State.{State}
 use Rattle.sql_rows.specs.Cells.{AreOf}
-use Rattle.edi_base.specs.declared.items.Items.{Items}
 use Rattle.hub_store.specs.Clean.{are_clean, clean_line}
 use Rattle.hub_store.specs.declared.fault.StoreFault.{StoreFault}
 use Rattle.hub_tables.specs.Rows.{same, line_cmp}
@@ -18,7 +16,6 @@ use Rattle.hub_tables.specs.State.{lines_of}
 use Rattle.hub_tables.specs.Tables.{view}
 use Rattle.hub_tables.specs.declared.rows.LineRow.{LineRow}
 use Rattle.hub_tables.proofs.KindOrders.{line_total}
-use Rattle.hub_schema.specs.Cells.{bytes_in}
 use Rattle.hub_schema.specs.Rows.{line_in, tables_in}
 use Rattle.hub_schema.specs.State.{IsHub, LooksUp}
 use Rattle.hub_schema.proofs.Single.{line_kinds, line_cells, hub_rises}

@@ -1,5 +1,5 @@
 -- What a query finds of mailboxes.
-use Rattle.std.proofs.Common.{◌≡◌, ℕ, ◌%◌, ◌==◌, ◌≤◌, ◌<◌, ◌^◌, nat_lt, nat_le, Bool, true, false, not, cond, ◌&&◌, ◌||◌, inl, inr, Result, Ok, Err, Option, Some, None, List, [], ◌∷◌, pos, map, filter, find, length, slice_get, refl, sym, ap, ap₂, subst, ◌∙◌, arith, true≢false}
+use Rattle.std.proofs.Common.{◌≡◌, ℕ, ◌%◌, ◌==◌, ◌<◌, ◌^◌, nat_lt, nat_le, Bool, true, false, not, cond, ◌&&◌, ◌||◌, inl, inr, Result, Ok, Err, Option, Some, None, List, [], ◌∷◌, pos, map, filter, find, length, slice_get, refl, sym, ap, ap₂, subst, ◌∙◌, arith, true≢false}
 use Rattle.std.specs.List.{AllByRecursion, list_all, list_any}
 use Rattle.std.specs.List.Sorted.{IsPermutation}
 use Rattle.std.specs.Ordering.{is_eq}
@@ -7,7 +7,6 @@ use Rattle.std.proofs.lemmas.Bool.{and_parts, and_from, or_parts, cases_Bool}
 use Rattle.std.proofs.lemmas.Bool.Decides.{nat_tests}
 use Rattle.sqlite_value.specs.declared.value.Value.TheVariants.{Blob, Int}
 use Rattle.sqlite_value.specs.Order.{Row, column}
-use Rattle.sqlite_schema.specs.declared.schema.Kind.TheVariants as kind
 use Rattle.sqlite_sql.specs.Term.{Term, col}
 use Rattle.sqlite_sql.specs.Query.{IsAnswer}
 use Rattle.sqlite_sql.specs.Program.{overlay}
@@ -34,7 +33,7 @@ use Rattle.hub_looks.specs.Asks.{Asks}
 use Rattle.hub_looks.specs.Numbers.{is_low, is_above, low_of, above_of}
 use Rattle.hub_looks.specs.Shown.{shown_mail}
 use Rattle.hub_looks.proofs.Comparing.{cell_low, cell_above}
-use Rattle.hub_looks.proofs.Counting.{cell_bytes, cell_number, any_shown, any_filter, some_found, all_such}
+use Rattle.hub_looks.proofs.Counting.{cell_bytes, cell_number, any_shown, some_found, all_such}
 use Rattle.hub_looks.proofs.Finding.{all_of, no_limit, passes, Finds, finds}
 use Rattle.hub_looks.proofs.Joining.{looks_on, looks_spoilt}
 use Rattle.hub_looks.proofs.Listing.{rows_moved, rows_spoil, filter_both}

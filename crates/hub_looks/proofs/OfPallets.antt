@@ -1,17 +1,14 @@
 -- What a query finds of pallets.
-use Rattle.std.proofs.Common.{◌≡◌, ℕ, ◌==◌, Bool, not, Option, Some, None, find, length, slice_get, true, false, ◌&&◌, Result, List, [], ◌∷◌, map, filter, refl, sym, ap, ap₂, subst, ◌∙◌}
+use Rattle.std.proofs.Common.{◌≡◌, ℕ, ◌==◌, Bool, not, Option, length, slice_get, true, false, ◌&&◌, Result, List, [], ◌∷◌, map, filter, refl, sym, ap, ap₂, subst, ◌∙◌}
 use Rattle.std.specs.List.{AllByRecursion, list_all}
-use Rattle.std.specs.Ordering.{ordering_then}
 use Rattle.sqlite_value.specs.declared.value.Value.TheVariants.{Blob}
 use Rattle.sqlite_value.specs.Order.{Row, column}
-use Rattle.sqlite_schema.specs.declared.schema.Kind.TheVariants as kind
 use Rattle.sqlite_sql.specs.Term.{Term, col}
 use Rattle.sqlite_sql.specs.Query.{IsAnswer, sort_cmp}
 use Rattle.sqlite_value.specs.declared.keys.Key.{Key}
 use Rattle.sqlite_sql.specs.Program.{overlay}
 use Rattle.sqlite.specs.State.{State}
 use Rattle.sql_rows.specs.Cells.{AreOf}
-use Rattle.edi_base.specs.declared.items.Items.{Items}
 use Rattle.hub_store.specs.Clean.{are_clean, clean_pallet}
 use Rattle.hub_store.specs.declared.fault.StoreFault.{StoreFault}
 use Rattle.hub_tables.specs.Rows.{same, pallet_cmp}
@@ -19,7 +16,6 @@ use Rattle.hub_tables.specs.State.{pallet_of}
 use Rattle.hub_tables.specs.Tables.{view, has_pallet}
 use Rattle.hub_tables.specs.declared.rows.PalletRow.{PalletRow}
 use Rattle.hub_tables.proofs.KindOrders.{pallet_total}
-use Rattle.hub_schema.specs.Cells.{bytes_in}
 use Rattle.hub_schema.specs.Rows.{pallet_in, tables_in}
 use Rattle.hub_schema.specs.State.{IsHub, LooksUp}
 use Rattle.hub_schema.proofs.Single.{pallet_kinds, pallet_cells, hub_rises}
@@ -27,9 +23,9 @@ use Rattle.hub_looks.specs.Asks.{Asks}
 use Rattle.hub_looks.specs.Shown.{shown_pallet}
 use Rattle.hub_looks.proofs.Counting.{cell_bytes, all_such}
 use Rattle.hub_looks.proofs.Finding.{all_of, no_limit, passes, Finds, finds}
-use Rattle.hub_looks.proofs.Listing.{shown_say, sources_have, sources_are, sources_sorted, sources_spoil, all_of_map, all_both, filter_both}
+use Rattle.hub_looks.proofs.Listing.{shown_say, sources_have, sources_are, sources_sorted, sources_spoil}
 use Rattle.hub_looks.proofs.Looking.{looks}
-use Rattle.hub_looks.proofs.Ranking.{then_none, rank_bytes, rank_numbers}
+use Rattle.hub_looks.proofs.Ranking.{then_none, rank_bytes}
 use Rattle.hub_looks.proofs.Texts.{given_at, rising, pallet_columns, used_text, used_selects, pallet_text, pallet_selects, all_pallets_text, all_pallets_select}
 use Rattle.hub_looks.proofs.Unclean.{pallets_unclean}
 use Rattle.sql_rows.proofs.Answers.{and_true}
@@ -37,7 +33,6 @@ use Rattle.sql_rows.proofs.Answers.{and_true}
 use Rattle.std.proofs.lemmas.Bool.{and_parts}
 use Rattle.std.specs.Ordering.{is_eq}
 use Rattle.std.specs.Bool.{⊤}
-use Rattle.std.specs.List.{list_any}
 use Rattle.std.specs.List.Sorted.{IsPermutation}
 use Rattle.std.proofs.lemmas.Map.Text.{is_eq-slice_cmp}
 use Rattle.hub_tables.proofs.Lists.{same_is, same_if}

@@ -1,42 +1,37 @@
 -- What a query finds of what is remembered.
-use Rattle.std.proofs.Common.{◌≡◌, ℕ, ◌==◌, ◌<◌, ◌^◌, Bool, true, false, ◌&&◌, inl, inr, Ordering, Less, Equal, Greater, Result, Option, Some, None, option_map, List, [], ◌∷◌, pos, map, filter, find, slice_get, refl, sym, ap, ap₂, subst, ◌∙◌, arith, true≢false}
-use Rattle.std.specs.List.{AllByRecursion, list_all}
+use Rattle.std.proofs.Common.{◌≡◌, ℕ, ◌==◌, ◌<◌, ◌^◌, Bool, true, false, ◌&&◌, Result, Option, option_map, List, [], ◌∷◌, pos, map, slice_get, refl, sym, ap, ap₂, subst, ◌∙◌, arith}
+use Rattle.std.specs.List.{list_all}
 use Rattle.std.specs.List.Sorted.{IsPermutation}
-use Rattle.std.specs.Ordering.{is_eq, nat_cmp, ordering_then}
-use Rattle.std.proofs.lemmas.Bool.{and_parts, cases_Bool}
-use Rattle.std.proofs.lemmas.Bool.Decides.{nat_tests}
-use Rattle.std.proofs.lemmas.Map.Text.{is_eq-slice_cmp}
+use Rattle.std.specs.Ordering.{is_eq}
+use Rattle.std.proofs.lemmas.Bool.{and_parts}
 use Rattle.sqlite_value.specs.declared.value.Value.TheVariants.{Blob, Int}
 use Rattle.sqlite_value.specs.Order.{Row, column}
-use Rattle.sqlite_schema.specs.declared.schema.Kind.TheVariants as kind
 use Rattle.sqlite_sql.specs.Term.{col}
 use Rattle.sqlite_sql.specs.Query.{IsAnswer}
 use Rattle.sqlite_sql.specs.Program.{overlay}
 use Rattle.sqlite.specs.State.{State}
 use Rattle.sql_rows.specs.Cells.{AreOf}
 use Rattle.sql_rows.proofs.Answers.{and_true, map_twice}
-use Rattle.hub_store.specs.Clean.{are_clean, are_bytes, clean_remembered, is_side, is_message}
+use Rattle.hub_store.specs.Clean.{are_bytes, clean_remembered, is_side, is_message}
 use Rattle.edi_envelope.specs.Limits.{is_reference}
 use Rattle.gs1_ids.specs.Gln.{is_gln}
 use Rattle.hub_store.specs.declared.fault.StoreFault.{StoreFault}
 use Rattle.hub_tables.specs.Cases.{side_letter}
 use Rattle.hub_tables.specs.declared.cases.Side.{Side}
 use Rattle.hub_tables.specs.declared.cases.Side.TheVariants as sides
-use Rattle.hub_tables.specs.Keys.{bytes_cmp}
 use Rattle.hub_tables.specs.Rows.{same, remembered_cmp}
 use Rattle.hub_tables.specs.State.{remembered_content}
 use Rattle.hub_tables.specs.Tables.{view}
 use Rattle.hub_tables.specs.declared.rows.RememberedRow.{RememberedRow}
 use Rattle.hub_tables.proofs.KindOrders.{remembered_total}
-use Rattle.hub_tables.proofs.Lists.{same_is, same_if}
 use Rattle.hub_schema.specs.Rows.{remembered_in, tables_in}
-use Rattle.hub_schema.specs.State.{IsHub, LooksUp}
+use Rattle.hub_schema.specs.State.{LooksUp}
 use Rattle.hub_schema.proofs.Single.{remembered_kinds, remembered_cells, hub_rises}
 use Rattle.hub_looks.specs.Asks.{Asks}
 use Rattle.hub_looks.specs.Shown.{shown_bytes}
 use Rattle.hub_looks.proofs.Counting.{cell_bytes, cell_number, all_such}
 use Rattle.hub_looks.proofs.Finding.{all_of, no_limit, passes, Finds, finds}
-use Rattle.hub_looks.proofs.Listing.{shown_say, sources_moved, sources_spoil, filter_both, all_clean, clean_all}
+use Rattle.hub_looks.proofs.Listing.{shown_say, sources_moved, sources_spoil, filter_both}
 use Rattle.hub_looks.proofs.Looking.{looks}
 use Rattle.hub_looks.proofs.Single.{found_first, both_tied, bytes_tied, numbers_tied, shown_first, all_through, spoils_more}
 use Rattle.hub_looks.proofs.Texts.{remembered_tests, remembered_text, remembered_selects}

@@ -1,26 +1,19 @@
 -- What a query finds of entries that are not taken, in the order of their numbers.
-use Rattle.std.proofs.Common.{◌≡◌, ℕ, ◌%◌, ◌*◌, ◌+◌, ◌==◌, ◌≤◌, ◌<◌, ◌^◌, nat_lt, zero, suc, ℤ, Bool, true, false, not, cond, ◌&&◌, ◌⊎◌, inl, inr, Result, Ok, Err, Option, Some, None, List, [], ◌∷◌, pos, negsuc, map, filter, take, length, refl, sym, ap, ap₂, subst, ◌∙◌, arith, true≢false}
+use Rattle.std.proofs.Common.{◌≡◌, ℕ, ◌<◌, ◌^◌, nat_lt, zero, suc, Bool, true, false, not, ◌&&◌, ◌⊎◌, inl, inr, Result, Ok, Err, Option, Some, None, List, [], ◌∷◌, pos, negsuc, map, filter, take, refl, sym, ap, ap₂, ◌∙◌, arith, true≢false}
 use Rattle.std.specs.List.{AllByRecursion, list_all, list_any}
-use Rattle.std.specs.Ordering.{is_eq, is_ne, int_cmp, nat_cmp, ordering_then}
+use Rattle.std.specs.Ordering.{ordering_then}
 use Rattle.std.proofs.lemmas.Bool.{and_parts, and_from, cases_Bool}
 use Rattle.std.proofs.lemmas.Bool.Decides.{nat_tests}
-use Rattle.std.proofs.lemmas.Int.{ints}
 use Rattle.sqlite_value.specs.declared.value.Value.{Value}
 use Rattle.sqlite_value.specs.declared.value.Value.TheVariants.{Blob, Int}
 use Rattle.sqlite_value.specs.declared.keys.Key.{Key}
-use Rattle.sqlite_value.specs.declared.keys.Collation.TheVariants.{Binary}
-use Rattle.sqlite_value.specs.Order.{Row, column, value_cmp}
-use Rattle.sqlite_value.proofs.OrderLemmas.{value_cmp-Int}
-use Rattle.sqlite_schema.specs.declared.schema.Kind.TheVariants as kind
-use Rattle.sqlite_sql.specs.declared.ops.CompareOp.TheVariants.{Ne}
-use Rattle.sqlite_sql.specs.declared.ops.BinaryOp.TheVariants.{Compare}
-use Rattle.sqlite_sql.specs.Ops.{is_true, binary}
-use Rattle.sqlite_sql.specs.Term.{Term, col, eval_all}
+use Rattle.sqlite_value.specs.Order.{Row, column}
+use Rattle.sqlite_sql.specs.Term.{Term, col}
 use Rattle.sqlite_sql.specs.Query.{IsAnswer, sort_cmp, limited, as_count}
 use Rattle.sqlite_sql.specs.Program.{overlay}
 use Rattle.sqlite.specs.State.{State}
 use Rattle.sqlite.specs.Values.{bound_value}
-use Rattle.sql_rows.specs.Cells.{IsOf, AreOf}
+use Rattle.sql_rows.specs.Cells.{AreOf}
 use Rattle.sql_rows.proofs.Answers.{and_true}
 use Rattle.edi_envelope.specs.Mail.{last_number}
 use Rattle.hub_store.specs.Clean.{are_clean, clean_mail}
@@ -32,7 +25,6 @@ use Rattle.hub_tables.specs.Tables.{Tables, view}
 use Rattle.hub_tables.specs.declared.rows.MailRow.{MailRow}
 use Rattle.hub_tables.proofs.KindOrders.{mail_total}
 use Rattle.hub_tables.proofs.Lists.{all_passes, filter_alike}
-use Rattle.hub_schema.specs.Cells.{natural, number_in}
 use Rattle.hub_schema.specs.Rows.{mail_in, tables_in}
 use Rattle.hub_schema.specs.State.{IsHub, LooksUp}
 use Rattle.hub_schema.proofs.Single.{mail_kinds, mail_cells, hub_rises}
@@ -45,10 +37,10 @@ use Rattle.hub_looks.proofs.Finding.{some_of, passes, Finds, finds}
 use Rattle.hub_looks.proofs.Joining.{looks_on, looks_spoilt, looks_then}
 use Rattle.hub_looks.proofs.Listing.{shown_say, sources_have, sources_pass, sources_are, sources_sorted, sources_spoil, filter_both, all_both, all_clean, clean_all}
 use Rattle.hub_looks.proofs.Looking.{looks}
-use Rattle.hub_looks.proofs.OfMail.{all_not, none_found, low_spoils, not_low}
+use Rattle.hub_looks.proofs.OfMail.{all_not, none_found, low_spoils}
 use Rattle.hub_looks.proofs.Ranking.{rank_bytes, then_none}
 use Rattle.hub_looks.proofs.Texts.{given_at, rising, above_test, untaken_test, mail_columns, after_text, after_selects}
-use Rattle.hub_looks.proofs.Unclean.{mail_unclean, first_fails, later_fails}
+use Rattle.hub_looks.proofs.Unclean.{mail_unclean}
 
 -- Fronts of lists.
 

@@ -1,5 +1,5 @@
 -- What the texts of the look-ups stand for.
-use Rattle.std.proofs.Common.{◌≡◌, ℕ, pos, negsuc, List, [], ◌∷◌, codes, true, false, refl}
+use Rattle.std.proofs.Common.{ℕ, pos, List, [], ◌∷◌, codes, true, false, refl}
 use Rattle.sqlite_sql.specs.Term.{Term, lit, col, op2}
 use Rattle.sqlite_sql.specs.Query.{Query}
 use Rattle.sqlite_sql.specs.declared.ops.BinaryOp.TheVariants.{Compare}

@@ -1,7 +1,6 @@
 -- Numbers of mailbox entries as a query compares them, which takes those below zero as such.
-use Rattle.std.specs.Prelude.{ℕ, ◌+◌, ◌*◌, ◌%◌, ◌^◌, ◌==◌, Bool, not, ◌&&◌, ◌||◌, nat_lt, List, filter}
+use Rattle.std.specs.Prelude.{ℕ, ◌%◌, ◌^◌, ◌==◌, Bool, not, ◌&&◌, ◌||◌, nat_lt, List}
 use Rattle.hub_tables.specs.Rows.{same}
-use Rattle.hub_tables.specs.Tables.{Tables}
 use Rattle.hub_tables.specs.declared.rows.MailRow.{MailRow}
 
 -- what a cell shows whose number is no greater than zero

@@ -203,6 +203,17 @@ fn highest<S: Alter>(
     )
 }
 
+// The same, and 0 where there is none.
+fn highest_or_zero<S: Alter>(
+    conn: &mut Connection<S>,
+    supplier: &Gln,
+) -> Result<u64, StoreFault>
+    ensures looks { LooksUp (λ t. unwrap_or (option_map (λ entry. entry.number) (last_or None (filter (λ entry. is_above 0 entry.number) (view supplier.now t).mail))) 0) (state S.Store conn.old) (state S.Store conn.new) result }
+{
+    let number = highest(conn, supplier)?;
+    Ok(number.unwrap_or(0))
+}
+
 /// The number of the last entry of the supplier's mailbox, 0 where there is none.
 pub fn last_mail<S: Alter>(conn: &mut Connection<S>, supplier: &Gln) -> Result<u64, StoreFault>
     ensures looks { LooksUp (λ t. last (view supplier.now t)) (state S.Store conn.old) (state S.Store conn.new) result }
@@ -211,6 +222,5 @@ pub fn last_mail<S: Alter>(conn: &mut Connection<S>, supplier: &Gln) -> Result<u
     if low {
         return Err(StoreFault::Unclean);
     }
-    let number = highest(conn, supplier)?;
-    Ok(number.unwrap_or(0))
+    highest_or_zero(conn, supplier)
 }

@@ -1,4 +1,4 @@
-use Rattle.std.proofs.Common.{true, not, ap, ◌∙◌}
+use Rattle.std.proofs.Common.{not, ap, ◌∙◌}
 use Rattle.sqlite.specs.Held.{state}
 use Rattle.sqlite.specs.Values.{bound}
 use Rattle.hub_looks.proofs.Asking.{asked_ok, asked_err}

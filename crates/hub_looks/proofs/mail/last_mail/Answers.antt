@@ -12,4 +12,7 @@ returns-then-low g c = record {
 }
 
 pub returns : goal.returns
-returns g c = record { looks = ? }
+returns g c = record {
+  looks = last_look (state g.S.Store c.args.conn.now) (state g.S.Store c.has_low.new.conn) (state g.S.Store c.highest_or_zero.new.conn)
+      c.args.supplier.now c.in_ok-low.low c.if-low.false c.in_ok-low.ensures.looks c.highest_or_zero.result c.highest_or_zero.ensures.looks;
+}
