@@ -1,5 +1,5 @@
 -- What SELECT answers.
-use Rattle.std.proofs.Common.{Vec, Result, Ok, Err, IfOk, OnOk, ◌≡◌, ℕ, ◌==◌, ◌≤◌, ◌^◌, ℤ, pos, negsuc, zero, suc, ◌+◌, ◌<◌, length, get_or, Ordering, Bool, true, false, ◌&&◌, if◌then◌else◌, Some, List, [], ◌∷◌, ◌++◌, map, filter, bytes_eq, refl, sym, ap, ◌∙◌, subst, arith}
+use Rattle.std.proofs.Common.{Vec, Result, Ok, Err, IfOk, OnOk, ◌≡◌, ℕ, ◌==◌, ◌≤◌, ◌^◌, nat_lt, ◌⊎◌, inl, inr, ℤ, pos, negsuc, zero, suc, ◌+◌, ◌<◌, length, get_or, Ordering, Bool, true, false, ◌&&◌, if◌then◌else◌, Some, List, [], ◌∷◌, ◌++◌, map, filter, bytes_eq, refl, sym, ap, ◌∙◌, subst, arith}
 use Rattle.std.specs.List.{AllByRecursion, flat_map}
 use Rattle.std.specs.List.Sorted.{IsPermutation, IsSorted, IsSortedByKey}
 use Rattle.std.specs.Ordering.{is_eq, int_cmp, on}
@@ -45,17 +45,28 @@ pub same_bytes : (v : Value) (b bytes : List ℕ) → v ≡ Blob b → is_true (
 unfolding binary
 same_bytes v b bytes is = ap (λ x. is_true (binary (Compare Eq Binary) x (Blob bytes))) is ∙ (is_truth _ ∙ (ap is_eq (value_cmp-Blob b bytes) ∙ is_eq-slice_cmp b bytes))
 
--- Numbers are shown as naturals, each n as n and those below zero past 2^64.
-module _ (shown : ℤ → ℕ) (plain : (n : ℕ) → shown (pos n) ≡ n) (past : (n : ℕ) → 2 ^ 64 ≤ shown (negsuc n)) where
-  pub same_shown : (n : ℤ) (number : ℕ) → number < 2 ^ 64 → is_eq (int_cmp n (pos number)) ≡ (shown n == number)
-  same_shown (pos n) number low = rw (plain n, both n number)
+-- Numbers are shown as naturals: each below 2^64 as it is, and all others past that.
+module _ (shown : ℤ → ℕ) (plain : (n : ℕ) → n < 2 ^ 64 → shown (pos n) ≡ n) (great : (n : ℕ) → 2 ^ 64 ≤ n → 2 ^ 64 ≤ shown (pos n)) (past : (n : ℕ) → 2 ^ 64 ≤ shown (negsuc n)) where
+  differ : (a b : ℕ) → 2 ^ 64 ≤ a → b < 2 ^ 64 → false ≡ (a == b)
+  differ a b high low = grind (arith, nat_tests)
+
+  by_size : (n number : ℕ) → number < 2 ^ 64 → (n < 2 ^ 64) ⊎ (2 ^ 64 ≤ n) → is_eq (int_cmp (pos n) (pos number)) ≡ (shown (pos n) == number)
+  by_size n number low (inl small) = rw (plain n small, both n number)
     where
       both : (n number : ℕ) → is_eq (int_cmp (pos n) (pos number)) ≡ (n == number)
       both n number = grind (arith, ints, nat_tests)
-  same_shown (negsuc n) number low = let high = past n in sym (differ (shown (negsuc n)) number high low)
+  by_size n number low (inr large) = other n number low large ∙ differ (shown (pos n)) number (great n large) low
     where
-      differ : (a b : ℕ) → 2 ^ 64 ≤ a → b < 2 ^ 64 → (a == b) ≡ false
-      differ a b high low = grind (arith, nat_tests)
+      other : (n number : ℕ) → number < 2 ^ 64 → 2 ^ 64 ≤ n → is_eq (int_cmp (pos n) (pos number)) ≡ false
+      other n number low large = grind (arith, ints, nat_tests)
+
+  sized : (n : ℕ) (b : Bool) → nat_lt n (2 ^ 64) ≡ b → (n < 2 ^ 64) ⊎ (2 ^ 64 ≤ n)
+  sized n true e = inl (grind (arith, nat_tests, e))
+  sized n false e = inr (grind (arith, nat_tests, e))
+
+  pub same_shown : (n : ℤ) (number : ℕ) → number < 2 ^ 64 → is_eq (int_cmp n (pos number)) ≡ (shown n == number)
+  same_shown (pos n) number low = by_size n number low (sized n (nat_lt n (2 ^ 64)) refl)
+  same_shown (negsuc n) number low = differ (shown (negsuc n)) number (past n) low
 
   -- a cell of a number is that number
   pub same_int : (v : Value) (n : ℤ) (number : ℕ) → number < 2 ^ 64 → v ≡ Int n → is_true (binary (Compare Eq Binary) v (Int (pos number))) ≡ (shown n == number)
