@@ -1,3 +1,4 @@
 pub mod InKeyOrder
+pub mod Makes
 pub mod Single
 pub mod Texts

@@ -1,2 +1,6 @@
 //! The tables of a hub in SQL: their schema, what their rows say, and their making.
 #![tactic(auto)]
+
+mod making;
+
+pub use making::make_tables;
