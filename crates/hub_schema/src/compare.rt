@@ -2,11 +2,11 @@
 ghost use Rattle.std.specs.Prelude.{◌≡◌, ◌↔◌, IsTrue, [], ◌∷◌, map};
 ghost use Rattle.sql_rows.specs.Tables.{strict_column, plain_table};
 ghost use Rattle.sqlite_value.specs.Keys.{plain};
-ghost use Rattle.hub_schema.specs.Schema.{keyed, schema_table, order_table, line_table, advice_table, pallet_table, content_table, receipt_table, remembered_table, mail_table};
+ghost use Rattle.hub_schema.specs.Schema.{keyed, index_of, hub_tables, hub_schema, schema_table, order_table, line_table, advice_table, pallet_table, content_table, receipt_table, remembered_table, mail_table};
 
 use sqlite_items::Items;
 use sqlite_schema::code::Terms;
-use sqlite_schema::schema::{Column, Kind, Stamps, Table};
+use sqlite_schema::schema::{Column, Index, Kind, Schema, Stamps, Table};
 use sqlite_value::keys::{Collation, Order};
 use sqlite_value::value::Value;
 
@@ -233,4 +233,87 @@ fn is_mail(table: &Table) -> bool
             (b"taken", Kind::Integer),
         ],
     )
+}
+
+// Whether the index is the one of a key.
+fn is_index(index: &Index, name: &[u8], tree: u32, table: u32, key: &[usize]) -> bool
+    ensures { IsTrue result ↔ (index.now ≡ index_of name.now tree table key.now) }
+{
+    index.name.as_slice() == name
+        && index.tree == tree
+        && index.table == table
+        && index.is_unique
+        && is_key(&index.columns, index.order, key)
+}
+
+// Whether the indexes are those of these names, trees, tables and keys, in this order.
+fn are_indexes(indexes: &[Index], expected: &[(&[u8], u32, u32, &[usize])]) -> bool
+    ensures { IsTrue result ↔ (indexes.now ≡ map (λ it. index_of it.0.now it.1 it.2 it.3.now) expected.now) }
+{
+    let [index, indexes @ ..] = indexes else {
+        return expected.is_empty();
+    };
+    let [(name, tree, table, key), expected @ ..] = expected else {
+        return false;
+    };
+    is_index(index, name, *tree, *table, key) && are_indexes(indexes, expected)
+}
+
+// Whether each key of the hub's tables has its index, and there is no other.
+fn are_hub_indexes(indexes: &[Index]) -> bool
+    ensures { IsTrue result ↔ (indexes.now ≡ hub_schema.indexes) }
+{
+    are_indexes(
+        indexes,
+        &[
+            (b"sqlite_autoindex_order_1", 2, 1, &[1, 2]),
+            (b"sqlite_autoindex_line_1", 4, 3, &[1, 2, 3]),
+            (b"sqlite_autoindex_advice_1", 6, 5, &[1, 2]),
+            (b"sqlite_autoindex_pallet_1", 8, 7, &[1]),
+            (b"sqlite_autoindex_pallet_2", 9, 7, &[2, 1]),
+            (b"sqlite_autoindex_content_1", 11, 10, &[1, 2]),
+            (b"sqlite_autoindex_receipt_1", 13, 12, &[1, 2]),
+            (b"sqlite_autoindex_remembered_1", 15, 14, &[1, 2, 3, 4]),
+            (b"sqlite_autoindex_mail_1", 17, 16, &[1, 2]),
+        ],
+    )
+}
+
+// Whether the last tables are these.
+fn are_message_tables(tables: &[Table]) -> bool
+    ensures { IsTrue result ↔ (tables.now ≡ receipt_table ∷ remembered_table ∷ mail_table ∷ []) }
+{
+    let [receipt, remembered, mail] = tables else {
+        return false;
+    };
+    is_receipt(receipt) && is_remembered(remembered) && is_mail(mail)
+}
+
+// Whether the tables from the advices on are these.
+fn are_pallet_tables(tables: &[Table]) -> bool
+    ensures { IsTrue result ↔ (tables.now ≡ advice_table ∷ pallet_table ∷ content_table ∷ receipt_table ∷ remembered_table ∷ mail_table ∷ []) }
+{
+    let [advice, pallet, content, rest @ ..] = tables else {
+        return false;
+    };
+    is_advice(advice) && is_pallet(pallet) && is_content(content) && are_message_tables(rest)
+}
+
+// Whether the tables are the hub's, in this order.
+fn are_hub_tables(tables: &[Table]) -> bool
+    ensures { IsTrue result ↔ (tables.now ≡ hub_tables) }
+{
+    let [schema, order, line, rest @ ..] = tables else {
+        return false;
+    };
+    is_schema(schema) && is_order(order) && is_line(line) && are_pallet_tables(rest)
+}
+
+/// Whether the schema is the hub's: its tables and their keys, in the order of their making, and nothing else.
+pub fn is_hub_schema(schema: &Schema) -> bool
+    ensures { IsTrue result ↔ (schema.now ≡ hub_schema) }
+{
+    are_hub_tables(schema.tables.as_slice())
+        && are_hub_indexes(schema.indexes.as_slice())
+        && schema.views.is_empty()
 }

@@ -4,4 +4,5 @@
 mod compare;
 mod making;
 
+pub use compare::is_hub_schema;
 pub use making::make_tables;
