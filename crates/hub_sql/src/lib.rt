@@ -1,0 +1,6 @@
+//! The tables of a hub in a database of SQL, in memory or in a file.
+#![tactic(auto)]
+
+mod store;
+
+pub use store::SqliteStore;
