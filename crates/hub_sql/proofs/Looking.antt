@@ -44,14 +44,14 @@ failed None after result none lasting known = record {
 failed (Some f) after result none lasting known = cc
 
 module _ {S : Type 0} (g : Ghosts S) (old new : Stored S) (settled : IsSettled g old) (whole : old.fault ≡ None) (past : new.past ≡ old.past) where
-  same_content : content g new ≡ content g old
+  pub same_content : content g new ≡ content g old
   same_content = ap (λ p. rows_in g (last_or None p)) past
 
   holds : honest g old → Holds (state g old.held)
   holds clean o = settled.hub whole clean o
 
   -- rows and schema are those that were, where the connection still shows them
-  still : new.held.in_transaction ≡ false → (honest g new → new.fault ≡ None → new.held.schema ≡ hub_schema)
+  pub still : new.held.in_transaction ≡ false → (honest g new → new.fault ≡ None → new.held.schema ≡ hub_schema)
       → (honest g new → honest g old)
       → (honest g new → IsTrue (state g new.held).is_open → IsTrue (state g old.held).is_open × ((state g new.held).now ≡ (state g old.held).now))
       → IsSettled g new
