@@ -1,0 +1,4 @@
+pub mod Alters
+pub mod Keys
+pub mod Orders
+pub mod Outcomes
