@@ -113,6 +113,10 @@ never_unclean (error.InvalidColumnType x y) h = cc
 never_unclean (error.IntegralValueOutOfRange x) h = cc
 never_unclean (error.Utf8Error x) h = cc
 
+pub no_unclean : {X : Type 0} (r : Result X Error) → ended r ≡ Err Unclean → ⊥
+no_unclean (Ok x) h = cc
+no_unclean (Err e) h = never_unclean e (let same : fault_of e ≡ Unclean = cc in same)
+
 -- what `execute` says of a statement in a transaction
 pub record Executed {S : Type 0} (g : Ghosts S) (sql : List ℕ) (params : Row) (old new : Held S) (r : Result ℕ Error) : Type 0 where
   pub ended : (state g old).in_transaction ≡ false → (r ≡ Err (SqliteFailure code.TransactionState)) × (new ≡ old)
@@ -146,10 +150,6 @@ module _ {S : Type 0} (g : Ghosts S) (sql : List ℕ) (params : Row) (old new : 
     kept = kept;
     survives = did.survives;
   })
-
-  no_unclean : (out : Result ℕ Error) → ended out ≡ Err Unclean → ⊥
-  no_unclean (Ok count) h = cc
-  no_unclean (Err e) h = never_unclean e (let same : fault_of e ≡ Unclean = cc in same)
 
   -- an UPDATE
   pub update_acts : (changes : List Change) → (IsHub (state g old) → old.in_transaction ≡ true → ExecutesInside 0 sql params (state g old) (state g new) r → OnOk r (Makes (apply_all changes) (state g old) (state g new)))
