@@ -1,0 +1,55 @@
+-- What a query does, from its clauses.
+use Rattle.std.proofs.Common.{Vec, Result, Ok, Err, IfOk, IfErr, OnOk, ◌≡◌, ◌≢◌, ◌⊎◌, inl, inr, ℕ, true, false, not, List, IsTrue, refl, sym, ap, ◌∙◌, subst}
+use Rattle.std.specs.declared.alloc.Global.{Global}
+use Rattle.sqlite_value.specs.Order.{Row}
+use Rattle.sqlite.specs.declared.error.Error.{Error}
+use Rattle.sqlite.specs.Clock.{timed}
+use Rattle.sqlite.specs.State.{State, HasCleanDisk, Shown, ShowsRows, FailsToQuery, FailsToShow, IsNotRun, IsUnchanged, IsRolledBack, Survives, CommitsShowing}
+use Rattle.hub_store.specs.declared.fault.StoreFault.{StoreFault}
+use Rattle.hub_store.specs.declared.fault.StoreFault.TheVariants.{Unclean}
+use Rattle.hub_looks.specs.Asks.{OnlyReads, Asks}
+
+pub shown_same : (sql : List ℕ) (params : Row) (old new : State) (rows : List Row) → OnlyReads sql → Shown sql params old new rows → IsUnchanged old new
+unfolding Shown
+shown_same sql params old new rows plain h =
+    let none = plain old.now.schema h.0 h.1.is in
+    (subst (ShowsRows old new sql h.0 (timed params h.0.formats h.1.now) rows) none h.2).3
+
+failed_same : (sql : List ℕ) (params : Row) (old new : State) (e : Error) → OnlyReads sql → FailsToQuery sql params old new e → IsUnchanged old new ⊎ IsRolledBack old new
+unfolding FailsToQuery IsNotRun
+failed_same sql params old new e plain (inl (inl h)) = inl h.1
+failed_same sql params old new e plain (inl (inr h)) = inr h.3
+failed_same sql params old new e plain (inr h) =
+    let none = plain old.now.schema h.0 h.1.is in
+    inl (subst (FailsToShow old new sql h.0 (timed params h.0.formats h.1.now) e) none h.2).3
+
+abbrev Rows : List Row → Vec Row Global → Type 0
+Rows rows answer = answer.items ≡ rows
+
+module _ (text : List ℕ) (params : Row) (old new : State) (mode : old.in_transaction ≡ false → new.in_transaction ≡ false)
+    (survives : Survives old new (CommitsShowing text params old)) where
+  pub asked_ok : (rows : Vec Row Global) → (HasCleanDisk new → Shown text params old new rows.items)
+      → Asks Rows (λ _. ⊥) text params old new (Ok rows)
+  asked_ok rows shown = record {
+    reads = λ clean. (rows.items, shown clean, refl);
+    spoils = λ clean e. absurd cc;
+    same = λ clean plain. let it = (shown_same text params old new rows.items plain (shown clean)).0 in (it.was_open, it.is_open, it.now_is);
+    stays = λ clean idle plain up. let it = (shown_same text params old new rows.items plain (shown clean)).0 in (it.was_open, it.now_is);
+    mode = mode;
+    survives = survives;
+  }
+
+  pub asked_err : (e : Error) (fault : StoreFault) → fault ≢ Unclean → (HasCleanDisk new → FailsToQuery text params old new e)
+      → (old.in_transaction ≡ false → IsTrue old.is_open → old.now ≡ old.committed)
+      → Asks {X = Vec Row Global} Rows (λ _. ⊥) text params old new (Err fault)
+  asked_err e fault other fails settled = record {
+    reads = λ clean. tt;
+    spoils = λ clean e. absurd (other cc);
+    same = λ clean plain. tt;
+    stays = λ clean idle plain up. elim (failed_same text params old new e plain (fails clean)) [
+      | inl it ↦ (it.0.was_open, it.0.now_is)
+      | inr back ↦ (back.was_open up, (back.undone up).0 ∙ sym (settled idle (back.was_open up)))
+    ];
+    mode = mode;
+    survives = survives;
+  }

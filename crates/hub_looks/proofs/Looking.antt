@@ -1,0 +1,65 @@
+-- A text that selects, and what a look-up by it does.
+use Rattle.std.proofs.Common.{◌≡◌, ℕ, true, false, Ok, Err, Result, List, [], ◌∷◌, IsTrue, refl, sym, subst, ◌∙◌}
+use Rattle.sqlite_value.specs.declared.value.Value.TheVariants.{Null}
+use Rattle.sqlite_value.specs.Order.{Row}
+use Rattle.sqlite_sql.specs.Query.{Query, IsAnswer}
+use Rattle.sqlite_sql.specs.Program.{overlay}
+use Rattle.sqlite_schema.specs.declared.command.Command.TheVariants.{Select}
+use Rattle.sqlite_resolve.specs.Compile.{first}
+use Rattle.sqlite.specs.Listing.{understood, reads_listing}
+use Rattle.sqlite.specs.State.{State, Shown, Survives, HasCleanDisk, IsUnchanged}
+use Rattle.sqlite.proofs.Callers.{IsPlain, command_of, reads_as}
+use Rattle.sql_rows.proofs.Answers.{shows_no_commit}
+use Rattle.hub_store.specs.Clean.{are_clean}
+use Rattle.hub_store.specs.declared.fault.StoreFault.{StoreFault}
+use Rattle.hub_store.specs.declared.fault.StoreFault.TheVariants.{Unclean}
+use Rattle.hub_tables.specs.Tables.{Tables}
+use Rattle.hub_schema.specs.Rows.{tables_in}
+use Rattle.hub_schema.specs.Schema.{hub_schema}
+use Rattle.hub_schema.specs.State.{IsHub, LooksUp}
+use Rattle.hub_looks.specs.Asks.{OnlyReads, Asks}
+use Rattle.hub_looks.proofs.Asking.{shown_same}
+use Rattle.hub_looks.proofs.Selecting.{begins_query, only_reads}
+
+-- the text selects by the query from the tables of a hub
+pub record Selects (text : List ℕ) (query : Query) (names : List (List ℕ)) : Type 0 where
+  pub first : begins_query (first text) ≡ true
+  pub plain : IsPlain (understood hub_schema text)
+  pub unlisted : reads_listing hub_schema text ≡ false
+  pub is : command_of (understood hub_schema text) ≡ Select (record { lets = []; body = query }) names
+
+module _ {text : List ℕ} {query : Query} {names : List (List ℕ)} (it : Selects text query names) where
+  reads_none : OnlyReads text
+  reads_none = only_reads text it.first
+
+  answered : (params : Row) (old new : State) (rows : List Row) → IsHub old → Shown text params old new rows
+      → IsAnswer query (overlay old.now.trees []) params rows
+  answered params old new rows hub h =
+      (reads_as text params old new hub_schema hub.schema _ it.is it.plain it.unlisted rows h).answer Null
+
+  was_open : (params : Row) (old new : State) (rows : List Row) → Shown text params old new rows → IsTrue old.is_open
+  was_open params old new rows h = (shown_same text params old new rows reads_none h).0.was_open
+
+  pub looks : {X : Type 0} (answer : Tables → X) (Reads : List Row → X → Type 0) (Spoil : List Row → Type 0) (params : Row) (old new : State)
+      → (IsHub old → (rows : List Row) → IsAnswer query (overlay old.now.trees []) params rows → (x : X) → Reads rows x → x ≡ answer (tables_in old.now.trees))
+      → (IsHub old → (rows : List Row) → IsAnswer query (overlay old.now.trees []) params rows → Spoil rows → are_clean (tables_in old.now.trees) ≡ false)
+      → (result : Result X StoreFault) → Asks Reads Spoil text params old new result → LooksUp answer old new result
+  looks answer Reads Spoil params old new right wrong (Ok x) asks = record {
+    answers = λ clean holds. let h = asks.reads clean in
+        let hub = holds (was_open params old new h.0 h.1) in right hub h.0 (answered params old new h.0 hub h.1) x h.2;
+    same = λ clean. asks.same clean reads_none;
+    stays = λ clean idle has up. asks.stays clean idle reads_none up;
+    mode = asks.mode;
+    crash = shows_no_commit hub_schema text params old new it.plain asks.survives;
+    unclean = λ clean holds e. absurd cc;
+  }
+  looks answer Reads Spoil params old new right wrong (Err fault) asks = record {
+    answers = λ clean holds. tt;
+    same = λ clean. tt;
+    stays = λ clean idle has up. asks.stays clean idle reads_none up;
+    mode = asks.mode;
+    crash = shows_no_commit hub_schema text params old new it.plain asks.survives;
+    unclean = λ clean holds e. let h = asks.spoils clean e in
+        let up = was_open params old new h.0 h.1 in
+        let hub = holds up in (up, wrong hub h.0 (answered params old new h.0 hub h.1) h.2);
+  }

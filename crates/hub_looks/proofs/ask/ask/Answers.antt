@@ -1,0 +1,18 @@
+use Rattle.std.proofs.Common.{true, not, ap, ◌∙◌}
+use Rattle.sqlite.specs.Held.{state}
+use Rattle.sqlite.specs.Values.{bound}
+use Rattle.hub_looks.proofs.Asking.{asked_ok, asked_err}
+use Rattle.hub_looks.proofs.ask.ask.Goals as goal
+
+pub returns-in-Ok : goal.returns-in-Ok
+returns-in-Ok g c = record {
+  asks = asked_ok c.args.text.now (bound c.args.params.now) (state g.S.Store c.args.conn.now) (state g.S.Store c.query_all.new.self)
+      c.query_all.ensures.mode c.query_all.ensures.survives c.in-Ok.rows c.in-Ok.ensures.ok;
+}
+
+pub returns-in-Err : goal.returns-in-Err
+returns-in-Err g c = record {
+  asks = asked_err c.args.text.now (bound c.args.params.now) (state g.S.Store c.args.conn.now) (state g.S.Store c.query_all.new.self)
+      c.query_all.ensures.mode c.query_all.ensures.survives c.in-Err.error c.fault_of.result c.fault_of.ensures c.in-Err.ensures.err
+      (λ idle. c.is_autocommit.ensures.settled (c.is_autocommit.ensures.value ∙ ap not idle));
+}

@@ -1,0 +1,26 @@
+-- What asking a connection by one text does.
+use Rattle.std.specs.Prelude.{◌≡◌, ℕ, false, IsTrue, List, Result, Ok, Err, None, IfOk, OnOk}
+use Rattle.sqlite_value.specs.Order.{Row}
+use Rattle.sqlite_schema.specs.declared.schema.Schema.{Schema}
+use Rattle.sqlite_resolve.specs.declared.compiled.Compiled.{Compiled}
+use Rattle.sqlite.specs.Listing.{understood}
+use Rattle.sqlite.specs.State.{State, HasCleanDisk, Shown, Survives, CommitsShowing}
+use Rattle.hub_store.specs.declared.fault.StoreFault.{StoreFault}
+use Rattle.hub_store.specs.declared.fault.StoreFault.TheVariants.{Unclean}
+
+-- a statement that writes nothing, under any schema
+abbrev pub OnlyReads : List ℕ → Type 0
+OnlyReads text = (schema : Schema) (c : Compiled) → understood schema text ≡ Ok c → c.returning ≡ None
+
+-- the answer reads the rows that are shown, which spoil it where it is `Unclean`
+pub record Asks {X : Type 0} (Reads : List Row → X → Type 0) (Spoil : List Row → Type 0) (text : List ℕ) (params : Row)
+    (old new : State) (result : Result X StoreFault) : Type 0 where
+  pub reads : HasCleanDisk new → IfOk result (λ x. (rows : List Row) × Shown text params old new rows × Reads rows x)
+  pub spoils : HasCleanDisk new → result ≡ Err Unclean → (rows : List Row) × Shown text params old new rows × Spoil rows
+  pub same :
+      HasCleanDisk new → OnlyReads text → OnOk result (IsTrue old.is_open × IsTrue new.is_open × (new.now ≡ old.now))
+  pub stays :
+      HasCleanDisk new → old.in_transaction ≡ false → OnlyReads text → IsTrue new.is_open →
+      IsTrue old.is_open × (new.now ≡ old.now)
+  pub mode : old.in_transaction ≡ false → new.in_transaction ≡ false
+  pub survives : Survives old new (CommitsShowing text params old)

@@ -1,0 +1,184 @@
+//! Cells of a row as values of the hub.
+ghost use Rattle.std.specs.Prelude.{◌≡◌, ◌≢◌, ◌≤◌, ◌^◌, ◌∷◌, [], false, Err, nat_le, IfOk};
+ghost use Rattle.edi_tokens.specs.Service.{is_decimal};
+ghost use Rattle.edi_envelope.specs.Moment.{last_moment};
+ghost use Rattle.gs1_ids.specs.Digits.{is_key};
+ghost use Rattle.gs1_ids.specs.Gln.{is_gln};
+ghost use Rattle.hub_store.specs.Clean.{is_within, is_number, is_answer, is_arrival, is_kind, is_truth};
+ghost use Rattle.hub_schema.specs.Cells.{bytes_in, number_in};
+ghost use Rattle.sqlite_value.specs.Order.{column};
+
+use edi_base::{Items, all_printable, has_length};
+use edi_envelope::Moment;
+use gs1_ids::{Gln, Gtin, Sscc};
+use hub_store::StoreFault;
+use hub_tables::{Answered, Arrival, Column, MailKind};
+use sqlite::{Error, ErrorCode, Row};
+
+// Out of memory, or a row that is none of the kinds.
+fn unread(error: &Error) -> StoreFault
+    ensures { result ≡ StoreFault.Unclean → error.now ≢ Error.SqliteFailure ErrorCode.OutOfMemory }
+{
+    match error {
+        Error::SqliteFailure(ErrorCode::OutOfMemory) => StoreFault::Memory,
+        _ => StoreFault::Unclean,
+    }
+}
+
+/// The bytes of a cell.
+pub(crate) fn bytes_at(row: &Row, at: usize) -> Result<Items<u8>, StoreFault>
+    ensures ok { IfOk result (λ bytes. bytes ≡ bytes_in (column row.now at)) }
+    ensures unclean { result ≡ Err StoreFault.Unclean → bytes_in (column row.now at) ≡ 256 ∷ [] }
+{
+    match row.get::<Vec<u8>>(at) {
+        Ok(bytes) => Ok(Items::from_vec(bytes)),
+        Err(error) => Err(unread(&error)),
+    }
+}
+
+/// The number of a cell.
+pub(crate) fn number_at(row: &Row, at: usize) -> Result<u64, StoreFault>
+    ensures ok { IfOk result (λ number. number ≡ number_in (column row.now at)) }
+    ensures unclean { result ≡ Err StoreFault.Unclean → 2 ^ 64 ≤ number_in (column row.now at) }
+{
+    match row.get::<u64>(at) {
+        Ok(number) => Ok(number),
+        Err(error) => Err(unread(&error)),
+    }
+}
+
+/// The number of a cell, within limits.
+pub(crate) fn within_at(row: &Row, at: usize, low: u64, high: u64) -> Result<u64, StoreFault>
+    ensures ok { IfOk result (λ number. (number ≡ number_in (column row.now at)) × (number ≤ high)) }
+    ensures unclean { result ≡ Err StoreFault.Unclean → is_within low high (number_in (column row.now at)) ≡ false }
+{
+    let number = number_at(row, at)?;
+    if number < low || high < number {
+        return Err(StoreFault::Unclean);
+    }
+    Ok(number)
+}
+
+/// The number of a document.
+pub(crate) fn document_at(row: &Row, at: usize) -> Result<Items<u8>, StoreFault>
+    ensures ok { IfOk result (λ number. number ≡ bytes_in (column row.now at)) }
+    ensures unclean { result ≡ Err StoreFault.Unclean → is_number (bytes_in (column row.now at)) ≡ false }
+{
+    let number = bytes_at(row, at)?;
+    if !has_length(1, 35, number.as_slice()) || !all_printable(number.as_slice()) {
+        return Err(StoreFault::Unclean);
+    }
+    Ok(number)
+}
+
+/// A supplier.
+pub(crate) fn gln_at(row: &Row, at: usize) -> Result<Gln, StoreFault>
+    ensures ok { IfOk result (λ gln. gln ≡ bytes_in (column row.now at)) }
+    ensures unclean { result ≡ Err StoreFault.Unclean → is_gln (bytes_in (column row.now at)) ≡ false }
+{
+    let digits = bytes_at(row, at)?;
+    match Gln::parse(digits.as_slice()) {
+        Some(gln) => Ok(gln),
+        None => Err(StoreFault::Unclean),
+    }
+}
+
+/// A pallet's SSCC.
+pub(crate) fn sscc_at(row: &Row, at: usize) -> Result<Sscc, StoreFault>
+    ensures ok { IfOk result (λ sscc. sscc ≡ bytes_in (column row.now at)) }
+    ensures unclean { result ≡ Err StoreFault.Unclean → is_key 18 (bytes_in (column row.now at)) ≡ false }
+{
+    let digits = bytes_at(row, at)?;
+    match Sscc::parse(digits.as_slice()) {
+        Some(sscc) => Ok(sscc),
+        None => Err(StoreFault::Unclean),
+    }
+}
+
+/// An article, by all fourteen digits.
+pub(crate) fn gtin_at(row: &Row, at: usize) -> Result<Gtin, StoreFault>
+    ensures ok { IfOk result (λ gtin. gtin ≡ bytes_in (column row.now at)) }
+    ensures unclean { result ≡ Err StoreFault.Unclean → is_key 14 (bytes_in (column row.now at)) ≡ false }
+{
+    let digits = bytes_at(row, at)?;
+    if digits.len() != 14 {
+        return Err(StoreFault::Unclean);
+    }
+    match Gtin::parse(digits.as_slice()) {
+        Some(gtin) => Ok(gtin),
+        None => Err(StoreFault::Unclean),
+    }
+}
+
+/// How a line was answered.
+pub(crate) fn answer_at(row: &Row, at: usize) -> Result<Column<Answered>, StoreFault>
+    ensures ok { IfOk result (λ answer. answer ≡ number_in (column row.now at)) }
+    ensures unclean { result ≡ Err StoreFault.Unclean → is_answer (number_in (column row.now at)) ≡ false }
+{
+    match number_at(row, at)? {
+        0x57 => Ok(Column::of(Answered::Waiting)),
+        0x41 => Ok(Column::of(Answered::Accepted)),
+        0x4e => Ok(Column::of(Answered::NotAccepted)),
+        0x43 => Ok(Column::of(Answered::Changed)),
+        _ => Err(StoreFault::Unclean),
+    }
+}
+
+/// How far a pallet has come.
+pub(crate) fn arrival_at(row: &Row, at: usize) -> Result<Column<Arrival>, StoreFault>
+    ensures ok { IfOk result (λ arrival. arrival ≡ number_in (column row.now at)) }
+    ensures unclean { result ≡ Err StoreFault.Unclean → is_arrival (number_in (column row.now at)) ≡ false }
+{
+    match number_at(row, at)? {
+        0 => Ok(Column::of(Arrival::Announced)),
+        1 => Ok(Column::of(Arrival::Received)),
+        _ => Err(StoreFault::Unclean),
+    }
+}
+
+/// The type of a message in a mailbox.
+pub(crate) fn kind_at(row: &Row, at: usize) -> Result<Column<MailKind>, StoreFault>
+    ensures ok { IfOk result (λ kind. kind ≡ number_in (column row.now at)) }
+    ensures unclean { result ≡ Err StoreFault.Unclean → is_kind (number_in (column row.now at)) ≡ false }
+{
+    match number_at(row, at)? {
+        0x4f => Ok(Column::of(MailKind::Orders)),
+        0x52 => Ok(Column::of(MailKind::Receipt)),
+        _ => Err(StoreFault::Unclean),
+    }
+}
+
+/// No or yes.
+pub(crate) fn truth_at(row: &Row, at: usize) -> Result<Column<bool>, StoreFault>
+    ensures ok { IfOk result (λ truth. truth ≡ number_in (column row.now at)) }
+    ensures unclean { result ≡ Err StoreFault.Unclean → is_truth (number_in (column row.now at)) ≡ false }
+{
+    match number_at(row, at)? {
+        0 => Ok(Column::of(false)),
+        1 => Ok(Column::of(true)),
+        _ => Err(StoreFault::Unclean),
+    }
+}
+
+/// A decimal mark.
+pub(crate) fn decimal_at(row: &Row, at: usize) -> Result<u8, StoreFault>
+    ensures ok { IfOk result (λ decimal. decimal ≡ number_in (column row.now at)) }
+    ensures unclean { result ≡ Err StoreFault.Unclean → is_decimal (number_in (column row.now at)) ≡ false }
+{
+    match number_at(row, at)? {
+        46 => Ok(46),
+        44 => Ok(44),
+        _ => Err(StoreFault::Unclean),
+    }
+}
+
+/// When a message came.
+pub(crate) fn moment_at(row: &Row, at: usize) -> Result<Moment, StoreFault>
+    ensures ok { IfOk result (λ moment. moment ≡ number_in (column row.now at)) }
+    ensures unclean { result ≡ Err StoreFault.Unclean → nat_le (number_in (column row.now at)) last_moment ≡ false }
+{
+    match Moment::new(number_at(row, at)?) {
+        Some(moment) => Ok(moment),
+        None => Err(StoreFault::Unclean),
+    }
+}
