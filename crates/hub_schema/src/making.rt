@@ -118,6 +118,7 @@ pub fn make_tables<S: Alter>(tx: &mut Transaction<'_, S>) -> Result<(), Error>
 pub fn make_schema<S: Alter>(conn: &mut Connection<S>) -> Result<(), Error>
     requires { (state S.Store conn.old).in_transaction ≡ false }
     ensures mode { (state S.Store conn.new).in_transaction ≡ false }
+    ensures clean { HasCleanDisk (state S.Store conn.new) → HasCleanDisk (state S.Store conn.old) }
     ensures done { HasCleanDisk (state S.Store conn.new) → (state S.Store conn.old).now.schema ≡ no_schema → OnOk result (IsTrue (state S.Store conn.new).is_open × IsHub (state S.Store conn.new) × (tables_in (state S.Store conn.new).now.trees ≡ empty)) }
     ensures durable { HasCleanDisk (state S.Store conn.new) → OnOk result ((trees : Trees) → (state S.Store conn.new).may_leave trees → trees ≡ (state S.Store conn.new).now.trees) }
 {

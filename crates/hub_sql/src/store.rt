@@ -1,7 +1,9 @@
 //! A store over a connection of SQL.
-ghost use Rattle.std.specs.Prelude.{◌≡◌, ◌≢◌, false, Option, Result, None, Some, Ok, Err, OnOk, IfErr, IfOk};
+ghost use Rattle.std.specs.Prelude.{◌≡◌, ◌≢◌, ◌∷◌, [], true, false, Option, Result, None, Some, Ok, Err, OnOk, IfErr, IfOk};
 ghost use Rattle.std.specs.Option.{IfSome};
 ghost use Rattle.sqlite.specs.Held.{state};
+ghost use Rattle.sqlite.specs.State.{HasCleanDisk};
+ghost use Rattle.hub_schema.specs.State.{IsHub};
 ghost use Rattle.hub_schema.specs.Schema.{hub_schema};
 ghost use Rattle.hub_store.specs.Calls.{fault_of, broken_after};
 ghost use Rattle.hub_sql.specs.Settling.{Settles};
@@ -74,6 +76,20 @@ fn settle<X>(
 
 impl<S: Alter> SqliteStore<S> {
     ghost use Rattle.hub_sql.specs.Stored.{content, honest, left};
+
+    // The store of a connection that holds the hub's tables.
+    pub(crate) fn settled(conn: Connection<S>) -> SqliteStore<S>
+        requires idle { conn.in_transaction ≡ false }
+        requires hub { HasCleanDisk (state S.Store conn) → IsHub (state S.Store conn) }
+        ensures { result ≡ record { held = conn; fault = None; past = (conn, true) ∷ [] } }
+    {
+        let past = Log::new().and(&conn, &true);
+        SqliteStore {
+            conn,
+            fault: None,
+            past,
+        }
+    }
 
     /// x
     pub fn order_known(&mut self, supplier: &Gln, number: &[u8]) -> Result<bool, StoreFault>
