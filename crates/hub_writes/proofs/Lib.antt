@@ -1,6 +1,9 @@
+pub mod Advices
 pub mod Alters
 pub mod Ends
 pub mod Keys
+pub mod Lines
 pub mod Orders
 pub mod Outcomes
+pub mod Pallets
 pub mod Steps

@@ -4,8 +4,11 @@ ghost use Rattle.sqlite.specs.Held.{state};
 ghost use Rattle.sqlite.specs.State.{HasCleanDisk};
 ghost use Rattle.hub_writes.specs.Acts.{Acts};
 
+use crate::advice::add_advice;
 use crate::faults::update_ended;
+use crate::line::{add_line, set_line};
 use crate::order::add_order;
+use crate::pallet::{add_pallet, set_pallet};
 use hub_store::StoreFault;
 use hub_tables::Change;
 use sqlite::{Alter, Transaction};
@@ -26,6 +29,11 @@ pub fn apply<S: Alter>(tx: &mut Transaction<'_, S>, change: &Change) -> Result<(
 {
     match change {
         Change::AddOrder(row) => add_order(tx, row),
+        Change::AddLine(row) => add_line(tx, row),
+        Change::SetLine(row) => set_line(tx, row),
+        Change::AddAdvice(row) => add_advice(tx, row),
+        Change::AddPallet(row) => add_pallet(tx, row),
+        Change::SetPallet(row) => set_pallet(tx, row),
         _ => Err(StoreFault::Disk),
     }
 }
