@@ -1,5 +1,5 @@
 //! Columns of rows as SQL takes them.
-ghost use Rattle.std.specs.Prelude.{◌≡◌, ◌<◌, ◌^◌, pos};
+ghost use Rattle.std.specs.Prelude.{nat_le, ◌≡◌, ◌<◌, ◌^◌, pos};
 ghost use Rattle.sqlite_value.specs.declared.value.Value.TheVariants.{Int, Blob};
 ghost use Rattle.sqlite_value.specs.Value.{owned};
 
@@ -35,6 +35,13 @@ pub fn text_value(text: &Items<u8>) -> ValueRef<'_>
     ensures { owned result ≡ Blob text.now }
 {
     ValueRef::Blob(text.as_slice())
+}
+
+/// Whether SQL has not the number.
+pub fn is_great(number: u64) -> bool
+    ensures { result ≡ nat_le (2 ^ 63) number }
+{
+    number >= 0x8000_0000_0000_0000
 }
 
 /// A number. SQL has none from 2^63 on.
