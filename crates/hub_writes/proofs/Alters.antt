@@ -65,6 +65,19 @@ still_hub tree rows old new other hub it = record {
   sound = it.sound;
 }
 
+-- where a statement wrote these rows
+pub altered : (tree : ℕ) (rows : List Row) (old new : State) → old.in_transaction ≡ true → new.now.schema ≡ hub_schema → IsDatabase new.now → IsShaped shape.Table rows → new.now.trees tree ≡ rows
+    → KeepsOthers tree all_trees old.now.trees new.now.trees → Shows old new new.now (if old.in_transaction then old.committed else new.now) old.in_transaction → Alters tree rows old new
+altered tree rows old new begun schema sound shaped is others shown = record {
+  schema = schema;
+  sound = sound;
+  shaped = shaped;
+  rows = is;
+  others = others;
+  committed = (subst (λ b. Shows old new new.now (if b then old.committed else new.now) b) begun shown).committed_is;
+  mode = shown.mode ∙ begun;
+}
+
 module _ (place tree : ℕ) (name : List ℕ) (columns : List Column) (primary : List ℕ) (uniques : List (List ℕ)) (orders : List keys.Order)
     (found : slice_get hub_schema.tables place ≡ Some (plain_table tree name columns primary uniques orders)) (still : (olds news : List Row) → works hub_schema Enforced 0 tree olds news ≡ [])
     (old new : State) (hub : IsHub old) (begun : old.in_transaction ≡ true) (shaped : IsShaped shape.Table (old.now.trees tree)) where
@@ -78,12 +91,4 @@ module _ (place tree : ℕ) (name : List ℕ) (columns : List Column) (primary :
       let row : Row = Int (next_rowid before) ∷ cells in
       let did = inserts hub_schema place tree name columns primary uniques orders found still old new params text terms width count hub.schema w in
       let last = put_next before cells shaped in
-      record {
-        schema = did.schema_is;
-        sound = w.sound;
-        shaped = subst (IsShaped shape.Table) last (IsShaped-put_row row before refl shaped);
-        rows = did.step.rows ∙ edit ∙ last;
-        others = did.step.tables;
-        committed = (subst (λ b. Shows old new new.now (if b then old.committed else new.now) b) begun w.shown).committed_is;
-        mode = w.shown.mode ∙ begun;
-      }
+      altered tree _ old new begun did.schema_is w.sound (subst (IsShaped shape.Table) last (IsShaped-put_row row before refl shaped)) (did.step.rows ∙ edit ∙ last) did.step.tables w.shown

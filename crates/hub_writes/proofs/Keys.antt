@@ -41,6 +41,9 @@ pub number_equal : (v : Value) (number : ℕ) → number < 2 ^ 64 → ((n : ℤ)
 number_equal v number low (n, is) =
     same_int natural natural_plain (λ n large. grind (arith, nat_tests, large)) (λ n. omega arith) v n number low is ∙ ap (λ (w : Value). number_in w == number) (sym is)
 
+pub number_same : (a b : ℕ) → (a == b) ≡ true → a ≡ b
+number_same a b e = grind (arith, nat_tests, e)
+
 pub bytes_are : (v : Value) (bytes : List ℕ) → ((b : List ℕ) × (v ≡ Blob b)) → equal Binary v (Blob bytes) ≡ true → bytes_in v ≡ bytes
 bytes_are v bytes is e = same_is (bytes_in v) bytes (sym (bytes_equal v bytes is) ∙ e)
 

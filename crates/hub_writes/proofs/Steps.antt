@@ -11,13 +11,14 @@ use Rattle.sqlite.specs.Listing.{understood}
 use Rattle.sqlite.specs.State.{State, HasCleanDisk, ExecutesInside}
 use Rattle.sqlite.proofs.Callers.{IsPlain, command_of, runs_as}
 use Rattle.sqlite.proofs.StateLemmas.{survives_then}
-use Rattle.sql_rows.proofs.Transactions.{kept_then, clean_before}
+use Rattle.sql_rows.proofs.Transactions.{kept_still, survives_still, kept_then, clean_before}
 use Rattle.std.specs.List.{list_any}
 use Rattle.std.proofs.lemmas.Bool.{and_parts}
 use Rattle.std.proofs.lemmas.Bool.Decides.{nat_tests}
 use Rattle.hub_tables.specs.Keys.{replace}
 use Rattle.hub_tables.specs.Rows.{same, same_mail, content_cmp, mail_cmp}
 use Rattle.hub_tables.specs.declared.change.Change.TheVariants.{AddOrder, AddLine, SetLine, AddAdvice, AddPallet, SetPallet, AddContent, AddReceipt, Remember, AddMail, SetMail}
+use Rattle.hub_tables.specs.declared.rows.ContentRow.{ContentRow}
 use Rattle.hub_tables.specs.declared.rows.MailRow.{MailRow}
 use Rattle.hub_tables.proofs.KeyOrder.{any_put}
 use Rattle.hub_tables.specs.Change.{apply, apply_all}
@@ -26,6 +27,7 @@ use Rattle.hub_tables.specs.Tables.{Tables, empty}
 use Rattle.hub_tables.specs.declared.change.Change.{Change}
 use Rattle.hub_tables.proofs.Back.{rising_before}
 use Rattle.hub_store.specs.declared.fault.StoreFault.{StoreFault}
+use Rattle.hub_store.specs.declared.fault.StoreFault.TheVariants.{Unclean}
 use Rattle.hub_schema.specs.Rows.{tables_in}
 use Rattle.hub_schema.specs.Schema.{hub_schema}
 use Rattle.hub_schema.specs.State.{AreOrdered, IsNumbered, IsHub, Makes}
@@ -135,6 +137,34 @@ great_stays (SetMail row) t h =
   where
     same_number : (old : MailRow) → same_mail row old ≡ true → old.number ≡ row.number
     same_number old e = let alike = (and_parts (same old.supplier row.supplier) (old.number == row.number) e).1 in grind (arith, nat_tests, alike)
+
+there : (a b c : Bool) → c ≡ true → ((a || (c || false)) || b) ≡ true
+there true b c h = refl
+there false b true h = refl
+there false b false h = absurd cc
+
+there_too : (a b c : Bool) → c ≡ true → (a || (b || (c || false))) ≡ true
+there_too true b c h = refl
+there_too false true c h = refl
+there_too false false true h = refl
+there_too false false false h = absurd cc
+
+pub place_is_great : (row : ContentRow) → great_place row ≡ true → (t : Tables) → has_great (apply_all (AddContent row ∷ []) t) ≡ true
+place_is_great row h t =
+    ap (λ b. b || list_any great_entry t.mail) (any_put content_cmp great_place t.contents row) ∙ there (list_any great_place t.contents) (list_any great_entry t.mail) (great_place row) h
+
+pub entry_is_great : (row : MailRow) → great_entry row ≡ true → (t : Tables) → has_great (apply_all (AddMail row ∷ []) t) ≡ true
+entry_is_great row h t =
+    ap (λ b. list_any great_place t.contents || b) (any_put mail_cmp great_entry t.mail row) ∙ there_too (list_any great_place t.contents) (list_any great_entry t.mail) (great_entry row) h
+
+-- a change that is refused before any statement
+pub refused_before : (changes : List Change) (s : State) → ((t : Tables) → has_great (apply_all changes t) ≡ true) → Acts changes s s (Err Unclean)
+refused_before changes s great = record {
+  makes = λ clean hub begun. tt;
+  unclean = λ clean e. inr great;
+  kept = λ clean. kept_still s;
+  survives = survives_still s;
+}
 
 -- a number that is too great stays so
 great_later : (changes : List Change) (t : Tables) → has_great t ≡ true → has_great (apply_all changes t) ≡ true

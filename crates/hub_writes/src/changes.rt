@@ -4,8 +4,15 @@ ghost use Rattle.sqlite.specs.Held.{state};
 ghost use Rattle.sqlite.specs.State.{HasCleanDisk};
 ghost use Rattle.hub_writes.specs.Acts.{Acts};
 
+use crate::advice::add_advice;
+use crate::content::add_content;
 use crate::faults::update_ended;
+use crate::line::{add_line, set_line};
+use crate::mail::{add_mail, set_mail};
 use crate::order::add_order;
+use crate::pallet::{add_pallet, set_pallet};
+use crate::receipt::add_receipt;
+use crate::remembered::remember;
 use hub_store::StoreFault;
 use hub_tables::Change;
 use sqlite::{Alter, Transaction};
@@ -26,7 +33,16 @@ pub fn apply<S: Alter>(tx: &mut Transaction<'_, S>, change: &Change) -> Result<(
 {
     match change {
         Change::AddOrder(row) => add_order(tx, row),
-        _ => Err(StoreFault::Disk),
+        Change::AddLine(row) => add_line(tx, row),
+        Change::SetLine(row) => set_line(tx, row),
+        Change::AddAdvice(row) => add_advice(tx, row),
+        Change::AddPallet(row) => add_pallet(tx, row),
+        Change::SetPallet(row) => set_pallet(tx, row),
+        Change::AddContent(row) => add_content(tx, row),
+        Change::AddReceipt(row) => add_receipt(tx, row),
+        Change::Remember(row) => remember(tx, row),
+        Change::AddMail(row) => add_mail(tx, row),
+        Change::SetMail(row) => set_mail(tx, row),
     }
 }
 

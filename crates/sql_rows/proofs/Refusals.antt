@@ -1,5 +1,5 @@
 -- Why an INSERT is refused for a key that is there.
-use Rattle.std.proofs.Common.{◌≡◌, refl, inl, inr, ℕ, zero, suc, length, length-append, List, [], ◌∷◌, false, Option, Some, None, option_map, Err, Result, ap, arith, slice_get, ◌/◌, append-nil, sym, subst, ◌∙◌, IsTrue, ◌++◌, true}
+use Rattle.std.proofs.Common.{◌≡◌, refl, inl, inr, ℕ, zero, suc, length, length-append, List, [], ◌∷◌, false, Option, Some, None, option_map, Err, Result, ap, arith, slice_get, ◌/◌, append-nil, sym, subst, ◌∙◌, IsTrue, ◌++◌}
 use Rattle.std.proofs.lemmas.Bool.{cases_Bool}
 use Rattle.sqlite_value.specs.declared.keys.Order as keys
 use Rattle.sqlite_sql.specs.Term.{Term}

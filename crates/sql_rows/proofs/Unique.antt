@@ -1,8 +1,8 @@
 -- A row whose keys are new breaks no key.
-use Rattle.std.proofs.Common.{◌≡◌, ◌⊎◌, inl, inr, ℕ, ◌==◌, ℤ, Bool, true, false, not, ◌&&◌, ◌||◌, List, [], ◌∷◌, ◌++◌, refl, sym, ap, ap₂, subst, cond, ◌∙◌, true≢false, arith}
-use Rattle.std.specs.List.{AllByRecursion, list_any, list_all}
+use Rattle.std.proofs.Common.{◌≡◌, inl, inr, ℕ, ◌==◌, ℤ, Bool, true, false, not, ◌&&◌, ◌||◌, List, [], ◌∷◌, ◌++◌, refl, sym, ap, ap₂, subst, cond, ◌∙◌, true≢false, arith}
+use Rattle.std.specs.List.{AllByRecursion, list_all}
 use Rattle.std.specs.Ordering.{is_ne}
-use Rattle.std.proofs.lemmas.Bool.{and_parts, and_from, cases_Bool, not-true}
+use Rattle.std.proofs.lemmas.Bool.{and_parts, and_from, cases_Bool}
 use Rattle.std.proofs.lemmas.Bool.Decides.{nat_tests}
 use Rattle.std.proofs.lemmas.Cmp.{tied_itself}
 use Rattle.sqlite_value.specs.declared.value.Value.TheVariants.{Int}
@@ -15,7 +15,7 @@ use Rattle.sqlite_schema.specs.declared.schema.Schema.{Schema}
 use Rattle.sqlite_schema.specs.declared.schema.Table.{Table}
 use Rattle.sqlite_schema.specs.declared.schema.Index.{Index}
 use Rattle.sqlite_schema.specs.declared.schema.Constraint.TheVariants.{Unique}
-use Rattle.sqlite_schema.specs.Rules.{agree, clashes, differ, guards, passes, Keeps}
+use Rattle.sqlite_schema.specs.Rules.{agree, clashes, differ, guards, Keeps}
 use Rattle.sqlite_rules.proofs.KeyLemmas.{agree_back}
 use Rattle.sql_rows.proofs.Answers.{is_truth}
 
