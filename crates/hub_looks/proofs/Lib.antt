@@ -12,3 +12,5 @@ pub mod Listing
 pub mod OfLines
 pub mod Single
 pub mod OfPallets
+pub mod Joining
+pub mod OfGoods

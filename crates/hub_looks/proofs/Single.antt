@@ -12,7 +12,7 @@ use Rattle.hub_tables.proofs.Lists.{all_passes, all_filter}
 use Rattle.hub_looks.proofs.Listing.{filter_both}
 use Rattle.hub_looks.proofs.Sorting.{rises_filter}
 
-and_turned : (a b : Bool) → (a && b) ≡ (b && a)
+pub and_turned : (a b : Bool) → (a && b) ≡ (b && a)
 and_turned true true = refl
 and_turned true false = refl
 and_turned false true = refl

@@ -90,3 +90,32 @@ all_pallets_text = codes "SELECT sscc, supplier, advice, received FROM pallet WH
 pub all_pallets_select : Selects all_pallets_text (all_of 7 (given_at 2 0 ∷ []) pallet_columns (rising 1 ∷ [])) pallet_names
 unfolding understood everything
 all_pallets_select = record { first = refl; plain = (refl, refl); unlisted = refl; is = refl }
+
+abbrev pub held_text : List ℕ
+held_text = codes "SELECT supplier FROM pallet WHERE sscc = ?1 AND supplier = ?2"
+
+pub held_selects : Selects held_text (all_of 7 (given_at 1 0 ∷ given_at 2 1 ∷ []) (col 1 2 ∷ []) []) (codes "supplier" ∷ [])
+unfolding understood everything
+held_selects = record { first = refl; plain = (refl, refl); unlisted = refl; is = refl }
+
+-- What is on a pallet.
+
+abbrev pub content_columns : List Term
+content_columns = col 1 1 ∷ col 1 2 ∷ col 1 3 ∷ col 1 4 ∷ col 1 5 ∷ []
+
+abbrev pub on_pallet_order : List (Term × Key)
+on_pallet_order = rising 1 ∷ rising 2 ∷ []
+
+abbrev pub contents_text : List ℕ
+contents_text = codes "SELECT sscc, place, number, line, quantity FROM content WHERE sscc = ?1 ORDER BY sscc, place"
+
+pub contents_select : Selects contents_text (all_of 10 (given_at 1 0 ∷ []) content_columns on_pallet_order) (codes "sscc" ∷ codes "place" ∷ codes "number" ∷ codes "line" ∷ codes "quantity" ∷ [])
+unfolding understood everything
+contents_select = record { first = refl; plain = (refl, refl); unlisted = refl; is = refl }
+
+abbrev pub receipts_text : List ℕ
+receipts_text = codes "SELECT sscc, gtin, accepted, returned, destroyed FROM receipt WHERE sscc = ?1 ORDER BY sscc, gtin"
+
+pub receipts_select : Selects receipts_text (all_of 12 (given_at 1 0 ∷ []) content_columns on_pallet_order) (codes "sscc" ∷ codes "gtin" ∷ codes "accepted" ∷ codes "returned" ∷ codes "destroyed" ∷ [])
+unfolding understood everything
+receipts_select = record { first = refl; plain = (refl, refl); unlisted = refl; is = refl }

@@ -4,10 +4,12 @@
 mod ask;
 mod cells;
 mod documents;
+mod goods;
 mod lines;
 mod pallets;
 mod shown;
 
 pub use documents::{advice_known, order_known};
+pub use goods::{contents_of, receipts_of};
 pub use lines::{all_lines, lines_of};
 pub use pallets::{all_pallets, pallet, used};
