@@ -14,3 +14,8 @@ pub mod Single
 pub mod OfPallets
 pub mod Joining
 pub mod OfGoods
+pub mod Comparing
+pub mod OfRemembered
+pub mod OfMail
+pub mod OfUntaken
+pub mod OfLast
