@@ -1,5 +1,5 @@
 -- Whether rows pass, and whether a query finds some.
-use Rattle.std.proofs.Common.{◌≡◌, ℕ, suc, ◌==◌, ◌<◌, ◌^◌, ◌*◌, ℤ, negsuc, nat_lt, inl, inr, Bool, true, false, cond, not, ◌&&◌, ◌||◌, List, [], ◌∷◌, map, filter, length, pos, refl, sym, ap, ap₂, ◌∙◌, arith}
+use Rattle.std.proofs.Common.{◌≡◌, ◌++◌, ℕ, suc, ◌==◌, ◌<◌, ◌^◌, ◌*◌, ℤ, negsuc, nat_lt, inl, inr, Bool, true, false, cond, not, ◌&&◌, ◌||◌, List, [], ◌∷◌, map, filter, length, pos, refl, sym, ap, ap₂, ◌∙◌, arith}
 use Rattle.std.specs.List.{AllByRecursion, list_any}
 use Rattle.std.proofs.lemmas.Bool.Decides.{nat_tests}
 use Rattle.std.specs.List.Sorted.{IsPermutation}
@@ -17,6 +17,10 @@ use Rattle.sqlite_sql.specs.declared.ops.CompareOp.TheVariants.{Eq}
 use Rattle.sqlite_sql.specs.Ops.{is_true, binary}
 use Rattle.sql_rows.specs.Cells.{IsOf}
 use Rattle.sql_rows.proofs.Answers.{same_bytes, is_truth, length_map, and_true}
+use Rattle.sqlite_value.specs.declared.keys.Key.{Key}
+use Rattle.sqlite_value.specs.Order.{Row}
+use Rattle.sqlite_sql.specs.Term.{Term}
+use Rattle.hub_looks.proofs.Finding.{no_limit, passes, Finds}
 use Rattle.hub_tables.specs.Rows.{same}
 use Rattle.hub_schema.specs.Cells.{bytes_in, natural, number_in}
 
@@ -63,3 +67,13 @@ some_pass q (x ∷ xs) = elim (q x) as (λ v. not (length (cond v (x ∷ filter 
 pub all_such : {X : Type 0} (P Q : X → Type 0) → ((x : X) → P x → Q x) → (xs : List X) → AllByRecursion P xs → AllByRecursion Q xs
 all_such P Q f [] all = tt
 all_such P Q f (x ∷ xs) all = (f x all.0, all_such P Q f xs all.1)
+
+pub all_more : {X : Type 0} (P : X → Type 0) (xs : List X) (x : X) → AllByRecursion P xs → P x → AllByRecursion P (xs ++ x ∷ [])
+all_more P [] x all one = (one, tt)
+all_more P (y ∷ ys) x all one = (all.0, all_more P ys x all.1 one)
+
+-- the query has rows where some stored row passes
+pub some_found : (stored : List Row) (tests shown : List Term) (order : List (Term × Key)) (params : Row) (rows : List Row) → Finds stored tests shown order no_limit params rows
+    → not (length rows == 0) ≡ list_any (passes tests params) stored
+some_found stored tests shown order params rows it =
+    ap (λ n. not (n == 0)) (ap length it.is ∙ length_map _ it.sources ∙ length_permutation _ it.sources it.same) ∙ some_pass (passes tests params) stored

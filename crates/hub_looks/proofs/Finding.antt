@@ -55,9 +55,12 @@ some_of tree tests shown order limit = record {
   offset = lit (Int (pos 0));
 }
 
+abbrev pub no_limit : Term
+no_limit = lit (Int (negsuc 0))
+
 -- of all of them
 abbrev pub all_of : ℕ → List Term → List Term → List (Term × Key) → Query
-all_of tree tests shown order = some_of tree tests shown order (lit (Int (negsuc 0)))
+all_of tree tests shown order = some_of tree tests shown order no_limit
 
 -- the row passes each test
 abbrev pub passes : List Term → Row → Row → Bool

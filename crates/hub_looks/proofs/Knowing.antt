@@ -22,10 +22,10 @@ use Rattle.hub_schema.specs.Rows.{order_in, advice_in, tables_in}
 use Rattle.hub_schema.specs.State.{IsHub, LooksUp}
 use Rattle.hub_schema.proofs.InKeyOrder.{listed_any}
 use Rattle.hub_looks.specs.Asks.{Asks}
-use Rattle.hub_looks.proofs.Counting.{cell_bytes, any_filter, any_shown, some_pass, all_such}
-use Rattle.hub_looks.proofs.Finding.{passes, Finds, finds}
+use Rattle.hub_looks.proofs.Counting.{cell_bytes, any_filter, any_shown, some_found, all_such}
+use Rattle.hub_looks.proofs.Finding.{no_limit, passes, finds}
 use Rattle.hub_looks.proofs.Looking.{looks}
-use Rattle.hub_looks.proofs.Stored as stored
+use Rattle.hub_schema.proofs.Single.{order_cells, advice_cells}
 use Rattle.hub_looks.proofs.Texts.{given_at, document, order_text, order_selects, advice_text, advice_selects}
 
 -- the row is of the supplier, and has the number
@@ -34,20 +34,13 @@ passed : (supplier number : List ℕ) (row : Row) → AreOf (kind.Blob ∷ kind.
 passed supplier number row it =
     ap₂ (λ v w. v && w) (cell_bytes (column row 1) supplier it.0) (and_true _ ∙ cell_bytes (column row 2) number it.1.0)
 
--- the query has rows where some stored row passes
-counted : (stored : List Row) (supplier number : List ℕ) (rows : List Row) → Finds stored (given_at 1 0 ∷ given_at 2 1 ∷ []) (col 1 2 ∷ []) [] (lit (Int (negsuc 0))) (Blob supplier ∷ Blob number ∷ []) rows
-    → not (length rows == 0) ≡ list_any (passes (given_at 1 0 ∷ given_at 2 1 ∷ []) (Blob supplier ∷ Blob number ∷ [])) stored
-counted stored supplier number rows it =
-    ap (λ n. not (n == 0)) (ap length it.is ∙ length_map _ it.sources ∙ length_permutation _ it.sources it.same)
-    ∙ some_pass (passes (given_at 1 0 ∷ given_at 2 1 ∷ []) (Blob supplier ∷ Blob number ∷ [])) stored
-
 orders_right : (s : State) (supplier number : List ℕ) (rows : List Row) → IsHub s → IsAnswer (document 1) (overlay s.now.trees []) (Blob supplier ∷ Blob number ∷ []) rows
     → not (length rows == 0) ≡ knows_order (view supplier (tables_in s.now.trees)) number
 orders_right s supplier number rows hub answer =
     let db = s.now.trees in
     let both : OrderRow → Bool = λ order. same order.supplier supplier && same order.number number in
-    counted (db 1) supplier number rows (finds db 1 _ _ _ _ _ rows refl answer)
-    ∙ any_shown order_in both (passes (given_at 1 0 ∷ given_at 2 1 ∷ []) (Blob supplier ∷ Blob number ∷ [])) (db 1) (all_such _ _ (passed supplier number) (db 1) (stored.orders s hub))
+    some_found (db 1) _ _ _ _ rows (finds db 1 _ _ _ no_limit _ rows refl answer)
+    ∙ any_shown order_in both (passes (given_at 1 0 ∷ given_at 2 1 ∷ []) (Blob supplier ∷ Blob number ∷ [])) (db 1) (all_such _ _ (passed supplier number) (db 1) (order_cells s.now hub.schema hub.sound hub.ordered))
     ∙ sym (listed_any order_cmp both (map order_in (db 1)))
     ∙ sym (any_filter (λ order. same order.supplier supplier) (λ order. same order.number number) (tables_in db).orders)
 
@@ -62,8 +55,8 @@ advices_right : (s : State) (supplier number : List ℕ) (rows : List Row) → I
 advices_right s supplier number rows hub answer =
     let db = s.now.trees in
     let both : AdviceRow → Bool = λ advice. same advice.supplier supplier && same advice.number number in
-    counted (db 5) supplier number rows (finds db 5 _ _ _ _ _ rows refl answer)
-    ∙ any_shown advice_in both (passes (given_at 1 0 ∷ given_at 2 1 ∷ []) (Blob supplier ∷ Blob number ∷ [])) (db 5) (all_such _ _ (passed supplier number) (db 5) (stored.advices s hub))
+    some_found (db 5) _ _ _ _ rows (finds db 5 _ _ _ no_limit _ rows refl answer)
+    ∙ any_shown advice_in both (passes (given_at 1 0 ∷ given_at 2 1 ∷ []) (Blob supplier ∷ Blob number ∷ [])) (db 5) (all_such _ _ (passed supplier number) (db 5) (advice_cells s.now hub.schema hub.sound hub.ordered))
     ∙ sym (listed_any advice_cmp both (map advice_in (db 5)))
     ∙ sym (any_filter (λ advice. same advice.supplier supplier) (λ advice. same advice.number number) (tables_in db).advices)
 

@@ -4,5 +4,11 @@ pub mod Finding
 pub mod Looking
 pub mod Texts
 pub mod Counting
-pub mod Stored
 pub mod Knowing
+pub mod Unclean
+pub mod Sorting
+pub mod Ranking
+pub mod Listing
+pub mod OfLines
+pub mod Single
+pub mod OfPallets

@@ -1,12 +1,16 @@
 //! Asking a connection by a fixed text.
-ghost use Rattle.std.specs.Prelude.{◌≡◌, ◌≢◌, ◌==◌, not, length};
+ghost use Rattle.std.specs.Prelude.{◌≡◌, ◌≢◌, ◌==◌, false, not, length, map, slice_get};
+ghost use Rattle.std.specs.List.{AllByRecursion, list_all};
 ghost use Rattle.sqlite.specs.Held.{state};
 ghost use Rattle.sqlite.specs.Values.{bound};
 ghost use Rattle.hub_looks.specs.Asks.{Asks};
 
+use crate::shown::{Shown, all_shown, first_shown};
+use edi_base::Items;
 use hub_store::StoreFault;
 use sqlite::types::ValueRef;
 use sqlite::{Alter, Connection, Error, ErrorCode, Row};
+use std::alloc::Global;
 
 // Out of memory, or a fault of the disk for all else.
 fn fault_of(error: &Error) -> StoreFault
@@ -43,4 +47,29 @@ pub(crate) fn has_row<S: Alter>(
 {
     let rows = ask(conn, text, params)?;
     Ok(!rows.is_empty())
+}
+
+/// The rows of an answer, where each is of its kind.
+pub(crate) fn rows_of<S: Alter, T: Shown>(
+    conn: &mut Connection<S>,
+    alloc: Global,
+    text: &str,
+    params: &[ValueRef<'_>],
+) -> Result<Items<T>, StoreFault>
+    ensures asks { Asks (λ rows items. (items ≡ map T.shown rows) × AllByRecursion T.is_numbered items) (λ rows. list_all T.clean (map T.shown rows) ≡ false) text.now (bound params.now) (state S.Store conn.old) (state S.Store conn.new) result }
+{
+    let rows = ask(conn, text, params)?;
+    all_shown(alloc, rows.as_slice())
+}
+
+/// The first row of an answer, where it is of its kind.
+pub(crate) fn first_of<S: Alter, T: Shown>(
+    conn: &mut Connection<S>,
+    text: &str,
+    params: &[ValueRef<'_>],
+) -> Result<Option<T>, StoreFault>
+    ensures asks { Asks (λ rows first. first ≡ slice_get (map T.shown rows) 0) (λ rows. list_all T.clean (map T.shown rows) ≡ false) text.now (bound params.now) (state S.Store conn.old) (state S.Store conn.new) result }
+{
+    let rows = ask(conn, text, params)?;
+    first_shown(rows.as_slice())
 }

@@ -4,5 +4,10 @@
 mod ask;
 mod cells;
 mod documents;
+mod lines;
+mod pallets;
+mod shown;
 
 pub use documents::{advice_known, order_known};
+pub use lines::{all_lines, lines_of};
+pub use pallets::{all_pallets, pallet, used};

@@ -1,5 +1,6 @@
 //! The making of the tables.
-ghost use Rattle.std.specs.Prelude.{◌≡◌, OnOk, IsTrue, List, [], ◌∷◌};
+ghost use Rattle.std.specs.Prelude.{◌≡◌, OnOk, IsTrue, false, List, [], ◌∷◌};
+ghost use Rattle.sqlite.specs.Tree.{Trees};
 ghost use Rattle.sqlite.specs.State.{HasCleanDisk, Survives, KeepsCommit};
 ghost use Rattle.sqlite.specs.Schema.{Schema};
 ghost use Rattle.sqlite.specs.Table.{Table};
@@ -8,9 +9,10 @@ ghost use Rattle.hub_tables.specs.Tables.{empty};
 ghost use Rattle.sqlite_catalog.specs.Change.{created};
 ghost use Rattle.hub_schema.specs.Making.{HasMade, Defines, MakesOn, schema_with};
 ghost use Rattle.hub_schema.specs.Schema.{no_schema, hub_schema, schema_table, order_table, line_table, advice_table, pallet_table, content_table};
-ghost use Rattle.hub_schema.specs.State.{Makes};
+ghost use Rattle.hub_schema.specs.Rows.{tables_in};
+ghost use Rattle.hub_schema.specs.State.{IsHub, Makes};
 
-use sqlite::{Alter, Error, Transaction};
+use sqlite::{Alter, Connection, Error, Transaction};
 
 // Makes one table.
 fn create<S: Alter>(tx: &mut Transaction<'_, S>, text: &str) -> Result<usize, Error>
@@ -110,4 +112,17 @@ pub fn make_tables<S: Alter>(tx: &mut Transaction<'_, S>) -> Result<(), Error>
     make_messages(tx)?;
     put_number(tx)?;
     Ok(())
+}
+
+/// Makes the tables in one transaction, in a database that has none: all of them, or at an error none.
+pub fn make_schema<S: Alter>(conn: &mut Connection<S>) -> Result<(), Error>
+    requires { (state S.Store conn.old).in_transaction ≡ false }
+    ensures mode { (state S.Store conn.new).in_transaction ≡ false }
+    ensures clean { HasCleanDisk (state S.Store conn.new) → HasCleanDisk (state S.Store conn.old) }
+    ensures done { HasCleanDisk (state S.Store conn.new) → (state S.Store conn.old).now.schema ≡ no_schema → OnOk result (IsTrue (state S.Store conn.new).is_open × IsHub (state S.Store conn.new) × (tables_in (state S.Store conn.new).now.trees ≡ empty)) }
+    ensures durable { HasCleanDisk (state S.Store conn.new) → OnOk result ((trees : Trees) → (state S.Store conn.new).may_leave trees → trees ≡ (state S.Store conn.new).now.trees) }
+{
+    let mut tx = conn.transaction();
+    make_tables(&mut tx)?;
+    tx.commit()
 }

@@ -1,0 +1,53 @@
+-- When a row is none of its kind.
+use Rattle.std.proofs.Common.{◌≡◌, ℕ, ◌+◌, ◌-◌, Bool, true, false, ◌&&◌, nat_le, refl, arith}
+use Rattle.std.proofs.lemmas.Bool.Decides.{nat_tests}
+use Rattle.std.specs.List.{list_all}
+use Rattle.hub_store.specs.Clean.{is_within, are_clean, clean_order, clean_line, clean_advice, clean_pallet, clean_content, clean_receipt, clean_remembered, clean_mail}
+use Rattle.hub_tables.specs.Tables.{Tables}
+
+pub first_fails : (a b : Bool) → a ≡ false → (a && b) ≡ false
+first_fails true b h = absurd cc
+first_fails false b h = refl
+
+pub later_fails : (a b : Bool) → b ≡ false → (a && b) ≡ false
+later_fails true b h = h
+later_fails false b h = refl
+
+-- the pieces of a line are more than it orders
+pub too_open : (ordered open_qty refused cancelled : ℕ) → is_within 0 ordered open_qty ≡ false → nat_le (open_qty + refused + cancelled) ordered ≡ false
+too_open ordered open_qty refused cancelled h = grind (arith, nat_tests)
+
+pub too_refused : (ordered open_qty refused cancelled : ℕ) → is_within 0 (ordered - open_qty) refused ≡ false → nat_le (open_qty + refused + cancelled) ordered ≡ false
+too_refused ordered open_qty refused cancelled h = grind (arith, nat_tests)
+
+pub too_cancelled : (ordered open_qty refused cancelled : ℕ) → is_within 0 (ordered - open_qty - refused) cancelled ≡ false → nat_le (open_qty + refused + cancelled) ordered ≡ false
+too_cancelled ordered open_qty refused cancelled h = grind (arith, nat_tests)
+
+pub too_many : (most n : ℕ) → is_within 0 most n ≡ false → nat_le n most ≡ false
+too_many most n h = grind (arith, nat_tests)
+
+-- where a row of one table is none of its kind
+module _ (t : Tables) where
+  pub lines_unclean : list_all clean_line t.lines ≡ false → are_clean t ≡ false
+  lines_unclean h =
+      later_fails (list_all clean_order t.orders) (list_all clean_line t.lines && (list_all clean_advice t.advices && (list_all clean_pallet t.pallets && (list_all clean_content t.contents && (list_all clean_receipt t.receipts && (list_all clean_remembered t.remembered && list_all clean_mail t.mail)))))) (first_fails (list_all clean_line t.lines) (list_all clean_advice t.advices && (list_all clean_pallet t.pallets && (list_all clean_content t.contents && (list_all clean_receipt t.receipts && (list_all clean_remembered t.remembered && list_all clean_mail t.mail))))) h)
+
+  pub pallets_unclean : list_all clean_pallet t.pallets ≡ false → are_clean t ≡ false
+  pallets_unclean h =
+      later_fails (list_all clean_order t.orders) (list_all clean_line t.lines && (list_all clean_advice t.advices && (list_all clean_pallet t.pallets && (list_all clean_content t.contents && (list_all clean_receipt t.receipts && (list_all clean_remembered t.remembered && list_all clean_mail t.mail)))))) (later_fails (list_all clean_line t.lines) (list_all clean_advice t.advices && (list_all clean_pallet t.pallets && (list_all clean_content t.contents && (list_all clean_receipt t.receipts && (list_all clean_remembered t.remembered && list_all clean_mail t.mail))))) (later_fails (list_all clean_advice t.advices) (list_all clean_pallet t.pallets && (list_all clean_content t.contents && (list_all clean_receipt t.receipts && (list_all clean_remembered t.remembered && list_all clean_mail t.mail)))) (first_fails (list_all clean_pallet t.pallets) (list_all clean_content t.contents && (list_all clean_receipt t.receipts && (list_all clean_remembered t.remembered && list_all clean_mail t.mail))) h)))
+
+  pub contents_unclean : list_all clean_content t.contents ≡ false → are_clean t ≡ false
+  contents_unclean h =
+      later_fails (list_all clean_order t.orders) (list_all clean_line t.lines && (list_all clean_advice t.advices && (list_all clean_pallet t.pallets && (list_all clean_content t.contents && (list_all clean_receipt t.receipts && (list_all clean_remembered t.remembered && list_all clean_mail t.mail)))))) (later_fails (list_all clean_line t.lines) (list_all clean_advice t.advices && (list_all clean_pallet t.pallets && (list_all clean_content t.contents && (list_all clean_receipt t.receipts && (list_all clean_remembered t.remembered && list_all clean_mail t.mail))))) (later_fails (list_all clean_advice t.advices) (list_all clean_pallet t.pallets && (list_all clean_content t.contents && (list_all clean_receipt t.receipts && (list_all clean_remembered t.remembered && list_all clean_mail t.mail)))) (later_fails (list_all clean_pallet t.pallets) (list_all clean_content t.contents && (list_all clean_receipt t.receipts && (list_all clean_remembered t.remembered && list_all clean_mail t.mail))) (first_fails (list_all clean_content t.contents) (list_all clean_receipt t.receipts && (list_all clean_remembered t.remembered && list_all clean_mail t.mail)) h))))
+
+  pub receipts_unclean : list_all clean_receipt t.receipts ≡ false → are_clean t ≡ false
+  receipts_unclean h =
+      later_fails (list_all clean_order t.orders) (list_all clean_line t.lines && (list_all clean_advice t.advices && (list_all clean_pallet t.pallets && (list_all clean_content t.contents && (list_all clean_receipt t.receipts && (list_all clean_remembered t.remembered && list_all clean_mail t.mail)))))) (later_fails (list_all clean_line t.lines) (list_all clean_advice t.advices && (list_all clean_pallet t.pallets && (list_all clean_content t.contents && (list_all clean_receipt t.receipts && (list_all clean_remembered t.remembered && list_all clean_mail t.mail))))) (later_fails (list_all clean_advice t.advices) (list_all clean_pallet t.pallets && (list_all clean_content t.contents && (list_all clean_receipt t.receipts && (list_all clean_remembered t.remembered && list_all clean_mail t.mail)))) (later_fails (list_all clean_pallet t.pallets) (list_all clean_content t.contents && (list_all clean_receipt t.receipts && (list_all clean_remembered t.remembered && list_all clean_mail t.mail))) (later_fails (list_all clean_content t.contents) (list_all clean_receipt t.receipts && (list_all clean_remembered t.remembered && list_all clean_mail t.mail)) (first_fails (list_all clean_receipt t.receipts) (list_all clean_remembered t.remembered && list_all clean_mail t.mail) h)))))
+
+  pub remembered_unclean : list_all clean_remembered t.remembered ≡ false → are_clean t ≡ false
+  remembered_unclean h =
+      later_fails (list_all clean_order t.orders) (list_all clean_line t.lines && (list_all clean_advice t.advices && (list_all clean_pallet t.pallets && (list_all clean_content t.contents && (list_all clean_receipt t.receipts && (list_all clean_remembered t.remembered && list_all clean_mail t.mail)))))) (later_fails (list_all clean_line t.lines) (list_all clean_advice t.advices && (list_all clean_pallet t.pallets && (list_all clean_content t.contents && (list_all clean_receipt t.receipts && (list_all clean_remembered t.remembered && list_all clean_mail t.mail))))) (later_fails (list_all clean_advice t.advices) (list_all clean_pallet t.pallets && (list_all clean_content t.contents && (list_all clean_receipt t.receipts && (list_all clean_remembered t.remembered && list_all clean_mail t.mail)))) (later_fails (list_all clean_pallet t.pallets) (list_all clean_content t.contents && (list_all clean_receipt t.receipts && (list_all clean_remembered t.remembered && list_all clean_mail t.mail))) (later_fails (list_all clean_content t.contents) (list_all clean_receipt t.receipts && (list_all clean_remembered t.remembered && list_all clean_mail t.mail)) (later_fails (list_all clean_receipt t.receipts) (list_all clean_remembered t.remembered && list_all clean_mail t.mail) (first_fails (list_all clean_remembered t.remembered) (list_all clean_mail t.mail) h))))))
+
+  pub mail_unclean : list_all clean_mail t.mail ≡ false → are_clean t ≡ false
+  mail_unclean h =
+      later_fails (list_all clean_order t.orders) (list_all clean_line t.lines && (list_all clean_advice t.advices && (list_all clean_pallet t.pallets && (list_all clean_content t.contents && (list_all clean_receipt t.receipts && (list_all clean_remembered t.remembered && list_all clean_mail t.mail)))))) (later_fails (list_all clean_line t.lines) (list_all clean_advice t.advices && (list_all clean_pallet t.pallets && (list_all clean_content t.contents && (list_all clean_receipt t.receipts && (list_all clean_remembered t.remembered && list_all clean_mail t.mail))))) (later_fails (list_all clean_advice t.advices) (list_all clean_pallet t.pallets && (list_all clean_content t.contents && (list_all clean_receipt t.receipts && (list_all clean_remembered t.remembered && list_all clean_mail t.mail)))) (later_fails (list_all clean_pallet t.pallets) (list_all clean_content t.contents && (list_all clean_receipt t.receipts && (list_all clean_remembered t.remembered && list_all clean_mail t.mail))) (later_fails (list_all clean_content t.contents) (list_all clean_receipt t.receipts && (list_all clean_remembered t.remembered && list_all clean_mail t.mail)) (later_fails (list_all clean_receipt t.receipts) (list_all clean_remembered t.remembered && list_all clean_mail t.mail) (later_fails (list_all clean_remembered t.remembered) (list_all clean_mail t.mail) (h)))))))

@@ -1,0 +1,25 @@
+-- What a query shows of a stored row: all columns but the row number.
+use Rattle.std.specs.Prelude.{◌∷◌}
+use Rattle.sqlite_value.specs.declared.value.Value.TheVariants.{Null}
+use Rattle.sqlite_value.specs.Order.{Row}
+use Rattle.hub_tables.specs.declared.rows.LineRow.{LineRow}
+use Rattle.hub_tables.specs.declared.rows.PalletRow.{PalletRow}
+use Rattle.hub_tables.specs.declared.rows.ContentRow.{ContentRow}
+use Rattle.hub_tables.specs.declared.rows.ReceiptRow.{ReceiptRow}
+use Rattle.hub_tables.specs.declared.rows.MailRow.{MailRow}
+use Rattle.hub_schema.specs.Rows.{line_in, pallet_in, content_in, receipt_in, mail_in}
+
+abbrev pub shown_line : Row → LineRow
+shown_line row = line_in (Null ∷ row)
+
+abbrev pub shown_pallet : Row → PalletRow
+shown_pallet row = pallet_in (Null ∷ row)
+
+abbrev pub shown_content : Row → ContentRow
+shown_content row = content_in (Null ∷ row)
+
+abbrev pub shown_receipt : Row → ReceiptRow
+shown_receipt row = receipt_in (Null ∷ row)
+
+abbrev pub shown_mail : Row → MailRow
+shown_mail row = mail_in (Null ∷ row)

@@ -1,0 +1,57 @@
+//! Look-ups of pallets.
+ghost use Rattle.std.specs.Prelude.{◌≡◌};
+ghost use Rattle.sqlite.specs.Held.{state};
+ghost use Rattle.hub_schema.specs.State.{LooksUp};
+ghost use Rattle.hub_tables.specs.State.{pallet_of};
+ghost use Rattle.hub_tables.specs.Tables.{view, has_pallet};
+
+use crate::ask::{first_of, has_row, rows_of};
+use edi_base::Items;
+use gs1_ids::{Gln, Sscc};
+use hub_store::StoreFault;
+use hub_tables::PalletRow;
+use sqlite::types::ValueRef;
+use sqlite::{Alter, Connection};
+use std::alloc::Global;
+
+/// Whether any supplier has a pallet of this SSCC.
+pub fn used<S: Alter>(conn: &mut Connection<S>, sscc: &Sscc) -> Result<bool, StoreFault>
+    ensures looks { LooksUp (λ t. has_pallet t sscc.now) (state S.Store conn.old) (state S.Store conn.new) result }
+{
+    has_row(
+        conn,
+        "SELECT supplier FROM pallet WHERE sscc = ?1",
+        &[ValueRef::Blob(sscc.digits())],
+    )
+}
+
+/// The supplier's pallet of an SSCC.
+pub fn pallet<S: Alter>(
+    conn: &mut Connection<S>,
+    supplier: &Gln,
+    sscc: &Sscc,
+) -> Result<Option<PalletRow>, StoreFault>
+    ensures looks { LooksUp (λ t. pallet_of (view supplier.now t) sscc.now) (state S.Store conn.old) (state S.Store conn.new) result }
+{
+    first_of(
+        conn,
+        "SELECT sscc, supplier, advice, received FROM pallet WHERE sscc = ?1 AND supplier = ?2",
+        &[ValueRef::Blob(sscc.digits()), ValueRef::Blob(supplier.digits())],
+    )
+}
+
+/// The pallets of the supplier, by SSCC.
+pub fn all_pallets<S: Alter>(
+    conn: &mut Connection<S>,
+    alloc: Global,
+    supplier: &Gln,
+) -> Result<Items<PalletRow>, StoreFault>
+    ensures looks { LooksUp (λ t. (view supplier.now t).pallets) (state S.Store conn.old) (state S.Store conn.new) result }
+{
+    rows_of(
+        conn,
+        alloc,
+        "SELECT sscc, supplier, advice, received FROM pallet WHERE supplier = ?1 ORDER BY sscc",
+        &[ValueRef::Blob(supplier.digits())],
+    )
+}

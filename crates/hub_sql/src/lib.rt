@@ -1,0 +1,7 @@
+//! The tables of a hub in a database of SQL, in memory or in a file.
+#![tactic(auto)]
+
+mod opening;
+mod store;
+
+pub use store::SqliteStore;
