@@ -1,6 +1,6 @@
 //! What errors of SQL mean for the hub.
 ghost use Rattle.std.specs.Prelude.{◌≡◌};
-ghost use Rattle.hub_writes.specs.Faults.{fault_of, refusal_of, inserted, ended};
+ghost use Rattle.hub_writes.specs.Faults.{fault_of, refusal_of, inserted, spared, ended};
 
 use hub_store::StoreFault;
 use sqlite::{Error, ErrorCode};
@@ -43,6 +43,17 @@ pub fn update_ended(given: Result<usize, Error>) -> Result<(), StoreFault>
     ensures { result ≡ ended given }
 {
     match given {
+        Ok(_) => Ok(()),
+        Err(error) => Err(fault_by(&error)),
+    }
+}
+
+/// What an UPDATE comes to that is to meet no row, as each that it meets is none of the kinds.
+pub fn spare_ended(given: Result<usize, Error>) -> Result<(), StoreFault>
+    ensures { result ≡ spared given }
+{
+    match given {
+        Ok(count) if count > 0 => Err(StoreFault::Unclean),
         Ok(_) => Ok(()),
         Err(error) => Err(fault_by(&error)),
     }
