@@ -95,7 +95,7 @@ module _ {S : Type 0} (g : Ghosts S) (old mid end : Held S) (changes : List Chan
         crash = survives_then (state g old) (state g mid) (state g end) _ _ _ (λ _ db none. absurd none) (λ _ db none. absurd none) (survives_begin g old (state g mid) _ it.survives) last;
         durable = λ clean. tt;
         unclean = λ clean holds e. elim (it.unclean (early clean) e) [
-          | inl refused ↦ inl (refused.0, λ rising. absurd (refused.1 (begun_hub (holds refused.0)) rising))
+          | inl refused ↦ inl (refused.0, λ rising. inr (great_unclean (apply_all changes (tables_in (state g old).now.trees)) (refused.1 (begun_hub (holds refused.0)) rising)))
           | inr great ↦ inr (λ t. great_unclean (apply_all changes t) (great t))
         ];
       }

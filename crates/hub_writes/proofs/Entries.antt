@@ -95,7 +95,7 @@ module _ (row : MailRow) where
   edit_is : (db : Trees) → edited db (edit_of db mail_table [] Chosen 0 ((Null ∷ cells) ∷ [])) ≡ put_row (stored (db 16)) (db 16)
   edit_is db = rw (cast_null, cast_int (pos row.number), cast_int (pos row.moment), cast_int (pos row.decimal), cast_int (pos row.kind), cast_int (pos row.taken))
 
-  tables_are : (rows : List Row) (old new : State) → Alters 16 rows old new → tables_in new.now.trees ≡ record (tables_in old.now.trees) { mail = in_key_order mail_cmp (map mail_in rows) }
+  pub tables_are : (rows : List Row) (old new : State) → Alters 16 rows old new → tables_in new.now.trees ≡ record (tables_in old.now.trees) { mail = in_key_order mail_cmp (map mail_in rows) }
   tables_are rows old new it =
       let kept = it.others in
       rw (it.rows, kept.1.0 (λ e. absurd (omega (arith, e))), kept.1.1.0 (λ e. absurd (omega (arith, e))), kept.1.1.1.0 (λ e. absurd (omega (arith, e))), kept.1.1.1.1.0 (λ e. absurd (omega (arith, e))), kept.1.1.1.1.1.0 (λ e. absurd (omega (arith, e))), kept.1.1.1.1.1.1.0 (λ e. absurd (omega (arith, e))), kept.1.1.1.1.1.1.1.0 (λ e. absurd (omega (arith, e))))

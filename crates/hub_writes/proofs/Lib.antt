@@ -3,6 +3,7 @@ pub mod Alters
 pub mod Contents
 pub mod Ends
 pub mod Entries
+pub mod Great
 pub mod Keys
 pub mod Lines
 pub mod Memories

@@ -1,5 +1,5 @@
 -- What a statement comes to.
-use Rattle.std.proofs.Common.{◌≡◌, inl, inr, false, true, ℕ, List, Result, Ok, Err, OnOk, IsTrue, refl, sym, subst, ap, ◌∙◌}
+use Rattle.std.proofs.Common.{Bool, ◌==◌, if◌then◌else◌, ◌≡◌, inl, inr, false, true, ℕ, List, Result, Ok, Err, OnOk, IsTrue, refl, sym, subst, ap, ◌∙◌}
 use Rattle.std.proofs.lemmas.Bool.{cases_Bool}
 use Rattle.sqlite_schema.specs.declared.schema.Constraint.TheVariants as rule
 use Rattle.sqlite_trees.specs.declared.store.Store.{Ghosts}
@@ -19,8 +19,8 @@ use Rattle.hub_store.specs.declared.fault.StoreFault.{StoreFault}
 use Rattle.hub_store.specs.declared.fault.StoreFault.TheVariants.{Unclean}
 use Rattle.hub_schema.specs.Rows.{tables_in}
 use Rattle.hub_schema.specs.State.{IsHub, Makes}
-use Rattle.hub_writes.specs.Faults.{inserted, ended, refusal_of, fault_of}
-use Rattle.hub_writes.specs.Acts.{Acts}
+use Rattle.hub_writes.specs.Faults.{spared, inserted, ended, refusal_of, fault_of}
+use Rattle.hub_writes.specs.Acts.{has_great, Acts}
 
 pub on_inserted : (A : Type 0) (r : Result ℕ Error) → OnOk r A → OnOk (inserted r) A
 on_inserted A (Ok count) h = h
@@ -134,6 +134,7 @@ module _ {S : Type 0} (g : Ghosts S) (sql : List ℕ) (params : Row) (old new : 
   error_of (Ok count) is h = absurd cc
   error_of (Err e) is h = let same : refusal_of e ≡ Unclean = cc in is ∙ ap (λ (x : Error). Err x) (refused_so e same)
 
+  -- its key is there
   abbrev Refused : List Change → Type 0
   Refused changes = IsTrue (state g old).is_open × (IsHub (state g old) → Rising (apply_all changes (tables_in (state g old).now.trees)) → ⊥)
 
@@ -144,7 +145,9 @@ module _ {S : Type 0} (g : Ghosts S) (sql : List ℕ) (params : Row) (old new : 
     makes = λ clean hub begun. on_inserted _ r (makes hub begun (did.runs clean begun));
     unclean = λ clean h. let e = error_of r refl h in
         inl (elim (cases_Bool old.in_transaction) [
-          | inl begun ↦ fits_not (subst (ExecutesInside 0 sql params (state g old) (state g new)) e (did.runs clean begun))
+          | inl begun ↦
+              let no_fit = fits_not (subst (ExecutesInside 0 sql params (state g old) (state g new)) e (did.runs clean begun)) in
+              (no_fit.0, λ hub rising. absurd (no_fit.1 hub rising))
           | inr none ↦ absurd (let no = sym e ∙ (did.ended none).0 in cc)
         ]);
     kept = kept;
@@ -160,3 +163,38 @@ module _ {S : Type 0} (g : Ghosts S) (sql : List ℕ) (params : Row) (old new : 
     kept = kept;
     survives = did.survives;
   })
+
+  -- an UPDATE that is to meet no row
+  module _ (changes : List Change) (makes : IsHub (state g old) → old.in_transaction ≡ true → (count : ℕ) → (count == 0) ≡ true → ExecutesInside 0 sql params (state g old) (state g new) (Ok count) → Makes (apply_all changes) (state g old) (state g new))
+      (met : IsHub (state g old) → (count : ℕ) → (count == 0) ≡ false → ExecutesInside 0 sql params (state g old) (state g new) (Ok count) → has_great (apply_all changes (tables_in (state g old).now.trees)) ≡ true) where
+    ran : (count : ℕ) → r ≡ Ok count → HasCleanDisk (state g new) → IsTrue old.in_transaction × ExecutesInside 0 sql params (state g old) (state g new) (Ok count)
+    ran count is clean = elim (cases_Bool old.in_transaction) [
+      | inl begun ↦ (begun, subst (ExecutesInside 0 sql params (state g old) (state g new)) is (did.runs clean begun))
+      | inr none ↦ absurd (let bad = sym is ∙ (did.ended none).0 in cc)
+    ]
+
+    counted : (count : ℕ) → r ≡ Ok count → (b : Bool) → (count == 0) ≡ b → Acts changes (state g old) (state g new) (if b then Ok tt else Err Unclean)
+    counted count is true e = record {
+      makes = λ clean hub begun. makes hub begun count e (ran count is clean).1;
+      unclean = λ clean h. absurd (let bad = h in cc);
+      kept = kept;
+      survives = did.survives;
+    }
+    counted count is false e = record {
+      makes = λ clean hub begun. tt;
+      unclean = λ clean h. inl ((ran count is clean).1.1.was_open, λ hub rising. met hub count e (ran count is clean).1);
+      kept = kept;
+      survives = did.survives;
+    }
+
+    spares : (out : Result ℕ Error) → r ≡ out → Acts changes (state g old) (state g new) (spared out)
+    spares (Ok count) is = counted count is (count == 0) refl
+    spares (Err e) is = record {
+      makes = λ clean hub begun. tt;
+      unclean = λ clean h. absurd (never_unclean e (let same : fault_of e ≡ Unclean = cc in same));
+      kept = kept;
+      survives = did.survives;
+    }
+
+    pub spare_acts : (out : Result (Unit {0}) StoreFault) → out ≡ spared r → Acts changes (state g old) (state g new) out
+    spare_acts out is = subst (Acts changes (state g old) (state g new)) (sym is) (spares r refl)

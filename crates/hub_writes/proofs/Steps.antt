@@ -167,7 +167,7 @@ refused_before changes s great = record {
 }
 
 -- a number that is too great stays so
-great_later : (changes : List Change) (t : Tables) → has_great t ≡ true → has_great (apply_all changes t) ≡ true
+pub great_later : (changes : List Change) (t : Tables) → has_great t ≡ true → has_great (apply_all changes t) ≡ true
 great_later [] t h = h
 great_later (change ∷ changes) t h = great_later changes (apply change t) (great_stays change t h)
 
@@ -176,7 +176,7 @@ pub none_run : (all : List Change) (a b : State) (fault : StoreFault) → Acts [
 none_run all a b fault it = record {
   makes = λ clean hub begun. tt;
   unclean = λ clean e. elim (it.unclean clean e) [
-    | inl refused ↦ inl (refused.0, λ hub rising. refused.1 hub (hub_rises a hub))
+    | inl refused ↦ inl (refused.0, λ hub rising. great_later all (tables_in a.now.trees) (refused.1 hub (hub_rises a hub)))
     | inr great ↦ absurd (true≢false (sym (great empty)))
   ];
   kept = it.kept;
@@ -194,7 +194,8 @@ run_failed all left change a b c fault so_far it =
           (so_far.begun (before clean)).0,
           λ hub rising.
               let was = so_far.makes (before clean) hub in
-              refused.1 was.hub (rising_before left (apply_all (change ∷ []) (tables_in b.now.trees)) (subst Rising (sym was.tables) rising)),
+              let great = refused.1 was.hub (rising_before left (apply_all (change ∷ []) (tables_in b.now.trees)) (subst Rising (sym was.tables) rising)) in
+              subst (λ t. has_great t ≡ true) was.tables (great_later left (apply_all (change ∷ []) (tables_in b.now.trees)) great),
         )
         | inr great ↦ inr (λ t. let u = so_far.splits t in ap has_great u.1 ∙ great_later left (apply_all (change ∷ []) u.0) (great u.0))
       ];

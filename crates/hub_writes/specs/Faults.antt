@@ -1,5 +1,5 @@
 -- What an error of SQL means for the hub.
-use Rattle.std.specs.Prelude.{ℕ, Result, Ok, Err}
+use Rattle.std.specs.Prelude.{ℕ, ◌==◌, if◌then◌else◌, Result, Ok, Err}
 use Rattle.sqlite.specs.declared.error.Error.{Error}
 use Rattle.sqlite.specs.declared.error.Error.TheVariants.{SqliteFailure}
 use Rattle.sqlite.specs.declared.error.ErrorCode.TheVariants as code
@@ -26,3 +26,8 @@ inserted (Err e) = Err (refusal_of e)
 abbrev pub ended : {X : Type 0} → Result X Error → Result (Unit {0}) StoreFault
 ended (Ok x) = Ok tt
 ended (Err e) = Err (fault_of e)
+
+-- what an UPDATE comes to that is to meet no row, as each that it meets is none of the kinds
+abbrev pub spared : Result ℕ Error → Result (Unit {0}) StoreFault
+spared (Ok count) = if count == 0 then Ok tt else Err Unclean
+spared (Err e) = Err (fault_of e)

@@ -1,22 +1,40 @@
 //! What errors of SQL mean for the hub.
 ghost use Rattle.std.specs.Prelude.{◌≡◌};
-ghost use Rattle.hub_writes.specs.Faults.{inserted, ended};
+ghost use Rattle.hub_writes.specs.Faults.{fault_of, refusal_of, inserted, spared, ended};
 
 use hub_store::StoreFault;
 use sqlite::{Error, ErrorCode};
 use sqlite_schema::schema::Constraint;
 
-/// What an INSERT comes to. One that is refused for its key does not fit to the rows.
+/// Out of memory, or all else.
+pub fn fault_by(error: &Error) -> StoreFault
+    ensures { result ≡ fault_of error.now }
+{
+    match error {
+        Error::SqliteFailure(ErrorCode::OutOfMemory) => StoreFault::Memory,
+        _ => StoreFault::Disk,
+    }
+}
+
+/// A row whose key is there does not fit.
+fn refusal_by(error: &Error) -> StoreFault
+    ensures { result ≡ refusal_of error.now }
+{
+    match error {
+        Error::SqliteFailure(ErrorCode::ConstraintViolation(Constraint::Unique)) => {
+            StoreFault::Unclean
+        }
+        _ => fault_by(error),
+    }
+}
+
+/// What an INSERT comes to.
 pub fn insert_ended(given: Result<usize, Error>) -> Result<(), StoreFault>
     ensures { result ≡ inserted given }
 {
     match given {
         Ok(_) => Ok(()),
-        Err(Error::SqliteFailure(ErrorCode::OutOfMemory)) => Err(StoreFault::Memory),
-        Err(Error::SqliteFailure(ErrorCode::ConstraintViolation(Constraint::Unique))) => {
-            Err(StoreFault::Unclean)
-        }
-        Err(_) => Err(StoreFault::Disk),
+        Err(error) => Err(refusal_by(&error)),
     }
 }
 
@@ -26,8 +44,18 @@ pub fn update_ended(given: Result<usize, Error>) -> Result<(), StoreFault>
 {
     match given {
         Ok(_) => Ok(()),
-        Err(Error::SqliteFailure(ErrorCode::OutOfMemory)) => Err(StoreFault::Memory),
-        Err(_) => Err(StoreFault::Disk),
+        Err(error) => Err(fault_by(&error)),
+    }
+}
+
+/// What an UPDATE comes to that is to meet no row, as each that it meets is none of the kinds.
+pub fn spare_ended(given: Result<usize, Error>) -> Result<(), StoreFault>
+    ensures { result ≡ spared given }
+{
+    match given {
+        Ok(count) if count > 0 => Err(StoreFault::Unclean),
+        Ok(_) => Ok(()),
+        Err(error) => Err(fault_by(&error)),
     }
 }
 
@@ -37,7 +65,6 @@ pub fn commit_ended(given: Result<(), Error>) -> Result<(), StoreFault>
 {
     match given {
         Ok(()) => Ok(()),
-        Err(Error::SqliteFailure(ErrorCode::OutOfMemory)) => Err(StoreFault::Memory),
-        Err(_) => Err(StoreFault::Disk),
+        Err(error) => Err(fault_by(&error)),
     }
 }

@@ -1,8 +1,8 @@
 -- What UPDATE does to the trees.
-use Rattle.std.proofs.Common.{◌≡◌, ◌≢◌, pos, negsuc, true, false, Bool, ◌∷◌, map, filter, drop, if◌then◌else◌, subst₂, ℕ, List, [], slice_get, Some, None, Ok, ap, subst, sym, ◌∙◌}
+use Rattle.std.proofs.Common.{length, unwrap_or, ◌≡◌, ◌≢◌, pos, negsuc, true, false, Bool, ◌∷◌, map, filter, drop, if◌then◌else◌, subst₂, ℕ, List, [], slice_get, Some, None, Ok, ap, subst, sym, ◌∙◌}
 use Rattle.std.specs.List.{AllByRecursion, list_all}
 use Rattle.std.specs.List.Sorted.{IsPermutation}
-use Rattle.std.proofs.lemmas.List.Sorted.{IsPermutation-map}
+use Rattle.std.proofs.lemmas.List.Sorted.{IsPermutation-map, length_permutation}
 use Rattle.sqlite_value.specs.declared.value.Value.TheVariants.{Null, Int}
 use Rattle.sqlite_value.specs.Order.{Row, column}
 use Rattle.sqlite_sql.specs.Term.{Term, Env, holds, eval_all, lit}
@@ -34,7 +34,7 @@ use Rattle.sqlite.specs.Effect.{Database}
 use Rattle.sqlite.specs.State.{State, mode_of, Writes}
 use Rattle.sqlite.proofs.Callers.{one_step}
 use Rattle.sql_rows.specs.Tables.{plain_table}
-use Rattle.sql_rows.proofs.Answers.{matched, map_twice}
+use Rattle.sql_rows.proofs.Answers.{matched, map_twice, length_map}
 use Rattle.sql_rows.proofs.Inserts.{Leaves, went, same_value}
 use Rattle.sql_rows.proofs.Sets.{replaced, still_shaped}
 
@@ -42,6 +42,7 @@ module _ (schema : Schema) (place tree : ℕ) (name : List ℕ) (columns : List 
     (found : slice_get schema.tables place ≡ Some (plain_table tree name columns primary uniques orders)) (still : (olds news : List Row) → works schema Enforced 0 tree olds news ≡ []) where
   pub updates : (old new : State) (params : Row) (text : List ℕ) (q : Program) (count : ℕ) → old.now.schema ≡ schema → Writes old new None (Update place q) text params count
       → (rows : List Row) × IsProgramAnswer (lets_of q) q.body old.now.trees params rows × Leaves schema old.now.trees (edit_of old.now.trees (plain_table tree name columns primary uniques orders) (ids_of rows) Given 1 rows) new.now
+      × (count ≡ length (edit_of old.now.trees (plain_table tree name columns primary uniques orders) (ids_of rows) Given 1 rows).news)
   updates old new params text q count has w =
       let table = plain_table tree name columns primary uniques orders in
       let db = old.now.trees in
@@ -60,6 +61,7 @@ module _ (schema : Schema) (place tree : ℕ) (name : List ℕ) (columns : List 
           schema_is = ap (λ (d : Database). d.schema) now;
           step = subst (Applies schema Enforced db edit) (sym trees ∙ sym (ap (λ (d : Database). d.trees) now)) step;
         },
+        w.counted ∙ ap (λ (p : Tally × Database). unwrap_or p.0.rows 0) (same_value shown.2) ∙ ap (λ (it : Written). length it.rows) (same_value next.2),
       )
 
 -- A query that shows the rows of one table that pass, each with its number first.
@@ -106,19 +108,21 @@ module _ (schema : Schema) (place tree : ℕ) (name : List ℕ) (columns : List 
   changed row = if passes tree stored tests shows values row then cast_row table (drop 1 (show tree stored tests shows values row)) else row
 
   -- what an UPDATE by such a query leaves
-  pub record Sets (old new : State) : Type 0 where
+  pub record Sets (old new : State) (count : ℕ) : Type 0 where
     pub schema_is : new.now.schema ≡ schema
     pub rows : new.now.trees tree ≡ map changed (old.now.trees tree)
     pub shaped : IsShaped shape.Table (map changed (old.now.trees tree))
     pub others : AllByRecursion (λ t. t.tree ≢ tree → new.now.trees t.tree ≡ old.now.trees t.tree) schema.tables
+    pub counted : count ≡ length (filter (passes tree stored tests shows values) (old.now.trees tree))
 
   pub sets : (old new : State) (text : List ℕ) (count : ℕ) → old.now.schema ≡ schema → IsShaped shape.Table (old.now.trees tree)
-      → Writes old new None (Update place (record { lets = []; body = one_table tree stored tests shows values })) text values count → Sets old new
+      → Writes old new None (Update place (record { lets = []; body = one_table tree stored tests shows values })) text values count → Sets old new count
   sets old new text count has shaped w =
       let db = old.now.trees in
       let did = updates schema place tree name columns primary uniques orders found still old new values text (record { lets = []; body = one_table tree stored tests shows values }) count has w in
       let answer = did.0 in
       let step = did.2.step in
+      let found_rows = filter (passes tree stored tests shows values) (db tree) in
       let same = answered tree stored tests shows values db answer (did.1 Null) in
       let left = without_all (db tree) (ids_of answer) in
       let news = map (λ s. cast_row table (drop 1 s)) answer in
@@ -129,4 +133,5 @@ module _ (schema : Schema) (place tree : ℕ) (name : List ℕ) (columns : List 
         rows = step.rows ∙ ap (put_all left) put ∙ replaced table (show tree stored tests shows values) (passes tree stored tests shows values) (db tree) answer shaped same alike fresh;
         shaped = still_shaped table (show tree stored tests shows values) (passes tree stored tests shows values) (db tree) answer shaped same alike;
         others = step.tables;
+        counted = did.3 ∙ ap length put ∙ length_map (λ s. cast_row table (drop 1 s)) answer ∙ length_permutation _ _ same ∙ length_map (show tree stored tests shows values) found_rows;
       }
