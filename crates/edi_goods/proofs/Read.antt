@@ -60,7 +60,7 @@ receipt_apart m receipt h =
     (sym (judged_is (λ fault. receipt_holds fault m) (receipt_contents m.segments) receipt h))
     ∙ receipt_units_apart m.segments (not-false _ right)
 
--- no item's sum in a unit of it is too great
+-- no article's sum in a unit of it is too great
 pub receipt_sums : (m : RawMessage) (receipt : Receipt)
     → receipt_of m ≡ Ok receipt
     → list_all (λ unit. has_sums unit.lines) receipt.units ≡ true

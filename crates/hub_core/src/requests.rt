@@ -49,7 +49,11 @@ fn upload<S: Store>(
     moment: Moment,
     bytes: &[u8],
 ) -> Result<Reply, StoreFault>
-    ensures asked { MayDeliver register.now caller.entry (S.content store.old) → Asked S.content S.honest S.left store.old store.new (acts_of (opened_for (delivered register.now caller.entry) (opening_of register.now caller.entry bytes.now))) (λ mark t. uploaded (delivered register.now caller.entry) moment mark (opening_of register.now caller.entry bytes.now) t) result }
+    ensures asked { MayDeliver register.now caller.entry (S.content store.old) →
+        Asked S.content S.honest S.left store.old store.new
+        (acts_of (opened_for (delivered register.now caller.entry) (opening_of register.now caller.entry bytes.now)))
+        (λ mark t. uploaded (delivered register.now caller.entry) moment mark
+        (opening_of register.now caller.entry bytes.now) t) result }
     ensures was_honest { S.honest store.new → S.honest store.old }
 {
     let interchange = match opened(alloc, bytes)? {
@@ -73,7 +77,10 @@ fn asked_by_supplier<S: Store>(
     moment: Moment,
     request: &Request,
 ) -> Result<Reply, StoreFault>
-    ensures asked { MayDeliver register.now (Supplier supplier.entry) (S.content store.old) → Asked S.content S.honest S.left store.old store.new (acts_by register.now (Supplier supplier.entry) request.now) (request_of register.now (Supplier supplier.entry) moment request.now) result }
+    ensures asked { MayDeliver register.now (Supplier supplier.entry) (S.content store.old) →
+        Asked S.content S.honest S.left store.old store.new
+        (acts_by register.now (Supplier supplier.entry) request.now)
+        (request_of register.now (Supplier supplier.entry) moment request.now) result }
     ensures was_honest { S.honest store.new → S.honest store.old }
 {
     let gln = &supplier.gln;
@@ -98,7 +105,9 @@ fn asked_by_retailer<S: Store>(
     moment: Moment,
     request: &Request,
 ) -> Result<Reply, StoreFault>
-    ensures asked { MayDeliver register.now Retailer (S.content store.old) → Asked S.content S.honest S.left store.old store.new (acts_by register.now Retailer request.now) (request_of register.now Retailer moment request.now) result }
+    ensures asked { MayDeliver register.now Retailer (S.content store.old) →
+        Asked S.content S.honest S.left store.old store.new (acts_by register.now Retailer request.now)
+        (request_of register.now Retailer moment request.now) result }
     ensures was_honest { S.honest store.new → S.honest store.old }
 {
     match request {
@@ -128,7 +137,9 @@ pub(crate) fn asked<S: Store>(
     moment: Moment,
     request: &Request,
 ) -> Result<Reply, StoreFault>
-    ensures asked { MayDeliver register.now caller.entry (S.content store.old) → Asked S.content S.honest S.left store.old store.new (acts_by register.now caller.entry request.now) (request_of register.now caller.entry moment request.now) result }
+    ensures asked { MayDeliver register.now caller.entry (S.content store.old) →
+        Asked S.content S.honest S.left store.old store.new (acts_by register.now caller.entry request.now)
+        (request_of register.now caller.entry moment request.now) result }
     ensures was_honest { S.honest store.new → S.honest store.old }
 {
     match caller {

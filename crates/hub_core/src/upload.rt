@@ -6,7 +6,7 @@ ghost use Rattle.hub_law.specs.Requests.{uploaded};
 ghost use Rattle.hub_law.specs.Told as law;
 ghost use Rattle.hub_law.specs.Widths.{line};
 ghost use Rattle.hub_acts.specs.Acts.{Carried, Unharmed};
-ghost use Rattle.hub_texts.specs.Told.{told_of};
+ghost use Rattle.hub_texts.specs.Decision.{told_of};
 ghost use Rattle.hub_core.specs.Callers.{delivered, MayDeliver};
 ghost use Rattle.hub_core.specs.Steps.{Answered};
 
@@ -17,7 +17,7 @@ use hub_acts::{take_retailers_message, take_suppliers_message};
 use hub_law::{Outcome, Reply, acts_stay_sound};
 use hub_register::Register;
 use hub_store::{Store, StoreFault};
-use hub_texts::Told;
+use hub_texts::Decision;
 use std::alloc::Global;
 
 // Takes a message of whoever sends it.
@@ -30,11 +30,15 @@ fn take_message<S: Store>(
     interchange: &Interchange,
     message: &RawMessage,
     reply: &mut Vec<u8>,
-) -> Result<Told, StoreFault>
-    ensures carried { MayDeliver register.now caller.entry (S.content store.old) → Carried S.content S.honest S.left store.old store.new (delivered register.now caller.entry (message.now, incoming moment interchange.now message.now)) told_of result }
+) -> Result<Decision, StoreFault>
+    ensures carried { MayDeliver register.now caller.entry (S.content store.old) →
+        Carried S.content S.honest S.left store.old store.new (delivered register.now caller.entry
+        (message.now, incoming moment interchange.now message.now)) told_of result }
     ensures unharmed { Unharmed S.content S.honest store.old store.new result }
-    ensures may { S.honest store.new → MayDeliver register.now caller.entry (S.content store.old) → MayDeliver register.now caller.entry (S.content store.new) }
-    ensures line { IfOk result (λ told. reply.new.items ≡ reply.old.items ++ line (message.now.reference ∷ message.now.kind ∷ told_words (told_of told))) }
+    ensures may { S.honest store.new → MayDeliver register.now caller.entry (S.content store.old) →
+        MayDeliver register.now caller.entry (S.content store.new) }
+    ensures line { IfOk result (λ told. reply.new.items ≡ reply.old.items
+        ++ line (message.now.reference ∷ message.now.kind ∷ told_words (told_of told))) }
     ensures kept { OnErr result (reply.new.items ≡ reply.old.items) }
     ensures room { vec_len reply.old + 8 ≤ vec_capacity reply.old → vec_len reply.new + 8 ≤ vec_capacity reply.new }
 {
@@ -57,7 +61,7 @@ fn take_message<S: Store>(
 }
 
 // Whether a message was refused, or one before it.
-fn either_refused(before: bool, told: Told) -> bool
+fn either_refused(before: bool, told: Decision) -> bool
     ensures { result ≡ (before || law.is_refused (told_of told)) }
 {
     before || told.is_refused()
@@ -76,7 +80,9 @@ pub(crate) fn take_messages<S: Store>(
 ) -> Reply
     requires line { reply.items ≡ interchange_line interchange.now }
     requires room { vec_len reply + 8 ≤ vec_capacity reply }
-    ensures answered { S.honest store.new → MayDeliver register.now caller.entry (S.content store.old) → Answered S.content S.left store.old store.new (length interchange.now.messages) (λ mark t. uploaded (delivered register.now caller.entry) moment mark (Ok interchange.now) t) result }
+    ensures answered { S.honest store.new → MayDeliver register.now caller.entry (S.content store.old) →
+        Answered S.content S.left store.old store.new (length interchange.now.messages) (λ mark t.
+        uploaded (delivered register.now caller.entry) moment mark (Ok interchange.now) t) result }
     ensures was_honest { S.honest store.new → S.honest store.old }
 {
     let mut refused = false;

@@ -106,7 +106,8 @@ pub(crate) fn apply_each(lists: &mut Lists, changes: Vec<Change>)
     requires room { Room (length changes.items) lists.old }
     requires kept { Kept lists.old }
     ensures kept { Kept lists.new }
-    ensures tables { Rising (apply_all changes.items (tables_in lists.old)) → tables_in lists.new ≡ apply_all changes.items (tables_in lists.old) }
+    ensures tables { Rising (apply_all changes.items (tables_in lists.old)) →
+        tables_in lists.new ≡ apply_all changes.items (tables_in lists.old) }
 {
     for change in changes {
         apply_one(lists, change);

@@ -273,7 +273,9 @@ impl Settable for LineRow {
             && old.line == self.line
     }
 
-    ghost same_key = { λ new old. both (bytes_cmp old.supplier new.supplier) _ (same_bytes old.supplier new.supplier) (both (bytes_cmp old.number new.number) _ (same_bytes old.number new.number) (same_numbers old.line new.line)) };
+    ghost same_key = { λ new old. both (bytes_cmp old.supplier new.supplier) _ (same_bytes old.supplier new.supplier)
+        (both (bytes_cmp old.number new.number) _ (same_bytes old.number new.number)
+        (same_numbers old.line new.line)) };
 }
 
 impl Settable for PalletRow {
@@ -300,5 +302,6 @@ impl Settable for MailRow {
         old.supplier == self.supplier && old.number == self.number
     }
 
-    ghost same_key = { λ new old. both (bytes_cmp old.supplier new.supplier) _ (same_bytes old.supplier new.supplier) (same_numbers old.number new.number) };
+    ghost same_key = { λ new old. both (bytes_cmp old.supplier new.supplier) _ (same_bytes old.supplier new.supplier)
+        (same_numbers old.number new.number) };
 }

@@ -6,7 +6,7 @@ use Rattle.hub_law.specs.Requests.{uploaded}
 use Rattle.hub_law.specs.Replies.{stopped_line, told_words}
 use Rattle.hub_law.specs.Widths.{line}
 use Rattle.hub_law.specs.declared.reply.Outcome.TheVariants.{Stopped}
-use Rattle.hub_texts.specs.Told.{told_of}
+use Rattle.hub_texts.specs.Decision.{told_of}
 use Rattle.hub_core.specs.Callers.{delivered}
 use Rattle.hub_core.specs.Steps.{OneMore}
 use Rattle.hub_core.specs.Uploads.{DoneSoFar}
