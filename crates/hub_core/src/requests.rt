@@ -10,7 +10,7 @@ ghost use Rattle.hub_core.specs.declared.caller.Caller.TheVariants.{Retailer, Su
 use crate::caller::Caller;
 use crate::opening::{address_fault, opened};
 use crate::replies::{denied_reply, refused_upload, unknown_reply};
-use crate::upload::take_messages;
+use crate::upload::{OpenedUpload, take_messages};
 use edi_envelope::{Interchange, Moment};
 use gs1_ids::Gln;
 use hub_acts::{mailbox_entry, mailbox_list, status_report, take_cancel, take_entry};
@@ -65,7 +65,13 @@ fn upload<S: Store>(
     }
     let mut reply = interchange_line(alloc, &interchange)?;
     reply.try_reserve(8)?;
-    Ok(take_messages(alloc, register, caller, store, moment, &interchange, reply))
+    let upload = OpenedUpload {
+        register,
+        caller,
+        moment,
+        interchange: &interchange,
+    };
+    Ok(take_messages(alloc, &upload, store, reply))
 }
 
 // What a supplier asks.
