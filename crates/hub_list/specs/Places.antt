@@ -1,27 +1,13 @@
 -- Where rows stand to what is looked for.
-use Rattle.std.proofs.Common.{◌≡◌, ℕ, Bool, true, false, ◌&&◌, ◌==◌, cond, List, refl, sym, ap, ap₂, ◌∙◌}
+use Rattle.std.proofs.Common.{◌≡◌, ℕ, true, false, ◌==◌, cond, refl, sym, ap, ap₂, ◌∙◌}
 use Rattle.std.specs.Prelude.{nat_lt}
-use Rattle.std.specs.Cmp.{IsTotalOrder, both_tied, unsigned_tied}
+use Rattle.std.specs.Cmp.{IsTotalOrder}
 use Rattle.std.specs.Ordering.{nat_cmp, ordering_then, ordering_reverse, is_eq, is_gt}
 use Rattle.std.specs.declared.cmp.Ordering.{Ordering}
 use Rattle.std.specs.declared.cmp.Ordering.TheVariants.{Less, Equal, Greater}
 use Rattle.std.proofs.lemmas.Bool.{both_ways}
 use Rattle.std.proofs.lemmas.Cmp.{alike_right, nat_cmp_total}
-use Rattle.std.proofs.lemmas.Map.Text.{is_eq-slice_cmp}
-use Rattle.hub_tables.specs.Keys.{bytes_cmp}
-use Rattle.hub_tables.specs.Rows.{same}
 use Rattle.hub_list.specs.Search.{may_precede, KeepsPlaces}
-
--- What stands at a place.
-
-pub same_bytes : (xs ys : List ℕ) → is_eq (bytes_cmp xs ys) ≡ same xs ys
-same_bytes xs ys = is_eq-slice_cmp xs ys
-
-pub same_numbers : (x y : ℕ) → is_eq (nat_cmp x y) ≡ (x == y)
-same_numbers x y = unsigned_tied x y
-
-pub both : (a b : Ordering) {s t : Bool} → is_eq a ≡ s → is_eq b ≡ t → is_eq (ordering_then a b) ≡ (s && t)
-both a b {s} {t} p q = sym (both_tied s t a b (sym p) (sym q))
 
 -- below where the other is not less, and else at it
 abbrev pub at_less : Ordering → Ordering

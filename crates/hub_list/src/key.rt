@@ -6,12 +6,13 @@ ghost use Rattle.std.proofs.lemmas.Cmp.{nat_cmp_total, nat_list_cmp_total};
 ghost use Rattle.hub_tables.specs.Cases.{side_letter};
 ghost use Rattle.hub_tables.specs.Keys.{bytes_cmp};
 ghost use Rattle.hub_tables.specs.Rows.{same};
-ghost use Rattle.hub_list.specs.Places.{same_bytes, same_numbers, both, above, is_above, first_part, then_part, by_key, above_kept};
+ghost use Rattle.hub_rows.specs.Alike.{same_bytes, same_numbers, both};
+ghost use Rattle.hub_list.specs.Places.{above, is_above, first_part, then_part, by_key, above_kept};
 ghost use Rattle.hub_list.specs.Search.{KeepsPlaces};
 
 use crate::index::{EntryKey, PalletKey};
-use crate::row::{Row, letter};
 use gs1_ids::{Gln, Sscc};
+use hub_rows::{Row, letter};
 use hub_tables::{
     AdviceRow, ContentRow, LineRow, MailRow, OrderRow, PalletRow, ReceiptRow, RememberedRow, Side,
 };

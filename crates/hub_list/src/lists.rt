@@ -5,9 +5,9 @@ ghost use Rattle.hub_tables.specs.Sets.{Rising};
 ghost use Rattle.hub_list.specs.Lists.{tables_in, Kept, Room};
 
 use crate::index::{EntryKey, PalletKey, put_indexed, set_indexed};
-use crate::row::Row;
 use crate::table::{put_row, set_row};
 use edi_base::MemoryFault;
+use hub_rows::Row;
 use hub_tables::{
     AdviceRow, Change, ContentRow, LineRow, MailRow, OrderRow, PalletRow, ReceiptRow, RememberedRow,
 };

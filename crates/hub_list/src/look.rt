@@ -12,10 +12,10 @@ ghost use Rattle.hub_list.specs.Index.{IsIndex, entry_cmp, entry_key, is_untaken
 
 use crate::index::{EntryKey, PalletKey};
 use crate::key::{Above, Key, Numbered, OfSupplier, OnPallet, Reference};
-use crate::row::Row;
 use crate::search::rows_at;
 use edi_base::{Items, MemoryFault, copied};
 use gs1_ids::{Gln, Sscc};
+use hub_rows::Row;
 use hub_tables::{
     AdviceRow, ContentRow, LineRow, MailRow, OrderRow, PalletRow, ReceiptRow, RememberedRow, Side,
 };

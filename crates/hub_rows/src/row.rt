@@ -14,7 +14,7 @@ use std::alloc::Global;
 use std::cmp::Ordering;
 
 /// A row of one kind.
-pub(crate) trait Row: Drop {
+pub trait Row: Drop {
     /// The order of the keys.
     ghost compared: { Self → Self → Order };
 
@@ -237,7 +237,7 @@ impl Row for MailRow {
 }
 
 /// The letter of a side.
-pub(crate) fn letter(side: Side) -> u8
+pub fn letter(side: Side) -> u8
     ensures { result ≡ side_letter side }
 {
     match side {
@@ -248,7 +248,7 @@ pub(crate) fn letter(side: Side) -> u8
 }
 
 /// A row that is set in the place of the one that has its key.
-pub(crate) trait Settable: Row {
+pub trait Settable: Row {
     /// Whether an old row has the key of a new one.
     ghost alike: { Self → Self → Bool };
 
@@ -263,7 +263,7 @@ pub(crate) trait Settable: Row {
 impl Settable for LineRow {
     ghost use Rattle.hub_tables.specs.Keys.{bytes_cmp};
     ghost use Rattle.hub_tables.specs.Rows.{same_line};
-    ghost use Rattle.hub_list.specs.Places.{both, same_bytes, same_numbers};
+    ghost use Rattle.hub_rows.specs.Alike.{both, same_bytes, same_numbers};
 
     ghost alike = { same_line };
 
@@ -280,7 +280,7 @@ impl Settable for LineRow {
 
 impl Settable for PalletRow {
     ghost use Rattle.hub_tables.specs.Rows.{same_pallet};
-    ghost use Rattle.hub_list.specs.Places.{same_bytes};
+    ghost use Rattle.hub_rows.specs.Alike.{same_bytes};
 
     ghost alike = { same_pallet };
 
@@ -294,7 +294,7 @@ impl Settable for PalletRow {
 impl Settable for MailRow {
     ghost use Rattle.hub_tables.specs.Keys.{bytes_cmp};
     ghost use Rattle.hub_tables.specs.Rows.{same_mail};
-    ghost use Rattle.hub_list.specs.Places.{both, same_bytes, same_numbers};
+    ghost use Rattle.hub_rows.specs.Alike.{both, same_bytes, same_numbers};
 
     ghost alike = { same_mail };
 
