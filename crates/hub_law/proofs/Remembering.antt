@@ -7,7 +7,7 @@ use Rattle.edi_orders.specs.Order.{order_of}
 use Rattle.edi_orders.specs.Response.{response_of}
 use Rattle.edi_goods.specs.Despatch.{despatch_of}
 use Rattle.edi_goods.specs.Receipt.{receipt_of}
-use Rattle.hub_parties.specs.Rows.{Parties, RegisterRows, parties_of, supplier_row}
+use Rattle.hub_parties.specs.Rows.{Parties, RegisterRows, supplier_row}
 use Rattle.hub_parties.specs.declared.row.SupplierRow.{SupplierRow}
 use Rattle.hub_tables.specs.Change.{apply_all}
 use Rattle.hub_tables.specs.Rows.{same}
@@ -34,7 +34,7 @@ use Rattle.hub_rules.specs.declared.verdict.Verdict.TheVariants.{Accept, Refuse}
 use Rattle.hub_rules.proofs.Repeating.{accepted_has}
 use Rattle.hub_rules.proofs.Verdicts.{not_refused}
 use Rattle.hub_law.specs.CancelText.{cancel_text}
-use Rattle.hub_law.specs.Messages.{named, body_of, deliver_retailers, deliver_suppliers, cancel}
+use Rattle.hub_law.specs.Messages.{named, body_of, deliver_suppliers, cancel}
 use Rattle.hub_law.specs.Remembered.{row_of_message, row_of_cancel}
 use Rattle.hub_law.specs.Requests.{deliver_named}
 use Rattle.hub_law.specs.Told.{Told, Accepted, Refused, act, read_act}
