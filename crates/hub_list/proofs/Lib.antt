@@ -1,4 +1,3 @@
-pub mod Back
 pub mod Filters
 pub mod Indexing
 pub mod Searching

@@ -1,10 +1,14 @@
 -- What the texts that make the tables stand for.
-use Rattle.std.proofs.Common.{◌≡◌, ℕ, List, codes, Ok, refl}
-use Rattle.sqlite.specs.Compile.{table_defined_by}
-use Rattle.sqlite.specs.Schema.{Schema}
-use Rattle.sqlite_catalog.specs.Change.{created}
+use Rattle.std.proofs.Common.{◌≡◌, ℕ, pos, List, [], ◌∷◌, codes, refl}
+use Rattle.sqlite.specs.Listing.{understood}
+use Rattle.sqlite.specs.Command.TheVariants.{Insert}
+use Rattle.sqlite.specs.Source.TheVariants.{Values}
+use Rattle.sqlite.specs.Term.{lit}
+use Rattle.sqlite.specs.declared.types.Value.TheVariants.{Null, Int}
+use Rattle.sqlite.proofs.Callers.{IsPlain, command_of}
 use Rattle.sqlite_tied.specs.Compute.{everything}
-use Rattle.hub_schema.specs.Schema.{schema_table, order_table, line_table, advice_table, pallet_table, content_table, receipt_table, remembered_table, mail_table, no_schema, hub_schema}
+use Rattle.hub_schema.specs.Schema.{schema_table, order_table, line_table, advice_table, pallet_table, content_table, receipt_table, remembered_table, mail_table, no_schema, hub_schema, hub_tables}
+use Rattle.hub_schema.specs.Making.{Defines, schema_with}
 
 abbrev pub create_schema : List ℕ
 create_schema = codes "CREATE TABLE schema (number INTEGER NOT NULL) STRICT"
@@ -33,66 +37,52 @@ create_remembered = codes "CREATE TABLE remembered (supplier BLOB NOT NULL, side
 abbrev pub create_mail : List ℕ
 create_mail = codes "CREATE TABLE mail (supplier BLOB NOT NULL, number INTEGER NOT NULL, moment INTEGER NOT NULL, decimal INTEGER NOT NULL, kind INTEGER NOT NULL, document BLOB NOT NULL, body BLOB NOT NULL, taken INTEGER NOT NULL, PRIMARY KEY (supplier, number)) STRICT"
 
-pub schema_defined : table_defined_by create_schema ≡ Ok schema_table
-unfolding everything
-schema_defined = refl
+pub schema_defined : Defines create_schema no_schema schema_table
+unfolding understood everything
+schema_defined = record { command = refl; whole = refl; plain = (refl, refl); defined = refl; calm = refl }
 
-pub order_defined : table_defined_by create_order ≡ Ok (record order_table { tree = 0 })
-unfolding everything
-order_defined = refl
+pub order_defined : Defines create_order (schema_with (schema_table ∷ [])) (record order_table { tree = 0 })
+unfolding understood everything
+order_defined = record { command = refl; whole = refl; plain = (refl, refl); defined = refl; calm = refl }
 
-pub line_defined : table_defined_by create_line ≡ Ok (record line_table { tree = 0 })
-unfolding everything
-line_defined = refl
+pub line_defined : Defines create_line (schema_with (schema_table ∷ order_table ∷ [])) (record line_table { tree = 0 })
+unfolding understood everything
+line_defined = record { command = refl; whole = refl; plain = (refl, refl); defined = refl; calm = refl }
 
-pub advice_defined : table_defined_by create_advice ≡ Ok (record advice_table { tree = 0 })
-unfolding everything
-advice_defined = refl
+pub advice_defined : Defines create_advice (schema_with (schema_table ∷ order_table ∷ line_table ∷ [])) (record advice_table { tree = 0 })
+unfolding understood everything
+advice_defined = record { command = refl; whole = refl; plain = (refl, refl); defined = refl; calm = refl }
 
-pub pallet_defined : table_defined_by create_pallet ≡ Ok (record pallet_table { tree = 0 })
-unfolding everything
-pallet_defined = refl
+pub pallet_defined : Defines create_pallet (schema_with (schema_table ∷ order_table ∷ line_table ∷ advice_table ∷ [])) (record pallet_table { tree = 0 })
+unfolding understood everything
+pallet_defined = record { command = refl; whole = refl; plain = (refl, refl); defined = refl; calm = refl }
 
-pub content_defined : table_defined_by create_content ≡ Ok (record content_table { tree = 0 })
-unfolding everything
-content_defined = refl
+pub content_defined : Defines create_content (schema_with (schema_table ∷ order_table ∷ line_table ∷ advice_table ∷ pallet_table ∷ [])) (record content_table { tree = 0 })
+unfolding understood everything
+content_defined = record { command = refl; whole = refl; plain = (refl, refl); defined = refl; calm = refl }
 
-pub receipt_defined : table_defined_by create_receipt ≡ Ok (record receipt_table { tree = 0 })
-unfolding everything
-receipt_defined = refl
+pub receipt_defined : Defines create_receipt (schema_with (schema_table ∷ order_table ∷ line_table ∷ advice_table ∷ pallet_table ∷ content_table ∷ [])) (record receipt_table { tree = 0 })
+unfolding understood everything
+receipt_defined = record { command = refl; whole = refl; plain = (refl, refl); defined = refl; calm = refl }
 
-pub remembered_defined : table_defined_by create_remembered ≡ Ok (record remembered_table { tree = 0 })
-unfolding everything
-remembered_defined = refl
+pub remembered_defined : Defines create_remembered (schema_with (schema_table ∷ order_table ∷ line_table ∷ advice_table ∷ pallet_table ∷ content_table ∷ receipt_table ∷ [])) (record remembered_table { tree = 0 })
+unfolding understood everything
+remembered_defined = record { command = refl; whole = refl; plain = (refl, refl); defined = refl; calm = refl }
 
-pub mail_defined : table_defined_by create_mail ≡ Ok (record mail_table { tree = 0 })
-unfolding everything
-mail_defined = refl
+pub mail_defined : Defines create_mail (schema_with (schema_table ∷ order_table ∷ line_table ∷ advice_table ∷ pallet_table ∷ content_table ∷ receipt_table ∷ remembered_table ∷ [])) (record mail_table { tree = 0 })
+unfolding understood everything
+mail_defined = record { command = refl; whole = refl; plain = (refl, refl); defined = refl; calm = refl }
 
--- the schema after the first tables, so many
-abbrev pub schema_1 : Schema
-schema_1 = created no_schema schema_table
-
-abbrev pub schema_2 : Schema
-schema_2 = created schema_1 (record order_table { tree = 0 })
-
-abbrev pub schema_3 : Schema
-schema_3 = created schema_2 (record line_table { tree = 0 })
-
-abbrev pub schema_4 : Schema
-schema_4 = created schema_3 (record advice_table { tree = 0 })
-
-abbrev pub schema_5 : Schema
-schema_5 = created schema_4 (record pallet_table { tree = 0 })
-
-abbrev pub schema_6 : Schema
-schema_6 = created schema_5 (record content_table { tree = 0 })
-
-abbrev pub schema_7 : Schema
-schema_7 = created schema_6 (record receipt_table { tree = 0 })
-
-abbrev pub schema_8 : Schema
-schema_8 = created schema_7 (record remembered_table { tree = 0 })
-
-pub all_made : created schema_8 (record mail_table { tree = 0 }) ≡ hub_schema
+pub all_made : schema_with hub_tables ≡ hub_schema
 all_made = refl
+
+abbrev pub put_number : List ℕ
+put_number = codes "INSERT INTO schema (number) VALUES (1)"
+
+pub put_number_is : command_of (understood hub_schema put_number) ≡ Insert 0 (Values (lit Null ∷ lit (Int (pos 1)) ∷ []) 2)
+unfolding understood everything
+put_number_is = refl
+
+pub put_number_plain : IsPlain (understood hub_schema put_number)
+unfolding understood everything
+put_number_plain = (refl, refl)

@@ -1,11 +1,12 @@
 -- The tables of a hub in SQL, and their keys. All bytes are BLOB and all numbers INTEGER; tables are STRICT, no column takes
 -- NULL, and the key of each kind is its PRIMARY KEY. Table and column names stay: files that are written have them.
-use Rattle.std.specs.Prelude.{ℕ, List, [], ◌∷◌, map, codes}
+use Rattle.std.specs.Prelude.{ℕ, true, List, [], ◌∷◌, map, codes}
 use Rattle.sqlite.specs.Kind.TheVariants.{Integer, Blob}
 use Rattle.sqlite.specs.Schema.{Schema}
 use Rattle.sqlite.specs.Table.{Table}
 use Rattle.sqlite_catalog.specs.Listing.{automatic}
 use Rattle.sqlite_schema.specs.declared.schema.Column.{Column}
+use Rattle.sqlite_schema.specs.declared.schema.Index.{Index}
 use Rattle.sqlite_value.specs.Keys.{plain}
 use Rattle.sql_rows.specs.Tables.{strict_column, plain_table}
 
@@ -58,6 +59,10 @@ abbrev pub mail_table : Table
 mail_table = keyed 16 (codes "mail") (
     bytes (codes "supplier") ∷ number (codes "number") ∷ number (codes "moment") ∷ number (codes "decimal") ∷ number (codes "kind")
     ∷ bytes (codes "document") ∷ bytes (codes "body") ∷ number (codes "taken") ∷ []) (1 ∷ 2 ∷ [])
+
+-- the index of a key
+abbrev pub index_of : List ℕ → ℕ → ℕ → List ℕ → Index
+index_of name tree table key = record { name = name; tree = tree; table = table; columns = key; order = plain; is_unique = true }
 
 abbrev pub no_schema : Schema
 no_schema = record { tables = []; indexes = []; views = [] }

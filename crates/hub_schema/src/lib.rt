@@ -1,2 +1,8 @@
 //! The tables of a hub in SQL: their schema, what their rows say, and their making.
 #![tactic(auto)]
+
+mod compare;
+mod making;
+
+pub use compare::is_hub_schema;
+pub use making::{make_schema, make_tables};

@@ -1,3 +1,4 @@
+pub mod Back
 pub mod KeyOrder
 pub mod KindOrders
 pub mod Lists

@@ -2,7 +2,9 @@ pub mod Answers
 pub mod Cells
 pub mod Creates
 pub mod Inserts
+pub mod Refusals
 pub mod Rowids
 pub mod Sets
 pub mod Transactions
+pub mod Unique
 pub mod Updates

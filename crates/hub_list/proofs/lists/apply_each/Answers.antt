@@ -4,7 +4,7 @@ use Rattle.hub_tables.specs.Change.{apply, apply_all}
 use Rattle.hub_tables.specs.Sets.{Rising}
 use Rattle.hub_tables.specs.declared.change.Change.{Change}
 use Rattle.hub_list.specs.Lists.{tables_in, Room}
-use Rattle.hub_list.proofs.Back.{rising_before}
+use Rattle.hub_tables.proofs.Back.{rising_before}
 use Rattle.hub_list.proofs.lists.apply_each.Goals as goal
 
 pub loop-change-preserved : goal.loop-change-preserved

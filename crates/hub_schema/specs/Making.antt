@@ -1,0 +1,36 @@
+-- Making the tables, one after another, in a transaction.
+use Rattle.std.specs.Prelude.{◌≡◌, ℕ, false, IsTrue, List, [], fold, Ok, OnOk, Result}
+use Rattle.std.specs.List.{AllByRecursion}
+use Rattle.sqlite.specs.Command.TheVariants.{CreateTable}
+use Rattle.sqlite.specs.Compile.{table_defined_by}
+use Rattle.sqlite.specs.Does.{lacks_sequence}
+use Rattle.sqlite.specs.Listing.{understood}
+use Rattle.sqlite.specs.Schema.{Schema}
+use Rattle.sqlite.specs.State.{State}
+use Rattle.sqlite.specs.Table.{Table}
+use Rattle.sqlite.proofs.Callers.{IsPlain, command_of, statement_of}
+use Rattle.sqlite_catalog.specs.Change.{created}
+use Rattle.hub_schema.specs.Schema.{no_schema}
+
+-- the schema of the first tables, made in this order
+abbrev pub schema_with : List Table → Schema
+schema_with = fold (λ schema table. created schema (record table { tree = 0 })) no_schema
+
+-- these tables stand, none has a row, and a transaction is open
+pub record HasMade (made : Schema) (s : State) : Type 0 where
+  pub schema : s.now.schema ≡ made
+  pub empty : AllByRecursion (λ table. s.now.trees table.tree ≡ []) made.tables
+  pub mode : IsTrue s.in_transaction
+
+-- in this schema the text makes the table
+pub record Defines (text : List ℕ) (schema : Schema) (table : Table) : Type 0 where
+  pub command : command_of (understood schema text) ≡ CreateTable
+  pub whole : statement_of text (understood schema text) ≡ text
+  pub plain : IsPlain (understood schema text)
+  pub defined : table_defined_by text ≡ Ok table
+  pub calm : lacks_sequence (created schema table) ≡ false
+
+-- more tables are made, and nothing is committed
+pub record MakesOn (after : Schema) (old new : State) : Type 0 where
+  pub made : HasMade after new
+  pub committed : new.committed ≡ old.committed

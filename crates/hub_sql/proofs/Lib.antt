@@ -1,0 +1,3 @@
+pub mod Committing
+pub mod Looking
+pub mod Moving

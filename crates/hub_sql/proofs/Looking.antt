@@ -1,0 +1,135 @@
+-- A look-up of a store, from what it is on the connection.
+use Rattle.std.proofs.Common.{◌≡◌, ◌≢◌, ◌⊎◌, inl, inr, Bool, false, IsTrue, Option, None, Some, Result, Ok, Err, IfOk, IfErr, OnOk, refl, sym, ap, subst, ◌∙◌}
+use Rattle.std.specs.List.{last_or}
+use Rattle.sqlite.specs.Held.{Held, state}
+use Rattle.sqlite.specs.State.{HasCleanDisk}
+use Rattle.sqlite_trees.specs.Tree.{Trees}
+use Rattle.sqlite_trees.specs.declared.store.Store.{Ghosts}
+use Rattle.sql_rows.proofs.Transactions.{clean_before}
+use Rattle.hub_tables.specs.Tables.{Tables}
+use Rattle.hub_store.specs.Calls.{Looks, Fails, broken_after, broken_by, fault_of}
+use Rattle.hub_store.specs.Clean.{are_clean}
+use Rattle.hub_store.specs.declared.fault.LastingFault.{LastingFault}
+use Rattle.hub_store.specs.declared.fault.LastingFault.TheVariants as lasting
+use Rattle.hub_store.specs.declared.fault.StoreFault.{StoreFault}
+use Rattle.hub_store.specs.declared.fault.StoreFault.TheVariants.{Unclean, Version}
+use Rattle.hub_schema.specs.Rows.{tables_in}
+use Rattle.hub_schema.specs.Schema.{hub_schema}
+use Rattle.hub_schema.specs.State.{Holds, LooksUp}
+use Rattle.hub_sql.specs.Settling.{Settles}
+use Rattle.hub_sql.specs.Stored.{Stored, rows_in, content, left, IsSettled, honest}
+use Rattle.hub_sql.proofs.Moving.{hub_moved}
+
+ok_of : {X E : Type 0} (P : X → Type 0) (found : Result X E) (x : X) → found ≡ Ok x → IfOk found P → P x
+ok_of P (Ok y) x e h = let same : y ≡ x = cc in subst P same h
+ok_of P (Err f) x e h = cc
+
+on_ok_of : {X E P : Type 0} (found : Result X E) (x : X) → found ≡ Ok x → OnOk found P → P
+on_ok_of (Ok y) x e h = h
+on_ok_of (Err f) x e h = cc
+
+-- how a call fails that a store made while it had no fault
+pub failed : {X : Type 0} (before after : Option LastingFault) (result : Result X StoreFault) → before ≡ None → after ≡ broken_after None result
+    → result ≢ Err Version → Fails false before after result
+failed None after result none lasting known = record {
+  again = tt;
+  after = lasting;
+  opened = not_version result known;
+  only_memory = λ plain. cc;
+}
+  where
+    not_version : {X : Type 0} (r : Result X StoreFault) → r ≢ Err Version → IfErr r (λ fault. fault ≢ Version)
+    not_version (Ok x) h = tt
+    not_version (Err f) h = λ e. h (ap Err e)
+failed (Some f) after result none lasting known = cc
+
+module _ {S : Type 0} (g : Ghosts S) (old new : Stored S) (settled : IsSettled g old) (whole : old.fault ≡ None) (past : new.past ≡ old.past) where
+  pub same_content : content g new ≡ content g old
+  same_content = ap (λ p. rows_in g (last_or None p)) past
+
+  holds : honest g old → Holds (state g old.held)
+  holds clean o = settled.hub whole clean o
+
+  -- rows and schema are those that were, where the connection still shows them
+  pub still : new.held.in_transaction ≡ false → (honest g new → new.fault ≡ None → new.held.schema ≡ hub_schema)
+      → (honest g new → honest g old)
+      → (honest g new → IsTrue (state g new.held).is_open → IsTrue (state g old.held).is_open × ((state g new.held).now ≡ (state g old.held).now))
+      → IsSettled g new
+  still idle schema back shows = record {
+    idle = idle;
+    schema = λ none clean. schema clean none;
+    hub = λ none clean o. let was = shows clean o in hub_moved (state g old.held) (state g new.held) was.1 (settled.hub whole (back clean) was.0);
+    rows = λ none clean o. let was = shows clean o in ap (λ d. tables_in d.trees) was.1 ∙ settled.rows whole (back clean) was.0 ∙ sym same_content;
+  }
+
+  module _ {X : Type 0} (answer : Tables → X) (found result : Result X StoreFault) (looks : LooksUp answer (state g old.held) (state g new.held) found)
+      (makes : Settles found new.held.schema result new.fault) where
+    back : honest g new → honest g old
+    back clean = clean_before (state g old.held) (state g new.held) _ looks.crash clean
+
+    pub looked : Looks (content g) (honest g) (left g) (λ s. s.fault) old new (answer (content g old)) result
+    looked = record {
+      answers = λ clean. go result makes.value clean;
+      content_stays = λ clean. same_content;
+      left_stays = λ clean t h. elim h [
+        | inl e ↦ inl (e ∙ same_content)
+        | inr it ↦ elim (looks.crash.crash clean it.0 it.1) [
+          | inl was ↦ inr (it.0, was, it.2)
+          | inr never ↦ absurd (never (settled.schema whole (back clean)))
+        ]
+      ];
+      was_honest = back;
+      unclean = λ clean none is.
+          let it = looks.unclean clean (holds (back clean)) (makes.unclean is) in
+          ap are_clean (sym (settled.rows whole (back clean) it.0)) ∙ it.1;
+    }
+      where
+        go : (r : Result X StoreFault) → IfOk r (λ x. found ≡ Ok x) → honest g new → IfOk r (λ x. x ≡ answer (content g old))
+        go (Ok x) is clean =
+            let shown = on_ok_of found x is (looks.same clean) in
+            ok_of (λ y. y ≡ answer (tables_in (state g old.held).now.trees)) found x is (looks.answers clean (holds (back clean)))
+            ∙ ap answer (settled.rows whole (back clean) shown.0)
+        go (Err f) is clean = tt
+
+    pub look_fails : Fails false old.fault new.fault result
+    look_fails = failed old.fault new.fault result whole makes.lasting makes.version
+
+    pub look_settles : IsSettled g new
+    look_settles =
+        still (looks.mode settled.idle) (λ clean none. schema result makes.value makes.usable clean none) back
+        (λ clean o. looks.stays clean settled.idle (settled.schema whole (back clean)) o)
+      where
+        schema : (r : Result X StoreFault) → IfOk r (λ x. found ≡ Ok x) → IfErr r (λ _. new.fault ≡ None → new.held.schema ≡ hub_schema)
+            → honest g new → new.fault ≡ None → new.held.schema ≡ hub_schema
+        schema (Ok x) is usable clean none =
+            let shown = on_ok_of found x is (looks.same clean) in
+            ap (λ d. d.schema) shown.2 ∙ settled.schema whole (back clean)
+        schema (Err f) is usable clean none = usable none
+
+-- a store with a fault for good answers it, and stays as it is
+module _ {S : Type 0} (g : Ghosts S) (s : Stored S) {X : Type 0} (result : Result X StoreFault) (good : LastingFault) (has : s.fault ≡ Some good)
+    (is : result ≡ Err (fault_of good)) where
+  pub refused : (answer : X) → Looks (content g) (honest g) (left g) (λ s. s.fault) s s answer result
+  refused answer = record {
+    answers = λ clean. rw is tt;
+    content_stays = λ clean. refl;
+    left_stays = λ clean t h. h;
+    was_honest = λ clean. clean;
+    unclean = λ clean none same. absurd (let both = sym has ∙ none in cc);
+  }
+
+  pub refused_fails : Fails false s.fault s.fault result
+  refused_fails = record {
+    again = rw has is;
+    after = rw (has, is) (after good);
+    opened = rw is (opened good);
+    only_memory = λ plain. cc;
+  }
+    where
+      after : (f : LastingFault) → Some f ≡ broken_by (Some f) (fault_of f)
+      after lasting.Disk = refl
+      after lasting.Unclean = refl
+
+      opened : (f : LastingFault) → fault_of f ≢ Version
+      opened lasting.Disk = λ e. cc
+      opened lasting.Unclean = λ e. cc

@@ -1,0 +1,53 @@
+-- A store over a connection, as its clauses see it.
+use Rattle.std.specs.Prelude.{◌≡◌, ◌⊎◌, Bool, false, IsTrue, List, Option, None, Some, refl}
+use Rattle.std.specs.Coded.{Coded, code_by, coded×, coded_list, coded_option, coded_bool}
+use Rattle.std.specs.List.{last_or}
+use Rattle.sqlite.specs.Held.{Held, held_code, state}
+use Rattle.sqlite.specs.State.{HasCleanDisk}
+use Rattle.sqlite_trees.specs.Tree.{Trees}
+use Rattle.sqlite_trees.specs.declared.store.Store.{Ghosts}
+use Rattle.hub_tables.specs.Tables.{Tables, empty}
+use Rattle.hub_store.specs.declared.fault.LastingFault.{LastingFault}
+use Rattle.hub_store.specs.contracts.fault.LastingFault as lasting
+use Rattle.hub_schema.specs.Rows.{tables_in}
+use Rattle.hub_schema.specs.Schema.{hub_schema}
+use Rattle.hub_schema.specs.State.{IsHub}
+
+pub record Stored (S : Type 0) : Type 0 where
+  pub held : Held S
+  -- the fault that each call answers from now on
+  pub fault : Option LastingFault
+  -- the connection as opening left it, and then as each commit did
+  pub past : List (Held S × Bool)
+
+abbrev pub stored_code : {S : Type 0} → Coded S → Coded (Stored S)
+stored_code {S} code =
+    code_by (Held S × (Option LastingFault × List (Held S × Bool)))
+    (coded× (held_code code) (coded× (coded_option lasting.the_row.coded) (coded_list (coded× (held_code code) coded_bool))))
+    (λ s. (s.held, (s.fault, s.past))) (λ p. record { held = p.0; fault = p.1.0; past = p.1.1 }) (λ _. refl)
+
+module _ {S : Type 0} (g : Ghosts S) where
+  abbrev pub rows_in : Option (Held S × Bool) → Tables
+  rows_in None = empty
+  rows_in (Some it) = tables_in (state g it.0).now.trees
+
+  -- the rows as the last commit left them, also where the connection is shut since
+  abbrev pub content : Stored S → Tables
+  content s = rows_in (last_or None s.past)
+
+  -- the disk has returned what was written, so far
+  abbrev pub honest : Stored S → Type 0
+  honest s = HasCleanDisk (state g s.held)
+
+  -- what a crash now may leave
+  abbrev pub left : Stored S → Tables → Type 0
+  left s t = (t ≡ content s) ⊎ ((trees : Trees) × (state g s.held).may_leave trees × (t ≡ tables_in trees))
+
+  -- what is true of each store: while no fault is for good, its schema is the hub's, and where it is open, its rows are the content
+  pub record IsSettled (s : Stored S) : Type 0 where
+    pub idle : s.held.in_transaction ≡ false
+    pub schema : s.fault ≡ None → HasCleanDisk (state g s.held) → s.held.schema ≡ hub_schema
+    pub hub : s.fault ≡ None → HasCleanDisk (state g s.held) → IsTrue (state g s.held).is_open → IsHub (state g s.held)
+    pub rows :
+        s.fault ≡ None → HasCleanDisk (state g s.held) → IsTrue (state g s.held).is_open →
+        tables_in (state g s.held).now.trees ≡ content s

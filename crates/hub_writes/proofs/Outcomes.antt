@@ -1,0 +1,200 @@
+-- What a statement comes to.
+use Rattle.std.proofs.Common.{Bool, ◌==◌, if◌then◌else◌, ◌≡◌, inl, inr, false, true, ℕ, List, Result, Ok, Err, OnOk, IsTrue, refl, sym, subst, ap, ◌∙◌}
+use Rattle.std.proofs.lemmas.Bool.{cases_Bool}
+use Rattle.sqlite_schema.specs.declared.schema.Constraint.TheVariants as rule
+use Rattle.sqlite_trees.specs.declared.store.Store.{Ghosts}
+use Rattle.sqlite_value.specs.Order.{Row}
+use Rattle.sqlite.specs.declared.error.Error.{Error}
+use Rattle.sqlite.specs.declared.error.Error.TheVariants.{SqliteFailure}
+use Rattle.sqlite.specs.declared.error.Error.TheVariants as error
+use Rattle.sqlite.specs.declared.error.ErrorCode.TheVariants as code
+use Rattle.sqlite.specs.Held.{Held, state}
+use Rattle.sqlite.specs.State.{HasCleanDisk, KeepsCommit, Survives, ExecutesInside}
+use Rattle.sql_rows.proofs.Refusals.{not_unique}
+use Rattle.sql_rows.proofs.Transactions.{kept_ran, kept_still}
+use Rattle.hub_tables.specs.Change.{apply_all}
+use Rattle.hub_tables.specs.Sets.{Rising}
+use Rattle.hub_tables.specs.declared.change.Change.{Change}
+use Rattle.hub_store.specs.declared.fault.StoreFault.{StoreFault}
+use Rattle.hub_store.specs.declared.fault.StoreFault.TheVariants.{Unclean}
+use Rattle.hub_schema.specs.Rows.{tables_in}
+use Rattle.hub_schema.specs.State.{IsHub, Makes}
+use Rattle.hub_writes.specs.Faults.{spared, inserted, ended, refusal_of, fault_of}
+use Rattle.hub_writes.specs.Acts.{has_great, Acts}
+
+pub on_inserted : (A : Type 0) (r : Result ℕ Error) → OnOk r A → OnOk (inserted r) A
+on_inserted A (Ok count) h = h
+on_inserted A (Err e) h = tt
+
+pub on_ended : {X : Type 0} (A : Type 0) (r : Result X Error) → OnOk r A → OnOk (ended r) A
+on_ended A (Ok x) h = h
+on_ended A (Err e) h = tt
+
+-- only a key that is there is `Unclean`
+refused_so : (e : Error) → refusal_of e ≡ Unclean → e ≡ not_unique
+refused_so (SqliteFailure (code.ConstraintViolation rule.Datatype)) h = cc
+refused_so (SqliteFailure (code.ConstraintViolation rule.NotNull)) h = cc
+refused_so (SqliteFailure (code.ConstraintViolation rule.Check)) h = cc
+refused_so (SqliteFailure (code.ConstraintViolation rule.PrimaryKey)) h = cc
+refused_so (SqliteFailure (code.ConstraintViolation rule.Unique)) h = refl
+refused_so (SqliteFailure (code.ConstraintViolation rule.ForeignKey)) h = cc
+refused_so (SqliteFailure code.TypeMismatch) h = cc
+refused_so (SqliteFailure code.IntegerOverflow) h = cc
+refused_so (SqliteFailure code.NoRowid) h = cc
+refused_so (SqliteFailure code.ForeignKeyMismatch) h = cc
+refused_so (SqliteFailure code.TooDeep) h = cc
+refused_so (SqliteFailure code.NoClock) h = cc
+refused_so (SqliteFailure code.NameTaken) h = cc
+refused_so (SqliteFailure code.BadName) h = cc
+refused_so (SqliteFailure code.BadKey) h = cc
+refused_so (SqliteFailure code.BadText) h = cc
+refused_so (SqliteFailure code.SchemaTooBig) h = cc
+refused_so (SqliteFailure code.TransactionState) h = cc
+refused_so (SqliteFailure code.NoSuchSavepoint) h = cc
+refused_so (SqliteFailure code.OperationInterrupted) h = cc
+refused_so (SqliteFailure code.NotADatabase) h = cc
+refused_so (SqliteFailure code.DatabaseCorrupt) h = cc
+refused_so (SqliteFailure code.CannotOpen) h = cc
+refused_so (SqliteFailure code.DatabaseBusy) h = cc
+refused_so (SqliteFailure code.TooBig) h = cc
+refused_so (SqliteFailure code.OutOfMemory) h = cc
+refused_so (SqliteFailure code.SystemIoFailure) h = cc
+refused_so (SqliteFailure code.DiskFull) h = cc
+refused_so (SqliteFailure code.Closed) h = cc
+refused_so (error.SqlInputError x) h = cc
+refused_so (error.InvalidParameterCount x y) h = cc
+refused_so error.ExecuteReturnedResults h = cc
+refused_so error.InvalidQuery h = cc
+refused_so error.MultipleStatement h = cc
+refused_so error.QueryReturnedNoRows h = cc
+refused_so (error.InvalidColumnIndex x) h = cc
+refused_so (error.InvalidColumnType x y) h = cc
+refused_so (error.IntegralValueOutOfRange x) h = cc
+refused_so (error.Utf8Error x) h = cc
+
+never_unclean : (e : Error) → fault_of e ≡ Unclean → ⊥
+never_unclean (SqliteFailure (code.ConstraintViolation rule.Datatype)) h = cc
+never_unclean (SqliteFailure (code.ConstraintViolation rule.NotNull)) h = cc
+never_unclean (SqliteFailure (code.ConstraintViolation rule.Check)) h = cc
+never_unclean (SqliteFailure (code.ConstraintViolation rule.PrimaryKey)) h = cc
+never_unclean (SqliteFailure (code.ConstraintViolation rule.Unique)) h = cc
+never_unclean (SqliteFailure (code.ConstraintViolation rule.ForeignKey)) h = cc
+never_unclean (SqliteFailure code.TypeMismatch) h = cc
+never_unclean (SqliteFailure code.IntegerOverflow) h = cc
+never_unclean (SqliteFailure code.NoRowid) h = cc
+never_unclean (SqliteFailure code.ForeignKeyMismatch) h = cc
+never_unclean (SqliteFailure code.TooDeep) h = cc
+never_unclean (SqliteFailure code.NoClock) h = cc
+never_unclean (SqliteFailure code.NameTaken) h = cc
+never_unclean (SqliteFailure code.BadName) h = cc
+never_unclean (SqliteFailure code.BadKey) h = cc
+never_unclean (SqliteFailure code.BadText) h = cc
+never_unclean (SqliteFailure code.SchemaTooBig) h = cc
+never_unclean (SqliteFailure code.TransactionState) h = cc
+never_unclean (SqliteFailure code.NoSuchSavepoint) h = cc
+never_unclean (SqliteFailure code.OperationInterrupted) h = cc
+never_unclean (SqliteFailure code.NotADatabase) h = cc
+never_unclean (SqliteFailure code.DatabaseCorrupt) h = cc
+never_unclean (SqliteFailure code.CannotOpen) h = cc
+never_unclean (SqliteFailure code.DatabaseBusy) h = cc
+never_unclean (SqliteFailure code.TooBig) h = cc
+never_unclean (SqliteFailure code.OutOfMemory) h = cc
+never_unclean (SqliteFailure code.SystemIoFailure) h = cc
+never_unclean (SqliteFailure code.DiskFull) h = cc
+never_unclean (SqliteFailure code.Closed) h = cc
+never_unclean (error.SqlInputError x) h = cc
+never_unclean (error.InvalidParameterCount x y) h = cc
+never_unclean error.ExecuteReturnedResults h = cc
+never_unclean error.InvalidQuery h = cc
+never_unclean error.MultipleStatement h = cc
+never_unclean error.QueryReturnedNoRows h = cc
+never_unclean (error.InvalidColumnIndex x) h = cc
+never_unclean (error.InvalidColumnType x y) h = cc
+never_unclean (error.IntegralValueOutOfRange x) h = cc
+never_unclean (error.Utf8Error x) h = cc
+
+pub no_unclean : {X : Type 0} (r : Result X Error) → ended r ≡ Err Unclean → ⊥
+no_unclean (Ok x) h = cc
+no_unclean (Err e) h = never_unclean e (let same : fault_of e ≡ Unclean = cc in same)
+
+-- what `execute` says of a statement in a transaction
+pub record Executed {S : Type 0} (g : Ghosts S) (sql : List ℕ) (params : Row) (old new : Held S) (r : Result ℕ Error) : Type 0 where
+  pub ended : (state g old).in_transaction ≡ false → (r ≡ Err (SqliteFailure code.TransactionState)) × (new ≡ old)
+  pub runs : HasCleanDisk (state g new) → IsTrue (state g old).in_transaction → ExecutesInside 0 sql params (state g old) (state g new) r
+  pub survives : Survives (state g old) (state g new) (λ _. ⊥)
+
+module _ {S : Type 0} (g : Ghosts S) (sql : List ℕ) (params : Row) (old new : Held S) (r : Result ℕ Error) (did : Executed g sql params old new r) where
+  kept : HasCleanDisk (state g new) → KeepsCommit (state g old) (state g new)
+  kept clean = elim (cases_Bool old.in_transaction) [
+    | inl begun ↦ kept_ran sql params (state g old) (state g new) r (did.runs clean begun)
+    | inr none ↦ subst (λ h. KeepsCommit (state g old) (state g h)) (sym (did.ended none).1) (kept_still (state g old))
+  ]
+
+  error_of : (out : Result ℕ Error) → r ≡ out → inserted out ≡ Err Unclean → r ≡ Err not_unique
+  error_of (Ok count) is h = absurd cc
+  error_of (Err e) is h = let same : refusal_of e ≡ Unclean = cc in is ∙ ap (λ (x : Error). Err x) (refused_so e same)
+
+  -- its key is there
+  abbrev Refused : List Change → Type 0
+  Refused changes = IsTrue (state g old).is_open × (IsHub (state g old) → Rising (apply_all changes (tables_in (state g old).now.trees)) → ⊥)
+
+  -- an INSERT
+  pub insert_acts : (changes : List Change) → (IsHub (state g old) → old.in_transaction ≡ true → ExecutesInside 0 sql params (state g old) (state g new) r → OnOk r (Makes (apply_all changes) (state g old) (state g new)))
+      → (ExecutesInside 0 sql params (state g old) (state g new) (Err not_unique) → Refused changes) → (out : Result (Unit {0}) StoreFault) → out ≡ inserted r → Acts changes (state g old) (state g new) out
+  insert_acts changes makes fits_not out is = subst (Acts changes (state g old) (state g new)) (sym is) (record {
+    makes = λ clean hub begun. on_inserted _ r (makes hub begun (did.runs clean begun));
+    unclean = λ clean h. let e = error_of r refl h in
+        inl (elim (cases_Bool old.in_transaction) [
+          | inl begun ↦
+              let no_fit = fits_not (subst (ExecutesInside 0 sql params (state g old) (state g new)) e (did.runs clean begun)) in
+              (no_fit.0, λ hub rising. absurd (no_fit.1 hub rising))
+          | inr none ↦ absurd (let no = sym e ∙ (did.ended none).0 in cc)
+        ]);
+    kept = kept;
+    survives = did.survives;
+  })
+
+  -- an UPDATE
+  pub update_acts : (changes : List Change) → (IsHub (state g old) → old.in_transaction ≡ true → ExecutesInside 0 sql params (state g old) (state g new) r → OnOk r (Makes (apply_all changes) (state g old) (state g new)))
+      → (out : Result (Unit {0}) StoreFault) → out ≡ ended r → Acts changes (state g old) (state g new) out
+  update_acts changes makes out is = subst (Acts changes (state g old) (state g new)) (sym is) (record {
+    makes = λ clean hub begun. on_ended _ r (makes hub begun (did.runs clean begun));
+    unclean = λ clean h. absurd (no_unclean r h);
+    kept = kept;
+    survives = did.survives;
+  })
+
+  -- an UPDATE that is to meet no row
+  module _ (changes : List Change) (makes : IsHub (state g old) → old.in_transaction ≡ true → (count : ℕ) → (count == 0) ≡ true → ExecutesInside 0 sql params (state g old) (state g new) (Ok count) → Makes (apply_all changes) (state g old) (state g new))
+      (met : IsHub (state g old) → (count : ℕ) → (count == 0) ≡ false → ExecutesInside 0 sql params (state g old) (state g new) (Ok count) → has_great (apply_all changes (tables_in (state g old).now.trees)) ≡ true) where
+    ran : (count : ℕ) → r ≡ Ok count → HasCleanDisk (state g new) → IsTrue old.in_transaction × ExecutesInside 0 sql params (state g old) (state g new) (Ok count)
+    ran count is clean = elim (cases_Bool old.in_transaction) [
+      | inl begun ↦ (begun, subst (ExecutesInside 0 sql params (state g old) (state g new)) is (did.runs clean begun))
+      | inr none ↦ absurd (let bad = sym is ∙ (did.ended none).0 in cc)
+    ]
+
+    counted : (count : ℕ) → r ≡ Ok count → (b : Bool) → (count == 0) ≡ b → Acts changes (state g old) (state g new) (if b then Ok tt else Err Unclean)
+    counted count is true e = record {
+      makes = λ clean hub begun. makes hub begun count e (ran count is clean).1;
+      unclean = λ clean h. absurd (let bad = h in cc);
+      kept = kept;
+      survives = did.survives;
+    }
+    counted count is false e = record {
+      makes = λ clean hub begun. tt;
+      unclean = λ clean h. inl ((ran count is clean).1.1.was_open, λ hub rising. met hub count e (ran count is clean).1);
+      kept = kept;
+      survives = did.survives;
+    }
+
+    spares : (out : Result ℕ Error) → r ≡ out → Acts changes (state g old) (state g new) (spared out)
+    spares (Ok count) is = counted count is (count == 0) refl
+    spares (Err e) is = record {
+      makes = λ clean hub begun. tt;
+      unclean = λ clean h. absurd (never_unclean e (let same : fault_of e ≡ Unclean = cc in same));
+      kept = kept;
+      survives = did.survives;
+    }
+
+    pub spare_acts : (out : Result (Unit {0}) StoreFault) → out ≡ spared r → Acts changes (state g old) (state g new) out
+    spare_acts out is = subst (Acts changes (state g old) (state g new)) (sym is) (spares r refl)

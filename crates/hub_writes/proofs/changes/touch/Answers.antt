@@ -1,0 +1,24 @@
+use Rattle.std.proofs.Common.{[], Result, OnOk, IsTrue, sym, subst}
+use Rattle.sqlite.specs.Held.{state}
+use Rattle.hub_store.specs.declared.fault.StoreFault.{StoreFault}
+use Rattle.hub_writes.proofs.Outcomes.{Executed, update_acts}
+use Rattle.hub_writes.proofs.Steps.{nothing_made, was_open}
+use Rattle.hub_writes.proofs.changes.touch.Goals as goal
+
+pub returns-clause-acts : goal.returns-clause-acts
+returns-clause-acts g c =
+    let did : Executed g.S.Store [] [] c.args.tx.now.conn.now c.execute.new.self.conn.now c.execute.result = record {
+      ended = c.execute.ensures.ended;
+      runs = c.execute.ensures.runs;
+      survives = c.execute.ensures.survives;
+    } in
+    update_acts g.S.Store _ _ _ _ c.execute.result did [] (nothing_made _ _ c.execute.result) c.update_ended.result c.update_ended.ensures
+
+pub returns-clause-was_open : goal.returns-clause-was_open
+returns-clause-was_open g c clean =
+    let did : Executed g.S.Store [] [] c.args.tx.now.conn.now c.execute.new.self.conn.now c.execute.result = record {
+      ended = c.execute.ensures.ended;
+      runs = c.execute.ensures.runs;
+      survives = c.execute.ensures.survives;
+    } in
+    subst (λ (r : Result (Unit {0}) StoreFault). OnOk r (IsTrue (state g.S.Store c.args.tx.now.conn.now).is_open × IsTrue (state g.S.Store c.args.tx.now.conn.now).in_transaction)) (sym c.update_ended.ensures) (was_open g.S.Store _ _ _ _ c.execute.result did clean)

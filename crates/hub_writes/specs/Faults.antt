@@ -1,0 +1,33 @@
+-- What an error of SQL means for the hub.
+use Rattle.std.specs.Prelude.{ℕ, ◌==◌, if◌then◌else◌, Result, Ok, Err}
+use Rattle.sqlite.specs.declared.error.Error.{Error}
+use Rattle.sqlite.specs.declared.error.Error.TheVariants.{SqliteFailure}
+use Rattle.sqlite.specs.declared.error.ErrorCode.TheVariants as code
+use Rattle.sqlite_schema.specs.declared.schema.Constraint.TheVariants.{Unique}
+use Rattle.hub_store.specs.declared.fault.StoreFault.{StoreFault}
+use Rattle.hub_store.specs.declared.fault.StoreFault.TheVariants.{Memory, Disk, Unclean}
+
+-- out of memory, and all else is a fault of the disk
+abbrev pub fault_of : Error → StoreFault
+fault_of (SqliteFailure code.OutOfMemory) = Memory
+fault_of _ = Disk
+
+-- a row whose key is there does not fit
+abbrev pub refusal_of : Error → StoreFault
+refusal_of (SqliteFailure code.OutOfMemory) = Memory
+refusal_of (SqliteFailure (code.ConstraintViolation Unique)) = Unclean
+refusal_of _ = Disk
+
+-- what an INSERT, and what any other statement or a COMMIT comes to
+abbrev pub inserted : Result ℕ Error → Result (Unit {0}) StoreFault
+inserted (Ok count) = Ok tt
+inserted (Err e) = Err (refusal_of e)
+
+abbrev pub ended : {X : Type 0} → Result X Error → Result (Unit {0}) StoreFault
+ended (Ok x) = Ok tt
+ended (Err e) = Err (fault_of e)
+
+-- what an UPDATE comes to that is to meet no row, as each that it meets is none of the kinds
+abbrev pub spared : Result ℕ Error → Result (Unit {0}) StoreFault
+spared (Ok count) = if count == 0 then Ok tt else Err Unclean
+spared (Err e) = Err (fault_of e)

@@ -1,0 +1,70 @@
+//! What errors of SQL mean for the hub.
+ghost use Rattle.std.specs.Prelude.{◌≡◌};
+ghost use Rattle.hub_writes.specs.Faults.{fault_of, refusal_of, inserted, spared, ended};
+
+use hub_store::StoreFault;
+use sqlite::{Error, ErrorCode};
+use sqlite_schema::schema::Constraint;
+
+/// Out of memory, or all else.
+pub fn fault_by(error: &Error) -> StoreFault
+    ensures { result ≡ fault_of error.now }
+{
+    match error {
+        Error::SqliteFailure(ErrorCode::OutOfMemory) => StoreFault::Memory,
+        _ => StoreFault::Disk,
+    }
+}
+
+/// A row whose key is there does not fit.
+fn refusal_by(error: &Error) -> StoreFault
+    ensures { result ≡ refusal_of error.now }
+{
+    match error {
+        Error::SqliteFailure(ErrorCode::ConstraintViolation(Constraint::Unique)) => {
+            StoreFault::Unclean
+        }
+        _ => fault_by(error),
+    }
+}
+
+/// What an INSERT comes to.
+pub fn insert_ended(given: Result<usize, Error>) -> Result<(), StoreFault>
+    ensures { result ≡ inserted given }
+{
+    match given {
+        Ok(_) => Ok(()),
+        Err(error) => Err(refusal_by(&error)),
+    }
+}
+
+/// What an UPDATE comes to.
+pub fn update_ended(given: Result<usize, Error>) -> Result<(), StoreFault>
+    ensures { result ≡ ended given }
+{
+    match given {
+        Ok(_) => Ok(()),
+        Err(error) => Err(fault_by(&error)),
+    }
+}
+
+/// What an UPDATE comes to that is to meet no row, as each that it meets is none of the kinds.
+pub fn spare_ended(given: Result<usize, Error>) -> Result<(), StoreFault>
+    ensures { result ≡ spared given }
+{
+    match given {
+        Ok(count) if count > 0 => Err(StoreFault::Unclean),
+        Ok(_) => Ok(()),
+        Err(error) => Err(fault_by(&error)),
+    }
+}
+
+/// What a COMMIT comes to.
+pub fn commit_ended(given: Result<(), Error>) -> Result<(), StoreFault>
+    ensures { result ≡ ended given }
+{
+    match given {
+        Ok(()) => Ok(()),
+        Err(error) => Err(fault_by(&error)),
+    }
+}

@@ -1,0 +1,26 @@
+//! Changes of the hub's tables as statements of SQL, and all changes of a commit in one transaction.
+#![tactic(auto)]
+
+mod advice;
+mod changes;
+mod content;
+mod faults;
+mod line;
+mod mail;
+mod order;
+mod pallet;
+mod receipt;
+mod remembered;
+mod transaction;
+mod values;
+
+pub use advice::add_advice;
+pub use changes::{apply, apply_all};
+pub use content::add_content;
+pub use line::{add_line, set_line};
+pub use mail::{add_mail, set_mail};
+pub use order::add_order;
+pub use pallet::{add_pallet, set_pallet};
+pub use receipt::add_receipt;
+pub use remembered::remember;
+pub use transaction::commit;

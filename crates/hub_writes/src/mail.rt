@@ -1,0 +1,72 @@
+//! Entries of mailboxes.
+ghost use Rattle.std.specs.Prelude.{◌≡◌, ◌∷◌, [], true, ◌<◌, ◌^◌};
+ghost use Rattle.sqlite.specs.Held.{state};
+ghost use Rattle.hub_tables.specs.declared.change.Change.TheVariants.{AddMail, SetMail};
+ghost use Rattle.hub_tables.specs.declared.rows.MailRow.{MailRow};
+ghost use Rattle.hub_writes.specs.Acts.{Acts, great_entry};
+
+use crate::faults::{insert_ended, spare_ended, update_ended};
+use crate::values::{
+    byte_value, gln_value, is_great, kind_value, moment_value, number_value, text_value,
+    truth_value,
+};
+use hub_store::StoreFault;
+use hub_tables::MailRow;
+use sqlite::{Alter, Transaction};
+
+/// Adds an entry of a mailbox.
+pub fn add_mail<S: Alter>(tx: &mut Transaction<'_, S>, row: &MailRow) -> Result<(), StoreFault>
+    ensures same_reference { tx.new.conn.ghost_name ≡ tx.old.conn.ghost_name }
+    ensures acts { Acts (AddMail row.now ∷ []) (state S.Store tx.old.conn.now) (state S.Store tx.new.conn.now) result }
+{
+    if is_great(row.number) {
+        return Err(StoreFault::Unclean);
+    }
+    let supplier = gln_value(&row.supplier);
+    let number = number_value(row.number);
+    let moment = moment_value(row.moment);
+    let decimal = byte_value(row.decimal);
+    let kind = kind_value(&row.kind);
+    let document = text_value(&row.document);
+    let body = text_value(&row.body);
+    let taken = truth_value(&row.taken);
+    insert_ended(tx.execute(
+        "INSERT INTO mail (supplier, number, moment, decimal, kind, document, body, taken) VALUES (?1, ?2, ?3, ?4, ?5, ?6, ?7, ?8)",
+        &[
+            supplier, number, moment, decimal, kind, document, body, taken,
+        ],
+    ))
+}
+
+/// Sets no entry, as one has a number that SQL has not. A stored entry past those of SQL is none of the kinds.
+fn spare_great<S: Alter>(tx: &mut Transaction<'_, S>) -> Result<(), StoreFault>
+    ensures same_reference { tx.new.conn.ghost_name ≡ tx.old.conn.ghost_name }
+    ensures acts { (row : MailRow) → great_entry row ≡ true → row.number < 2 ^ 64 → Acts (SetMail row ∷ []) (state S.Store tx.old.conn.now) (state S.Store tx.new.conn.now) result }
+{
+    let most = number_value(0x7FFF_FFFF_FFFF_FFFF);
+    spare_ended(tx.execute("UPDATE mail SET taken = taken WHERE number > ?1", &[most]))
+}
+
+/// Sets what stands under the key of an entry.
+pub fn set_mail<S: Alter>(tx: &mut Transaction<'_, S>, row: &MailRow) -> Result<(), StoreFault>
+    ensures same_reference { tx.new.conn.ghost_name ≡ tx.old.conn.ghost_name }
+    ensures acts { Acts (SetMail row.now ∷ []) (state S.Store tx.old.conn.now) (state S.Store tx.new.conn.now) result }
+{
+    if is_great(row.number) {
+        return spare_great(tx);
+    }
+    let supplier = gln_value(&row.supplier);
+    let number = number_value(row.number);
+    let moment = moment_value(row.moment);
+    let decimal = byte_value(row.decimal);
+    let kind = kind_value(&row.kind);
+    let document = text_value(&row.document);
+    let body = text_value(&row.body);
+    let taken = truth_value(&row.taken);
+    update_ended(tx.execute(
+        "UPDATE mail SET moment = ?3, decimal = ?4, kind = ?5, document = ?6, body = ?7, taken = ?8 WHERE supplier = ?1 AND number = ?2",
+        &[
+            supplier, number, moment, decimal, kind, document, body, taken,
+        ],
+    ))
+}

@@ -1,0 +1,41 @@
+//! Pallets.
+ghost use Rattle.std.specs.Prelude.{◌≡◌, ◌∷◌, []};
+ghost use Rattle.sqlite.specs.Held.{state};
+ghost use Rattle.hub_tables.specs.declared.change.Change.TheVariants.{AddPallet, SetPallet};
+ghost use Rattle.hub_writes.specs.Acts.{Acts};
+
+use crate::faults::{insert_ended, update_ended};
+use crate::values::{arrival_value, gln_value, sscc_value, text_value};
+use hub_store::StoreFault;
+use hub_tables::PalletRow;
+use sqlite::{Alter, Transaction};
+
+/// Adds a pallet.
+pub fn add_pallet<S: Alter>(tx: &mut Transaction<'_, S>, row: &PalletRow) -> Result<(), StoreFault>
+    ensures same_reference { tx.new.conn.ghost_name ≡ tx.old.conn.ghost_name }
+    ensures acts { Acts (AddPallet row.now ∷ []) (state S.Store tx.old.conn.now) (state S.Store tx.new.conn.now) result }
+{
+    let sscc = sscc_value(&row.sscc);
+    let supplier = gln_value(&row.supplier);
+    let advice = text_value(&row.advice);
+    let received = arrival_value(&row.received);
+    insert_ended(tx.execute(
+        "INSERT INTO pallet (sscc, supplier, advice, received) VALUES (?1, ?2, ?3, ?4)",
+        &[sscc, supplier, advice, received],
+    ))
+}
+
+/// Sets what stands under the key of a pallet.
+pub fn set_pallet<S: Alter>(tx: &mut Transaction<'_, S>, row: &PalletRow) -> Result<(), StoreFault>
+    ensures same_reference { tx.new.conn.ghost_name ≡ tx.old.conn.ghost_name }
+    ensures acts { Acts (SetPallet row.now ∷ []) (state S.Store tx.old.conn.now) (state S.Store tx.new.conn.now) result }
+{
+    let sscc = sscc_value(&row.sscc);
+    let supplier = gln_value(&row.supplier);
+    let advice = text_value(&row.advice);
+    let received = arrival_value(&row.received);
+    update_ended(tx.execute(
+        "UPDATE pallet SET supplier = ?2, advice = ?3, received = ?4 WHERE sscc = ?1",
+        &[sscc, supplier, advice, received],
+    ))
+}

@@ -1,0 +1,130 @@
+//! Columns of rows as SQL takes them.
+ghost use Rattle.std.specs.Prelude.{nat_le, ◌≡◌, ◌<◌, ◌^◌, pos};
+ghost use Rattle.sqlite_value.specs.declared.value.Value.TheVariants.{Int, Blob};
+ghost use Rattle.sqlite_value.specs.Value.{owned};
+
+use edi_base::Items;
+use edi_envelope::Moment;
+use gs1_ids::{Gln, Gtin, Sscc};
+use hub_tables::{Answered, Arrival, Column, MailKind, Side};
+use sqlite_value::value::ValueRef;
+
+/// The digits of a GLN.
+pub fn gln_value(gln: &Gln) -> ValueRef<'_>
+    ensures { owned result ≡ Blob gln.now }
+{
+    ValueRef::Blob(gln.digits().as_slice())
+}
+
+/// The digits of a GTIN.
+pub fn gtin_value(gtin: &Gtin) -> ValueRef<'_>
+    ensures { owned result ≡ Blob gtin.now }
+{
+    ValueRef::Blob(gtin.digits().as_slice())
+}
+
+/// The digits of an SSCC.
+pub fn sscc_value(sscc: &Sscc) -> ValueRef<'_>
+    ensures { owned result ≡ Blob sscc.now }
+{
+    ValueRef::Blob(sscc.digits().as_slice())
+}
+
+/// A text.
+pub fn text_value(text: &Items<u8>) -> ValueRef<'_>
+    ensures { owned result ≡ Blob text.now }
+{
+    ValueRef::Blob(text.as_slice())
+}
+
+/// Whether SQL has not the number.
+pub fn is_great(number: u64) -> bool
+    ensures { result ≡ nat_le (2 ^ 63) number }
+{
+    number >= 0x8000_0000_0000_0000
+}
+
+/// A number. SQL has none from 2^63 on.
+pub fn number_value<'a>(number: u64) -> ValueRef<'a>
+    requires { number < 2 ^ 63 }
+    ensures { owned result ≡ Int (pos number) }
+{
+    ValueRef::Int(number as i64)
+}
+
+/// A line number or a quantity.
+pub fn count_value<'a>(count: u32) -> ValueRef<'a>
+    ensures { owned result ≡ Int (pos count) }
+{
+    number_value(u64::from(count))
+}
+
+/// A byte, as its number.
+pub fn byte_value<'a>(byte: u8) -> ValueRef<'a>
+    ensures { owned result ≡ Int (pos byte) }
+{
+    number_value(u64::from(byte))
+}
+
+/// The seconds of a moment.
+pub fn moment_value<'a>(moment: Moment) -> ValueRef<'a>
+    ensures value { owned result ≡ Int (pos moment) }
+    ensures low { moment < 2 ^ 63 }
+{
+    number_value(moment.seconds())
+}
+
+/// The letter of an answer.
+pub fn answer_value<'a>(answer: &Column<Answered>) -> ValueRef<'a>
+    ensures value { owned result ≡ Int (pos answer.now) }
+    ensures low { answer.now < 256 }
+{
+    number_value(match answer.case() {
+        Answered::Waiting => 0x57,
+        Answered::Accepted => 0x41,
+        Answered::NotAccepted => 0x4E,
+        Answered::Changed => 0x43,
+    })
+}
+
+/// The letter of a side.
+pub fn side_value<'a>(side: &Column<Side>) -> ValueRef<'a>
+    ensures value { owned result ≡ Int (pos side.now) }
+    ensures low { side.now < 256 }
+{
+    number_value(match side.case() {
+        Side::Retailer => 0x52,
+        Side::Supplier => 0x53,
+        Side::Cancellation => 0x43,
+    })
+}
+
+/// The letter of a mailbox entry's type.
+pub fn kind_value<'a>(kind: &Column<MailKind>) -> ValueRef<'a>
+    ensures value { owned result ≡ Int (pos kind.now) }
+    ensures low { kind.now < 256 }
+{
+    number_value(match kind.case() {
+        MailKind::Orders => 0x4F,
+        MailKind::Receipt => 0x52,
+    })
+}
+
+/// How far a pallet has come.
+pub fn arrival_value<'a>(arrival: &Column<Arrival>) -> ValueRef<'a>
+    ensures value { owned result ≡ Int (pos arrival.now) }
+    ensures low { arrival.now < 256 }
+{
+    number_value(match arrival.case() {
+        Arrival::Announced => 0,
+        Arrival::Received => 1,
+    })
+}
+
+/// Yes or no.
+pub fn truth_value<'a>(truth: &Column<bool>) -> ValueRef<'a>
+    ensures value { owned result ≡ Int (pos truth.now) }
+    ensures low { truth.now < 256 }
+{
+    number_value(if truth.case() { 1 } else { 0 })
+}
