@@ -28,7 +28,7 @@ cell_bytes v bytes it = same_bytes v it.0 bytes it.1 ∙ ap (λ w. same w bytes)
 
 pub same_natural : (m : ℤ) (n : ℕ) → n < 2 ^ 64 → is_eq (int_cmp m (pos n)) ≡ (natural m == n)
 same_natural (pos k) n low = elim (cases_Bool (nat_lt k (2 ^ 64))) [
-  | inl e ↦ ap (λ v. is_eq (int_cmp (pos k) (pos v)) ) refl ∙ both k n ∙ ap (λ b. cond b k (2 * k) == n) (sym e)
+  | inl e ↦ ap (λ v. is_eq (int_cmp (pos k) (pos v))) refl ∙ both k n ∙ ap (λ b. cond b k (2 * k) == n) (sym e)
   | inr e ↦ differs k n low e ∙ ap (λ b. cond b k (2 * k) == n) (sym e)
 ]
   where

@@ -65,9 +65,9 @@ module _ {X : Type 0} {cmp : X → X → Ordering} (total : IsTotalOrder cmp) (f
     sources_moved =
         let found = filter p (map f stored) in
         let shown : IsPermutation found (map f sources) =
-            subst (λ xs. IsPermutation xs (map f sources)) (filter_shown f p (passes tests params) stored passed) (IsPermutation-map f (filter (passes tests params) stored) sources same) in
+        subst (λ xs. IsPermutation xs (map f sources)) (filter_shown f p (passes tests params) stored passed) (IsPermutation-map f (filter (passes tests params) stored) sources same) in
         let moved : IsPermutation found (filter p (in_key_order cmp (map f stored))) =
-            subst (IsPermutation found) (sym (listed_filter total p (map f stored))) (listed_moved cmp found) in
+        subst (IsPermutation found) (sym (listed_filter total p (map f stored))) (listed_moved cmp found) in
         IsPermutation-trans _ found _ (IsPermutation-sym found (filter p (in_key_order cmp (map f stored))) moved) shown
 
     pub sources_are : IsSorted cmp (map f sources) → Rises cmp (in_key_order cmp (map f stored)) → map f sources ≡ filter p (in_key_order cmp (map f stored))
@@ -83,7 +83,7 @@ module _ {X : Type 0} {cmp : X → X → Ordering} (total : IsTotalOrder cmp) (f
   sources_spoil clean spoilt = elim (cases_Bool (list_all clean (in_key_order cmp (map f stored)))) [
     | inl e ↦
         let all = every_shuffled (λ x. clean x ≡ true) (in_key_order cmp (map f stored)) (map f stored)
-            (IsPermutation-sym (map f stored) (in_key_order cmp (map f stored)) (listed_moved cmp (map f stored))) (all_clean clean (in_key_order cmp (map f stored)) e) in
+        (IsPermutation-sym (map f stored) (in_key_order cmp (map f stored)) (listed_moved cmp (map f stored))) (all_clean clean (in_key_order cmp (map f stored)) e) in
         let rows = sources_have (λ row. clean (f row) ≡ true) (all_of_map (λ x. clean x ≡ true) f stored all) in
         absurd (true≢false (sym (clean_all clean (map f sources) (all_to_map (λ x. clean x ≡ true) f sources rows)) ∙ spoilt))
     | inr e ↦ e
@@ -113,9 +113,9 @@ module _ {X : Type 0} {cmp : X → X → Ordering} (total : IsTotalOrder cmp) (f
       → Rises cmp (in_key_order cmp (map f stored)) → AllByRecursion N (map shown rows) → map shown rows ≡ filter p (in_key_order cmp (map f stored))
   rows_are P N ranked all p passed rises numbered =
       let known = all_both P (λ row. N (f row)) found.sources (sources_have total f stored tests params found.sources found.same P all)
-          (all_of_map N f found.sources (subst (AllByRecursion N) told numbered)) in
+      (all_of_map N f found.sources (subst (AllByRecursion N) told numbered)) in
       told ∙ sources_are total f stored tests params found.sources found.same p (all_such P _ passed stored all)
-          (sources_sorted total f stored tests params found.sources found.same order (λ row. P row × N (f row)) ranked known found.sorted) rises
+      (sources_sorted total f stored tests params found.sources found.same order (λ row. P row × N (f row)) ranked known found.sorted) rises
 
   pub rows_spoil : (clean : X → Bool) → list_all clean (map shown rows) ≡ false → list_all clean (in_key_order cmp (map f stored)) ≡ false
   rows_spoil clean spoilt = sources_spoil total f stored tests params found.sources found.same clean (sym (ap (list_all clean) told) ∙ spoilt)

@@ -23,7 +23,6 @@ use Rattle.hub_looks.proofs.Looking.{looks}
 use Rattle.hub_looks.proofs.Ranking.{then_none, rank_bytes, rank_numbers}
 use Rattle.hub_looks.proofs.Texts.{given_at}
 use Rattle.sql_rows.proofs.Answers.{and_true}
-
 use Rattle.std.specs.Bool.{⊤}
 use Rattle.hub_tables.proofs.Lists.{same_is}
 use Rattle.hub_schema.proofs.InKeyOrder.{listed_any}
@@ -54,7 +53,7 @@ held_right s hub supplier sscc rows answer =
     let params = Blob sscc ∷ Blob supplier ∷ [] in
     let test : PalletRow → Bool = λ pallet. same pallet.supplier supplier && same pallet.sscc sscc in
     let passed : (row : Row) → AreOf pallet_kinds 0 row → passes tests params row ≡ test (pallet_in row) =
-        λ row it. ap₂ (λ v w. v && w) (cell_bytes (column row 1) sscc it.0) (and_true _ ∙ cell_bytes (column row 2) supplier it.1.0) ∙ and_turned (same (pallet_in row).sscc sscc) (same (pallet_in row).supplier supplier) in
+    λ row it. ap₂ (λ v w. v && w) (cell_bytes (column row 1) sscc it.0) (and_true _ ∙ cell_bytes (column row 2) supplier it.1.0) ∙ and_turned (same (pallet_in row).sscc sscc) (same (pallet_in row).supplier supplier) in
     some_found (s.now.trees 7) tests (col 1 2 ∷ []) [] params rows (finds s.now.trees 7 tests (col 1 2 ∷ []) [] no_limit params rows refl answer)
     ∙ any_shown pallet_in test (passes tests params) (s.now.trees 7) (all_such _ _ passed (s.now.trees 7) (pallet_cells s.now hub.schema hub.sound hub.ordered))
     ∙ sym (listed_any pallet_cmp test (map pallet_in (s.now.trees 7)))
@@ -80,11 +79,11 @@ contents_look old new sscc =
     let passed : (row : Row) → AreOf content_kinds 0 row → passes tests params row ≡ test (content_in row) = λ row it. and_true _ ∙ cell_bytes (column row 1) sscc it.0 in
     looks contents_select _ _ _ params old new
     (λ hub rows answer items it. it.0 ∙ rows_are content_total content_in shown_content content_columns on_pallet_order (db 10) tests params rows (λ row. refl)
-        (finds db 10 tests content_columns on_pallet_order no_limit params rows refl answer)
-        (AreOf content_kinds 0) (λ content. content.place < 2 ^ 64) (content_ranked params) (content_cells old.now hub.schema hub.sound hub.ordered) test passed (hub_rises old hub).contents
-        (subst (AllByRecursion (λ content. content.place < 2 ^ 64)) it.0 it.1))
+    (finds db 10 tests content_columns on_pallet_order no_limit params rows refl answer)
+    (AreOf content_kinds 0) (λ content. content.place < 2 ^ 64) (content_ranked params) (content_cells old.now hub.schema hub.sound hub.ordered) test passed (hub_rises old hub).contents
+    (subst (AllByRecursion (λ content. content.place < 2 ^ 64)) it.0 it.1))
     (λ hub rows answer spoilt. contents_unclean (tables_in db) (rows_spoil content_total content_in shown_content content_columns on_pallet_order (db 10) tests params rows (λ row. refl)
-        (finds db 10 tests content_columns on_pallet_order no_limit params rows refl answer) clean_content spoilt))
+    (finds db 10 tests content_columns on_pallet_order no_limit params rows refl answer) clean_content spoilt))
 
 receipt_ranked : (params x y : Row) → AreOf receipt_kinds 0 x × ⊤ → AreOf receipt_kinds 0 y × ⊤
     → sort_cmp on_pallet_order (params ∷ x ∷ []) (params ∷ y ∷ []) ≡ receipt_cmp (receipt_in x) (receipt_in y)
@@ -102,11 +101,11 @@ receipts_look old new sscc =
     let passed : (row : Row) → AreOf receipt_kinds 0 row → passes tests params row ≡ test (receipt_in row) = λ row it. and_true _ ∙ cell_bytes (column row 1) sscc it.0 in
     looks receipts_select _ _ _ params old new
     (λ hub rows answer items it. it.0 ∙ rows_are receipt_total receipt_in shown_receipt content_columns on_pallet_order (db 12) tests params rows (λ row. refl)
-        (finds db 12 tests content_columns on_pallet_order no_limit params rows refl answer)
-        (AreOf receipt_kinds 0) (λ receipt. ⊤) (receipt_ranked params) (receipt_cells old.now hub.schema hub.sound hub.ordered) test passed (hub_rises old hub).receipts
-        (subst (AllByRecursion (λ receipt. ⊤)) it.0 it.1))
+    (finds db 12 tests content_columns on_pallet_order no_limit params rows refl answer)
+    (AreOf receipt_kinds 0) (λ receipt. ⊤) (receipt_ranked params) (receipt_cells old.now hub.schema hub.sound hub.ordered) test passed (hub_rises old hub).receipts
+    (subst (AllByRecursion (λ receipt. ⊤)) it.0 it.1))
     (λ hub rows answer spoilt. receipts_unclean (tables_in db) (rows_spoil receipt_total receipt_in shown_receipt content_columns on_pallet_order (db 12) tests params rows (λ row. refl)
-        (finds db 12 tests content_columns on_pallet_order no_limit params rows refl answer) clean_receipt spoilt))
+    (finds db 12 tests content_columns on_pallet_order no_limit params rows refl answer) clean_receipt spoilt))
 
 -- Of a pallet that the supplier has, it sees all; of another, nothing.
 module _ {X : Type 0} (sscc_of : X → List ℕ) (held : List ℕ → Bool) (sscc : List ℕ) where

@@ -36,7 +36,6 @@ use Rattle.hub_looks.proofs.OfMail.{all_not}
 use Rattle.hub_looks.proofs.Ranking.{then_none}
 use Rattle.hub_looks.proofs.Texts.{given_at}
 use Rattle.hub_looks.proofs.Unclean.{mail_unclean}
-
 use Rattle.std.specs.Option.{unwrap_or}
 use Rattle.std.specs.List.{last_or}
 use Rattle.std.specs.List.Sorted.{IsPermutation, IsSorted}
@@ -181,9 +180,9 @@ module _ (s : State) (hub : IsHub s) (supplier : List ℕ) (rows : List Row) (an
   highest_is =
       ap (λ xs. slice_get xs 0) told ∙ first_of_one (map number (map mail_in found.sources)) ∙ shown_first number (map mail_in found.sources)
       ∙ first_is_last supplier (filter test (tables_in s.now.trees).mail) (map mail_in found.sources)
-          (sources_moved mail_total mail_in (s.now.trees 16) tests params found.sources found.same test (all_such _ _ passed (s.now.trees 16) cells))
-          (rises_filter mail_cmp test (tables_in s.now.trees).mail (hub_rises s hub).mail) own_all
-          (λ y ys is. subst (AllByRecursion (λ e. e.number ≤ y.number)) (sym is) (falls_below y ys (subst (IsSorted (λ a b. nat_cmp b.number a.number)) is sorted)))
+      (sources_moved mail_total mail_in (s.now.trees 16) tests params found.sources found.same test (all_such _ _ passed (s.now.trees 16) cells))
+      (rises_filter mail_cmp test (tables_in s.now.trees).mail (hub_rises s hub).mail) own_all
+      (λ y ys is. subst (AllByRecursion (λ e. e.number ≤ y.number)) (sym is) (falls_below y ys (subst (IsSorted (λ a b. nat_cmp b.number a.number)) is sorted)))
 
   pub highest_spoil : list_all (is_within 1 last_number) (map shown_number rows) ≡ false → are_clean (tables_in s.now.trees) ≡ false
   highest_spoil spoilt =
@@ -199,7 +198,7 @@ pub highest_look : (old new : State) (supplier : List ℕ) (result : Result (Opt
 highest_look old new supplier =
     looks last_selects _ _ _ _ old new
     (λ hub rows answer first is. is ∙ highest_is old hub supplier rows answer
-        ∙ ap (λ xs. option_map (λ (entry : MailRow). entry.number) (last_or None xs)) (sym (filter_both (λ entry. same entry.supplier supplier) (λ entry. is_above 0 entry.number) (tables_in old.now.trees).mail)))
+    ∙ ap (λ xs. option_map (λ (entry : MailRow). entry.number) (last_or None xs)) (sym (filter_both (λ entry. same entry.supplier supplier) (λ entry. is_above 0 entry.number) (tables_in old.now.trees).mail)))
     (λ hub rows answer spoilt. highest_spoil old hub supplier rows answer spoilt)
 
 -- where no number is zero or less, each is above zero
@@ -208,7 +207,7 @@ all_above : (supplier : List ℕ) (mail : List MailRow) → list_any (low_of sup
 all_above supplier mail none =
     filter_both (λ entry. same entry.supplier supplier) (λ entry. is_above 0 entry.number) mail
     ∙ filter_alike (λ entry. same entry.supplier supplier && is_above 0 entry.number) (λ entry. same entry.supplier supplier) mail
-        (all_such (λ entry. low_of supplier entry ≡ false) (λ entry. (same entry.supplier supplier && is_above 0 entry.number) ≡ same entry.supplier supplier) each mail (all_not (low_of supplier) mail none))
+    (all_such (λ entry. low_of supplier entry ≡ false) (λ entry. (same entry.supplier supplier && is_above 0 entry.number) ≡ same entry.supplier supplier) each mail (all_not (low_of supplier) mail none))
   where
     above_zero : (n : ℕ) → is_low n ≡ false → is_above 0 n ≡ true
     above_zero n h = and_from (nat_lt 0 n) (not (is_low n)) (some n (or_parts (n == 0) (nat_lt (2 ^ 65) n && (n % 2 == 1)) h).0) (ap not h)

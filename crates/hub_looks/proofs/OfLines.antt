@@ -54,11 +54,11 @@ module _ (s : State) (hub : IsHub s) (tests : List Term) (params : Row) (rows : 
       → AllByRecursion (λ line. line.line < 2 ^ 64) (map shown_line rows) → map shown_line rows ≡ filter p (tables_in s.now.trees).lines
   lines_are p passed numbered =
       let known = all_both (AreOf line_kinds 0) (λ row. (line_in row).line < 2 ^ 64) found.sources
-          (sources_have line_total line_in (s.now.trees 3) tests params found.sources found.same (AreOf line_kinds 0) cells)
-          (all_of_map (λ line. line.line < 2 ^ 64) line_in found.sources (subst (AllByRecursion (λ line. line.line < 2 ^ 64)) told numbered)) in
+      (sources_have line_total line_in (s.now.trees 3) tests params found.sources found.same (AreOf line_kinds 0) cells)
+      (all_of_map (λ line. line.line < 2 ^ 64) line_in found.sources (subst (AllByRecursion (λ line. line.line < 2 ^ 64)) told numbered)) in
       told ∙ sources_are line_total line_in (s.now.trees 3) tests params found.sources found.same p (all_such _ _ passed (s.now.trees 3) cells)
-          (sources_sorted line_total line_in (s.now.trees 3) tests params found.sources found.same line_order Numbered (ranked params) known found.sorted)
-          (hub_rises s hub).lines
+      (sources_sorted line_total line_in (s.now.trees 3) tests params found.sources found.same line_order Numbered (ranked params) known found.sorted)
+      (hub_rises s hub).lines
 
   pub lines_spoil : list_all clean_line (map shown_line rows) ≡ false → are_clean (tables_in s.now.trees) ≡ false
   lines_spoil spoilt =
@@ -76,10 +76,10 @@ pub lines_look : (old new : State) (supplier number : List ℕ) (result : Result
 lines_look old new supplier number =
     let params = Blob supplier ∷ Blob number ∷ [] in
     let passed : (row : Row) → AreOf line_kinds 0 row → passes (given_at 1 0 ∷ given_at 2 1 ∷ []) params row ≡ (same (line_in row).supplier supplier && same (line_in row).number number) =
-        λ row it. ap₂ (λ v w. v && w) (cell_bytes (column row 1) supplier it.0) (and_true _ ∙ cell_bytes (column row 2) number it.1.0) in
+    λ row it. ap₂ (λ v w. v && w) (cell_bytes (column row 1) supplier it.0) (and_true _ ∙ cell_bytes (column row 2) number it.1.0) in
     looks lines_select _ _ _ params old new
     (λ hub rows answer items it. it.0 ∙ lines_are old hub _ params rows answer _ passed (subst (AllByRecursion (λ line. line.line < 2 ^ 64)) it.0 it.1)
-        ∙ sym (filter_both (λ line. same line.supplier supplier) (λ line. same line.number number) (tables_in old.now.trees).lines))
+    ∙ sym (filter_both (λ line. same line.supplier supplier) (λ line. same line.number number) (tables_in old.now.trees).lines))
     (λ hub rows answer spoilt. lines_spoil old hub _ params rows answer spoilt)
 
 pub all_lines_look : (old new : State) (supplier : List ℕ) (result : Result (List LineRow) StoreFault)
@@ -87,7 +87,7 @@ pub all_lines_look : (old new : State) (supplier : List ℕ) (result : Result (L
 all_lines_look old new supplier =
     let params = Blob supplier ∷ [] in
     let passed : (row : Row) → AreOf line_kinds 0 row → passes (given_at 1 0 ∷ []) params row ≡ same (line_in row).supplier supplier =
-        λ row it. and_true _ ∙ cell_bytes (column row 1) supplier it.0 in
+    λ row it. and_true _ ∙ cell_bytes (column row 1) supplier it.0 in
     looks all_lines_select _ _ _ params old new
     (λ hub rows answer items it. it.0 ∙ lines_are old hub _ params rows answer (λ line. same line.supplier supplier) passed (subst (AllByRecursion (λ line. line.line < 2 ^ 64)) it.0 it.1))
     (λ hub rows answer spoilt. lines_spoil old hub _ params rows answer spoilt)

@@ -56,7 +56,7 @@ pub low_look : (old new : State) (supplier : List ℕ) (result : Result Bool Sto
 low_look old new supplier =
     looks low_selects _ _ _ _ old new
     (λ hub rows answer x is. is ∙ some_entry old hub low_tests (Blob supplier ∷ []) (low_of supplier)
-        (λ row it. ap₂ (λ v w. v && w) (cell_bytes (column row 1) supplier it.0) (and_true _ ∙ cell_low (column row 2) it.1.0)) rows answer)
+    (λ row it. ap₂ (λ v w. v && w) (cell_bytes (column row 1) supplier it.0) (and_true _ ∙ cell_low (column row 2) it.1.0)) rows answer)
     (λ hub rows answer no. absurd no)
 
 pub above_look : (old new : State) (supplier : List ℕ) (bound : ℕ) → bound < 2 ^ 63 → (result : Result Bool StoreFault)
@@ -64,7 +64,7 @@ pub above_look : (old new : State) (supplier : List ℕ) (bound : ℕ) → bound
 above_look old new supplier bound low =
     looks above_selects _ _ _ _ old new
     (λ hub rows answer x is. is ∙ some_entry old hub (given_at 1 0 ∷ above_test ∷ []) (Blob supplier ∷ Int (pos bound) ∷ []) (above_of supplier bound)
-        (λ row it. ap₂ (λ v w. v && w) (cell_bytes (column row 1) supplier it.0) (and_true _ ∙ cell_above (column row 2) bound low it.1.0)) rows answer)
+    (λ row it. ap₂ (λ v w. v && w) (cell_bytes (column row 1) supplier it.0) (and_true _ ∙ cell_above (column row 2) bound low it.1.0)) rows answer)
     (λ hub rows answer no. absurd no)
 
 alike : (supplier : List ℕ) (number : ℕ) (x y : MailRow) → (same x.supplier supplier && (x.number == number)) ≡ true → (same y.supplier supplier && (y.number == number)) ≡ true → is_eq (mail_cmp x y) ≡ true
@@ -83,16 +83,16 @@ entry_look old new supplier number low =
     let whose : MailRow → Bool = λ entry. same entry.supplier supplier in
     let at : MailRow → Bool = λ entry. entry.number == number in
     let passed : (row : Row) → AreOf mail_kinds 0 row → passes tests params row ≡ (whose (mail_in row) && at (mail_in row)) =
-        λ row it. ap₂ (λ v w. v && w) (cell_bytes (column row 1) supplier it.0) (and_true _ ∙ cell_number (column row 2) number (omega (arith, low)) it.1.0) in
+    λ row it. ap₂ (λ v w. v && w) (cell_bytes (column row 1) supplier it.0) (and_true _ ∙ cell_number (column row 2) number (omega (arith, low)) it.1.0) in
     let found : (rows : List Row) → IsAnswer (all_of 16 tests mail_columns []) (overlay db []) params rows → Finds (db 16) tests mail_columns [] no_limit params rows =
-        λ rows answer. finds db 16 tests mail_columns [] no_limit params rows refl answer in
+    λ rows answer. finds db 16 tests mail_columns [] no_limit params rows refl answer in
     looks entry_selects _ _ _ params old new
     (λ hub rows answer first is.
-        let all = (tables_in db).mail in
-        is ∙ found_first mail_cmp whose at all (map shown_mail rows) (hub_rises old hub).mail (alike supplier number)
-            (subst (λ xs. IsPermutation xs (map shown_mail rows)) (sym (filter_both whose at all))
-            (rows_moved mail_total mail_in shown_mail mail_columns [] (db 16) tests params rows (λ row. refl) (found rows answer) (λ entry. whose entry && at entry)
-            (all_such _ _ passed (db 16) (mail_cells old.now hub.schema hub.sound hub.ordered)))))
+    let all = (tables_in db).mail in
+    is ∙ found_first mail_cmp whose at all (map shown_mail rows) (hub_rises old hub).mail (alike supplier number)
+    (subst (λ xs. IsPermutation xs (map shown_mail rows)) (sym (filter_both whose at all))
+    (rows_moved mail_total mail_in shown_mail mail_columns [] (db 16) tests params rows (λ row. refl) (found rows answer) (λ entry. whose entry && at entry)
+    (all_such _ _ passed (db 16) (mail_cells old.now hub.schema hub.sound hub.ordered)))))
     (λ hub rows answer spoilt. mail_unclean (tables_in db) (rows_spoil mail_total mail_in shown_mail mail_columns [] (db 16) tests params rows (λ row. refl) (found rows answer) clean_mail spoilt))
 
 -- Entries with numbers that none has.

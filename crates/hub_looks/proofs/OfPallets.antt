@@ -29,7 +29,6 @@ use Rattle.hub_looks.proofs.Ranking.{then_none, rank_bytes}
 use Rattle.hub_looks.proofs.Texts.{given_at, rising, pallet_columns, used_text, used_selects, pallet_text, pallet_selects, all_pallets_text, all_pallets_select}
 use Rattle.hub_looks.proofs.Unclean.{pallets_unclean}
 use Rattle.sql_rows.proofs.Answers.{and_true}
-
 use Rattle.std.proofs.lemmas.Bool.{and_parts}
 use Rattle.std.specs.Ordering.{is_eq}
 use Rattle.std.specs.Bool.{⊤}
@@ -78,8 +77,8 @@ module _ (s : State) (hub : IsHub s) where
         let known = sources_have pallet_total pallet_in (s.now.trees 7) tests params it.sources it.same (AreOf pallet_kinds 0) cells in
         told tests (rising 1 ∷ []) params rows answer
         ∙ sources_are pallet_total pallet_in (s.now.trees 7) tests params it.sources it.same p (all_such _ _ passed (s.now.trees 7) cells)
-            (sources_sorted pallet_total pallet_in (s.now.trees 7) tests params it.sources it.same (rising 1 ∷ []) (AreOf pallet_kinds 0) (ranked params) known it.sorted)
-            (hub_rises s hub).pallets
+        (sources_sorted pallet_total pallet_in (s.now.trees 7) tests params it.sources it.same (rising 1 ∷ []) (AreOf pallet_kinds 0) (ranked params) known it.sorted)
+        (hub_rises s hub).pallets
 
   used_right : (sscc : List ℕ) (rows : List Row) → IsAnswer (all_of 7 (given_at 1 0 ∷ []) (col 1 2 ∷ []) []) (overlay s.now.trees []) (Blob sscc ∷ []) rows
       → not (length rows == 0) ≡ has_pallet (tables_in s.now.trees) sscc
@@ -103,12 +102,12 @@ pallet_look old new supplier sscc =
     let whose : PalletRow → Bool = λ pallet. same pallet.supplier supplier in
     let at : PalletRow → Bool = λ pallet. same pallet.sscc sscc in
     let passed : (row : Row) → AreOf pallet_kinds 0 row → passes (given_at 1 0 ∷ given_at 2 1 ∷ []) params row ≡ (at (pallet_in row) && whose (pallet_in row)) =
-        λ row it. ap₂ (λ v w. v && w) (cell_bytes (column row 1) sscc it.0) (and_true _ ∙ cell_bytes (column row 2) supplier it.1.0) in
+    λ row it. ap₂ (λ v w. v && w) (cell_bytes (column row 1) sscc it.0) (and_true _ ∙ cell_bytes (column row 2) supplier it.1.0) in
     looks pallet_selects _ _ _ params old new
     (λ hub rows answer first is.
-        let all = (tables_in old.now.trees).pallets in
-        is ∙ found_first pallet_cmp whose at all (map shown_pallet rows) (hub_rises old hub).pallets (λ x y a b. alike sscc x y (and_parts (whose x) (at x) a).1 (and_parts (whose y) (at y) b).1)
-            (subst (λ ps. IsPermutation ps (map shown_pallet rows)) (filter_turned at whose all) (pallets_moved old hub _ [] params rows answer (λ pallet. at pallet && whose pallet) passed)))
+    let all = (tables_in old.now.trees).pallets in
+    is ∙ found_first pallet_cmp whose at all (map shown_pallet rows) (hub_rises old hub).pallets (λ x y a b. alike sscc x y (and_parts (whose x) (at x) a).1 (and_parts (whose y) (at y) b).1)
+    (subst (λ ps. IsPermutation ps (map shown_pallet rows)) (filter_turned at whose all) (pallets_moved old hub _ [] params rows answer (λ pallet. at pallet && whose pallet) passed)))
     (λ hub rows answer spoilt. pallets_spoil old hub _ [] params rows answer spoilt)
 
 pub all_pallets_look : (old new : State) (supplier : List ℕ) (result : Result (List PalletRow) StoreFault)
@@ -117,7 +116,7 @@ pub all_pallets_look : (old new : State) (supplier : List ℕ) (result : Result 
 all_pallets_look old new supplier =
     let params = Blob supplier ∷ [] in
     let passed : (row : Row) → AreOf pallet_kinds 0 row → passes (given_at 2 0 ∷ []) params row ≡ same (pallet_in row).supplier supplier =
-        λ row it. and_true _ ∙ cell_bytes (column row 2) supplier it.1.0 in
+    λ row it. and_true _ ∙ cell_bytes (column row 2) supplier it.1.0 in
     looks all_pallets_select _ _ _ params old new
     (λ hub rows answer items it. it.0 ∙ pallets_are old hub _ params rows answer (λ pallet. same pallet.supplier supplier) passed)
     (λ hub rows answer spoilt. pallets_spoil old hub _ (rising 1 ∷ []) params rows answer spoilt)

@@ -76,7 +76,7 @@ content_clean x h =
 
 pub remembered_look : (old new : State) (supplier : List ℕ) (side : Side) (control message : List ℕ) (result : Result (Option (List ℕ)) StoreFault)
     → Asks (λ rows first. first ≡ slice_get (map shown_bytes rows) 0) (λ rows. list_all are_bytes (map shown_bytes rows) ≡ false) remembered_text
-        (Blob supplier ∷ Int (pos (side_letter side)) ∷ Blob control ∷ Blob message ∷ []) old new result
+    (Blob supplier ∷ Int (pos (side_letter side)) ∷ Blob control ∷ Blob message ∷ []) old new result
     → LooksUp (λ t. remembered_content (view supplier t) side control message) old new result
 remembered_look old new supplier side control message =
     let n = side_letter side in
@@ -84,21 +84,21 @@ remembered_look old new supplier side control message =
     let db = old.now.trees in
     let content : RememberedRow → List ℕ = λ row. row.content in
     let found : (rows : List Row) → IsAnswer (all_of 14 remembered_tests (col 1 5 ∷ []) []) (overlay db []) params rows → Finds (db 14) remembered_tests (col 1 5 ∷ []) [] no_limit params rows =
-        λ rows answer. finds db 14 remembered_tests (col 1 5 ∷ []) [] no_limit params rows refl answer in
+    λ rows answer. finds db 14 remembered_tests (col 1 5 ∷ []) [] no_limit params rows refl answer in
     let told : (rows : List Row) (it : Finds (db 14) remembered_tests (col 1 5 ∷ []) [] no_limit params rows) → map shown_bytes rows ≡ map content (map remembered_in it.sources) =
-        λ rows it. ap (map shown_bytes) it.is ∙ shown_say (λ row. (remembered_in row).content) shown_bytes (col 1 5 ∷ []) params it.sources (λ row. refl) ∙ sym (map_twice content remembered_in it.sources) in
+    λ rows it. ap (map shown_bytes) it.is ∙ shown_say (λ row. (remembered_in row).content) shown_bytes (col 1 5 ∷ []) params it.sources (λ row. refl) ∙ sym (map_twice content remembered_in it.sources) in
     looks remembered_selects _ _ _ params old new
     (λ hub rows answer first is.
-        let it = found rows answer in
-        let all = (tables_in db).remembered in
-        let cells = remembered_cells old.now hub.schema hub.sound hub.ordered in
-        let moved = sources_moved remembered_total remembered_in (db 14) remembered_tests params it.sources it.same (λ x. whose supplier n control message x && at supplier n control message x)
-            (all_such _ _ (passed supplier n control message (letter_low side)) (db 14) cells) in
-        is ∙ ap (λ xs. slice_get xs 0) (told rows it) ∙ shown_first content (map remembered_in it.sources)
-        ∙ ap (option_map content) (found_first remembered_cmp (whose supplier n control message) (at supplier n control message) all (map remembered_in it.sources) (hub_rises old hub).remembered (alike supplier n control message)
-            (subst (λ xs. IsPermutation xs (map remembered_in it.sources)) (sym (filter_both (whose supplier n control message) (at supplier n control message) all)) moved)))
+    let it = found rows answer in
+    let all = (tables_in db).remembered in
+    let cells = remembered_cells old.now hub.schema hub.sound hub.ordered in
+    let moved = sources_moved remembered_total remembered_in (db 14) remembered_tests params it.sources it.same (λ x. whose supplier n control message x && at supplier n control message x)
+    (all_such _ _ (passed supplier n control message (letter_low side)) (db 14) cells) in
+    is ∙ ap (λ xs. slice_get xs 0) (told rows it) ∙ shown_first content (map remembered_in it.sources)
+    ∙ ap (option_map content) (found_first remembered_cmp (whose supplier n control message) (at supplier n control message) all (map remembered_in it.sources) (hub_rises old hub).remembered (alike supplier n control message)
+    (subst (λ xs. IsPermutation xs (map remembered_in it.sources)) (sym (filter_both (whose supplier n control message) (at supplier n control message) all)) moved)))
     (λ hub rows answer spoilt.
-        let it = found rows answer in
-        let some = sym (all_through are_bytes content (map remembered_in it.sources)) ∙ sym (ap (list_all are_bytes) (told rows it)) ∙ spoilt in
-        remembered_unclean (tables_in db) (spoils_more (λ x. are_bytes x.content) clean_remembered content_clean (tables_in db).remembered
-            (sources_spoil remembered_total remembered_in (db 14) remembered_tests params it.sources it.same (λ x. are_bytes x.content) some)))
+    let it = found rows answer in
+    let some = sym (all_through are_bytes content (map remembered_in it.sources)) ∙ sym (ap (list_all are_bytes) (told rows it)) ∙ spoilt in
+    remembered_unclean (tables_in db) (spoils_more (λ x. are_bytes x.content) clean_remembered content_clean (tables_in db).remembered
+    (sources_spoil remembered_total remembered_in (db 14) remembered_tests params it.sources it.same (λ x. are_bytes x.content) some)))

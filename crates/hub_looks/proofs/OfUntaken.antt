@@ -150,7 +150,7 @@ pub untaken_look : (old new : State) (supplier : List ℕ) (bound : ℕ) → bou
 untaken_look old new supplier bound low most =
     looks after_selects _ _ _ _ old new
     (λ hub rows answer items it. it.0 ∙ untaken_are old hub supplier bound low most rows answer
-        ∙ ap (limited (as_count most)) (sym (filter_both (λ entry. same entry.supplier supplier) (wanted bound) (tables_in old.now.trees).mail)))
+    ∙ ap (limited (as_count most)) (sym (filter_both (λ entry. same entry.supplier supplier) (wanted bound) (tables_in old.now.trees).mail)))
     (λ hub rows answer spoilt. untaken_spoil old hub supplier bound low most rows answer spoilt)
 
 -- What follows.
@@ -184,7 +184,7 @@ none_above old new supplier number limit above rows none more empty =
     looks_on _ _ old new above rows (λ t is. empty ∙ sym (ap (take limit)
     (none_found (λ entry. same entry.supplier supplier) (wanted number) (above_of supplier last_number)
     (λ entry own want. and_from (same entry.supplier supplier) (is_above last_number entry.number) own
-        (more_above number entry.number more (and_parts (is_above number entry.number) (not (is_taken entry)) want).0))
+    (more_above number entry.number more (and_parts (is_above number entry.number) (not (is_taken entry)) want).0))
     t.mail (sym is ∙ none)) ∙ take_none limit))
 
 -- where no number is zero or less, those above are the greater ones
@@ -195,7 +195,7 @@ above_greater supplier number mail none =
     let greater : MailRow → Bool = λ entry. nat_lt number entry.number && not (is_taken entry) in
     filter_both whose (wanted number) mail
     ∙ filter_alike (λ entry. whose entry && wanted number entry) (λ entry. whose entry && greater entry) mail
-        (all_such (λ entry. low_of supplier entry ≡ false) (λ entry. (whose entry && wanted number entry) ≡ (whose entry && greater entry)) each mail (all_not (low_of supplier) mail none))
+    (all_such (λ entry. low_of supplier entry ≡ false) (λ entry. (whose entry && wanted number entry) ≡ (whose entry && greater entry)) each mail (all_not (low_of supplier) mail none))
     ∙ sym (filter_both whose greater mail)
   where
     true_right : (b : Bool) → (b && true) ≡ b

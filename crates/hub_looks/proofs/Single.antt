@@ -64,7 +64,7 @@ found_first cmp whose at all rows rises alike moved =
     let same = filter_both whose at all in
     let passed = all_passes (λ x. whose x && at x) all in
     let one = one_at_most cmp xs rows (rises_filter cmp (λ x. whose x && at x) all rises) (never_less cmp)
-        (all_tied (λ x. (whose x && at x) ≡ true) (λ x y. is_eq (cmp x y) ≡ true) alike xs xs passed passed) (subst (λ ys. IsPermutation ys rows) same moved) in
+    (all_tied (λ x. (whose x && at x) ≡ true) (λ x y. is_eq (cmp x y) ≡ true) alike xs xs passed passed) (subst (λ ys. IsPermutation ys rows) same moved) in
     ap (λ ys. slice_get ys 0) (one ∙ sym same) ∙ first_passes at (filter whose all)
 
 -- Keys that tie.

@@ -26,7 +26,10 @@ fn is_held<S: Alter>(
     has_row(
         conn,
         "SELECT supplier FROM pallet WHERE sscc = ?1 AND supplier = ?2",
-        &[ValueRef::Blob(sscc.digits()), ValueRef::Blob(supplier.digits())],
+        &[
+            ValueRef::Blob(sscc.digits()),
+            ValueRef::Blob(supplier.digits()),
+        ],
     )
 }
 

@@ -128,11 +128,7 @@ fn entries_above<S: Alter>(
         conn,
         alloc,
         "SELECT supplier, number, moment, decimal, kind, document, body, taken FROM mail WHERE supplier = ?1 AND number > ?2 AND taken <> 1 ORDER BY supplier, number LIMIT ?3",
-        &[
-            ValueRef::Blob(supplier.digits()),
-            bound,
-            most,
-        ],
+        &[ValueRef::Blob(supplier.digits()), bound, most],
     )
 }
 
@@ -190,10 +186,7 @@ pub fn mail_after<S: Alter>(
 }
 
 // The number of the last entry above zero.
-fn highest<S: Alter>(
-    conn: &mut Connection<S>,
-    supplier: &Gln,
-) -> Result<Option<u64>, StoreFault>
+fn highest<S: Alter>(conn: &mut Connection<S>, supplier: &Gln) -> Result<Option<u64>, StoreFault>
     ensures looks { LooksUp (λ t. option_map (λ entry. entry.number) (last_or None (filter (λ entry. is_above 0 entry.number) (view supplier.now t).mail))) (state S.Store conn.old) (state S.Store conn.new) result }
 {
     first_of(
@@ -204,10 +197,7 @@ fn highest<S: Alter>(
 }
 
 // The same, and 0 where there is none.
-fn highest_or_zero<S: Alter>(
-    conn: &mut Connection<S>,
-    supplier: &Gln,
-) -> Result<u64, StoreFault>
+fn highest_or_zero<S: Alter>(conn: &mut Connection<S>, supplier: &Gln) -> Result<u64, StoreFault>
     ensures looks { LooksUp (λ t. unwrap_or (option_map (λ entry. entry.number) (last_or None (filter (λ entry. is_above 0 entry.number) (view supplier.now t).mail))) 0) (state S.Store conn.old) (state S.Store conn.new) result }
 {
     let number = highest(conn, supplier)?;

@@ -36,7 +36,10 @@ pub fn pallet<S: Alter>(
     first_of(
         conn,
         "SELECT sscc, supplier, advice, received FROM pallet WHERE sscc = ?1 AND supplier = ?2",
-        &[ValueRef::Blob(sscc.digits()), ValueRef::Blob(supplier.digits())],
+        &[
+            ValueRef::Blob(sscc.digits()),
+            ValueRef::Blob(supplier.digits()),
+        ],
     )
 }
 
