@@ -90,8 +90,8 @@ pub fn receipts_of<S: Alter>(
 ) -> Result<Items<ReceiptRow>, StoreFault>
     ensures looks { LooksUp (λ t. receipts (view supplier.now t) sscc.now) (state S.Store conn.old) (state S.Store conn.new) result }
 {
-    let held = is_held(conn, supplier, sscc)?;
-    if !held {
+    let own = is_held(conn, supplier, sscc)?;
+    if !own {
         return Ok(Items::new(alloc));
     }
     receipts_on(conn, alloc, sscc)
