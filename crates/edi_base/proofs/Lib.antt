@@ -1,4 +1,5 @@
 pub mod Going
+pub mod Lowest
 pub mod Numbers
 pub mod Taken
 pub mod Twice

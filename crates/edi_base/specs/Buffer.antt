@@ -10,7 +10,8 @@ pub record Goes (old new : Option (List ℕ)) (waiting left ahead whole : List �
   pub parts : front ++ (left ++ ahead) ≡ waiting ++ whole
 
 -- all were written or wait, or, at a fault, a front of them was written
-abbrev pub Puts : {E : Type 0} → Result (Unit {0}) E → Option (List ℕ) → Option (List ℕ) → List ℕ → List ℕ → List ℕ → Type 0
+abbrev pub Puts : {E : Type 0} → Result (Unit {0}) E → Option (List ℕ) → Option (List ℕ) → List ℕ → List ℕ → List ℕ
+    → Type 0
 Puts (Ok done) old new waiting left bytes = Goes old new waiting left [] bytes
 Puts (Err e) old new waiting left bytes = (rest : List ℕ) × Goes old new waiting [] rest bytes
 

@@ -1,6 +1,7 @@
 //! What text is read from.
 
-ghost use Rattle.std.specs.Prelude.{◌≡◌, ◌≢◌, ◌≤◌, ◌||◌, ℕ, Bool, true, List, take, Option, None, Err, is_err, IfOk, IfSome, length, vec_len};
+ghost use Rattle.std.specs.Prelude.{◌≡◌, ◌≢◌, ◌≤◌, ◌||◌, ℕ, Bool, true, List, take, Option, None, Err, is_err, IfOk, IfSome, length};
+ghost use Rattle.std.specs.Prelude.{vec_len};
 ghost use Rattle.std.specs.Io.{ReadsAtMost};
 ghost use Rattle.std.specs.Io.KnownBytes.{ReadConsumes, Consumes};
 ghost use Rattle.edi_base.specs.Source.{TakesPiece, TakesAtMost};
@@ -127,7 +128,8 @@ fn read_piece<R: Source>(
     read: &mut Vec<u8>,
 ) -> Result<usize, ReadFault>
     ensures front { TakesAtMost (R.remaining source.old) (R.remaining source.new) (length piece.old) }
-    ensures taken { IfOk result (TakesPiece (R.remaining source.old) (R.remaining source.new) read.old.items read.new.items (length piece.old)) }
+    ensures taken { IfOk result (TakesPiece (R.remaining source.old)
+        (R.remaining source.new) read.old.items read.new.items (length piece.old)) }
     ensures read { result ≡ Err ReadFault.Read → R.failed source.new ≡ true }
     ensures kept { result ≢ Err ReadFault.Read → R.failed source.new ≡ R.failed source.old }
 {

@@ -1,7 +1,12 @@
 -- The faults of an envelope: what is printed for each.
 use Rattle.std.specs.Prelude.{ℕ, List, codes}
 use Rattle.edi_envelope.specs.declared.fault.EnvelopeFault.{EnvelopeFault}
-use Rattle.edi_envelope.specs.declared.fault.EnvelopeFault.TheVariants.{InterchangeFrame, InterchangeHeader, MessageFrame, MessageHeader, SegmentCount, MessageReference, MessageCount, ControlReference, RepeatedReference, TestIndicator, TooManyMessages, CharacterSet, Memory}
+use Rattle.edi_envelope.specs.declared.fault.EnvelopeFault.TheVariants.{InterchangeFrame, InterchangeHeader}
+use Rattle.edi_envelope.specs.declared.fault.EnvelopeFault.TheVariants.{MessageFrame, MessageHeader, SegmentCount}
+use Rattle.edi_envelope.specs.declared.fault.EnvelopeFault.TheVariants.{MessageReference, MessageCount}
+use Rattle.edi_envelope.specs.declared.fault.EnvelopeFault.TheVariants.{ControlReference, RepeatedReference}
+use Rattle.edi_envelope.specs.declared.fault.EnvelopeFault.TheVariants.{TestIndicator, TooManyMessages, CharacterSet}
+use Rattle.edi_envelope.specs.declared.fault.EnvelopeFault.TheVariants.{Memory}
 
 -- the number of a condition; out of memory is none
 abbrev pub number : EnvelopeFault → ℕ

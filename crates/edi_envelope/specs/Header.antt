@@ -13,7 +13,8 @@ is_seven_bit_set unb = bytes_eq (component unb 0 0) (codes "UNOA") || bytes_eq (
 
 -- the syntax identifier is UNOA, UNOB or UNOC, the version 3
 abbrev pub has_syntax : Segment → Bool
-has_syntax unb = (is_seven_bit_set unb || bytes_eq (component unb 0 0) (codes "UNOC")) && bytes_eq (component unb 0 1) (codes "3")
+has_syntax unb = (is_seven_bit_set unb || bytes_eq (component unb 0 0) (codes "UNOC"))
+    && bytes_eq (component unb 0 1) (codes "3")
 
 -- a partner's identification has 1 to 35 bytes, its qualifier is 14
 abbrev pub has_partner : Segment → ℕ → Bool
@@ -30,7 +31,8 @@ is_test unb = bytes_eq (component unb 10 0) (codes "1")
 -- the header is as this project takes it
 abbrev pub is_header : Segment → Bool
 is_header unb =
-    has_syntax unb && has_partner unb 1 && has_partner unb 2 && has_date_and_time unb && is_reference (component unb 4 0)
+    has_syntax unb && has_partner unb 1 && has_partner unb 2 && has_date_and_time unb
+    && is_reference (component unb 4 0)
     && ((length (component unb 10 0) == 0) || is_test unb)
 
 abbrev pub head_of : Segment → Head

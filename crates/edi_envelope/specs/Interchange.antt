@@ -1,11 +1,17 @@
 -- The interchange that a list of segments is, or its envelope fault (ISO 9735, structures).
-use Rattle.std.specs.Prelude.{ℕ, Bool, false, not, ◌==◌, ◌&&◌, ◌||◌, nat_le, nat_lt, List, [], ◌∷◌, map, length, find, Option, Some, None, Result, Ok, Err}
+use Rattle.std.specs.Prelude.{ℕ, Bool, false, not, ◌==◌, ◌&&◌, ◌||◌, nat_le, nat_lt, List, [], ◌∷◌, map, length, find}
+use Rattle.std.specs.Prelude.{Option, Some, None, Result, Ok, Err}
 use Rattle.std.specs.List.{list_any, list_all}
 use Rattle.std.specs.Str.{bytes_eq}
 use Rattle.edi_tokens.specs.declared.segment.Segment.{Segment}
 use Rattle.edi_tokens.specs.declared.segment.Tokens.{Tokens}
 use Rattle.edi_envelope.specs.declared.fault.EnvelopeFault.{EnvelopeFault}
-use Rattle.edi_envelope.specs.declared.fault.EnvelopeFault.TheVariants.{InterchangeFrame, InterchangeHeader, MessageFrame, MessageHeader, SegmentCount, MessageReference, MessageCount, ControlReference, RepeatedReference, TestIndicator, TooManyMessages, CharacterSet, Memory}
+use Rattle.edi_envelope.specs.declared.fault.EnvelopeFault.TheVariants.{InterchangeFrame, InterchangeHeader}
+use Rattle.edi_envelope.specs.declared.fault.EnvelopeFault.TheVariants.{MessageFrame, MessageHeader, SegmentCount}
+use Rattle.edi_envelope.specs.declared.fault.EnvelopeFault.TheVariants.{MessageReference, MessageCount}
+use Rattle.edi_envelope.specs.declared.fault.EnvelopeFault.TheVariants.{ControlReference, RepeatedReference}
+use Rattle.edi_envelope.specs.declared.fault.EnvelopeFault.TheVariants.{TestIndicator, TooManyMessages, CharacterSet}
+use Rattle.edi_envelope.specs.declared.fault.EnvelopeFault.TheVariants.{Memory}
 use Rattle.edi_envelope.specs.declared.interchange.Interchange.{Interchange}
 use Rattle.edi_envelope.specs.Segments.{is_unb, is_unz, component, first_segment, last_segment, between}
 use Rattle.edi_base.specs.Limits.{is_count_of}
@@ -26,7 +32,8 @@ messages_in segments = blocks (between segments)
 
 -- between UNB and UNZ stand messages and nothing else
 unfoldable pub is_row_of_messages : List Segment → Bool
-is_row_of_messages segments = (length (before_message (between segments)) == 0) && list_all is_block (messages_in segments)
+is_row_of_messages segments =
+    (length (before_message (between segments)) == 0) && list_all is_block (messages_in segments)
 
 -- a byte that no character set of seven bits has, from 0xA0 on
 abbrev pub has_high : List ℕ → Bool
@@ -48,7 +55,8 @@ holds MessageHeader segments = not (list_all is_within_limits (messages_in segme
 holds SegmentCount segments = not (list_all is_counted (messages_in segments))
 holds MessageReference segments = not (list_all is_closed (messages_in segments))
 holds MessageCount segments = not (is_count_of (component (last_segment segments) 0 0) (length (messages_in segments)))
-holds ControlReference segments = not (bytes_eq (component (last_segment segments) 1 0) (component (first_segment segments) 4 0))
+holds ControlReference segments =
+    not (bytes_eq (component (last_segment segments) 1 0) (component (first_segment segments) 4 0))
 holds RepeatedReference segments = has_twice (map reference_of (messages_in segments))
 holds TestIndicator segments = is_test (first_segment segments)
 holds TooManyMessages segments = nat_lt 999 (length (messages_in segments))

@@ -39,17 +39,20 @@ unz_of reference = record { tag = codes "UNZ"; elements = (codes "1" ∷ []) ∷
 -- the segments of the hub's interchange: one message between UNB and UNZ
 abbrev pub mail_segments : List ℕ → List ℕ → ℕ → ℕ → RawMessage → List Segment
 mail_segments hub owner moment number message =
-    unb_from hub owner (date_text moment) (time_text moment) (decimal number) ∷ map renumbered message.segments ++ unz_of (decimal number) ∷ []
+    unb_from hub owner (date_text moment) (time_text moment) (decimal number) ∷ map renumbered message.segments
+    ++ unz_of (decimal number) ∷ []
 
 -- the text of such an interchange, from UNB to UNZ, round the text of its message
 abbrev pub text_around : List ℕ → List ℕ → ℕ → ℕ → List ℕ → List ℕ
 text_around hub owner moment number body =
-    codes "UNB+UNOC:3+" ++ hub ++ codes ":14+" ++ owner ++ codes ":14+" ++ date_text moment ++ codes ":" ++ time_text moment
+    codes "UNB+UNOC:3+" ++ hub ++ codes ":14+" ++ owner ++ codes ":14+" ++ date_text moment ++ codes ":"
+    ++ time_text moment
     ++ codes "+" ++ decimal number ++ codes "'" ++ body ++ codes "UNZ+1+" ++ decimal number ++ codes "'"
 
 -- that of a message
 abbrev pub mail_interchange : List ℕ → List ℕ → ℕ → ℕ → RawMessage → List ℕ
-mail_interchange hub owner moment number message = text_around hub owner moment number (text (map renumbered message.segments))
+mail_interchange hub owner moment number message =
+    text_around hub owner moment number (text (map renumbered message.segments))
 
 -- with the service string before it
 abbrev pub mail_text : List ℕ → List ℕ → ℕ → ℕ → ℕ → RawMessage → List ℕ

@@ -6,7 +6,10 @@ use Rattle.edi_tokens.specs.declared.segment.Segment.{Segment}
 use Rattle.edi_envelope.specs.declared.opening.Parts.{Parts}
 use Rattle.edi_envelope.specs.Segments.{component, first_segment, last_segment, between}
 use Rattle.edi_envelope.specs.declared.fault.EnvelopeFault.{EnvelopeFault}
-use Rattle.edi_envelope.specs.declared.fault.EnvelopeFault.TheVariants.{MessageFrame, MessageHeader, SegmentCount, MessageReference, MessageCount, ControlReference, RepeatedReference, TestIndicator, TooManyMessages, CharacterSet}
+use Rattle.edi_envelope.specs.declared.fault.EnvelopeFault.TheVariants.{MessageFrame, MessageHeader, SegmentCount}
+use Rattle.edi_envelope.specs.declared.fault.EnvelopeFault.TheVariants.{MessageReference, MessageCount}
+use Rattle.edi_envelope.specs.declared.fault.EnvelopeFault.TheVariants.{ControlReference, RepeatedReference}
+use Rattle.edi_envelope.specs.declared.fault.EnvelopeFault.TheVariants.{TestIndicator, TooManyMessages, CharacterSet}
 use Rattle.edi_base.specs.Limits.{is_count_of}
 use Rattle.edi_envelope.specs.Header.{is_test}
 use Rattle.edi_base.specs.Seen.{has_twice}

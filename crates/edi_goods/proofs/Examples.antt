@@ -68,14 +68,14 @@ first = codes "340123455000000012"
 abbrev second : List ℕ
 second = codes "340123455000000029"
 
-abbrev item : List ℕ
-item = codes "4000862141404"
+abbrev article : List ℕ
+article = codes "4000862141404"
 
 -- a despatch advice with these units
 abbrev despatch : List Segment → RawMessage
 despatch units = message (codes "DESADV") (unh ∷ bgm (codes "351") (codes "DA1") ∷ dtm ∷ rff (codes "128576") ∷ buyer ∷ supplier ∷ units)
 
-a_despatch : despatch_of (despatch (cps ∷ pac ∷ gin first ∷ lin (codes "1") item ∷ qty (codes "12") (codes "12") ∷ unt ∷ [])) ≡ Ok (record {
+a_despatch : despatch_of (despatch (cps ∷ pac ∷ gin first ∷ lin (codes "1") article ∷ qty (codes "12") (codes "12") ∷ unt ∷ [])) ≡ Ok (record {
   number = codes "DA1";
   buyer = Some (codes "5412345000013");
   supplier = codes "4012345500004";
@@ -98,7 +98,7 @@ own_order : despatch_of (message (codes "DESADV") (unh
     ∷ gin (codes "1")
     ∷ cps
     ∷ gin first
-    ∷ lin (codes "1") item
+    ∷ lin (codes "1") article
     ∷ qty (codes "12") (codes "12")
     ∷ segment (codes "RFF") ((codes "ON" ∷ codes "128577" ∷ codes "02" ∷ []) ∷ []) ∷ unt ∷ [])) ≡ Ok (record {
       number = codes "DA1";
@@ -114,17 +114,17 @@ unfolding despatch_of
 own_order = refl
 
 line_outside_of_units : despatch_of
-    (despatch (lin (codes "0") item ∷ cps ∷ gin first ∷ lin (codes "1") item ∷ qty (codes "12") (codes "12") ∷ unt ∷ []))
+    (despatch (lin (codes "0") article ∷ cps ∷ gin first ∷ lin (codes "1") article ∷ qty (codes "12") (codes "12") ∷ unt ∷ []))
     ≡ Err Unit
 unfolding despatch_of
 line_outside_of_units = refl
 
 quantity_of_the_second_unit : despatch_of (despatch (cps
-    ∷ lin (codes "1") item
+    ∷ lin (codes "1") article
     ∷ qty (codes "12") (codes "12")
     ∷ cps
     ∷ gin second
-    ∷ lin (codes "1") item
+    ∷ lin (codes "1") article
     ∷ qty (codes "12") (codes "0")
     ∷ unt
     ∷ []))
@@ -137,7 +137,7 @@ no_order : despatch_of (message (codes "DESADV") (unh
     ∷ dtm
     ∷ supplier
     ∷ cps
-    ∷ lin (codes "1") item
+    ∷ lin (codes "1") article
     ∷ qty (codes "12") (codes "12")
     ∷ unt
     ∷ []))
@@ -146,18 +146,18 @@ unfolding despatch_of
 no_order = refl
 
 wrong_check_digit : despatch_of
-    (despatch (cps ∷ gin (codes "340123455000000013") ∷ lin (codes "1") item ∷ qty (codes "12") (codes "12") ∷ unt ∷ []))
+    (despatch (cps ∷ gin (codes "340123455000000013") ∷ lin (codes "1") article ∷ qty (codes "12") (codes "12") ∷ unt ∷ []))
     ≡ Err Unit
 unfolding despatch_of
 wrong_check_digit = refl
 
 one_sscc_twice : despatch_of (despatch (cps
     ∷ gin first
-    ∷ lin (codes "1") item
+    ∷ lin (codes "1") article
     ∷ qty (codes "12") (codes "12")
     ∷ cps
     ∷ gin first
-    ∷ lin (codes "1") item
+    ∷ lin (codes "1") article
     ∷ qty (codes "12") (codes "12")
     ∷ unt
     ∷ []))
@@ -173,7 +173,7 @@ no_line = refl
 abbrev receipt : List Segment → RawMessage
 receipt lines = message (codes "RECADV") (unh ∷ bgm (codes "632") (codes "G1") ∷ dtm ∷ buyer ∷ supplier ∷ cps ∷ gin first ∷ lines)
 
-a_receipt : receipt_of (receipt (lin (codes "1") item
+a_receipt : receipt_of (receipt (lin (codes "1") article
     ∷ qty (codes "194") (codes "10")
     ∷ qty (codes "195") (codes "1")
     ∷ lin (codes "2") (codes "4000862141411")
@@ -193,9 +193,9 @@ a_receipt : receipt_of (receipt (lin (codes "1") item
 unfolding receipt_of
 a_receipt = refl
 
-great_sum : receipt_of (receipt (lin (codes "1") item
+great_sum : receipt_of (receipt (lin (codes "1") article
     ∷ qty (codes "194") (codes "500000000")
-    ∷ lin (codes "2") item
+    ∷ lin (codes "2") article
     ∷ qty (codes "194") (codes "500000000")
     ∷ unt
     ∷ []))
@@ -203,16 +203,16 @@ great_sum : receipt_of (receipt (lin (codes "1") item
 unfolding receipt_of
 great_sum = refl
 
-no_quantity : receipt_of (receipt (lin (codes "1") item ∷ qty (codes "12") (codes "10") ∷ unt ∷ [])) ≡ Err Quantity
+no_quantity : receipt_of (receipt (lin (codes "1") article ∷ qty (codes "12") (codes "10") ∷ unt ∷ [])) ≡ Err Quantity
 unfolding receipt_of
 no_quantity = refl
 
 -- a UNS ends the line group, not the unit, and a LIN after it is of the unit
-section_in_a_unit : receipt_of (receipt (lin (codes "1") item
+section_in_a_unit : receipt_of (receipt (lin (codes "1") article
     ∷ qty (codes "194") (codes "10")
     ∷ segment (codes "UNS") []
     ∷ qty (codes "194") (codes "1")
-    ∷ lin (codes "2") item
+    ∷ lin (codes "2") article
     ∷ unt
     ∷ []))
     ≡ Err Quantity

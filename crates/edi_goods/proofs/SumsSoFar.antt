@@ -1,4 +1,4 @@
--- The sums of items on the way along amounts.
+-- The sums of articles on the way along amounts.
 use Rattle.std.proofs.Common.{◌≡◌, ℕ, zero, suc, ◌+◌, ◌<◌, ◌≤◌, List, [], ◌∷◌, length, get_or, drop, true, false, Bool}
 use Rattle.std.proofs.Common.{◌&&◌, cond, if◌then◌else◌, nat_le, Option, Some, refl, sym, ap, ◌∙◌, arith}
 use Rattle.std.specs.List.{list_all}
@@ -21,9 +21,9 @@ holds_everywhere : {X : Type 0} (p : X → Bool) (xs : List X) → ((x : X) → 
 holds_everywhere p [] h = refl
 holds_everywhere p (x ∷ xs) h = rw (h x) (holds_everywhere p xs h)
 
--- the sum of an item is the one so far, and that of the rest
+-- the sum of an article is the one so far, and that of the rest
 abbrev pub IsPart : (List ℕ → ℕ) → List Amount → List Amount → Type 0
-IsPart so_far amounts rest = (item : List ℕ) → sum_of item amounts ≡ so_far item + sum_of item rest
+IsPart so_far amounts rest = (article : List ℕ) → sum_of article amounts ≡ so_far article + sum_of article rest
 
 -- the rest begins with the amount at its place
 pub rest_from : (amounts : List Amount) (i : ℕ) (amount : Amount)
@@ -32,7 +32,7 @@ pub rest_from : (amounts : List Amount) (i : ℕ) (amount : Amount)
     → drop i amounts ≡ amount ∷ drop (i + 1) amounts
 rest_from amounts i amount within at = drop_more amounts i amount within ∙ ap (λ one. one ∷ drop (i + 1) amounts) (sym at)
 
--- an item's sum so far that is too great with its next amount
+-- an article's sum so far that is too great with its next amount
 pub too_great : (so_far : List ℕ → ℕ) (amounts : List Amount) (i : ℕ) (amount : Amount)
     → i < length amounts
     → amount ≡ get_or amounts i amount
@@ -51,7 +51,7 @@ too_great so_far amounts i amount within at part past =
 -- no sum so far is too great, and there is no rest
 pub all_within : (so_far : List ℕ → ℕ) (amounts : List Amount)
     → IsPart so_far amounts []
-    → ((item : List ℕ) → so_far item ≤ greatest)
+    → ((article : List ℕ) → so_far article ≤ greatest)
     → true ≡ sums_within amounts
 all_within so_far amounts part bound =
     sym (holds_everywhere (λ one. nat_le (sum_of one.gtin amounts) greatest) amounts
@@ -67,15 +67,15 @@ step false old sum quantity rest h = omega arith
 pub part_next : (old new : List ℕ → Option ℕ) (amounts : List Amount) (i : ℕ) (amount : Amount) (sum : ℕ)
     → i < length amounts
     → amount ≡ get_or amounts i amount
-    → ((item : List ℕ) → new item ≡ cond (bytes_eq amount.gtin item) (Some sum) (old item))
+    → ((article : List ℕ) → new article ≡ cond (bytes_eq amount.gtin article) (Some sum) (old article))
     → sum ≡ unwrap_or (old amount.gtin) 0 + amount.quantity
-    → IsPart (λ item. unwrap_or (old item) 0) amounts (drop i amounts)
-    → IsPart (λ item. unwrap_or (new item) 0) amounts (drop (i + 1) amounts)
-part_next old new amounts i amount sum within at becomes grown part item =
-    part item ∙ ap (λ rest. unwrap_or (old item) 0 + sum_of item rest) (rest_from amounts i amount within at)
-    ∙ step (bytes_eq amount.gtin item) (old item) sum amount.quantity (sum_of item (drop (i + 1) amounts))
-    (λ same. grown ∙ ap (λ one. unwrap_or (old one) 0 + amount.quantity) ((bytes_eq-Decides amount.gtin item).0 same))
-    ∙ ap (λ value. unwrap_or value 0 + sum_of item (drop (i + 1) amounts)) (sym (becomes item))
+    → IsPart (λ article. unwrap_or (old article) 0) amounts (drop i amounts)
+    → IsPart (λ article. unwrap_or (new article) 0) amounts (drop (i + 1) amounts)
+part_next old new amounts i amount sum within at becomes grown part article =
+    part article ∙ ap (λ rest. unwrap_or (old article) 0 + sum_of article rest) (rest_from amounts i amount within at)
+    ∙ step (bytes_eq amount.gtin article) (old article) sum amount.quantity (sum_of article (drop (i + 1) amounts))
+    (λ same. grown ∙ ap (λ one. unwrap_or (old one) 0 + amount.quantity) ((bytes_eq-Decides amount.gtin article).0 same))
+    ∙ ap (λ value. unwrap_or value 0 + sum_of article (drop (i + 1) amounts)) (sym (becomes article))
 
 bounded : (same : Bool) (old : Option ℕ) (sum : ℕ)
     → sum ≤ greatest
@@ -85,10 +85,10 @@ bounded true old sum h k = h
 bounded false old sum h k = k
 
 pub bound_next : (old new : List ℕ → Option ℕ) (gtin : List ℕ) (sum : ℕ)
-    → ((item : List ℕ) → new item ≡ cond (bytes_eq gtin item) (Some sum) (old item))
+    → ((article : List ℕ) → new article ≡ cond (bytes_eq gtin article) (Some sum) (old article))
     → sum ≤ greatest
-    → ((item : List ℕ) → unwrap_or (old item) 0 ≤ greatest)
-    → (item : List ℕ)
-    → unwrap_or (new item) 0 ≤ greatest
-bound_next old new gtin sum becomes within before item =
-    rw (becomes item) (bounded (bytes_eq gtin item) (old item) sum within (before item))
+    → ((article : List ℕ) → unwrap_or (old article) 0 ≤ greatest)
+    → (article : List ℕ)
+    → unwrap_or (new article) 0 ≤ greatest
+bound_next old new gtin sum becomes within before article =
+    rw (becomes article) (bounded (bytes_eq gtin article) (old article) sum within (before article))

@@ -1,5 +1,6 @@
 -- The despatch advice that a message is (DESADV), or its message fault.
-use Rattle.std.specs.Prelude.{ℕ, ◌==◌, Bool, false, not, ◌&&◌, List, [], map, is_some, codes, Option, Some, None, Result}
+use Rattle.std.specs.Prelude.{ℕ, ◌==◌, Bool, false, not, ◌&&◌, List, [], map, is_some, codes, Option, Some, None}
+use Rattle.std.specs.Prelude.{Result}
 use Rattle.std.specs.List.{list_all}
 use Rattle.std.specs.Option.{unwrap_or}
 use Rattle.std.specs.Str.{bytes_eq}
@@ -9,10 +10,13 @@ use Rattle.edi_messages.specs.Fault.{judged}
 use Rattle.edi_messages.specs.Header.{is_type, begins_as, document_number, function, has_date, party}
 use Rattle.edi_messages.specs.Lines.{gtin, quantity_of}
 use Rattle.edi_messages.specs.Parts.{header, line_groups, is_read}
-use Rattle.edi_messages.specs.References.{has_reference, reference, none_or_one_reference, order_named, is_order_reference, order, group_order, group_line}
+use Rattle.edi_messages.specs.References.{has_reference, reference, none_or_one_reference, order_named}
+use Rattle.edi_messages.specs.References.{is_order_reference, order, group_order, group_line}
 use Rattle.edi_messages.specs.Summary.{line_count, is_controlled}
 use Rattle.edi_messages.specs.declared.fault.MessageFault.{MessageFault}
-use Rattle.edi_messages.specs.declared.fault.MessageFault.TheVariants.{MessageType, Beginning, Function, Date, Parties, Summary, Line, Quantity, Reference, Unit, Control, NoLine, Memory}
+use Rattle.edi_messages.specs.declared.fault.MessageFault.TheVariants.{MessageType, Beginning, Function, Date, Parties}
+use Rattle.edi_messages.specs.declared.fault.MessageFault.TheVariants.{Summary, Line, Quantity, Reference, Unit}
+use Rattle.edi_messages.specs.declared.fault.MessageFault.TheVariants.{Control, NoLine, Memory}
 use Rattle.edi_goods.specs.Parties.{has_parties, buyer}
 use Rattle.edi_goods.specs.Units.{read_units, has_lines, has_units, sscc_or_none}
 use Rattle.edi_goods.specs.declared.despatch.Despatch.{Despatch}
@@ -34,7 +38,8 @@ inherits message = has_reference (header message)
 abbrev pub has_header_reference_or_none : List Segment → Bool
 has_header_reference_or_none message = none_or_one_reference (is_read order_named) (header message)
 
--- The one reference of a group is valid. Where there is not just one, the group has none at all, and the header has one.
+-- The one reference of a group is valid. Where there is not just one, the group has none at all, and the header has
+-- one.
 abbrev pub is_referred_by : Bool → Bool → Option Segment → Bool
 is_referred_by there inherited (Some rff) = is_order_reference rff
 is_referred_by there inherited None = not there && inherited
@@ -63,7 +68,9 @@ holds Parties m = not (has_parties m.segments)
 holds Summary m = false
 holds Line m = not (list_all has_lines (read_units m.segments))
 holds Quantity m = not (list_all has_quantities (read_units m.segments))
-holds Reference m = not (has_header_reference_or_none m.segments && list_all (has_references (inherits m.segments)) (read_units m.segments))
+holds Reference m =
+    not (has_header_reference_or_none m.segments
+    && list_all (has_references (inherits m.segments)) (read_units m.segments))
 holds Unit m = not (has_units m.segments)
 holds Control m = not (is_controlled m.segments)
 holds NoLine m = line_count m.segments == 0

@@ -11,7 +11,9 @@ use Rattle.edi_messages.specs.Lines.{gtin, amount, quantity_of}
 use Rattle.edi_messages.specs.Parts.{line_groups, none_or_one, is_read}
 use Rattle.edi_messages.specs.Summary.{line_count, is_controlled}
 use Rattle.edi_messages.specs.declared.fault.MessageFault.{MessageFault}
-use Rattle.edi_messages.specs.declared.fault.MessageFault.TheVariants.{MessageType, Beginning, Function, Date, Parties, Summary, Line, Quantity, Reference, Unit, Control, NoLine, Memory}
+use Rattle.edi_messages.specs.declared.fault.MessageFault.TheVariants.{MessageType, Beginning, Function, Date, Parties}
+use Rattle.edi_messages.specs.declared.fault.MessageFault.TheVariants.{Summary, Line, Quantity, Reference, Unit}
+use Rattle.edi_messages.specs.declared.fault.MessageFault.TheVariants.{Control, NoLine, Memory}
 use Rattle.edi_goods.specs.Parties.{has_parties, buyer}
 use Rattle.edi_goods.specs.Units.{read_units, has_lines, has_units, sscc_or_none}
 use Rattle.edi_goods.specs.Sums.{sums_within}
@@ -62,11 +64,12 @@ of_kind Destroyed line = line.destroyed
 abbrev pub amounts : Kind → List ReceiptLine → List Amount
 amounts kind lines = map (λ line. record { gtin = line.gtin; quantity = of_kind kind line }) lines
 
--- no kind's sum over the lines of one item is above 999,999,999
+-- no kind's sum over the lines of one article is above 999,999,999
 abbrev pub has_sums : List ReceiptLine → Bool
-has_sums lines = sums_within (amounts Accepted lines) && sums_within (amounts Returned lines) && sums_within (amounts Destroyed lines)
+has_sums lines = sums_within (amounts Accepted lines) && sums_within (amounts Returned lines)
+    && sums_within (amounts Destroyed lines)
 
--- the quantities of each line of a unit, and their sums by item
+-- the quantities of each line of a unit, and their sums by article
 abbrev pub has_quantities : List Segment → Bool
 has_quantities unit = list_all is_received (line_groups unit) && has_sums (lines_in_unit unit)
 

@@ -1,6 +1,7 @@
--- The units of a despatch advice or a receiving advice (EANCOM 2002, the segment tables of DESADV and RECADV): CPS and what
--- follows it.
-use Rattle.std.specs.Prelude.{ℕ, ◌==◌, Bool, not, ◌&&◌, ◌||◌, if◌then◌else◌, List, [], length, map, filter, is_some, codes, Option, None, option_and_then}
+-- The units of a despatch advice or a receiving advice (EANCOM 2002, the segment tables of DESADV and RECADV): CPS
+-- and what follows it.
+use Rattle.std.specs.Prelude.{ℕ, ◌==◌, Bool, not, ◌&&◌, ◌||◌, if◌then◌else◌, List, [], length, map, filter, is_some}
+use Rattle.std.specs.Prelude.{codes, Option, None, option_and_then}
 use Rattle.std.specs.List.{list_all, list_any}
 use Rattle.std.specs.Option.{unwrap_or}
 use Rattle.edi_base.specs.Seen.{has_twice}
@@ -37,7 +38,8 @@ has_identifier unit = not (length (component (first_segment unit) 0 0) == 0)
 
 -- the one SSCC of a GIN (7402), which stands alone after the qualifier
 abbrev pub sscc_in : Segment → Option (List ℕ)
-sscc_in gin = if length gin.elements == 2 && length (element_at gin.elements 1) == 1 then sscc_of (component gin 1 0) else None
+sscc_in gin = if length gin.elements == 2 && length (element_at gin.elements 1) == 1 then sscc_of (component gin 1 0)
+    else None
 
 -- the SSCC of the one GIN with 7405 BJ in the head of a unit
 abbrev pub sscc : List Segment → Option (List ℕ)
@@ -57,7 +59,8 @@ is_unit unit = has_identifier unit && is_some (sscc unit)
 
 -- no LIN stands before the first CPS, and each unit that is read has an identifier and an SSCC of its own
 abbrev pub has_units : List Segment → Bool
-has_units message = not (has_line_outside message) && list_all is_unit (read_units message) && not (has_twice (map sscc_or_none (read_units message)))
+has_units message = not (has_line_outside message) && list_all is_unit (read_units message)
+    && not (has_twice (map sscc_or_none (read_units message)))
 
 -- each LIN of a unit is a line
 abbrev pub has_lines : List Segment → Bool

@@ -58,7 +58,8 @@ fn despatch_items<'a, 'b>(
     items: &'b [LineItem<'a>],
 ) -> Result<Vec<DespatchItem<'a, 'b>>, MessageFault>
     ensures ok { IfOk result (λ lines. (lines.items ≡ items.now) × (list_all (λ group. is_some (spec.despatched group)) items.now ≡ true)) }
-    ensures err { IfErr result (λ fault. fault ≢ MessageFault.Memory → (fault ≡ MessageFault.Quantity) × (list_all (λ group. is_some (spec.despatched group)) items.now ≡ false)) }
+    ensures err { IfErr result (λ fault. fault ≢ MessageFault.Memory →
+        (fault ≡ MessageFault.Quantity) × (list_all (λ group. is_some (spec.despatched group)) items.now ≡ false)) }
 {
     let mut lines = Vec::new(alloc);
     for item in items {
@@ -74,7 +75,8 @@ pub(crate) fn despatch_units<'a, 'b>(
     units: &'b [ItemUnit<'a>],
 ) -> Result<Vec<DespatchUnit<'a, 'b>>, MessageFault>
     ensures ok { IfOk result (λ despatched. (despatched.items ≡ units.now) × (list_all spec.has_quantities units.now ≡ true)) }
-    ensures err { IfErr result (λ fault. fault ≢ MessageFault.Memory → (fault ≡ MessageFault.Quantity) × (list_all spec.has_quantities units.now ≡ false)) }
+    ensures err { IfErr result (λ fault. fault ≢ MessageFault.Memory →
+        (fault ≡ MessageFault.Quantity) × (list_all spec.has_quantities units.now ≡ false)) }
 {
     let mut despatched = Vec::new(alloc);
     for unit in units {
@@ -177,7 +179,8 @@ fn referred_items<'a, 'b>(
     items: &[DespatchItem<'a, 'b>],
 ) -> Result<Vec<ReferredItem<'a, 'b>>, MessageFault>
     ensures ok { IfOk result (λ lines. (lines.items ≡ items.now) × (list_all (spec.is_referred inherited) items.now ≡ true)) }
-    ensures err { IfErr result (λ fault. fault ≢ MessageFault.Memory → (fault ≡ MessageFault.Reference) × (list_all (spec.is_referred inherited) items.now ≡ false)) }
+    ensures err { IfErr result (λ fault. fault ≢ MessageFault.Memory →
+        (fault ≡ MessageFault.Reference) × (list_all (spec.is_referred inherited) items.now ≡ false)) }
 {
     let mut lines = Vec::new(alloc);
     for item in items {
@@ -193,7 +196,8 @@ pub(crate) fn referred_units<'a, 'b>(
     units: &[DespatchUnit<'a, 'b>],
 ) -> Result<Vec<ReferredUnit<'a, 'b>>, MessageFault>
     ensures ok { IfOk result (λ referred. (referred.items ≡ units.now) × (list_all (spec.has_references inherited) units.now ≡ true)) }
-    ensures err { IfErr result (λ fault. fault ≢ MessageFault.Memory → (fault ≡ MessageFault.Reference) × (list_all (spec.has_references inherited) units.now ≡ false)) }
+    ensures err { IfErr result (λ fault. fault ≢ MessageFault.Memory →
+        (fault ≡ MessageFault.Reference) × (list_all (spec.has_references inherited) units.now ≡ false)) }
 {
     let mut referred = Vec::new(alloc);
     for lined in units {

@@ -47,7 +47,7 @@ pub struct DespatchLine {
     pub order: Items<u8>,
     /// The line of the order (RFF ON 1156), where the line names one.
     pub order_line: Option<u32>,
-    /// The item.
+    /// The article.
     pub gtin: Gtin,
     /// The quantity despatched, in pieces, 1 to 999,999,999.
     pub quantity: u32,
@@ -55,7 +55,8 @@ pub struct DespatchLine {
 
 // The order that the header names, or nothing; the fault `Reference` where it names several or none that is valid.
 fn header_order(message: &[Segment]) -> Result<&[u8], MessageFault>
-    ensures ok { IfOk result (λ order. (order.now ≡ spec.header_order message.now) × (spec.has_header_reference_or_none message.now ≡ true)) }
+    ensures ok { IfOk result (λ order. (order.now ≡ spec.header_order message.now)
+        × (spec.has_header_reference_or_none message.now ≡ true)) }
     ensures err { IfErr result (λ fault. (fault ≡ MessageFault.Reference) × (spec.has_header_reference_or_none message.now ≡ false)) }
 {
     match order(message) {
@@ -93,7 +94,7 @@ fn units_of(
 impl Despatch {
     /// The despatch advice that a message is: DESADV of the directory D.01B with BGM 1001 351 and 1225 9, one document
     /// date, one supplier and at most one buyer, and units with lines, each unit with an identifier and an SSCC of its own,
-    /// each line with an item, a quantity despatched and an order. Else the lowest fault of the message, wherever in it
+    /// each line with an article, a quantity despatched and an order. Else the lowest fault of the message, wherever in it
     /// that stands.
     #[tactic(auto, unfolding(crate::specs::Despatch::despatch_of))]
     pub fn read(alloc: Global, message: &RawMessage) -> Result<Despatch, MessageFault>

@@ -36,7 +36,8 @@ fn buyer(message: &[Segment]) -> Result<Option<Gln>, MessageFault>
 
 /// The parties of a message; the fault `Parties` where one of them is not valid.
 pub(crate) fn read_parties(message: &[Segment]) -> Result<Parties, MessageFault>
-    ensures ok { IfOk result (λ parties. (parties.buyer ≡ spec.buyer message.now) × (party (codes "SU") message.now ≡ Some parties.supplier) × (spec.has_parties message.now ≡ true)) }
+    ensures ok { IfOk result (λ parties. (parties.buyer ≡ spec.buyer message.now)
+        × (party (codes "SU") message.now ≡ Some parties.supplier) × (spec.has_parties message.now ≡ true)) }
     ensures err { IfErr result (λ fault. (fault ≡ MessageFault.Parties) × (spec.has_parties message.now ≡ false)) }
 {
     let buyer = buyer(message)?;

@@ -39,11 +39,11 @@ pub struct ReceiptUnit {
     pub lines: Items<ReceiptLine>,
 }
 
-/// What a line says of an item, in pieces, each 0 to 999,999,999; a kind that is not named is 0. In one unit no item's sum of
+/// What a line says of an article, in pieces, each 0 to 999,999,999; a kind that is not named is 0. In one unit no article's sum of
 /// a kind is above 999,999,999.
 #[derive(Clone, Copy, Debug, PartialEq, Eq)]
 pub struct ReceiptLine {
-    /// The item.
+    /// The article.
     pub gtin: Gtin,
     /// Received and accepted (QTY 194).
     pub accepted: u32,
@@ -78,7 +78,7 @@ fn units_of(
 impl Receipt {
     /// The receiving advice that a message is: RECADV of the directory D.01B with BGM 1001 632 and 1225 9, one document
     /// date, one supplier and at most one buyer, and units with lines, each unit with an identifier and an SSCC of its own,
-    /// each line with an item and at least one of the quantities 194, 195 and 196, none twice. Else the lowest fault of the
+    /// each line with an article and at least one of the quantities 194, 195 and 196, none twice. Else the lowest fault of the
     /// message, wherever in it that stands.
     #[tactic(auto, unfolding(crate::specs::Receipt::receipt_of))]
     pub fn read(alloc: Global, message: &RawMessage) -> Result<Receipt, MessageFault>

@@ -45,7 +45,8 @@ impl<'a, 'b> ReceivedUnit<'a, 'b> {
 
 // The quantity of a kind, where there is one; the fault `Quantity` where it stands twice or is not valid.
 fn received(kind: &[u8], group: &[Segment]) -> Result<Option<u32>, MessageFault>
-    ensures ok { IfOk result (λ quantity. (quantity ≡ quantity_of kind.now 0 group.now) × (spec.is_once_or_none kind.now group.now ≡ true)) }
+    ensures ok { IfOk result (λ quantity. (quantity ≡ quantity_of kind.now 0 group.now)
+        × (spec.is_once_or_none kind.now group.now ≡ true)) }
     ensures err { IfErr result (λ fault. (fault ≡ MessageFault.Quantity) × (spec.is_once_or_none kind.now group.now ≡ false)) }
 {
     match quantity_of(kind, 0, group) {
@@ -89,7 +90,8 @@ fn receipt_line(item: &LineItem<'_>) -> Result<ReceiptLine, MessageFault>
 // The lines of a unit; the fault `Quantity` where one has no quantities.
 fn receipt_lines(alloc: Global, items: &[LineItem<'_>]) -> Result<Vec<ReceiptLine>, MessageFault>
     ensures ok { IfOk result (λ lines. (lines.items ≡ map spec.line_of items.now) × (list_all spec.is_received items.now ≡ true)) }
-    ensures err { IfErr result (λ fault. fault ≢ MessageFault.Memory → (fault ≡ MessageFault.Quantity) × (list_all spec.is_received items.now ≡ false)) }
+    ensures err { IfErr result (λ fault. fault ≢ MessageFault.Memory →
+        (fault ≡ MessageFault.Quantity) × (list_all spec.is_received items.now ≡ false)) }
 {
     let mut lines = Vec::new(alloc);
     for item in items {
@@ -109,7 +111,7 @@ fn of_kind(kind: Kind, line: &ReceiptLine) -> u32
     }
 }
 
-// What was received of the items, of one kind.
+// What was received on each line, of one kind.
 fn amounts(alloc: Global, kind: Kind, lines: &[ReceiptLine]) -> Result<Vec<Amount>, MessageFault>
     ensures ok { IfOk result (λ amounts. amounts.items ≡ spec.amounts kind lines.now) }
     ensures err { IfErr result (λ fault. fault ≡ MessageFault.Memory) }
@@ -124,7 +126,7 @@ fn amounts(alloc: Global, kind: Kind, lines: &[ReceiptLine]) -> Result<Vec<Amoun
     Ok(amounts)
 }
 
-// Whether no kind's sum over the lines of one item is too great.
+// Whether no kind's sum over the lines of one article is too great.
 fn has_sums(alloc: Global, lines: &[ReceiptLine]) -> Result<bool, MessageFault>
     ensures ok { IfOk result (λ within. within ≡ spec.has_sums lines.now) }
     ensures err { IfErr result (λ fault. fault ≡ MessageFault.Memory) }
@@ -145,7 +147,8 @@ fn received_unit<'a, 'b>(
     unit: &'b ItemUnit<'a>,
 ) -> Result<ReceivedUnit<'a, 'b>, MessageFault>
     ensures ok { IfOk result (λ received. (received ≡ unit.now) × (spec.has_quantities unit.now ≡ true)) }
-    ensures err { IfErr result (λ fault. fault ≢ MessageFault.Memory → (fault ≡ MessageFault.Quantity) × (spec.has_quantities unit.now ≡ false)) }
+    ensures err { IfErr result (λ fault. fault ≢ MessageFault.Memory →
+        (fault ≡ MessageFault.Quantity) × (spec.has_quantities unit.now ≡ false)) }
 {
     let lines = receipt_lines(alloc, unit.items())?;
     if has_sums(alloc, lines.as_slice())? {
@@ -161,7 +164,8 @@ pub(crate) fn received_units<'a, 'b>(
     units: &'b [ItemUnit<'a>],
 ) -> Result<Vec<ReceivedUnit<'a, 'b>>, MessageFault>
     ensures ok { IfOk result (λ received. (received.items ≡ units.now) × (list_all spec.has_quantities units.now ≡ true)) }
-    ensures err { IfErr result (λ fault. fault ≢ MessageFault.Memory → (fault ≡ MessageFault.Quantity) × (list_all spec.has_quantities units.now ≡ false)) }
+    ensures err { IfErr result (λ fault. fault ≢ MessageFault.Memory →
+        (fault ≡ MessageFault.Quantity) × (list_all spec.has_quantities units.now ≡ false)) }
 {
     let mut received = Vec::new(alloc);
     for unit in units {

@@ -1,4 +1,4 @@
-//! Sums of amounts by item.
+//! Sums of amounts by article.
 ghost use Rattle.std.specs.Prelude.{◌≡◌, ◌+◌, ◌≤◌, IfOk, IfErr};
 ghost use Rattle.std.specs.BTreeMap.{get};
 ghost use Rattle.std.specs.Cmp.Lexicographic.{slice_cmp};
@@ -13,14 +13,14 @@ use gs1_ids::Gtin;
 use std::alloc::Global;
 use std::collections::BTreeMap;
 
-/// So many pieces of an item.
+/// So many pieces of an article.
 #[derive(Clone, Copy)]
 pub(crate) struct Amount {
     pub(crate) gtin: Gtin,
     pub(crate) quantity: u32,
 }
 
-// The sum of an item so far.
+// The sum of an article so far.
 fn sum_so_far(sums: &BTreeMap<Gtin, u64>, gtin: &Gtin) -> u64
     ensures { result ≡ unwrap_or (get (slice_cmp nat_cmp) sums.now gtin.now) 0 }
 {
@@ -38,7 +38,7 @@ fn with_more(sum: u64, quantity: u32) -> u64
     sum + quantity as u64
 }
 
-/// Whether no item's sum is above 999,999,999. The sums are kept in an ordered map, so that the time grows as n log n with n
+/// Whether no article's sum is above 999,999,999. The sums are kept in an ordered map, so that the time grows as n log n with n
 /// amounts.
 pub(crate) fn sums_within(alloc: Global, amounts: &[Amount]) -> Result<bool, MessageFault>
     ensures ok { IfOk result (λ within. within ≡ spec.sums_within amounts.now) }

@@ -14,7 +14,7 @@ use gs1_ids::Sscc;
 use std::alloc::Global;
 use std::marker::Model;
 
-/// A unit with the items of its lines.
+/// A unit with its line items.
 #[derive(Drop)]
 pub(crate) struct ItemUnit<'a> {
     unit: &'a [Segment],
@@ -34,7 +34,7 @@ impl<'a> Model for ItemUnit<'a> {
 }
 
 impl<'a> ItemUnit<'a> {
-    /// The items of its lines.
+    /// Its line items.
     pub(crate) fn items(&self) -> &[LineItem<'a>]
         ensures { result.now ≡ line_groups self.now }
     {
@@ -68,14 +68,16 @@ fn unit_of(segments: &[Segment]) -> &[Segment]
     }
 }
 
-/// The units of a message that have lines, in their order, each with its items; the fault `Line` where one of its LIN has
+/// The units of a message that have lines, in their order, each with its line items; the fault `Line` where one of its LIN has
 /// none.
 pub(crate) fn item_units(
     alloc: Global,
     message: &[Segment],
 ) -> Result<Vec<ItemUnit<'_>>, MessageFault>
-    ensures ok { IfOk result (λ units. (units.items ≡ spec.read_units message.now) × (list_all spec.has_lines (spec.read_units message.now) ≡ true)) }
-    ensures err { IfErr result (λ fault. fault ≢ MessageFault.Memory → (fault ≡ MessageFault.Line) × (list_all spec.has_lines (spec.read_units message.now) ≡ false)) }
+    ensures ok { IfOk result (λ units. (units.items ≡ spec.read_units message.now)
+        × (list_all spec.has_lines (spec.read_units message.now) ≡ true)) }
+    ensures err { IfErr result (λ fault. fault ≢ MessageFault.Memory →
+        (fault ≡ MessageFault.Line) × (list_all spec.has_lines (spec.read_units message.now) ≡ false)) }
 {
     let mut units = Vec::new(alloc);
     for (place, segment) in message.iter().enumerate() {
@@ -174,7 +176,8 @@ fn has_line_outside(message: &[Segment]) -> bool
 // The SSCC of each unit.
 fn unit_ssccs(alloc: Global, units: &[ItemUnit<'_>]) -> Result<Vec<Sscc>, MessageFault>
     ensures ok { IfOk result (λ ssccs. (ssccs.items ≡ map spec.sscc_or_none units.now) × (list_all spec.is_unit units.now ≡ true)) }
-    ensures err { IfErr result (λ fault. fault ≢ MessageFault.Memory → (fault ≡ MessageFault.Unit) × (list_all spec.is_unit units.now ≡ false)) }
+    ensures err { IfErr result (λ fault. fault ≢ MessageFault.Memory →
+        (fault ≡ MessageFault.Unit) × (list_all spec.is_unit units.now ≡ false)) }
 {
     let mut ssccs = Vec::new(alloc);
     for unit in units {

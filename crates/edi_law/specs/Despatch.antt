@@ -4,7 +4,9 @@ use Rattle.std.specs.List.{AllByRecursion, AllZip}
 use Rattle.edi_tokens.specs.declared.segment.Segment.{Segment}
 use Rattle.edi_envelope.specs.declared.interchange.RawMessage.{RawMessage}
 use Rattle.edi_messages.specs.declared.fault.MessageFault.{MessageFault}
-use Rattle.edi_messages.specs.declared.fault.MessageFault.TheVariants.{MessageType, Beginning, Function, Date, Parties, Summary, Line, Quantity, Reference, Unit, Control, NoLine, Memory}
+use Rattle.edi_messages.specs.declared.fault.MessageFault.TheVariants.{MessageType, Beginning, Function, Date, Parties}
+use Rattle.edi_messages.specs.declared.fault.MessageFault.TheVariants.{Summary, Line, Quantity, Reference, Unit}
+use Rattle.edi_messages.specs.declared.fault.MessageFault.TheVariants.{Control, NoLine, Memory}
 use Rattle.edi_goods.specs.declared.despatch.Despatch.{Despatch}
 use Rattle.edi_goods.specs.declared.despatch.DespatchLine.{DespatchLine}
 use Rattle.edi_goods.specs.declared.despatch.Unit.{Unit as DespatchUnit}
@@ -19,9 +21,11 @@ use Rattle.edi_law.specs.Units.{OfUnits, OfUnitLines, AreLines, HasUnits, HasSsc
 abbrev pub Inherits : List Segment → Option (List ℕ) → Type 0
 Inherits message order = OfHeader (λ header. OneOrNone is_rff_on NamesOrder header order) message
 
--- the order of a line: the one that the one reference of its group names, and that of the header where the group has none
+-- the order of a line: the one that the one reference of its group names, and that of the header where the group has
+-- none
 abbrev pub IsOfOrder : Option (List ℕ) → List Segment → List ℕ → Type 0
-IsOfOrder inherited group order = OfOnly is_rff_on group (NamesOrder order) ⊎ (HasNone is_rff_on group × (inherited ≡ Some order))
+IsOfOrder inherited group order = OfOnly is_rff_on group (NamesOrder order)
+    ⊎ (HasNone is_rff_on group × (inherited ≡ Some order))
 
 -- the one reference of a group is valid, or the group has none and the header has one
 abbrev pub IsReferred : Option (List ℕ) → List Segment → Type 0
@@ -34,11 +38,14 @@ IsRight m MessageType = IsOfType (codes "DESADV") m
 IsRight m Beginning = (number : List ℕ) × Begins (codes "351") m.segments number
 IsRight m Function = HasFunction m.segments (codes "9")
 IsRight m Date = IsDated m.segments
-IsRight m Parties = ((buyer : Option (List ℕ)) × NamesBuyer m.segments buyer) × ((supplier : List ℕ) × NamesParty (codes "SU") m.segments supplier)
+IsRight m Parties = ((buyer : Option (List ℕ)) × NamesBuyer m.segments buyer)
+    × ((supplier : List ℕ) × NamesParty (codes "SU") m.segments supplier)
 IsRight m Summary = ⊤
 IsRight m Line = AreLines m.segments
-IsRight m Quantity = OfUnitLines (AllByRecursion (λ group. (quantity : ℕ) × HasQuantity (codes "12") 1 group quantity)) m.segments
-IsRight m Reference = (inherited : Option (List ℕ)) × Inherits m.segments inherited × OfUnitLines (AllByRecursion (IsReferred inherited)) m.segments
+IsRight m Quantity =
+    OfUnitLines (AllByRecursion (λ group. (quantity : ℕ) × HasQuantity (codes "12") 1 group quantity)) m.segments
+IsRight m Reference = (inherited : Option (List ℕ)) × Inherits m.segments inherited
+    × OfUnitLines (AllByRecursion (IsReferred inherited)) m.segments
 IsRight m Unit = HasUnits m.segments
 IsRight m Control = IsControlled m.segments
 IsRight m NoLine = HasLine m.segments

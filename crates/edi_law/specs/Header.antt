@@ -38,7 +38,9 @@ pub record HasFunction (message : List Segment) (function : List ℕ) : Type 0 w
 
 -- there is just one document date in the header, and it exists
 abbrev pub IsDated : List Segment → Type 0
-IsDated message = OfHeader (λ header. OfOnly (says (codes "DTM") (codes "137")) header (λ dtm. IsDate (component dtm 0 2) (component dtm 0 1))) message
+IsDated message =
+    OfHeader (λ header. OfOnly (says (codes "DTM") (codes "137")) header (λ dtm.
+    IsDate (component dtm 0 2) (component dtm 0 1))) message
 
 -- a NAD names a party by its GLN, and says that it is one
 pub record IsNamed (gln : List ℕ) (nad : Segment) : Type 0 where

@@ -1,7 +1,10 @@
--- The fault of a message, apart from the order in which anything is judged: the one with the lowest number that is there.
+-- The fault of a message, apart from the order in which anything is judged: the one with the lowest number that is
+-- there.
 use Rattle.std.specs.Prelude.{ℕ, ◌<◌}
 use Rattle.edi_messages.specs.declared.fault.MessageFault.{MessageFault}
-use Rattle.edi_messages.specs.declared.fault.MessageFault.TheVariants.{MessageType, Beginning, Function, Date, Parties, Summary, Line, Quantity, Reference, Unit, Control, NoLine, Memory}
+use Rattle.edi_messages.specs.declared.fault.MessageFault.TheVariants.{MessageType, Beginning, Function, Date, Parties}
+use Rattle.edi_messages.specs.declared.fault.MessageFault.TheVariants.{Summary, Line, Quantity, Reference, Unit}
+use Rattle.edi_messages.specs.declared.fault.MessageFault.TheVariants.{Control, NoLine, Memory}
 
 -- the number that is printed of a fault; out of memory has none
 abbrev pub number : MessageFault → ℕ

@@ -4,7 +4,9 @@ use Rattle.std.specs.List.{AllByRecursion, AllZip}
 use Rattle.edi_tokens.specs.declared.segment.Segment.{Segment}
 use Rattle.edi_envelope.specs.declared.interchange.RawMessage.{RawMessage}
 use Rattle.edi_messages.specs.declared.fault.MessageFault.{MessageFault}
-use Rattle.edi_messages.specs.declared.fault.MessageFault.TheVariants.{MessageType, Beginning, Function, Date, Parties, Summary, Line, Quantity, Reference, Unit, Control, NoLine, Memory}
+use Rattle.edi_messages.specs.declared.fault.MessageFault.TheVariants.{MessageType, Beginning, Function, Date, Parties}
+use Rattle.edi_messages.specs.declared.fault.MessageFault.TheVariants.{Summary, Line, Quantity, Reference, Unit}
+use Rattle.edi_messages.specs.declared.fault.MessageFault.TheVariants.{Control, NoLine, Memory}
 use Rattle.edi_orders.specs.declared.order.Order.{Order}
 use Rattle.edi_orders.specs.declared.order.OrderLine.{OrderLine}
 use Rattle.edi_law.specs.Header.{IsOfType, Begins, HasFunction, IsDated, NamesParty}
@@ -23,10 +25,12 @@ IsRight m MessageType = IsOfType (codes "ORDERS") m
 IsRight m Beginning = (number : List ℕ) × Begins (codes "220") m.segments number
 IsRight m Function = HasFunction m.segments (codes "9")
 IsRight m Date = IsDated m.segments
-IsRight m Parties = ((buyer : List ℕ) × NamesParty (codes "BY") m.segments buyer) × ((supplier : List ℕ) × NamesParty (codes "SU") m.segments supplier)
+IsRight m Parties = ((buyer : List ℕ) × NamesParty (codes "BY") m.segments buyer)
+    × ((supplier : List ℕ) × NamesParty (codes "SU") m.segments supplier)
 IsRight m Summary = IsClosed m.segments
 IsRight m Line = OfLines AreNumbered m.segments
-IsRight m Quantity = OfLines (AllByRecursion (λ group. (quantity : ℕ) × HasQuantity (codes "21") 1 group quantity)) m.segments
+IsRight m Quantity =
+    OfLines (AllByRecursion (λ group. (quantity : ℕ) × HasQuantity (codes "21") 1 group quantity)) m.segments
 IsRight m Reference = ⊤
 IsRight m Unit = ⊤
 IsRight m Control = IsControlled m.segments

@@ -1,4 +1,5 @@
--- How a message, UNH to UNT, is cut: where its header, its line groups and its units stand, apart from how they are found.
+-- How a message, UNH to UNT, is cut: where its header, its line groups and its units stand, apart from how they are
+-- found.
 use Rattle.std.specs.Prelude.{◌≡◌, Bool, true, false, List, [], ◌∷◌, ◌++◌, ⊤, Option, Some, None}
 use Rattle.std.specs.List.{AllByRecursion}
 use Rattle.edi_tokens.specs.declared.segment.Segment.{Segment}
@@ -49,7 +50,8 @@ pub record IsFirst (begins ends : Segment → Bool) (segments part rest : List S
 -- these are all the parts, in their order
 abbrev pub AreParts : (Segment → Bool) → (Segment → Bool) → List Segment → List (List Segment) → Type 0
 AreParts begins ends segments [] = HasNone begins segments
-AreParts begins ends segments (part ∷ parts) = (rest : List Segment) × IsFirst begins ends segments part rest × AreParts begins ends rest parts
+AreParts begins ends segments (part ∷ parts) =
+    (rest : List Segment) × IsFirst begins ends segments part rest × AreParts begins ends rest parts
 
 -- the line groups: a LIN, and what follows it up to the next LIN, CPS, UNS or UNT
 abbrev pub AreLineGroups : List Segment → List (List Segment) → Type 0

@@ -5,7 +5,9 @@ use Rattle.std.specs.Str.{bytes_eq}
 use Rattle.edi_tokens.specs.declared.segment.Segment.{Segment}
 use Rattle.edi_envelope.specs.declared.interchange.RawMessage.{RawMessage}
 use Rattle.edi_messages.specs.declared.fault.MessageFault.{MessageFault}
-use Rattle.edi_messages.specs.declared.fault.MessageFault.TheVariants.{MessageType, Beginning, Function, Date, Parties, Summary, Line, Quantity, Reference, Unit, Control, NoLine, Memory}
+use Rattle.edi_messages.specs.declared.fault.MessageFault.TheVariants.{MessageType, Beginning, Function, Date, Parties}
+use Rattle.edi_messages.specs.declared.fault.MessageFault.TheVariants.{Summary, Line, Quantity, Reference, Unit}
+use Rattle.edi_messages.specs.declared.fault.MessageFault.TheVariants.{Control, NoLine, Memory}
 use Rattle.edi_goods.specs.declared.receipt.Receipt.{Receipt}
 use Rattle.edi_goods.specs.declared.receipt.ReceiptLine.{ReceiptLine}
 use Rattle.edi_goods.specs.declared.receipt.ReceiptUnit.{ReceiptUnit}
@@ -61,7 +63,8 @@ IsRight m MessageType = IsOfType (codes "RECADV") m
 IsRight m Beginning = (number : List ℕ) × Begins (codes "632") m.segments number
 IsRight m Function = HasFunction m.segments (codes "9")
 IsRight m Date = IsDated m.segments
-IsRight m Parties = ((buyer : Option (List ℕ)) × NamesBuyer m.segments buyer) × ((supplier : List ℕ) × NamesParty (codes "SU") m.segments supplier)
+IsRight m Parties = ((buyer : Option (List ℕ)) × NamesBuyer m.segments buyer)
+    × ((supplier : List ℕ) × NamesParty (codes "SU") m.segments supplier)
 IsRight m Summary = ⊤
 IsRight m Line = AreLines m.segments
 IsRight m Quantity = OfUnits (AllByRecursion (OfLines AreReceived)) m.segments

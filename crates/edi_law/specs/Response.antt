@@ -5,7 +5,9 @@ use Rattle.edi_tokens.specs.declared.segment.Segment.{Segment}
 use Rattle.edi_envelope.specs.Segments.{component}
 use Rattle.edi_envelope.specs.declared.interchange.RawMessage.{RawMessage}
 use Rattle.edi_messages.specs.declared.fault.MessageFault.{MessageFault}
-use Rattle.edi_messages.specs.declared.fault.MessageFault.TheVariants.{MessageType, Beginning, Function, Date, Parties, Summary, Line, Quantity, Reference, Unit, Control, NoLine, Memory}
+use Rattle.edi_messages.specs.declared.fault.MessageFault.TheVariants.{MessageType, Beginning, Function, Date, Parties}
+use Rattle.edi_messages.specs.declared.fault.MessageFault.TheVariants.{Summary, Line, Quantity, Reference, Unit}
+use Rattle.edi_messages.specs.declared.fault.MessageFault.TheVariants.{Control, NoLine, Memory}
 use Rattle.edi_orders.specs.declared.response.Answer.{Answer}
 use Rattle.edi_orders.specs.declared.response.Answer.TheVariants as answers
 use Rattle.edi_orders.specs.declared.response.AnswerLine.{AnswerLine}
@@ -60,7 +62,8 @@ pub record AreAnswered (groups : List (List Segment)) : Type 0 where
 
 -- the quantity of a change: the one QTY with 113, or where there is none the one with 21
 abbrev pub HasChange : List Segment → ℕ → Type 0
-HasChange group quantity = HasQuantity (codes "113") 0 group quantity ⊎ (HasNone (says (codes "QTY") (codes "113")) group × HasQuantity (codes "21") 0 group quantity)
+HasChange group quantity = HasQuantity (codes "113") 0 group quantity
+    ⊎ (HasNone (says (codes "QTY") (codes "113")) group × HasQuantity (codes "21") 0 group quantity)
 
 -- a line that is changed has a quantity
 abbrev pub IsChangeRight : List Segment → Type 0
@@ -68,18 +71,21 @@ IsChangeRight group = HasAction group Change → (quantity : ℕ) × HasChange g
 
 -- a group has no reference, or just one, which names the order of the header and a line or none
 abbrev pub IsReferred : List ℕ → List Segment → Type 0
-IsReferred order group = HasNone is_rff_on group ⊎ OfOnly is_rff_on group (λ rff. NamesOrder order rff × NamesLineOrNone rff)
+IsReferred order group = HasNone is_rff_on group
+    ⊎ OfOnly is_rff_on group (λ rff. NamesOrder order rff × NamesLineOrNone rff)
 
 abbrev pub IsRight : RawMessage → MessageFault → Type 0
 IsRight m MessageType = IsOfType (codes "ORDRSP") m
 IsRight m Beginning = (number : List ℕ) × Begins (codes "231") m.segments number
 IsRight m Function = (extent : Extent) × HasExtent m.segments extent
 IsRight m Date = IsDated m.segments
-IsRight m Parties = ((buyer : List ℕ) × NamesParty (codes "BY") m.segments buyer) × ((supplier : List ℕ) × NamesParty (codes "SU") m.segments supplier)
+IsRight m Parties = ((buyer : List ℕ) × NamesParty (codes "BY") m.segments buyer)
+    × ((supplier : List ℕ) × NamesParty (codes "SU") m.segments supplier)
 IsRight m Summary = IsClosed m.segments
 IsRight m Line = OfReadLines AreAnswered m.segments
 IsRight m Quantity = OfReadLines (AllByRecursion IsChangeRight) m.segments
-IsRight m Reference = (order : List ℕ) × HeaderNames m.segments order × OfReadLines (AllByRecursion (IsReferred order)) m.segments
+IsRight m Reference = (order : List ℕ) × HeaderNames m.segments order
+    × OfReadLines (AllByRecursion (IsReferred order)) m.segments
 IsRight m Unit = ⊤
 IsRight m Control = IsControlled m.segments
 IsRight m NoLine = HasExtent m.segments EachLine → HasLine m.segments
@@ -102,7 +108,8 @@ pub record IsAnswerLine (group : List Segment) (line : AnswerLine) : Type 0 wher
 abbrev pub HasAnswers : List Segment → Answer → Type 0
 HasAnswers message answers.AllAccepted = HasExtent message AllOfAll
 HasAnswers message answers.AllRefused = HasExtent message NoneOfAll
-HasAnswers message (answers.Lines lines) = HasExtent message EachLine × OfLines (λ groups. AllZip IsAnswerLine groups lines) message
+HasAnswers message (answers.Lines lines) =
+    HasExtent message EachLine × OfLines (λ groups. AllZip IsAnswerLine groups lines) message
 
 -- the response is what the message says
 pub record IsResponse (message : List Segment) (response : Response) : Type 0 where

@@ -17,7 +17,8 @@ pub record IsClosed (message : List Segment) : Type 0 where
 abbrev pub IsControlled : List Segment → Type 0
 IsControlled message =
     HasNone (says (codes "CNT") (codes "2")) message
-    ⊎ OfOnly (says (codes "CNT") (codes "2")) message (λ cnt. IsCount (component cnt 0 1) (length (filter is_line_item message)))
+    ⊎ OfOnly (says (codes "CNT") (codes "2")) message (λ cnt.
+    IsCount (component cnt 0 1) (length (filter is_line_item message)))
 
 -- there is a LIN
 pub record HasLine (message : List Segment) : Type 0 where

@@ -26,7 +26,8 @@ OfUnitLines Are message = OfUnits (AllByRecursion (OfLines Are)) message
 
 -- each LIN of the units that are read is a line
 abbrev pub AreLines : List Segment → Type 0
-AreLines message = OfUnitLines (AllByRecursion (λ group. (number : ℕ) × (gtin : List ℕ) × IsLine group number gtin)) message
+AreLines message =
+    OfUnitLines (AllByRecursion (λ group. (number : ℕ) × (gtin : List ℕ) × IsLine group number gtin)) message
 
 -- no LIN stands in front of the first CPS
 pub record NoLineOutside (message : List Segment) : Type 0 where

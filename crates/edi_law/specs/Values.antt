@@ -32,7 +32,8 @@ pub record IsLineNumber (bytes : List ℕ) (number : ℕ) : Type 0 where
 -- nothing, or a full stop or a comma, and one or more zeros
 abbrev pub IsNoFraction : List ℕ → Type 0
 IsNoFraction [] = ⊤
-IsNoFraction (mark ∷ zeros) = ((mark ≡ 46) ⊎ (mark ≡ 44)) × (1 ≤ length zeros) × AllByRecursion (λ zero. zero ≡ 48) zeros
+IsNoFraction (mark ∷ zeros) = ((mark ≡ 46) ⊎ (mark ≡ 44)) × (1 ≤ length zeros)
+    × AllByRecursion (λ zero. zero ≡ 48) zeros
 
 -- a quantity: digits, perhaps a fraction of zeros, at most 35 bytes and at most 999,999,999
 pub record IsQuantity (bytes : List ℕ) (number : ℕ) : Type 0 where
@@ -62,7 +63,8 @@ IsDay _ = ⊥
 
 -- HHMM, of a minute that exists
 abbrev pub IsMinute : List ℕ → Type 0
-IsMinute (h ∷ i ∷ m ∷ n ∷ []) = AllByRecursion IsDigit (h ∷ i ∷ m ∷ n ∷ []) × (number_of (h ∷ i ∷ []) < 24) × (number_of (m ∷ n ∷ []) < 60)
+IsMinute (h ∷ i ∷ m ∷ n ∷ []) = AllByRecursion IsDigit (h ∷ i ∷ m ∷ n ∷ []) × (number_of (h ∷ i ∷ []) < 24)
+    × (number_of (m ∷ n ∷ []) < 60)
 IsMinute _ = ⊥
 
 -- CCYYMMDDHHMM

@@ -1,6 +1,8 @@
 -- What is known of a message whose record is valid.
 use Rattle.std.proofs.Common.{◌≡◌, ℕ, zero, suc, Bool, true, false, List, [], ◌∷◌, cond, slice_get, Option, Some, None, Ok, refl}
+use Rattle.std.proofs.Common.{◌==◌, arith, ap, ◌∙◌}
 use Rattle.std.specs.List.{find}
+use Rattle.std.proofs.lemmas.Bool.Decides.{nat_tests}
 use Rattle.edi_messages.specs.Fault.{faults, unless, judged}
 use Rattle.edi_messages.specs.declared.fault.MessageFault.{MessageFault}
 
@@ -36,3 +38,20 @@ pub judged_at : {X : Type 0} (holds : MessageFault → Bool) (content right : X)
     → slice_get faults place ≡ Some fault
     → holds fault ≡ false
 judged_at holds content right place fault h at = none_at holds faults place fault (found_none (find holds faults) content right h).0 at
+
+-- where no condition holds, the record is what was to be judged
+none_found : (holds : MessageFault → Bool) (among : List MessageFault)
+    → ((fault : MessageFault) → holds fault ≡ false)
+    → find holds among ≡ None
+none_found holds [] none = refl
+none_found holds (first ∷ others) none = rw (none first) (none_found holds others none)
+
+pub judged_when : {X : Type 0} (holds : MessageFault → Bool) (content right : X)
+    → ((fault : MessageFault) → holds fault ≡ false)
+    → content ≡ right
+    → judged holds content ≡ Ok right
+judged_when holds content right none same = ap (λ found. unless found content) (none_found holds faults none) ∙ ap Ok same
+
+-- a count that is not none
+pub some_counted : (n : ℕ) → (n ≡ 0 → ⊥) → (n == 0) ≡ false
+some_counted n h = grind (arith, nat_tests)

@@ -1,7 +1,9 @@
 -- The faults of a message: which one goes before another, and what is printed for each.
 use Rattle.std.specs.Prelude.{ℕ, Bool, List, [], ◌∷◌, find, codes, Option, Some, None, Result, Ok, Err}
 use Rattle.edi_messages.specs.declared.fault.MessageFault.{MessageFault}
-use Rattle.edi_messages.specs.declared.fault.MessageFault.TheVariants.{MessageType, Beginning, Function, Date, Parties, Summary, Line, Quantity, Reference, Unit, Control, NoLine, Memory}
+use Rattle.edi_messages.specs.declared.fault.MessageFault.TheVariants.{MessageType, Beginning, Function, Date, Parties}
+use Rattle.edi_messages.specs.declared.fault.MessageFault.TheVariants.{Summary, Line, Quantity, Reference, Unit}
+use Rattle.edi_messages.specs.declared.fault.MessageFault.TheVariants.{Control, NoLine, Memory}
 
 abbrev pub code_text : MessageFault → List ℕ
 code_text MessageType = codes "M01"
@@ -20,7 +22,8 @@ code_text Memory = codes "memory"
 
 -- the faults by rising number
 abbrev pub faults : List MessageFault
-faults = MessageType ∷ Beginning ∷ Function ∷ Date ∷ Parties ∷ Summary ∷ Line ∷ Quantity ∷ Reference ∷ Unit ∷ Control ∷ NoLine ∷ []
+faults = MessageType ∷ Beginning ∷ Function ∷ Date ∷ Parties ∷ Summary ∷ Line ∷ Quantity ∷ Reference ∷ Unit ∷ Control
+    ∷ NoLine ∷ []
 
 abbrev pub unless : {X : Type 0} → Option MessageFault → X → Result X MessageFault
 unless None content = Ok content

@@ -1,5 +1,6 @@
 -- What the header of a message says: UNH's type, BGM, DTM and NAD.
-use Rattle.std.specs.Prelude.{ℕ, ◌==◌, Bool, false, ◌&&◌, if◌then◌else◌, List, length, filter, codes, slice_index_or, Option, Some, None, option_and_then}
+use Rattle.std.specs.Prelude.{ℕ, ◌==◌, Bool, false, ◌&&◌, if◌then◌else◌, List, length, filter, codes, slice_index_or}
+use Rattle.std.specs.Prelude.{Option, Some, None, option_and_then}
 use Rattle.std.specs.Str.{bytes_eq}
 use Rattle.gs1_ids.specs.Gln.{is_gln}
 use Rattle.edi_tokens.specs.declared.segment.Segment.{Segment}
@@ -46,7 +47,8 @@ has_date message = is_dated (only_qualified (codes "DTM") (codes "137") (header 
 
 -- the GLN of a party (3039), if it is valid, and 3055 says by 9 that it is one
 abbrev pub named_by : Segment → Option (List ℕ)
-named_by party = if is_gln (component party 1 0) && bytes_eq (component party 1 2) (codes "9") then Some (component party 1 0) else None
+named_by party = if is_gln (component party 1 0) && bytes_eq (component party 1 2) (codes "9")
+    then Some (component party 1 0) else None
 
 -- the party that the one NAD of a role (3035) in the header names: BY is the buyer, SU the supplier
 abbrev pub party : List ℕ → List Segment → Option (List ℕ)

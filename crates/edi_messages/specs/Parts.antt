@@ -1,6 +1,7 @@
 -- The parts of a message, UNH to UNT: its header and its line groups (EANCOM 2002, the segment tables of the messages),
 -- and the segments of a kind in a part.
-use Rattle.std.specs.Prelude.{ℕ, Bool, not, ◌||◌, ◌&&◌, if◌then◌else◌, List, [], ◌∷◌, drop, filter, is_some, codes, Option, Some, None, option_and_then}
+use Rattle.std.specs.Prelude.{ℕ, Bool, not, ◌||◌, ◌&&◌, if◌then◌else◌, List, [], ◌∷◌, drop, filter, is_some, codes}
+use Rattle.std.specs.Prelude.{Option, Some, None, option_and_then}
 use Rattle.std.specs.List.{list_any, take_while}
 use Rattle.std.specs.Str.{bytes_eq}
 use Rattle.edi_tokens.specs.declared.segment.Segment.{Segment}
@@ -73,7 +74,8 @@ only_qualified tag qualifier part = only (qualified tag qualifier part)
 
 -- what is asked of the one holds where there is one, or there is none
 abbrev pub none_or_one : (Option Segment → Bool) → List ℕ → List ℕ → List Segment → Bool
-none_or_one holds tag qualifier part = not (has_qualified tag qualifier part) || holds (only_qualified tag qualifier part)
+none_or_one holds tag qualifier part =
+    not (has_qualified tag qualifier part) || holds (only_qualified tag qualifier part)
 
 -- there is one, of which something is read
 abbrev pub is_read : {X : Type 0} → (Segment → Option X) → Option Segment → Bool

@@ -1,5 +1,6 @@
 -- The values of data elements in messages (UN/EDIFACT D.01B).
-use Rattle.std.specs.Prelude.{ℕ, ◌==◌, Bool, true, false, not, ◌&&◌, ◌||◌, nat_le, nat_lt, if◌then◌else◌, List, [], ◌∷◌, length, take, drop, codes, pos, Option, Some, None}
+use Rattle.std.specs.Prelude.{ℕ, ◌==◌, Bool, true, false, not, ◌&&◌, ◌||◌, nat_le, nat_lt, if◌then◌else◌, List, [], ◌∷◌}
+use Rattle.std.specs.Prelude.{length, take, drop, codes, pos, Option, Some, None}
 use Rattle.std.specs.List.{list_all, take_while}
 use Rattle.std.specs.Str.{bytes_eq}
 use Rattle.jiff.specs.Words.{days_in_month}
@@ -26,7 +27,8 @@ fraction bytes = drop (length (whole_part bytes)) bytes
 -- nothing, or a decimal mark and one or more zeros
 abbrev pub is_no_fraction : List ℕ → Bool
 is_no_fraction [] = true
-is_no_fraction (mark ∷ zeros) = (mark == 46 || mark == 44) && (nat_le 1 (length zeros) && list_all (λ digit. digit == 48) zeros)
+is_no_fraction (mark ∷ zeros) =
+    (mark == 46 || mark == 44) && (nat_le 1 (length zeros) && list_all (λ digit. digit == 48) zeros)
 
 -- digits, perhaps with a fraction of zeros, at most 35 bytes
 abbrev pub is_quantity : List ℕ → Bool
@@ -43,7 +45,8 @@ number_at place count bytes = count_of (take count (drop place bytes))
 -- a day of the Gregorian calendar, of the years 0000 to 9999
 abbrev pub is_in_calendar : ℕ → ℕ → ℕ → Bool
 is_in_calendar year month day =
-    nat_le year 9999 && (nat_le 1 month && nat_le month 12) && (nat_le 1 day && nat_le day (days_in_month (pos year) month))
+    nat_le year 9999 && (nat_le 1 month && nat_le month 12)
+    && (nat_le 1 day && nat_le day (days_in_month (pos year) month))
 
 abbrev pub is_day_of : Option ℕ → Option ℕ → Option ℕ → Bool
 is_day_of (Some year) (Some month) (Some day) = is_in_calendar year month day

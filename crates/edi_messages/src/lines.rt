@@ -15,7 +15,7 @@ use gs1_ids::Gtin;
 use std::alloc::Global;
 use std::marker::Model;
 
-/// A line group whose LIN has a line number and an item and is no sub-line, with these.
+/// A line group whose LIN has a line number and an article and is no sub-line, with these.
 #[derive(Drop)]
 pub struct LineItem<'a> {
     number: u32,
@@ -50,7 +50,7 @@ impl<'a> LineItem<'a> {
         self.number
     }
 
-    /// The item (LIN 7140).
+    /// The article (LIN 7140).
     pub fn gtin(&self) -> Gtin
         ensures { spec.gtin self.now ≡ Some result }
     {
@@ -58,7 +58,7 @@ impl<'a> LineItem<'a> {
     }
 }
 
-// The item of a LIN, where it is valid and said to be one.
+// The article of a LIN, where it is valid and said to be one.
 fn gtin_of(lin: &Segment) -> Option<Gtin>
     ensures { result ≡ spec.gtin_in lin.now }
 {
@@ -69,7 +69,7 @@ fn gtin_of(lin: &Segment) -> Option<Gtin>
     }
 }
 
-/// The item of a line group, where its LIN has a line number and an item and is no sub-line.
+/// The line item of a line group, where its LIN has a line number and an article and is no sub-line.
 pub(crate) fn line_item(group: &[Segment]) -> Option<LineItem<'_>>
     ensures some { IfSome result (λ item. (item ≡ group.now) × (spec.is_line group.now ≡ true)) }
     ensures none { IfNone result (spec.is_line group.now ≡ false) }
@@ -87,10 +87,11 @@ pub(crate) fn line_item(group: &[Segment]) -> Option<LineItem<'_>>
     })
 }
 
-/// The items of all line groups of a message, in their order; the fault `Line` where one has none.
+/// The line items of all line groups of a message, in their order; the fault `Line` where one has none.
 pub fn line_items(alloc: Global, message: &[Segment]) -> Result<Vec<LineItem<'_>>, MessageFault>
     ensures ok { IfOk result (λ items. (items.items ≡ line_groups message.now) × (list_all spec.is_line (line_groups message.now) ≡ true)) }
-    ensures err { IfErr result (λ fault. fault ≢ MessageFault.Memory → (fault ≡ MessageFault.Line) × (list_all spec.is_line (line_groups message.now) ≡ false)) }
+    ensures err { IfErr result (λ fault. fault ≢ MessageFault.Memory →
+        (fault ≡ MessageFault.Line) × (list_all spec.is_line (line_groups message.now) ≡ false)) }
 {
     let mut items = Vec::new(alloc);
     for (place, segment) in message.iter().enumerate() {

@@ -64,7 +64,8 @@ pub struct NamedOrder<'a> {
 
 /// What a reference names, where it has an order number, and a line number or none.
 pub fn read_reference(rff: &Segment) -> Option<NamedOrder<'_>>
-    ensures some { IfSome result (λ said. (spec.order_named rff.now ≡ Some said.order.now) × (said.line ≡ spec.line_named rff.now) × (spec.is_order_reference rff.now ≡ true)) }
+    ensures some { IfSome result (λ said. (spec.order_named rff.now ≡ Some said.order.now)
+        × (said.line ≡ spec.line_named rff.now) × (spec.is_order_reference rff.now ≡ true)) }
     ensures none { IfNone result (spec.is_order_reference rff.now ≡ false) }
 {
     let order = order_named(rff)?;

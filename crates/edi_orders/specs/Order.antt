@@ -12,7 +12,9 @@ use Rattle.edi_messages.specs.Lines.{number_or_zero, gtin, is_line, quantity_of}
 use Rattle.edi_messages.specs.Summary.{has_summary, line_count, is_controlled}
 use Rattle.edi_messages.specs.Fault.{judged}
 use Rattle.edi_messages.specs.declared.fault.MessageFault.{MessageFault}
-use Rattle.edi_messages.specs.declared.fault.MessageFault.TheVariants.{MessageType, Beginning, Function, Date, Parties, Summary, Line, Quantity, Reference, Unit, Control, NoLine, Memory}
+use Rattle.edi_messages.specs.declared.fault.MessageFault.TheVariants.{MessageType, Beginning, Function, Date, Parties}
+use Rattle.edi_messages.specs.declared.fault.MessageFault.TheVariants.{Summary, Line, Quantity, Reference, Unit}
+use Rattle.edi_messages.specs.declared.fault.MessageFault.TheVariants.{Control, NoLine, Memory}
 use Rattle.edi_orders.specs.declared.order.Order.{Order}
 use Rattle.edi_orders.specs.declared.order.OrderLine.{OrderLine}
 
@@ -28,7 +30,8 @@ holds Function m = not (bytes_eq (function m.segments) (codes "9"))
 holds Date m = not (has_date m.segments)
 holds Parties m = not (is_some (party (codes "BY") m.segments) && is_some (party (codes "SU") m.segments))
 holds Summary m = not (has_summary m.segments)
-holds Line m = not (list_all is_line (line_groups m.segments)) || has_number_twice (map number_or_zero (line_groups m.segments))
+holds Line m = not (list_all is_line (line_groups m.segments))
+    || has_number_twice (map number_or_zero (line_groups m.segments))
 holds Quantity m = not (list_all (λ group. is_some (ordered group)) (line_groups m.segments))
 holds Reference m = false
 holds Unit m = false
@@ -37,7 +40,8 @@ holds NoLine m = line_count m.segments == 0
 holds Memory m = false
 
 abbrev pub line_of : List Segment → OrderLine
-line_of group = record { line = number_or_zero group; gtin = unwrap_or (gtin group) []; quantity = unwrap_or (ordered group) 0 }
+line_of group =
+    record { line = number_or_zero group; gtin = unwrap_or (gtin group) []; quantity = unwrap_or (ordered group) 0 }
 
 -- what the message says
 abbrev pub contents_of : List Segment → Order

@@ -1,5 +1,6 @@
 -- The response that a message is (ORDRSP), or its message fault.
-use Rattle.std.specs.Prelude.{ℕ, ◌==◌, Bool, true, false, not, ◌&&◌, ◌||◌, if◌then◌else◌, List, [], map, is_some, codes, Option, Some, None, option_map, Result}
+use Rattle.std.specs.Prelude.{ℕ, ◌==◌, Bool, true, false, not, ◌&&◌, ◌||◌, if◌then◌else◌, List, [], map, is_some, codes}
+use Rattle.std.specs.Prelude.{Option, Some, None, option_map, Result}
 use Rattle.std.specs.List.{list_all}
 use Rattle.std.specs.Option.{unwrap_or}
 use Rattle.std.specs.Str.{bytes_eq}
@@ -17,7 +18,9 @@ use Rattle.edi_orders.specs.declared.extent.Extent.{Extent}
 use Rattle.edi_orders.specs.declared.extent.Extent.TheVariants as extents
 use Rattle.edi_messages.specs.Fault.{judged}
 use Rattle.edi_messages.specs.declared.fault.MessageFault.{MessageFault}
-use Rattle.edi_messages.specs.declared.fault.MessageFault.TheVariants.{MessageType, Beginning, Function, Date, Parties, Summary, Line, Quantity, Reference, Unit, Control, NoLine, Memory}
+use Rattle.edi_messages.specs.declared.fault.MessageFault.TheVariants.{MessageType, Beginning, Function, Date, Parties}
+use Rattle.edi_messages.specs.declared.fault.MessageFault.TheVariants.{Summary, Line, Quantity, Reference, Unit}
+use Rattle.edi_messages.specs.declared.fault.MessageFault.TheVariants.{Control, NoLine, Memory}
 use Rattle.edi_orders.specs.declared.response.Response.{Response}
 use Rattle.edi_orders.specs.declared.response.Answer.{Answer}
 use Rattle.edi_orders.specs.declared.response.Answer.TheVariants as answers
@@ -58,7 +61,8 @@ action group = action_of (component (line group) 1 0)
 
 -- the quantity that is to be delivered (QTY with 6063 113), where there is none that is ordered (21)
 abbrev pub changed : List Segment → Option ℕ
-changed group = if has_qualified (codes "QTY") (codes "113") group then quantity_of (codes "113") 0 group else quantity_of (codes "21") 0 group
+changed group = if has_qualified (codes "QTY") (codes "113") group then quantity_of (codes "113") 0 group
+    else quantity_of (codes "21") 0 group
 
 -- the answer to a line; only a change has a quantity. Where there is no action, that is a fault of the line and none of
 -- its quantity.
@@ -93,16 +97,23 @@ holds Function m = not (is_some (extent m.segments))
 holds Date m = not (has_date m.segments)
 holds Parties m = not (is_some (party (codes "BY") m.segments) && is_some (party (codes "SU") m.segments))
 holds Summary m = not (has_summary m.segments)
-holds Line m = not (list_all is_line (read_groups m.segments) && list_all (λ group. is_some (action group)) (read_groups m.segments))
+holds Line m = not (list_all is_line (read_groups m.segments)
+    && list_all (λ group. is_some (action group)) (read_groups m.segments))
 holds Quantity m = not (list_all (λ group. is_some (line_answer group)) (read_groups m.segments))
-holds Reference m = not (is_some (order m.segments) && list_all (is_referred (order m.segments)) (read_groups m.segments))
+holds Reference m =
+    not (is_some (order m.segments) && list_all (is_referred (order m.segments)) (read_groups m.segments))
 holds Unit m = false
 holds Control m = not (is_controlled m.segments)
 holds NoLine m = has_lines (extent m.segments) && line_count m.segments == 0
 holds Memory m = false
 
 abbrev pub line_of : List Segment → AnswerLine
-line_of group = record { order_line = group_line group; gtin = unwrap_or (gtin group) []; answer = unwrap_or (line_answer group) line_answers.Accepted }
+line_of group =
+    record {
+      order_line = group_line group;
+      gtin = unwrap_or (gtin group) [];
+      answer = unwrap_or (line_answer group) line_answers.Accepted;
+    }
 
 abbrev pub answer_of : Option Extent → List AnswerLine → Answer
 answer_of (Some extents.AllAccepted) lines = answers.AllAccepted

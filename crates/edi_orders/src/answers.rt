@@ -14,7 +14,7 @@ use edi_tokens::{Items, Segment};
 use std::alloc::Global;
 use std::marker::Model;
 
-/// A line group with an item and an action.
+/// A line item with its action.
 #[derive(Drop)]
 pub(crate) struct ActionItem<'a, 'b> {
     action: Action,
@@ -33,7 +33,7 @@ impl<'a, 'b> Model for ActionItem<'a, 'b> {
     ghost invariant = { λ line. said.action line.item.now ≡ Some line.action };
 }
 
-/// A line group with an item and an answer.
+/// A line item with its answer.
 #[derive(Drop)]
 pub(crate) struct AnsweredItem<'a, 'b> {
     answer: LineAnswer,
@@ -62,13 +62,14 @@ fn action(group: &[Segment]) -> Option<Action>
     }
 }
 
-/// The items, each with its action; the fault `Line` where one has none.
+/// The line items, each with its action; the fault `Line` where one has none.
 pub(crate) fn action_items<'a, 'b>(
     alloc: Global,
     items: &'b [LineItem<'a>],
 ) -> Result<Vec<ActionItem<'a, 'b>>, MessageFault>
     ensures ok { IfOk result (λ lines. (lines.items ≡ items.now) × (list_all (λ group. is_some (spec.action group)) items.now ≡ true)) }
-    ensures err { IfErr result (λ fault. fault ≢ MessageFault.Memory → (fault ≡ MessageFault.Line) × (list_all (λ group. is_some (spec.action group)) items.now ≡ false)) }
+    ensures err { IfErr result (λ fault. fault ≢ MessageFault.Memory →
+        (fault ≡ MessageFault.Line) × (list_all (λ group. is_some (spec.action group)) items.now ≡ false)) }
 {
     let mut lines = Vec::new(alloc);
     for item in items {
@@ -100,13 +101,15 @@ fn answer_by(action: Action, group: &[Segment]) -> Option<LineAnswer>
     }
 }
 
-/// The items, each with its answer; the fault `Quantity` where a changed one has no quantity.
+/// The line items, each with its answer; the fault `Quantity` where a changed one has no quantity.
 pub(crate) fn answered_items<'a, 'b>(
     alloc: Global,
     items: &[ActionItem<'a, 'b>],
 ) -> Result<Vec<AnsweredItem<'a, 'b>>, MessageFault>
-    ensures ok { IfOk result (λ answered. (answered.items ≡ items.now) × (list_all (λ group. is_some (spec.line_answer group)) items.now ≡ true)) }
-    ensures err { IfErr result (λ fault. fault ≢ MessageFault.Memory → (fault ≡ MessageFault.Quantity) × (list_all (λ group. is_some (spec.line_answer group)) items.now ≡ false)) }
+    ensures ok { IfOk result (λ answered. (answered.items ≡ items.now)
+        × (list_all (λ group. is_some (spec.line_answer group)) items.now ≡ true)) }
+    ensures err { IfErr result (λ fault. fault ≢ MessageFault.Memory →
+        (fault ≡ MessageFault.Quantity) × (list_all (λ group. is_some (spec.line_answer group)) items.now ≡ false)) }
 {
     let mut answered = Vec::new(alloc);
     for line in items {
@@ -143,8 +146,10 @@ pub(crate) fn answer_lines(
     order: &[u8],
     items: &[AnsweredItem<'_, '_>],
 ) -> Result<Items<AnswerLine>, MessageFault>
-    ensures ok { IfOk result (λ lines. (lines ≡ map spec.line_of items.now) × (list_all (spec.is_referred (Some order.now)) items.now ≡ true)) }
-    ensures err { IfErr result (λ fault. fault ≢ MessageFault.Memory → (fault ≡ MessageFault.Reference) × (list_all (spec.is_referred (Some order.now)) items.now ≡ false)) }
+    ensures ok { IfOk result (λ lines. (lines ≡ map spec.line_of items.now)
+        × (list_all (spec.is_referred (Some order.now)) items.now ≡ true)) }
+    ensures err { IfErr result (λ fault. fault ≢ MessageFault.Memory →
+        (fault ≡ MessageFault.Reference) × (list_all (spec.is_referred (Some order.now)) items.now ≡ false)) }
 {
     let mut lines = Items::new(alloc);
     for line in items {

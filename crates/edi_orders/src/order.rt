@@ -32,7 +32,7 @@ pub struct Order {
 pub struct OrderLine {
     /// The line number (LIN 1082), 1 to 999,999.
     pub line: u32,
-    /// The item.
+    /// The article.
     pub gtin: Gtin,
     /// The quantity ordered, in pieces, 1 to 999,999,999.
     pub quantity: u32,
@@ -40,8 +40,10 @@ pub struct OrderLine {
 
 // The lines of groups, each with the quantity ordered.
 fn order_lines(alloc: Global, items: &[LineItem<'_>]) -> Result<Items<OrderLine>, MessageFault>
-    ensures ok { IfOk result (λ lines. (lines ≡ map spec.line_of items.now) × (list_all (λ group. is_some (spec.ordered group)) items.now ≡ true)) }
-    ensures err { IfErr result (λ fault. fault ≢ MessageFault.Memory → (fault ≡ MessageFault.Quantity) × (list_all (λ group. is_some (spec.ordered group)) items.now ≡ false)) }
+    ensures ok { IfOk result (λ lines. (lines ≡ map spec.line_of items.now)
+        × (list_all (λ group. is_some (spec.ordered group)) items.now ≡ true)) }
+    ensures err { IfErr result (λ fault. fault ≢ MessageFault.Memory →
+        (fault ≡ MessageFault.Quantity) × (list_all (λ group. is_some (spec.ordered group)) items.now ≡ false)) }
 {
     let mut lines = Items::new(alloc);
     for item in items {
@@ -57,7 +59,7 @@ fn order_lines(alloc: Global, items: &[LineItem<'_>]) -> Result<Items<OrderLine>
 
 impl Order {
     /// The order that a message is: ORDERS of the directory D.01B with BGM 1001 220 and 1225 9, one document date, one
-    /// buyer and one supplier, lines each with its own number, an item and a quantity ordered, and one UNS. Else the
+    /// buyer and one supplier, lines each with its own number, an article and a quantity ordered, and one UNS. Else the
     /// lowest fault of the message, wherever in it that stands.
     #[tactic(auto, unfolding(crate::specs::Order::order_of))]
     pub fn read(alloc: Global, message: &RawMessage) -> Result<Order, MessageFault>

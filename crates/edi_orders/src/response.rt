@@ -48,7 +48,7 @@ pub enum Answer {
 pub struct AnswerLine {
     /// The line of the order (RFF ON 1156), where it is named.
     pub order_line: Option<u32>,
-    /// The item.
+    /// The article.
     pub gtin: Gtin,
     /// What becomes of the line.
     pub answer: LineAnswer,
@@ -65,15 +65,17 @@ pub enum LineAnswer {
     Changed(u32),
 }
 
-// The items that a response answers by lines; none where it answers all lines alike.
+// The line items that a response answers; none where it answers all lines alike.
 fn read_items(
     alloc: Global,
     extent: Extent,
     message: &[Segment],
 ) -> Result<Vec<LineItem<'_>>, MessageFault>
     requires { spec.extent message.now ≡ Some extent }
-    ensures ok { IfOk result (λ items. (items.items ≡ spec.read_groups message.now) × (list_all is_line (spec.read_groups message.now) ≡ true)) }
-    ensures err { IfErr result (λ fault. fault ≢ MessageFault.Memory → (fault ≡ MessageFault.Line) × (list_all is_line (spec.read_groups message.now) ≡ false)) }
+    ensures ok { IfOk result (λ items. (items.items ≡ spec.read_groups message.now)
+        × (list_all is_line (spec.read_groups message.now) ≡ true)) }
+    ensures err { IfErr result (λ fault. fault ≢ MessageFault.Memory →
+        (fault ≡ MessageFault.Line) × (list_all is_line (spec.read_groups message.now) ≡ false)) }
 {
     match extent {
         Extent::Lines => line_items(alloc, message),
@@ -94,7 +96,7 @@ fn answer_of(extent: Extent, lines: Items<AnswerLine>) -> Answer
 
 impl Response {
     /// The response that a message is: ORDRSP of the directory D.01B with BGM 1001 231 and 1225 4, 9, 27 or 29, one
-    /// document date, one buyer and one supplier, one reference to an order, lines each with an item, an action, the
+    /// document date, one buyer and one supplier, one reference to an order, lines each with an article, an action, the
     /// quantity of a change and at most one reference to that order, and one UNS. Lines are not read with 27 and 29.
     /// Else the lowest fault of the message, wherever in it that stands.
     #[tactic(auto, unfolding(crate::specs::Response::response_of))]

@@ -13,7 +13,9 @@ use Rattle.edi_show.specs.Lines.{line, head_lines, buyer_text, line_text}
 -- a line of a unit up to the order, whose number is free text
 abbrev pub despatch_line_start : DespatchLine → List ℕ
 despatch_line_start l =
-    codes "    item " ++ (l.gtin ++ (codes " despatched " ++ (decimal l.quantity ++ (codes " line " ++ (line_text l.order_line ++ codes " order ")))))
+    codes "    item "
+    ++ (l.gtin ++ (codes " despatched " ++ (decimal l.quantity
+    ++ (codes " line " ++ (line_text l.order_line ++ codes " order ")))))
 
 unfoldable pub despatch_line : DespatchLine → List ℕ
 despatch_line l = line (despatch_line_start l) l.order
@@ -23,11 +25,13 @@ unit_lines unit = line (codes "  unit ") unit.sscc ++ flat_map despatch_line uni
 
 unfoldable pub despatch_lines : Despatch → List ℕ
 despatch_lines despatch =
-    head_lines (codes "  despatch ") despatch.number (buyer_text despatch.buyer) despatch.supplier ++ flat_map unit_lines despatch.units
+    head_lines (codes "  despatch ") despatch.number (buyer_text despatch.buyer) despatch.supplier
+    ++ flat_map unit_lines despatch.units
 
 unfoldable pub receipt_line : ReceiptLine → List ℕ
 receipt_line l =
-    codes "    item " ++ (l.gtin ++ (codes " accepted " ++ (decimal l.accepted ++ (codes " returned " ++ (decimal l.returned
+    codes "    item "
+    ++ (l.gtin ++ (codes " accepted " ++ (decimal l.accepted ++ (codes " returned " ++ (decimal l.returned
     ++ (codes " destroyed " ++ (decimal l.destroyed ++ codes "\n")))))))
 
 unfoldable pub receipt_unit_lines : ReceiptUnit → List ℕ
@@ -35,4 +39,5 @@ receipt_unit_lines unit = line (codes "  unit ") unit.sscc ++ flat_map receipt_l
 
 unfoldable pub receipt_lines : Receipt → List ℕ
 receipt_lines receipt =
-    head_lines (codes "  receipt ") receipt.number (buyer_text receipt.buyer) receipt.supplier ++ flat_map receipt_unit_lines receipt.units
+    head_lines (codes "  receipt ") receipt.number (buyer_text receipt.buyer) receipt.supplier
+    ++ flat_map receipt_unit_lines receipt.units

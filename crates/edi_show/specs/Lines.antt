@@ -8,7 +8,8 @@ line name value = name ++ (value ++ codes "\n")
 
 -- the first lines of a message
 unfoldable pub head_lines : List ℕ → List ℕ → List ℕ → List ℕ → List ℕ
-head_lines name number buyer supplier = line name number ++ (line (codes "  buyer ") buyer ++ line (codes "  supplier ") supplier)
+head_lines name number buyer supplier =
+    line name number ++ (line (codes "  buyer ") buyer ++ line (codes "  supplier ") supplier)
 
 abbrev pub buyer_text : Option (List ℕ) → List ℕ
 buyer_text (Some buyer) = buyer

@@ -24,7 +24,8 @@ content_lines (Refused fault) = message_fault_line fault
 
 unfoldable pub message_lines : ℕ → ShownMessage → List ℕ
 message_lines number message =
-    (codes "message " ++ (decimal number ++ codes "\n")) ++ (line (codes "  type ") message.kind ++ content_lines message.content)
+    (codes "message " ++ (decimal number ++ codes "\n"))
+    ++ (line (codes "  type ") message.kind ++ content_lines message.content)
 
 -- the messages in their order, numbered from a number on
 abbrev pub messages_lines : ℕ → List ShownMessage → List ℕ

@@ -14,10 +14,13 @@ use Rattle.edi_show.specs.Lines.{line, head_lines, line_text}
 
 unfoldable pub order_line : OrderLine → List ℕ
 order_line l =
-    codes "  line " ++ (decimal l.line ++ (codes " item " ++ (l.gtin ++ (codes " ordered " ++ (decimal l.quantity ++ codes "\n")))))
+    codes "  line "
+    ++ (decimal l.line
+    ++ (codes " item " ++ (l.gtin ++ (codes " ordered " ++ (decimal l.quantity ++ codes "\n")))))
 
 unfoldable pub order_lines : Order → List ℕ
-order_lines order = head_lines (codes "  order ") order.number order.buyer order.supplier ++ flat_map order_line order.lines
+order_lines order = head_lines (codes "  order ") order.number order.buyer order.supplier
+    ++ flat_map order_line order.lines
 
 abbrev pub answer_text : LineAnswer → List ℕ
 answer_text line_answers.Accepted = codes "accepted"
@@ -26,7 +29,8 @@ answer_text (line_answers.Changed quantity) = codes "changed " ++ decimal quanti
 
 unfoldable pub answer_line : AnswerLine → List ℕ
 answer_line l =
-    codes "  line " ++ (line_text l.order_line ++ (codes " item " ++ (l.gtin ++ (codes " " ++ (answer_text l.answer ++ codes "\n")))))
+    codes "  line " ++ (line_text l.order_line
+    ++ (codes " item " ++ (l.gtin ++ (codes " " ++ (answer_text l.answer ++ codes "\n")))))
 
 -- what becomes of all lines, or of each
 unfoldable pub answer_lines : Answer → List ℕ

@@ -22,7 +22,8 @@ release_text None = codes " release none"
 -- the separators
 unfoldable pub separators_text : Service → List ℕ
 separators_text service =
-    codes "service" ++ (mark_text (codes " component ") service.component ++ mark_text (codes " element ") service.element)
+    codes "service" ++ (mark_text (codes " component ") service.component
+    ++ mark_text (codes " element ") service.element)
 
 -- the decimal mark and the release character
 unfoldable pub signs_text : Service → List ℕ
@@ -30,7 +31,8 @@ signs_text service = mark_text (codes " decimal ") service.decimal ++ release_te
 
 -- the line of the service characters
 unfoldable pub service_line : Service → List ℕ
-service_line service = separators_text service ++ (signs_text service ++ (mark_text (codes " terminator ") service.terminator ++ codes "\n"))
+service_line service = separators_text service
+    ++ (signs_text service ++ (mark_text (codes " terminator ") service.terminator ++ codes "\n"))
 
 -- the line of the date and the time of preparation
 unfoldable pub prepared_line : Head → List ℕ
@@ -49,7 +51,8 @@ count_line count = codes "  messages " ++ (decimal count ++ codes "\n")
 unfoldable pub interchange_lines : ShownInterchange → List ℕ
 interchange_lines interchange =
     service_line interchange.service
-    ++ (header_lines interchange.head ++ (count_line (length interchange.messages) ++ messages_lines 1 interchange.messages))
+    ++ (header_lines interchange.head ++ (count_line (length interchange.messages)
+    ++ messages_lines 1 interchange.messages))
 
 -- the one line of a text that is refused as a whole
 unfoldable pub whole_fault_line : WholeFault → List ℕ

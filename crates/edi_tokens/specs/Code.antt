@@ -1,7 +1,8 @@
 -- The codes that are printed for faults of a text.
 use Rattle.std.specs.Prelude.{ℕ, List, codes}
 use Rattle.edi_tokens.specs.declared.fault.TokenFault.{TokenFault}
-use Rattle.edi_tokens.specs.declared.fault.TokenFault.TheVariants.{TooLong, ServiceString, Byte, Cut, Tag, LongSegment, Read, Memory}
+use Rattle.edi_tokens.specs.declared.fault.TokenFault.TheVariants.{TooLong, ServiceString, Byte, Cut, Tag, LongSegment}
+use Rattle.edi_tokens.specs.declared.fault.TokenFault.TheVariants.{Read, Memory}
 
 abbrev pub code_text : TokenFault → List ℕ
 code_text TooLong = codes "E01"

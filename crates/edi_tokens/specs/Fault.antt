@@ -1,12 +1,14 @@
 -- The fault of a text: the number that its earliest showing byte gives.
-use Rattle.std.specs.Prelude.{◌≡◌, ◌≢◌, ◌⊎◌, ◌≤◌, ℕ, Bool, true, false, IsTrue, nat_lt, is_none, ◌==◌, ◌&&◌, ◌||◌, List, [], ◌∷◌, ◌++◌, length, map, Option, Some, None, if◌then◌else◌}
+use Rattle.std.specs.Prelude.{◌≡◌, ◌≢◌, ◌⊎◌, ◌≤◌, ℕ, Bool, true, false, IsTrue, nat_lt, is_none, ◌==◌, ◌&&◌, ◌||◌, List}
+use Rattle.std.specs.Prelude.{[], ◌∷◌, ◌++◌, length, map, Option, Some, None, if◌then◌else◌}
 use Rattle.edi_tokens.specs.declared.segment.Service.{Service}
 use Rattle.edi_tokens.specs.declared.segment.Segment.{Segment}
 use Rattle.edi_tokens.specs.declared.fault.TokenFault.{TokenFault}
 use Rattle.edi_tokens.specs.declared.fault.TokenFault.TheVariants.{TooLong, ServiceString, Byte, Cut, Tag, LongSegment}
 use Rattle.edi_tokens.specs.Characters.{is_data, is_special, is_capital, is_digit, is_line_end}
 use Rattle.edi_tokens.specs.Service.{usual, una_tag, service_of}
-use Rattle.edi_tokens.specs.Spelling.{text_limit, segment_limit, Each, Behind, Before, SpellsComponent, SpellsElement, SpellsWhole, LineEnds, IsTag, tags, Advice, Advises, without_empty_end}
+use Rattle.edi_tokens.specs.Spelling.{text_limit, segment_limit, Each, Behind, Before, SpellsComponent, SpellsElement}
+use Rattle.edi_tokens.specs.Spelling.{SpellsWhole, LineEnds, IsTag, tags, Advice, Advises, without_empty_end}
 use Rattle.edi_tokens.specs.Reading.{Open, Place, Outside, InService, InTag, InData, Released, Reading, with_release}
 
 -- whether neither a service string nor a segment has come
@@ -36,7 +38,8 @@ IsTagFront (a ∷ b ∷ []) = IsTrue (is_capital a) × IsTrue (is_capital b || i
 IsTagFront (a ∷ b ∷ c ∷ []) = IsTag (a ∷ b ∷ c ∷ [])
 IsTagFront _ = ⊥
 
-pub record EndsInTag (text : List ℕ) (s : Service) (segments : List Segment) (fresh : Bool) (tag : List ℕ) : Type 0 where
+pub record EndsInTag (text : List ℕ) (s : Service) (segments : List Segment) (fresh : Bool)
+    (tag : List ℕ) : Type 0 where
   pub before : List ℕ
   pub text_is : text ≡ before ++ tag
   pub before_ends : EndsOutside before s segments fresh
@@ -93,11 +96,15 @@ Ends text r = EndsAt text r.service r.segments r.place
 -- what the next byte shows at a place
 abbrev pub shown_at : Service → Place → ℕ → Option TokenFault
 shown_at s (Outside fresh) b = if is_line_end b || is_capital b then None else Some Tag
-shown_at s (InService six) b = if length six == 5 && is_none (service_of (six ++ b ∷ [])) then Some ServiceString else None
+shown_at s (InService six) b = if length six == 5 && is_none (service_of (six ++ b ∷ [])) then Some ServiceString
+    else None
 shown_at s (InTag fresh tag) b =
-    if (if nat_lt (length tag) 3 then is_capital b || is_digit b else b == s.element || b == s.terminator) then None else Some Tag
-shown_at s (InData o) b = if o.length == segment_limit then Some LongSegment else (if is_special s b || is_data b then None else Some Byte)
-shown_at s (Released o) b = if o.length == segment_limit then Some LongSegment else (if is_data b then None else Some Byte)
+    if (if nat_lt (length tag) 3 then is_capital b || is_digit b else b == s.element || b == s.terminator) then None
+    else Some Tag
+shown_at s (InData o) b = if o.length == segment_limit then Some LongSegment
+    else (if is_special s b || is_data b then None else Some Byte)
+shown_at s (Released o) b = if o.length == segment_limit then Some LongSegment
+    else (if is_data b then None else Some Byte)
 
 -- byte 1,048,577 shows that the text is too long, whichever it is
 abbrev pub shown : List ℕ → Reading → ℕ → Option TokenFault

@@ -1,10 +1,12 @@
 -- What any bytes are read as: the segments, or the fault that the earliest byte shows.
-use Rattle.std.specs.Prelude.{◌≡◌, ℕ, ◌+◌, Bool, true, false, ◌==◌, nat_lt, ◌&&◌, ◌||◌, List, [], ◌∷◌, ◌++◌, length, take, Option, Some, None, Result, Ok, Err, if◌then◌else◌}
+use Rattle.std.specs.Prelude.{◌≡◌, ℕ, ◌+◌, Bool, true, false, ◌==◌, nat_lt, ◌&&◌, ◌||◌, List, [], ◌∷◌, ◌++◌, length}
+use Rattle.std.specs.Prelude.{take, Option, Some, None, Result, Ok, Err, if◌then◌else◌}
 use Rattle.edi_tokens.specs.declared.segment.Service.{Service}
 use Rattle.edi_tokens.specs.declared.segment.Segment.{Segment}
 use Rattle.edi_tokens.specs.declared.segment.Tokens.{Tokens}
 use Rattle.edi_tokens.specs.declared.fault.TokenFault.{TokenFault}
-use Rattle.edi_tokens.specs.declared.fault.TokenFault.TheVariants.{TooLong, ServiceString, Byte, Cut, Tag, LongSegment, Memory}
+use Rattle.edi_tokens.specs.declared.fault.TokenFault.TheVariants.{TooLong, ServiceString, Byte, Cut, Tag, LongSegment}
+use Rattle.edi_tokens.specs.declared.fault.TokenFault.TheVariants.{Memory}
 use Rattle.edi_tokens.specs.Characters.{is_data, is_special, is_capital, is_digit, is_line_end}
 use Rattle.edi_tokens.specs.Service.{usual, service_of}
 use Rattle.edi_tokens.specs.Spelling.{text_limit, segment_limit, without_empty_end}
@@ -46,7 +48,12 @@ at r place = record { service = r.service; segments = r.segments; place = place 
 
 -- one more segment
 abbrev pub ended : Reading → List ℕ → List (List (List ℕ)) → Reading
-ended r tag elements = record { service = r.service; segments = r.segments ++ record { tag = tag; elements = elements } ∷ []; place = Outside false }
+ended r tag elements =
+    record {
+      service = r.service;
+      segments = r.segments ++ record { tag = tag; elements = elements } ∷ [];
+      place = Outside false;
+    }
 
 -- the elements with the open one closed
 abbrev pub closed_elements : Open → List (List (List ℕ))
@@ -56,16 +63,32 @@ abbrev pub with_tag : List ℕ → Open
 with_tag tag = record { tag = tag; elements = []; element = []; component = []; length = 4 }
 
 abbrev pub with_byte : Open → ℕ → Open
-with_byte o b = record { tag = o.tag; elements = o.elements; element = o.element; component = o.component ++ b ∷ []; length = o.length + 1 }
+with_byte o b =
+    record {
+      tag = o.tag;
+      elements = o.elements;
+      element = o.element;
+      component = o.component ++ b ∷ [];
+      length = o.length + 1;
+    }
 
 abbrev pub with_component : Open → Open
-with_component o = record { tag = o.tag; elements = o.elements; element = o.element ++ o.component ∷ []; component = []; length = o.length + 1 }
+with_component o =
+    record {
+      tag = o.tag;
+      elements = o.elements;
+      element = o.element ++ o.component ∷ [];
+      component = [];
+      length = o.length + 1;
+    }
 
 abbrev pub with_element : Open → Open
-with_element o = record { tag = o.tag; elements = closed_elements o; element = []; component = []; length = o.length + 1 }
+with_element o =
+    record { tag = o.tag; elements = closed_elements o; element = []; component = []; length = o.length + 1 }
 
 abbrev pub with_release : Open → Open
-with_release o = record { tag = o.tag; elements = o.elements; element = o.element; component = o.component; length = o.length + 1 }
+with_release o =
+    record { tag = o.tag; elements = o.elements; element = o.element; component = o.component; length = o.length + 1 }
 
 -- the next byte, outside of segments
 abbrev pub step_outside : Reading → Bool → ℕ → Result Reading TokenFault
@@ -80,7 +103,8 @@ adopt r (Some s) = Ok (record { service = s; segments = r.segments; place = Outs
 
 -- the next of six service characters; the sixth shows whether they are valid
 abbrev pub step_service : Reading → List ℕ → ℕ → Result Reading TokenFault
-step_service r six b = if nat_lt (length six) 5 then Ok (at r (InService (six ++ b ∷ []))) else adopt r (service_of (six ++ b ∷ []))
+step_service r six b = if nat_lt (length six) 5 then Ok (at r (InService (six ++ b ∷ [])))
+    else adopt r (service_of (six ++ b ∷ []))
 
 abbrev pub is_una : List ℕ → Bool
 is_una (a ∷ b ∷ c ∷ []) = (a == 85 && b == 78) && c == 65
@@ -142,7 +166,8 @@ finish r = finish_at r r.place
 
 -- the service characters and segments of a text, or its fault
 abbrev pub tokens_of : List ℕ → Result Tokens TokenFault
-tokens_of bytes = run start (take text_limit bytes) >>= λ r. if nat_lt text_limit (length bytes) then Err TooLong else finish r
+tokens_of bytes = run start (take text_limit bytes) >>= λ r. if nat_lt text_limit (length bytes) then Err TooLong
+    else finish r
 
 -- What a call answered is what reading gives, unless memory ran out.
 abbrev pub Fails : {Y : Type 0} → TokenFault → Result Y TokenFault → Type 0

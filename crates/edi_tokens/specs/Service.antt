@@ -1,5 +1,6 @@
 -- The service characters of a text, and the service string advice UNA (ISO 9735).
-use Rattle.std.specs.Prelude.{ℕ, Bool, true, ◌==◌, ◌&&◌, ◌||◌, not, nat_le, List, [], ◌∷◌, Option, Some, None, if◌then◌else◌}
+use Rattle.std.specs.Prelude.{ℕ, Bool, true, ◌==◌, ◌&&◌, ◌||◌, not, nat_le, List, [], ◌∷◌, Option, Some, None}
+use Rattle.std.specs.Prelude.{if◌then◌else◌}
 use Rattle.edi_tokens.specs.declared.segment.Service.{Service}
 use Rattle.edi_tokens.specs.Characters.{is_capital, is_small, is_digit}
 
@@ -51,7 +52,8 @@ abbrev pub are_right : ℕ → ℕ → ℕ → ℕ → ℕ → ℕ → Bool
 are_right component element decimal release reserved terminator =
     ((is_mark component && is_mark element) && (is_mark terminator && (release == 32 || is_mark release)))
     && ((is_decimal decimal && (nat_le 32 reserved && nat_le reserved 126))
-    && ((differs component (element ∷ terminator ∷ release ∷ decimal ∷ []) && differs element (terminator ∷ release ∷ decimal ∷ []))
+    && ((differs component (element ∷ terminator ∷ release ∷ decimal ∷ [])
+    && differs element (terminator ∷ release ∷ decimal ∷ []))
     && (differs terminator (release ∷ decimal ∷ []) && differs release (decimal ∷ []))))
 
 -- what six characters say, where they are valid; a blank for the release character says that there is none

@@ -1,5 +1,7 @@
--- What a text spells (ISO 9735 syntax version 3: character sets, structures, compression): the token grammar, as a relation.
-use Rattle.std.specs.Prelude.{◌≡◌, ◌≢◌, ◌⊎◌, ◌≤◌, ℕ, IsTrue, ◌||◌, not, List, [], ◌∷◌, ◌++◌, length, map, Option, Some, None}
+-- What a text spells (ISO 9735 syntax version 3: character sets, structures, compression): the token grammar, as a
+-- relation.
+use Rattle.std.specs.Prelude.{◌≡◌, ◌≢◌, ◌⊎◌, ◌≤◌, ℕ, IsTrue, ◌||◌, not, List, [], ◌∷◌, ◌++◌, length, map, Option, Some}
+use Rattle.std.specs.Prelude.{None}
 use Rattle.std.specs.List.{AllByRecursion}
 use Rattle.edi_tokens.specs.declared.segment.Service.{Service}
 use Rattle.edi_tokens.specs.declared.segment.Segment.{Segment}
@@ -28,7 +30,8 @@ Before separator R text x = (front : List ℕ) × (text ≡ front ++ separator �
 -- a data byte: plain where it is not special, or after the release character, whichever it is
 abbrev pub SpellsByte : Service → List ℕ → ℕ → Type 0
 SpellsByte s text b =
-    IsTrue (is_data b) × (((text ≡ b ∷ []) × IsTrue (not (is_special s b))) ⊎ ((r : ℕ) × (s.release ≡ Some r) × (text ≡ r ∷ b ∷ [])))
+    IsTrue (is_data b) × (((text ≡ b ∷ []) × IsTrue (not (is_special s b)))
+    ⊎ ((r : ℕ) × (s.release ≡ Some r) × (text ≡ r ∷ b ∷ [])))
 
 abbrev pub SpellsComponent : Service → List ℕ → List ℕ → Type 0
 SpellsComponent s text component = Each (SpellsByte s) text component
@@ -60,7 +63,8 @@ counted written = without_empty_end (map without_empty_end written)
 
 -- a capital letter, then two capital letters or digits
 abbrev pub IsTag : List ℕ → Type 0
-IsTag (a ∷ b ∷ c ∷ []) = IsTrue (is_capital a) × IsTrue (is_capital b || is_digit b) × IsTrue (is_capital c || is_digit c)
+IsTag (a ∷ b ∷ c ∷ []) = IsTrue (is_capital a) × IsTrue (is_capital b || is_digit b)
+    × IsTrue (is_capital c || is_digit c)
 IsTag _ = ⊥
 
 -- a segment: the tag, each element after an element separator, the terminator
@@ -78,7 +82,8 @@ LineEnds text = AllByRecursion (λ b. IsTrue (is_line_end b)) text
 
 -- a segment, with the line ends before it
 abbrev pub SpellsNext : Service → List ℕ → Segment → Type 0
-SpellsNext s text segment = (front back : List ℕ) × (text ≡ front ++ back) × LineEnds front × SpellsSegment s back segment
+SpellsNext s text segment = (front back : List ℕ) × (text ≡ front ++ back) × LineEnds front
+    × SpellsSegment s back segment
 
 -- the service string: the line ends before it, and its six characters
 pub record Advice : Type 0 where

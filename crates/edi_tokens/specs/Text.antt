@@ -1,5 +1,5 @@
--- The canonical text of segments (ISO 9735, character sets and structures): the usual service characters `:` `+` `?` `'`,
--- a release character before each of them in data and nowhere else, no line ends.
+-- The canonical text of segments (ISO 9735, character sets and structures): the usual service characters `:` `+` `?`
+-- `'`, a release character before each of them in data and nowhere else, no line ends.
 use Rattle.std.specs.Prelude.{ℕ, Bool, ◌==◌, ◌||◌, List, [], ◌∷◌, ◌++◌, if◌then◌else◌}
 use Rattle.std.specs.List.{flat_map}
 use Rattle.edi_tokens.specs.declared.segment.Segment.{Segment}
@@ -18,7 +18,8 @@ component_text component = flat_map byte_text component
 -- the components, parted by `:`
 abbrev pub components_text : List (List ℕ) → List ℕ
 components_text [] = []
-components_text (first ∷ others) = component_text first ++ flat_map (λ component. usual_component ∷ component_text component) others
+components_text (first ∷ others) =
+    component_text first ++ flat_map (λ component. usual_component ∷ component_text component) others
 
 -- `+`, and the components
 abbrev pub element_text : List (List ℕ) → List ℕ

@@ -1,6 +1,7 @@
 -- Keys of digits, and their check digit: GS1 General Specifications, section 7.9.1, "Standard check digit calculations
 -- for GS1 data structures". A key is the list of its ASCII digits.
-use Rattle.std.specs.Prelude.{◌≡◌, ℕ, ◌+◌, ◌-◌, ◌*◌, ◌%◌, ◌==◌, Bool, ◌&&◌, if◌then◌else◌, List, [], ◌∷◌, length, take, All, slice_index}
+use Rattle.std.specs.Prelude.{◌≡◌, ℕ, ◌+◌, ◌-◌, ◌*◌, ◌%◌, ◌==◌, Bool, ◌&&◌, if◌then◌else◌, List, [], ◌∷◌, length, take}
+use Rattle.std.specs.Prelude.{All, slice_index}
 use Rattle.std.specs.Char.{IsAsciiDigit, is_ascii_digit}
 use Rattle.std.specs.List.{list_all}
 
@@ -29,4 +30,5 @@ pub record IsKey (n : ℕ) (xs : List ℕ) : Type 0 where
 
 -- the same as a test
 abbrev pub is_key : ℕ → List ℕ → Bool
-is_key n xs = length xs == n && (list_all is_ascii_digit xs && digit_value (slice_index xs (n - 1)) == check (take (n - 1) xs))
+is_key n xs = length xs == n && (list_all is_ascii_digit xs
+    && digit_value (slice_index xs (n - 1)) == check (take (n - 1) xs))

@@ -1,5 +1,6 @@
 -- Global Trade Item Numbers (GS1 application identifiers 01 and 02).
-use Rattle.std.specs.Prelude.{ℕ, ◌-◌, ◌==◌, Bool, ◌&&◌, ◌||◌, IsTrue, if◌then◌else◌, List, ◌++◌, length, replicate, Option, Some, None}
+use Rattle.std.specs.Prelude.{ℕ, ◌-◌, ◌==◌, Bool, ◌&&◌, ◌||◌, IsTrue, if◌then◌else◌, List, ◌++◌, length, replicate}
+use Rattle.std.specs.Prelude.{Option, Some, None}
 use Rattle.gs1_ids.specs.Digits.{IsKey, is_key}
 
 -- the lengths of a GTIN-8, a GTIN-12, a GTIN-13 and a GTIN-14

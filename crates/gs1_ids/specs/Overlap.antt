@@ -1,5 +1,6 @@
 -- When the prefixes of suppliers are free of one another.
-use Rattle.std.specs.Prelude.{◌≡◌, ℕ, ◌+◌, ◌<◌, ◌≤◌, false, IsTrue, List, [], ◌∷◌, length, All, AllPairs, slice_index_or, position, Option, Some, None, option_map}
+use Rattle.std.specs.Prelude.{◌≡◌, ℕ, ◌+◌, ◌<◌, ◌≤◌, false, IsTrue, List, [], ◌∷◌, length, All, AllPairs}
+use Rattle.std.specs.Prelude.{slice_index_or, position, Option, Some, None, option_map}
 use Rattle.gs1_ids.specs.Prefix.{Begins, overlap}
 use Rattle.gs1_ids.specs.Sscc.{under_some}
 

@@ -209,7 +209,7 @@ cleans_answer order said state changes rows h =
     let line = found.0 in
     let a = not_refused (not (waits line)) codes.NotWaiting _ changes found.2 in
     let b = not_refused (is_out_of_range said.answer (despatched state line) line) codes.OutOfRange _ changes a.1 in
-    let c = not_refused (not (same line.gtin said.gtin)) codes.OtherItem _ changes b.1 in
+    let c = not_refused (not (same line.gtin said.gtin)) codes.OtherArticle _ changes b.1 in
     accepted (SetLine (answered said.answer (despatched state line) line) ∷ []) changes c.1
     (clean_answered line (clean_found state order said.order_line said.gtin line rows found.1) said.answer (despatched state line) b.0, tt)
 
@@ -290,7 +290,7 @@ module _ (sscc : List ℕ) (key : is_key 18 sscc ≡ true) where
       let a = not_refused (not (knows_order state said.order)) codes.NoOrder _ changes h in
       let found = was_given (line_of state said.order said.order_line said.gtin) codes.NoLine _ changes a.1 in
       let line = found.0 in
-      let b = not_refused (not (same line.gtin said.gtin)) codes.OtherItem _ changes found.2 in
+      let b = not_refused (not (same line.gtin said.gtin)) codes.OtherArticle _ changes found.2 in
       let c = not_refused (nat_lt line.open_qty said.quantity) codes.MoreThanOpen _ changes b.1 in
       let clean = clean_found state said.order said.order_line said.gtin line rows found.1 in
       let number = and_parts (is_number line.number) _ (and_parts (is_gln line.supplier) _ clean).1 in

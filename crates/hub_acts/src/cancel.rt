@@ -20,7 +20,9 @@ use std::alloc::Global;
 // Carries out what comes of a cancellation, to which this is the reply.
 fn finish<S: Store>(store: &mut S, verdict: &Verdict, reply: Reply) -> Result<Reply, StoreFault>
     requires { reply ≡ cancel_reply (told verdict.now) }
-    ensures carried { Rising (changed verdict.now (S.content store.old)) → Carried S.content S.honest S.left store.old store.new (λ t. replied_by cancel_reply (act verdict.now t)) as_told result }
+    ensures carried { Rising (changed verdict.now (S.content store.old)) →
+        Carried S.content S.honest S.left store.old store.new (λ t.
+        replied_by cancel_reply (act verdict.now t)) as_told result }
     ensures unharmed { Unharmed S.content S.honest store.old store.new result }
 {
     carry_out(store, verdict)?;
@@ -35,7 +37,9 @@ pub fn take_cancel<S: Store>(
     store: &mut S,
     cancel: &Cancel,
 ) -> Result<Reply, StoreFault>
-    ensures carried { SoundHub register.now.suppliers (S.content store.old) → Carried S.content S.honest S.left store.old store.new (λ t. cancelled Whole (cancel_named register.now cancel.now t) t) as_told result }
+    ensures carried { SoundHub register.now.suppliers (S.content store.old) →
+        Carried S.content S.honest S.left store.old store.new (λ t.
+        cancelled Whole (cancel_named register.now cancel.now t) t) as_told result }
     ensures unharmed { Unharmed S.content S.honest store.old store.new result }
 {
     acts_stay_sound();

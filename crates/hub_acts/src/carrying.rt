@@ -7,50 +7,53 @@ ghost use Rattle.hub_rules.specs.declared.verdict.Verdict.TheVariants.{Accept};
 ghost use Rattle.hub_law.specs.Told.{act, changed, told};
 ghost use Rattle.hub_acts.specs.Acts.{Carried, Unharmed};
 ghost use Rattle.hub_acts.specs.Judged.{act_of};
-ghost use Rattle.hub_texts.specs.Told.{told_of};
+ghost use Rattle.hub_texts.specs.Decision.{told_of};
 
 use crate::judged::Judged;
 use hub_judges::Verdict;
 use hub_store::{Store, StoreFault};
 use hub_tables::Change;
-use hub_texts::Told;
+use hub_texts::Decision;
 
 // What is told of a message that is accepted, with these changes.
-fn told_of_changes(changes: &[Change]) -> Told
+fn told_of_changes(changes: &[Change]) -> Decision
     ensures { told (Accept changes.now) ≡ told_of result }
 {
     if changes.is_empty() {
-        Told::Repeated
+        Decision::Repeated
     } else {
-        Told::Accepted
+        Decision::Accepted
     }
 }
 
 /// What is told of a verdict.
-pub(crate) fn told_of_verdict(verdict: &Verdict) -> Told
+pub(crate) fn told_of_verdict(verdict: &Verdict) -> Decision
     ensures { told verdict.now ≡ told_of result }
 {
     match verdict {
-        Verdict::Refuse(code) => Told::Refused(*code),
+        Verdict::Refuse(code) => Decision::Refused(*code),
         Verdict::Accept(changes) => told_of_changes(changes.as_slice()),
     }
 }
 
 /// What is told of a message.
-pub(crate) fn told_of_judged(judged: &Judged) -> Told
+pub(crate) fn told_of_judged(judged: &Judged) -> Decision
     ensures { (t : Tables) → (act_of judged.now t).0 ≡ told_of result }
 {
     match judged {
         Judged::Read(verdict) => told_of_verdict(verdict),
-        Judged::Unread(fault) => Told::Unread(*fault),
+        Judged::Unread(fault) => Decision::Unread(*fault),
     }
 }
 
 // Makes the changes, where there are some.
 fn make<S: Store>(store: &mut S, changes: &[Change]) -> Result<(), StoreFault>
-    ensures done { Rising (apply_all changes.now (S.content store.old)) → S.honest store.new → OnOk result (S.content store.new ≡ apply_all changes.now (S.content store.old)) }
-    ensures durable { S.honest store.new → OnOk result ((t : Tables) → S.left store.new t → (t ≡ S.content store.new) ⊎ ((S.content store.new ≡ S.content store.old) × S.left store.old t)) }
-    ensures crash { S.honest store.new → OnErr result ((t : Tables) → S.left store.new t → S.left store.old t ⊎ (t ≡ apply_all changes.now (S.content store.old))) }
+    ensures done { Rising (apply_all changes.now (S.content store.old)) → S.honest store.new →
+        OnOk result (S.content store.new ≡ apply_all changes.now (S.content store.old)) }
+    ensures durable { S.honest store.new → OnOk result ((t : Tables) → S.left store.new t →
+        (t ≡ S.content store.new) ⊎ ((S.content store.new ≡ S.content store.old) × S.left store.old t)) }
+    ensures crash { S.honest store.new → OnErr result ((t : Tables) → S.left store.new t →
+        S.left store.old t ⊎ (t ≡ apply_all changes.now (S.content store.old))) }
     ensures unharmed { Unharmed S.content S.honest store.old store.new result }
 {
     if changes.is_empty() {
@@ -60,13 +63,14 @@ fn make<S: Store>(store: &mut S, changes: &[Change]) -> Result<(), StoreFault>
 }
 
 /// Carries out what the rules say.
-pub(crate) fn carry_out<S: Store>(store: &mut S, verdict: &Verdict) -> Result<Told, StoreFault>
-    ensures carried { Rising (changed verdict.now (S.content store.old)) → Carried S.content S.honest S.left store.old store.new (act verdict.now) told_of result }
+pub(crate) fn carry_out<S: Store>(store: &mut S, verdict: &Verdict) -> Result<Decision, StoreFault>
+    ensures carried { Rising (changed verdict.now (S.content store.old)) →
+        Carried S.content S.honest S.left store.old store.new (act verdict.now) told_of result }
     ensures told { IfOk result (λ seen. told verdict.now ≡ told_of seen) }
     ensures unharmed { Unharmed S.content S.honest store.old store.new result }
 {
     match verdict {
-        Verdict::Refuse(code) => Ok(Told::Refused(*code)),
+        Verdict::Refuse(code) => Ok(Decision::Refused(*code)),
         Verdict::Accept(changes) => {
             make(store, changes.as_slice())?;
             Ok(told_of_changes(changes.as_slice()))
@@ -75,13 +79,17 @@ pub(crate) fn carry_out<S: Store>(store: &mut S, verdict: &Verdict) -> Result<To
 }
 
 /// Carries out what comes of a message.
-pub(crate) fn carry_out_judged<S: Store>(store: &mut S, judged: &Judged) -> Result<Told, StoreFault>
-    ensures carried { Rising (act_of judged.now (S.content store.old)).1 → Carried S.content S.honest S.left store.old store.new (act_of judged.now) told_of result }
+pub(crate) fn carry_out_judged<S: Store>(
+    store: &mut S,
+    judged: &Judged,
+) -> Result<Decision, StoreFault>
+    ensures carried { Rising (act_of judged.now (S.content store.old)).1 →
+        Carried S.content S.honest S.left store.old store.new (act_of judged.now) told_of result }
     ensures told { IfOk result (λ seen. (t : Tables) → (act_of judged.now t).0 ≡ told_of seen) }
     ensures unharmed { Unharmed S.content S.honest store.old store.new result }
 {
     match judged {
         Judged::Read(verdict) => carry_out(store, verdict),
-        Judged::Unread(fault) => Ok(Told::Unread(*fault)),
+        Judged::Unread(fault) => Ok(Decision::Unread(*fault)),
     }
 }

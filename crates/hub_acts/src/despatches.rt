@@ -57,8 +57,13 @@ fn put_known<S: Store>(
     orders: &mut Items<Items<u8>>,
     lines: &mut Items<LineRow>,
 ) -> Result<(), StoreFault>
-    ensures orders { S.honest store.new → OnOk result (orders.new ≡ orders.old ++ filter (knows_order (view supplier.now (S.content store.old))) (map (λ number. number.now) named.now.keys)) }
-    ensures rows { S.honest store.new → OnOk result (lines.new ≡ lines.old ++ flat_map (lines_of (view supplier.now (S.content store.old))) (map (λ number. number.now) named.now.keys)) }
+    ensures orders { S.honest store.new →
+        OnOk result (orders.new ≡ orders.old
+        ++ filter (knows_order (view supplier.now (S.content store.old)))
+        (map (λ number. number.now) named.now.keys)) }
+    ensures rows { S.honest store.new →
+        OnOk result (lines.new ≡ lines.old
+        ++ flat_map (lines_of (view supplier.now (S.content store.old))) (map (λ number. number.now) named.now.keys)) }
     ensures unclean { S.honest store.new → S.broken store.old ≡ None → are_clean (S.content store.old) ≡ true → result ≢ Err Unclean }
     ensures stays { Stays S.content S.honest S.left store.old store.new }
 {
@@ -110,10 +115,13 @@ pub(crate) fn known_for_despatch<S: Store>(
     incoming: &IncomingMessage,
     despatch: &Despatch,
 ) -> Result<Known, StoreFault>
-    ensures told { S.honest store.new → Kept (view supplier.now (S.content store.old)) → IfOk result (λ known. TellsForDespatch known (has_pallet (S.content store.old)) incoming.now despatch.now (view supplier.now (S.content store.old))) }
+    ensures told { S.honest store.new → Kept (view supplier.now (S.content store.old)) →
+        IfOk result (λ known. TellsForDespatch known (has_pallet (S.content store.old)) incoming.now despatch.now
+        (view supplier.now (S.content store.old))) }
     ensures rise { IfOk result (λ known. Rises facts_cmp known.lines) }
     ensures each { IfOk result (λ known. length known.used ≡ length despatch.now.units) }
-    ensures unclean { S.honest store.new → S.broken store.old ≡ None → are_clean (S.content store.old) ≡ true → result ≡ Err Unclean → NamedUnclean despatch.now.units (view supplier.now (S.content store.old)) }
+    ensures unclean { S.honest store.new → S.broken store.old ≡ None → are_clean (S.content store.old) ≡ true →
+        result ≡ Err Unclean → NamedUnclean despatch.now.units (view supplier.now (S.content store.old)) }
     ensures stays { Stays S.content S.honest S.left store.old store.new }
 {
     let units = despatch.units.as_slice();

@@ -45,7 +45,12 @@ fn judged_order<S: Store>(
     message: &RawMessage,
     incoming: IncomingMessage,
 ) -> Result<Judged, StoreFault>
-    ensures judged { S.honest store.new → Kept (view (named message.now) (S.content store.old)) → IfOk result (λ judged. read_act (order_of message.now) (λ order. rules.judge_order register.now.retailer (supplier_row register.now.suppliers (named message.now)) incoming (body_of message.now) order (view (named message.now) (S.content store.old))) (S.content store.old) ≡ act_of judged (S.content store.old)) }
+    ensures judged { S.honest store.new → Kept (view (named message.now) (S.content store.old)) →
+        IfOk result (λ judged.
+        read_act (order_of message.now) (λ order.
+        rules.judge_order register.now.retailer (supplier_row register.now.suppliers (named message.now)) incoming
+        (body_of message.now) order (view (named message.now) (S.content store.old))) (S.content store.old)
+        ≡ act_of judged (S.content store.old)) }
     ensures stays { Stays S.content S.honest S.left store.old store.new }
 {
     let order = match Order::read(alloc, message) {
@@ -69,7 +74,12 @@ fn judged_receipt<S: Store>(
     message: &RawMessage,
     incoming: IncomingMessage,
 ) -> Result<Judged, StoreFault>
-    ensures judged { S.honest store.new → Kept (view (named message.now) (S.content store.old)) → IfOk result (λ judged. read_act (receipt_of message.now) (λ receipt. rules.judge_receipt register.now.retailer (supplier_row register.now.suppliers (named message.now)) incoming (body_of message.now) receipt (view (named message.now) (S.content store.old))) (S.content store.old) ≡ act_of judged (S.content store.old)) }
+    ensures judged { S.honest store.new → Kept (view (named message.now) (S.content store.old)) →
+        IfOk result (λ judged.
+        read_act (receipt_of message.now) (λ receipt.
+        rules.judge_receipt register.now.retailer (supplier_row register.now.suppliers (named message.now)) incoming
+        (body_of message.now) receipt (view (named message.now) (S.content store.old))) (S.content store.old)
+        ≡ act_of judged (S.content store.old)) }
     ensures stays { Stays S.content S.honest S.left store.old store.new }
 {
     let receipt = match Receipt::read(alloc, message) {
@@ -94,7 +104,11 @@ fn judged_response<S: Store>(
     message: &RawMessage,
     incoming: IncomingMessage,
 ) -> Result<Judged, StoreFault>
-    ensures judged { S.honest store.new → Kept (view supplier.now.gln (S.content store.old)) → IfOk result (λ judged. read_act (response_of message.now) (λ response. rules.judge_response register.now.retailer (Some supplier.now) incoming response (view supplier.now.gln (S.content store.old))) (S.content store.old) ≡ act_of judged (S.content store.old)) }
+    ensures judged { S.honest store.new → Kept (view supplier.now.gln (S.content store.old)) →
+        IfOk result (λ judged.
+        read_act (response_of message.now) (λ response.
+        rules.judge_response register.now.retailer (Some supplier.now) incoming response
+        (view supplier.now.gln (S.content store.old))) (S.content store.old) ≡ act_of judged (S.content store.old)) }
     ensures stays { Stays S.content S.honest S.left store.old store.new }
 {
     let response = match Response::read(alloc, message) {
@@ -117,7 +131,12 @@ fn judged_despatch<S: Store>(
     message: &RawMessage,
     incoming: IncomingMessage,
 ) -> Result<Judged, StoreFault>
-    ensures judged { S.honest store.new → Kept (view supplier.now.gln (S.content store.old)) → IfOk result (λ judged. read_act (despatch_of message.now) (λ despatch. rules.judge_despatch register.now.retailer (Some supplier.now) (has_pallet (S.content store.old)) incoming despatch (view supplier.now.gln (S.content store.old))) (S.content store.old) ≡ act_of judged (S.content store.old)) }
+    ensures judged { S.honest store.new → Kept (view supplier.now.gln (S.content store.old)) →
+        IfOk result (λ judged.
+        read_act (despatch_of message.now) (λ despatch.
+        rules.judge_despatch register.now.retailer (Some supplier.now)
+        (has_pallet (S.content store.old)) incoming despatch (view supplier.now.gln (S.content store.old)))
+        (S.content store.old) ≡ act_of judged (S.content store.old)) }
     ensures stays { Stays S.content S.honest S.left store.old store.new }
 {
     let despatch = match Despatch::read(alloc, message) {
@@ -139,7 +158,9 @@ pub(crate) fn judged_for_retailer<S: Store>(
     message: &RawMessage,
     incoming: IncomingMessage,
 ) -> Result<Judged, StoreFault>
-    ensures judged { S.honest store.new → Kept (view (named message.now) (S.content store.old)) → IfOk result (λ judged. deliver_named register.now (message.now, incoming) (S.content store.old) ≡ act_of judged (S.content store.old)) }
+    ensures judged { S.honest store.new → Kept (view (named message.now) (S.content store.old)) →
+        IfOk result (λ judged. deliver_named register.now (message.now, incoming) (S.content store.old)
+        ≡ act_of judged (S.content store.old)) }
     ensures stays { Stays S.content S.honest S.left store.old store.new }
 {
     match message.kind.as_slice() {
@@ -158,7 +179,9 @@ pub(crate) fn judged_for_supplier<S: Store>(
     message: &RawMessage,
     incoming: IncomingMessage,
 ) -> Result<Judged, StoreFault>
-    ensures judged { S.honest store.new → Kept (view supplier.now.gln (S.content store.old)) → IfOk result (λ judged. deliver_suppliers (view supplier.now.gln) (parties_of register.now) supplier.now (message.now, incoming) (S.content store.old) ≡ act_of judged (S.content store.old)) }
+    ensures judged { S.honest store.new → Kept (view supplier.now.gln (S.content store.old)) →
+        IfOk result (λ judged. deliver_suppliers (view supplier.now.gln) (parties_of register.now) supplier.now
+        (message.now, incoming) (S.content store.old) ≡ act_of judged (S.content store.old)) }
     ensures stays { Stays S.content S.honest S.left store.old store.new }
 {
     match message.kind.as_slice() {

@@ -9,7 +9,8 @@ ghost use Rattle.hub_store.specs.Clean.{are_clean};
 ghost use Rattle.hub_store.specs.declared.fault.StoreFault.TheVariants.{Unclean};
 ghost use Rattle.hub_lines.specs.Book.{facts_cmp, IsCovered};
 ghost use Rattle.hub_rules.specs.Sound.{Kept};
-ghost use Rattle.hub_judges.specs.Known.{TellsDespatched, TellsForCancel, TellsForOrder, TellsForReceipt, TellsForResponse, TellsLines, TellsOrder};
+ghost use Rattle.hub_judges.specs.Known.{TellsDespatched, TellsForCancel, TellsForOrder, TellsForReceipt, TellsForResponse, TellsLines};
+ghost use Rattle.hub_judges.specs.Known.{TellsOrder};
 ghost use Rattle.hub_acts.specs.Acts.{Stays};
 ghost use Rattle.hub_acts.specs.Facts.{AreUnclean};
 
@@ -32,7 +33,8 @@ pub(crate) fn known_for_order<S: Store>(
     incoming: &IncomingMessage,
     order: &Order,
 ) -> Result<Known, StoreFault>
-    ensures told { S.honest store.new → Kept (view supplier.now (S.content store.old)) → IfOk result (λ known. TellsForOrder known incoming.now order.now (view supplier.now (S.content store.old))) }
+    ensures told { S.honest store.new → Kept (view supplier.now (S.content store.old)) →
+        IfOk result (λ known. TellsForOrder known incoming.now order.now (view supplier.now (S.content store.old))) }
     ensures unclean { S.honest store.new → S.broken store.old ≡ None → are_clean (S.content store.old) ≡ true → result ≢ Err Unclean }
     ensures stays { Stays S.content S.honest S.left store.old store.new }
 {
@@ -77,10 +79,15 @@ fn known_of_order<S: Store>(
     order: &[u8],
     remembered: Option<Items<u8>>,
 ) -> Result<Known, StoreFault>
-    ensures told { S.honest store.new → IfOk result (λ known. TellsOrder known (view supplier.now (S.content store.old)) order.now × TellsLines (view supplier.now (S.content store.old)) known.lines order.now × (Kept (view supplier.now (S.content store.old)) → TellsDespatched (view supplier.now (S.content store.old)) known.lines)) }
+    ensures told { S.honest store.new →
+        IfOk result (λ known. TellsOrder known (view supplier.now (S.content store.old)) order.now
+        × TellsLines (view supplier.now (S.content store.old)) known.lines order.now
+        × (Kept (view supplier.now (S.content store.old)) →
+        TellsDespatched (view supplier.now (S.content store.old)) known.lines)) }
     ensures remembered { IfOk result (λ known. known.remembered ≡ remembered) }
     ensures rise { IfOk result (λ known. Rises facts_cmp known.lines) }
-    ensures unclean { S.honest store.new → S.broken store.old ≡ None → are_clean (S.content store.old) ≡ true → result ≡ Err Unclean → AreUnclean (lines_of (view supplier.now (S.content store.old)) order.now) }
+    ensures unclean { S.honest store.new → S.broken store.old ≡ None → are_clean (S.content store.old) ≡ true →
+        result ≡ Err Unclean → AreUnclean (lines_of (view supplier.now (S.content store.old)) order.now) }
     ensures covered { IfOk result (λ known. AllByRecursion IsCovered known.lines) }
     ensures stays { Stays S.content S.honest S.left store.old store.new }
 {
@@ -108,9 +115,12 @@ pub(crate) fn known_for_response<S: Store>(
     incoming: &IncomingMessage,
     response: &Response,
 ) -> Result<Known, StoreFault>
-    ensures told { S.honest store.new → Kept (view supplier.now (S.content store.old)) → IfOk result (λ known. TellsForResponse known incoming.now response.now (view supplier.now (S.content store.old))) }
+    ensures told { S.honest store.new → Kept (view supplier.now (S.content store.old)) →
+        IfOk result (λ known. TellsForResponse known incoming.now response.now
+        (view supplier.now (S.content store.old))) }
     ensures rise { IfOk result (λ known. Rises facts_cmp known.lines) }
-    ensures unclean { S.honest store.new → S.broken store.old ≡ None → are_clean (S.content store.old) ≡ true → result ≡ Err Unclean → AreUnclean (lines_of (view supplier.now (S.content store.old)) response.now.order) }
+    ensures unclean { S.honest store.new → S.broken store.old ≡ None → are_clean (S.content store.old) ≡ true →
+        result ≡ Err Unclean → AreUnclean (lines_of (view supplier.now (S.content store.old)) response.now.order) }
     ensures covered { IfOk result (λ known. AllByRecursion IsCovered known.lines) }
     ensures stays { Stays S.content S.honest S.left store.old store.new }
 {
@@ -128,9 +138,12 @@ pub(crate) fn known_for_cancel<S: Store>(
     store: &mut S,
     cancel: &Cancel,
 ) -> Result<Known, StoreFault>
-    ensures told { S.honest store.new → IfOk result (λ known. TellsForCancel known cancel.now (view cancel.now.supplier (S.content store.old))) }
+    ensures told { S.honest store.new →
+        IfOk result (λ known. TellsForCancel known cancel.now (view cancel.now.supplier (S.content store.old))) }
     ensures covered { IfOk result (λ known. AllByRecursion IsCovered known.lines) }
-    ensures unclean { S.honest store.new → S.broken store.old ≡ None → are_clean (S.content store.old) ≡ true → result ≡ Err Unclean → AreUnclean (lines_of (view cancel.now.supplier (S.content store.old)) cancel.now.order) }
+    ensures unclean { S.honest store.new → S.broken store.old ≡ None → are_clean (S.content store.old) ≡ true →
+        result ≡ Err Unclean →
+        AreUnclean (lines_of (view cancel.now.supplier (S.content store.old)) cancel.now.order) }
     ensures stays { Stays S.content S.honest S.left store.old store.new }
 {
     let supplier = &cancel.supplier;
@@ -159,7 +172,9 @@ fn pallets_of<S: Store>(
     supplier: &Gln,
     units: &[ReceiptUnit],
 ) -> Result<Items<Option<PalletRow>>, StoreFault>
-    ensures found { S.honest store.new → IfOk result (λ pallets. map (λ unit. pallet_of (view supplier.now (S.content store.old)) unit.sscc) units.now ≡ pallets) }
+    ensures found { S.honest store.new →
+        IfOk result (λ pallets. map (λ unit. pallet_of (view supplier.now (S.content store.old)) unit.sscc) units.now
+        ≡ pallets) }
     ensures each { IfOk result (λ pallets. length pallets ≡ length units.now) }
     ensures unclean { S.honest store.new → S.broken store.old ≡ None → are_clean (S.content store.old) ≡ true → result ≢ Err Unclean }
     ensures stays { Stays S.content S.honest S.left store.old store.new }
@@ -181,7 +196,9 @@ pub(crate) fn known_for_receipt<S: Store>(
     incoming: &IncomingMessage,
     receipt: &Receipt,
 ) -> Result<Known, StoreFault>
-    ensures told { S.honest store.new → Kept (view supplier.now (S.content store.old)) → IfOk result (λ known. TellsForReceipt known incoming.now receipt.now (view supplier.now (S.content store.old))) }
+    ensures told { S.honest store.new → Kept (view supplier.now (S.content store.old)) →
+        IfOk result (λ known. TellsForReceipt known incoming.now receipt.now
+        (view supplier.now (S.content store.old))) }
     ensures each { IfOk result (λ known. length known.pallets ≡ length receipt.now.units) }
     ensures unclean { S.honest store.new → S.broken store.old ≡ None → are_clean (S.content store.old) ≡ true → result ≢ Err Unclean }
     ensures stays { Stays S.content S.honest S.left store.old store.new }

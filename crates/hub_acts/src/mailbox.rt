@@ -51,7 +51,9 @@ pub fn mailbox_list<S: Store>(
     supplier: &Gln,
     number: u64,
 ) -> Result<Reply, StoreFault>
-    ensures reply { S.honest store.new → IfOk result (λ reply. reply ≡ done (list_text (untaken_after (view supplier.now (S.content store.old)) number))) }
+    ensures reply { S.honest store.new →
+        IfOk result (λ reply.
+        reply ≡ done (list_text (untaken_after (view supplier.now (S.content store.old)) number))) }
     ensures stays { Stays S.content S.honest S.left store.old store.new }
 {
     let entries = store.mail_after(supplier, number, LISTED_AND_ONE)?;
@@ -67,7 +69,9 @@ pub fn mailbox_entry<S: Store>(
     supplier: &Gln,
     number: u64,
 ) -> Result<Reply, StoreFault>
-    ensures reply { S.honest store.new → IfOk result (λ reply. reply ≡ entry_reply hub.now (entry_at (view supplier.now (S.content store.old)) number)) }
+    ensures reply { S.honest store.new →
+        IfOk result (λ reply. reply ≡ entry_reply hub.now
+        (entry_at (view supplier.now (S.content store.old)) number)) }
     ensures stays { Stays S.content S.honest S.left store.old store.new }
 {
     let Some(entry) = store.mail_item(supplier, number)? else {
@@ -94,7 +98,10 @@ pub fn take_entry<S: Store>(
     supplier: &Gln,
     number: u64,
 ) -> Result<Reply, StoreFault>
-    ensures carried { (register : RegisterRows) (s : SupplierRow) → s.gln ≡ supplier.now → Registered register.suppliers s (S.content store.old) → Carried S.content S.honest S.left store.old store.new (λ t. taken Whole (entry_at (view supplier.now t) number) t) as_told result }
+    ensures carried { (register : RegisterRows) (s : SupplierRow) → s.gln ≡ supplier.now →
+        Registered register.suppliers s (S.content store.old) →
+        Carried S.content S.honest S.left store.old store.new (λ t.
+        taken Whole (entry_at (view supplier.now t) number) t) as_told result }
     ensures unharmed { Unharmed S.content S.honest store.old store.new result }
 {
     acts_stay_sound();

@@ -10,7 +10,7 @@ ghost use Rattle.hub_law.specs.Requests.{deliver_named};
 ghost use Rattle.hub_law.specs.Widths.{line};
 ghost use Rattle.hub_acts.specs.Acts.{Carried, Unharmed};
 ghost use Rattle.hub_acts.specs.Judged.{act_of};
-ghost use Rattle.hub_texts.specs.Told.{told_of};
+ghost use Rattle.hub_texts.specs.Decision.{told_of};
 
 use crate::carrying::{carry_out_judged, told_of_judged};
 use crate::incoming::incoming_of;
@@ -20,7 +20,7 @@ use hub_law::acts_stay_sound;
 use hub_parties::SupplierRow;
 use hub_register::Register;
 use hub_store::{Store, StoreFault};
-use hub_texts::{Told, message_line};
+use hub_texts::{Decision, message_line};
 use std::alloc::Global;
 
 // Carries out what comes of a message, and puts its line after the others. Room for the line and for one word more,
@@ -31,10 +31,12 @@ fn finish<S: Store>(
     message: &RawMessage,
     judged: &Judged,
     reply: &mut Vec<u8>,
-) -> Result<Told, StoreFault>
-    ensures carried { Rising (act_of judged.now (S.content store.old)).1 → Carried S.content S.honest S.left store.old store.new (act_of judged.now) told_of result }
+) -> Result<Decision, StoreFault>
+    ensures carried { Rising (act_of judged.now (S.content store.old)).1 →
+        Carried S.content S.honest S.left store.old store.new (act_of judged.now) told_of result }
     ensures unharmed { Unharmed S.content S.honest store.old store.new result }
-    ensures line { IfOk result (λ told. reply.new.items ≡ reply.old.items ++ line (message.now.reference ∷ message.now.kind ∷ told_words (told_of told))) }
+    ensures line { IfOk result (λ told. reply.new.items ≡ reply.old.items
+        ++ line (message.now.reference ∷ message.now.kind ∷ told_words (told_of told))) }
     ensures kept { OnErr result (reply.new.items ≡ reply.old.items) }
     ensures room { vec_len reply.old + 8 ≤ vec_capacity reply.old → vec_len reply.new + 8 ≤ vec_capacity reply.new }
 {
@@ -56,10 +58,13 @@ pub fn take_retailers_message<S: Store>(
     interchange: &Interchange,
     message: &RawMessage,
     reply: &mut Vec<u8>,
-) -> Result<Told, StoreFault>
-    ensures carried { SoundHub register.now.suppliers (S.content store.old) → Carried S.content S.honest S.left store.old store.new (deliver_named register.now (message.now, incoming moment interchange.now message.now)) told_of result }
+) -> Result<Decision, StoreFault>
+    ensures carried { SoundHub register.now.suppliers (S.content store.old) →
+        Carried S.content S.honest S.left store.old store.new
+        (deliver_named register.now (message.now, incoming moment interchange.now message.now)) told_of result }
     ensures unharmed { Unharmed S.content S.honest store.old store.new result }
-    ensures line { IfOk result (λ told. reply.new.items ≡ reply.old.items ++ line (message.now.reference ∷ message.now.kind ∷ told_words (told_of told))) }
+    ensures line { IfOk result (λ told. reply.new.items ≡ reply.old.items
+        ++ line (message.now.reference ∷ message.now.kind ∷ told_words (told_of told))) }
     ensures kept { OnErr result (reply.new.items ≡ reply.old.items) }
     ensures room { vec_len reply.old + 8 ≤ vec_capacity reply.old → vec_len reply.new + 8 ≤ vec_capacity reply.new }
 {
@@ -79,10 +84,14 @@ pub fn take_suppliers_message<S: Store>(
     interchange: &Interchange,
     message: &RawMessage,
     reply: &mut Vec<u8>,
-) -> Result<Told, StoreFault>
-    ensures carried { Registered register.now.suppliers supplier.now (S.content store.old) → Carried S.content S.honest S.left store.old store.new (deliver_suppliers (view supplier.now.gln) (parties_of register.now) supplier.now (message.now, incoming moment interchange.now message.now)) told_of result }
+) -> Result<Decision, StoreFault>
+    ensures carried { Registered register.now.suppliers supplier.now (S.content store.old) →
+        Carried S.content S.honest S.left store.old store.new
+        (deliver_suppliers (view supplier.now.gln) (parties_of register.now) supplier.now
+        (message.now, incoming moment interchange.now message.now)) told_of result }
     ensures unharmed { Unharmed S.content S.honest store.old store.new result }
-    ensures line { IfOk result (λ told. reply.new.items ≡ reply.old.items ++ line (message.now.reference ∷ message.now.kind ∷ told_words (told_of told))) }
+    ensures line { IfOk result (λ told. reply.new.items ≡ reply.old.items
+        ++ line (message.now.reference ∷ message.now.kind ∷ told_words (told_of told))) }
     ensures kept { OnErr result (reply.new.items ≡ reply.old.items) }
     ensures room { vec_len reply.old + 8 ≤ vec_capacity reply.old → vec_len reply.new + 8 ≤ vec_capacity reply.new }
 {

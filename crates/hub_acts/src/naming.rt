@@ -17,7 +17,10 @@ fn put_orders<'a>(
     lines: &'a [DespatchLine],
     orders: &mut BTreeSet<&'a [u8]>,
 ) -> Result<(), MemoryFault>
-    ensures orders { OnOk result ((order : List ℕ) → is_among order (map (λ number. number.now) orders.new.keys) ≡ (is_among order (map (λ number. number.now) orders.old.keys) || list_any (λ line. same line.order order) lines.now)) }
+    ensures orders { OnOk result ((order : List ℕ) →
+        is_among order (map (λ number. number.now) orders.new.keys)
+        ≡ (is_among order (map (λ number. number.now) orders.old.keys)
+        || list_any (λ line. same line.order order) lines.now)) }
     ensures ordered { OnOk result (IsOrdered by_number orders.old → IsOrdered by_number orders.new) }
 {
     for line in lines {
@@ -31,7 +34,8 @@ pub(crate) fn orders_named<'a>(
     alloc: Global,
     units: &'a [Unit],
 ) -> Result<BTreeSet<&'a [u8]>, MemoryFault>
-    ensures orders { IfOk result (λ orders. (order : List ℕ) → is_among order (map (λ number. number.now) orders.keys) ≡ names_order units.now order) }
+    ensures orders { IfOk result (λ orders. (order : List ℕ) →
+        is_among order (map (λ number. number.now) orders.keys) ≡ names_order units.now order) }
     ensures ordered { IfOk result (IsOrdered by_number) }
 {
     let mut orders = BTreeSet::new(alloc);

@@ -34,7 +34,8 @@ fn put_text(
     out: &mut Vec<u8>,
 ) -> Result<(), StoreFault>
     requires { Rises place_cmp lines.now }
-    ensures text { (state : Tables) → state.lines ≡ lines.now → contents_of state pallet.now.sscc ≡ contents.now → receipts_of state pallet.now.sscc ≡ receipts.now →
+    ensures text { (state : Tables) → state.lines ≡ lines.now →
+        contents_of state pallet.now.sscc ≡ contents.now → receipts_of state pallet.now.sscc ≡ receipts.now →
         OnOk result (out.new.items ≡ out.old.items ++ pallet_text state pallet.now) }
     ensures unclean { result ≡ Err Unclean → IsUnclean lines.now contents.now receipts.now }
 {
@@ -55,8 +56,11 @@ fn put_pallets<S: Store>(
     out: &mut Vec<u8>,
 ) -> Result<(), StoreFault>
     requires { Rises place_cmp lines.now }
-    ensures text { S.honest store.new → (view supplier.now (S.content store.old)).lines ≡ lines.now → OnOk result (out.new.items ≡ out.old.items ++ flat_map (pallet_text (view supplier.now (S.content store.old))) pallets.now) }
-    ensures unclean { S.honest store.new → S.broken store.old ≡ None → are_clean (S.content store.old) ≡ true → result ≡ Err Unclean → PalletUnclean (view supplier.now (S.content store.old)) lines.now pallets.now }
+    ensures text { S.honest store.new → (view supplier.now (S.content store.old)).lines ≡ lines.now →
+        OnOk result (out.new.items ≡ out.old.items
+        ++ flat_map (pallet_text (view supplier.now (S.content store.old))) pallets.now) }
+    ensures unclean { S.honest store.new → S.broken store.old ≡ None → are_clean (S.content store.old) ≡ true →
+        result ≡ Err Unclean → PalletUnclean (view supplier.now (S.content store.old)) lines.now pallets.now }
     ensures stays { Stays S.content S.honest S.left store.old store.new }
 {
     for pallet in pallets {
@@ -77,8 +81,10 @@ pub fn status_report<S: Store>(
     store: &mut S,
     supplier: &Gln,
 ) -> Result<Reply, StoreFault>
-    ensures reply { S.honest store.new → Kept (view supplier.now (S.content store.old)) → IfOk result (λ reply. reply ≡ done (status_text (view supplier.now (S.content store.old)))) }
-    ensures unclean { S.honest store.new → S.broken store.old ≡ None → are_clean (S.content store.old) ≡ true → result ≡ Err Unclean → StatusUnclean (view supplier.now (S.content store.old)) }
+    ensures reply { S.honest store.new → Kept (view supplier.now (S.content store.old)) →
+        IfOk result (λ reply. reply ≡ done (status_text (view supplier.now (S.content store.old)))) }
+    ensures unclean { S.honest store.new → S.broken store.old ≡ None → are_clean (S.content store.old) ≡ true →
+        result ≡ Err Unclean → StatusUnclean (view supplier.now (S.content store.old)) }
     ensures stays { Stays S.content S.honest S.left store.old store.new }
 {
     let ordered = store.all_lines(supplier)?;

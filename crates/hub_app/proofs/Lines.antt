@@ -115,3 +115,20 @@ pub not_read : {T File Memory Up Same : Type 0} (fault : ReadFault)
     → (File × Up) ⊎ (Memory × Same)
 not_read read_faults.Read file memory up same = inl (file refl, up refl)
 not_read read_faults.Memory file memory up same = inr (memory refl, same (λ e. cc))
+
+-- what is told where nothing was read: `file` where the reader failed, else `memory`, and nothing is written
+module _ {T File Memory Up Same : Type 0} (fault : ReadFault)
+    (file : fault ≡ read_faults.Read → File)
+    (memory : fault ≡ read_faults.Memory → Memory)
+    (up : ◌≡◌ {A = Result T ReadFault} (Err fault) (Err read_faults.Read) → Up)
+    (same : ◌≢◌ {A = Result T ReadFault} (Err fault) (Err read_faults.Read) → Same) where
+  pub read_or_told : {Status : Type 0} → Status → Same ⊎ (Status × File)
+  read_or_told status =
+      elim (not_read fault file memory up same) [ inl h ↦ inr (status, h.0) | inr h ↦ inl h.1 ]
+
+  pub failed_unwritten : {Untouched Written : Type 0} → Untouched → (File × ((Up × Untouched) ⊎ Written)) ⊎ (Memory × Untouched)
+  failed_unwritten untouched =
+      elim (not_read fault file memory up same) [
+        | inl h ↦ inl (h.0, inl (h.1, untouched))
+        | inr h ↦ inr (h.0, untouched)
+      ]

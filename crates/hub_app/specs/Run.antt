@@ -13,11 +13,14 @@ read_limit = text_limit + 1
 
 -- what was read is relayed, and the mail texts were written
 abbrev pub Delivers : Option (List ℕ) → RelayWords → Option (List ℕ) → Option (List ℕ) → Type 0
-Delivers known words old new = IfSome known (λ bytes. (mail : List ℕ) × (relayed (take read_limit bytes) words ≡ Ok mail) × Appends old new mail)
+Delivers known words old new =
+    IfSome known (λ bytes. (mail : List ℕ) × (relayed (take read_limit bytes) words ≡ Ok mail) × Appends old new mail)
 
 -- what was read is relayed, and a front of the mail texts was written
 abbrev pub DeliversFront : Option (List ℕ) → RelayWords → Option (List ℕ) → Option (List ℕ) → Type 0
-DeliversFront known words old new = IfSome known (λ bytes. (mail : List ℕ) × (relayed (take read_limit bytes) words ≡ Ok mail) × AppendsFront old new mail)
+DeliversFront known words old new =
+    IfSome known (λ bytes. (mail : List ℕ) × (relayed (take read_limit bytes) words ≡ Ok mail)
+    × AppendsFront old new mail)
 
 -- what was read is refused
 abbrev pub IsRefused : Option (List ℕ) → RelayWords → RelayFault → Type 0

@@ -16,7 +16,9 @@ status_of text = if is_refused (shown_of text) then 1 else 0
 
 -- the lines of what was read were written, and the exit status is theirs
 abbrev pub Shows : Option (List ℕ) → ℕ → Option (List ℕ) → Option (List ℕ) → Type 0
-Shows known status old new = IfSome known (λ bytes. (status ≡ status_of (take read_limit bytes)) × Appends old new (lines_shown (take read_limit bytes)))
+Shows known status old new =
+    IfSome known (λ bytes. (status ≡ status_of (take read_limit bytes))
+    × Appends old new (lines_shown (take read_limit bytes)))
 
 -- a front of the lines of what was read was written
 abbrev pub ShowsFront : Option (List ℕ) → Option (List ℕ) → Option (List ℕ) → Type 0

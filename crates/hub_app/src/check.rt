@@ -61,7 +61,8 @@ pub fn read_register_text<R: Source>(alloc: Global, input: &mut R) -> Result<Str
     ensures taken { TakesAtMost (R.remaining input.old) (R.remaining input.new) read_limit }
     ensures text { IfOk result (λ text. IsRegisterText (string_bytes text)) }
     ensures whole { IfOk result (λ text. IfSome (R.remaining input.old) (λ bytes. bytes ≡ string_bytes text)) }
-    ensures file { result ≡ Err TextFault.File → (R.failed input.new ≡ true) ⊎ IfSome (R.remaining input.old) (λ bytes. ¬ IsRegisterText bytes) }
+    ensures file { result ≡ Err TextFault.File → (R.failed input.new ≡ true)
+        ⊎ IfSome (R.remaining input.old) (λ bytes. ¬ IsRegisterText bytes) }
     ensures kept { result ≢ Err TextFault.File → R.failed input.new ≡ R.failed input.old }
 {
     let bytes = read_to_limit(alloc, input, TEXT_LIMIT + 1)?;
@@ -111,7 +112,8 @@ pub fn check_run<W: Sink, E: Sink>(alloc: Global, text: &str, out: &mut W, err: 
         (result ≡ verdict_status (register_of text.now))
         × Appends (W.contents out.old) (W.contents out.new) (verdict_line (register_of text.now))
         × Keeps (E.contents err.old) (E.contents err.new) }
-    ensures written { (W.failed out.new ≡ W.failed out.old) ⊎ ((result ≡ 3) × Tells (E.contents err.old) (E.contents err.new) (E.failed err.new) (codes "file\n")) }
+    ensures written { (W.failed out.new ≡ W.failed out.old)
+        ⊎ ((result ≡ 3) × Tells (E.contents err.old) (E.contents err.new) (E.failed err.new) (codes "file\n")) }
     ensures failed { result ≡ 3 →
         (Tells (E.contents err.old) (E.contents err.new) (E.failed err.new) (codes "file\n")
         × (W.failed out.new ≡ true) × AppendsFront (W.contents out.old) (W.contents out.new) (verdict_line (register_of text.now)))

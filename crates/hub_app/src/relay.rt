@@ -169,7 +169,8 @@ fn append_mail(
     requires hub { All (λ digit. IsTrue (is_digit digit)) words.now.hub }
     requires owner { All (λ digit. IsTrue (is_digit digit)) words.now.owner }
     requires number { (1 ≤ number) × (number ≤ LAST_MAIL_NUMBER) }
-    ensures { OnOk result (out.new.items ≡ out.old.items ++ mail_text words.now.hub words.now.owner words.now.moment decimal number message.now) }
+    ensures { OnOk result (out.new.items ≡ out.old.items
+        ++ mail_text words.now.hub words.now.owner words.now.moment decimal number message.now) }
 {
     let segments = wrap(
         alloc,

@@ -61,9 +61,13 @@ pub fn relay_run<R: Source, W: Sink, E: Sink>(
     requires { AreRelayWords words.now }
     ensures taken { TakesAtMost (R.remaining input.old) (R.remaining input.new) read_limit }
     ensures status { (result ≡ 0) ⊎ ((result ≡ 1) ⊎ (result ≡ 3)) }
-    ensures read { (R.failed input.new ≡ R.failed input.old) ⊎ ((result ≡ 3) × Tells (E.contents err.old) (E.contents err.new) (E.failed err.new) (codes "file\n")) }
-    ensures written { (W.failed out.new ≡ W.failed out.old) ⊎ ((result ≡ 3) × Tells (E.contents err.old) (E.contents err.new) (E.failed err.new) (codes "file\n")) }
-    ensures stands { ((result ≡ 0) ⊎ (result ≡ 1)) → IfSome (R.remaining input.old) (λ known. Consumes (R.remaining input.old) (R.remaining input.new) (take read_limit known)) }
+    ensures read { (R.failed input.new ≡ R.failed input.old)
+        ⊎ ((result ≡ 3) × Tells (E.contents err.old) (E.contents err.new) (E.failed err.new) (codes "file\n")) }
+    ensures written { (W.failed out.new ≡ W.failed out.old)
+        ⊎ ((result ≡ 3) × Tells (E.contents err.old) (E.contents err.new) (E.failed err.new) (codes "file\n")) }
+    ensures stands { ((result ≡ 0) ⊎ (result ≡ 1)) →
+        IfSome (R.remaining input.old) (λ known.
+        Consumes (R.remaining input.old) (R.remaining input.new) (take read_limit known)) }
     ensures done { result ≡ 0 →
         Delivers (R.remaining input.old) words.now (W.contents out.old) (W.contents out.new)
         × Keeps (E.contents err.old) (E.contents err.new) }

@@ -42,9 +42,12 @@ pub fn show_run<R: Source, W: Sink, E: Sink>(
 ) -> u8
     ensures taken { TakesAtMost (R.remaining input.old) (R.remaining input.new) read_limit }
     ensures status { (result ≡ 0) ⊎ ((result ≡ 1) ⊎ (result ≡ 3)) }
-    ensures read { (R.failed input.new ≡ R.failed input.old) ⊎ ((result ≡ 3) × Tells (E.contents err.old) (E.contents err.new) (E.failed err.new) (codes "file\n")) }
-    ensures written { (W.failed out.new ≡ W.failed out.old) ⊎ ((result ≡ 3) × Tells (E.contents err.old) (E.contents err.new) (E.failed err.new) (codes "file\n")) }
-    ensures stands { result ≢ 3 → IfSome (R.remaining input.old) (λ known. Consumes (R.remaining input.old) (R.remaining input.new) (take read_limit known)) }
+    ensures read { (R.failed input.new ≡ R.failed input.old)
+        ⊎ ((result ≡ 3) × Tells (E.contents err.old) (E.contents err.new) (E.failed err.new) (codes "file\n")) }
+    ensures written { (W.failed out.new ≡ W.failed out.old)
+        ⊎ ((result ≡ 3) × Tells (E.contents err.old) (E.contents err.new) (E.failed err.new) (codes "file\n")) }
+    ensures stands { result ≢ 3 → IfSome (R.remaining input.old) (λ known.
+        Consumes (R.remaining input.old) (R.remaining input.new) (take read_limit known)) }
     ensures shown { result ≢ 3 →
         Shows (R.remaining input.old) result (W.contents out.old) (W.contents out.new)
         × Keeps (E.contents err.old) (E.contents err.new) }

@@ -139,7 +139,8 @@ RunLeaves register t inputs after before u =
 
 -- A run: the shared machine's over the inputs, each whole or stopped at some place, which its reply says. Tables stay
 -- sound, so lines balance, and each supplier sees and is told what it would be alone.
-pub record RunBy (register : RegisterRows) (t after : Tables) (inputs : List Input) (replies : List Reply) : Type 0 where
+pub record RunBy (register : RegisterRows) (t after : Tables) (inputs : List Input)
+    (replies : List Reply) : Type 0 where
   pub marked : Inputs
   pub are : map (λ x. x.0) marked ≡ inputs
   pub is : shared_run register t marked ≡ (replies, after)

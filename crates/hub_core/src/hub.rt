@@ -71,7 +71,9 @@ impl<S: Store> Hub<S> {
     /// `stopped`, after the lines of what was done; where there is no memory even for that, it is empty and nothing was
     /// done.
     pub fn step(&mut self, moment: Moment, caller: &Gln, key: &[u8], request: Request) -> Reply
-        ensures stepped { S.honest self.new.1 → Sound self.old.0.suppliers (S.content self.old.1) → Stepped self.old.0 (S.content self.old.1) (S.content self.new.1) (S.left self.old.1) (S.left self.new.1) (input_of moment caller.now key.now request) result }
+        ensures stepped { S.honest self.new.1 → Sound self.old.0.suppliers (S.content self.old.1) →
+            Stepped self.old.0 (S.content self.old.1) (S.content self.new.1) (S.left self.old.1) (S.left self.new.1)
+            (input_of moment caller.now key.now request) result }
         ensures register { self.new.0 ≡ self.old.0 }
         ensures was_honest { S.honest self.new.1 → S.honest self.old.1 }
     {
@@ -89,7 +91,9 @@ impl<S: Store> Hub<S> {
     /// Answers requests one after another, each as `step` does. Room for the replies is taken before the first: where
     /// it is not found, none was looked at.
     pub fn run(&mut self, inputs: &[Input]) -> Result<Items<Reply>, MemoryFault>
-        ensures ran { S.honest self.new.1 → Sound self.old.0.suppliers (S.content self.old.1) → IfOk result (λ replies. Ran self.old.0 (S.content self.old.1) (S.content self.new.1) (S.left self.old.1) (S.left self.new.1) inputs.now replies) }
+        ensures ran { S.honest self.new.1 → Sound self.old.0.suppliers (S.content self.old.1) →
+            IfOk result (λ replies. Ran self.old.0 (S.content self.old.1) (S.content self.new.1) (S.left self.old.1)
+            (S.left self.new.1) inputs.now replies) }
         ensures none { OnErr result (self.new ≡ self.old) }
         ensures register { self.new.0 ≡ self.old.0 }
         ensures was_honest { S.honest self.new.1 → S.honest self.old.1 }

@@ -1,14 +1,17 @@
 //! Laws of hubs that ran, each the contract of a function that does nothing.
 ghost use Rattle.std.specs.Prelude.{◌≡◌, ℕ, ◌+◌, List, length, slice_get, ◌∷◌, ◌++◌, Some};
 ghost use Rattle.edi_envelope.specs.declared.interchange.RawMessage.{RawMessage};
-ghost use Rattle.hub_parties.specs.Rows.{RegisterRows};
+ghost use Rattle.hub_parties.specs.Rows.{RegisterRows, row_of};
 ghost use Rattle.hub_parties.specs.declared.row.SupplierRow.{SupplierRow};
 ghost use Rattle.hub_rules.specs.declared.cancel.Cancel.{Cancel};
+ghost use Rattle.hub_tables.specs.Sets.{Has};
 ghost use Rattle.hub_tables.specs.Tables.{Tables, view};
 ghost use Rattle.hub_law.specs.Again.{MessageAt, Reaches, AcceptedAt, SameReference, AsksCancel};
 ghost use Rattle.hub_law.specs.Laws.{Agree, AgreeBefore};
 ghost use Rattle.hub_law.specs.Machine.{Inputs, replies_to, shared_run, shared_step};
 ghost use Rattle.hub_law.specs.Mark.{Mark, Whole};
+ghost use Rattle.hub_law.specs.Messages.{incoming};
+ghost use Rattle.hub_law.specs.Remembered.{row_of_message};
 ghost use Rattle.hub_law.specs.Replies.{cancel_reply};
 ghost use Rattle.hub_law.specs.Requests.{cancel_named};
 ghost use Rattle.hub_law.specs.Stops.{first_acts};
@@ -19,7 +22,7 @@ ghost use Rattle.hub_rules.specs.Laws.{SoundHub};
 ghost use Rattle.hub_core.specs.Laws.{TellsOf};
 ghost use Rattle.hub_core.specs.Steps.{RunBy};
 
-use hub_law::{repeated_in_runs, runs_alike, stops_cut_uploads};
+use hub_law::{accepted_stays_remembered, repeated_in_runs, runs_alike, stops_cut_uploads};
 
 /// Two runs, each of a hub and a store of its own, that agree on a supplier are alike for it: it sees the same in the
 /// end, and all replies to it are the same, byte for byte. They agree on its GLN, prefixes and key, on the GLNs of hub
@@ -44,6 +47,23 @@ pub fn hubs_alike()
         slice_get replies (length xs_before) ≡ slice_get answers (length ys_before) }
 {
     runs_alike();
+}
+
+/// A message that was accepted: the reply of its step tells of it as accepted, and in the tables of the hub it is
+/// remembered, under its references and with its content, after that step and whatever steps and runs follow.
+pub fn accepted_by_steps()
+    ensures told { (register : RegisterRows) (t : Tables) (before : Inputs) (input : Input) (mark : Mark) (place : ℕ)
+        (message : RawMessage) (one : AcceptedAt register t before input mark place message) →
+        TellsOf one.comes.upload.interchange place Accepted
+        (shared_step register (shared_run register t before).1 input mark).0 }
+    ensures remembered { (register : RegisterRows) (t u : Tables) (before between : Inputs) (input : Input) (mark : Mark)
+        (place : ℕ) (message : RawMessage) (one : AcceptedAt register t before input mark place message) →
+        (shared_run register t (before ++ (input, mark) ∷ between)).1 ≡ u →
+        Has u.remembered (row_of_message (row_of register input.caller) message
+        (incoming input.moment one.comes.upload.interchange message)) }
+{
+    accepted_stays_remembered();
+    stops_cut_uploads();
 }
 
 /// A message that was accepted and comes again, whatever steps and runs of a hub lie between, and whatever a crash

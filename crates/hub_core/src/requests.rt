@@ -10,7 +10,7 @@ ghost use Rattle.hub_core.specs.declared.caller.Caller.TheVariants.{Retailer, Su
 use crate::caller::Caller;
 use crate::opening::{address_fault, opened};
 use crate::replies::{denied_reply, refused_upload, unknown_reply};
-use crate::upload::take_messages;
+use crate::upload::{OpenedUpload, take_messages};
 use edi_envelope::{Interchange, Moment};
 use gs1_ids::Gln;
 use hub_acts::{mailbox_entry, mailbox_list, status_report, take_cancel, take_entry};
@@ -49,7 +49,11 @@ fn upload<S: Store>(
     moment: Moment,
     bytes: &[u8],
 ) -> Result<Reply, StoreFault>
-    ensures asked { MayDeliver register.now caller.entry (S.content store.old) → Asked S.content S.honest S.left store.old store.new (acts_of (opened_for (delivered register.now caller.entry) (opening_of register.now caller.entry bytes.now))) (λ mark t. uploaded (delivered register.now caller.entry) moment mark (opening_of register.now caller.entry bytes.now) t) result }
+    ensures asked { MayDeliver register.now caller.entry (S.content store.old) →
+        Asked S.content S.honest S.left store.old store.new
+        (acts_of (opened_for (delivered register.now caller.entry) (opening_of register.now caller.entry bytes.now)))
+        (λ mark t. uploaded (delivered register.now caller.entry) moment mark
+        (opening_of register.now caller.entry bytes.now) t) result }
     ensures was_honest { S.honest store.new → S.honest store.old }
 {
     let interchange = match opened(alloc, bytes)? {
@@ -61,7 +65,13 @@ fn upload<S: Store>(
     }
     let mut reply = interchange_line(alloc, &interchange)?;
     reply.try_reserve(8)?;
-    Ok(take_messages(alloc, register, caller, store, moment, &interchange, reply))
+    let upload = OpenedUpload {
+        register,
+        caller,
+        moment,
+        interchange: &interchange,
+    };
+    Ok(take_messages(alloc, &upload, store, reply))
 }
 
 // What a supplier asks.
@@ -73,7 +83,10 @@ fn asked_by_supplier<S: Store>(
     moment: Moment,
     request: &Request,
 ) -> Result<Reply, StoreFault>
-    ensures asked { MayDeliver register.now (Supplier supplier.entry) (S.content store.old) → Asked S.content S.honest S.left store.old store.new (acts_by register.now (Supplier supplier.entry) request.now) (request_of register.now (Supplier supplier.entry) moment request.now) result }
+    ensures asked { MayDeliver register.now (Supplier supplier.entry) (S.content store.old) →
+        Asked S.content S.honest S.left store.old store.new
+        (acts_by register.now (Supplier supplier.entry) request.now)
+        (request_of register.now (Supplier supplier.entry) moment request.now) result }
     ensures was_honest { S.honest store.new → S.honest store.old }
 {
     let gln = &supplier.gln;
@@ -98,7 +111,9 @@ fn asked_by_retailer<S: Store>(
     moment: Moment,
     request: &Request,
 ) -> Result<Reply, StoreFault>
-    ensures asked { MayDeliver register.now Retailer (S.content store.old) → Asked S.content S.honest S.left store.old store.new (acts_by register.now Retailer request.now) (request_of register.now Retailer moment request.now) result }
+    ensures asked { MayDeliver register.now Retailer (S.content store.old) →
+        Asked S.content S.honest S.left store.old store.new (acts_by register.now Retailer request.now)
+        (request_of register.now Retailer moment request.now) result }
     ensures was_honest { S.honest store.new → S.honest store.old }
 {
     match request {
@@ -128,7 +143,9 @@ pub(crate) fn asked<S: Store>(
     moment: Moment,
     request: &Request,
 ) -> Result<Reply, StoreFault>
-    ensures asked { MayDeliver register.now caller.entry (S.content store.old) → Asked S.content S.honest S.left store.old store.new (acts_by register.now caller.entry request.now) (request_of register.now caller.entry moment request.now) result }
+    ensures asked { MayDeliver register.now caller.entry (S.content store.old) →
+        Asked S.content S.honest S.left store.old store.new (acts_by register.now caller.entry request.now)
+        (request_of register.now caller.entry moment request.now) result }
     ensures was_honest { S.honest store.new → S.honest store.old }
 {
     match caller {

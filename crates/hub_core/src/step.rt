@@ -53,7 +53,10 @@ fn answer<S: Store>(
     key: &[u8],
     request: &Request,
 ) -> Result<Reply, StoreFault>
-    ensures asked { SoundHub register.now.suppliers (S.content store.old) → Asked S.content S.honest S.left store.old store.new (acts_of (upload_of register.now (input_of moment caller.now key.now request.now))) (λ mark t. shared_step register.now t (input_of moment caller.now key.now request.now) mark) result }
+    ensures asked { SoundHub register.now.suppliers (S.content store.old) →
+        Asked S.content S.honest S.left store.old store.new
+        (acts_of (upload_of register.now (input_of moment caller.now key.now request.now))) (λ mark t.
+        shared_step register.now t (input_of moment caller.now key.now request.now) mark) result }
     ensures was_honest { S.honest store.new → S.honest store.old }
 {
     match caller_of(register, caller, key) {
@@ -72,7 +75,9 @@ pub(crate) fn step<S: Store>(
     key: &[u8],
     request: &Request,
 ) -> Reply
-    ensures stepped { S.honest store.new → Sound register.now.suppliers (S.content store.old) → Stepped register.now (S.content store.old) (S.content store.new) (S.left store.old) (S.left store.new) (input_of moment caller.now key.now request.now) result }
+    ensures stepped { S.honest store.new → Sound register.now.suppliers (S.content store.old) →
+        Stepped register.now (S.content store.old) (S.content store.new) (S.left store.old) (S.left store.new)
+        (input_of moment caller.now key.now request.now) result }
     ensures was_honest { S.honest store.new → S.honest store.old }
 {
     step_is_own();
@@ -105,7 +110,9 @@ pub(crate) fn run<S: Store>(
     store: &mut S,
     inputs: &[Input],
 ) -> Result<Items<Reply>, MemoryFault>
-    ensures ran { S.honest store.new → Sound register.now.suppliers (S.content store.old) → IfOk result (λ replies. Ran register.now (S.content store.old) (S.content store.new) (S.left store.old) (S.left store.new) inputs.now replies) }
+    ensures ran { S.honest store.new → Sound register.now.suppliers (S.content store.old) →
+        IfOk result (λ replies. Ran register.now (S.content store.old) (S.content store.new) (S.left store.old)
+        (S.left store.new) inputs.now replies) }
     ensures none { OnErr result (store.new ≡ store.old) }
     ensures was_honest { S.honest store.new → S.honest store.old }
 {

@@ -6,7 +6,7 @@ ghost use Rattle.hub_law.specs.Requests.{uploaded};
 ghost use Rattle.hub_law.specs.Told as law;
 ghost use Rattle.hub_law.specs.Widths.{line};
 ghost use Rattle.hub_acts.specs.Acts.{Carried, Unharmed};
-ghost use Rattle.hub_texts.specs.Told.{told_of};
+ghost use Rattle.hub_texts.specs.Decision.{told_of};
 ghost use Rattle.hub_core.specs.Callers.{delivered, MayDeliver};
 ghost use Rattle.hub_core.specs.Steps.{Answered};
 
@@ -17,28 +17,44 @@ use hub_acts::{take_retailers_message, take_suppliers_message};
 use hub_law::{Outcome, Reply, acts_stay_sound};
 use hub_register::Register;
 use hub_store::{Store, StoreFault};
-use hub_texts::Told;
+use hub_texts::Decision;
 use std::alloc::Global;
+
+/// An upload whose messages are taken: its interchange, who sends it, and when, under a register.
+#[derive(Clone, Copy)]
+pub(crate) struct OpenedUpload<'a> {
+    pub(crate) register: &'a Register,
+    pub(crate) caller: Caller<'a>,
+    pub(crate) moment: Moment,
+    pub(crate) interchange: &'a Interchange,
+}
 
 // Takes a message of whoever sends it.
 fn take_message<S: Store>(
     alloc: Global,
-    register: &Register,
-    caller: Caller<'_>,
+    upload: &OpenedUpload<'_>,
     store: &mut S,
-    moment: Moment,
-    interchange: &Interchange,
     message: &RawMessage,
     reply: &mut Vec<u8>,
-) -> Result<Told, StoreFault>
-    ensures carried { MayDeliver register.now caller.entry (S.content store.old) → Carried S.content S.honest S.left store.old store.new (delivered register.now caller.entry (message.now, incoming moment interchange.now message.now)) told_of result }
+) -> Result<Decision, StoreFault>
+    ensures carried { MayDeliver upload.now.register.now upload.now.caller (S.content store.old) →
+        Carried S.content S.honest S.left store.old store.new (delivered upload.now.register.now upload.now.caller
+        (message.now, incoming upload.now.moment upload.now.interchange.now message.now)) told_of result }
     ensures unharmed { Unharmed S.content S.honest store.old store.new result }
-    ensures may { S.honest store.new → MayDeliver register.now caller.entry (S.content store.old) → MayDeliver register.now caller.entry (S.content store.new) }
-    ensures line { IfOk result (λ told. reply.new.items ≡ reply.old.items ++ line (message.now.reference ∷ message.now.kind ∷ told_words (told_of told))) }
+    ensures may { S.honest store.new → MayDeliver upload.now.register.now upload.now.caller (S.content store.old) →
+        MayDeliver upload.now.register.now upload.now.caller (S.content store.new) }
+    ensures line { IfOk result (λ told. reply.new.items ≡ reply.old.items
+        ++ line (message.now.reference ∷ message.now.kind ∷ told_words (told_of told))) }
     ensures kept { OnErr result (reply.new.items ≡ reply.old.items) }
     ensures room { vec_len reply.old + 8 ≤ vec_capacity reply.old → vec_len reply.new + 8 ≤ vec_capacity reply.new }
 {
     acts_stay_sound();
+    let OpenedUpload {
+        register,
+        caller,
+        moment,
+        interchange,
+    } = *upload;
     match caller {
         Caller::Retailer => {
             take_retailers_message(alloc, register, store, moment, interchange, message, reply)
@@ -57,7 +73,7 @@ fn take_message<S: Store>(
 }
 
 // Whether a message was refused, or one before it.
-fn either_refused(before: bool, told: Told) -> bool
+fn either_refused(before: bool, told: Decision) -> bool
     ensures { result ≡ (before || law.is_refused (told_of told)) }
 {
     before || told.is_refused()
@@ -67,30 +83,20 @@ fn either_refused(before: bool, told: Told) -> bool
 /// room for `stopped` and the end of its line.
 pub(crate) fn take_messages<S: Store>(
     alloc: Global,
-    register: &Register,
-    caller: Caller<'_>,
+    upload: &OpenedUpload<'_>,
     store: &mut S,
-    moment: Moment,
-    interchange: &Interchange,
     mut reply: Vec<u8>,
 ) -> Reply
-    requires line { reply.items ≡ interchange_line interchange.now }
+    requires line { reply.items ≡ interchange_line upload.now.interchange.now }
     requires room { vec_len reply + 8 ≤ vec_capacity reply }
-    ensures answered { S.honest store.new → MayDeliver register.now caller.entry (S.content store.old) → Answered S.content S.left store.old store.new (length interchange.now.messages) (λ mark t. uploaded (delivered register.now caller.entry) moment mark (Ok interchange.now) t) result }
+    ensures answered { S.honest store.new → MayDeliver upload.now.register.now upload.now.caller (S.content store.old) →
+        Answered S.content S.left store.old store.new (length upload.now.interchange.now.messages) (λ mark t.
+        uploaded (delivered upload.now.register.now upload.now.caller) upload.now.moment mark (Ok upload.now.interchange.now) t) result }
     ensures was_honest { S.honest store.new → S.honest store.old }
 {
     let mut refused = false;
-    for message in interchange.messages.as_slice() {
-        let Ok(told) = take_message(
-            alloc,
-            register,
-            caller,
-            store,
-            moment,
-            interchange,
-            message,
-            &mut reply,
-        ) else {
+    for message in upload.interchange.messages.as_slice() {
+        let Ok(told) = take_message(alloc, upload, store, message, &mut reply) else {
             reply.extend_from_slice(b"stopped\n").unwrap();
             return Reply {
                 outcome: Outcome::Stopped,

@@ -20,7 +20,7 @@ use Rattle.hub_lines.specs.Book.{facts_of, facts_among, with_row, answered_row, 
 use Rattle.hub_lines.specs.declared.facts.LineFacts.{LineFacts}
 use Rattle.hub_rules.specs.Judging.{refuse_if, given, joined, goes_on, in_order}
 use Rattle.hub_rules.specs.ResponseRules.{answered, is_out_of_range, is_empty, judge_answer, judge_all, judge_answers, judge_new_response}
-use Rattle.hub_rules.specs.declared.code.Code.TheVariants.{NoOrder, NoLine, NotWaiting, OutOfRange, OtherItem}
+use Rattle.hub_rules.specs.declared.code.Code.TheVariants.{NoOrder, NoLine, NotWaiting, OutOfRange, OtherArticle}
 use Rattle.hub_rules.specs.declared.verdict.Verdict.{Verdict}
 use Rattle.hub_rules.specs.declared.verdict.Verdict.TheVariants.{Accept, Refuse}
 use Rattle.hub_judges.specs.FromFacts.{answer_checks, after_answer, answers_from, all_from, said_from, response_from}
@@ -33,7 +33,7 @@ abbrev checked : AnswerLine → ℕ → LineRow → Verdict → Verdict
 checked said sent line rest =
     refuse_if (not (waits line)) NotWaiting (
     refuse_if (is_out_of_range said.answer sent line) OutOfRange (
-    refuse_if (not (same line.gtin said.gtin)) OtherItem rest))
+    refuse_if (not (same line.gtin said.gtin)) OtherArticle rest))
 
 -- the first answer, and then the rest as it is judged
 module _ (order : List ℕ) (x : AnswerLine) (rest : List AnswerLine) (state : Tables) (lines : List LineFacts)
@@ -54,9 +54,9 @@ module _ (order : List ℕ) (x : AnswerLine) (rest : List AnswerLine) (state : T
 
   through : (line : LineFacts) (a b c : Bool)
       → goes_on
-      (refuse_if a NotWaiting (refuse_if b OutOfRange (refuse_if c OtherItem (Accept (SetLine (after line) ∷ [])))))
+      (refuse_if a NotWaiting (refuse_if b OutOfRange (refuse_if c OtherArticle (Accept (SetLine (after line) ∷ [])))))
       (in_order (judge_answer order) rest) state
-      ≡ refuse_if a NotWaiting (refuse_if b OutOfRange (refuse_if c OtherItem
+      ≡ refuse_if a NotWaiting (refuse_if b OutOfRange (refuse_if c OtherArticle
       (joined (SetLine (after line) ∷ []) (answers_from order rest (with_row (after line) lines)))))
   through line true b c = refl
   through line false true c = refl

@@ -1,10 +1,10 @@
 -- Despatches judged from facts are judged as from the state that the facts tell.
 use Rattle.std.proofs.Common.{◌≡◌, ℕ, ◌+◌, ◌-◌, nat_lt, Bool, true, false, not, ◌||◌, List, [], ◌∷◌, ◌++◌, map, Option}
-use Rattle.std.proofs.Common.{Some, None, option_map, refl, sym, subst, ◌∙◌, ap, ap₂}
+use Rattle.std.proofs.Common.{Some, None, option_map, length, drop, get_or, ◌<◌, arith, refl, sym, subst, ◌∙◌, ap, ap₂}
 use Rattle.std.specs.List.{AllByRecursion, list_any}
 use Rattle.std.specs.Str.{bytes_eq}
 use Rattle.std.proofs.lemmas.Bool.{or_parts}
-use Rattle.std.proofs.lemmas.List.{append_assoc}
+use Rattle.std.proofs.lemmas.List.{append_assoc, drop_more}
 use Rattle.edi_base.specs.Seen.{is_among, has_twice}
 use Rattle.gs1_ids.specs.Sscc.{under_some}
 use Rattle.edi_goods.specs.declared.despatch.Despatch.{Despatch}
@@ -27,7 +27,7 @@ use Rattle.hub_lines.specs.Book.{facts_of, facts_among, with_row, answered_row}
 use Rattle.hub_lines.specs.declared.facts.LineFacts.{LineFacts}
 use Rattle.hub_rules.specs.DespatchRules.{placed, judge_despatched, judge_unit, judge_new_despatch}
 use Rattle.hub_rules.specs.Judging.{Judge, refuse_if, given, joined, goes_on, in_order}
-use Rattle.hub_rules.specs.declared.code.Code.TheVariants.{NoOrder, NoLine, OtherItem, MoreThanOpen, OtherPrefix, SsccUsed, AdviceKnown}
+use Rattle.hub_rules.specs.declared.code.Code.TheVariants.{NoOrder, NoLine, OtherArticle, MoreThanOpen, OtherPrefix, SsccUsed, AdviceKnown}
 use Rattle.hub_rules.specs.declared.verdict.Verdict.{Verdict}
 use Rattle.hub_rules.specs.declared.verdict.Verdict.TheVariants.{Accept, Refuse}
 use Rattle.hub_judges.specs.FromFacts.{after_despatch, new_content, despatch_checks, lines_from, new_pallet, unit_checks}
@@ -96,15 +96,15 @@ module _ (named : List ℕ → Bool) (orders : List (List ℕ)) where
         }) t))
 
     through : (line : LineFacts) (a b : Bool)
-        → goes_on (goes_on (refuse_if a OtherItem (refuse_if b MoreThanOpen (Accept (changes_of line)))) rest state) third state
-        ≡ refuse_if a OtherItem (refuse_if b MoreThanOpen (joined (changes_of line) (next (with_row (after_despatch said line) lines))))
+        → goes_on (goes_on (refuse_if a OtherArticle (refuse_if b MoreThanOpen (Accept (changes_of line)))) rest state) third state
+        ≡ refuse_if a OtherArticle (refuse_if b MoreThanOpen (joined (changes_of line) (next (with_row (after_despatch said line) lines))))
     through line true b = refl
     through line false true = refl
     through line false false = step line
 
     found : (line : Option LineFacts)
         → goes_on (goes_on (given (option_map (λ line. line.row) line) NoLine (λ row.
-        refuse_if (not (same row.gtin said.gtin)) OtherItem (refuse_if (nat_lt row.open_qty said.quantity) MoreThanOpen (
+        refuse_if (not (same row.gtin said.gtin)) OtherArticle (refuse_if (nat_lt row.open_qty said.quantity) MoreThanOpen (
         Accept (SetLine (record row { open_qty = row.open_qty - said.quantity })
         ∷ AddContent
         (record { sscc = sscc; place = n + 1; number = row.number; line = row.line; quantity = said.quantity })
@@ -126,7 +126,7 @@ module _ (named : List ℕ → Bool) (orders : List (List ℕ)) where
         despatch_checks said line (joined (changes_of line) (next (with_row (after_despatch said line) lines)))))
     one_line is =
         ap₂ (λ v line. goes_on (goes_on (refuse_if (not v) NoOrder (given line NoLine (λ row.
-        refuse_if (not (same row.gtin said.gtin)) OtherItem (refuse_if (nat_lt row.open_qty said.quantity) MoreThanOpen (
+        refuse_if (not (same row.gtin said.gtin)) OtherArticle (refuse_if (nat_lt row.open_qty said.quantity) MoreThanOpen (
         Accept (SetLine (record row { open_qty = row.open_qty - said.quantity })
         ∷ AddContent
         (record { sscc = sscc; place = n + 1; number = row.number; line = row.line; quantity = said.quantity })
@@ -314,6 +314,33 @@ unit_next s advice orders unit units used rest before lines pass =
     (lines_from unit.sscc orders 0 unit.lines lines (λ left. units_from s advice orders units rest left))))
     ∙ sym (joined_grouped before (new_pallet s advice unit.sscc ∷ [])
     (lines_from unit.sscc orders 0 unit.lines lines (λ left. units_from s advice orders units rest left)))
+
+-- the unit at a place judged by the code, up to its lines
+pub unit_at : (s : SupplierRow) (advice : List ℕ) (orders : List (List ℕ)) (all units : List Unit) (used : List Bool) (i : ℕ)
+    (unit : Unit) (number : List ℕ) (pallet : Change) (before pushed : List Change) (lines : List LineFacts)
+    → all ≡ units
+    → length used ≡ length units
+    → i < length all
+    → unit ≡ get_or all i unit
+    → ((verdict : Verdict) → unit_checks s unit.sscc (get_or used i false) verdict ≡ verdict)
+    → number ≡ advice
+    → pallet ≡ new_pallet s number unit.sscc
+    → pushed ≡ before ++ pallet ∷ []
+    → joined before (units_from s advice orders (drop i units) (drop i used) lines)
+    ≡ joined pushed (lines_from unit.sscc orders 0 unit.lines lines
+    (λ left. units_from s advice orders (drop (i + 1) units) (drop (i + 1) used) left))
+unit_at s advice orders all units used i unit number pallet before pushed lines same_units lengths there is pass named made put_on =
+    let ahead : drop i units ≡ unit ∷ drop (i + 1) units =
+    ap (drop i) (sym same_units)
+    ∙ drop_more all i unit there
+    ∙ ap₂ (λ one xs. one ∷ drop (i + 1) xs) (sym is) same_units in
+    let flags : drop i used ≡ get_or used i false ∷ drop (i + 1) used =
+    drop_more used i false (omega (arith, ap length same_units, lengths, there)) in
+    ap₂ (λ us flags. joined before (units_from s advice orders us flags lines)) ahead flags
+    ∙ unit_next s advice orders unit (drop (i + 1) units) (get_or used i false) (drop (i + 1) used) before lines pass
+    ∙ ap (λ changes. joined changes (lines_from unit.sscc orders 0 unit.lines lines
+    (λ left. units_from s advice orders (drop (i + 1) units) (drop (i + 1) used) left)))
+    (sym (put_on ∙ ap (λ change. before ++ change ∷ []) (made ∙ ap (λ number. new_pallet s number unit.sscc) named)))
 
 -- the orders matter only by which are among them
 module _ (a b : List (List ℕ)) (same_orders : (order : List ℕ) → is_among order a ≡ is_among order b) where

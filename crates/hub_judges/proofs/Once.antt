@@ -1,4 +1,4 @@
--- The items of lines, each once, and those that are left.
+-- The articles of lines, each once, and those that are left.
 use Rattle.std.proofs.Common.{◌≡◌, ℕ, ◌+◌, ◌<◌, Bool, true, cond, not, is_some, inl, inr, List, [], ◌∷◌, length, get_or}
 use Rattle.std.proofs.Common.{drop, filter, Option, Some, None, refl, sym, ◌∙◌, ap, ap₂, arith}
 use Rattle.std.specs.List.{AllByRecursion}
@@ -13,7 +13,7 @@ use Rattle.hub_judges.specs.Totals.{nothing, with_line, total_from}
 use Rattle.hub_judges.specs.declared.totals.Total.{Total}
 use Rattle.hub_judges.proofs.Summed.{from_some, over_lines, rest_from}
 
--- the items of lines that have a total left
+-- the articles of lines that have a total left
 abbrev pub left : (List ℕ → Option Total) → List ReceiptLine → List (List ℕ)
 left totals lines = filter (λ gtin. is_some (totals gtin)) (gtins lines)
 
@@ -26,18 +26,18 @@ of_gtins P [] all = tt
 of_gtins P (line ∷ lines) all = (all.0, all_filter P (λ gtin. not (same gtin line.gtin)) (gtins lines) (of_gtins P lines all.1))
 
 abbrev Comes : List ReceiptLine → List ℕ → Type 0
-Comes lines item = is_some (total_from None item lines) ≡ true
+Comes lines article = is_some (total_from None article lines) ≡ true
 
-comes_here : (line : ReceiptLine) (lines : List ReceiptLine) (item : List ℕ) → same line.gtin item ≡ true → Comes (line ∷ lines) item
-comes_here line lines item e =
-    ap is_some (ap (λ v. total_from (cond v (Some (with_line nothing line)) None) item lines) e
-    ∙ from_some (with_line nothing line) item lines)
+comes_here : (line : ReceiptLine) (lines : List ReceiptLine) (article : List ℕ) → same line.gtin article ≡ true → Comes (line ∷ lines) article
+comes_here line lines article e =
+    ap is_some (ap (λ v. total_from (cond v (Some (with_line nothing line)) None) article lines) e
+    ∙ from_some (with_line nothing line) article lines)
 
-comes_later : (line : ReceiptLine) (lines : List ReceiptLine) (item : List ℕ) → Comes lines item → Comes (line ∷ lines) item
-comes_later line lines item h =
-    elim (decide (same line.gtin item)) [
-      | inl e ↦ comes_here line lines item e
-      | inr e ↦ ap (λ v. is_some (total_from (cond v (Some (with_line nothing line)) None) item lines)) e ∙ h
+comes_later : (line : ReceiptLine) (lines : List ReceiptLine) (article : List ℕ) → Comes lines article → Comes (line ∷ lines) article
+comes_later line lines article h =
+    elim (decide (same line.gtin article)) [
+      | inl e ↦ comes_here line lines article e
+      | inr e ↦ ap (λ v. is_some (total_from (cond v (Some (with_line nothing line)) None) article lines)) e ∙ h
     ]
 
 all_come : (lines : List ReceiptLine) → AllByRecursion (λ line. Comes lines line.gtin) lines
@@ -48,16 +48,16 @@ all_come (line ∷ lines) = (
       (λ other h. comes_later line lines other.gtin h) lines (all_come lines),
 )
 
--- at first every item is left
+-- at first every article is left
 pub all_left : (totals : List ℕ → Option Total) (lines : List ReceiptLine)
-    → ((item : List ℕ) → totals item ≡ total_from None item lines)
+    → ((article : List ℕ) → totals article ≡ total_from None article lines)
     → left totals lines ≡ gtins lines
 all_left totals lines are =
     keeps_all (λ gtin. is_some (totals gtin)) (gtins lines) (of_gtins (λ gtin. is_some (totals gtin) ≡ true) lines
     (all_weaker (λ line. Comes lines line.gtin) (λ line. is_some (totals line.gtin) ≡ true)
     (λ line h. ap is_some (are line.gtin) ∙ h) lines (all_come lines)))
 
--- the receipt of an item with its total
+-- the receipt of an article with its total
 pub receipt_is : (sscc : List ℕ) (lines : List ReceiptLine) (gtin : List ℕ) (sum : Total) → total_from None gtin lines ≡ Some sum
     → ◌≡◌ {A = Change} (AddReceipt
     (record { sscc = sscc; gtin = gtin; accepted = sum.accepted; returned = sum.returned; destroyed = sum.destroyed }))
@@ -75,9 +75,9 @@ receipt_is sscc lines gtin sum h =
     ∙ ap (λ v. made (total (λ line. line.accepted) gtin lines) v sum.destroyed) r
     ∙ ap (made (total (λ line. line.accepted) gtin lines) (total (λ line. line.returned) gtin lines)) d
 
--- an item whose total is taken
+-- an article whose total is taken
 module _ (old new : List ℕ → Option Total) (taken : List ℕ)
-    (becomes : (item : List ℕ) → new item ≡ cond (same taken item) None (old item)) where
+    (becomes : (article : List ℕ) → new article ≡ cond (same taken article) None (old article)) where
   left_without : (gtins : List (List ℕ))
       → filter (λ gtin. is_some (old gtin)) (filter (λ gtin. not (same gtin taken)) gtins)
       ≡ filter (λ gtin. is_some (new gtin)) gtins
@@ -102,20 +102,20 @@ module _ (old new : List ℕ → Option Total) (taken : List ℕ)
 
   -- the totals that are left are those before
   pub still_told : (lines : List ReceiptLine)
-      → ((item : List ℕ) (sum : Total) → old item ≡ Some sum → total_from None item lines ≡ Some sum)
-      → (item : List ℕ) (sum : Total)
-      → new item ≡ Some sum
-      → total_from None item lines ≡ Some sum
-  still_told lines told item sum h =
-      elim (decide (same taken item)) [
-        | inl e ↦ let none : None ≡ Some sum = sym (becomes item ∙ ap (λ v. cond v None (old item)) e) ∙ h in cc
-        | inr e ↦ told item sum (sym (becomes item ∙ ap (λ v. cond v None (old item)) e) ∙ h)
+      → ((article : List ℕ) (sum : Total) → old article ≡ Some sum → total_from None article lines ≡ Some sum)
+      → (article : List ℕ) (sum : Total)
+      → new article ≡ Some sum
+      → total_from None article lines ≡ Some sum
+  still_told lines told article sum h =
+      elim (decide (same taken article)) [
+        | inl e ↦ let none : None ≡ Some sum = sym (becomes article ∙ ap (λ v. cond v None (old article)) e) ∙ h in cc
+        | inr e ↦ told article sum (sym (becomes article ∙ ap (λ v. cond v None (old article)) e) ∙ h)
       ]
 
--- a line, whose item is taken
+-- a line, whose article is taken
 module _ (lines : List ReceiptLine) (i : ℕ) (line : ReceiptLine) (inside : i < length lines)
     (at : line ≡ get_or lines i line) (old new : List ℕ → Option Total)
-    (becomes : (item : List ℕ) → new item ≡ cond (same line.gtin item) None (old item)) where
+    (becomes : (article : List ℕ) → new article ≡ cond (same line.gtin article) None (old article)) where
   left_from : left old (drop i lines)
       ≡ cond (is_some (old line.gtin)) (line.gtin ∷ left new (drop (i + 1) lines)) (left new (drop (i + 1) lines))
   left_from =

@@ -17,12 +17,12 @@ use Rattle.hub_rules.specs.ReceiptRules.{total}
 use Rattle.hub_judges.specs.Totals.{nothing, with_line, total_from}
 use Rattle.hub_judges.specs.declared.totals.Total.{Total}
 
--- a total, and what lines say of an item
+-- a total, and what lines say of an article
 abbrev pub with_lines : Total → List ℕ → List ReceiptLine → Total
-with_lines before item lines = record {
-  accepted = before.accepted + total (λ line. line.accepted) item lines;
-  returned = before.returned + total (λ line. line.returned) item lines;
-  destroyed = before.destroyed + total (λ line. line.destroyed) item lines;
+with_lines before article lines = record {
+  accepted = before.accepted + total (λ line. line.accepted) article lines;
+  returned = before.returned + total (λ line. line.returned) article lines;
+  destroyed = before.destroyed + total (λ line. line.destroyed) article lines;
 }
 
 alike : (a b : Total) → a.accepted ≡ b.accepted → a.returned ≡ b.returned → a.destroyed ≡ b.destroyed → a ≡ b
@@ -32,105 +32,105 @@ alike a b accepted returned destroyed =
     ∙ ap (λ y. made b.accepted y a.destroyed) returned
     ∙ ap (made b.accepted b.returned) destroyed
 
-module _ (item : List ℕ) (line : ReceiptLine) (lines : List ReceiptLine) where
-  total_with : (kind : ReceiptLine → ℕ) → same line.gtin item ≡ true → total kind item (line ∷ lines) ≡ kind line + total kind item lines
+module _ (article : List ℕ) (line : ReceiptLine) (lines : List ReceiptLine) where
+  total_with : (kind : ReceiptLine → ℕ) → same line.gtin article ≡ true → total kind article (line ∷ lines) ≡ kind line + total kind article lines
   total_with kind e =
       ap (λ v.
-      sum_by kind (cond v (line ∷ filter (λ line. same line.gtin item) lines) (filter (λ line. same line.gtin item) lines))) e
-      ∙ sum_by-cons kind line (filter (λ line. same line.gtin item) lines)
+      sum_by kind (cond v (line ∷ filter (λ line. same line.gtin article) lines) (filter (λ line. same line.gtin article) lines))) e
+      ∙ sum_by-cons kind line (filter (λ line. same line.gtin article) lines)
 
-  total_without : (kind : ReceiptLine → ℕ) → same line.gtin item ≡ false → total kind item (line ∷ lines) ≡ total kind item lines
+  total_without : (kind : ReceiptLine → ℕ) → same line.gtin article ≡ false → total kind article (line ∷ lines) ≡ total kind article lines
   total_without kind e =
       ap (λ v.
-      sum_by kind (cond v (line ∷ filter (λ line. same line.gtin item) lines) (filter (λ line. same line.gtin item) lines))) e
+      sum_by kind (cond v (line ∷ filter (λ line. same line.gtin article) lines) (filter (λ line. same line.gtin article) lines))) e
 
   lines_with : (before : Total)
-      → same line.gtin item ≡ true
-      → with_lines (with_line before line) item lines ≡ with_lines before item (line ∷ lines)
+      → same line.gtin article ≡ true
+      → with_lines (with_line before line) article lines ≡ with_lines before article (line ∷ lines)
   lines_with before e =
       let a = total_with (λ line. line.accepted) e in
       let r = total_with (λ line. line.returned) e in
       let d = total_with (λ line. line.destroyed) e in
-      alike (with_lines (with_line before line) item lines) (with_lines before item (line ∷ lines)) (omega (arith, a))
+      alike (with_lines (with_line before line) article lines) (with_lines before article (line ∷ lines)) (omega (arith, a))
       (omega (arith, r)) (omega (arith, d))
 
-  lines_without : (before : Total) → same line.gtin item ≡ false → with_lines before item lines ≡ with_lines before item (line ∷ lines)
+  lines_without : (before : Total) → same line.gtin article ≡ false → with_lines before article lines ≡ with_lines before article (line ∷ lines)
   lines_without before e =
       let a = total_without (λ line. line.accepted) e in
       let r = total_without (λ line. line.returned) e in
       let d = total_without (λ line. line.destroyed) e in
-      alike (with_lines before item lines) (with_lines before item (line ∷ lines)) (omega (arith, a)) (omega (arith, r)) (omega (arith, d))
+      alike (with_lines before article lines) (with_lines before article (line ∷ lines)) (omega (arith, a)) (omega (arith, r)) (omega (arith, d))
 
-pub from_some : (before : Total) (item : List ℕ) (lines : List ReceiptLine)
-    → total_from (Some before) item lines ≡ Some (with_lines before item lines)
-from_some before item [] = ap Some (alike before (with_lines before item []) (omega arith) (omega arith) (omega arith))
-from_some before item (line ∷ lines) =
-    elim (decide (same line.gtin item)) [
-      | inl e ↦ ap (λ v. total_from (cond v (Some (with_line before line)) (Some before)) item lines) e
-          ∙ from_some (with_line before line) item lines
-          ∙ ap Some (lines_with item line lines before e)
-      | inr e ↦ ap (λ v. total_from (cond v (Some (with_line before line)) (Some before)) item lines) e
-          ∙ from_some before item lines
-          ∙ ap Some (lines_without item line lines before e)
+pub from_some : (before : Total) (article : List ℕ) (lines : List ReceiptLine)
+    → total_from (Some before) article lines ≡ Some (with_lines before article lines)
+from_some before article [] = ap Some (alike before (with_lines before article []) (omega arith) (omega arith) (omega arith))
+from_some before article (line ∷ lines) =
+    elim (decide (same line.gtin article)) [
+      | inl e ↦ ap (λ v. total_from (cond v (Some (with_line before line)) (Some before)) article lines) e
+          ∙ from_some (with_line before line) article lines
+          ∙ ap Some (lines_with article line lines before e)
+      | inr e ↦ ap (λ v. total_from (cond v (Some (with_line before line)) (Some before)) article lines) e
+          ∙ from_some before article lines
+          ∙ ap Some (lines_without article line lines before e)
     ]
 
--- the total of an item that comes in lines
-pub over_lines : (item : List ℕ) (lines : List ReceiptLine) (sum : Total)
-    → total_from None item lines ≡ Some sum
-    → sum ≡ with_lines nothing item lines
-over_lines item [] sum h = cc
-over_lines item (line ∷ lines) sum h =
-    elim (decide (same line.gtin item)) [
+-- the total of an article that comes in lines
+pub over_lines : (article : List ℕ) (lines : List ReceiptLine) (sum : Total)
+    → total_from None article lines ≡ Some sum
+    → sum ≡ with_lines nothing article lines
+over_lines article [] sum h = cc
+over_lines article (line ∷ lines) sum h =
+    elim (decide (same line.gtin article)) [
       | inl e ↦
-          let f : Some sum ≡ Some (with_lines (with_line nothing line) item lines) =
+          let f : Some sum ≡ Some (with_lines (with_line nothing line) article lines) =
           sym h
-          ∙ ap (λ v. total_from (cond v (Some (with_line nothing line)) None) item lines) e
-          ∙ from_some (with_line nothing line) item lines in
-          let g = lines_with item line lines nothing e in
+          ∙ ap (λ v. total_from (cond v (Some (with_line nothing line)) None) article lines) e
+          ∙ from_some (with_line nothing line) article lines in
+          let g = lines_with article line lines nothing e in
           cc
       | inr e ↦
-          over_lines item lines sum (sym (ap (λ v. total_from (cond v (Some (with_line nothing line)) None) item lines) e) ∙ h)
-          ∙ lines_without item line lines nothing e
+          over_lines article lines sum (sym (ap (λ v. total_from (cond v (Some (with_line nothing line)) None) article lines) e) ∙ h)
+          ∙ lines_without article line lines nothing e
     ]
 
--- what holds of the item of each line holds of an item that comes in lines
-of_item : (p : List ℕ → Bool) (item : List ℕ) (lines : List ReceiptLine) (sum : Total)
-    → total_from None item lines ≡ Some sum
+-- what holds of the article of each line holds of an article that comes in lines
+of_item : (p : List ℕ → Bool) (article : List ℕ) (lines : List ReceiptLine) (sum : Total)
+    → total_from None article lines ≡ Some sum
     → list_all (λ line. p line.gtin) lines ≡ true
-    → p item ≡ true
-of_item p item [] sum h all = cc
-of_item p item (line ∷ lines) sum h all =
+    → p article ≡ true
+of_item p article [] sum h all = cc
+of_item p article (line ∷ lines) sum h all =
     let parts = and_parts (p line.gtin) (list_all (λ line. p line.gtin) lines) all in
-    elim (decide (same line.gtin item)) [
-      | inl e ↦ ap p (sym (same_is line.gtin item e)) ∙ parts.0
-      | inr e ↦ of_item p item lines sum (sym (ap (λ v. total_from (cond v (Some (with_line nothing line)) None) item lines) e) ∙ h) parts.1
+    elim (decide (same line.gtin article)) [
+      | inl e ↦ ap p (sym (same_is line.gtin article e)) ∙ parts.0
+      | inr e ↦ of_item p article lines sum (sym (ap (λ v. total_from (cond v (Some (with_line nothing line)) None) article lines) e) ∙ h) parts.1
     ]
 
 -- amounts of one kind
 module _ (kind : ReceiptLine → ℕ) where
   abbrev sum_by_kind : List ℕ → List ReceiptLine → ℕ
-  sum_by_kind item lines = sum_of item (map (λ (line : ReceiptLine). record { gtin = line.gtin; quantity = kind line }) lines)
+  sum_by_kind article lines = sum_of article (map (λ (line : ReceiptLine). record { gtin = line.gtin; quantity = kind line }) lines)
 
-  sum_total : (item : List ℕ) (lines : List ReceiptLine) → sum_by_kind item lines ≡ total kind item lines
-  sum_total item [] = refl
-  sum_total item (line ∷ lines) =
-      let ih = sum_total item lines in
-      elim (decide (same line.gtin item)) [
-        | inl e ↦ let t = total_with item line lines kind e in
-            ap (λ v. cond v (kind line) 0 + sum_by_kind item lines) e ∙ omega (arith, t, ih)
-        | inr e ↦ let t = total_without item line lines kind e in
-            ap (λ v. cond v (kind line) 0 + sum_by_kind item lines) e ∙ omega (arith, t, ih)
+  sum_total : (article : List ℕ) (lines : List ReceiptLine) → sum_by_kind article lines ≡ total kind article lines
+  sum_total article [] = refl
+  sum_total article (line ∷ lines) =
+      let ih = sum_total article lines in
+      elim (decide (same line.gtin article)) [
+        | inl e ↦ let t = total_with article line lines kind e in
+            ap (λ v. cond v (kind line) 0 + sum_by_kind article lines) e ∙ omega (arith, t, ih)
+        | inr e ↦ let t = total_without article line lines kind e in
+            ap (λ v. cond v (kind line) 0 + sum_by_kind article lines) e ∙ omega (arith, t, ih)
       ]
 
-  within : (item : List ℕ) (lines : List ReceiptLine) (sum : Total)
-      → total_from None item lines ≡ Some sum
+  within : (article : List ℕ) (lines : List ReceiptLine) (sum : Total)
+      → total_from None article lines ≡ Some sum
       → sums_within (map (λ (line : ReceiptLine). record { gtin = line.gtin; quantity = kind line }) lines) ≡ true
-      → total kind item lines ≤ greatest
-  within item lines sum h all =
+      → total kind article lines ≤ greatest
+  within article lines sum h all =
       let each : list_all (λ line. nat_le (sum_by_kind line.gtin lines) greatest) lines ≡ true = sym (list_all-map _ _ lines) ∙ all in
-      let t = sum_total item lines in
-      let l = leb-true (sum_by_kind item lines) greatest
-      (of_item (λ gtin. nat_le (sum_by_kind gtin lines) greatest) item lines sum h each) in
+      let t = sum_total article lines in
+      let l = leb-true (sum_by_kind article lines) greatest
+      (of_item (λ gtin. nat_le (sum_by_kind gtin lines) greatest) article lines sum h each) in
       omega (arith, t, l)
 
 -- a total and a line are within the limit
@@ -169,22 +169,22 @@ module _ (lines : List ReceiptLine) (i : ℕ) (line : ReceiptLine) (inside : i <
 
   -- the totals with one more line
   pub totals_next : (old new : List ℕ → Option Total) (sum : Total)
-      → ((item : List ℕ) → new item ≡ cond (same line.gtin item) (Some sum) (old item))
+      → ((article : List ℕ) → new article ≡ cond (same line.gtin article) (Some sum) (old article))
       → sum ≡ with_line (unwrap_or (old line.gtin) nothing) line
-      → ((item : List ℕ) → total_from None item lines ≡ total_from (old item) item (drop i lines))
-      → (item : List ℕ)
-      → total_from None item lines ≡ total_from (new item) item (drop (i + 1) lines)
-  totals_next old new sum becomes grown so_far item =
-      so_far item
-      ∙ ap (total_from (old item) item) rest_from
-      ∙ ap (λ v. total_from v item (drop (i + 1) lines)) (agree (decide (same line.gtin item)) ∙ sym (becomes item))
+      → ((article : List ℕ) → total_from None article lines ≡ total_from (old article) article (drop i lines))
+      → (article : List ℕ)
+      → total_from None article lines ≡ total_from (new article) article (drop (i + 1) lines)
+  totals_next old new sum becomes grown so_far article =
+      so_far article
+      ∙ ap (total_from (old article) article) rest_from
+      ∙ ap (λ v. total_from v article (drop (i + 1) lines)) (agree (decide (same line.gtin article)) ∙ sym (becomes article))
     where
-      agree : ((same line.gtin item ≡ true) ⊎ (same line.gtin item ≡ false))
-          → cond (same line.gtin item) (Some (with_line (unwrap_or (old item) nothing) line)) (old item)
-          ≡ cond (same line.gtin item) (Some sum) (old item)
+      agree : ((same line.gtin article ≡ true) ⊎ (same line.gtin article ≡ false))
+          → cond (same line.gtin article) (Some (with_line (unwrap_or (old article) nothing) line)) (old article)
+          ≡ cond (same line.gtin article) (Some sum) (old article)
       agree (inl e) =
-          ap (λ t. cond (same line.gtin item) (Some t) (old item))
-          (sym (grown ∙ ap (λ one. with_line (unwrap_or (old one) nothing) line) (same_is line.gtin item e)))
+          ap (λ t. cond (same line.gtin article) (Some t) (old article))
+          (sym (grown ∙ ap (λ one. with_line (unwrap_or (old one) nothing) line) (same_is line.gtin article e)))
       agree (inr e) =
-          ap (λ v. cond v (Some (with_line (unwrap_or (old item) nothing) line)) (old item)) e
-          ∙ sym (ap (λ v. cond v (Some sum) (old item)) e)
+          ap (λ v. cond v (Some (with_line (unwrap_or (old article) nothing) line)) (old article)) e
+          ∙ sym (ap (λ v. cond v (Some sum) (old article)) e)

@@ -1,6 +1,6 @@
--- The rules of lines and units once more, without a state: what comes of what is known. The loops of the judges meet these by their
--- invariants, and a lemma for each says that they are the rules' cases. They are steps of those proofs; no public clause rests
--- on them.
+-- The rules of lines and units once more, without a state: what comes of what is known. The loops of the judges meet
+-- these by their invariants, and a lemma for each says that they are the rules' cases. They are steps of those
+-- proofs; no public clause rests on them.
 use Rattle.std.specs.Prelude.{ℕ, Bool, ◌+◌, ◌-◌, nat_lt, not, List, [], ◌∷◌, map, filter, Option, Some, Result, Ok, Err}
 use Rattle.edi_base.specs.Seen.{is_among}
 use Rattle.gs1_ids.specs.Sscc.{under_some}
@@ -28,7 +28,9 @@ use Rattle.hub_lines.specs.declared.facts.LineFacts.{LineFacts}
 use Rattle.hub_rules.specs.Judging.{refuse_if, given, joined}
 use Rattle.hub_rules.specs.ReceiptRules.{gtins, new_receipt}
 use Rattle.hub_rules.specs.ResponseRules.{answered, is_out_of_range, is_empty}
-use Rattle.hub_rules.specs.declared.code.Code.TheVariants.{NoOrder, NoLine, NotWaiting, OutOfRange, OtherItem, MoreThanOpen, OtherPrefix, SsccUsed, AdviceKnown, NoPallet, PalletReceived, CancelsMoreThanOpen}
+use Rattle.hub_rules.specs.declared.code.Code.TheVariants.{NoOrder, NoLine, NotWaiting, OutOfRange, OtherArticle}
+use Rattle.hub_rules.specs.declared.code.Code.TheVariants.{MoreThanOpen, OtherPrefix, SsccUsed, AdviceKnown, NoPallet}
+use Rattle.hub_rules.specs.declared.code.Code.TheVariants.{PalletReceived, CancelsMoreThanOpen}
 use Rattle.hub_rules.specs.declared.code.Code.{Code}
 use Rattle.hub_rules.specs.declared.cancel.Cancel.{Cancel}
 use Rattle.hub_rules.specs.declared.verdict.Verdict.{Verdict}
@@ -40,7 +42,7 @@ abbrev pub answer_checks : AnswerLine → LineFacts → Verdict → Verdict
 answer_checks said line rest =
     refuse_if (not (waits line.row)) NotWaiting (
     refuse_if (is_out_of_range said.answer line.despatched line.row) OutOfRange (
-    refuse_if (not (same line.row.gtin said.gtin)) OtherItem rest))
+    refuse_if (not (same line.row.gtin said.gtin)) OtherArticle rest))
 
 -- a line after its answer
 abbrev pub after_answer : LineAnswer → LineFacts → LineRow
@@ -52,7 +54,8 @@ answers_from order [] lines = Accept []
 answers_from order (said ∷ rest) lines =
     given (facts_among (facts_of lines order) said.order_line said.gtin) NoLine (λ line.
     answer_checks said line (
-    joined (SetLine (after_answer said.answer line) ∷ []) (answers_from order rest (with_row (after_answer said.answer line) lines))))
+    joined (SetLine (after_answer said.answer line)
+    ∷ []) (answers_from order rest (with_row (after_answer said.answer line) lines))))
 
 -- the lines of an order that wait
 abbrev pub waiting_of : List LineFacts → List ℕ → List LineFacts
@@ -72,7 +75,8 @@ said_from (Lines said) order lines = answers_from order said lines
 -- what an ORDRSP changes of what is known, or the first of B05 to B09 that it is against
 abbrev pub response_from : Response → Known → Verdict
 response_from response known =
-    refuse_if (not (is_among response.order known.orders)) NoOrder (said_from response.answer response.order known.lines)
+    refuse_if (not (is_among response.order known.orders)) NoOrder
+    (said_from response.answer response.order known.lines)
 
 -- a line that is set, or why not
 abbrev pub of_line : Result LineRow Code → Verdict
@@ -85,11 +89,15 @@ cancelled_from cancel known =
     refuse_if (not (is_among cancel.order known.orders)) NoOrder (
     given (facts_among (facts_of known.lines cancel.order) (Some cancel.line) []) NoLine (λ line.
     refuse_if (nat_lt line.row.open_qty cancel.quantity) CancelsMoreThanOpen (
-    Accept (SetLine (record line.row { open_qty = line.row.open_qty - cancel.quantity; cancelled = line.row.cancelled + cancel.quantity }) ∷ []))))
+    Accept (SetLine (record line.row {
+      open_qty = line.row.open_qty - cancel.quantity;
+      cancelled = line.row.cancelled + cancel.quantity;
+    }) ∷ []))))
 
--- what comes of a unit on a pallet: the pallet is received, with the sums of each item
+-- what comes of a unit on a pallet: the pallet is received, with the sums of each article
 abbrev pub received : PalletRow → ReceiptUnit → List Change
-received pallet unit = SetPallet (record pallet { received = arrival_number Received }) ∷ map (new_receipt unit.sscc unit.lines) (gtins unit.lines)
+received pallet unit = SetPallet (record pallet { received = arrival_number Received })
+    ∷ map (new_receipt unit.sscc unit.lines) (gtins unit.lines)
 
 -- the units of a RECADV, each with its pallet; both lists have one length
 abbrev pub receipts_from : List ReceiptUnit → List (Option PalletRow) → Verdict
@@ -105,16 +113,25 @@ abbrev pub after_despatch : DespatchLine → LineFacts → LineRow
 after_despatch said line = record line.row { open_qty = line.row.open_qty - said.quantity }
 
 abbrev pub new_content : List ℕ → ℕ → DespatchLine → LineFacts → Change
-new_content sscc place said line = AddContent (record { sscc = sscc; place = place; number = line.row.number; line = line.row.line; quantity = said.quantity })
+new_content sscc place said line =
+    AddContent (record {
+      sscc = sscc;
+      place = place;
+      number = line.row.number;
+      line = line.row.line;
+      quantity = said.quantity;
+    })
 
 -- B09, B10 at a line that is despatched, and what follows
 abbrev pub despatch_checks : DespatchLine → LineFacts → Verdict → Verdict
 despatch_checks said line rest =
-    refuse_if (not (same line.row.gtin said.gtin)) OtherItem (
+    refuse_if (not (same line.row.gtin said.gtin)) OtherArticle (
     refuse_if (nat_lt line.row.open_qty said.quantity) MoreThanOpen rest)
 
--- the lines of a unit, whose places go on from a number, each on what the earlier ones left; and what follows on what all left
-abbrev pub lines_from : List ℕ → List (List ℕ) → ℕ → List DespatchLine → List LineFacts → (List LineFacts → Verdict) → Verdict
+-- the lines of a unit, whose places go on from a number, each on what the earlier ones left; and what follows on what
+-- all left
+abbrev pub lines_from : List ℕ → List (List ℕ) → ℕ → List DespatchLine → List LineFacts → (List LineFacts → Verdict)
+    → Verdict
 lines_from sscc orders n [] lines next = next lines
 lines_from sscc orders n (said ∷ rest) lines next =
     refuse_if (not (is_among said.order orders)) NoOrder (
@@ -124,7 +141,8 @@ lines_from sscc orders n (said ∷ rest) lines next =
     (lines_from sscc orders (n + 1) rest (with_row (after_despatch said line) lines) next))))
 
 abbrev pub new_pallet : SupplierRow → List ℕ → List ℕ → Change
-new_pallet s advice sscc = AddPallet (record { sscc = sscc; supplier = s.gln; advice = advice; received = arrival_number Announced })
+new_pallet s advice sscc =
+    AddPallet (record { sscc = sscc; supplier = s.gln; advice = advice; received = arrival_number Announced })
 
 -- B11, B12 at a unit, and what follows
 abbrev pub unit_checks : SupplierRow → List ℕ → Bool → Verdict → Verdict
@@ -138,7 +156,8 @@ units_from s advice orders [] used lines = Accept []
 units_from s advice orders (unit ∷ units) [] lines = Accept []
 units_from s advice orders (unit ∷ units) (used ∷ rest) lines =
     unit_checks s unit.sscc used (
-    joined (new_pallet s advice unit.sscc ∷ []) (lines_from unit.sscc orders 0 unit.lines lines (λ left. units_from s advice orders units rest left)))
+    joined (new_pallet s advice unit.sscc ∷ [])
+    (lines_from unit.sscc orders 0 unit.lines lines (λ left. units_from s advice orders units rest left)))
 
 -- what a DESADV changes of what is known, or the first of B13, B11, B12, B05, B06, B09 and B10 that it is against
 abbrev pub despatch_from : SupplierRow → Despatch → Known → Verdict

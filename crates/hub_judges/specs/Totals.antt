@@ -1,4 +1,4 @@
--- What is received of an item, line by line.
+-- What is received of an article, line by line.
 use Rattle.std.specs.Prelude.{ℕ, ◌+◌, List, [], ◌∷◌, if◌then◌else◌, Option, Some}
 use Rattle.std.specs.Option.{unwrap_or}
 use Rattle.edi_goods.specs.declared.receipt.ReceiptLine.{ReceiptLine}
@@ -16,7 +16,9 @@ with_line total line = record {
   destroyed = total.destroyed + line.destroyed;
 }
 
--- the total of an item, from what it is before these lines
+-- the total of an article, from what it is before these lines
 abbrev pub total_from : Option Total → List ℕ → List ReceiptLine → Option Total
-total_from before item [] = before
-total_from before item (line ∷ lines) = total_from (if same line.gtin item then Some (with_line (unwrap_or before nothing) line) else before) item lines
+total_from before article [] = before
+total_from before article (line ∷ lines) =
+    total_from (if same line.gtin article then Some (with_line (unwrap_or before nothing) line)
+    else before) article lines

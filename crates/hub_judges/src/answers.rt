@@ -63,7 +63,7 @@ fn answer_fault(said: &AnswerLine, line: &LineFacts) -> Option<Code>
         return Some(Code::OutOfRange);
     }
     if line.row.gtin != said.gtin {
-        return Some(Code::OtherItem);
+        return Some(Code::OtherArticle);
     }
     None
 }
@@ -107,7 +107,8 @@ pub(crate) fn answer_all(
 ) -> Result<(), MemoryFault>
     requires covered { AllByRecursion IsCovered lines.now }
     requires range { (sent : ℕ) (row : LineRow) → is_out_of_range answer sent row ≡ false }
-    ensures { IfOk result (λ _. changes.new ≡ changes.old ++ map (λ line. SetLine (after_answer answer line)) (waiting_of lines.now order.now)) }
+    ensures { IfOk result (λ _. changes.new ≡ changes.old
+        ++ map (λ line. SetLine (after_answer answer line)) (waiting_of lines.now order.now)) }
 {
     for line in lines {
         if line.row.number.as_slice() == order && is_waiting(line) {

@@ -54,7 +54,8 @@ pub fn judge_cancel(
     cancel: &Cancel,
 ) -> Result<Verdict, MemoryFault>
     requires { AllByRecursion IsCovered known.now.lines }
-    ensures { IfOk result (λ verdict. (state : Tables) → TellsForCancel known.now cancel.now state → verdict ≡ rules.judge_cancel (option_copied supplier.entry) content cancel.now state) }
+    ensures { IfOk result (λ verdict. (state : Tables) → TellsForCancel known.now cancel.now state →
+        verdict ≡ rules.judge_cancel (option_copied supplier.entry) content cancel.now state) }
 {
     let row = match registered_supplier(supplier, &cancel.supplier) {
         Ok(row) => row,

@@ -36,7 +36,7 @@ fn line_fault(said: &DespatchLine, line: &LineFacts) -> Option<Code>
     ensures open { IfNone result (said.now.quantity ≤ line.now.row.open_qty) }
 {
     if line.row.gtin != said.gtin {
-        return Some(Code::OtherItem);
+        return Some(Code::OtherArticle);
     }
     if line.row.open_qty < said.quantity {
         return Some(Code::MoreThanOpen);
@@ -52,8 +52,11 @@ fn load<'a>(
     book: &mut Book,
     changes: &mut Items<Change>,
 ) -> Result<Option<Code>, MemoryFault>
-    ensures refused { IfOk result (λ fault. IfSome fault (λ code. (next : List LineFacts → Verdict) → joined changes.old (lines_from unit.now.sscc orders.now 0 unit.now.lines book.old next) ≡ Refuse code)) }
-    ensures loaded { IfOk result (λ fault. IfNone fault ((next : List LineFacts → Verdict) → joined changes.old (lines_from unit.now.sscc orders.now 0 unit.now.lines book.old next) ≡ joined changes.new (next book.new))) }
+    ensures refused { IfOk result (λ fault. IfSome fault (λ code. (next : List LineFacts → Verdict) →
+        joined changes.old (lines_from unit.now.sscc orders.now 0 unit.now.lines book.old next) ≡ Refuse code)) }
+    ensures loaded { IfOk result (λ fault. IfNone fault ((next : List LineFacts → Verdict) →
+        joined changes.old (lines_from unit.now.sscc orders.now 0 unit.now.lines book.old next)
+        ≡ joined changes.new (next book.new))) }
 {
     let lines = unit.lines.as_slice();
     for (index, said) in lines.iter().enumerate() {
@@ -144,7 +147,8 @@ fn judge_units<'a>(
     changes: Items<Change>,
 ) -> Result<Verdict, MemoryFault>
     requires { length used.now ≡ length despatch.now.units }
-    ensures { IfOk result (λ verdict. verdict ≡ joined changes (units_from row.now despatch.now.number orders.now despatch.now.units used.now book)) }
+    ensures { IfOk result (λ verdict. verdict ≡ joined changes
+        (units_from row.now despatch.now.number orders.now despatch.now.units used.now book)) }
 {
     let mut book = book;
     let mut changes = changes;
@@ -176,7 +180,9 @@ fn judge_new(
     requires rise { Rises facts_cmp known.lines }
     requires apart { has_twice (map (λ unit. unit.sscc) despatch.now.units) ≡ false }
     requires new { known.number_known ≡ false }
-    ensures { IfOk result (λ verdict. verdict ≡ joined (Remember (remembered (rules.referred_by row.now Supplier incoming) incoming.content) ∷ []) (despatch_from row.now despatch.now known)) }
+    ensures { IfOk result (λ verdict.
+        verdict ≡ joined (Remember (remembered (rules.referred_by row.now Supplier incoming) incoming.content)
+        ∷ []) (despatch_from row.now despatch.now known)) }
 {
     let Known {
         orders,
@@ -214,7 +220,9 @@ pub fn judge_despatch(
     requires each_unit { length known.used ≡ length despatch.now.units }
     requires rise { Rises facts_cmp known.lines }
     requires apart { has_twice (map (λ unit. unit.sscc) despatch.now.units) ≡ false }
-    ensures { IfOk result (λ verdict. (used : List ℕ → Bool) (state : Tables) → TellsForDespatch known used incoming despatch.now state → verdict ≡ rules.judge_despatch retailer.now (option_copied supplier.entry) used incoming despatch.now state) }
+    ensures { IfOk result (λ verdict. (used : List ℕ → Bool) (state : Tables) →
+        TellsForDespatch known used incoming despatch.now state →
+        verdict ≡ rules.judge_despatch retailer.now (option_copied supplier.entry) used incoming despatch.now state) }
 {
     let row = match admitted(retailer, supplier, despatch.buyer, &despatch.supplier) {
         Ok(row) => row,

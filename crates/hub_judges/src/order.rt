@@ -58,7 +58,11 @@ fn new_order(
     order: &Order,
 ) -> Result<Items<Change>, MemoryFault>
     requires { mails < LAST_MAIL_NUMBER }
-    ensures { IfOk result (λ changes. changes ≡ Remember (remembered (rules.referred_by row.now sides.Retailer incoming) incoming.content) ∷ mail_entry row.now.gln (mails + 1) incoming kinds.Orders order.now.number body ∷ AddOrder (record { supplier = row.now.gln; number = order.now.number }) ∷ map (new_line row.now.gln order.now.number) order.now.lines) }
+    ensures { IfOk result (λ changes.
+        changes ≡ Remember (remembered (rules.referred_by row.now sides.Retailer incoming) incoming.content)
+        ∷ mail_entry row.now.gln (mails + 1) incoming kinds.Orders order.now.number body
+        ∷ AddOrder (record { supplier = row.now.gln; number = order.now.number })
+        ∷ map (new_line row.now.gln order.now.number) order.now.lines) }
 {
     let number = order.number.as_slice();
     let mail = new_mail(
@@ -92,7 +96,8 @@ pub fn judge_order(
     body: Items<u8>,
     order: &Order,
 ) -> Result<Verdict, MemoryFault>
-    ensures { IfOk result (λ verdict. (state : Tables) → TellsForOrder known.now incoming order.now state → verdict ≡ rules.judge_order retailer.now (option_copied supplier.entry) incoming body order.now state) }
+    ensures { IfOk result (λ verdict. (state : Tables) → TellsForOrder known.now incoming order.now state →
+        verdict ≡ rules.judge_order retailer.now (option_copied supplier.entry) incoming body order.now state) }
 {
     let row = match admitted(retailer, supplier, Some(order.buyer), &order.supplier) {
         Ok(row) => row,

@@ -16,8 +16,10 @@ pub(crate) fn registered_supplier<'a>(
     supplier: Option<&'a SupplierRow>,
     named: &Gln,
 ) -> Result<&'a SupplierRow, Code>
-    ensures ok { IfOk result (λ row. (rest : SupplierRow → Verdict) → if_registered (option_copied supplier.entry) named.now rest ≡ rest row.now) }
-    ensures err { IfErr result (λ code. (rest : SupplierRow → Verdict) → if_registered (option_copied supplier.entry) named.now rest ≡ Refuse code) }
+    ensures ok { IfOk result (λ row. (rest : SupplierRow → Verdict) →
+        if_registered (option_copied supplier.entry) named.now rest ≡ rest row.now) }
+    ensures err { IfErr result (λ code. (rest : SupplierRow → Verdict) →
+        if_registered (option_copied supplier.entry) named.now rest ≡ Refuse code) }
 {
     match supplier {
         Some(row) => {
@@ -38,8 +40,12 @@ pub(crate) fn admitted<'a>(
     buyer: Option<Gln>,
     named: &Gln,
 ) -> Result<&'a SupplierRow, Code>
-    ensures ok { IfOk result (λ row. (rest : SupplierRow → Verdict) → refuse_if (is_other_buyer retailer.now buyer) Buyer (if_registered (option_copied supplier.entry) named.now rest) ≡ rest row.now) }
-    ensures err { IfErr result (λ code. (rest : SupplierRow → Verdict) → refuse_if (is_other_buyer retailer.now buyer) Buyer (if_registered (option_copied supplier.entry) named.now rest) ≡ Refuse code) }
+    ensures ok { IfOk result (λ row. (rest : SupplierRow → Verdict) →
+        refuse_if (is_other_buyer retailer.now buyer) Buyer
+        (if_registered (option_copied supplier.entry) named.now rest) ≡ rest row.now) }
+    ensures err { IfErr result (λ code. (rest : SupplierRow → Verdict) →
+        refuse_if (is_other_buyer retailer.now buyer) Buyer
+        (if_registered (option_copied supplier.entry) named.now rest) ≡ Refuse code) }
 {
     if let Some(buyer) = buyer
         && buyer != *retailer

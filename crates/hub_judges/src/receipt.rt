@@ -23,7 +23,7 @@ use hub_rules::{Code, IncomingMessage, Verdict};
 use hub_tables::{Arrival, Change, Column, MailKind, PalletRow, ReceiptRow, Side};
 use std::alloc::Global;
 
-// Puts what is received of the items of a unit after the changes, each item once, in the order in which they first come.
+// Puts what is received of the articles of a unit after the changes, each article once, in the order in which they first come.
 fn add_receipts(
     alloc: Global,
     unit: &ReceiptUnit,
@@ -91,7 +91,7 @@ fn judge_units(
 }
 
 /// What comes of a RECADV: B01, B02, B03 and B16 are asked in this order, and then of each unit B14 and B15. Asks that the pallet
-/// of each unit is known, or that there is none; and that no SSCC stands in two units, and no sum of an item in a unit is past its
+/// of each unit is known, or that there is none; and that no SSCC stands in two units, and no sum of an article in a unit is past its
 /// limit, as `Receipt::read` promises. `body` is the canonical text of the message's segments, UNH to UNT, with `1` for its
 /// reference, as the mailbox entry keeps it. `MemoryFault` where memory ran out.
 pub fn judge_receipt(
@@ -106,7 +106,8 @@ pub fn judge_receipt(
     requires each_unit { length known.now.pallets ≡ length receipt.now.units }
     requires apart { has_twice (map (λ unit. unit.sscc) receipt.now.units) ≡ false }
     requires sums { list_all (λ unit. has_sums unit.lines) receipt.now.units ≡ true }
-    ensures { IfOk result (λ verdict. (state : Tables) → TellsForReceipt known.now incoming receipt.now state → verdict ≡ rules.judge_receipt retailer.now (option_copied supplier.entry) incoming body receipt.now state) }
+    ensures { IfOk result (λ verdict. (state : Tables) → TellsForReceipt known.now incoming receipt.now state →
+        verdict ≡ rules.judge_receipt retailer.now (option_copied supplier.entry) incoming body receipt.now state) }
 {
     let row = match admitted(retailer, supplier, receipt.buyer, &receipt.supplier) {
         Ok(row) => row,

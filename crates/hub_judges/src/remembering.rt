@@ -18,8 +18,10 @@ pub(crate) fn repeats(
     remembered: &Option<Items<u8>>,
     content: &[u8],
 ) -> Option<Verdict>
-    ensures some { IfSome result (λ verdict. (row : Option RememberedRow) (fresh : Verdict) → option_map (λ row. row.content) row ≡ remembered.now → once row content.now fresh ≡ verdict) }
-    ensures none { IfNone result ((row : Option RememberedRow) (fresh : Verdict) → option_map (λ row. row.content) row ≡ remembered.now → once row content.now fresh ≡ fresh) }
+    ensures some { IfSome result (λ verdict. (row : Option RememberedRow) (fresh : Verdict) →
+        option_map (λ row. row.content) row ≡ remembered.now → once row content.now fresh ≡ verdict) }
+    ensures none { IfNone result ((row : Option RememberedRow) (fresh : Verdict) →
+        option_map (λ row. row.content) row ≡ remembered.now → once row content.now fresh ≡ fresh) }
 {
     match remembered {
         Some(there) => {
@@ -35,7 +37,12 @@ pub(crate) fn repeats(
 
 /// Remembers a message.
 pub(crate) fn remember(supplier: Gln, side: Side, incoming: IncomingMessage) -> Change
-    ensures { result ≡ Remember (remembered (record { supplier = supplier; side = side; control = incoming.control; message = incoming.message }) incoming.content) }
+    ensures { result ≡ Remember (remembered (record {
+      supplier = supplier;
+      side = side;
+      control = incoming.control;
+      message = incoming.message;
+    }) incoming.content) }
 {
     Change::Remember(RememberedRow {
         supplier,

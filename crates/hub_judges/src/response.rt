@@ -94,7 +94,8 @@ pub fn judge_response(
 ) -> Result<Verdict, MemoryFault>
     requires rise { Rises facts_cmp known.lines }
     requires covered { AllByRecursion IsCovered known.lines }
-    ensures { IfOk result (λ verdict. (state : Tables) → TellsForResponse known incoming response.now state → verdict ≡ rules.judge_response retailer.now (option_copied supplier.entry) incoming response.now state) }
+    ensures { IfOk result (λ verdict. (state : Tables) → TellsForResponse known incoming response.now state →
+        verdict ≡ rules.judge_response retailer.now (option_copied supplier.entry) incoming response.now state) }
 {
     let row = match admitted(retailer, supplier, Some(response.buyer), &response.supplier) {
         Ok(row) => row,

@@ -1,4 +1,4 @@
-//! What is received of the items of a unit.
+//! What is received of the articles of a unit.
 ghost use Rattle.std.specs.Prelude.{◌≡◌, ◌+◌, ◌≤◌, ℕ, List, true, None, IfOk};
 ghost use Rattle.std.specs.BTreeMap.{get};
 ghost use Rattle.std.specs.Cmp.Lexicographic.{slice_cmp};
@@ -14,7 +14,7 @@ use gs1_ids::Gtin;
 use std::alloc::Global;
 use std::collections::BTreeMap;
 
-/// What is received of an item, in pieces.
+/// What is received of an article, in pieces.
 #[derive(Clone, Copy)]
 pub(crate) struct Total {
     /// Accepted.
@@ -41,7 +41,7 @@ impl Total {
     }
 }
 
-// The total of an item so far.
+// The total of an article so far.
 fn total_so_far(totals: &BTreeMap<Gtin, Total>, gtin: &Gtin) -> Total
     ensures { result ≡ unwrap_or (get (slice_cmp nat_cmp) totals.now gtin.now) spec.nothing }
 {
@@ -55,13 +55,13 @@ fn total_so_far(totals: &BTreeMap<Gtin, Total>, gtin: &Gtin) -> Total
     }
 }
 
-/// The total of each item of a unit. The totals are kept in an ordered map, so that the time grows as n log n with n lines.
+/// The total of each article of a unit. The totals are kept in an ordered map, so that the time grows as n log n with n lines.
 pub(crate) fn totals_of(
     alloc: Global,
     lines: &[ReceiptLine],
 ) -> Result<BTreeMap<Gtin, Total>, MemoryFault>
     requires { has_sums lines.now ≡ true }
-    ensures { IfOk result (λ totals. (item : List ℕ) → get (slice_cmp nat_cmp) totals item ≡ spec.total_from None item lines.now) }
+    ensures { IfOk result (λ totals. (article : List ℕ) → get (slice_cmp nat_cmp) totals article ≡ spec.total_from None article lines.now) }
 {
     let mut totals: BTreeMap<Gtin, Total> = BTreeMap::new(alloc);
     for line in lines {

@@ -189,6 +189,22 @@ unfolding interchange_in interchange_of fault_of contents_of is_framed is_row_of
     response_of despatch_of receipt_of entry_text list_text status_text digits
 orders_come = refl
 
+-- the status of the despatches and the receipt below, by what is open, refused, cancelled and despatched of the first line
+abbrev status_where : List ℕ → List ℕ
+status_where first = lines (
+    (codes "L 128576                                   1 04000862141404 C        48" ++ first)
+    ∷ codes
+    "L 128577                                   1 04000862141404 N        30         0        18         0        12"
+    ∷ codes
+    "P 340123455000000012 04000862141404 R             12             10              1              0              -1"
+    ∷ codes
+    "P 340123455000000012 04000862141411 R              0              3              0              0              +3"
+    ∷ codes
+    "P 340123455000000029 04000862141404 A             12              0              0              0              +0"
+    ∷ codes "end"
+    ∷ []
+    )
+
 -- answers, despatches and a receipt over these two orders; the status after them; and cancellations
 goods_come : replies (
     by_retailer (requests.Upload (first_order))
@@ -246,47 +262,14 @@ goods_come : replies (
     ∷ done (lines (codes "interchange S7 messages 1" ∷ codes "1 ORDRSP accepted" ∷ []))
     ∷ done (lines (codes "interchange 1005 messages 1" ∷ codes "1 RECADV accepted" ∷ []))
     ∷ refused (codes "interchange 1006 messages 1" ∷ codes "1 RECADV refused B15" ∷ [])
-    ∷ done (lines (codes
-    "L 128576                                   1 04000862141404 C        48        24        12         0        12"
-    ∷ codes
-    "L 128577                                   1 04000862141404 N        30         0        18         0        12"
-    ∷ codes
-    "P 340123455000000012 04000862141404 R             12             10              1              0              -1"
-    ∷ codes
-    "P 340123455000000012 04000862141411 R              0              3              0              0              +3"
-    ∷ codes
-    "P 340123455000000029 04000862141404 A             12              0              0              0              +0"
-    ∷ codes "end"
-    ∷ []))
-    ∷ done (lines (codes
-    "L 128576                                   1 04000862141404 C        48        24        12         0        12"
-    ∷ codes
-    "L 128577                                   1 04000862141404 N        30         0        18         0        12"
-    ∷ codes
-    "P 340123455000000012 04000862141404 R             12             10              1              0              -1"
-    ∷ codes
-    "P 340123455000000012 04000862141411 R              0              3              0              0              +3"
-    ∷ codes
-    "P 340123455000000029 04000862141404 A             12              0              0              0              +0"
-    ∷ codes "end"
-    ∷ []))
+    ∷ done (status_where (codes "        24        12         0        12"))
+    ∷ done (status_where (codes "        24        12         0        12"))
     ∷ done (lines (codes "accepted" ∷ []))
     ∷ done (lines (codes "repeated" ∷ []))
     ∷ refused (codes "refused B17" ∷ [])
     ∷ refused (codes "refused B03" ∷ [])
     ∷ refused (codes "refused B02" ∷ [])
-    ∷ done (lines (codes
-    "L 128576                                   1 04000862141404 C        48        14        12        10        12"
-    ∷ codes
-    "L 128577                                   1 04000862141404 N        30         0        18         0        12"
-    ∷ codes
-    "P 340123455000000012 04000862141404 R             12             10              1              0              -1"
-    ∷ codes
-    "P 340123455000000012 04000862141411 R              0              3              0              0              +3"
-    ∷ codes
-    "P 340123455000000029 04000862141404 A             12              0              0              0              +0"
-    ∷ codes "end"
-    ∷ []))
+    ∷ done (status_where (codes "        14        12        10        12"))
     ∷ done (lines (codes "             1 ORDERS 128576"
     ∷ codes "             2 ORDERS 128577"
     ∷ codes "             3 RECADV G1"

@@ -9,6 +9,7 @@ pub mod Judged
 pub mod MailOf
 pub mod Overlapping
 pub mod Recurring
+pub mod Remembering
 pub mod Repeated
 pub mod Retailers
 pub mod Runs

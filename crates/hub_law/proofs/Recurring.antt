@@ -1,7 +1,8 @@
 -- What was accepted in a run and comes again later in it.
 use Rattle.std.proofs.Common.{◌≡◌, ℕ, zero, suc, ◌+◌, ◌<◌, ◌≤◌, min, nat_lt, Bool, true, false, ◌&&◌, if◌then◌else◌, List}
 use Rattle.std.proofs.Common.{[], ◌∷◌, ◌++◌, length, map, slice_get, take, Option, Some, None, refl, sym, ◌∙◌, ap, subst}
-use Rattle.std.proofs.Common.{arith}
+use Rattle.std.proofs.Common.{arith, get_or}
+use Rattle.std.proofs.lemmas.Bool.{true≢false}
 use Rattle.std.proofs.lemmas.Bool.Decides.{nat_tests}
 use Rattle.std.proofs.lemmas.List.{length-take}
 use Rattle.edi_envelope.specs.declared.interchange.RawMessage.{RawMessage}
@@ -20,17 +21,18 @@ use Rattle.hub_law.specs.Machine.{Inputs, shared_step, shared_run, step_as}
 use Rattle.hub_law.specs.Mark.{Mark, Whole, StoppedEmpty, StoppedBare, StoppedAfter, first_done}
 use Rattle.hub_law.specs.Messages.{incoming, messages_at, deliver_suppliers, cancel}
 use Rattle.hub_law.specs.Opening.{Opened}
-use Rattle.hub_law.specs.Remembered.{StaysRemembered}
+use Rattle.hub_law.specs.Remembered.{StaysRemembered, row_of_message, row_of_cancel}
 use Rattle.hub_law.specs.Replies.{cancel_reply}
 use Rattle.hub_law.specs.Requests.{deliver_named, from_supplier, from_retailer, retailer_request}
 use Rattle.hub_law.specs.Stops.{Upload, upload_from, upload_by, upload_of}
-use Rattle.hub_law.specs.Told.{Told, Accepted, Repeated, Act, in_row}
+use Rattle.hub_law.specs.Told.{Told, Accepted, Repeated, Refused, Act, in_row}
 use Rattle.hub_law.specs.declared.reply.Reply.{Reply}
 use Rattle.hub_law.specs.declared.request.Input.{Input}
 use Rattle.hub_law.specs.declared.request.Request.{Request}
 use Rattle.hub_law.specs.declared.request.Request.TheVariants as requests
 use Rattle.hub_law.proofs.Acts.{suppliers_act}
 use Rattle.hub_law.proofs.Cutting.{well_opened, whole_upload, behind_some}
+use Rattle.hub_law.proofs.Remembering.{named_remembered, suppliers_remembered, cancellation_remembered}
 use Rattle.hub_law.proofs.Repeated.{named_repeated, suppliers_repeated, cancellation_repeated}
 use Rattle.hub_law.proofs.Retailers.{message_sound}
 use Rattle.hub_law.proofs.Runs.{run_sound}
@@ -227,13 +229,9 @@ module _ (register : RegisterRows) (t : Tables) (input : Input) (upload : Upload
       (sym (behind_some register t input k upload looked_at behind.1))
       (more_stay (upload.act) stays sents (place + 1) k t (omega (arith, behind.0)))
 
--- The message that comes again.
-module _ (register : RegisterRows) (t : Tables) (before between : Inputs) (first second : Input) (mark : Mark)
-    (place later : ℕ) (message : RawMessage) (one : MessageAt register first place message)
-    (other : MessageAt register second later message)
-    (free : PrefixFree (company_prefixes register.suppliers)) (sound : Sound register.suppliers t)
-    (alike : SameReference first second one.upload other.upload) (reaches : Reaches mark first one.upload place)
-    (told : told_at register t before first one.upload place ≡ Some Accepted) where
+-- A message at a place of a run.
+module _ (register : RegisterRows) (t : Tables) (before between : Inputs) (first : Input) (mark : Mark) (place : ℕ)
+    (message : RawMessage) (one : MessageAt register first place message) (reaches : Reaches mark first one.upload place) where
   abbrev whose : Option SupplierRow
   whose = row_of register first.caller
 
@@ -249,14 +247,8 @@ module _ (register : RegisterRows) (t : Tables) (before between : Inputs) (first
   abbrev here : Tables
   here = tables_before register t before first one.upload place
 
-  abbrev there : Tables
-  there = tables_before register t whole_run second other.upload later
-
   first_act : one.upload.act ≡ act_at register whose
   first_act = act_is register first one.upload one.looked_at
-
-  second_act : other.upload.act ≡ act_at register whose
-  second_act = act_is register second other.upload other.looked_at ∙ ap (λ caller. act_at register (row_of register caller)) alike.caller
 
   stays_of : (act : RawMessage × IncomingMessage → Act)
       → act ≡ act_at register whose
@@ -266,31 +258,16 @@ module _ (register : RegisterRows) (t : Tables) (before between : Inputs) (first
       subst (λ act. (sents : List (RawMessage × IncomingMessage)) (u : Tables) → StaysRemembered u (in_row act sents u).1)
       (sym is) (acts_stay register whose)
 
-  -- the message as it comes, and as it comes again
+  -- the message as it comes
   abbrev sent : RawMessage × IncomingMessage
   sent = (message, incoming first.moment one.upload.interchange message)
-
-  abbrev again : RawMessage × IncomingMessage
-  again = (message, incoming second.moment other.upload.interchange message)
 
   first_there : slice_get (messages_at first.moment one.upload.interchange) place ≡ Some sent
   first_there =
       at_place (λ message. (message, incoming first.moment one.upload.interchange message)) one.upload.interchange.messages
       place message one.there
 
-  second_there : slice_get (messages_at second.moment other.upload.interchange) later ≡ Some again
-  second_there =
-      at_place (λ message. (message, incoming second.moment other.upload.interchange message))
-      other.upload.interchange.messages later message other.there
-
-  accepted : (one.upload.act sent here).0 ≡ Accepted
-  accepted =
-      let both : Some (one.upload.act sent here).0 ≡ Some Accepted =
-      sym (told_there (one.upload.act) (messages_at first.moment one.upload.interchange) place sent at_first first_there)
-      ∙ told in
-      cc
-
-  remembers : StaysRemembered (one.upload.act sent here).1 there
+  remembers : StaysRemembered (one.upload.act sent here).1 at_second
   remembers = λ row was.
       let after : Has
       (in_row (one.upload.act) (take (place + 1) (messages_at first.moment one.upload.interchange)) at_first).1.remembered
@@ -302,34 +279,79 @@ module _ (register : RegisterRows) (t : Tables) (before between : Inputs) (first
       (stays_of one.upload.act first_act) mark
       (within (messages_at first.moment one.upload.interchange) place sent first_there) reaches row after in
       let ran = run_stays register (shared_step register at_first first mark).1 between row stepped in
-      stays_of other.upload.act second_act (take later (messages_at second.moment other.upload.interchange)) at_second row
-      (subst (λ (u : Tables). Has u.remembered row) (sym (run_of_both register t before ((first, mark) ∷ between))) ran)
+      subst (λ (u : Tables). Has u.remembered row) (sym (run_of_both register t before ((first, mark) ∷ between))) ran
 
-  sound_there : Sound register.suppliers there
-  sound_there =
-      row_sound (other.upload.act) (Sound register.suppliers)
-      (subst (λ act. (sent : RawMessage × IncomingMessage) (u : Tables)
-      → Sound register.suppliers u
-      → Sound register.suppliers (act sent u).1) (sym second_act) (act_sound register free first.caller whose refl))
-      (take later (messages_at second.moment other.upload.interchange)) at_second (run_sound register free t whole_run sound)
+  -- where it was accepted
+  module _ (told : told_at register t before first one.upload place ≡ Some Accepted) where
+    accepted : (one.upload.act sent here).0 ≡ Accepted
+    accepted =
+        let both : Some (one.upload.act sent here).0 ≡ Some Accepted =
+        sym (told_there (one.upload.act) (messages_at first.moment one.upload.interchange) place sent at_first first_there)
+        ∙ told in
+        cc
 
-  repeated : other.upload.act again there ≡ (Repeated, there)
-  repeated =
-      subst (λ act. act again there ≡ (Repeated, there)) (sym second_act)
-      (act_again register free whose message sent.1 again.1 here there
-      (λ k. record again.1 { control = sym alike.control k })
-      (subst (λ act. (act sent here).0 ≡ Accepted) first_act accepted)
-      (subst (λ act. StaysRemembered (act sent here).1 there) first_act remembers) sound_there)
+    -- its row is remembered
+    pub row_there : Has at_second.remembered (row_of_message whose message sent.1)
+    row_there =
+        remembers (row_of_message whose message sent.1)
+        (subst (λ act. (act sent here).0 ≡ Accepted → Has (act sent here).1.remembered (row_of_message whose message sent.1))
+        (sym first_act) (by_row whose) accepted)
+      where
+        by_row : (o : Option SupplierRow)
+            → (act_at register o sent here).0 ≡ Accepted
+            → Has (act_at register o sent here).1.remembered (row_of_message o message sent.1)
+        by_row (Some s) = suppliers_remembered (parties_of register) s message sent.1 here
+        by_row None = named_remembered register message sent.1 here
 
-  pub told_again : told_at register t whole_run second other.upload later ≡ Some Repeated
-  told_again =
-      told_there (other.upload.act) (messages_at second.moment other.upload.interchange) later again at_second second_there
-      ∙ ap (λ (after : Told × Tables). Some after.0) repeated
+    -- and it comes again
+    module _ (second : Input) (later : ℕ) (other : MessageAt register second later message)
+        (free : PrefixFree (company_prefixes register.suppliers)) (sound : Sound register.suppliers t)
+        (alike : SameReference first second one.upload other.upload) where
+      abbrev there : Tables
+      there = tables_before register t whole_run second other.upload later
 
-  pub left_again : tables_before register t whole_run second other.upload (later + 1) ≡ there
-  left_again =
-      next_there (other.upload.act) (messages_at second.moment other.upload.interchange) later again at_second second_there
-      ∙ ap (λ (after : Told × Tables). after.1) repeated
+      second_act : other.upload.act ≡ act_at register whose
+      second_act =
+          act_is register second other.upload other.looked_at ∙ ap (λ caller. act_at register (row_of register caller)) alike.caller
+
+      abbrev again : RawMessage × IncomingMessage
+      again = (message, incoming second.moment other.upload.interchange message)
+
+      second_there : slice_get (messages_at second.moment other.upload.interchange) later ≡ Some again
+      second_there =
+          at_place (λ message. (message, incoming second.moment other.upload.interchange message))
+          other.upload.interchange.messages later message other.there
+
+      still_remembers : StaysRemembered (one.upload.act sent here).1 there
+      still_remembers = λ row was.
+          stays_of other.upload.act second_act (take later (messages_at second.moment other.upload.interchange)) at_second row
+          (remembers row was)
+
+      sound_there : Sound register.suppliers there
+      sound_there =
+          row_sound (other.upload.act) (Sound register.suppliers)
+          (subst (λ act. (sent : RawMessage × IncomingMessage) (u : Tables)
+          → Sound register.suppliers u
+          → Sound register.suppliers (act sent u).1) (sym second_act) (act_sound register free first.caller whose refl))
+          (take later (messages_at second.moment other.upload.interchange)) at_second (run_sound register free t whole_run sound)
+
+      repeated : other.upload.act again there ≡ (Repeated, there)
+      repeated =
+          subst (λ act. act again there ≡ (Repeated, there)) (sym second_act)
+          (act_again register free whose message sent.1 again.1 here there
+          (λ k. record again.1 { control = sym alike.control k })
+          (subst (λ act. (act sent here).0 ≡ Accepted) first_act accepted)
+          (subst (λ act. StaysRemembered (act sent here).1 there) first_act still_remembers) sound_there)
+
+      pub told_again : told_at register t whole_run second other.upload later ≡ Some Repeated
+      told_again =
+          told_there (other.upload.act) (messages_at second.moment other.upload.interchange) later again at_second second_there
+          ∙ ap (λ (after : Told × Tables). Some after.0) repeated
+
+      pub left_again : tables_before register t whole_run second other.upload (later + 1) ≡ there
+      left_again =
+          next_there (other.upload.act) (messages_at second.moment other.upload.interchange) later again at_second second_there
+          ∙ ap (λ (after : Told × Tables). after.1) repeated
 
 -- The cancellation that comes again.
 module _ (register : RegisterRows) (c : Cancel) where
@@ -344,24 +366,44 @@ module _ (register : RegisterRows) (c : Cancel) where
       ap (λ role. step_as register role (row_of register input.caller) input Whole u) role
       ∙ ap (λ request. retailer_request register input.moment Whole request u) asks
 
-  pub cancelled_again : (t : Tables) (before between : Inputs) (first second : Input)
-      → PrefixFree (company_prefixes register.suppliers)
-      → Sound register.suppliers t
-      → role_of register first.caller first.key ≡ Some Retailer
-      → role_of register second.caller second.key ≡ Some Retailer
-      → first.request ≡ requests.Cancel c → second.request ≡ requests.Cancel c → (cancels (shared_run register t before).1).0 ≡ Accepted
-      → shared_step register (shared_run register t (before ++ (first, Whole) ∷ between)).1 second Whole
-      ≡ (cancel_reply Repeated, (shared_run register t (before ++ (first, Whole) ∷ between)).1)
-  cancelled_again t before between first second free sound first_role second_role first_asks second_asks told =
-      let at_first = (shared_run register t before).1 in
-      let at_second = (shared_run register t (before ++ (first, Whole) ∷ between)).1 in
-      let stays : StaysRemembered (cancels at_first).1 at_second = λ row was.
-      let stepped : Has (shared_step register at_first first Whole).1.remembered row =
-      subst (λ (after : Reply × Tables). Has after.1.remembered row)
-      (sym (step_cancels first at_first first_role first_asks)) was in
-      subst (λ (u : Tables). Has u.remembered row) (sym (run_of_both register t before ((first, Whole) ∷ between)))
-      (run_stays register (shared_step register at_first first Whole).1 between row stepped) in
-      step_cancels second at_second second_role second_asks
-      ∙ ap (λ (after : Told × Tables). (cancel_reply after.0, after.1))
-      (cancellation_repeated register c at_first at_second told stays
-      (run_sound register free t (before ++ (first, Whole) ∷ between) sound))
+  -- where a cancellation was accepted, what it left is still remembered after the run
+  module _ (t : Tables) (before between : Inputs) (first : Input)
+      (first_role : role_of register first.caller first.key ≡ Some Retailer) (first_asks : first.request ≡ requests.Cancel c) where
+    abbrev after_run : Tables
+    after_run = (shared_run register t (before ++ (first, Whole) ∷ between)).1
+
+    cancel_stays : StaysRemembered (cancels (shared_run register t before).1).1 after_run
+    cancel_stays = λ row was.
+        let at_first = (shared_run register t before).1 in
+        let stepped : Has (shared_step register at_first first Whole).1.remembered row =
+        subst (λ (after : Reply × Tables). Has after.1.remembered row)
+        (sym (step_cancels first at_first first_role first_asks)) was in
+        subst (λ (u : Tables). Has u.remembered row) (sym (run_of_both register t before ((first, Whole) ∷ between)))
+        (run_stays register (shared_step register at_first first Whole).1 between row stepped)
+
+    -- the reply tells that it was accepted
+    told_by_reply : (told : Told) → cancel_reply told ≡ cancel_reply Accepted → told ≡ Accepted
+    told_by_reply Accepted h = refl
+    told_by_reply Repeated h = let first : 114 ≡ 97 = ap (λ (r : Reply). get_or r.body 0 0) h in absurd (omega (arith, first))
+    told_by_reply (Refused code) h = absurd (true≢false (ap (λ (r : Reply). r.refused) h))
+
+    pub cancellation_there : (shared_step register (shared_run register t before).1 first Whole).0 ≡ cancel_reply Accepted
+        → Has after_run.remembered (row_of_cancel c)
+    cancellation_there h =
+        let at_first = (shared_run register t before).1 in
+        let told = told_by_reply (cancels at_first).0
+        (sym (ap (λ (after : Reply × Tables). after.0) (step_cancels first at_first first_role first_asks)) ∙ h) in
+        cancel_stays (row_of_cancel c) (cancellation_remembered register c at_first told)
+
+    pub cancelled_again : (second : Input)
+        → PrefixFree (company_prefixes register.suppliers)
+        → Sound register.suppliers t
+        → role_of register second.caller second.key ≡ Some Retailer
+        → second.request ≡ requests.Cancel c
+        → (cancels (shared_run register t before).1).0 ≡ Accepted
+        → shared_step register after_run second Whole ≡ (cancel_reply Repeated, after_run)
+    cancelled_again second free sound second_role second_asks told =
+        step_cancels second after_run second_role second_asks
+        ∙ ap (λ (after : Told × Tables). (cancel_reply after.0, after.1))
+        (cancellation_repeated register c (shared_run register t before).1 after_run told cancel_stays
+        (run_sound register free t (before ++ (first, Whole) ∷ between) sound))

@@ -15,7 +15,9 @@ pub use laws::{
     each_line_balances, hub_stays_sound, prefixes_matter, run_is_own, runs_alike, step_is_own,
 };
 pub use mail::entry_is_its_messages_mail;
-pub use repeats::{accepted_is_repeated, remembered_stays, repeated_in_runs};
+pub use repeats::{
+    accepted_is_repeated, accepted_stays_remembered, remembered_stays, repeated_in_runs,
+};
 pub use reply::{Outcome, Reply};
 pub use request::{Input, Request};
 pub use sets::views_are_sets;

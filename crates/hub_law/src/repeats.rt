@@ -1,8 +1,9 @@
 //! What was accepted and comes again: laws, each the contract of a function without a body.
 ghost use Rattle.std.specs.Prelude.{◌≡◌, ℕ, ◌+◌, List, ◌∷◌, ◌++◌, Some};
 ghost use Rattle.edi_envelope.specs.declared.interchange.RawMessage.{RawMessage};
-ghost use Rattle.hub_parties.specs.Rows.{Parties, RegisterRows};
+ghost use Rattle.hub_parties.specs.Rows.{Parties, RegisterRows, row_of};
 ghost use Rattle.hub_parties.specs.declared.row.SupplierRow.{SupplierRow};
+ghost use Rattle.hub_tables.specs.Sets.{Has};
 ghost use Rattle.hub_tables.specs.Tables.{Tables, view};
 ghost use Rattle.hub_rules.specs.declared.incoming.IncomingMessage.{IncomingMessage};
 ghost use Rattle.hub_rules.specs.declared.cancel.Cancel.{Cancel};
@@ -11,8 +12,8 @@ ghost use Rattle.hub_law.specs.Again.{tables_before, told_at};
 ghost use Rattle.hub_rules.specs.Laws.{SoundHub};
 ghost use Rattle.hub_law.specs.Machine.{Inputs, shared_step, shared_run};
 ghost use Rattle.hub_law.specs.Mark.{Mark, Whole};
-ghost use Rattle.hub_law.specs.Messages.{deliver_suppliers};
-ghost use Rattle.hub_law.specs.Remembered.{StaysRemembered};
+ghost use Rattle.hub_law.specs.Messages.{deliver_suppliers, incoming};
+ghost use Rattle.hub_law.specs.Remembered.{StaysRemembered, row_of_message, row_of_cancel};
 ghost use Rattle.hub_law.specs.Replies.{cancel_reply};
 ghost use Rattle.hub_law.specs.declared.request.Input.{Input};
 ghost use Rattle.hub_law.specs.Requests.{deliver_named, cancel_named};
@@ -46,6 +47,21 @@ pub fn remembered_stays()
         StaysRemembered t (in_row (deliver_suppliers (view s.gln) parties s) sents t).1 }
     ensures run { (register : RegisterRows) (t : Tables) (inputs : Inputs) →
         StaysRemembered t (shared_run register t inputs).1 }
+{}
+
+/// What was accepted in a run is remembered under its references and with its content, after it and whatever comes then: a
+/// message, and a cancellation of which the reply tells that it was accepted.
+pub fn accepted_stays_remembered()
+    ensures message { (register : RegisterRows) (t : Tables) (before between : Inputs) (input : Input) (mark : Mark)
+        (place : ℕ) (message : RawMessage) (one : AcceptedAt register t before input mark place message) →
+        Has (shared_run register t (before ++ (input, mark) ∷ between)).1.remembered
+        (row_of_message (row_of register input.caller) message
+        (incoming input.moment one.comes.upload.interchange message)) }
+    ensures cancellation { (register : RegisterRows) (t : Tables) (before between : Inputs) (input : Input)
+        (c : Cancel) →
+        AsksCancel register c input →
+        (shared_step register (shared_run register t before).1 input Whole).0 ≡ cancel_reply Accepted →
+        Has (shared_run register t (before ++ (input, Whole) ∷ between)).1.remembered (row_of_cancel c) }
 {}
 
 /// In a run from sound tables, a message that was accepted and comes again in a later upload that is looked at, is told

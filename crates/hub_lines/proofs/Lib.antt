@@ -1,7 +1,7 @@
-pub mod ByItem
+pub mod ByArticle
 pub mod ByNumber
 pub mod FirstLine
 pub mod InOrder
-pub mod IndexItems
-pub mod ItemLines
+pub mod IndexArticles
+pub mod ArticleLines
 pub mod SetLine

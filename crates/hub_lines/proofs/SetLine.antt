@@ -18,9 +18,9 @@ use Rattle.hub_tables.specs.declared.rows.LineRow.{LineRow}
 use Rattle.hub_tables.specs.Sets.{Rises}
 use Rattle.hub_tables.proofs.Lists.{decide, same_is, same_if, all_weaker}
 use Rattle.hub_lines.specs.Book.{facts_cmp, set_row, with_row, answered_row}
-use Rattle.hub_lines.specs.ItemIndex.{OrderItem, Indexed, IsItemIndex}
+use Rattle.hub_lines.specs.ArticleIndex.{OrderArticle, Indexed, IsArticleIndex}
 use Rattle.hub_lines.specs.Key.{key_of, keys_of}
-use Rattle.hub_lines.specs.declared.by_item.ItemLines.{ItemLines}
+use Rattle.hub_lines.specs.declared.by_article.ArticleLines.{ArticleLines}
 use Rattle.hub_lines.specs.declared.facts.LineFacts.{LineFacts}
 use Rattle.hub_lines.proofs.ByNumber.{key_cmp, key_total}
 
@@ -112,24 +112,24 @@ keys_kept lines place line new within at same_key =
     ∙ ap (slice_set (keys_of lines) place) (same_key ∙ ap key_of at ∙ sym (get_or-map key_of lines place line (key_of line) within))
     ∙ set-get_or (keys_of lines) place (key_of line)
 
-pub indexed_kept : (xs ys : List LineFacts) (items : BTreeMap OrderItem ItemLines)
+pub indexed_kept : (xs ys : List LineFacts) (articles : BTreeMap OrderArticle ArticleLines)
     → keys_of ys ≡ keys_of xs
-    → Indexed xs items
-    → Indexed ys items
-indexed_kept xs ys items same_keys old = record {
+    → Indexed xs articles
+    → Indexed ys articles
+indexed_kept xs ys articles same_keys old = record {
   rise = rise_kept xs ys (sym same_keys) old.rise;
-  index = subst (λ keys. IsItemIndex keys items) (sym same_keys) old.index;
+  index = subst (λ keys. IsArticleIndex keys articles) (sym same_keys) old.index;
 }
 
-pub answered_kept : (lines : List LineFacts) (items : BTreeMap OrderItem ItemLines) (place : ℕ) (line : LineFacts)
+pub answered_kept : (lines : List LineFacts) (articles : BTreeMap OrderArticle ArticleLines) (place : ℕ) (line : LineFacts)
     (open_qty refused cancelled answer : ℕ)
-    → Indexed lines items
+    → Indexed lines articles
     → place < length lines
     → line ≡ get_or lines place line
-    → Indexed (slice_set lines place (record line { row = answered_row line.row open_qty refused cancelled answer })) items
-answered_kept lines items place line open_qty refused cancelled answer old within at =
+    → Indexed (slice_set lines place (record line { row = answered_row line.row open_qty refused cancelled answer })) articles
+answered_kept lines articles place line open_qty refused cancelled answer old within at =
     let new = record line { row = answered_row line.row open_qty refused cancelled answer } in
-    indexed_kept lines (slice_set lines place new) items (keys_kept lines place line new within at refl) old
+    indexed_kept lines (slice_set lines place new) articles (keys_kept lines place line new within at refl) old
 
 pub answered_is : (lines : List LineFacts) (place : ℕ) (line : LineFacts) (open_qty refused cancelled answer : ℕ)
     → Rises facts_cmp lines

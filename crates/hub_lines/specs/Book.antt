@@ -16,7 +16,7 @@ facts_cmp a b = ordering_then (bytes_cmp a.row.number b.row.number) (nat_cmp a.r
 abbrev pub facts_of : List LineFacts → List ℕ → List LineFacts
 facts_of lines order = filter (λ line. same line.row.number order) lines
 
--- the one of a number, or where none is given the only one of an item
+-- the one of a number, or where none is given the only one of an article
 abbrev pub facts_among : List LineFacts → Option ℕ → List ℕ → Option LineFacts
 facts_among lines (Some number) gtin = find (λ line. line.row.line == number) lines
 facts_among lines None gtin = the_only (filter (λ line. same line.row.gtin gtin) lines)
@@ -31,7 +31,8 @@ with_row row lines = map (set_row row) lines
 
 -- a row with these quantities and this answer
 abbrev pub answered_row : LineRow → ℕ → ℕ → ℕ → ℕ → LineRow
-answered_row row open_qty refused cancelled answer = record row { open_qty = open_qty; refused = refused; cancelled = cancelled; answer = answer }
+answered_row row open_qty refused cancelled answer =
+    record row { open_qty = open_qty; refused = refused; cancelled = cancelled; answer = answer }
 
 -- what is open, refused and cancelled of a line is no more than what is ordered
 abbrev pub IsCovered : LineFacts → Type 0

@@ -5,7 +5,7 @@ use Rattle.std.specs.Ordering.{nat_cmp, ordering_then, is_lt}
 use Rattle.hub_tables.specs.Keys.{bytes_cmp}
 use Rattle.hub_lines.specs.declared.facts.LineFacts.{LineFacts}
 
--- the keys of a line: the order number, the line number, and the item
+-- the keys of a line: the order number, the line number, and the article
 pub record LineKey : Type 0 where
   pub number : List ℕ
   pub line : ℕ

@@ -1,3 +1,3 @@
 pub mod Book
-pub mod ItemIndex
+pub mod ArticleIndex
 pub mod Key

@@ -6,7 +6,7 @@ ghost use Rattle.hub_tables.specs.Sets.{Rises};
 ghost use Rattle.hub_lines.specs.Book.{facts_cmp, facts_of, facts_among, with_row, answered_row};
 ghost use Rattle.hub_lines.specs.declared.facts.LineFacts.{LineFacts};
 
-use crate::by_item::{ItemIndex, index_items, place_by_item};
+use crate::by_article::{ArticleIndex, index_articles, place_by_article};
 use crate::by_number::place_by_number;
 use crate::facts::LineFacts;
 use edi_base::{Items, MemoryFault};
@@ -19,19 +19,19 @@ use std::marker::Model;
 #[derive(Debug, Drop)]
 pub struct Book {
     lines: Vec<LineFacts>,
-    items: ItemIndex,
+    articles: ArticleIndex,
 }
 
 impl Model for Book {
     ghost use Rattle.std.specs.Prelude.{List};
-    ghost use Rattle.hub_lines.specs.ItemIndex.{Indexed};
+    ghost use Rattle.hub_lines.specs.ArticleIndex.{Indexed};
     ghost use Rattle.hub_lines.specs.declared.facts.LineFacts.{LineFacts};
 
     ghost Value = { List LineFacts };
 
     ghost view = { λ book. book.lines.items };
 
-    ghost invariant = { λ book. Indexed book.lines.items book.items };
+    ghost invariant = { λ book. Indexed book.lines.items book.articles };
 }
 
 impl Book {
@@ -41,18 +41,19 @@ impl Book {
         ensures { IfOk result (λ book. book ≡ lines) }
     {
         let lines = lines.into_vec();
-        let items = index_items(alloc, lines.as_slice())?;
-        Ok(Book { lines, items })
+        let articles = index_articles(alloc, lines.as_slice())?;
+        Ok(Book { lines, articles })
     }
 
-    /// The place of the line of an order: of the number, or where none is given of the only one with the item.
+    /// The place of the line of an order: of the number, or where none is given of the only one with the article.
     pub fn place_of(&self, order: &[u8], line_number: Option<u32>, gtin: &Gtin) -> Option<usize>
-        ensures some { IfSome result (λ place. (place < length self.now) × (facts_among (facts_of self.now order.now) line_number gtin.now ≡ slice_get self.now place)) }
+        ensures some { IfSome result (λ place. (place < length self.now)
+            × (facts_among (facts_of self.now order.now) line_number gtin.now ≡ slice_get self.now place)) }
         ensures none { IfNone result (facts_among (facts_of self.now order.now) line_number gtin.now ≡ None) }
     {
         match line_number {
             Some(line_number) => place_by_number(self.lines.as_slice(), order, line_number),
-            None => place_by_item(self.lines.as_slice(), &self.items, order, gtin),
+            None => place_by_article(self.lines.as_slice(), &self.articles, order, gtin),
         }
     }
 
@@ -74,7 +75,8 @@ impl Book {
         answer: Answered,
     )
         requires { place < length self.old }
-        ensures { (line : LineFacts) → slice_get self.old place ≡ Some line → self.new ≡ with_row (answered_row line.row open_qty refused cancelled (answer_letter answer)) self.old }
+        ensures { (line : LineFacts) → slice_get self.old place ≡ Some line →
+            self.new ≡ with_row (answered_row line.row open_qty refused cancelled (answer_letter answer)) self.old }
     {
         let line = &mut self.lines[place];
         line.row.open_qty = open_qty;

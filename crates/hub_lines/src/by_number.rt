@@ -39,7 +39,9 @@ fn is_numbered(line: &LineFacts, order: &[u8], line_number: u32) -> bool
 /// The place of the line of an order with a number.
 pub(crate) fn place_by_number(lines: &[LineFacts], order: &[u8], line_number: u32) -> Option<usize>
     requires { Rises facts_cmp lines.now }
-    ensures some { IfSome result (λ place. (place < length lines.now) × (find (λ (line : LineFacts). line.row.line == line_number) (facts_of lines.now order.now) ≡ slice_get lines.now place)) }
+    ensures some { IfSome result (λ place. (place < length lines.now)
+        × (find (λ (line : LineFacts). line.row.line == line_number) (facts_of lines.now order.now)
+        ≡ slice_get lines.now place)) }
     ensures none { IfNone result (find (λ (line : LineFacts). line.row.line == line_number) (facts_of lines.now order.now) ≡ None) }
 {
     let place = place_from(lines, order, line_number);

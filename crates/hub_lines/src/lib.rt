@@ -1,9 +1,9 @@
 //! The orders and lines that a message or a cancellation names, as they are known while it is judged. Those of a message are
-//! looked up by number and by item without a walk over all lines, and set one after another.
+//! looked up by number and by article without a walk over all lines, and set one after another.
 #![tactic(auto)]
 
 mod book;
-mod by_item;
+mod by_article;
 mod by_number;
 mod facts;
 mod lines;

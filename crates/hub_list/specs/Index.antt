@@ -12,7 +12,7 @@ use Rattle.hub_tables.specs.State.{is_taken}
 use Rattle.hub_tables.specs.declared.rows.MailRow.{MailRow}
 use Rattle.hub_tables.specs.declared.rows.PalletRow.{PalletRow}
 use Rattle.hub_tables.proofs.Lists.{same_is}
-use Rattle.hub_list.specs.Places.{both, same_bytes}
+use Rattle.hub_rows.specs.Alike.{both, same_bytes}
 use Rattle.hub_list.specs.declared.index.EntryKey.{EntryKey}
 use Rattle.hub_list.specs.declared.index.PalletKey.{PalletKey}
 

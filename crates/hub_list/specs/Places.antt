@@ -1,27 +1,13 @@
 -- Where rows stand to what is looked for.
-use Rattle.std.proofs.Common.{◌≡◌, ℕ, Bool, true, false, ◌&&◌, ◌==◌, cond, List, refl, sym, ap, ap₂, ◌∙◌}
+use Rattle.std.proofs.Common.{◌≡◌, ℕ, true, false, ◌==◌, cond, refl, sym, ap, ap₂, ◌∙◌}
 use Rattle.std.specs.Prelude.{nat_lt}
-use Rattle.std.specs.Cmp.{IsTotalOrder, both_tied, unsigned_tied}
+use Rattle.std.specs.Cmp.{IsTotalOrder}
 use Rattle.std.specs.Ordering.{nat_cmp, ordering_then, ordering_reverse, is_eq, is_gt}
 use Rattle.std.specs.declared.cmp.Ordering.{Ordering}
 use Rattle.std.specs.declared.cmp.Ordering.TheVariants.{Less, Equal, Greater}
 use Rattle.std.proofs.lemmas.Bool.{both_ways}
 use Rattle.std.proofs.lemmas.Cmp.{alike_right, nat_cmp_total}
-use Rattle.std.proofs.lemmas.Map.Text.{is_eq-slice_cmp}
-use Rattle.hub_tables.specs.Keys.{bytes_cmp}
-use Rattle.hub_tables.specs.Rows.{same}
 use Rattle.hub_list.specs.Search.{may_precede, KeepsPlaces}
-
--- What stands at a place.
-
-pub same_bytes : (xs ys : List ℕ) → is_eq (bytes_cmp xs ys) ≡ same xs ys
-same_bytes xs ys = is_eq-slice_cmp xs ys
-
-pub same_numbers : (x y : ℕ) → is_eq (nat_cmp x y) ≡ (x == y)
-same_numbers x y = unsigned_tied x y
-
-pub both : (a b : Ordering) {s t : Bool} → is_eq a ≡ s → is_eq b ≡ t → is_eq (ordering_then a b) ≡ (s && t)
-both a b {s} {t} p q = sym (both_tied s t a b (sym p) (sym q))
 
 -- below where the other is not less, and else at it
 abbrev pub at_less : Ordering → Ordering
@@ -34,10 +20,14 @@ abbrev pub above : ℕ → ℕ → Ordering
 above number n = at_less (nat_cmp number n)
 
 pub is_above : (number n : ℕ) → is_eq (above number n) ≡ nat_lt number n
-is_above number n = elim (nat_lt number n) as (λ v. is_eq (at_less (cond v Less (cond (number == n) Equal Greater))) ≡ v) [
-  | true ↦ refl
-  | false ↦ elim (number == n) as (λ v. is_eq (at_less (cond v Equal Greater)) ≡ false) [ true ↦ refl | false ↦ refl ]
-]
+is_above number n =
+    elim (nat_lt number n) as (λ v. is_eq (at_less (cond v Less (cond (number == n) Equal Greater))) ≡ v) [
+      | true ↦ refl
+      | false ↦ elim (number == n) as (λ v. is_eq (at_less (cond v Equal Greater)) ≡ false) [
+        | true ↦ refl
+        | false ↦ refl
+      ]
+    ]
 
 -- That places are kept.
 
@@ -57,10 +47,12 @@ not_above Equal b h = refl
 not_above Greater b h = h
 
 -- the places to a first part of a key
-pub first_part : {X : Type 0} (c d : X → X → Ordering) (p : X → Ordering) → KeepsPlaces c p → KeepsPlaces (λ x y. ordering_then (c x y) (d x y)) p
+pub first_part : {X : Type 0} (c d : X → X → Ordering) (p : X → Ordering) → KeepsPlaces c p
+    → KeepsPlaces (λ x y. ordering_then (c x y) (d x y)) p
 first_part c d p keeps x y h = keeps x y (not_above (c x y) (d x y) h)
 
-reversed : (o p : Ordering) → may_precede o p ≡ true → may_precede (at_less (ordering_reverse o)) (at_less (ordering_reverse p)) ≡ true
+reversed : (o p : Ordering) → may_precede o p ≡ true
+    → may_precede (at_less (ordering_reverse o)) (at_less (ordering_reverse p)) ≡ true
 reversed Less p h = refl
 reversed Equal p h = refl
 reversed Greater Less h = h
@@ -68,9 +60,11 @@ reversed Greater Equal h = h
 reversed Greater Greater h = refl
 
 module _ {X K : Type 0} {cmp : K → K → Ordering} (total : IsTotalOrder cmp) (key : X → K) (k : K) where
-  strictly : (x y : X) → cmp (key x) (key y) ≡ Less → (p : Ordering) → (o : Ordering) → cmp (key y) k ≡ o → (q : Ordering) → may_precede (ordering_then (cmp (key x) k) p) (ordering_then o q) ≡ true
+  strictly : (x y : X) → cmp (key x) (key y) ≡ Less → (p : Ordering) → (o : Ordering) → cmp (key y) k ≡ o
+      → (q : Ordering) → may_precede (ordering_then (cmp (key x) k) p) (ordering_then o q) ≡ true
   strictly x y less p Less e q = ap (λ a. may_precede (ordering_then a p) Less) (total.trans (key x) (key y) k less e)
-  strictly x y less p Equal e q = ap (λ a. may_precede (ordering_then a p) q) (sym (alike_right total (key y) k (key x) e) ∙ less)
+  strictly x y less p Equal e q =
+      ap (λ a. may_precede (ordering_then a p) q) (sym (alike_right total (key y) k (key x) e) ∙ less)
   strictly x y less p Greater e q = precedes_greater (ordering_then (cmp (key x) k) p)
 
   alike : (o p q : Ordering) → may_precede p q ≡ true → may_precede (ordering_then o p) (ordering_then o q) ≡ true
@@ -81,9 +75,11 @@ module _ {X K : Type 0} {cmp : K → K → Ordering} (total : IsTotalOrder cmp) 
   -- the places to a key
   pub by_key : KeepsPlaces (λ x y. cmp (key x) (key y)) (λ x. cmp (key x) k)
   by_key x y h =
-      elim (cmp (key x) (key y)) as (λ o. cmp (key x) (key y) ≡ o → is_gt o ≡ false → may_precede (cmp (key x) k) (cmp (key y) k) ≡ true) [
+      elim (cmp (key x) (key y)) as (λ o. cmp (key x) (key y) ≡ o → is_gt o ≡ false
+      → may_precede (cmp (key x) k) (cmp (key y) k) ≡ true) [
         | Less ↦ λ e _. at e (cmp (key y) k) refl
-        | Equal ↦ λ e _. ap (λ o. may_precede o (cmp (key y) k)) (total.congr (key x) (key y) k e) ∙ precedes_itself (cmp (key y) k)
+        | Equal ↦ λ e _. ap (λ o. may_precede o (cmp (key y) k)) (total.congr (key x) (key y) k e) ∙ precedes_itself
+            (cmp (key y) k)
         | Greater ↦ λ e g. absurd (both_ways true g refl)
       ] refl h
     where
@@ -93,16 +89,21 @@ module _ {X K : Type 0} {cmp : K → K → Ordering} (total : IsTotalOrder cmp) 
       at less Greater e = precedes_greater (cmp (key x) k)
 
   -- the places to a first part of a key, and then to the others
-  pub then_part : (d : X → X → Ordering) (p : X → Ordering) → KeepsPlaces d p → KeepsPlaces (λ x y. ordering_then (cmp (key x) (key y)) (d x y)) (λ x. ordering_then (cmp (key x) k) (p x))
+  pub then_part : (d : X → X → Ordering) (p : X → Ordering) → KeepsPlaces d p
+      → KeepsPlaces (λ x y. ordering_then (cmp (key x) (key y)) (d x y)) (λ x. ordering_then (cmp (key x) k) (p x))
   then_part d p keeps x y h =
-      elim (cmp (key x) (key y)) as (λ o. cmp (key x) (key y) ≡ o → is_gt (ordering_then o (d x y)) ≡ false → may_precede (ordering_then (cmp (key x) k) (p x)) (ordering_then (cmp (key y) k) (p y)) ≡ true) [
+      elim (cmp (key x) (key y)) as (λ o. cmp (key x) (key y) ≡ o → is_gt (ordering_then o (d x y)) ≡ false
+      → may_precede (ordering_then (cmp (key x) k) (p x)) (ordering_then (cmp (key y) k) (p y)) ≡ true) [
         | Less ↦ λ e _. strictly x y e (p x) (cmp (key y) k) refl (p y)
-        | Equal ↦ λ e g. ap (λ o. may_precede (ordering_then o (p x)) (ordering_then (cmp (key y) k) (p y))) (total.congr (key x) (key y) k e) ∙ alike (cmp (key y) k) (p x) (p y) (keeps x y g)
+        | Equal ↦ λ e g. ap (λ o. may_precede (ordering_then o (p x)) (ordering_then (cmp (key y) k) (p y)))
+            (total.congr (key x) (key y) k e) ∙ alike (cmp (key y) k) (p x) (p y) (keeps x y g)
         | Greater ↦ λ e g. absurd (both_ways true g refl)
       ] refl h
 
 -- the places to the numbers above one
-pub above_kept : {X : Type 0} (key : X → ℕ) (number : ℕ) → KeepsPlaces (λ x y. nat_cmp (key x) (key y)) (λ x. above number (key x))
+pub above_kept : {X : Type 0} (key : X → ℕ) (number : ℕ)
+    → KeepsPlaces (λ x y. nat_cmp (key x) (key y)) (λ x. above number (key x))
 above_kept key number x y h =
-    ap₂ (λ o p. may_precede (at_less o) (at_less p)) (nat_cmp_total.antisymm number (key x)) (nat_cmp_total.antisymm number (key y))
+    ap₂ (λ o p. may_precede (at_less o) (at_less p)) (nat_cmp_total.antisymm number (key x))
+    (nat_cmp_total.antisymm number (key y))
     ∙ reversed (nat_cmp (key x) number) (nat_cmp (key y) number) (by_key nat_cmp_total key number x y h)

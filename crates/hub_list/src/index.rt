@@ -7,11 +7,11 @@ ghost use Rattle.hub_tables.specs.Sets.{Rises};
 ghost use Rattle.hub_list.specs.Index.{IsIndex};
 
 use crate::key::SameKey;
-use crate::row::{Row, Settable};
 use crate::search::rows_at;
 use crate::table::{drop_row, has_key, put_row, set_row};
 use edi_base::MemoryFault;
 use gs1_ids::{Gln, Sscc};
+use hub_rows::{Row, Settable};
 use hub_tables::{MailRow, PalletRow};
 use std::alloc::Global;
 use std::cmp::Ordering;

@@ -6,12 +6,13 @@ ghost use Rattle.std.proofs.lemmas.Cmp.{nat_cmp_total, nat_list_cmp_total};
 ghost use Rattle.hub_tables.specs.Cases.{side_letter};
 ghost use Rattle.hub_tables.specs.Keys.{bytes_cmp};
 ghost use Rattle.hub_tables.specs.Rows.{same};
-ghost use Rattle.hub_list.specs.Places.{same_bytes, same_numbers, both, above, is_above, first_part, then_part, by_key, above_kept};
+ghost use Rattle.hub_rows.specs.Alike.{same_bytes, same_numbers, both};
+ghost use Rattle.hub_list.specs.Places.{above, is_above, first_part, then_part, by_key, above_kept};
 ghost use Rattle.hub_list.specs.Search.{KeepsPlaces};
 
 use crate::index::{EntryKey, PalletKey};
-use crate::row::{Row, letter};
 use gs1_ids::{Gln, Sscc};
+use hub_rows::{Row, letter};
 use hub_tables::{
     AdviceRow, ContentRow, LineRow, MailRow, OrderRow, PalletRow, ReceiptRow, RememberedRow, Side,
 };
@@ -139,9 +140,11 @@ impl<'a> Key<OrderRow> for Numbered<'a> {
         self.compare(&row.supplier, row.number.as_slice())
     }
 
-    ghost exact = { λ key row. both (bytes_cmp row.supplier key.supplier.now) (bytes_cmp row.number key.number.now) (same_bytes row.supplier key.supplier.now) (same_bytes row.number key.number.now) };
+    ghost exact = { λ key row. both (bytes_cmp row.supplier key.supplier.now) (bytes_cmp row.number key.number.now)
+        (same_bytes row.supplier key.supplier.now) (same_bytes row.number key.number.now) };
 
-    ghost kept = { λ key. then_part nat_list_cmp_total (λ row. row.supplier) key.supplier.now _ _ (by_key nat_list_cmp_total (λ row. row.number) key.number.now) };
+    ghost kept = { λ key. then_part nat_list_cmp_total (λ row.
+        row.supplier) key.supplier.now _ _ (by_key nat_list_cmp_total (λ row. row.number) key.number.now) };
 }
 
 impl<'a> Key<LineRow> for Numbered<'a> {
@@ -153,9 +156,11 @@ impl<'a> Key<LineRow> for Numbered<'a> {
         self.compare(&row.supplier, row.number.as_slice())
     }
 
-    ghost exact = { λ key row. both (bytes_cmp row.supplier key.supplier.now) (bytes_cmp row.number key.number.now) (same_bytes row.supplier key.supplier.now) (same_bytes row.number key.number.now) };
+    ghost exact = { λ key row. both (bytes_cmp row.supplier key.supplier.now) (bytes_cmp row.number key.number.now)
+        (same_bytes row.supplier key.supplier.now) (same_bytes row.number key.number.now) };
 
-    ghost kept = { λ key. then_part nat_list_cmp_total (λ row. row.supplier) key.supplier.now _ _ (first_part _ _ _ (by_key nat_list_cmp_total (λ row. row.number) key.number.now)) };
+    ghost kept = { λ key. then_part nat_list_cmp_total (λ row. row.supplier) key.supplier.now _ _
+        (first_part _ _ _ (by_key nat_list_cmp_total (λ row. row.number) key.number.now)) };
 }
 
 impl<'a> Key<AdviceRow> for Numbered<'a> {
@@ -167,9 +172,11 @@ impl<'a> Key<AdviceRow> for Numbered<'a> {
         self.compare(&row.supplier, row.number.as_slice())
     }
 
-    ghost exact = { λ key row. both (bytes_cmp row.supplier key.supplier.now) (bytes_cmp row.number key.number.now) (same_bytes row.supplier key.supplier.now) (same_bytes row.number key.number.now) };
+    ghost exact = { λ key row. both (bytes_cmp row.supplier key.supplier.now) (bytes_cmp row.number key.number.now)
+        (same_bytes row.supplier key.supplier.now) (same_bytes row.number key.number.now) };
 
-    ghost kept = { λ key. then_part nat_list_cmp_total (λ row. row.supplier) key.supplier.now _ _ (by_key nat_list_cmp_total (λ row. row.number) key.number.now) };
+    ghost kept = { λ key. then_part nat_list_cmp_total (λ row.
+        row.supplier) key.supplier.now _ _ (by_key nat_list_cmp_total (λ row. row.number) key.number.now) };
 }
 
 impl<'a> Key<PalletRow> for OnPallet<'a> {
@@ -215,9 +222,12 @@ impl<'a> Key<ReceiptRow> for OnPallet<'a> {
 }
 
 impl<'a> Key<RememberedRow> for Reference<'a> {
-    ghost place = { λ key row. ordering_then (bytes_cmp row.supplier key.supplier.now) (ordering_then (nat_cmp row.side (side_letter key.side)) (ordering_then (bytes_cmp row.control key.control.now) (bytes_cmp row.message key.message.now))) };
+    ghost place = { λ key row. ordering_then (bytes_cmp row.supplier key.supplier.now)
+        (ordering_then (nat_cmp row.side (side_letter key.side))
+        (ordering_then (bytes_cmp row.control key.control.now) (bytes_cmp row.message key.message.now))) };
 
-    ghost wanted = { λ key row. same row.supplier key.supplier.now && ((row.side == side_letter key.side) && (same row.control key.control.now && same row.message key.message.now)) };
+    ghost wanted = { λ key row. same row.supplier key.supplier.now && ((row.side == side_letter key.side)
+        && (same row.control key.control.now && same row.message key.message.now)) };
 
     fn place_of(&self, row: &RememberedRow) -> Ordering {
         let refs = row.control.as_slice().cmp(self.control);
@@ -226,9 +236,16 @@ impl<'a> Key<RememberedRow> for Reference<'a> {
         row.supplier.cmp(self.supplier).then(side.then(refs))
     }
 
-    ghost exact = { λ key row. both (bytes_cmp row.supplier key.supplier.now) _ (same_bytes row.supplier key.supplier.now) (both (nat_cmp row.side (side_letter key.side)) _ (same_numbers row.side (side_letter key.side)) (both (bytes_cmp row.control key.control.now) (bytes_cmp row.message key.message.now) (same_bytes row.control key.control.now) (same_bytes row.message key.message.now))) };
+    ghost exact = { λ key row. both (bytes_cmp row.supplier key.supplier.now) _
+        (same_bytes row.supplier key.supplier.now)
+        (both (nat_cmp row.side (side_letter key.side)) _ (same_numbers row.side (side_letter key.side))
+        (both (bytes_cmp row.control key.control.now) (bytes_cmp row.message key.message.now)
+        (same_bytes row.control key.control.now) (same_bytes row.message key.message.now))) };
 
-    ghost kept = { λ key. then_part nat_list_cmp_total (λ row. row.supplier) key.supplier.now _ _ (then_part nat_cmp_total (λ row. row.side) (side_letter key.side) _ _ (then_part nat_list_cmp_total (λ row. row.control) key.control.now _ _ (by_key nat_list_cmp_total (λ row. row.message) key.message.now))) };
+    ghost kept = { λ key. then_part nat_list_cmp_total (λ row. row.supplier) key.supplier.now _ _
+        (then_part nat_cmp_total (λ row. row.side) (side_letter key.side) _ _
+        (then_part nat_list_cmp_total (λ row. row.control) key.control.now _ _
+        (by_key nat_list_cmp_total (λ row. row.message) key.message.now))) };
 }
 
 impl Key<MailRow> for EntryKey {
@@ -241,9 +258,11 @@ impl Key<MailRow> for EntryKey {
         row.supplier.cmp(&self.supplier).then(place)
     }
 
-    ghost exact = { λ key row. both (bytes_cmp row.supplier key.supplier) _ (same_bytes row.supplier key.supplier) (same_numbers row.number key.number) };
+    ghost exact = { λ key row. both (bytes_cmp row.supplier key.supplier) _ (same_bytes row.supplier key.supplier)
+        (same_numbers row.number key.number) };
 
-    ghost kept = { λ key. then_part nat_list_cmp_total (λ row. row.supplier) key.supplier _ _ (by_key nat_cmp_total (λ row. row.number) key.number) };
+    ghost kept = { λ key. then_part nat_list_cmp_total (λ row.
+        row.supplier) key.supplier _ _ (by_key nat_cmp_total (λ row. row.number) key.number) };
 }
 
 impl Key<PalletRow> for PalletKey {
@@ -287,7 +306,9 @@ impl<'a> Key<EntryKey> for Above<'a> {
         row.supplier.cmp(self.supplier).then(number)
     }
 
-    ghost exact = { λ key row. both (bytes_cmp row.supplier key.supplier.now) _ (same_bytes row.supplier key.supplier.now) (is_above key.number row.number) };
+    ghost exact = { λ key row. both (bytes_cmp row.supplier key.supplier.now) _
+        (same_bytes row.supplier key.supplier.now) (is_above key.number row.number) };
 
-    ghost kept = { λ key. then_part nat_list_cmp_total (λ row. row.supplier) key.supplier.now _ _ (above_kept (λ row. row.number) key.number) };
+    ghost kept = { λ key. then_part nat_list_cmp_total (λ row.
+        row.supplier) key.supplier.now _ _ (above_kept (λ row. row.number) key.number) };
 }

@@ -5,9 +5,9 @@ ghost use Rattle.hub_tables.specs.Sets.{Rising};
 ghost use Rattle.hub_list.specs.Lists.{tables_in, Kept, Room};
 
 use crate::index::{EntryKey, PalletKey, put_indexed, set_indexed};
-use crate::row::Row;
 use crate::table::{put_row, set_row};
 use edi_base::MemoryFault;
+use hub_rows::Row;
 use hub_tables::{
     AdviceRow, Change, ContentRow, LineRow, MailRow, OrderRow, PalletRow, ReceiptRow, RememberedRow,
 };
@@ -106,7 +106,8 @@ pub(crate) fn apply_each(lists: &mut Lists, changes: Vec<Change>)
     requires room { Room (length changes.items) lists.old }
     requires kept { Kept lists.old }
     ensures kept { Kept lists.new }
-    ensures tables { Rising (apply_all changes.items (tables_in lists.old)) → tables_in lists.new ≡ apply_all changes.items (tables_in lists.old) }
+    ensures tables { Rising (apply_all changes.items (tables_in lists.old)) →
+        tables_in lists.new ≡ apply_all changes.items (tables_in lists.old) }
 {
     for change in changes {
         apply_one(lists, change);

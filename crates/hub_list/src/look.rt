@@ -3,7 +3,8 @@ ghost use Rattle.std.specs.Prelude.{◌≡◌, ◌==◌, ◌&&◌, true, None, f
 ghost use Rattle.std.specs.List.{list_any, last_or, filter_map};
 ghost use Rattle.std.specs.Option.{unwrap_or};
 ghost use Rattle.hub_tables.specs.Cases.{side_letter};
-ghost use Rattle.hub_tables.specs.Rows.{same, order_cmp, line_cmp, advice_cmp, pallet_cmp, content_cmp, receipt_cmp, remembered_cmp, mail_cmp};
+ghost use Rattle.hub_tables.specs.Rows.{same, order_cmp, line_cmp, advice_cmp, pallet_cmp, content_cmp, receipt_cmp, remembered_cmp};
+ghost use Rattle.hub_tables.specs.Rows.{mail_cmp};
 ghost use Rattle.hub_tables.specs.Sets.{Rises};
 ghost use Rattle.hub_tables.specs.State.{is_taken};
 ghost use Rattle.hub_tables.specs.Tables.{holds};
@@ -11,10 +12,10 @@ ghost use Rattle.hub_list.specs.Index.{IsIndex, entry_cmp, entry_key, is_untaken
 
 use crate::index::{EntryKey, PalletKey};
 use crate::key::{Above, Key, Numbered, OfSupplier, OnPallet, Reference};
-use crate::row::Row;
 use crate::search::rows_at;
 use edi_base::{Items, MemoryFault, copied};
 use gs1_ids::{Gln, Sscc};
+use hub_rows::Row;
 use hub_tables::{
     AdviceRow, ContentRow, LineRow, MailRow, OrderRow, PalletRow, ReceiptRow, RememberedRow, Side,
 };
@@ -66,7 +67,10 @@ pub(crate) fn remembered_with(
     reference: &Reference<'_>,
 ) -> Result<Option<Items<u8>>, MemoryFault>
     requires { Rises remembered_cmp rows.now }
-    ensures { IfOk result (λ found. found ≡ option_map (λ row. row.content) (find (λ row. (row.side == side_letter reference.now.side) && (same row.control reference.now.control.now && same row.message reference.now.message.now)) (filter (λ row. same row.supplier reference.now.supplier.now) rows.now))) }
+    ensures { IfOk result (λ found.
+        found ≡ option_map (λ row. row.content) (find (λ row. (row.side == side_letter reference.now.side)
+        && (same row.control reference.now.control.now && same row.message reference.now.message.now))
+        (filter (λ row. same row.supplier reference.now.supplier.now) rows.now))) }
 {
     match rows_at(rows, reference).first() {
         Some(row) => Ok(Some(copied(alloc, row.content.as_slice())?)),
@@ -100,7 +104,8 @@ pub(crate) fn lines_with(
     number: &[u8],
 ) -> Result<Items<LineRow>, MemoryFault>
     requires { Rises line_cmp lines.now }
-    ensures { IfOk result (λ found. found ≡ filter (λ line. same line.number number.now) (filter (λ row. same row.supplier supplier.now) lines.now)) }
+    ensures { IfOk result (λ found. found ≡ filter (λ line.
+        same line.number number.now) (filter (λ row. same row.supplier supplier.now) lines.now)) }
 {
     copies(alloc, rows_at(lines, &Numbered { supplier, number }))
 }
@@ -157,7 +162,8 @@ pub(crate) fn pallet_with(
     sscc: &Sscc,
 ) -> Result<Option<PalletRow>, MemoryFault>
     requires { Rises pallet_cmp pallets.now }
-    ensures { IfOk result (λ found. found ≡ find (λ pallet. same pallet.sscc sscc.now) (filter (λ row. same row.supplier supplier.now) pallets.now)) }
+    ensures { IfOk result (λ found. found ≡ find (λ pallet.
+        same pallet.sscc sscc.now) (filter (λ row. same row.supplier supplier.now) pallets.now)) }
 {
     match first_from(rows_at(pallets, &OnPallet { sscc }), supplier) {
         Some(pallet) => Ok(Some(pallet.copy(alloc)?)),
@@ -189,7 +195,8 @@ pub(crate) fn contents_on(
 ) -> Result<Items<ContentRow>, MemoryFault>
     requires contents { Rises content_cmp contents.now }
     requires pallets { Rises pallet_cmp pallets.now }
-    ensures { IfOk result (λ found. found ≡ filter (λ content. same content.sscc sscc.now) (filter (λ row. holds supplier.now pallets.now row.sscc) contents.now)) }
+    ensures { IfOk result (λ found. found ≡ filter (λ content.
+        same content.sscc sscc.now) (filter (λ row. holds supplier.now pallets.now row.sscc) contents.now)) }
 {
     if !holds_pallet(pallets, supplier, sscc) {
         return Ok(Items::new(alloc));
@@ -207,7 +214,8 @@ pub(crate) fn receipts_on(
 ) -> Result<Items<ReceiptRow>, MemoryFault>
     requires receipts { Rises receipt_cmp receipts.now }
     requires pallets { Rises pallet_cmp pallets.now }
-    ensures { IfOk result (λ found. found ≡ filter (λ receipt. same receipt.sscc sscc.now) (filter (λ row. holds supplier.now pallets.now row.sscc) receipts.now)) }
+    ensures { IfOk result (λ found. found ≡ filter (λ receipt.
+        same receipt.sscc sscc.now) (filter (λ row. holds supplier.now pallets.now row.sscc) receipts.now)) }
 {
     if !holds_pallet(pallets, supplier, sscc) {
         return Ok(Items::new(alloc));
@@ -219,7 +227,8 @@ pub(crate) fn receipts_on(
 #[tactic(auto, using(crate::proofs::Filters::last_is))]
 pub(crate) fn last_number(mail: &[MailRow], supplier: &Gln) -> u64
     requires { Rises mail_cmp mail.now }
-    ensures { result ≡ unwrap_or (option_map (λ entry. entry.number) (last_or None (filter (λ row. same row.supplier supplier.now) mail.now))) 0 }
+    ensures { result ≡ unwrap_or (option_map (λ entry.
+        entry.number) (last_or None (filter (λ row. same row.supplier supplier.now) mail.now))) 0 }
 {
     match rows_at(mail, &OfSupplier { supplier }).last() {
         Some(entry) => entry.number,
@@ -235,7 +244,8 @@ pub(crate) fn entry_with(
     number: u64,
 ) -> Result<Option<MailRow>, MemoryFault>
     requires { Rises mail_cmp mail.now }
-    ensures { IfOk result (λ found. found ≡ find (λ entry. entry.number == number) (filter (λ row. same row.supplier supplier.now) mail.now)) }
+    ensures { IfOk result (λ found. found ≡ find (λ entry.
+        entry.number == number) (filter (λ row. same row.supplier supplier.now) mail.now)) }
 {
     let key = EntryKey {
         supplier: *supplier,
@@ -254,7 +264,9 @@ pub(crate) fn entries_after(
 ) -> Result<Items<MailRow>, MemoryFault>
     requires mail { Rises mail_cmp mail.now }
     requires untaken { IsIndex entry_cmp (λ key. key.supplier) entry_key is_untaken untaken.now mail.now }
-    ensures { IfOk result (λ found. found ≡ take limit (filter (λ entry. nat_lt above.now.number entry.number && not (is_taken entry)) (filter (λ row. same row.supplier above.now.supplier.now) mail.now))) }
+    ensures { IfOk result (λ found.
+        found ≡ take limit (filter (λ entry. nat_lt above.now.number entry.number
+        && not (is_taken entry)) (filter (λ row. same row.supplier above.now.supplier.now) mail.now))) }
 {
     let keys = rows_at(untaken, above);
     copies_at(alloc, mail, &keys[..limit.min(keys.len())])

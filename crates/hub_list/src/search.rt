@@ -5,7 +5,7 @@ ghost use Rattle.std.specs.Ordering.{is_lt, is_le};
 ghost use Rattle.hub_tables.specs.Sets.{Rises};
 
 use crate::key::Key;
-use crate::row::Row;
+use hub_rows::Row;
 
 // How many rows are looked through before all others.
 const NEAR: usize = 16;

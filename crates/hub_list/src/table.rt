@@ -6,8 +6,8 @@ ghost use Rattle.hub_tables.specs.Keys.{put, replace};
 ghost use Rattle.hub_tables.specs.Sets.{Rises};
 
 use crate::key::SameKey;
-use crate::row::{Row, Settable};
 use crate::search::{count_below, rows_at};
+use hub_rows::{Row, Settable};
 
 /// Whether a row has the key of this one.
 #[tactic(auto, using(crate::proofs::Filters::any_filtered))]

@@ -27,7 +27,7 @@ use Rattle.hub_schema.specs.Cells.{bytes_in, natural, number_in}
 pub cell_bytes : (v : Value) (bytes : List ℕ) → IsOf kind.Blob v → is_true (binary (Compare Eq Binary) v (Blob bytes)) ≡ same (bytes_in v) bytes
 cell_bytes v bytes it = same_bytes v it.0 bytes it.1 ∙ ap (λ w. same w bytes) (sym (ap bytes_in it.1))
 
-same_natural : (m : ℤ) (n : ℕ) → n < 2 ^ 64 → is_eq (int_cmp m (pos n)) ≡ (natural m == n)
+pub same_natural : (m : ℤ) (n : ℕ) → n < 2 ^ 64 → is_eq (int_cmp m (pos n)) ≡ (natural m == n)
 same_natural (pos k) n low = elim (cases_Bool (nat_lt k (2 ^ 64))) [
   | inl e ↦ ap (λ v. is_eq (int_cmp (pos k) (pos v)) ) refl ∙ both k n ∙ ap (λ b. cond b k (2 * k) == n) (sym e)
   | inr e ↦ differs k n low e ∙ ap (λ b. cond b k (2 * k) == n) (sym e)

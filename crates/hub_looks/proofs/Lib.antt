@@ -12,3 +12,10 @@ pub mod Listing
 pub mod OfLines
 pub mod Single
 pub mod OfPallets
+pub mod Joining
+pub mod OfGoods
+pub mod Comparing
+pub mod OfRemembered
+pub mod OfMail
+pub mod OfUntaken
+pub mod OfLast

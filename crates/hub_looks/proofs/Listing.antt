@@ -16,7 +16,8 @@ use Rattle.hub_tables.specs.Sets.{Rises}
 use Rattle.hub_tables.proofs.Lists.{all_filter}
 use Rattle.hub_schema.specs.Rows.{in_key_order}
 use Rattle.hub_schema.proofs.InKeyOrder.{listed_filter}
-use Rattle.hub_looks.proofs.Finding.{passes}
+use Rattle.hub_looks.proofs.Finding.{passes, no_limit, Finds}
+use Rattle.hub_looks.proofs.Counting.{all_such}
 use Rattle.hub_looks.proofs.Sorting.{listed_moved, rises_filter, sorted_rising, sorted_map, sorted_alike}
 
 pub map_same : {X Y : Type 0} (f g : X → Y) → ((x : X) → f x ≡ g x) → (xs : List X) → map f xs ≡ map g xs
@@ -97,3 +98,24 @@ pub filter_both : {X : Type 0} (p q : X → Bool) (xs : List X) → filter q (fi
 filter_both p q [] = refl
 filter_both p q (x ∷ xs) = elim (p x) as (λ v. filter q (cond v (x ∷ filter p xs) (filter p xs)) ≡ cond (v && q x) (x ∷ filter (λ x. p x && q x) xs) (filter (λ x. p x && q x) xs))
     [ true ↦ ap (λ ys. cond (q x) (x ∷ ys) ys) (filter_both p q xs) | false ↦ filter_both p q xs ]
+
+-- All that a query of one kind tells, where it has no limit.
+module _ {X : Type 0} {cmp : X → X → Ordering} (total : IsTotalOrder cmp) (f shown : Row → X) (columns : List Term) (order : List (Term × Key)) (stored : List Row) (tests : List Term) (params : Row) (rows : List Row)
+    (says : (row : Row) → shown (eval_all columns (params ∷ row ∷ [])) ≡ f row) (found : Finds stored tests columns order no_limit params rows) where
+  told : map shown rows ≡ map f found.sources
+  told = ap (map shown) found.is ∙ shown_say f shown columns params found.sources says
+
+  pub rows_moved : (p : X → Bool) → AllByRecursion (λ row. passes tests params row ≡ p (f row)) stored → IsPermutation (filter p (in_key_order cmp (map f stored))) (map shown rows)
+  rows_moved p passed = subst (IsPermutation (filter p (in_key_order cmp (map f stored)))) (sym told) (sources_moved total f stored tests params found.sources found.same p passed)
+
+  pub rows_are : (P : Row → Type 0) (N : X → Type 0) → ((x y : Row) → P x × N (f x) → P y × N (f y) → sort_cmp order (params ∷ x ∷ []) (params ∷ y ∷ []) ≡ cmp (f x) (f y))
+      → AllByRecursion P stored → (p : X → Bool) → ((row : Row) → P row → passes tests params row ≡ p (f row))
+      → Rises cmp (in_key_order cmp (map f stored)) → AllByRecursion N (map shown rows) → map shown rows ≡ filter p (in_key_order cmp (map f stored))
+  rows_are P N ranked all p passed rises numbered =
+      let known = all_both P (λ row. N (f row)) found.sources (sources_have total f stored tests params found.sources found.same P all)
+          (all_of_map N f found.sources (subst (AllByRecursion N) told numbered)) in
+      told ∙ sources_are total f stored tests params found.sources found.same p (all_such P _ passed stored all)
+          (sources_sorted total f stored tests params found.sources found.same order (λ row. P row × N (f row)) ranked known found.sorted) rises
+
+  pub rows_spoil : (clean : X → Bool) → list_all clean (map shown rows) ≡ false → list_all clean (in_key_order cmp (map f stored)) ≡ false
+  rows_spoil clean spoilt = sources_spoil total f stored tests params found.sources found.same clean (sym (ap (list_all clean) told) ∙ spoilt)

@@ -34,6 +34,7 @@ use Rattle.hub_looks.proofs.Texts.{given_at, rising, pallet_columns, used_text, 
 use Rattle.hub_looks.proofs.Unclean.{pallets_unclean}
 use Rattle.sql_rows.proofs.Answers.{and_true}
 
+use Rattle.std.proofs.lemmas.Bool.{and_parts}
 use Rattle.std.specs.Ordering.{is_eq}
 use Rattle.std.specs.Bool.{⊤}
 use Rattle.std.specs.List.{list_any}
@@ -111,7 +112,7 @@ pallet_look old new supplier sscc =
     looks pallet_selects _ _ _ params old new
     (λ hub rows answer first is.
         let all = (tables_in old.now.trees).pallets in
-        is ∙ found_first pallet_cmp whose at all (map shown_pallet rows) (hub_rises old hub).pallets (λ x y a b. alike sscc x y a b)
+        is ∙ found_first pallet_cmp whose at all (map shown_pallet rows) (hub_rises old hub).pallets (λ x y a b. alike sscc x y (and_parts (whose x) (at x) a).1 (and_parts (whose y) (at y) b).1)
             (subst (λ ps. IsPermutation ps (map shown_pallet rows)) (filter_turned at whose all) (pallets_moved old hub _ [] params rows answer (λ pallet. at pallet && whose pallet) passed)))
     (λ hub rows answer spoilt. pallets_spoil old hub _ [] params rows answer spoilt)
 

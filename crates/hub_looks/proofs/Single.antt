@@ -1,18 +1,23 @@
 -- Rows of which one at most has a key.
-use Rattle.std.proofs.Common.{◌≡◌, ℕ, Bool, true, false, cond, ◌&&◌, inl, inr, Option, Some, None, List, [], ◌∷◌, filter, find, length, slice_get, refl, sym, ap, ap₂, ◌∙◌, arith, true≢false}
-use Rattle.std.specs.List.{AllByRecursion}
+use Rattle.std.proofs.Common.{◌≡◌, ℕ, Bool, true, false, cond, ◌&&◌, inl, inr, ◌==◌, option_map, map, Option, Some, None, List, [], ◌∷◌, filter, find, length, slice_get, refl, sym, ap, ap₂, subst, ◌∙◌, arith, true≢false}
+use Rattle.std.specs.List.{AllByRecursion, list_all}
 use Rattle.std.specs.List.Sorted.{IsPermutation}
 use Rattle.std.specs.declared.cmp.Ordering.{Ordering}
-use Rattle.std.specs.declared.cmp.Ordering.TheVariants.{Less}
-use Rattle.std.specs.Ordering.{is_eq}
+use Rattle.std.specs.declared.cmp.Ordering.TheVariants.{Less, Equal, Greater}
+use Rattle.std.specs.Ordering.{is_eq, nat_cmp, ordering_then}
+use Rattle.std.proofs.lemmas.Bool.{cases_Bool}
+use Rattle.std.proofs.lemmas.Bool.Decides.{nat_tests}
+use Rattle.std.proofs.lemmas.Map.Text.{is_eq-slice_cmp}
+use Rattle.hub_tables.specs.Keys.{bytes_cmp}
+use Rattle.hub_tables.specs.Rows.{same}
 use Rattle.std.proofs.lemmas.List.Sorted.{length_permutation}
 use Rattle.sqlite.proofs.Callers.{one_permutation}
 use Rattle.hub_tables.specs.Sets.{Rises}
-use Rattle.hub_tables.proofs.Lists.{all_passes, all_filter}
-use Rattle.hub_looks.proofs.Listing.{filter_both}
+use Rattle.hub_tables.proofs.Lists.{all_passes, all_weaker, same_is, same_if}
+use Rattle.hub_looks.proofs.Listing.{filter_both, all_clean, clean_all}
 use Rattle.hub_looks.proofs.Sorting.{rises_filter}
 
-and_turned : (a b : Bool) → (a && b) ≡ (b && a)
+pub and_turned : (a b : Bool) → (a && b) ≡ (b && a)
 and_turned true true = refl
 and_turned true false = refl
 and_turned false true = refl
@@ -51,10 +56,41 @@ all_tied P R f (x ∷ xs) ys a b = (each x ys a.0 b, all_tied P R f xs ys a.1 b)
     each x (y ∷ ys) p b = (f x y p b.0, each x ys p b.1)
 
 -- the first row of an answer is the one of the key
-pub found_first : {X : Type 0} (cmp : X → X → Ordering) (whose at : X → Bool) (all rows : List X) → Rises cmp all → ((x y : X) → at x ≡ true → at y ≡ true → is_eq (cmp x y) ≡ true)
+pub found_first : {X : Type 0} (cmp : X → X → Ordering) (whose at : X → Bool) (all rows : List X) → Rises cmp all
+    → ((x y : X) → (whose x && at x) ≡ true → (whose y && at y) ≡ true → is_eq (cmp x y) ≡ true)
     → IsPermutation (filter at (filter whose all)) rows → slice_get rows 0 ≡ find at (filter whose all)
 found_first cmp whose at all rows rises alike moved =
-    let xs = filter at (filter whose all) in
-    let passed = all_passes at (filter whose all) in
-    let one = one_at_most cmp xs rows (rises_filter cmp at (filter whose all) (rises_filter cmp whose all rises)) (never_less cmp) (all_tied (λ x. at x ≡ true) (λ x y. is_eq (cmp x y) ≡ true) alike xs xs passed passed) moved in
-    ap (λ ys. slice_get ys 0) one ∙ first_passes at (filter whose all)
+    let xs = filter (λ x. whose x && at x) all in
+    let same = filter_both whose at all in
+    let passed = all_passes (λ x. whose x && at x) all in
+    let one = one_at_most cmp xs rows (rises_filter cmp (λ x. whose x && at x) all rises) (never_less cmp)
+        (all_tied (λ x. (whose x && at x) ≡ true) (λ x y. is_eq (cmp x y) ≡ true) alike xs xs passed passed) (subst (λ ys. IsPermutation ys rows) same moved) in
+    ap (λ ys. slice_get ys 0) (one ∙ sym same) ∙ first_passes at (filter whose all)
+
+-- Keys that tie.
+
+pub both_tied : (o p : Ordering) → is_eq o ≡ true → is_eq p ≡ true → is_eq (ordering_then o p) ≡ true
+both_tied Less p h g = cc
+both_tied Equal p h g = g
+both_tied Greater p h g = cc
+
+pub bytes_tied : (a b key : List ℕ) → same a key ≡ true → same b key ≡ true → is_eq (bytes_cmp a b) ≡ true
+bytes_tied a b key h g = is_eq-slice_cmp a b ∙ same_if a b (same_is a key h ∙ sym (same_is b key g))
+
+pub numbers_tied : (a b key : ℕ) → (a == key) ≡ true → (b == key) ≡ true → is_eq (nat_cmp a b) ≡ true
+numbers_tied a b key h g = grind (arith, nat_tests)
+
+pub shown_first : {X Y : Type 0} (f : X → Y) (xs : List X) → slice_get (map f xs) 0 ≡ option_map f (slice_get xs 0)
+shown_first f [] = refl
+shown_first f (x ∷ xs) = refl
+
+pub all_through : {X Y : Type 0} (p : Y → Bool) (f : X → Y) (xs : List X) → list_all p (map f xs) ≡ list_all (λ x. p (f x)) xs
+all_through p f [] = refl
+all_through p f (x ∷ xs) = ap (λ v. p (f x) && v) (all_through p f xs)
+
+-- what spoils for one test spoils for one that asks more
+pub spoils_more : {X : Type 0} (p q : X → Bool) → ((x : X) → q x ≡ true → p x ≡ true) → (xs : List X) → list_all p xs ≡ false → list_all q xs ≡ false
+spoils_more p q more xs h = elim (cases_Bool (list_all q xs)) [
+  | inl e ↦ absurd (true≢false (sym (clean_all p xs (all_weaker (λ x. q x ≡ true) (λ x. p x ≡ true) more xs (all_clean q xs e))) ∙ h))
+  | inr e ↦ e
+]

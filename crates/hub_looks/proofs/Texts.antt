@@ -1,14 +1,15 @@
 -- What the texts of the look-ups stand for.
-use Rattle.std.proofs.Common.{◌≡◌, ℕ, pos, negsuc, List, [], ◌∷◌, codes, false, refl}
+use Rattle.std.proofs.Common.{◌≡◌, ℕ, pos, negsuc, List, [], ◌∷◌, codes, true, false, refl}
 use Rattle.sqlite_sql.specs.Term.{Term, lit, col, op2}
 use Rattle.sqlite_sql.specs.Query.{Query}
 use Rattle.sqlite_sql.specs.declared.ops.BinaryOp.TheVariants.{Compare}
-use Rattle.sqlite_sql.specs.declared.ops.CompareOp.TheVariants.{Eq}
+use Rattle.sqlite_sql.specs.declared.ops.CompareOp.TheVariants.{Eq, Ne, Lt, Gt}
 use Rattle.sqlite_value.specs.declared.keys.Collation.TheVariants.{Binary}
 use Rattle.sqlite_value.specs.declared.keys.Key.{Key}
+use Rattle.sqlite_value.specs.declared.value.Value.TheVariants.{Int}
 use Rattle.sqlite_tied.specs.Compute.{everything}
 use Rattle.sqlite.specs.Listing.{understood}
-use Rattle.hub_looks.proofs.Finding.{all_of}
+use Rattle.hub_looks.proofs.Finding.{some_of, all_of}
 use Rattle.hub_looks.proofs.Looking.{Selects}
 
 -- the column of the row is the parameter; both are counted from 1
@@ -90,3 +91,107 @@ all_pallets_text = codes "SELECT sscc, supplier, advice, received FROM pallet WH
 pub all_pallets_select : Selects all_pallets_text (all_of 7 (given_at 2 0 ∷ []) pallet_columns (rising 1 ∷ [])) pallet_names
 unfolding understood everything
 all_pallets_select = record { first = refl; plain = (refl, refl); unlisted = refl; is = refl }
+
+abbrev pub held_text : List ℕ
+held_text = codes "SELECT supplier FROM pallet WHERE sscc = ?1 AND supplier = ?2"
+
+pub held_selects : Selects held_text (all_of 7 (given_at 1 0 ∷ given_at 2 1 ∷ []) (col 1 2 ∷ []) []) (codes "supplier" ∷ [])
+unfolding understood everything
+held_selects = record { first = refl; plain = (refl, refl); unlisted = refl; is = refl }
+
+-- What is on a pallet.
+
+abbrev pub content_columns : List Term
+content_columns = col 1 1 ∷ col 1 2 ∷ col 1 3 ∷ col 1 4 ∷ col 1 5 ∷ []
+
+abbrev pub on_pallet_order : List (Term × Key)
+on_pallet_order = rising 1 ∷ rising 2 ∷ []
+
+abbrev pub contents_text : List ℕ
+contents_text = codes "SELECT sscc, place, number, line, quantity FROM content WHERE sscc = ?1 ORDER BY sscc, place"
+
+pub contents_select : Selects contents_text (all_of 10 (given_at 1 0 ∷ []) content_columns on_pallet_order) (codes "sscc" ∷ codes "place" ∷ codes "number" ∷ codes "line" ∷ codes "quantity" ∷ [])
+unfolding understood everything
+contents_select = record { first = refl; plain = (refl, refl); unlisted = refl; is = refl }
+
+abbrev pub receipts_text : List ℕ
+receipts_text = codes "SELECT sscc, gtin, accepted, returned, destroyed FROM receipt WHERE sscc = ?1 ORDER BY sscc, gtin"
+
+pub receipts_select : Selects receipts_text (all_of 12 (given_at 1 0 ∷ []) content_columns on_pallet_order) (codes "sscc" ∷ codes "gtin" ∷ codes "accepted" ∷ codes "returned" ∷ codes "destroyed" ∷ [])
+unfolding understood everything
+receipts_select = record { first = refl; plain = (refl, refl); unlisted = refl; is = refl }
+
+-- What is remembered.
+
+abbrev pub remembered_tests : List Term
+remembered_tests = given_at 1 0 ∷ given_at 2 1 ∷ given_at 3 2 ∷ given_at 4 3 ∷ []
+
+abbrev pub remembered_text : List ℕ
+remembered_text = codes "SELECT content FROM remembered WHERE supplier = ?1 AND side = ?2 AND control = ?3 AND message = ?4"
+
+pub remembered_selects : Selects remembered_text (all_of 14 remembered_tests (col 1 5 ∷ []) []) (codes "content" ∷ [])
+unfolding understood everything
+remembered_selects = record { first = refl; plain = (refl, refl); unlisted = refl; is = refl }
+
+-- Mailboxes.
+
+abbrev pub one : Term
+one = lit (Int (pos 1))
+
+abbrev pub low_tests : List Term
+low_tests = given_at 1 0 ∷ op2 (Compare Lt Binary) (col 1 2) one ∷ []
+
+abbrev pub low_text : List ℕ
+low_text = codes "SELECT number FROM mail WHERE supplier = ?1 AND number < 1"
+
+pub low_selects : Selects low_text (all_of 16 low_tests (col 1 2 ∷ []) []) (codes "number" ∷ [])
+unfolding understood everything
+low_selects = record { first = refl; plain = (refl, refl); unlisted = refl; is = refl }
+
+abbrev pub above_test : Term
+above_test = op2 (Compare Gt Binary) (col 1 2) (col 0 1)
+
+abbrev pub above_text : List ℕ
+above_text = codes "SELECT number FROM mail WHERE supplier = ?1 AND number > ?2"
+
+pub above_selects : Selects above_text (all_of 16 (given_at 1 0 ∷ above_test ∷ []) (col 1 2 ∷ []) []) (codes "number" ∷ [])
+unfolding understood everything
+above_selects = record { first = refl; plain = (refl, refl); unlisted = refl; is = refl }
+
+abbrev pub mail_columns : List Term
+mail_columns = col 1 1 ∷ col 1 2 ∷ col 1 3 ∷ col 1 4 ∷ col 1 5 ∷ col 1 6 ∷ col 1 7 ∷ col 1 8 ∷ []
+
+abbrev pub mail_names : List (List ℕ)
+mail_names =
+    codes "supplier" ∷ codes "number" ∷ codes "moment" ∷ codes "decimal" ∷ codes "kind" ∷ codes "document" ∷ codes "body"
+    ∷ codes "taken" ∷ []
+
+abbrev pub entry_text : List ℕ
+entry_text = codes "SELECT supplier, number, moment, decimal, kind, document, body, taken FROM mail WHERE supplier = ?1 AND number = ?2"
+
+pub entry_selects : Selects entry_text (all_of 16 (given_at 1 0 ∷ given_at 2 1 ∷ []) mail_columns []) mail_names
+unfolding understood everything
+entry_selects = record { first = refl; plain = (refl, refl); unlisted = refl; is = refl }
+
+abbrev pub untaken_test : Term
+untaken_test = op2 (Compare Ne Binary) (col 1 8) one
+
+abbrev pub after_text : List ℕ
+after_text = codes "SELECT supplier, number, moment, decimal, kind, document, body, taken FROM mail WHERE supplier = ?1 AND number > ?2 AND taken <> 1 ORDER BY supplier, number LIMIT ?3"
+
+pub after_selects : Selects after_text (some_of 16 (given_at 1 0 ∷ above_test ∷ untaken_test ∷ []) mail_columns (rising 1 ∷ rising 2 ∷ []) (col 0 2)) mail_names
+unfolding understood everything
+after_selects = record { first = refl; plain = (refl, refl); unlisted = refl; is = refl }
+
+abbrev pub falling : ℕ → Term × Key
+falling column = (col 1 column, record { collation = Binary; descending = true })
+
+abbrev pub positive_test : Term
+positive_test = op2 (Compare Gt Binary) (col 1 2) (lit (Int (pos 0)))
+
+abbrev pub last_text : List ℕ
+last_text = codes "SELECT number FROM mail WHERE supplier = ?1 AND number > 0 ORDER BY number DESC LIMIT 1"
+
+pub last_selects : Selects last_text (some_of 16 (given_at 1 0 ∷ positive_test ∷ []) (col 1 2 ∷ []) (falling 2 ∷ []) one) (codes "number" ∷ [])
+unfolding understood everything
+last_selects = record { first = refl; plain = (refl, refl); unlisted = refl; is = refl }

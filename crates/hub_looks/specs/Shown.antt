@@ -1,12 +1,13 @@
 -- What a query shows of a stored row: all columns but the row number.
-use Rattle.std.specs.Prelude.{◌∷◌}
+use Rattle.std.specs.Prelude.{ℕ, List, ◌∷◌}
 use Rattle.sqlite_value.specs.declared.value.Value.TheVariants.{Null}
-use Rattle.sqlite_value.specs.Order.{Row}
+use Rattle.sqlite_value.specs.Order.{Row, column}
 use Rattle.hub_tables.specs.declared.rows.LineRow.{LineRow}
 use Rattle.hub_tables.specs.declared.rows.PalletRow.{PalletRow}
 use Rattle.hub_tables.specs.declared.rows.ContentRow.{ContentRow}
 use Rattle.hub_tables.specs.declared.rows.ReceiptRow.{ReceiptRow}
 use Rattle.hub_tables.specs.declared.rows.MailRow.{MailRow}
+use Rattle.hub_schema.specs.Cells.{bytes_in, number_in}
 use Rattle.hub_schema.specs.Rows.{line_in, pallet_in, content_in, receipt_in, mail_in}
 
 abbrev pub shown_line : Row → LineRow
@@ -23,3 +24,11 @@ shown_receipt row = receipt_in (Null ∷ row)
 
 abbrev pub shown_mail : Row → MailRow
 shown_mail row = mail_in (Null ∷ row)
+
+-- of one column of bytes
+abbrev pub shown_bytes : Row → List ℕ
+shown_bytes row = bytes_in (column row 0)
+
+-- of one column of numbers
+abbrev pub shown_number : Row → ℕ
+shown_number row = number_in (column row 0)

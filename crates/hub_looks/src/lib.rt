@@ -4,10 +4,16 @@
 mod ask;
 mod cells;
 mod documents;
+mod goods;
 mod lines;
+mod mail;
 mod pallets;
+mod references;
 mod shown;
 
 pub use documents::{advice_known, order_known};
+pub use goods::{contents_of, receipts_of};
 pub use lines::{all_lines, lines_of};
+pub use mail::{last_mail, mail_after, mail_item};
 pub use pallets::{all_pallets, pallet, used};
+pub use references::remembered;

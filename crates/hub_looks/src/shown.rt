@@ -168,6 +168,39 @@ impl Shown for MailRow {
     }
 }
 
+impl Shown for Items<u8> {
+    ghost use Rattle.std.specs.Prelude.{⊤};
+    ghost use Rattle.hub_store.specs.Clean.{are_bytes};
+    ghost use Rattle.hub_looks.specs.Shown.{shown_bytes};
+
+    ghost shown = { shown_bytes };
+
+    ghost clean = { are_bytes };
+
+    ghost is_numbered = { λ bytes. ⊤ };
+
+    fn of_row(row: &Row) -> Result<Self, StoreFault> {
+        bytes_at(row, 0)
+    }
+}
+
+impl Shown for u64 {
+    ghost use Rattle.std.specs.Prelude.{⊤};
+    ghost use Rattle.edi_envelope.specs.Mail.{last_number};
+    ghost use Rattle.hub_store.specs.Clean.{is_within};
+    ghost use Rattle.hub_looks.specs.Shown.{shown_number};
+
+    ghost shown = { shown_number };
+
+    ghost clean = { is_within 1 last_number };
+
+    ghost is_numbered = { λ number. ⊤ };
+
+    fn of_row(row: &Row) -> Result<Self, StoreFault> {
+        within_at(row, 0, 1, LAST_MAIL_NUMBER)
+    }
+}
+
 /// The rows, where each is of the kind.
 #[tactic(auto, using(crate::proofs::Counting::all_more))]
 pub(crate) fn all_shown<T: Shown>(alloc: Global, rows: &[Row]) -> Result<Items<T>, StoreFault>

@@ -1,5 +1,6 @@
 -- The rows of a register: the hub's GLN, the retailer with its key, and the suppliers; how one is found, and who asks.
-use Rattle.std.specs.Prelude.{◌≡◌, ℕ, ◌≤◌, false, ◌&&◌, if◌then◌else◌, IsTrue, List, ◌∷◌, length, map, find, Option, Some, None}
+use Rattle.std.specs.Prelude.{◌≡◌, ℕ, ◌≤◌, false, ◌&&◌, if◌then◌else◌, IsTrue, List, ◌∷◌, length, map, find, Option}
+use Rattle.std.specs.Prelude.{Some, None}
 use Rattle.std.specs.List.{list_all, flat_map}
 use Rattle.std.specs.Str.{bytes_eq}
 use Rattle.edi_base.specs.Seen.{has_twice}
@@ -18,7 +19,8 @@ pub record RegisterRows : Type 0 where
   pub suppliers : List SupplierRow
 
 abbrev pub rows_by : List ℕ → List ℕ → List ℕ → List SupplierRow → RegisterRows
-rows_by hub retailer retailer_key suppliers = record { hub = hub; retailer = retailer; retailer_key = retailer_key; suppliers = suppliers }
+rows_by hub retailer retailer_key suppliers =
+    record { hub = hub; retailer = retailer; retailer_key = retailer_key; suppliers = suppliers }
 
 -- the GLNs of the hub and of the retailer
 pub record Parties : Type 0 where

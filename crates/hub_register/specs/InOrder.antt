@@ -5,10 +5,12 @@ use Rattle.std.specs.Cmp.Lexicographic.{slice_cmp}
 use Rattle.hub_parties.specs.Rows.{RegisterRows}
 use Rattle.hub_parties.specs.declared.row.SupplierRow.{SupplierRow}
 
--- a row more, at its place in the order of the GLNs. No row has its GLN yet, so that the case of equal ones never comes.
+-- a row more, at its place in the order of the GLNs. No row has its GLN yet, so that the case of equal ones never
+-- comes.
 abbrev pub put : SupplierRow → List SupplierRow → List SupplierRow
 put row [] = row ∷ []
-put row (first ∷ rest) = match_ordering (slice_cmp nat_cmp row.gln first.gln) (row ∷ first ∷ rest) (row ∷ rest) (first ∷ put row rest)
+put row (first ∷ rest) =
+    match_ordering (slice_cmp nat_cmp row.gln first.gln) (row ∷ first ∷ rest) (row ∷ rest) (first ∷ put row rest)
 
 -- one row after another
 abbrev pub put_all : List SupplierRow → List SupplierRow → List SupplierRow

@@ -30,8 +30,10 @@ pub record HasRows (rows register : RegisterRows) : Type 0 where
   pub suppliers : IsPermutation rows.suppliers register.suppliers
 
 abbrev pub RegisterHasItsRows : Type 0
-RegisterHasItsRows = (text : List ℕ) (register : RegisterRows) → register_of text ≡ Ok register → (rows : RegisterRows) × (rows_of_text text ≡ Some rows) × HasRows rows register
+RegisterHasItsRows = (text : List ℕ) (register : RegisterRows) → register_of text ≡ Ok register
+    → (rows : RegisterRows) × (rows_of_text text ≡ Some rows) × HasRows rows register
 
 -- in the register of a text no prefix of one supplier begins a prefix of another
 abbrev pub RegisterIsPrefixFree : Type 0
-RegisterIsPrefixFree = (text : List ℕ) (register : RegisterRows) → register_of text ≡ Ok register → PrefixFree (company_prefixes register.suppliers)
+RegisterIsPrefixFree = (text : List ℕ) (register : RegisterRows) → register_of text ≡ Ok register
+    → PrefixFree (company_prefixes register.suppliers)

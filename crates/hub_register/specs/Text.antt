@@ -2,7 +2,8 @@
 use Rattle.std.specs.Prelude.{ℕ, List, ◌++◌, codes}
 use Rattle.std.specs.Fmt.{decimal}
 use Rattle.hub_register.specs.declared.fault.RegisterFault.{RegisterFault}
-use Rattle.hub_register.specs.declared.fault.RegisterFault.TheVariants.{Text, Many, Gln, Twice, Prefix, Key, Overlap, Memory}
+use Rattle.hub_register.specs.declared.fault.RegisterFault.TheVariants.{Text, Many, Gln, Twice, Prefix, Key, Overlap}
+use Rattle.hub_register.specs.declared.fault.RegisterFault.TheVariants.{Memory}
 
 abbrev pub fault_text : RegisterFault → List ℕ
 fault_text Text = codes "text"

@@ -44,8 +44,10 @@ pub(crate) fn key_of(text: &str) -> Result<Key, RegisterFault>
 
 /// Every GLN, the hub's and the retailer's first.
 pub(crate) fn glns(alloc: Global, document: &Document<'_>) -> Result<Vec<Gln>, RegisterFault>
-    ensures ok { IfOk result (λ glns. (glns.items ≡ spec.glns (rows_from document.now)) × (list_all is_gln (spec.glns (rows_from document.now)) ≡ true)) }
-    ensures err { IfErr result (λ fault. fault ≢ RegisterFault.Memory → (fault ≡ RegisterFault.Gln) × (list_all is_gln (spec.glns (rows_from document.now)) ≡ false)) }
+    ensures ok { IfOk result (λ glns. (glns.items ≡ spec.glns (rows_from document.now))
+        × (list_all is_gln (spec.glns (rows_from document.now)) ≡ true)) }
+    ensures err { IfErr result (λ fault. fault ≢ RegisterFault.Memory →
+        (fault ≡ RegisterFault.Gln) × (list_all is_gln (spec.glns (rows_from document.now)) ≡ false)) }
 {
     let mut glns = Vec::new(alloc);
     glns.push(gln_of(document.hub)?)?;
@@ -72,8 +74,10 @@ pub(crate) fn has_twice(alloc: Global, glns: &[Gln]) -> Result<bool, RegisterFau
 
 /// The prefixes of the suppliers.
 pub(crate) fn prefixes(alloc: Global, entries: &[Entry<'_>]) -> Result<Vec<Prefix>, RegisterFault>
-    ensures ok { IfOk result (λ prefixes. (prefixes.items ≡ flat_map (λ row. row.prefixes) (map row_in entries.now)) × (list_all is_prefix (flat_map (λ row. row.prefixes) (map row_in entries.now)) ≡ true)) }
-    ensures err { IfErr result (λ fault. fault ≢ RegisterFault.Memory → (fault ≡ RegisterFault.Prefix) × (list_all is_prefix (flat_map (λ row. row.prefixes) (map row_in entries.now)) ≡ false)) }
+    ensures ok { IfOk result (λ prefixes. (prefixes.items ≡ flat_map (λ row. row.prefixes) (map row_in entries.now))
+        × (list_all is_prefix (flat_map (λ row. row.prefixes) (map row_in entries.now)) ≡ true)) }
+    ensures err { IfErr result (λ fault. fault ≢ RegisterFault.Memory → (fault ≡ RegisterFault.Prefix)
+        × (list_all is_prefix (flat_map (λ row. row.prefixes) (map row_in entries.now)) ≡ false)) }
 {
     let mut prefixes = Vec::new(alloc);
     for entry in entries {
@@ -104,7 +108,8 @@ pub(crate) fn suppliers(
     ensures rows { IfOk result (λ suppliers. values suppliers ≡ put_all (map row_in entries.now) []) }
     ensures at_gln { IfOk result (λ suppliers. keys suppliers ≡ map (λ row. row.gln) (values suppliers)) }
     ensures keys { IfOk result (λ suppliers. list_all is_party_key (map (λ row. row.key) (map row_in entries.now)) ≡ true) }
-    ensures err { IfErr result (λ fault. fault ≢ RegisterFault.Memory → (fault ≡ RegisterFault.Key) × (list_all is_party_key (map (λ row. row.key) (map row_in entries.now)) ≡ false)) }
+    ensures err { IfErr result (λ fault. fault ≢ RegisterFault.Memory → (fault ≡ RegisterFault.Key)
+        × (list_all is_party_key (map (λ row. row.key) (map row_in entries.now)) ≡ false)) }
 {
     let mut suppliers = BTreeMap::new(alloc);
     for (place, entry) in entries.iter().enumerate() {

@@ -61,7 +61,8 @@ fn entry_in<'a>(table: &'a Table) -> Option<Entry<'a>>
 // The strings of the suppliers' tables.
 fn entries_in<'a>(alloc: Global, values: &'a [Value]) -> Result<Vec<Entry<'a>>, RegisterFault>
     ensures ok { IfOk result (λ entries. spec.suppliers_in (items_view values.now) ≡ Some (map row_in entries.items)) }
-    ensures err { IfErr result (λ fault. fault ≢ RegisterFault.Memory → (fault ≡ RegisterFault.Text) × (spec.suppliers_in (items_view values.now) ≡ None)) }
+    ensures err { IfErr result (λ fault. fault ≢ RegisterFault.Memory →
+        (fault ≡ RegisterFault.Text) × (spec.suppliers_in (items_view values.now) ≡ None)) }
 {
     let mut entries = Vec::new(alloc);
     for value in values {
@@ -79,7 +80,8 @@ fn entries_in<'a>(alloc: Global, values: &'a [Value]) -> Result<Vec<Entry<'a>>, 
 // The strings of all suppliers' tables. Where no key `supplier` stands there are none.
 fn suppliers_in<'a>(alloc: Global, table: &'a Table) -> Result<Vec<Entry<'a>>, RegisterFault>
     ensures ok { IfOk result (λ entries. spec.suppliers_at (codes "supplier") (table_view table.now) ≡ Some (map row_in entries.items)) }
-    ensures err { IfErr result (λ fault. fault ≢ RegisterFault.Memory → (fault ≡ RegisterFault.Text) × (spec.suppliers_at (codes "supplier") (table_view table.now) ≡ None)) }
+    ensures err { IfErr result (λ fault. fault ≢ RegisterFault.Memory →
+        (fault ≡ RegisterFault.Text) × (spec.suppliers_at (codes "supplier") (table_view table.now) ≡ None)) }
 {
     let Some(value) = value_at(table, "supplier") else {
         return Ok(Vec::new(alloc));
@@ -94,7 +96,8 @@ impl<'a> Document<'a> {
     /// What the table of a text says.
     pub(crate) fn read(alloc: Global, table: &'a Table) -> Result<Document<'a>, RegisterFault>
         ensures ok { IfOk result (λ document. spec.rows_in (table_view table.now) ≡ Some (rows_from document)) }
-        ensures err { IfErr result (λ fault. fault ≢ RegisterFault.Memory → (fault ≡ RegisterFault.Text) × (spec.rows_in (table_view table.now) ≡ None)) }
+        ensures err { IfErr result (λ fault. fault ≢ RegisterFault.Memory →
+            (fault ≡ RegisterFault.Text) × (spec.rows_in (table_view table.now) ≡ None)) }
     {
         let hub = string_at(table, "hub").ok_or(RegisterFault::Text)?;
         let party = table_at(table, "retailer").ok_or(RegisterFault::Text)?;

@@ -106,7 +106,7 @@ nothing_refused = refl
 above_open : answered (Some 1) item 49 ≡ Refuse codes_of.OutOfRange
 above_open = refl
 
-another_item : answered (Some 1) other_item 20 ≡ Refuse codes_of.OtherItem
+another_item : answered (Some 1) other_item 20 ≡ Refuse codes_of.OtherArticle
 another_item = refl
 
 no_such_line : answered (Some 2) item 20 ≡ Refuse codes_of.NoLine
@@ -192,7 +192,7 @@ order_before_line = refl
 
 item_before_open : despatched_to (codes "DA2") unused
     (record { sscc = sscc; lines = record (of_line 99) { order_line = Some 1; gtin = other_item } ∷ [] } ∷ [])
-    ≡ Refuse codes_of.OtherItem
+    ≡ Refuse codes_of.OtherArticle
 item_before_open = refl
 
 -- a line number that the order does not have; and an item of two of its lines, where none is given

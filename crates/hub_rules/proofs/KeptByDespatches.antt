@@ -57,7 +57,7 @@ module _ (s : SupplierRow) where
   leads_despatched sscc n said state changes filled h =
       let a = not_refused (not (knows_order state said.order)) codes.NoOrder _ changes h in
       let found = was_given (line_of state said.order said.order_line said.gtin) codes.NoLine _ changes a.1 in
-      let b = not_refused (not (same found.0.gtin said.gtin)) codes.OtherItem _ changes found.2 in
+      let b = not_refused (not (same found.0.gtin said.gtin)) codes.OtherArticle _ changes found.2 in
       let c = not_refused (nat_lt found.0.open_qty said.quantity) codes.MoreThanOpen _ changes b.1 in
       let good = filled.good in
       let fine = line_found (GoodLine s state) state said.order said.order_line said.gtin found.0 (good_lines s state good) found.1 in

@@ -73,7 +73,7 @@ module _ (s : SupplierRow) where
       let found = was_given (line_of state order said.order_line said.gtin) codes.NoLine _ changes h in
       let a = not_refused (not (waits found.0)) codes.NotWaiting _ changes found.2 in
       let b = not_refused (is_out_of_range said.answer (despatched state found.0) found.0) codes.OutOfRange _ changes a.1 in
-      let c = not_refused (not (same found.0.gtin said.gtin)) codes.OtherItem _ changes b.1 in
+      let c = not_refused (not (same found.0.gtin said.gtin)) codes.OtherArticle _ changes b.1 in
       let fine = line_found (GoodLine s state) state order said.order_line said.gtin found.0 (good_lines s state good) found.1 in
       let line : LineRow = answered said.answer (despatched state found.0) found.0 in
       leaves_given s (KeptOwn s) state (SetLine line ∷ []) changes c.1

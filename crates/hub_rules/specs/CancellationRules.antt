@@ -13,4 +13,7 @@ judge_new_cancel cancel state =
     refuse_if (not (knows_order state cancel.order)) NoOrder (
     given (line_of state cancel.order (Some cancel.line) []) NoLine (λ line.
     refuse_if (nat_lt line.open_qty cancel.quantity) CancelsMoreThanOpen (
-    Accept (SetLine (record line { open_qty = line.open_qty - cancel.quantity; cancelled = line.cancelled + cancel.quantity }) ∷ []))))
+    Accept (SetLine (record line {
+      open_qty = line.open_qty - cancel.quantity;
+      cancelled = line.cancelled + cancel.quantity;
+    }) ∷ []))))

@@ -1,7 +1,10 @@
 -- What is printed for each rule.
 use Rattle.std.specs.Prelude.{ℕ, List, codes}
 use Rattle.hub_rules.specs.declared.code.Code.{Code}
-use Rattle.hub_rules.specs.declared.code.Code.TheVariants.{Buyer, Supplier, OtherContent, OrderKnown, NoOrder, NoLine, NotWaiting, OutOfRange, OtherItem, MoreThanOpen, OtherPrefix, SsccUsed, AdviceKnown, NoPallet, PalletReceived, MailboxFull, CancelsMoreThanOpen}
+use Rattle.hub_rules.specs.declared.code.Code.TheVariants.{Buyer, Supplier, OtherContent, OrderKnown, NoOrder, NoLine}
+use Rattle.hub_rules.specs.declared.code.Code.TheVariants.{NotWaiting, OutOfRange, OtherArticle, MoreThanOpen}
+use Rattle.hub_rules.specs.declared.code.Code.TheVariants.{OtherPrefix, SsccUsed, AdviceKnown, NoPallet, PalletReceived}
+use Rattle.hub_rules.specs.declared.code.Code.TheVariants.{MailboxFull, CancelsMoreThanOpen}
 
 abbrev pub code_text : Code → List ℕ
 code_text Buyer = codes "B01"
@@ -12,7 +15,7 @@ code_text NoOrder = codes "B05"
 code_text NoLine = codes "B06"
 code_text NotWaiting = codes "B07"
 code_text OutOfRange = codes "B08"
-code_text OtherItem = codes "B09"
+code_text OtherArticle = codes "B09"
 code_text MoreThanOpen = codes "B10"
 code_text OtherPrefix = codes "B11"
 code_text SsccUsed = codes "B12"

@@ -12,7 +12,8 @@ use Rattle.hub_tables.specs.Tables.{has_pallet}
 use Rattle.hub_tables.specs.declared.cases.Arrival.TheVariants.{Announced}
 use Rattle.hub_tables.specs.declared.change.Change.TheVariants.{SetLine, AddAdvice, AddPallet, AddContent}
 use Rattle.hub_rules.specs.Judging.{Judge, gives, refuse_if, given, in_turn, in_order}
-use Rattle.hub_rules.specs.declared.code.Code.TheVariants.{NoOrder, NoLine, OtherItem, MoreThanOpen, OtherPrefix, SsccUsed, AdviceKnown}
+use Rattle.hub_rules.specs.declared.code.Code.TheVariants.{NoOrder, NoLine, OtherArticle, MoreThanOpen, OtherPrefix}
+use Rattle.hub_rules.specs.declared.code.Code.TheVariants.{SsccUsed, AdviceKnown}
 use Rattle.hub_rules.specs.declared.verdict.Verdict.TheVariants.{Accept}
 
 -- the lines of a unit with their places on it, which go on from a number
@@ -25,11 +26,17 @@ abbrev pub judge_despatched : List ℕ → ℕ × DespatchLine → Judge
 judge_despatched sscc (place, said) state =
     refuse_if (not (knows_order state said.order)) NoOrder (
     given (line_of state said.order said.order_line said.gtin) NoLine (λ line.
-    refuse_if (not (same line.gtin said.gtin)) OtherItem (
+    refuse_if (not (same line.gtin said.gtin)) OtherArticle (
     refuse_if (nat_lt line.open_qty said.quantity) MoreThanOpen (
     Accept (
     SetLine (record line { open_qty = line.open_qty - said.quantity })
-    ∷ AddContent (record { sscc = sscc; place = place; number = line.number; line = line.line; quantity = said.quantity })
+    ∷ AddContent (record {
+      sscc = sscc;
+      place = place;
+      number = line.number;
+      line = line.line;
+      quantity = said.quantity;
+    })
     ∷ [])))))
 
 -- B11, B12 at a unit; then the pallet, and its lines. An SSCC is used where the hub has it, or an earlier unit.
@@ -37,7 +44,12 @@ abbrev pub judge_unit : SupplierRow → (List ℕ → Bool) → List ℕ → Uni
 judge_unit s used advice unit state =
     refuse_if (not (under_some unit.sscc s.prefixes)) OtherPrefix (
     refuse_if (used unit.sscc || has_pallet state unit.sscc) SsccUsed (
-    in_turn (gives (AddPallet (record { sscc = unit.sscc; supplier = s.gln; advice = advice; received = arrival_number Announced }) ∷ []))
+    in_turn (gives (AddPallet (record {
+      sscc = unit.sscc;
+      supplier = s.gln;
+      advice = advice;
+      received = arrival_number Announced;
+    }) ∷ []))
     (in_order (judge_despatched unit.sscc) (placed 0 unit.lines)) state))
 
 -- B13; then the advice, and its units

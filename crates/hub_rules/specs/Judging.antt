@@ -1,5 +1,5 @@
--- How rules are put together. A judge looks at a state and accepts with changes, or refuses with the first rule that does not
--- hold; checks stand one under another in the order in which they are asked.
+-- How rules are put together. A judge looks at a state and accepts with changes, or refuses with the first rule that
+-- does not hold; checks stand one under another in the order in which they are asked.
 use Rattle.std.specs.Prelude.{Bool, true, false, List, [], ◌∷◌, ◌++◌, Option, Some, None}
 use Rattle.hub_tables.specs.Change.{apply_all}
 use Rattle.hub_tables.specs.Tables.{Tables}

@@ -13,4 +13,5 @@ is_other_buyer retailer (Some buyer) = not (same buyer retailer)
 
 -- B02: the supplier is not registered, or the message names another
 abbrev pub if_registered : Option SupplierRow → List ℕ → (SupplierRow → Verdict) → Verdict
-if_registered supplier named rest = given supplier codes.Supplier (λ s. refuse_if (not (same named s.gln)) codes.Supplier (rest s))
+if_registered supplier named rest =
+    given supplier codes.Supplier (λ s. refuse_if (not (same named s.gln)) codes.Supplier (rest s))

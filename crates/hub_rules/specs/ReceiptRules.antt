@@ -40,7 +40,8 @@ abbrev pub judge_received : ReceiptUnit → Judge
 judge_received unit state =
     given (pallet_of state unit.sscc) NoPallet (λ pallet.
     refuse_if (not (is_announced pallet)) PalletReceived (
-    Accept (SetPallet (record pallet { received = arrival_number Received }) ∷ map (new_receipt unit.sscc unit.lines) (gtins unit.lines))))
+    Accept (SetPallet (record pallet { received = arrival_number Received })
+    ∷ map (new_receipt unit.sscc unit.lines) (gtins unit.lines))))
 
 -- B16; then the mailbox entry, and the units
 abbrev pub judge_new_receipt : List ℕ → IncomingMessage → List ℕ → Receipt → Judge

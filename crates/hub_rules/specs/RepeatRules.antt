@@ -1,4 +1,5 @@
--- The rule on what comes again (B03): what comes once more under its references is repeated, and other content under them is refused.
+-- The rule on what comes again (B03): what comes once more under its references is repeated, and other content under
+-- them is refused.
 use Rattle.std.specs.Prelude.{ℕ, List, [], ◌∷◌, Option, Some, None, if◌then◌else◌}
 use Rattle.hub_tables.specs.Cases.{side_letter}
 use Rattle.hub_tables.specs.Rows.{same}
@@ -19,7 +20,14 @@ pub record Reference : Type 0 where
   pub message : List ℕ
 
 abbrev pub remembered : Reference → List ℕ → RememberedRow
-remembered r content = record { supplier = r.supplier; side = side_letter r.side; control = r.control; message = r.message; content = content }
+remembered r content =
+    record {
+      supplier = r.supplier;
+      side = side_letter r.side;
+      control = r.control;
+      message = r.message;
+      content = content;
+    }
 
 -- repeated, or B03, where something is remembered; else what follows
 abbrev pub once : Option RememberedRow → List ℕ → Verdict → Verdict

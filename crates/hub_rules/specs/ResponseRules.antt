@@ -14,14 +14,15 @@ use Rattle.hub_tables.specs.declared.cases.Answered.TheVariants as answers
 use Rattle.hub_tables.specs.declared.change.Change.TheVariants.{SetLine}
 use Rattle.hub_tables.specs.declared.rows.LineRow.{LineRow}
 use Rattle.hub_rules.specs.Judging.{Judge, refuse_if, given, in_order}
-use Rattle.hub_rules.specs.declared.code.Code.TheVariants.{NoOrder, NoLine, NotWaiting, OutOfRange, OtherItem}
+use Rattle.hub_rules.specs.declared.code.Code.TheVariants.{NoOrder, NoLine, NotWaiting, OutOfRange, OtherArticle}
 use Rattle.hub_rules.specs.declared.verdict.Verdict.TheVariants.{Accept}
 
--- a line of which so much is despatched, after its answer. Refused: what was open. Changed to a quantity: open is that less
--- what is despatched, and what open lost is refused.
+-- a line of which so much is despatched, after its answer. Refused: what was open. Changed to a quantity: open is
+-- that less what is despatched, and what open lost is refused.
 abbrev pub answered : LineAnswer → ℕ → LineRow → LineRow
 answered Accepted sent line = record line { answer = answer_letter answers.Accepted }
-answered Refused sent line = record line { open_qty = 0; refused = line.refused + line.open_qty; answer = answer_letter answers.NotAccepted }
+answered Refused sent line =
+    record line { open_qty = 0; refused = line.refused + line.open_qty; answer = answer_letter answers.NotAccepted }
 answered (Changed quantity) sent line = record line {
   open_qty = quantity - sent;
   refused = line.refused + (line.open_qty - (quantity - sent));
@@ -40,7 +41,7 @@ judge_answer order said state =
     given (line_of state order said.order_line said.gtin) NoLine (λ line.
     refuse_if (not (waits line)) NotWaiting (
     refuse_if (is_out_of_range said.answer (despatched state line) line) OutOfRange (
-    refuse_if (not (same line.gtin said.gtin)) OtherItem (
+    refuse_if (not (same line.gtin said.gtin)) OtherArticle (
     Accept (SetLine (answered said.answer (despatched state line) line) ∷ [])))))
 
 -- the lines of an order that wait
@@ -64,4 +65,5 @@ judge_answers (Lines lines) order = in_order (judge_answer order) lines
 
 -- B05; then the answers
 abbrev pub judge_new_response : Response → Judge
-judge_new_response response state = refuse_if (not (knows_order state response.order)) NoOrder (judge_answers response.answer response.order state)
+judge_new_response response state =
+    refuse_if (not (knows_order state response.order)) NoOrder (judge_answers response.answer response.order state)

@@ -1,5 +1,5 @@
--- The rules of each message and of cancellations, from the first check on. A message is judged on the state of one supplier;
--- where the supplier is not registered there is none.
+-- The rules of each message and of cancellations, from the first check on. A message is judged on the state of one
+-- supplier; where the supplier is not registered there is none.
 use Rattle.std.specs.Prelude.{ℕ, Bool, List, [], Option, Some}
 use Rattle.edi_orders.specs.declared.order.Order.{Order}
 use Rattle.edi_orders.specs.declared.response.Response.{Response}
@@ -21,10 +21,12 @@ use Rattle.hub_rules.specs.declared.cancel.Cancel.{Cancel}
 use Rattle.hub_rules.specs.declared.incoming.IncomingMessage.{IncomingMessage}
 
 abbrev pub referred_by : SupplierRow → Side → IncomingMessage → Reference
-referred_by s side incoming = record { supplier = s.gln; side = side; control = incoming.control; message = incoming.message }
+referred_by s side incoming =
+    record { supplier = s.gln; side = side; control = incoming.control; message = incoming.message }
 
 -- B01, B02, B03; then the checks of the message
-abbrev pub judge_message : List ℕ → Option SupplierRow → Side → IncomingMessage → Option (List ℕ) → List ℕ → (SupplierRow → Judge) → Judge
+abbrev pub judge_message : List ℕ → Option SupplierRow → Side → IncomingMessage → Option (List ℕ) → List ℕ
+    → (SupplierRow → Judge) → Judge
 judge_message retailer supplier side incoming buyer named rest state =
     refuse_if (is_other_buyer retailer buyer) codes.Buyer (
     if_registered supplier named (λ s. judge_once (referred_by s side incoming) incoming.content (rest s) state))
@@ -32,22 +34,26 @@ judge_message retailer supplier side incoming buyer named rest state =
 -- ORDERS: B01 B02 B03 B04 B16
 abbrev pub judge_order : List ℕ → Option SupplierRow → IncomingMessage → List ℕ → Order → Judge
 judge_order retailer supplier incoming body order =
-    judge_message retailer supplier sides.Retailer incoming (Some order.buyer) order.supplier (λ s. judge_new_order s.gln incoming body order)
+    judge_message retailer supplier sides.Retailer incoming (Some order.buyer) order.supplier (λ s.
+    judge_new_order s.gln incoming body order)
 
 -- ORDRSP: B01 B02 B03 B05, for all lines B07; at a line B06 B07 B08 B09
 abbrev pub judge_response : List ℕ → Option SupplierRow → IncomingMessage → Response → Judge
 judge_response retailer supplier incoming response =
-    judge_message retailer supplier sides.Supplier incoming (Some response.buyer) response.supplier (λ s. judge_new_response response)
+    judge_message retailer supplier sides.Supplier incoming (Some response.buyer) response.supplier (λ s.
+    judge_new_response response)
 
 -- DESADV: B01 B02 B03 B13; at a unit B11 B12; at a line B05 B06 B09 B10
 abbrev pub judge_despatch : List ℕ → Option SupplierRow → (List ℕ → Bool) → IncomingMessage → Despatch → Judge
 judge_despatch retailer supplier used incoming despatch =
-    judge_message retailer supplier sides.Supplier incoming despatch.buyer despatch.supplier (λ s. judge_new_despatch s used despatch)
+    judge_message retailer supplier sides.Supplier incoming despatch.buyer despatch.supplier (λ s.
+    judge_new_despatch s used despatch)
 
 -- RECADV: B01 B02 B03 B16; at a unit B14 B15
 abbrev pub judge_receipt : List ℕ → Option SupplierRow → IncomingMessage → List ℕ → Receipt → Judge
 judge_receipt retailer supplier incoming body receipt =
-    judge_message retailer supplier sides.Retailer incoming receipt.buyer receipt.supplier (λ s. judge_new_receipt s.gln incoming body receipt)
+    judge_message retailer supplier sides.Retailer incoming receipt.buyer receipt.supplier (λ s.
+    judge_new_receipt s.gln incoming body receipt)
 
 abbrev pub cancelled_by : SupplierRow → Cancel → Reference
 cancelled_by s cancel = record { supplier = s.gln; side = sides.Cancellation; control = cancel.reference; message = [] }

@@ -71,8 +71,8 @@ pub record IsOwn (s : SupplierRow) (state : Tables) : Type 0 where
   pub remembered : AllByRecursion (λ row. row.supplier ≡ s.gln) state.remembered
   pub mail : AllByRecursion (λ entry. entry.supplier ≡ s.gln) state.mail
 
--- keys are single; lines have their order, contents their line, receipts a pallet that was received; entries are numbered from
--- 1; and every line is balanced
+-- keys are single; lines have their order, contents their line, receipts a pallet that was received; entries are
+-- numbered from 1; and every line is balanced
 pub record Kept (state : Tables) : Type 0 where
   pub orders : Single same_order state.orders
   pub lines : Single same_line_number state.lines
@@ -100,8 +100,8 @@ pub record Rooted (suppliers : List SupplierRow) (t : Tables) : Type 0 where
   pub contents : AllByRecursion (λ content. has_pallet t content.sscc ≡ true) t.contents
   pub receipts : AllByRecursion (λ receipt. has_pallet t receipt.sscc ≡ true) t.receipts
 
--- rows are in key order, each pallet is a registered supplier's and its SSCC under that supplier's prefixes, contents and
--- receipts have their pallet; and what each supplier sees is sound by itself
+-- rows are in key order, each pallet is a registered supplier's and its SSCC under that supplier's prefixes, contents
+-- and receipts have their pallet; and what each supplier sees is sound by itself
 pub record Sound (suppliers : List SupplierRow) (t : Tables) : Type 0 where
   pub rooted : Rooted suppliers t
   pub kept : (gln : List ℕ) → Kept (view gln t)

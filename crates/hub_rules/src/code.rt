@@ -24,7 +24,7 @@ pub enum Code {
     /// B08: a changed quantity is below what is despatched, or above that and what is open.
     OutOfRange,
     /// B09: the line has another item.
-    OtherItem,
+    OtherArticle,
     /// B10: more is despatched than is open.
     MoreThanOpen,
     /// B11: the SSCC is not under a prefix of the supplier.
@@ -57,7 +57,7 @@ impl Code {
             Code::NoLine => "B06",
             Code::NotWaiting => "B07",
             Code::OutOfRange => "B08",
-            Code::OtherItem => "B09",
+            Code::OtherArticle => "B09",
             Code::MoreThanOpen => "B10",
             Code::OtherPrefix => "B11",
             Code::SsccUsed => "B12",

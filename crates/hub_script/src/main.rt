@@ -1,4 +1,5 @@
-//! Plays a script on a hub over a store in memory, and prints each reply: `hub_script < script`.
+//! Plays a script on a hub over a store in memory, and prints each reply: `hub_script < script` over lists, and
+//! `hub_script sql < script` over tables of SQL.
 //!
 //! A script is lines of words, each parted from the next by one blank. Where a line names a number of bytes, they
 //! follow it, and then a line end.
@@ -24,21 +25,46 @@ mod script;
 mod trial;
 
 use crate::fault::ScriptFault;
-use crate::trial::Trial;
+use crate::trial::{Blank, Trial};
 use edi_base::{OfRead, OfWrite, read_to_limit};
+use hub_list::VecStore;
+use hub_sql::SqliteStore;
+use sqlite_trees::memory::MemStore;
+use std::env;
 use std::process::ExitCode;
 
 /// The longest script, in bytes.
 const SCRIPT_LIMIT: usize = 64 << 20;
 
 // Plays the script on standard input.
-fn play(rt: &HostRuntime) -> Result<(), ScriptFault> {
+fn play<S: Blank>(rt: &HostRuntime) -> Result<(), ScriptFault> {
     let text = read_to_limit(rt.alloc(), &mut OfRead::new(rt.stdin()), SCRIPT_LIMIT)?;
-    Trial::new(rt.alloc()).play(text.as_slice(), &mut OfWrite::new(rt.stdout()))
+    Trial::<S>::new(rt.alloc()).play(text.as_slice(), &mut OfWrite::new(rt.stdout()))
+}
+
+// Whether the store is to be one of SQL.
+fn is_sql(rt: &HostRuntime) -> Result<bool, ScriptFault> {
+    let words = env::args(rt).map_err(|_| ScriptFault::Memory)?;
+    let words = words
+        .collect::<Vec<String>>(rt.alloc())
+        .map_err(|_| ScriptFault::Memory)?;
+    match words.as_slice() {
+        [] | [_] => Ok(false),
+        [_, word] if word.as_str() == "sql" => Ok(true),
+        _ => Err(ScriptFault::Line),
+    }
+}
+
+fn run(rt: &HostRuntime) -> Result<(), ScriptFault> {
+    if is_sql(rt)? {
+        play::<SqliteStore<MemStore>>(rt)
+    } else {
+        play::<VecStore>(rt)
+    }
 }
 
 fn main(rt: HostRuntime) -> ExitCode {
-    let Err(fault) = play(&rt) else {
+    let Err(fault) = run(&rt) else {
         return ExitCode::SUCCESS;
     };
     let _ = rt.eprintln(fault);

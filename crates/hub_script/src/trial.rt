@@ -8,8 +8,10 @@ use gs1_ids::Gln;
 use hub_core::{Hub, Input, Outcome, Reply, Request};
 use hub_list::VecStore;
 use hub_register::Register;
-use hub_store::StoreFault;
+use hub_sql::SqliteStore;
+use hub_store::{Store, StoreFault};
 use hub_trial::TrialStore;
+use sqlite_trees::memory::MemStore;
 use std::alloc::Global;
 use std::str;
 
@@ -21,14 +23,29 @@ struct Caller {
     key: Items<u8>,
 }
 
-/// A hub that is tried, over a store that counts.
-type TriedHub = Hub<TrialStore<VecStore>>;
+/// A store in memory that can be made without rows.
+pub trait Blank: Store + Drop {
+    /// A store without rows.
+    fn blank(alloc: Global) -> Result<Self, StoreFault>;
+}
+
+impl Blank for VecStore {
+    fn blank(alloc: Global) -> Result<Self, StoreFault> {
+        Ok(VecStore::new(alloc))
+    }
+}
+
+impl Blank for SqliteStore<MemStore> {
+    fn blank(alloc: Global) -> Result<Self, StoreFault> {
+        SqliteStore::in_memory(alloc)
+    }
+}
 
 /// The hub; who asks it; the inputs of a run that is not made yet; and whether replies are printed.
 #[derive(Drop)]
-pub struct Trial {
+pub struct Trial<S: Blank> {
     alloc: Global,
-    hub: Option<TriedHub>,
+    hub: Option<Hub<TrialStore<S>>>,
     caller: Option<Caller>,
     run: Option<Vec<Input>>,
     quiet: bool,
@@ -46,8 +63,11 @@ fn word_of(outcome: Outcome) -> &'static str {
 }
 
 // The store of a line: plain, or one that fails at the call after so many others.
-fn store_of(alloc: Global, words: &mut Words<'_>) -> Result<TrialStore<VecStore>, ScriptFault> {
-    let plain = VecStore::new(alloc);
+fn store_of<S: Blank>(
+    alloc: Global,
+    words: &mut Words<'_>,
+) -> Result<TrialStore<S>, ScriptFault> {
+    let plain = S::blank(alloc).map_err(|_| ScriptFault::Memory)?;
     let fault = match words.next_word() {
         b"" => return Ok(TrialStore::new(plain)),
         b"memory" => StoreFault::Memory,
@@ -58,7 +78,7 @@ fn store_of(alloc: Global, words: &mut Words<'_>) -> Result<TrialStore<VecStore>
     Ok(TrialStore::failing(plain, calls, fault))
 }
 
-impl Trial {
+impl<S: Blank> Trial<S> {
     /// No hub yet.
     pub fn new(alloc: Global) -> Self {
         Trial {

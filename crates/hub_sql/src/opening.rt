@@ -25,7 +25,10 @@ fn fault_of(error: &Error) -> StoreFault
 }
 
 // A store without rows, in a database without tables.
-fn found<S: Alter + Drop>(mut conn: Connection<S>) -> Result<SqliteStore<S>, (Connection<S>, StoreFault)>
+fn found<S: Alter + Drop>(
+    alloc: Global,
+    mut conn: Connection<S>,
+) -> Result<SqliteStore<S>, (Connection<S>, StoreFault)>
     requires idle { conn.in_transaction ≡ false }
     requires bare { HasCleanDisk (state S.Store conn) → conn.schema ≡ no_schema }
     ensures whole { IfOk result (λ store. store.fault ≡ None) }
@@ -33,7 +36,7 @@ fn found<S: Alter + Drop>(mut conn: Connection<S>) -> Result<SqliteStore<S>, (Co
     ensures crash { IfOk result (λ store. honest S.Store store → (t : Tables) → left S.Store store t → t ≡ empty) }
 {
     match make_schema(&mut conn) {
-        Ok(()) => Ok(SqliteStore::settled(conn)),
+        Ok(()) => Ok(SqliteStore::settled(alloc, conn)),
         Err(error) => {
             let fault = fault_of(&error);
             Err((conn, fault))
@@ -51,7 +54,7 @@ impl SqliteStore<MemStore> {
         let Ok(conn) = Connection::open_in_memory(alloc) else {
             return Err(StoreFault::Memory);
         };
-        match found(conn) {
+        match found(alloc, conn) {
             Ok(store) => Ok(store),
             Err((_conn, fault)) => Err(fault),
         }

@@ -7,25 +7,23 @@ ghost use Rattle.hub_schema.specs.State.{IsHub};
 ghost use Rattle.hub_schema.specs.Schema.{hub_schema};
 ghost use Rattle.hub_store.specs.Calls.{fault_of, broken_after};
 ghost use Rattle.hub_sql.specs.Settling.{Settles};
-ghost use Rattle.hub_store.specs.Calls.{Looks, Fails};
-ghost use Rattle.hub_tables.specs.State.{knows_order};
-ghost use Rattle.hub_tables.specs.Tables.{view};
 
-use gs1_ids::Gln;
 use http_server::Log;
 use hub_schema::is_hub_schema;
 use hub_store::{LastingFault, StoreFault};
 use sqlite::{Alter, Connection};
 use sqlite_schema::schema::Schema;
+use std::alloc::Global;
 use std::marker::Model;
 
 /// The tables of a hub in a database of SQL.
 #[derive(Drop)]
 pub struct SqliteStore<S: Alter> {
-    conn: Connection<S>,
-    fault: Option<LastingFault>,
+    pub(crate) conn: Connection<S>,
+    pub(crate) alloc: Global,
+    pub(crate) fault: Option<LastingFault>,
     // Takes no memory: what the connection was when it was opened, and after each commit, which only clauses read.
-    past: Log<Connection<S>, bool>,
+    pub(crate) past: Log<Connection<S>, bool>,
 }
 
 impl<S: Alter> Model for SqliteStore<S> {
@@ -40,8 +38,8 @@ impl<S: Alter> Model for SqliteStore<S> {
     ghost invariant = { λ s. IsSettled S.Store (record { held = s.conn; fault = s.fault; past = s.past.items }) };
 }
 
-// The fault for good, as each call answers it.
-fn again(lasting: LastingFault) -> StoreFault
+/// The fault for good, as each call answers it.
+pub(crate) fn again(lasting: LastingFault) -> StoreFault
     ensures { result ≡ fault_of lasting }
 {
     match lasting {
@@ -50,9 +48,9 @@ fn again(lasting: LastingFault) -> StoreFault
     }
 }
 
-// What a call on the connection found, and the fault for good where it left one. Out of memory leaves none, where the
-// connection still has the hub's tables.
-fn settle<X>(
+/// What a call on the connection found, and the fault for good where it left one. Out of memory leaves none, where the
+/// connection still has the hub's tables.
+pub(crate) fn settle<X>(
     found: Result<X, StoreFault>,
     schema: &Schema,
     fault: &mut Option<LastingFault>,
@@ -75,10 +73,8 @@ fn settle<X>(
 }
 
 impl<S: Alter> SqliteStore<S> {
-    ghost use Rattle.hub_sql.specs.Stored.{content, honest, left};
-
     // The store of a connection that holds the hub's tables.
-    pub(crate) fn settled(conn: Connection<S>) -> SqliteStore<S>
+    pub(crate) fn settled(alloc: Global, conn: Connection<S>) -> SqliteStore<S>
         requires idle { conn.in_transaction ≡ false }
         requires hub { HasCleanDisk (state S.Store conn) → IsHub (state S.Store conn) }
         ensures { result ≡ record { held = conn; fault = None; past = (conn, true) ∷ [] } }
@@ -86,20 +82,9 @@ impl<S: Alter> SqliteStore<S> {
         let past = Log::new().and(&conn, &true);
         SqliteStore {
             conn,
+            alloc,
             fault: None,
             past,
         }
-    }
-
-    /// x
-    pub fn order_known(&mut self, supplier: &Gln, number: &[u8]) -> Result<bool, StoreFault>
-        ensures looks { Looks (content S.Store) (honest S.Store) (left S.Store) (λ s. s.fault) self.old self.new (knows_order (view supplier.now (content S.Store self.old)) number.now) result }
-        ensures fails { Fails false self.old.fault self.new.fault result }
-    {
-        if let Some(lasting) = self.fault {
-            return Err(again(lasting));
-        }
-        let found = hub_looks::order_known(&mut self.conn, supplier, number);
-        settle(found, self.conn.schema(), &mut self.fault)
     }
 }

@@ -1,7 +1,8 @@
 -- What calls of a store do. A store is seen by five functions of its value: its content; whether what is below it has
 -- been honest, that is has returned what was written; what a crash now may leave; the fault for which it is broken,
 -- if any; and whether it is plain, with nothing below it.
-use Rattle.std.specs.Prelude.{◌≡◌, ◌≢◌, ◌⊎◌, Bool, false, IsTrue, List, Option, None, Some, Result, Ok, Err, IfOk, IfErr, OnOk, OnErr}
+use Rattle.std.specs.Prelude.{◌≡◌, ◌≢◌, ◌⊎◌, Bool, false, IsTrue, List, Option, None, Some, Result, Ok, Err, IfOk}
+use Rattle.std.specs.Prelude.{IfErr, OnOk, OnErr}
 use Rattle.std.specs.Option.{IfSome}
 use Rattle.hub_tables.specs.Change.{apply_all}
 use Rattle.hub_tables.specs.Sets.{Rising}

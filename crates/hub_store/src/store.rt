@@ -1,6 +1,7 @@
 //! What every store answers.
 ghost use Rattle.std.specs.Prelude.{◌≡◌, ◌≢◌, IsTrue, IsOk, Bool, [], take, Option};
-ghost use Rattle.hub_tables.specs.State.{knows_order, knows_advice, lines_of, pallet_of, contents_of, receipts_of, entry_at, untaken_after, last_mail, remembered_content};
+ghost use Rattle.hub_tables.specs.State.{knows_order, knows_advice, lines_of, pallet_of, contents_of, receipts_of, entry_at, untaken_after};
+ghost use Rattle.hub_tables.specs.State.{last_mail, remembered_content};
 ghost use Rattle.hub_tables.specs.Tables.{Tables, view, has_pallet};
 ghost use Rattle.hub_store.specs.Calls.{Fails, Looks, Commits};
 ghost use Rattle.hub_store.specs.declared.fault.LastingFault.{LastingFault as Lasting};
@@ -47,27 +48,32 @@ pub trait Store {
         control: &[u8],
         message: &[u8],
     ) -> Result<Option<Items<u8>>, StoreFault>
-        ensures looks { Looks content honest left broken self.old self.new (remembered_content (view supplier.now (content self.old)) side control.now message.now) result }
+        ensures looks { Looks content honest left broken self.old self.new
+            (remembered_content (view supplier.now (content self.old)) side control.now message.now) result }
         ensures fails { Fails plain (broken self.old) (broken self.new) result };
 
     /// Whether the supplier has an order of this number.
     fn order_known(&mut self, supplier: &Gln, number: &[u8]) -> Result<bool, StoreFault>
-        ensures looks { Looks content honest left broken self.old self.new (knows_order (view supplier.now (content self.old)) number.now) result }
+        ensures looks { Looks content honest left broken self.old self.new
+            (knows_order (view supplier.now (content self.old)) number.now) result }
         ensures fails { Fails plain (broken self.old) (broken self.new) result };
 
     /// The lines of an order, by line number.
     fn lines_of(&mut self, supplier: &Gln, number: &[u8]) -> Result<Items<LineRow>, StoreFault>
-        ensures looks { Looks content honest left broken self.old self.new (lines_of (view supplier.now (content self.old)) number.now) result }
+        ensures looks { Looks content honest left broken self.old self.new
+            (lines_of (view supplier.now (content self.old)) number.now) result }
         ensures fails { Fails plain (broken self.old) (broken self.new) result };
 
     /// Whether the supplier has a despatch advice of this number.
     fn advice_known(&mut self, supplier: &Gln, number: &[u8]) -> Result<bool, StoreFault>
-        ensures looks { Looks content honest left broken self.old self.new (knows_advice (view supplier.now (content self.old)) number.now) result }
+        ensures looks { Looks content honest left broken self.old self.new
+            (knows_advice (view supplier.now (content self.old)) number.now) result }
         ensures fails { Fails plain (broken self.old) (broken self.new) result };
 
     /// The supplier's pallet of an SSCC.
     fn pallet(&mut self, supplier: &Gln, sscc: &Sscc) -> Result<Option<PalletRow>, StoreFault>
-        ensures looks { Looks content honest left broken self.old self.new (pallet_of (view supplier.now (content self.old)) sscc.now) result }
+        ensures looks { Looks content honest left broken self.old self.new
+            (pallet_of (view supplier.now (content self.old)) sscc.now) result }
         ensures fails { Fails plain (broken self.old) (broken self.new) result };
 
     /// The number of the last entry of the supplier's mailbox, 0 where there is none.
@@ -87,7 +93,8 @@ pub trait Store {
         number: u64,
         limit: usize,
     ) -> Result<Items<MailRow>, StoreFault>
-        ensures looks { Looks content honest left broken self.old self.new (take limit (untaken_after (view supplier.now (content self.old)) number)) result }
+        ensures looks { Looks content honest left broken self.old self.new
+            (take limit (untaken_after (view supplier.now (content self.old)) number)) result }
         ensures fails { Fails plain (broken self.old) (broken self.new) result };
 
     /// The lines of all orders of the supplier, by order number and line number.
@@ -102,12 +109,14 @@ pub trait Store {
 
     /// The contents of a pallet, by place. None where the pallet is another supplier's.
     fn contents_of(&mut self, supplier: &Gln, sscc: &Sscc) -> Result<Items<ContentRow>, StoreFault>
-        ensures looks { Looks content honest left broken self.old self.new (contents_of (view supplier.now (content self.old)) sscc.now) result }
+        ensures looks { Looks content honest left broken self.old self.new
+            (contents_of (view supplier.now (content self.old)) sscc.now) result }
         ensures fails { Fails plain (broken self.old) (broken self.new) result };
 
     /// What was received of a pallet, by item. None where the pallet is another supplier's.
     fn receipts_of(&mut self, supplier: &Gln, sscc: &Sscc) -> Result<Items<ReceiptRow>, StoreFault>
-        ensures looks { Looks content honest left broken self.old self.new (receipts_of (view supplier.now (content self.old)) sscc.now) result }
+        ensures looks { Looks content honest left broken self.old self.new
+            (receipts_of (view supplier.now (content self.old)) sscc.now) result }
         ensures fails { Fails plain (broken self.old) (broken self.new) result };
 
     /// Whether any supplier has a pallet of this SSCC. A plain store takes no memory for it, and answers.

@@ -1,10 +1,13 @@
 -- What changes do to tables.
 use Rattle.std.specs.Prelude.{List, [], ◌∷◌}
 use Rattle.hub_tables.specs.Keys.{put, replace}
-use Rattle.hub_tables.specs.Rows.{order_cmp, line_cmp, advice_cmp, pallet_cmp, content_cmp, receipt_cmp, remembered_cmp, mail_cmp, same_line, same_pallet, same_mail}
+use Rattle.hub_tables.specs.Rows.{order_cmp, line_cmp, advice_cmp, pallet_cmp, content_cmp, receipt_cmp, remembered_cmp}
+use Rattle.hub_tables.specs.Rows.{mail_cmp, same_line, same_pallet, same_mail}
 use Rattle.hub_tables.specs.Tables.{Tables}
 use Rattle.hub_tables.specs.declared.change.Change.{Change}
-use Rattle.hub_tables.specs.declared.change.Change.TheVariants.{AddOrder, AddLine, SetLine, AddAdvice, AddPallet, SetPallet, AddContent, AddReceipt, Remember, AddMail, SetMail}
+use Rattle.hub_tables.specs.declared.change.Change.TheVariants.{AddOrder, AddLine, SetLine, AddAdvice, AddPallet}
+use Rattle.hub_tables.specs.declared.change.Change.TheVariants.{SetPallet, AddContent, AddReceipt, Remember, AddMail}
+use Rattle.hub_tables.specs.declared.change.Change.TheVariants.{SetMail}
 
 abbrev pub apply : Change → Tables → Tables
 apply (AddOrder row) t = record t { orders = put order_cmp row t.orders }

@@ -21,7 +21,8 @@ abbrev pub order_cmp : OrderRow → OrderRow → Ordering
 order_cmp a b = ordering_then (bytes_cmp a.supplier b.supplier) (bytes_cmp a.number b.number)
 
 abbrev pub line_cmp : LineRow → LineRow → Ordering
-line_cmp a b = ordering_then (bytes_cmp a.supplier b.supplier) (ordering_then (bytes_cmp a.number b.number) (nat_cmp a.line b.line))
+line_cmp a b = ordering_then (bytes_cmp a.supplier b.supplier)
+    (ordering_then (bytes_cmp a.number b.number) (nat_cmp a.line b.line))
 
 abbrev pub advice_cmp : AdviceRow → AdviceRow → Ordering
 advice_cmp a b = ordering_then (bytes_cmp a.supplier b.supplier) (bytes_cmp a.number b.number)
@@ -38,7 +39,8 @@ receipt_cmp a b = ordering_then (bytes_cmp a.sscc b.sscc) (bytes_cmp a.gtin b.gt
 abbrev pub remembered_cmp : RememberedRow → RememberedRow → Ordering
 remembered_cmp a b =
     ordering_then (bytes_cmp a.supplier b.supplier)
-    (ordering_then (nat_cmp a.side b.side) (ordering_then (bytes_cmp a.control b.control) (bytes_cmp a.message b.message)))
+    (ordering_then (nat_cmp a.side b.side) (ordering_then (bytes_cmp a.control b.control)
+    (bytes_cmp a.message b.message)))
 
 abbrev pub mail_cmp : MailRow → MailRow → Ordering
 mail_cmp a b = ordering_then (bytes_cmp a.supplier b.supplier) (nat_cmp a.number b.number)

@@ -1,5 +1,6 @@
 -- What is looked up in a supplier's rows.
-use Rattle.std.specs.Prelude.{ℕ, ◌+◌, ◌==◌, nat_lt, Bool, true, not, ◌&&◌, List, [], ◌∷◌, filter, find, sum_by, length, Option, Some, None, option_map}
+use Rattle.std.specs.Prelude.{ℕ, ◌+◌, ◌==◌, nat_lt, Bool, true, not, ◌&&◌, List, [], ◌∷◌, filter, find, sum_by, length}
+use Rattle.std.specs.Prelude.{Option, Some, None, option_map}
 use Rattle.std.specs.List.{list_any, last_or}
 use Rattle.std.specs.Option.{unwrap_or}
 use Rattle.hub_tables.specs.Cases.{answer_letter, side_letter, arrival_number, truth_number}
@@ -87,8 +88,10 @@ next_mail state = length state.mail + 1
 -- what is remembered of a side under two references
 abbrev pub remembered_of : Tables → Side → List ℕ → List ℕ → Option RememberedRow
 remembered_of state side control message =
-    find (λ row. (row.side == side_letter side) && (same row.control control && same row.message message)) state.remembered
+    find (λ row. (row.side == side_letter side)
+    && (same row.control control && same row.message message)) state.remembered
 
 -- its content
 abbrev pub remembered_content : Tables → Side → List ℕ → List ℕ → Option (List ℕ)
-remembered_content state side control message = option_map (λ row. row.content) (remembered_of state side control message)
+remembered_content state side control message =
+    option_map (λ row. row.content) (remembered_of state side control message)

@@ -1,9 +1,10 @@
--- The content of a store: a set of rows for each kind, and what of it one supplier sees. Each set is the list of its rows in
--- the order of their keys, so that equal sets are equal values. A supplier's state has the same shape.
+-- The content of a store: a set of rows for each kind, and what of it one supplier sees. Each set is the list of its
+-- rows in the order of their keys, so that equal sets are equal values. A supplier's state has the same shape.
 use Rattle.std.specs.Prelude.{ℕ, Bool, ◌&&◌, List, [], filter}
 use Rattle.std.specs.List.{list_any}
 use Rattle.hub_tables.specs.Keys.{InOrder}
-use Rattle.hub_tables.specs.Rows.{same, order_cmp, line_cmp, advice_cmp, pallet_cmp, content_cmp, receipt_cmp, remembered_cmp, mail_cmp}
+use Rattle.hub_tables.specs.Rows.{same, order_cmp, line_cmp, advice_cmp, pallet_cmp, content_cmp, receipt_cmp}
+use Rattle.hub_tables.specs.Rows.{remembered_cmp, mail_cmp}
 use Rattle.hub_tables.specs.declared.rows.OrderRow.{OrderRow}
 use Rattle.hub_tables.specs.declared.rows.LineRow.{LineRow}
 use Rattle.hub_tables.specs.declared.rows.AdviceRow.{AdviceRow}
@@ -56,4 +57,13 @@ view supplier t = record {
 }
 
 abbrev pub empty : Tables
-empty = record { orders = []; lines = []; advices = []; pallets = []; contents = []; receipts = []; remembered = []; mail = [] }
+empty = record {
+  orders = [];
+  lines = [];
+  advices = [];
+  pallets = [];
+  contents = [];
+  receipts = [];
+  remembered = [];
+  mail = [];
+}

@@ -23,8 +23,10 @@ abbrev pub taking : List ℕ → ℕ → Tables → List Change
 taking supplier number t = taken_of (entry_at (view supplier t) number)
 
 -- what comes of changes, of which there may be none
-pub record Takes {S X : Type 0} (content : S → Tables) (honest : S → Type 0) (left : S → Tables → Type 0) (old new : S) (changes : List Change) (result : Result X StoreFault) : Type 0 where
+pub record Takes {S X : Type 0} (content : S → Tables) (honest : S → Type 0) (left : S → Tables
+    → Type 0) (old new : S) (changes : List Change) (result : Result X StoreFault) : Type 0 where
   pub done : honest new → Fit changes (content old) → OnOk result (content new ≡ apply_all changes (content old))
   pub kept : honest new → OnErr result (content new ≡ content old)
-  pub crash : honest new → Fit changes (content old) → (t : Tables) → left new t → left old t ⊎ (t ≡ apply_all changes (content old))
+  pub crash : honest new → Fit changes (content old) → (t : Tables) → left new t
+      → left old t ⊎ (t ≡ apply_all changes (content old))
   pub was_honest : honest new → honest old

@@ -81,8 +81,11 @@ fn ask_clean_trial(
 // Commits changes, where all rows before and after them may be of the kinds.
 fn commit_clean<S: Store>(store: &mut S, changes: &[Change]) -> Result<(), StoreFault>
     requires { changes.now ≢ [] }
-    ensures clean { S.honest store.new → S.broken store.old ≡ None → Fit changes.now (S.content store.old) → are_clean (S.content store.old) ≡ true → are_clean (apply_all changes.now (S.content store.old)) ≡ true → result ≢ Err Unclean }
-    ensures durable { S.honest store.new → Fit changes.now (S.content store.old) → OnOk result ((t : Tables) → S.left store.new t → t ≡ apply_all changes.now (S.content store.old)) }
+    ensures clean { S.honest store.new → S.broken store.old ≡ None → Fit changes.now (S.content store.old) →
+        are_clean (S.content store.old) ≡ true → are_clean (apply_all changes.now (S.content store.old)) ≡ true →
+        result ≢ Err Unclean }
+    ensures durable { S.honest store.new → Fit changes.now (S.content store.old) →
+        OnOk result ((t : Tables) → S.left store.new t → t ≡ apply_all changes.now (S.content store.old)) }
 {
     store.commit(changes)
 }
@@ -90,7 +93,8 @@ fn commit_clean<S: Store>(store: &mut S, changes: &[Change]) -> Result<(), Store
 // The same in lists, where a crash leaves the content.
 fn commit_listed(store: &mut VecStore, changes: &[Change]) -> Result<(), StoreFault>
     requires { changes.now ≢ [] }
-    ensures clean { Fit changes.now store.old → are_clean store.old ≡ true → are_clean (apply_all changes.now store.old) ≡ true → result ≢ Err Unclean }
+    ensures clean { Fit changes.now store.old → are_clean store.old ≡ true →
+        are_clean (apply_all changes.now store.old) ≡ true → result ≢ Err Unclean }
     ensures durable { Fit changes.now store.old → OnOk result (store.new ≡ apply_all changes.now store.old) }
 {
     commit_clean(store, changes)

@@ -244,7 +244,8 @@ fn set_taken<S: Store>(store: &mut S, mut entry: MailRow) -> Result<(), StoreFau
 
 // Marks an entry of a mailbox as taken, where it is there.
 fn take_entry<S: Store>(store: &mut S, supplier: &Gln, number: u64) -> Result<bool, StoreFault>
-    ensures found { S.honest store.new → IfOk result (λ found. found ≡ is_some (entry_at (view supplier.now (S.content store.old)) number)) }
+    ensures found { S.honest store.new →
+        IfOk result (λ found. found ≡ is_some (entry_at (view supplier.now (S.content store.old)) number)) }
     ensures takes { Takes S.content S.honest S.left store.old store.new (taking supplier.now number (S.content store.old)) result }
     ensures only_memory { IsTrue S.plain → IfErr result (λ fault. fault ≡ Memory) }
 {
@@ -258,7 +259,8 @@ fn take_entry<S: Store>(store: &mut S, supplier: &Gln, number: u64) -> Result<bo
 // The same in lists, where only memory can be short and no premise is left but that the change fits.
 fn take_listed(store: &mut VecStore, supplier: &Gln, number: u64) -> Result<bool, StoreFault>
     ensures found { IfOk result (λ found. found ≡ is_some (entry_at (view supplier.now store.old) number)) }
-    ensures done { Fit (taking supplier.now number store.old) store.old → OnOk result (store.new ≡ apply_all (taking supplier.now number store.old) store.old) }
+    ensures done { Fit (taking supplier.now number store.old) store.old →
+        OnOk result (store.new ≡ apply_all (taking supplier.now number store.old) store.old) }
     ensures kept { OnErr result (store.new ≡ store.old) }
     ensures only_memory { IfErr result (λ fault. fault ≡ Memory) }
 {

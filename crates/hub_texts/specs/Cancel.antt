@@ -15,8 +15,8 @@ is_end byte = byte == 0x0A
 abbrev pub positive : ℕ → List ℕ → Option ℕ
 positive most digits = if are_digits 1 most digits && not (number_of digits == 0) then Some (number_of digits) else None
 
--- a cancellation whose supplier is a GLN, whose own reference has 1 to 14 bytes and whose order number 1 to 35, each of 0x20
--- to 0x7E, and whose line number and quantity are there
+-- a cancellation whose supplier is a GLN, whose own reference has 1 to 14 bytes and whose order number 1 to 35, each
+-- of 0x20 to 0x7E, and whose line number and quantity are there
 abbrev pub cancel_with : List ℕ → List ℕ → List ℕ → Option ℕ → Option ℕ → Option Cancel
 cancel_with supplier reference order (Some line) (Some quantity) =
     if is_gln supplier && (is_reference reference && is_document_number order) then Some (record {

@@ -13,8 +13,8 @@ abbrev pub five_lines : List ℕ → List ℕ → List ℕ → List ℕ → List
 five_lines supplier reference order number quantity =
     flat_map (λ field. line (field ∷ [])) (supplier ∷ reference ∷ order ∷ number ∷ quantity ∷ [])
 
--- the body is five lines: the supplier, a GLN; the cancellation's own reference; the order number; and 1 to 6 digits of the
--- line number and 1 to 9 digits of the quantity, neither of them zero
+-- the body is five lines: the supplier, a GLN; the cancellation's own reference; the order number; and 1 to 6 digits
+-- of the line number and 1 to 9 digits of the quantity, neither of them zero
 pub record Says (body : List ℕ) (c : Cancel) : Type 0 where
   pub number : List ℕ
   pub quantity : List ℕ

@@ -3,5 +3,5 @@ pub mod CancelLaw
 pub mod Articles
 pub mod Lines
 pub mod Pallets
-pub mod Told
+pub mod Decision
 pub mod Totals

@@ -28,7 +28,12 @@ totals_at table gtin = unwrap_or (lookup (λ other. is_eq (bytes_cmp gtin other)
 -- totals with one content more, and with one receipt more
 abbrev pub with_content : ContentRow → Totals → Totals
 with_content content t =
-    record { despatched = t.despatched + content.quantity; accepted = t.accepted; returned = t.returned; destroyed = t.destroyed }
+    record {
+      despatched = t.despatched + content.quantity;
+      accepted = t.accepted;
+      returned = t.returned;
+      destroyed = t.destroyed;
+    }
 
 abbrev pub with_receipt : ReceiptRow → Totals → Totals
 with_receipt receipt t = record {
@@ -58,7 +63,8 @@ pieces_of receipt = receipt.accepted + receipt.returned + receipt.destroyed
 -- a content cannot be counted: it names no line, or the sum of its article is past 64 bits
 abbrev pub Uncounted : List LineRow → ContentRow → Table → Type 0
 Uncounted lines content table =
-    (article_among lines content ≡ None) ⊎ (2 ^ 64 ≤ (totals_at table (article_in lines content)).despatched + content.quantity)
+    (article_among lines content ≡ None)
+    ⊎ (2 ^ 64 ≤ (totals_at table (article_in lines content)).despatched + content.quantity)
 
 -- a content names no line, or the pieces of contents or receipts together are past 64 bits
 abbrev pub IsUnclean : List LineRow → List ContentRow → List ReceiptRow → Type 0
@@ -86,7 +92,8 @@ totals_of lines contents receipts gtin = record {
 
 -- the articles of such a pallet
 abbrev pub articles_of : List LineRow → List ContentRow → List ReceiptRow → List (List ℕ)
-articles_of lines contents receipts = in_digit_order (map (article_in lines) contents ++ map (λ receipt. receipt.gtin) receipts)
+articles_of lines contents receipts =
+    in_digit_order (map (article_in lines) contents ++ map (λ receipt. receipt.gtin) receipts)
 
 -- each with its totals
 abbrev pub table_of : List LineRow → List ContentRow → List ReceiptRow → Table
@@ -95,4 +102,5 @@ table_of lines contents receipts =
 
 -- the text of an article with its totals
 abbrev pub article_line : PalletRow → List ℕ × Totals → List ℕ
-article_line pallet entry = article_text pallet entry.0 entry.1.despatched entry.1.accepted entry.1.returned entry.1.destroyed
+article_line pallet entry =
+    article_text pallet entry.0 entry.1.despatched entry.1.accepted entry.1.returned entry.1.destroyed

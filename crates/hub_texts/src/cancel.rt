@@ -76,7 +76,8 @@ struct Fields<'a> {
 
 // The five lines of a body, where there are so many and nothing after them.
 fn fields_of(body: &[u8]) -> Option<Fields<'_>>
-    ensures some { IfSome result (λ fields. slice_split is_end body.now ≡ fields.supplier.now ∷ fields.reference.now ∷ fields.order.now ∷ fields.line.now ∷ fields.quantity.now ∷ [] ∷ []) }
+    ensures some { IfSome result (λ fields. slice_split is_end body.now ≡ fields.supplier.now ∷ fields.reference.now
+        ∷ fields.order.now ∷ fields.line.now ∷ fields.quantity.now ∷ [] ∷ []) }
     ensures none { IfNone result (cancel_of body.now ≡ None) }
 {
     let (supplier, rest) = first_line(body)?;
@@ -124,7 +125,9 @@ fn is_document_number(bytes: &[u8]) -> bool
 
 // The cancellation of five lines.
 fn cancel_with(alloc: Global, fields: &Fields<'_>) -> Result<Option<Cancel>, MemoryFault>
-    ensures { IfOk result (λ found. found ≡ spec.cancel_with fields.now.supplier.now fields.now.reference.now fields.now.order.now (spec.positive 6 fields.now.line.now) (spec.positive 9 fields.now.quantity.now)) }
+    ensures { IfOk result (λ found.
+        found ≡ spec.cancel_with fields.now.supplier.now fields.now.reference.now fields.now.order.now
+        (spec.positive 6 fields.now.line.now) (spec.positive 9 fields.now.quantity.now)) }
 {
     let Some(line) = positive(6, fields.line) else {
         return Ok(None);

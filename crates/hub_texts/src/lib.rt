@@ -4,6 +4,7 @@
 
 mod articles;
 mod cancel;
+mod decision;
 mod fault;
 mod fields;
 mod laws;
@@ -11,14 +12,13 @@ mod lines;
 mod mail;
 mod pallets;
 mod replies;
-mod told;
 mod totals;
 
 pub use cancel::{cancel_text, read_cancel};
+pub use decision::Decision;
 pub use fault::TextFault;
 pub use laws::{cancel_is_five_lines, cancel_is_written_back, status_is_given_what_it_asks};
 pub use lines::put_lines;
 pub use mail::{LIST_LIMIT, entry_text, list_text};
 pub use pallets::put_pallet;
 pub use replies::{interchange_line, message_line, refused_line, told_line};
-pub use told::Told;

@@ -80,7 +80,8 @@ fn put_rows(out: &mut Vec<u8>, rows: &[LineRow]) -> Result<(), MemoryFault>
 /// Appends the lines of the status report for lines of orders, each of which is balanced: what of a line is despatched
 /// is what is neither open nor refused nor cancelled.
 pub fn put_lines(lines: &[LineRow], out: &mut Vec<u8>) -> Result<(), MemoryFault>
-    ensures { (state : Tables) → AllByRecursion (Balanced state) lines.now → OnOk result (out.new.items ≡ out.old.items ++ flat_map (line_text state) lines.now) }
+    ensures { (state : Tables) → AllByRecursion (Balanced state) lines.now →
+        OnOk result (out.new.items ≡ out.old.items ++ flat_map (line_text state) lines.now) }
 {
     put_rows(out, lines)
 }

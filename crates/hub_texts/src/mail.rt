@@ -97,7 +97,8 @@ fn put_partners(out: &mut Vec<u8>, hub: &Gln, owner: &Gln) -> Result<(), MemoryF
 
 // Appends the rest of UNB, from the date on.
 fn put_date(out: &mut Vec<u8>, moment: Moment, number: &[u8]) -> Result<(), MemoryFault>
-    ensures { OnOk result (out.new.items ≡ out.old.items ++ (date_text moment ++ codes ":" ++ time_text moment ++ codes "+" ++ number.now ++ codes "'")) }
+    ensures { OnOk result (out.new.items ≡ out.old.items
+        ++ (date_text moment ++ codes ":" ++ time_text moment ++ codes "+" ++ number.now ++ codes "'")) }
 {
     out.extend_from_slice(&date_digits(moment))?;
     out.extend_from_slice(b":")?;

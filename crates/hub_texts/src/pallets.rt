@@ -137,7 +137,8 @@ pub fn put_pallet(
     out: &mut Vec<u8>,
 ) -> Result<(), TextFault>
     requires { Rises place_cmp lines.now }
-    ensures text { (state : Tables) → state.lines ≡ lines.now → contents_of state pallet.now.sscc ≡ contents.now → receipts_of state pallet.now.sscc ≡ receipts.now →
+    ensures text { (state : Tables) → state.lines ≡ lines.now →
+        contents_of state pallet.now.sscc ≡ contents.now → receipts_of state pallet.now.sscc ≡ receipts.now →
         OnOk result (out.new.items ≡ out.old.items ++ law.pallet_text state pallet.now) }
     ensures unclean { result ≡ Err Unclean → IsUnclean lines.now contents.now receipts.now }
 {

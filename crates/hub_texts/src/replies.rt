@@ -3,10 +3,10 @@ ghost use Rattle.std.specs.Prelude.{◌≡◌, ◌++◌, ◌∷◌, [], codes, I
 ghost use Rattle.hub_law.specs.Replies as spec;
 ghost use Rattle.hub_law.specs.Replies.{told_words};
 ghost use Rattle.hub_law.specs.Widths.{line};
-ghost use Rattle.hub_texts.specs.Told.{told_of};
+ghost use Rattle.hub_texts.specs.Decision.{told_of};
 
+use crate::decision::Decision;
 use crate::fields::{put_end, put_line, put_next};
-use crate::told::Told;
 use edi_base::{Items, MemoryFault};
 use edi_envelope::{Interchange, RawMessage};
 use itoa::Buffer;
@@ -23,14 +23,14 @@ fn put_refused(out: &mut Vec<u8>, code: &str) -> Result<(), MemoryFault>
 }
 
 // Appends the line of what is told.
-fn put_told(out: &mut Vec<u8>, told: Told) -> Result<(), MemoryFault>
+fn put_told(out: &mut Vec<u8>, told: Decision) -> Result<(), MemoryFault>
     ensures { OnOk result (out.new.items ≡ out.old.items ++ line (told_words (told_of told))) }
 {
     match told {
-        Told::Accepted => put_line(out, b"accepted"),
-        Told::Repeated => put_line(out, b"repeated"),
-        Told::Refused(code) => put_refused(out, code.code()),
-        Told::Unread(fault) => put_refused(out, fault.code()),
+        Decision::Accepted => put_line(out, b"accepted"),
+        Decision::Repeated => put_line(out, b"repeated"),
+        Decision::Refused(code) => put_refused(out, code.code()),
+        Decision::Unread(fault) => put_refused(out, fault.code()),
     }
 }
 
@@ -49,7 +49,11 @@ pub fn interchange_line(alloc: Global, interchange: &Interchange) -> Result<Vec<
 }
 
 /// The line of a message in the reply to its upload: its reference, its type, and what is told of it.
-pub fn message_line(alloc: Global, message: &RawMessage, told: Told) -> Result<Vec<u8>, MemoryFault>
+pub fn message_line(
+    alloc: Global,
+    message: &RawMessage,
+    told: Decision,
+) -> Result<Vec<u8>, MemoryFault>
     ensures { IfOk result (λ text. text.items ≡ line (message.now.reference ∷ message.now.kind ∷ told_words (told_of told))) }
 {
     let mut out = Vec::from_slice(alloc, message.reference.as_slice())?;
@@ -60,7 +64,7 @@ pub fn message_line(alloc: Global, message: &RawMessage, told: Told) -> Result<V
 }
 
 /// The line that tells what becomes of a cancellation.
-pub fn told_line(alloc: Global, told: Told) -> Result<Items<u8>, MemoryFault>
+pub fn told_line(alloc: Global, told: Decision) -> Result<Items<u8>, MemoryFault>
     ensures { IfOk result (λ text. text ≡ line (told_words (told_of told))) }
 {
     let mut text = Vec::new(alloc);

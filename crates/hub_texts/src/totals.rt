@@ -108,7 +108,8 @@ fn count_content(
 // Counts a receipt.
 fn count_receipt(table: &mut ArticleTotals, receipt: &ReceiptRow) -> Result<(), TextFault>
     ensures ok { OnOk result (table.new.entries ≡ spec.count_receipt receipt.now table.old.entries) }
-    ensures unclean { result ≡ Err Unclean → 2 ^ 64 ≤ spec.received (spec.totals_at table.old.entries receipt.now.gtin) + spec.pieces_of receipt.now }
+    ensures unclean { result ≡ Err Unclean →
+        2 ^ 64 ≤ spec.received (spec.totals_at table.old.entries receipt.now.gtin) + spec.pieces_of receipt.now }
 {
     let gtin = receipt.gtin;
     let totals = with_receipt(totals_of(table, &gtin), receipt)?;

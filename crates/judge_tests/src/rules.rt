@@ -10,7 +10,7 @@ static CODES: [(Code, &str); 17] = [
     (Code::NoLine, "B06"),
     (Code::NotWaiting, "B07"),
     (Code::OutOfRange, "B08"),
-    (Code::OtherItem, "B09"),
+    (Code::OtherArticle, "B09"),
     (Code::MoreThanOpen, "B10"),
     (Code::OtherPrefix, "B11"),
     (Code::SsccUsed, "B12"),

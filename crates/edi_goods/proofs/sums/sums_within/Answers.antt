@@ -12,7 +12,7 @@ use Rattle.edi_goods.proofs.sums.sums_within.Goals as goal
 
 pub returns-then-sum-gt-GREATEST-clause-ok : goal.returns-then-sum-gt-GREATEST-clause-ok
 returns-then-sum-gt-GREATEST-clause-ok c =
-    too_great (λ item. unwrap_or (get (slice_cmp nat_cmp) c.loop-amount.sums item) 0) c.args.amounts.now
+    too_great (λ article. unwrap_or (get (slice_cmp nat_cmp) c.loop-amount.sums article) 0) c.args.amounts.now
     c.loop-amount.amount-index c.amount-item.result c.loop-amount-test.true c.amount-item.is c.loop-amount.invariant.sums
     (omega (arith, c.if-sum-gt-GREATEST.true, c.with_more-sum.ensures, c.sum_so_far-before.ensures))
 
@@ -22,8 +22,8 @@ loop-amount-preserved c =
     let old : List ℕ → Option ℕ = get (slice_cmp nat_cmp) c.loop-amount.sums in
     let new : List ℕ → Option ℕ = get (slice_cmp nat_cmp) c.insert.new.self in
     let sum = c.with_more-sum.result in
-    let becomes : (item : List ℕ) → new item ≡ cond (bytes_eq gtin item) (Some sum) (old item) =
-    λ item. c.in_ok-insert.ensures.updates.0 item ∙ ap (λ same. cond same (Some sum) (old item)) (is_eq-slice_cmp gtin item) in
+    let becomes : (article : List ℕ) → new article ≡ cond (bytes_eq gtin article) (Some sum) (old article) =
+    λ article. c.in_ok-insert.ensures.updates.0 article ∙ ap (λ same. cond same (Some sum) (old article)) (is_eq-slice_cmp gtin article) in
     record {
       sums =
           part_next old new c.args.amounts.now c.loop-amount.amount-index c.amount-item.result sum c.loop-amount-test.true
@@ -35,8 +35,8 @@ loop-amount-preserved c =
 
 pub returns-clause-ok : goal.returns-clause-ok
 returns-clause-ok c =
-    let so_far : List ℕ → ℕ = λ item. unwrap_or (get (slice_cmp nat_cmp) c.loop-amount.sums item) 0 in
-    all_within so_far c.args.amounts.now (λ item. c.loop-amount.invariant.sums item
-    ∙ ap (λ rest. so_far item + spec.sum_of item rest)
+    let so_far : List ℕ → ℕ = λ article. unwrap_or (get (slice_cmp nat_cmp) c.loop-amount.sums article) 0 in
+    all_within so_far c.args.amounts.now (λ article. c.loop-amount.invariant.sums article
+    ∙ ap (λ rest. so_far article + spec.sum_of article rest)
     (drop_all c.loop-amount.amount-index c.args.amounts.now (omega (arith, c.loop-amount-test.false))))
     c.loop-amount.invariant.bound

@@ -7,10 +7,10 @@ use Rattle.edi_base.specs.Limits.{greatest}
 use Rattle.edi_goods.specs.Sums.{sum_of}
 use Rattle.edi_goods.proofs.sums.sums_within.Given as goal
 
--- the sum of an item is the one so far and that of the rest, and none so far is too great
+-- the sum of an article is the one so far and that of the rest, and none so far is too great
 abbrev pub invariant-loop-amount : goal.invariant-loop-amount
 invariant-loop-amount l = record {
-  sums : (item : List ℕ)
-      → sum_of item l.amounts ≡ unwrap_or (get (slice_cmp nat_cmp) l.sums item) 0 + sum_of item (drop l.amount-index l.amounts);
-  bound : (item : List ℕ) → unwrap_or (get (slice_cmp nat_cmp) l.sums item) 0 ≤ greatest;
+  sums : (article : List ℕ)
+      → sum_of article l.amounts ≡ unwrap_or (get (slice_cmp nat_cmp) l.sums article) 0 + sum_of article (drop l.amount-index l.amounts);
+  bound : (article : List ℕ) → unwrap_or (get (slice_cmp nat_cmp) l.sums article) 0 ≤ greatest;
 }

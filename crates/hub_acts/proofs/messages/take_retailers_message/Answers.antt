@@ -1,7 +1,7 @@
 use Rattle.std.proofs.Common.{sym, ap, ◌∙◌}
 use Rattle.hub_law.specs.Messages.{incoming, named}
 use Rattle.hub_law.specs.Requests.{deliver_named}
-use Rattle.hub_texts.specs.Told.{told_of}
+use Rattle.hub_texts.specs.Decision.{told_of}
 use Rattle.hub_acts.specs.Judged.{act_of}
 use Rattle.hub_acts.proofs.Afterwards.{after_looking}
 use Rattle.hub_acts.proofs.messages.take_retailers_message.Goals as goal

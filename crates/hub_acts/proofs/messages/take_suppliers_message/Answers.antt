@@ -2,7 +2,7 @@ use Rattle.std.proofs.Common.{sym, ap, ◌∙◌}
 use Rattle.hub_parties.specs.Rows.{parties_of}
 use Rattle.hub_tables.specs.Tables.{view}
 use Rattle.hub_law.specs.Messages.{incoming, deliver_suppliers}
-use Rattle.hub_texts.specs.Told.{told_of}
+use Rattle.hub_texts.specs.Decision.{told_of}
 use Rattle.hub_acts.specs.Judged.{act_of}
 use Rattle.hub_acts.proofs.Afterwards.{after_looking}
 use Rattle.hub_acts.proofs.messages.take_suppliers_message.Goals as goal

@@ -3,7 +3,7 @@ use Rattle.std.specs.Io.KnownBytes.{Appends}
 use Rattle.std.proofs.KnownBytes.{Keeps-refl}
 use Rattle.edi_base.specs.Buffer.{AppendsFront}
 use Rattle.hub_app.specs.declared.relay.RelayFault.TheVariants.{Token, Envelope}
-use Rattle.hub_app.proofs.Lines.{stands, not_read, at_ok, at_err, is_delivered, is_front_delivered, is_refused}
+use Rattle.hub_app.proofs.Lines.{stands, read_or_told, failed_unwritten, at_ok, at_err, is_delivered, is_front_delivered, is_refused}
 use Rattle.hub_app.proofs.run.relay_run.Goals as goal
 
 pub returns-then-is_ok-clause-done : goal.returns-then-is_ok-clause-done
@@ -81,14 +81,13 @@ returns-clause-stands g c =
 
 pub returns-in-Err-clause-read : goal.returns-in-Err-clause-read
 returns-in-Err-clause-read g c =
-    elim (not_read c.in-Err.fault c.tell_read_fault.ensures.file c.tell_read_fault.ensures.memory c.in-Err.ensures.read
-    c.in-Err.ensures.kept) [ inl h ↦ inr (c.tell_read_fault.ensures.status, h.0) | inr h ↦ inl h.1 ]
+    read_or_told c.in-Err.fault c.tell_read_fault.ensures.file c.tell_read_fault.ensures.memory c.in-Err.ensures.read
+    c.in-Err.ensures.kept c.tell_read_fault.ensures.status
 
 pub returns-in-Err-clause-failed : goal.returns-in-Err-clause-failed
 returns-in-Err-clause-failed g c = λ _.
-    let untouched = Keeps-refl (g.W.Sink.contents c.args.out.now) in
-    elim (not_read c.in-Err.fault c.tell_read_fault.ensures.file c.tell_read_fault.ensures.memory c.in-Err.ensures.read
-    c.in-Err.ensures.kept) [ inl h ↦ inl (h.0, inl (h.1, untouched)) | inr h ↦ inr (h.0, untouched) ]
+    failed_unwritten c.in-Err.fault c.tell_read_fault.ensures.file c.tell_read_fault.ensures.memory c.in-Err.ensures.read
+    c.in-Err.ensures.kept (Keeps-refl (g.W.Sink.contents c.args.out.now))
 
 pub returns-in-Err-clause-refused : goal.returns-in-Err-clause-refused
 returns-in-Err-clause-refused g c = λ e. absurd (omega (arith, c.tell_read_fault.ensures.status, e))

@@ -1,6 +1,6 @@
 use Rattle.std.proofs.Common.{◌∙◌, inl, inr}
 use Rattle.std.proofs.KnownBytes.{Keeps-refl}
-use Rattle.hub_app.proofs.Lines.{stands, not_read, is_shown, is_front_shown}
+use Rattle.hub_app.proofs.Lines.{stands, read_or_told, failed_unwritten, is_shown, is_front_shown}
 use Rattle.hub_app.proofs.show.show_run.Goals as goal
 
 pub returns-in-Ok-write_bytes-clause-stands : goal.returns-in-Ok-write_bytes-clause-stands
@@ -30,11 +30,10 @@ returns-clause-failed g c = λ _. inl (
 
 pub returns-in-Err-clause-read : goal.returns-in-Err-clause-read
 returns-in-Err-clause-read g c =
-    elim (not_read c.in-Err.fault c.tell_read_fault.ensures.file c.tell_read_fault.ensures.memory c.in-Err.ensures.read
-    c.in-Err.ensures.kept) [ inl h ↦ inr (c.tell_read_fault.ensures.status, h.0) | inr h ↦ inl h.1 ]
+    read_or_told c.in-Err.fault c.tell_read_fault.ensures.file c.tell_read_fault.ensures.memory c.in-Err.ensures.read
+    c.in-Err.ensures.kept c.tell_read_fault.ensures.status
 
 pub returns-in-Err-clause-failed : goal.returns-in-Err-clause-failed
 returns-in-Err-clause-failed g c = λ _.
-    let untouched = Keeps-refl (g.W.Sink.contents c.args.out.now) in
-    elim (not_read c.in-Err.fault c.tell_read_fault.ensures.file c.tell_read_fault.ensures.memory c.in-Err.ensures.read
-    c.in-Err.ensures.kept) [ inl h ↦ inl (h.0, inl (h.1, untouched)) | inr h ↦ inr (h.0, untouched) ]
+    failed_unwritten c.in-Err.fault c.tell_read_fault.ensures.file c.tell_read_fault.ensures.memory c.in-Err.ensures.read
+    c.in-Err.ensures.kept (Keeps-refl (g.W.Sink.contents c.args.out.now))

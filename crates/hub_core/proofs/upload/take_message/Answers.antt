@@ -2,16 +2,16 @@ use Rattle.hub_tables.specs.Tables.{Tables}
 use Rattle.hub_rules.specs.Laws.{SoundHub}
 use Rattle.hub_law.specs.Messages.{incoming}
 use Rattle.hub_law.specs.Requests.{deliver_named}
-use Rattle.hub_texts.specs.Told.{told_of}
+use Rattle.hub_texts.specs.Decision.{told_of}
 use Rattle.hub_core.proofs.Callers.{holds_after}
 use Rattle.hub_core.proofs.upload.take_message.Goals as goal
 
 pub returns-in-Retailer-clause-may : goal.returns-in-Retailer-clause-may
-returns-in-Retailer-clause-may g c honest = rw c.in-Retailer.is (λ (may : SoundHub c.args.register.now.suppliers
+returns-in-Retailer-clause-may g c honest = rw c.in-Retailer.is (λ (may : SoundHub c.args.upload.now.register.now.suppliers
     (g.S.Store.content c.args.store.now)).
-    let register = c.args.register.now in
+    let register = c.args.upload.now.register.now in
     let message = c.args.message.now in
-    let came = incoming c.args.moment c.args.interchange.now message in
+    let came = incoming c.args.upload.now.moment c.args.upload.now.interchange.now message in
     let after = c.acts_stay_sound.ensures.retailers register message came (g.S.Store.content c.args.store.now) may in
     holds_after (λ (t : Tables). SoundHub register.suppliers t) g.S.Store.content g.S.Store.honest g.S.Store.left
     c.args.store.now c.take_retailers_message.new.store

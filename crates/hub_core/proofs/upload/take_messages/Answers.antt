@@ -6,7 +6,7 @@ use Rattle.hub_law.specs.Requests.{uploaded}
 use Rattle.hub_law.specs.Replies.{stopped_line, told_words}
 use Rattle.hub_law.specs.Widths.{line}
 use Rattle.hub_law.specs.declared.reply.Outcome.TheVariants.{Stopped}
-use Rattle.hub_texts.specs.Told.{told_of}
+use Rattle.hub_texts.specs.Decision.{told_of}
 use Rattle.hub_core.specs.Callers.{delivered}
 use Rattle.hub_core.specs.Steps.{OneMore}
 use Rattle.hub_core.specs.Uploads.{DoneSoFar}
@@ -19,20 +19,20 @@ loop-message-init g c = record {
   was_honest = λ h. h;
   may = λ h m. m;
   so_far =
-      λ h m. so_far_none (delivered c.args.register.now c.args.caller) c.args.moment c.args.interchange.now
+      λ h m. so_far_none (delivered c.args.upload.now.register.now c.args.upload.now.caller) c.args.upload.now.moment c.args.upload.now.interchange.now
       (g.S.Store.content c.args.store.now) c.args.reply.items c.requires.line;
   left = λ h m t l. inr (refl, l);
 }
 
 pub returns-in_default-clause-answered : goal.returns-in_default-clause-answered
 returns-in_default-clause-answered g c honest may =
-    let deliver = delivered c.args.register.now c.args.caller in
+    let deliver = delivered c.args.upload.now.register.now c.args.upload.now.caller in
     let t = g.S.Store.content c.args.store.now in
     let before = g.S.Store.content c.loop-message.store in
     let count = c.loop-message.message-index in
     let was = c.take_message.ensures.unharmed.was_honest honest in
-    let below : count < length c.args.interchange.now.messages = rw c.as_slice-message-items.ensures at c.loop-message-test.true in
-    let there : c.message-item.result ≡ get_or c.args.interchange.now.messages count c.message-item.result =
+    let below : count < length c.args.upload.now.interchange.now.messages = rw c.as_slice-message-items.ensures at c.loop-message-test.true in
+    let there : c.message-item.result ≡ get_or c.args.upload.now.interchange.now.messages count c.message-item.result =
     rw c.as_slice-message-items.ensures at c.message-item.is in
     let far = c.loop-message.invariant.so_far was may in
     let written : c.extend_from_slice.new.self.items ≡ c.take_message.new.reply.items ++ stopped_line = grind (arith, common_steps) in
@@ -42,7 +42,7 @@ returns-in_default-clause-answered g c honest may =
     record {
       mark = StoppedAfter count;
       is =
-          uploaded_stopped deliver c.args.moment c.args.interchange.now t before count c.loop-message.refused
+          uploaded_stopped deliver c.args.upload.now.moment c.args.upload.now.interchange.now t before count c.loop-message.refused
           c.loop-message.reply.items below far
           ∙ (λ i. (record { outcome = Stopped; refused = c.loop-message.refused; body = sym body i }, sym same i));
       kept = λ u l. elim ((c.in_default.ensures.carried (c.loop-message.invariant.may was may)).crash honest u l) [
@@ -50,23 +50,23 @@ returns-in_default-clause-answered g c honest may =
           | inl a ↦ inl (a ∙ sym same)
           | inr b ↦ inr (inl (same ∙ b.0, b.1))
         ]
-        | inr e ↦ inr (inr (subst (λ (u : Tables). OneMore (length c.args.interchange.now.messages)
-            (λ mark t. uploaded deliver c.args.moment mark (Ok c.args.interchange.now) t) t
+        | inr e ↦ inr (inr (subst (λ (u : Tables). OneMore (length c.args.upload.now.interchange.now.messages)
+            (λ mark t. uploaded deliver c.args.upload.now.moment mark (Ok c.args.upload.now.interchange.now) t) t
             (StoppedAfter count) u) (sym e)
-            (so_far_then deliver c.args.moment c.args.interchange.now t before count c.loop-message.refused
+            (so_far_then deliver c.args.upload.now.moment c.args.upload.now.interchange.now t before count c.loop-message.refused
             c.loop-message.reply.items c.message-item.result below there far)))
       ];
     }
 
 pub loop-message-preserved : goal.loop-message-preserved
 loop-message-preserved g c =
-    let deliver = delivered c.args.register.now c.args.caller in
+    let deliver = delivered c.args.upload.now.register.now c.args.upload.now.caller in
     let t = g.S.Store.content c.args.store.now in
     let before = g.S.Store.content c.loop-message.store in
     let after = g.S.Store.content c.take_message.new.store in
     let count = c.loop-message.message-index in
-    let below : count < length c.args.interchange.now.messages = rw c.as_slice-message-items.ensures at c.loop-message-test.true in
-    let there : c.message-item.result ≡ get_or c.args.interchange.now.messages count c.message-item.result =
+    let below : count < length c.args.upload.now.interchange.now.messages = rw c.as_slice-message-items.ensures at c.loop-message-test.true in
+    let there : c.message-item.result ≡ get_or c.args.upload.now.interchange.now.messages count c.message-item.result =
     rw c.as_slice-message-items.ensures at c.message-item.is in
     record {
       room = c.take_message.ensures.room c.loop-message.invariant.room;
@@ -76,14 +76,14 @@ loop-message-preserved g c =
           let was = c.take_message.ensures.unharmed.was_honest h in
           let told = told_of c.in-Ok.told in
           let more =
-          so_far_more deliver c.args.moment c.args.interchange.now t before after count c.loop-message.refused
+          so_far_more deliver c.args.upload.now.moment c.args.upload.now.interchange.now t before after count c.loop-message.refused
           c.loop-message.reply.items c.message-item.result told below there
           (c.loop-message.invariant.so_far was m) ((c.in-Ok.ensures.carried (c.loop-message.invariant.may was m)).done h) in
           subst (λ (xs : List ℕ).
-          DoneSoFar deliver c.args.moment c.args.interchange.now t after (count + 1) c.either_refused-refused.result xs)
+          DoneSoFar deliver c.args.upload.now.moment c.args.upload.now.interchange.now t after (count + 1) c.either_refused-refused.result xs)
           (sym c.in-Ok.ensures.line)
           (subst (λ (b : Bool).
-          DoneSoFar deliver c.args.moment c.args.interchange.now t after (count + 1) b (c.loop-message.reply.items
+          DoneSoFar deliver c.args.upload.now.moment c.args.upload.now.interchange.now t after (count + 1) b (c.loop-message.reply.items
           ++ line (c.message-item.result.reference ∷ c.message-item.result.kind ∷ told_words told)))
           (sym c.either_refused-refused.ensures) more);
       left = λ h m u l.

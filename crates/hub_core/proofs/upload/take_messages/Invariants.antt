@@ -9,11 +9,11 @@ invariant-loop-message g l = record {
   room : vec_len l.reply + 8 ≤ vec_capacity l.reply;
   was_honest : g.S.Store.honest l.store → g.S.Store.honest l.fn.store;
   may : g.S.Store.honest l.store
-      → MayDeliver l.register l.caller (g.S.Store.content l.fn.store)
-      → MayDeliver l.register l.caller (g.S.Store.content l.store);
-  so_far : g.S.Store.honest l.store → MayDeliver l.register l.caller (g.S.Store.content l.fn.store)
-      → DoneSoFar (delivered l.register l.caller) l.moment l.interchange (g.S.Store.content l.fn.store)
+      → MayDeliver l.upload.register.now l.upload.caller (g.S.Store.content l.fn.store)
+      → MayDeliver l.upload.register.now l.upload.caller (g.S.Store.content l.store);
+  so_far : g.S.Store.honest l.store → MayDeliver l.upload.register.now l.upload.caller (g.S.Store.content l.fn.store)
+      → DoneSoFar (delivered l.upload.register.now l.upload.caller) l.upload.moment l.upload.interchange.now (g.S.Store.content l.fn.store)
       (g.S.Store.content l.store) l.message-index l.refused l.reply.items;
-  left : g.S.Store.honest l.store → MayDeliver l.register l.caller (g.S.Store.content l.fn.store) → (t : Tables) → g.S.Store.left l.store t
+  left : g.S.Store.honest l.store → MayDeliver l.upload.register.now l.upload.caller (g.S.Store.content l.fn.store) → (t : Tables) → g.S.Store.left l.store t
       → (t ≡ g.S.Store.content l.store) ⊎ ((g.S.Store.content l.store ≡ g.S.Store.content l.fn.store) × g.S.Store.left l.fn.store t);
 }

@@ -16,11 +16,11 @@ pub loop-line-init : goal.loop-line-init
 loop-line-init c =
     let unit = c.args.unit.now in
     let totals : List ℕ → Option Total = get (slice_cmp nat_cmp) c.in_ok-totals.totals in
-    let are : (item : List ℕ) → totals item ≡ total_from None item unit.lines =
-    λ item. c.in_ok-totals.ensures item ∙ ap (total_from None item) c.as_slice-lines.ensures in
+    let are : (article : List ℕ) → totals article ≡ total_from None article unit.lines =
+    λ article. c.in_ok-totals.ensures article ∙ ap (total_from None article) c.as_slice-lines.ensures in
     record {
       receipts = ap (λ gtins. c.args.changes.now ++ map (new_receipt unit.sscc unit.lines) gtins) (sym (all_left totals unit.lines are));
-      sums = λ item sum e. sym (are item) ∙ e;
+      sums = λ article sum e. sym (are article) ∙ e;
     }
 
 pub loop-line-preserved : goal.loop-line-preserved
@@ -30,8 +30,8 @@ loop-line-preserved c =
     let i = c.loop-line.line-index in
     let old : List ℕ → Option Total = get (slice_cmp nat_cmp) c.loop-line.totals in
     let new : List ℕ → Option Total = get (slice_cmp nat_cmp) c.remove.new.self in
-    let becomes : (item : List ℕ) → new item ≡ cond (same line.gtin item) None (old item) =
-    λ item. c.remove.ensures.updates.0 item ∙ ap (λ v. cond v None (old item)) (is_eq-slice_cmp line.gtin item) in
+    let becomes : (article : List ℕ) → new article ≡ cond (same line.gtin article) None (old article) =
+    λ article. c.remove.ensures.updates.0 article ∙ ap (λ v. cond v None (old article)) (is_eq-slice_cmp line.gtin article) in
     let inside : i < length unit.lines = subst (λ lines. i < length lines) c.as_slice-lines.ensures c.loop-line-test.true in
     let at : line ≡ get_or unit.lines i line = c.line-item.is ∙ ap (λ lines. get_or lines i line) c.as_slice-lines.ensures in
     let so_far = c.loop-line.changes in

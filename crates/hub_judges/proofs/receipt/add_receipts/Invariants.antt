@@ -8,12 +8,12 @@ use Rattle.hub_judges.specs.declared.totals.Total.{Total}
 use Rattle.hub_judges.proofs.Once.{left}
 use Rattle.hub_judges.proofs.receipt.add_receipts.Given as goal
 
--- the receipts are those so far and those of the items that are left in the rest, each with its total
+-- the receipts are those so far and those of the articles that are left in the rest, each with its total
 abbrev pub invariant-loop-line : goal.invariant-loop-line
 invariant-loop-line l = record {
   receipts : l.initial.changes ++ map (new_receipt l.unit.sscc l.unit.lines) (gtins l.unit.lines)
       ≡ l.changes
       ++ map (new_receipt l.unit.sscc l.unit.lines)
       (left (get (slice_cmp nat_cmp) l.totals) (drop l.line-index l.unit.lines));
-  sums : (item : List ℕ) (sum : Total) → get (slice_cmp nat_cmp) l.totals item ≡ Some sum → total_from None item l.unit.lines ≡ Some sum;
+  sums : (article : List ℕ) (sum : Total) → get (slice_cmp nat_cmp) l.totals article ≡ Some sum → total_from None article l.unit.lines ≡ Some sum;
 }

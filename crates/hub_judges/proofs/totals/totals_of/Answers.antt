@@ -24,8 +24,8 @@ loop-line-preserved c =
     let sum = c.with_line-total.result in
     let old : List ℕ → Option Total = get (slice_cmp nat_cmp) c.loop-line.totals in
     let new : List ℕ → Option Total = get (slice_cmp nat_cmp) c.insert.new.self in
-    let becomes : (item : List ℕ) → new item ≡ cond (same line.gtin item) (Some sum) (old item) =
-    λ item. c.in_ok-insert.ensures.updates.0 item ∙ ap (λ v. cond v (Some sum) (old item)) (is_eq-slice_cmp line.gtin item) in
+    let becomes : (article : List ℕ) → new article ≡ cond (same line.gtin article) (Some sum) (old article) =
+    λ article. c.in_ok-insert.ensures.updates.0 article ∙ ap (λ v. cond v (Some sum) (old article)) (is_eq-slice_cmp line.gtin article) in
     totals_next c.args.lines.now c.loop-line.line-index line c.loop-line-test.true c.line-item.is old new sum becomes
     (c.with_line-total.ensures ∙ ap (λ before. spec.with_line before line) c.total_so_far-before.ensures)
     c.loop-line.invariant

@@ -5,8 +5,8 @@ use Rattle.std.specs.Ordering.{nat_cmp}
 use Rattle.hub_judges.specs.Totals.{total_from}
 use Rattle.hub_judges.proofs.totals.totals_of.Given as goal
 
--- the total of an item is that of the rest after the one so far
+-- the total of an article is that of the rest after the one so far
 abbrev pub invariant-loop-line : goal.invariant-loop-line
 invariant-loop-line l =
-    (item : List ℕ)
-    → total_from None item l.lines ≡ total_from (get (slice_cmp nat_cmp) l.totals item) item (drop l.line-index l.lines)
+    (article : List ℕ)
+    → total_from None article l.lines ≡ total_from (get (slice_cmp nat_cmp) l.totals article) article (drop l.line-index l.lines)

@@ -9,7 +9,7 @@ use Rattle.hub_tables.specs.declared.rows.MailRow.{MailRow}
 use Rattle.hub_tables.proofs.KindOrders.{mail_total}
 use Rattle.hub_tables.proofs.Lists.{all_filter}
 use Rattle.hub_list.specs.Index.{entry_key, is_untaken}
-use Rattle.hub_list.specs.Places.{both, same_bytes, same_numbers}
+use Rattle.hub_rows.specs.Alike.{both, same_bytes, same_numbers}
 use Rattle.hub_list.specs.declared.index.EntryKey.{EntryKey}
 use Rattle.hub_list.proofs.Filters.{all_taken, filter_both, filter_of_map, filter_swap, take_of_map}
 use Rattle.hub_list.proofs.Indexing.{Again, all_again, found_again}

@@ -5,7 +5,7 @@ use Rattle.hub_tables.specs.declared.rows.PalletRow.{PalletRow}
 use Rattle.hub_tables.proofs.KindOrders.{pallet_total}
 use Rattle.hub_tables.proofs.Lists.{all_filter}
 use Rattle.hub_list.specs.Index.{owned_key}
-use Rattle.hub_list.specs.Places.{same_bytes}
+use Rattle.hub_rows.specs.Alike.{same_bytes}
 use Rattle.hub_list.specs.declared.index.PalletKey.{PalletKey}
 use Rattle.hub_list.proofs.Filters.{filter_true}
 use Rattle.hub_list.proofs.Indexing.{Again, all_again, found_again}

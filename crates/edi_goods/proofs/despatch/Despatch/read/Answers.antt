@@ -1,10 +1,10 @@
-use Rattle.edi_goods.specs.Despatch.{despatch_of}
-use Rattle.std.proofs.Common.{rules, ◌≡◌, List, map, ap, ◌∙◌}
+use Rattle.std.proofs.Common.{rules, ◌≡◌, true, List, map, ap, ◌∙◌}
+use Rattle.std.specs.List.{list_all}
 use Rattle.edi_base.specs.Seen.{has_twice}
 use Rattle.edi_goods.specs.Despatch as spec
 use Rattle.edi_goods.specs.Units.{read_units}
 use Rattle.edi_goods.specs.declared.despatch.Unit.{Unit as DespatchUnit}
-use Rattle.edi_goods.proofs.Read.{despatch_units_apart}
+use Rattle.edi_goods.proofs.Read.{despatch_units_apart, despatch_when}
 use Rattle.edi_goods.proofs.despatch.Despatch.read.Goals as goal
 
 pub returns-clause-apart : goal.returns-clause-apart
@@ -16,5 +16,10 @@ returns-clause-apart c =
     ∙ despatch_units_apart order segments c.in_ok-ssccs.ensures.ok.1
 
 pub returns-clause-ok : goal.returns-clause-ok
-unfolding despatch_of
-returns-clause-ok c = search rules
+returns-clause-ok c =
+    let units = read_units c.args.message.now.segments in
+    let inherited : spec.inherits c.args.message.now.segments ≡ c.has_reference-inherited.result = search rules in
+    let by_result : list_all (spec.has_references c.has_reference-inherited.result) units ≡ true = search rules in
+    let referred = ap (λ inherited. list_all (spec.has_references inherited) units) inherited ∙ by_result in
+    despatch_when c.args.message.now _ (search rules) (search rules) (search rules) (search rules) (search rules)
+    (search rules) (search rules) (search rules) referred (search rules) (search rules) (search rules) (search rules)

@@ -5,7 +5,7 @@ use Rattle.edi_base.specs.Seen.{has_twice}
 use Rattle.edi_goods.specs.Receipt as spec
 use Rattle.edi_goods.specs.Units.{read_units}
 use Rattle.edi_goods.specs.declared.receipt.ReceiptUnit.{ReceiptUnit}
-use Rattle.edi_goods.proofs.Read.{receipt_units_apart, receipt_units_sums}
+use Rattle.edi_goods.proofs.Read.{receipt_units_apart, receipt_units_sums, receipt_when}
 use Rattle.edi_goods.proofs.receipt.Receipt.read.Goals as goal
 
 pub returns-clause-apart : goal.returns-clause-apart
@@ -51,5 +51,6 @@ unfolding receipt_of
 returns-then-line_count-eq0-clause-err c = search rules
 
 pub returns-clause-ok : goal.returns-clause-ok
-unfolding receipt_of
-returns-clause-ok c = search rules
+returns-clause-ok c =
+    receipt_when c.args.message.now _ (search rules) (search rules) (search rules) (search rules) (search rules)
+    (search rules) (search rules) (search rules) (search rules) (search rules) (search rules)

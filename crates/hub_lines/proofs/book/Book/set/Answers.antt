@@ -8,7 +8,7 @@ use Rattle.hub_lines.proofs.book.Book.set.Goals as goal
 
 pub invariant_of-self : goal.invariant_of-self
 invariant_of-self c =
-    answered_kept c.self.inside.lines.items c.self.inside.items c.args.place c.index_mut-line.result.now c.args.open_qty
+    answered_kept c.self.inside.lines.items c.self.inside.articles c.args.place c.index_mut-line.result.now c.args.open_qty
     c.args.refused c.args.cancelled c.of-line.result c.self.invariant
     (subst (λ (lines : List LineFacts). c.args.place < length lines) (sym c.self.view_is) c.requires) c.index_mut-line.ensures.value
 

@@ -1,0 +1,15 @@
+use Rattle.sqlite.specs.Held.{state}
+use Rattle.hub_looks.proofs.OfGoods.{receipts_seen, receipts_unseen}
+use Rattle.hub_looks.proofs.goods.receipts_of.Goals as goal
+
+pub returns-then-not-held : goal.returns-then-not-held
+returns-then-not-held g c = record {
+  looks = receipts_unseen (state g.S.Store c.args.conn.now) (state g.S.Store c.is_held.new.conn) c.args.supplier.now c.args.sscc.now
+      c.in_ok-held.held c.new.result c.if-not-held.true c.new.ensures c.in_ok-held.ensures.looks;
+}
+
+pub returns : goal.returns
+returns g c = record {
+  looks = receipts_seen (state g.S.Store c.args.conn.now) (state g.S.Store c.is_held.new.conn) (state g.S.Store c.receipts_on.new.conn)
+      c.args.supplier.now c.args.sscc.now c.in_ok-held.held c.if-not-held.false c.in_ok-held.ensures.looks c.receipts_on.result c.receipts_on.ensures.looks;
+}

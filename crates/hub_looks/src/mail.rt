@@ -1,0 +1,216 @@
+//! Look-ups in mailboxes.
+ghost use Rattle.std.specs.Prelude.{◌≡◌, ◌<◌, ◌≤◌, ◌^◌, ◌&&◌, ◌⊎◌, pos, negsuc, not, filter, take, None, option_map};
+ghost use Rattle.std.specs.List.{list_any, last_or};
+ghost use Rattle.std.specs.Option.{unwrap_or};
+ghost use Rattle.sqlite.specs.Held.{state};
+ghost use Rattle.hub_schema.specs.State.{LooksUp};
+ghost use Rattle.hub_tables.specs.State.{entry_at, is_taken, untaken_after, last_mail as last};
+ghost use Rattle.hub_tables.specs.Tables.{view};
+ghost use Rattle.hub_looks.specs.Numbers.{low_of, above_of, is_above};
+ghost use Rattle.sqlite_sql.specs.Query.{limited, as_count};
+ghost use Rattle.sqlite_value.specs.Value.{owned};
+ghost use Rattle.sqlite.specs.Values.{bound_value};
+ghost use Rattle.sqlite_value.specs.declared.value.Value.TheVariants.{Int};
+
+use crate::ask::{first_of, has_row, rows_of};
+use edi_base::Items;
+use edi_envelope::LAST_MAIL_NUMBER;
+use gs1_ids::Gln;
+use hub_store::StoreFault;
+use hub_tables::MailRow;
+use sqlite::types::ValueRef;
+use sqlite::{Alter, Connection};
+use std::alloc::Global;
+
+// The number as a parameter.
+fn signed<'a>(number: u64) -> ValueRef<'a>
+    requires { number < 2 ^ 63 }
+    ensures { owned result ≡ Int (pos number) }
+{
+    ValueRef::Int(number as i64)
+}
+
+// Whether the supplier has an entry whose number is no greater than zero.
+fn has_low<S: Alter>(conn: &mut Connection<S>, supplier: &Gln) -> Result<bool, StoreFault>
+    ensures looks { LooksUp (λ t. list_any (low_of supplier.now) t.mail) (state S.Store conn.old) (state S.Store conn.new) result }
+{
+    has_row(
+        conn,
+        "SELECT number FROM mail WHERE supplier = ?1 AND number < 1",
+        &[ValueRef::Blob(supplier.digits())],
+    )
+}
+
+// Whether the supplier has an entry above a number.
+fn has_above<S: Alter>(
+    conn: &mut Connection<S>,
+    supplier: &Gln,
+    number: u64,
+) -> Result<bool, StoreFault>
+    requires { number < 2 ^ 63 }
+    ensures looks { LooksUp (λ t. list_any (above_of supplier.now number) t.mail) (state S.Store conn.old) (state S.Store conn.new) result }
+{
+    let bound = signed(number);
+    has_row(
+        conn,
+        "SELECT number FROM mail WHERE supplier = ?1 AND number > ?2",
+        &[ValueRef::Blob(supplier.digits()), bound],
+    )
+}
+
+// The mailbox entry of a number that can be a parameter.
+fn entry_of<S: Alter>(
+    conn: &mut Connection<S>,
+    supplier: &Gln,
+    number: u64,
+) -> Result<Option<MailRow>, StoreFault>
+    requires { number < 2 ^ 63 }
+    ensures looks { LooksUp (λ t. entry_at (view supplier.now t) number) (state S.Store conn.old) (state S.Store conn.new) result }
+{
+    let key = signed(number);
+    first_of(
+        conn,
+        "SELECT supplier, number, moment, decimal, kind, document, body, taken FROM mail WHERE supplier = ?1 AND number = ?2",
+        &[ValueRef::Blob(supplier.digits()), key],
+    )
+}
+
+/// The mailbox entry of a number.
+pub fn mail_item<S: Alter>(
+    conn: &mut Connection<S>,
+    supplier: &Gln,
+    number: u64,
+) -> Result<Option<MailRow>, StoreFault>
+    ensures looks { LooksUp (λ t. entry_at (view supplier.now t) number) (state S.Store conn.old) (state S.Store conn.new) result }
+{
+    if number <= LAST_MAIL_NUMBER {
+        return entry_of(conn, supplier, number);
+    }
+    let above = has_above(conn, supplier, LAST_MAIL_NUMBER)?;
+    if above {
+        return Err(StoreFault::Unclean);
+    }
+    Ok(None)
+}
+
+// The most rows of an answer, as a parameter; a number that is none sets no limit.
+fn most_rows<'a>(limit: usize) -> ValueRef<'a>
+    ensures { (owned result ≡ Int (pos limit)) ⊎ (owned result ≡ Int (negsuc 0)) }
+{
+    match i64::try_from(limit) {
+        Ok(most) => ValueRef::Int(most),
+        Err(_) => ValueRef::Int(-1),
+    }
+}
+
+// The first of the entries.
+fn first_entries(entries: Items<MailRow>, limit: usize) -> Items<MailRow>
+    ensures { result ≡ take limit entries }
+{
+    let mut entries = entries.into_vec();
+    entries.truncate(limit);
+    Items::from_vec(entries)
+}
+
+// The entries above a number that are not taken, by number: so many of them, or all.
+fn entries_above<S: Alter>(
+    conn: &mut Connection<S>,
+    alloc: Global,
+    supplier: &Gln,
+    number: u64,
+    most: ValueRef<'_>,
+) -> Result<Items<MailRow>, StoreFault>
+    requires { number < 2 ^ 63 }
+    ensures looks { LooksUp (λ t. limited (as_count (bound_value (owned most.entry))) (filter (λ entry. is_above number entry.number && not (is_taken entry)) (view supplier.now t).mail)) (state S.Store conn.old) (state S.Store conn.new) result }
+{
+    let bound = signed(number);
+    rows_of(
+        conn,
+        alloc,
+        "SELECT supplier, number, moment, decimal, kind, document, body, taken FROM mail WHERE supplier = ?1 AND number > ?2 AND taken <> 1 ORDER BY supplier, number LIMIT ?3",
+        &[
+            ValueRef::Blob(supplier.digits()),
+            bound,
+            most,
+        ],
+    )
+}
+
+// The first of them, above a number that can be a parameter.
+fn first_above<S: Alter>(
+    conn: &mut Connection<S>,
+    alloc: Global,
+    supplier: &Gln,
+    number: u64,
+    limit: usize,
+) -> Result<Items<MailRow>, StoreFault>
+    requires { number < 2 ^ 63 }
+    ensures looks { LooksUp (λ t. take limit (filter (λ entry. is_above number entry.number && not (is_taken entry)) (view supplier.now t).mail)) (state S.Store conn.old) (state S.Store conn.new) result }
+{
+    let most = most_rows(limit);
+    let entries = entries_above(conn, alloc, supplier, number, most)?;
+    Ok(first_entries(entries, limit))
+}
+
+// The first of them, above any number.
+fn untaken_above<S: Alter>(
+    conn: &mut Connection<S>,
+    alloc: Global,
+    supplier: &Gln,
+    number: u64,
+    limit: usize,
+) -> Result<Items<MailRow>, StoreFault>
+    ensures looks { LooksUp (λ t. take limit (filter (λ entry. is_above number entry.number && not (is_taken entry)) (view supplier.now t).mail)) (state S.Store conn.old) (state S.Store conn.new) result }
+{
+    if number <= LAST_MAIL_NUMBER {
+        return first_above(conn, alloc, supplier, number, limit);
+    }
+    let above = has_above(conn, supplier, LAST_MAIL_NUMBER)?;
+    if above {
+        return Err(StoreFault::Unclean);
+    }
+    Ok(Items::new(alloc))
+}
+
+/// The mailbox entries above a number that are not taken, by number: the first so many of them.
+pub fn mail_after<S: Alter>(
+    conn: &mut Connection<S>,
+    alloc: Global,
+    supplier: &Gln,
+    number: u64,
+    limit: usize,
+) -> Result<Items<MailRow>, StoreFault>
+    ensures looks { LooksUp (λ t. take limit (untaken_after (view supplier.now t) number)) (state S.Store conn.old) (state S.Store conn.new) result }
+{
+    let low = has_low(conn, supplier)?;
+    if low {
+        return Err(StoreFault::Unclean);
+    }
+    untaken_above(conn, alloc, supplier, number, limit)
+}
+
+// The number of the last entry above zero.
+fn highest<S: Alter>(
+    conn: &mut Connection<S>,
+    supplier: &Gln,
+) -> Result<Option<u64>, StoreFault>
+    ensures looks { LooksUp (λ t. option_map (λ entry. entry.number) (last_or None (filter (λ entry. is_above 0 entry.number) (view supplier.now t).mail))) (state S.Store conn.old) (state S.Store conn.new) result }
+{
+    first_of(
+        conn,
+        "SELECT number FROM mail WHERE supplier = ?1 AND number > 0 ORDER BY number DESC LIMIT 1",
+        &[ValueRef::Blob(supplier.digits())],
+    )
+}
+
+/// The number of the last entry of the supplier's mailbox, 0 where there is none.
+pub fn last_mail<S: Alter>(conn: &mut Connection<S>, supplier: &Gln) -> Result<u64, StoreFault>
+    ensures looks { LooksUp (λ t. last (view supplier.now t)) (state S.Store conn.old) (state S.Store conn.new) result }
+{
+    let low = has_low(conn, supplier)?;
+    if low {
+        return Err(StoreFault::Unclean);
+    }
+    let number = highest(conn, supplier)?;
+    Ok(number.unwrap_or(0))
+}

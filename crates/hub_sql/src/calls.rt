@@ -1,0 +1,152 @@
+//! What the store answers: each look-up by one of the connection's, and each commit as one transaction.
+ghost use Rattle.std.specs.Prelude.{false};
+ghost use Rattle.std.proofs.Common.{inl, refl};
+ghost use Rattle.std.proofs.lemmas.Bool.{false≢true};
+
+use crate::store::{SqliteStore, again, settle};
+use edi_base::Items;
+use gs1_ids::{Gln, Sscc};
+use hub_store::{LastingFault, Store, StoreFault};
+use hub_tables::{Change, ContentRow, LineRow, MailRow, PalletRow, ReceiptRow, Side};
+use sqlite::Alter;
+
+impl<S: Alter> Store for SqliteStore<S> {
+    ghost use Rattle.hub_sql.specs.Stored.{content, honest, left};
+
+    ghost content = { content S.Store };
+
+    ghost honest = { honest S.Store };
+
+    ghost left = { left S.Store };
+
+    ghost broken = { λ s. s.fault };
+
+    ghost plain = { false };
+
+    ghost there = { λ store clean. inl refl };
+
+    ghost plainly = { λ is store. absurd (false≢true is) };
+
+    ghost kept = { λ is store t _. absurd (false≢true is) };
+
+    fn fault(&self) -> Option<LastingFault> {
+        self.fault
+    }
+
+    fn remembered(&mut self, supplier: &Gln, side: Side, control: &[u8], message: &[u8]) -> Result<Option<Items<u8>>, StoreFault> {
+        if let Some(lasting) = self.fault {
+            return Err(again(lasting));
+        }
+        let found = Err(StoreFault::Disk);
+        settle(found, self.conn.schema(), &mut self.fault)
+    }
+
+    fn order_known(&mut self, supplier: &Gln, number: &[u8]) -> Result<bool, StoreFault> {
+        if let Some(lasting) = self.fault {
+            return Err(again(lasting));
+        }
+        let found = hub_looks::order_known(&mut self.conn, supplier, number);
+        settle(found, self.conn.schema(), &mut self.fault)
+    }
+
+    fn lines_of(&mut self, supplier: &Gln, number: &[u8]) -> Result<Items<LineRow>, StoreFault> {
+        if let Some(lasting) = self.fault {
+            return Err(again(lasting));
+        }
+        let found = hub_looks::lines_of(&mut self.conn, self.alloc, supplier, number);
+        settle(found, self.conn.schema(), &mut self.fault)
+    }
+
+    fn advice_known(&mut self, supplier: &Gln, number: &[u8]) -> Result<bool, StoreFault> {
+        if let Some(lasting) = self.fault {
+            return Err(again(lasting));
+        }
+        let found = hub_looks::advice_known(&mut self.conn, supplier, number);
+        settle(found, self.conn.schema(), &mut self.fault)
+    }
+
+    fn pallet(&mut self, supplier: &Gln, sscc: &Sscc) -> Result<Option<PalletRow>, StoreFault> {
+        if let Some(lasting) = self.fault {
+            return Err(again(lasting));
+        }
+        let found = hub_looks::pallet(&mut self.conn, supplier, sscc);
+        settle(found, self.conn.schema(), &mut self.fault)
+    }
+
+    fn last_mail(&mut self, supplier: &Gln) -> Result<u64, StoreFault> {
+        if let Some(lasting) = self.fault {
+            return Err(again(lasting));
+        }
+        let found = Err(StoreFault::Disk);
+        settle(found, self.conn.schema(), &mut self.fault)
+    }
+
+    fn mail_item(&mut self, supplier: &Gln, number: u64) -> Result<Option<MailRow>, StoreFault> {
+        if let Some(lasting) = self.fault {
+            return Err(again(lasting));
+        }
+        let found = Err(StoreFault::Disk);
+        settle(found, self.conn.schema(), &mut self.fault)
+    }
+
+    fn mail_after(&mut self, supplier: &Gln, number: u64, limit: usize) -> Result<Items<MailRow>, StoreFault> {
+        if let Some(lasting) = self.fault {
+            return Err(again(lasting));
+        }
+        let found = Err(StoreFault::Disk);
+        settle(found, self.conn.schema(), &mut self.fault)
+    }
+
+    fn all_lines(&mut self, supplier: &Gln) -> Result<Items<LineRow>, StoreFault> {
+        if let Some(lasting) = self.fault {
+            return Err(again(lasting));
+        }
+        let found = hub_looks::all_lines(&mut self.conn, self.alloc, supplier);
+        settle(found, self.conn.schema(), &mut self.fault)
+    }
+
+    fn all_pallets(&mut self, supplier: &Gln) -> Result<Items<PalletRow>, StoreFault> {
+        if let Some(lasting) = self.fault {
+            return Err(again(lasting));
+        }
+        let found = hub_looks::all_pallets(&mut self.conn, self.alloc, supplier);
+        settle(found, self.conn.schema(), &mut self.fault)
+    }
+
+    fn contents_of(&mut self, supplier: &Gln, sscc: &Sscc) -> Result<Items<ContentRow>, StoreFault> {
+        if let Some(lasting) = self.fault {
+            return Err(again(lasting));
+        }
+        let found = hub_looks::contents_of(&mut self.conn, self.alloc, supplier, sscc);
+        settle(found, self.conn.schema(), &mut self.fault)
+    }
+
+    fn receipts_of(&mut self, supplier: &Gln, sscc: &Sscc) -> Result<Items<ReceiptRow>, StoreFault> {
+        if let Some(lasting) = self.fault {
+            return Err(again(lasting));
+        }
+        let found = hub_looks::receipts_of(&mut self.conn, self.alloc, supplier, sscc);
+        settle(found, self.conn.schema(), &mut self.fault)
+    }
+
+    fn used(&mut self, sscc: &Sscc) -> Result<bool, StoreFault> {
+        if let Some(lasting) = self.fault {
+            return Err(again(lasting));
+        }
+        let found = hub_looks::used(&mut self.conn, sscc);
+        settle(found, self.conn.schema(), &mut self.fault)
+    }
+
+    fn commit(&mut self, changes: &[Change]) -> Result<(), StoreFault> {
+        if let Some(lasting) = self.fault {
+            return Err(again(lasting));
+        }
+        match hub_writes::commit(&mut self.conn, changes) {
+            Ok(()) => {
+                self.past = self.past.and(&self.conn, &true);
+                Ok(())
+            }
+            Err(fault) => settle(Err(fault), self.conn.schema(), &mut self.fault),
+        }
+    }
+}
