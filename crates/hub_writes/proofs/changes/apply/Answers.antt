@@ -1,0 +1,34 @@
+use Rattle.hub_writes.proofs.changes.apply.Goals as goal
+
+pub returns-in-AddOrder-clause-acts : goal.returns-in-AddOrder-clause-acts
+returns-in-AddOrder-clause-acts g c = rw c.in-AddOrder.is c.add_order.ensures.acts
+
+pub returns-in-AddLine-clause-acts : goal.returns-in-AddLine-clause-acts
+returns-in-AddLine-clause-acts g c = rw c.in-AddLine.is c.add_line.ensures.acts
+
+pub returns-in-SetLine-clause-acts : goal.returns-in-SetLine-clause-acts
+returns-in-SetLine-clause-acts g c = rw c.in-SetLine.is c.set_line.ensures.acts
+
+pub returns-in-AddAdvice-clause-acts : goal.returns-in-AddAdvice-clause-acts
+returns-in-AddAdvice-clause-acts g c = rw c.in-AddAdvice.is c.add_advice.ensures.acts
+
+pub returns-in-AddPallet-clause-acts : goal.returns-in-AddPallet-clause-acts
+returns-in-AddPallet-clause-acts g c = rw c.in-AddPallet.is c.add_pallet.ensures.acts
+
+pub returns-in-SetPallet-clause-acts : goal.returns-in-SetPallet-clause-acts
+returns-in-SetPallet-clause-acts g c = rw c.in-SetPallet.is c.set_pallet.ensures.acts
+
+pub returns-in-AddContent-clause-acts : goal.returns-in-AddContent-clause-acts
+returns-in-AddContent-clause-acts g c = rw c.in-AddContent.is c.add_content.ensures.acts
+
+pub returns-in-AddReceipt-clause-acts : goal.returns-in-AddReceipt-clause-acts
+returns-in-AddReceipt-clause-acts g c = rw c.in-AddReceipt.is c.add_receipt.ensures.acts
+
+pub returns-in-Remember-clause-acts : goal.returns-in-Remember-clause-acts
+returns-in-Remember-clause-acts g c = rw c.in-Remember.is c.remember.ensures.acts
+
+pub returns-in-AddMail-clause-acts : goal.returns-in-AddMail-clause-acts
+returns-in-AddMail-clause-acts g c = rw c.in-AddMail.is c.add_mail.ensures.acts
+
+pub returns-in-SetMail-clause-acts : goal.returns-in-SetMail-clause-acts
+returns-in-SetMail-clause-acts g c = rw c.in-SetMail.is c.set_mail.ensures.acts
