@@ -37,7 +37,7 @@ impl<S: Alter> Store for SqliteStore<S> {
         if let Some(lasting) = self.fault {
             return Err(again(lasting));
         }
-        let found = Err(StoreFault::Disk);
+        let found = hub_looks::remembered(&mut self.conn, supplier, side, control, message);
         settle(found, self.conn.schema(), &mut self.fault)
     }
 
@@ -77,7 +77,7 @@ impl<S: Alter> Store for SqliteStore<S> {
         if let Some(lasting) = self.fault {
             return Err(again(lasting));
         }
-        let found = Err(StoreFault::Disk);
+        let found = hub_looks::last_mail(&mut self.conn, supplier);
         settle(found, self.conn.schema(), &mut self.fault)
     }
 
@@ -85,7 +85,7 @@ impl<S: Alter> Store for SqliteStore<S> {
         if let Some(lasting) = self.fault {
             return Err(again(lasting));
         }
-        let found = Err(StoreFault::Disk);
+        let found = hub_looks::mail_item(&mut self.conn, supplier, number);
         settle(found, self.conn.schema(), &mut self.fault)
     }
 
@@ -93,7 +93,7 @@ impl<S: Alter> Store for SqliteStore<S> {
         if let Some(lasting) = self.fault {
             return Err(again(lasting));
         }
-        let found = Err(StoreFault::Disk);
+        let found = hub_looks::mail_after(&mut self.conn, self.alloc, supplier, number, limit);
         settle(found, self.conn.schema(), &mut self.fault)
     }
 
