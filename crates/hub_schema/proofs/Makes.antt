@@ -74,8 +74,22 @@ number_put old new (Ok count) has h =
         numbered = ap (map (λ r. column r 1)) first;
         ordered = (
           subst (IsShaped Rows) (sym first) ((tt, tt), (refl, tt)),
-          (bare _ orders, (bare _ lines, (bare _ advices, (bare _ pallets, (bare _ contents,
-          (bare _ receipts, (bare _ remembered, (bare _ mail, tt)))))))),
+          (
+            bare _ orders,
+            (
+              bare _ lines,
+              (
+                bare _ advices,
+                (
+                  bare _ pallets,
+                  (
+                    bare _ contents,
+                    (bare _ receipts, (bare _ remembered, (bare _ mail, tt))),
+                  ),
+                ),
+              ),
+            ),
+          ),
         );
         sound = w.sound;
       };

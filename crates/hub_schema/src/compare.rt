@@ -91,12 +91,7 @@ fn is_schema(table: &Table) -> bool
     table.uniques.is_empty()
         && table.orders.is_empty()
         && is_plain(table, b"schema", 0, &[])
-        && are_columns(
-        table.columns.as_slice(),
-        &[
-            (b"number", Kind::Integer),
-        ],
-    )
+        && are_columns(table.columns.as_slice(), &[(b"number", Kind::Integer)])
 }
 
 fn is_order(table: &Table) -> bool
@@ -104,12 +99,9 @@ fn is_order(table: &Table) -> bool
 {
     is_keyed(table, b"order", 1, &[1, 2])
         && are_columns(
-        table.columns.as_slice(),
-        &[
-            (b"supplier", Kind::Blob),
-            (b"number", Kind::Blob),
-        ],
-    )
+            table.columns.as_slice(),
+            &[(b"supplier", Kind::Blob), (b"number", Kind::Blob)],
+        )
 }
 
 fn is_line(table: &Table) -> bool
@@ -117,19 +109,19 @@ fn is_line(table: &Table) -> bool
 {
     is_keyed(table, b"line", 3, &[1, 2, 3])
         && are_columns(
-        table.columns.as_slice(),
-        &[
-            (b"supplier", Kind::Blob),
-            (b"number", Kind::Blob),
-            (b"line", Kind::Integer),
-            (b"gtin", Kind::Blob),
-            (b"ordered", Kind::Integer),
-            (b"open_qty", Kind::Integer),
-            (b"refused", Kind::Integer),
-            (b"cancelled", Kind::Integer),
-            (b"answer", Kind::Integer),
-        ],
-    )
+            table.columns.as_slice(),
+            &[
+                (b"supplier", Kind::Blob),
+                (b"number", Kind::Blob),
+                (b"line", Kind::Integer),
+                (b"gtin", Kind::Blob),
+                (b"ordered", Kind::Integer),
+                (b"open_qty", Kind::Integer),
+                (b"refused", Kind::Integer),
+                (b"cancelled", Kind::Integer),
+                (b"answer", Kind::Integer),
+            ],
+        )
 }
 
 fn is_advice(table: &Table) -> bool
@@ -137,12 +129,9 @@ fn is_advice(table: &Table) -> bool
 {
     is_keyed(table, b"advice", 5, &[1, 2])
         && are_columns(
-        table.columns.as_slice(),
-        &[
-            (b"supplier", Kind::Blob),
-            (b"number", Kind::Blob),
-        ],
-    )
+            table.columns.as_slice(),
+            &[(b"supplier", Kind::Blob), (b"number", Kind::Blob)],
+        )
 }
 
 fn is_pallet(table: &Table) -> bool
@@ -158,14 +147,14 @@ fn is_pallet(table: &Table) -> bool
         && is_key(second, *also, &[2, 1])
         && is_plain(table, b"pallet", 7, &[1])
         && are_columns(
-        table.columns.as_slice(),
-        &[
-            (b"sscc", Kind::Blob),
-            (b"supplier", Kind::Blob),
-            (b"advice", Kind::Blob),
-            (b"received", Kind::Integer),
-        ],
-    )
+            table.columns.as_slice(),
+            &[
+                (b"sscc", Kind::Blob),
+                (b"supplier", Kind::Blob),
+                (b"advice", Kind::Blob),
+                (b"received", Kind::Integer),
+            ],
+        )
 }
 
 fn is_content(table: &Table) -> bool
@@ -173,15 +162,15 @@ fn is_content(table: &Table) -> bool
 {
     is_keyed(table, b"content", 10, &[1, 2])
         && are_columns(
-        table.columns.as_slice(),
-        &[
-            (b"sscc", Kind::Blob),
-            (b"place", Kind::Integer),
-            (b"number", Kind::Blob),
-            (b"line", Kind::Integer),
-            (b"quantity", Kind::Integer),
-        ],
-    )
+            table.columns.as_slice(),
+            &[
+                (b"sscc", Kind::Blob),
+                (b"place", Kind::Integer),
+                (b"number", Kind::Blob),
+                (b"line", Kind::Integer),
+                (b"quantity", Kind::Integer),
+            ],
+        )
 }
 
 fn is_receipt(table: &Table) -> bool
@@ -189,15 +178,15 @@ fn is_receipt(table: &Table) -> bool
 {
     is_keyed(table, b"receipt", 12, &[1, 2])
         && are_columns(
-        table.columns.as_slice(),
-        &[
-            (b"sscc", Kind::Blob),
-            (b"gtin", Kind::Blob),
-            (b"accepted", Kind::Integer),
-            (b"returned", Kind::Integer),
-            (b"destroyed", Kind::Integer),
-        ],
-    )
+            table.columns.as_slice(),
+            &[
+                (b"sscc", Kind::Blob),
+                (b"gtin", Kind::Blob),
+                (b"accepted", Kind::Integer),
+                (b"returned", Kind::Integer),
+                (b"destroyed", Kind::Integer),
+            ],
+        )
 }
 
 fn is_remembered(table: &Table) -> bool
@@ -205,15 +194,15 @@ fn is_remembered(table: &Table) -> bool
 {
     is_keyed(table, b"remembered", 14, &[1, 2, 3, 4])
         && are_columns(
-        table.columns.as_slice(),
-        &[
-            (b"supplier", Kind::Blob),
-            (b"side", Kind::Integer),
-            (b"control", Kind::Blob),
-            (b"message", Kind::Blob),
-            (b"content", Kind::Blob),
-        ],
-    )
+            table.columns.as_slice(),
+            &[
+                (b"supplier", Kind::Blob),
+                (b"side", Kind::Integer),
+                (b"control", Kind::Blob),
+                (b"message", Kind::Blob),
+                (b"content", Kind::Blob),
+            ],
+        )
 }
 
 fn is_mail(table: &Table) -> bool
@@ -221,18 +210,18 @@ fn is_mail(table: &Table) -> bool
 {
     is_keyed(table, b"mail", 16, &[1, 2])
         && are_columns(
-        table.columns.as_slice(),
-        &[
-            (b"supplier", Kind::Blob),
-            (b"number", Kind::Integer),
-            (b"moment", Kind::Integer),
-            (b"decimal", Kind::Integer),
-            (b"kind", Kind::Integer),
-            (b"document", Kind::Blob),
-            (b"body", Kind::Blob),
-            (b"taken", Kind::Integer),
-        ],
-    )
+            table.columns.as_slice(),
+            &[
+                (b"supplier", Kind::Blob),
+                (b"number", Kind::Integer),
+                (b"moment", Kind::Integer),
+                (b"decimal", Kind::Integer),
+                (b"kind", Kind::Integer),
+                (b"document", Kind::Blob),
+                (b"body", Kind::Blob),
+                (b"taken", Kind::Integer),
+            ],
+        )
 }
 
 // Whether the index is the one of a key.

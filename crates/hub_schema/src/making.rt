@@ -31,10 +31,7 @@ fn make_orders<S: Alter>(tx: &mut Transaction<'_, S>) -> Result<(), Error>
     ensures kept { HasCleanDisk (state S.Store tx.new.conn.now) → KeepsCommit (state S.Store tx.old.conn.now) (state S.Store tx.new.conn.now) }
     ensures survives { Survives (state S.Store tx.old.conn.now) (state S.Store tx.new.conn.now) (λ _. ⊥) }
 {
-    create(
-        tx,
-        "CREATE TABLE schema (number INTEGER NOT NULL) STRICT",
-    )?;
+    create(tx, "CREATE TABLE schema (number INTEGER NOT NULL) STRICT")?;
     create(
         tx,
         "CREATE TABLE \"order\" (supplier BLOB NOT NULL, number BLOB NOT NULL, PRIMARY KEY (supplier, number)) STRICT",

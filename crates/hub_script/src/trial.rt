@@ -63,10 +63,7 @@ fn word_of(outcome: Outcome) -> &'static str {
 }
 
 // The store of a line: plain, or one that fails at the call after so many others.
-fn store_of<S: Blank>(
-    alloc: Global,
-    words: &mut Words<'_>,
-) -> Result<TrialStore<S>, ScriptFault> {
+fn store_of<S: Blank>(alloc: Global, words: &mut Words<'_>) -> Result<TrialStore<S>, ScriptFault> {
     let plain = S::blank(alloc).map_err(|_| ScriptFault::Memory)?;
     let fault = match words.next_word() {
         b"" => return Ok(TrialStore::new(plain)),

@@ -27,7 +27,6 @@ last_added (y ∷ ys) x d = last_added ys x (Some y)
 
 module _ {S : Type 0} (g : Ghosts S) (old new : Stored S) (settled : IsSettled g old) (whole : old.fault ≡ None) (changes : List Change)
     (back : honest g new → honest g old) where
-
   abbrev Done : Result (Unit {0}) StoreFault → Type 0
   Done found = CommitsTo changes (state g old.held) (state g new.held) found
 

@@ -33,7 +33,13 @@ impl<S: Alter> Store for SqliteStore<S> {
         self.fault
     }
 
-    fn remembered(&mut self, supplier: &Gln, side: Side, control: &[u8], message: &[u8]) -> Result<Option<Items<u8>>, StoreFault> {
+    fn remembered(
+        &mut self,
+        supplier: &Gln,
+        side: Side,
+        control: &[u8],
+        message: &[u8],
+    ) -> Result<Option<Items<u8>>, StoreFault> {
         if let Some(lasting) = self.fault {
             return Err(again(lasting));
         }
@@ -89,7 +95,12 @@ impl<S: Alter> Store for SqliteStore<S> {
         settle(found, self.conn.schema(), &mut self.fault)
     }
 
-    fn mail_after(&mut self, supplier: &Gln, number: u64, limit: usize) -> Result<Items<MailRow>, StoreFault> {
+    fn mail_after(
+        &mut self,
+        supplier: &Gln,
+        number: u64,
+        limit: usize,
+    ) -> Result<Items<MailRow>, StoreFault> {
         if let Some(lasting) = self.fault {
             return Err(again(lasting));
         }
@@ -113,7 +124,11 @@ impl<S: Alter> Store for SqliteStore<S> {
         settle(found, self.conn.schema(), &mut self.fault)
     }
 
-    fn contents_of(&mut self, supplier: &Gln, sscc: &Sscc) -> Result<Items<ContentRow>, StoreFault> {
+    fn contents_of(
+        &mut self,
+        supplier: &Gln,
+        sscc: &Sscc,
+    ) -> Result<Items<ContentRow>, StoreFault> {
         if let Some(lasting) = self.fault {
             return Err(again(lasting));
         }
@@ -121,7 +136,11 @@ impl<S: Alter> Store for SqliteStore<S> {
         settle(found, self.conn.schema(), &mut self.fault)
     }
 
-    fn receipts_of(&mut self, supplier: &Gln, sscc: &Sscc) -> Result<Items<ReceiptRow>, StoreFault> {
+    fn receipts_of(
+        &mut self,
+        supplier: &Gln,
+        sscc: &Sscc,
+    ) -> Result<Items<ReceiptRow>, StoreFault> {
         if let Some(lasting) = self.fault {
             return Err(again(lasting));
         }
