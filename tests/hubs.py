@@ -1,4 +1,6 @@
-"""Cases of a hub over a store in memory: scripts for the program `hub_script`, and what it prints."""
+"""Cases of a hub over a store in memory, of lists or of SQL: scripts for the program `hub_script`, and what it prints."""
+from dataclasses import replace
+
 from case import Case
 from envelopes import ORDERS
 from registers import ALPHA, BETA, DELTA, HUB, RETAILER, register
@@ -490,3 +492,6 @@ HUBS = [
     *(stopped_at(calls, fault) for fault in ("memory", "disk") for calls in range(9)),
     *(stopped_once(calls, fault) for fault in ("memory", "disk") for calls in range(24)),
 ]
+
+# the same over tables of SQL
+OVER_SQL = [replace(case, name=f"over SQL: {case.name}", words=["sql"]) for case in HUBS]

@@ -21,7 +21,7 @@ def built(crate):
 
 
 # each program, and its cases
-PROGRAMS = [(built("edihub"), cases.CASES), (built("hub_script"), hubs.HUBS)]
+PROGRAMS = [(built("edihub"), cases.CASES), (built("hub_script"), hubs.HUBS + hubs.OVER_SQL)]
 
 
 def gate():
