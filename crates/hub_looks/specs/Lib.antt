@@ -1,3 +1,4 @@
 pub mod Asks
+pub mod Numbered
 pub mod Shown
 pub mod Numbers

@@ -2,7 +2,7 @@
 ghost use Rattle.std.specs.Prelude.{◌≡◌, ◌↔◌, IsTrue, [], ◌∷◌, map};
 ghost use Rattle.sql_rows.specs.Tables.{strict_column, plain_table};
 ghost use Rattle.sqlite_value.specs.Keys.{plain};
-ghost use Rattle.hub_schema.specs.Schema.{keyed, index_of, hub_tables, hub_schema, schema_table, order_table, line_table, advice_table, pallet_table, content_table, receipt_table, remembered_table, mail_table};
+ghost use Rattle.hub_schema.specs.Schema.{keyed, index_of, hub_tables, hub_schema, no_schema, schema_table, order_table, line_table, advice_table, pallet_table, content_table, receipt_table, remembered_table, mail_table};
 
 use sqlite_items::Items;
 use sqlite_schema::code::Terms;
@@ -305,4 +305,11 @@ pub fn is_hub_schema(schema: &Schema) -> bool
     are_hub_tables(schema.tables.as_slice())
         && are_hub_indexes(schema.indexes.as_slice())
         && schema.views.is_empty()
+}
+
+/// Whether the schema has nothing.
+pub fn is_no_schema(schema: &Schema) -> bool
+    ensures { IsTrue result ↔ (schema.now ≡ no_schema) }
+{
+    schema.tables.is_empty() && schema.indexes.is_empty() && schema.views.is_empty()
 }

@@ -1,3 +1,5 @@
+pub mod Adopted
 pub mod Committing
 pub mod Looking
 pub mod Moving
+pub mod Reopening

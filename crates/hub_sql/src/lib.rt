@@ -1,8 +1,10 @@
 //! The tables of a hub in a database of SQL, in memory or in a file.
 #![tactic(auto)]
 
+mod adopting;
 mod calls;
 mod opening;
 mod store;
 
+pub use adopting::Returned;
 pub use store::SqliteStore;

@@ -14,8 +14,8 @@ use sqlite::{Alter, Connection, Error, ErrorCode};
 use sqlite_trees::memory::MemStore;
 use std::alloc::Global;
 
-// Out of memory, or a fault of the disk for all else.
-fn fault_of(error: &Error) -> StoreFault
+/// Out of memory, or a fault of the disk for all else.
+pub(crate) fn fault_of(error: &Error) -> StoreFault
     ensures { (result ≡ StoreFault.Memory) ⊎ (result ≡ StoreFault.Disk) }
 {
     match error {
@@ -24,8 +24,8 @@ fn fault_of(error: &Error) -> StoreFault
     }
 }
 
-// A store without rows, in a database without tables.
-fn found<S: Alter + Drop>(
+/// A store without rows, in a database without tables.
+pub(crate) fn found<S: Alter + Drop>(
     alloc: Global,
     mut conn: Connection<S>,
 ) -> Result<SqliteStore<S>, (Connection<S>, StoreFault)>

@@ -1,0 +1,140 @@
+//! Stores over connections that may hold tables.
+ghost use Rattle.std.specs.Prelude.{◌≡◌, ◌⊎◌, false, None, [], ◌∷◌, IfOk, IfErr, IsTrue};
+ghost use Rattle.std.specs.List.{AllByRecursion};
+ghost use Rattle.sqlite.specs.Held.{state, IsNew};
+ghost use Rattle.sqlite.specs.State.{HasCleanDisk, Opens, IsLive};
+ghost use Rattle.sqlite_trees.specs.declared.store.Shape.TheVariants as shape;
+ghost use Rattle.hub_tables.specs.Tables.{Tables};
+ghost use Rattle.hub_schema.specs.Rows.{tables_in};
+ghost use Rattle.hub_schema.specs.State.{AreOrdered};
+ghost use Rattle.hub_sql.specs.Opening.{Adopts};
+ghost use Rattle.hub_sql.specs.Stored.{content, left, honest};
+
+use crate::opening::{fault_of, found};
+use crate::store::SqliteStore;
+use hub_looks::is_numbered;
+use hub_schema::{is_hub_schema, is_no_schema};
+use hub_store::StoreFault;
+use sqlite::{Alter, Connection};
+use sqlite_trees::store::Shape;
+use std::alloc::Global;
+
+// Whether a table stands under this number.
+fn is_table<S: Alter>(store: &S, tree: u32) -> bool
+    ensures { IsTrue result → (S.Store.view store.now).shape tree ≡ shape.Table }
+{
+    matches!(store.shape(tree), Shape::Table)
+}
+
+// Whether each of the hub's tables stands there.
+fn has_tables<S: Alter>(store: &S) -> bool
+    ensures { IsTrue result → AllByRecursion (λ tree. (S.Store.view store.now).shape tree ≡ shape.Table) (0 ∷ 1 ∷ 3 ∷ 5 ∷ 7 ∷ 10 ∷ 12 ∷ 14 ∷ 16 ∷ []) }
+{
+    is_table(store, 0)
+        && is_table(store, 1)
+        && is_table(store, 3)
+        && is_table(store, 5)
+        && is_table(store, 7)
+        && is_table(store, 10)
+        && is_table(store, 12)
+        && is_table(store, 14)
+        && is_table(store, 16)
+}
+
+// The connection again, once what is below it has told that it is whole, and that the hub's tables stand there.
+fn reopened<S: Alter + Drop>(
+    alloc: Global,
+    conn: Connection<S>,
+) -> Result<Connection<S>, (StoreFault, S)>
+    ensures ordered { IfOk result (λ c. HasCleanDisk (state S.Store c) → AreOrdered (state S.Store c).now.trees) }
+    ensures rows { IfOk result (λ c. HasCleanDisk (state S.Store c) → (state S.Store c).now.trees ≡ (state S.Store conn).committed.trees) }
+    ensures opened { IfOk result (λ c. HasCleanDisk (state S.Store c) → Opens (state S.Store c) × IsLive (state S.Store c)) }
+    ensures fresh { IfOk result IsNew }
+{
+    let store = conn.into_store();
+    if store.is_broken() {
+        return Err((StoreFault::Disk, store));
+    }
+    if !has_tables(&store) {
+        return Err((StoreFault::Disk, store));
+    }
+    match Connection::over(alloc, store) {
+        Ok(conn) => Ok(conn),
+        Err((error, store)) => Err((fault_of(&error), store)),
+    }
+}
+
+/// A connection that is given back with a fault; or what was below it, where the fault came while it was opened anew.
+#[derive(Drop)]
+pub enum Returned<S: Alter> {
+    /// The connection, as it was.
+    Connection(Connection<S>),
+    /// What was below it. `Connection::over` opens it again.
+    Store(S),
+}
+
+// The store of a connection whose row numbers rise, where it has the hub's tables and their number.
+fn numbered<S: Alter + Drop>(
+    alloc: Global,
+    mut conn: Connection<S>,
+) -> Result<SqliteStore<S>, (Returned<S>, StoreFault)>
+    requires idle { conn.in_transaction ≡ false }
+    requires ordered { HasCleanDisk (state S.Store conn) → AreOrdered (state S.Store conn).now.trees }
+    ensures whole { IfOk result (λ store. store.fault ≡ None) }
+    ensures rows { IfOk result (λ store. honest S.Store store → content S.Store store ≡ tables_in (state S.Store conn).now.trees) }
+    ensures crash { IfOk result (λ store. honest S.Store store → (t : Tables) → left S.Store store t → t ≡ content S.Store store) }
+    ensures clean { IfOk result (λ store. honest S.Store store → HasCleanDisk (state S.Store conn)) }
+{
+    if !is_hub_schema(conn.schema()) {
+        return Err((Returned::Connection(conn), StoreFault::Version));
+    }
+    match is_numbered(&mut conn) {
+        Ok(true) => {
+            let _idle = conn.is_autocommit();
+            Ok(SqliteStore::settled(alloc, conn))
+        }
+        Ok(false) => Err((Returned::Connection(conn), StoreFault::Version)),
+        Err(fault) => Err((Returned::Connection(conn), fault)),
+    }
+}
+
+impl<S: Alter + Drop> SqliteStore<S> {
+    /// Takes over a connection in which no transaction is open and no statement is limited. A database without tables
+    /// gets those of schema 1. `Version` where it has other tables, or another number of the schema; then nothing of it
+    /// has changed.
+    pub fn adopt(
+        alloc: Global,
+        conn: Connection<S>,
+    ) -> Result<SqliteStore<S>, (Returned<S>, StoreFault)>
+        requires idle { conn.in_transaction ≡ false }
+        requires unlimited { conn.step_limit ≡ None }
+        ensures adopts { IfOk result (Adopts S.Store (state S.Store conn)) }
+    {
+        if is_no_schema(conn.schema()) {
+            return match found(alloc, conn) {
+                Ok(store) => Ok(store),
+                Err((conn, fault)) => Err((Returned::Connection(conn), fault)),
+            };
+        }
+        if !is_hub_schema(conn.schema()) {
+            return Err((Returned::Connection(conn), StoreFault::Version));
+        }
+        match reopened(alloc, conn) {
+            Ok(conn) => numbered(alloc, conn),
+            Err((fault, store)) => Err((Returned::Store(store), fault)),
+        }
+    }
+
+    /// Gives the connection back.
+    pub fn into_connection(self) -> Connection<S>
+        ensures { result ≡ self.held }
+    {
+        let SqliteStore {
+            conn,
+            alloc: _,
+            fault: _,
+            past: _,
+        } = self;
+        conn
+    }
+}
