@@ -3,6 +3,7 @@
 
 mod adopting;
 mod calls;
+mod file;
 mod opening;
 mod store;
 
