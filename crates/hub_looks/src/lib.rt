@@ -15,7 +15,7 @@ mod shown;
 pub use documents::{advice_known, order_known};
 pub use goods::{contents_of, receipts_of};
 pub use lines::{all_lines, lines_of};
-pub use number::is_numbered;
 pub use mail::{last_mail, mail_after, mail_item};
+pub use number::is_numbered;
 pub use pallets::{all_pallets, pallet, used};
 pub use references::remembered;
