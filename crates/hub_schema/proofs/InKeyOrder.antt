@@ -1,5 +1,6 @@
 -- Rows put one after another are the list in the order of their keys.
-use Rattle.std.proofs.Common.{◌≡◌, ◌⊎◌, inl, inr, Bool, true, false, cond, ◌||◌, List, [], ◌∷◌, ◌++◌, fold, filter, map, refl, sym, ap, ap₂, ◌∙◌}
+use Rattle.std.proofs.Common.{◌≡◌, ◌⊎◌, inl, inr, Bool, true, false, cond, ◌||◌, List, [], ◌∷◌, ◌++◌, fold, filter, map}
+use Rattle.std.proofs.Common.{refl, sym, ap, ap₂, ◌∙◌}
 use Rattle.std.specs.Bool.{⊤}
 use Rattle.std.specs.List.{AllByRecursion, list_any}
 use Rattle.std.specs.declared.cmp.Ordering.{Ordering}
@@ -23,7 +24,8 @@ Apart cmp [] = ⊤
 Apart cmp (x ∷ xs) = AllByRecursion (λ y. is_eq (cmp x y) ≡ false) xs × Apart cmp xs
 
 module _ {X : Type 0} (cmp : X → X → Ordering) where
-  all_more : (xs : List X) (x : X) (there : List X) → put_all cmp (xs ++ x ∷ []) there ≡ put cmp x (put_all cmp xs there)
+  all_more : (xs : List X) (x : X) (there : List X)
+      → put_all cmp (xs ++ x ∷ []) there ≡ put cmp x (put_all cmp xs there)
   all_more [] x there = refl
   all_more (y ∷ ys) x there = all_more ys x (put cmp y there)
 
@@ -31,33 +33,51 @@ module _ {X : Type 0} (cmp : X → X → Ordering) where
   pub listed_more : (xs : List X) (x : X) → in_key_order cmp (xs ++ x ∷ []) ≡ put cmp x (in_key_order cmp xs)
   listed_more xs x = all_more xs x []
 
-  put_map : (f : X → X) → ((x y : X) → cmp (f x) (f y) ≡ cmp x y) → (xs : List X) (x : X) → put cmp (f x) (map f xs) ≡ map f (put cmp x xs)
+  put_map : (f : X → X) → ((x y : X) → cmp (f x) (f y) ≡ cmp x y) → (xs : List X) (x : X)
+      → put cmp (f x) (map f xs) ≡ map f (put cmp x xs)
   put_map f e [] x = refl
   put_map f e (y ∷ ys) x =
       ap₂ (λ v zs. cond v (f x ∷ f y ∷ map f ys) (f y ∷ zs)) (ap is_gt (e y x)) (put_map f e ys x)
-      ∙ elim (is_gt (cmp y x)) as (λ v. cond v (f x ∷ f y ∷ map f ys) (f y ∷ map f (put cmp x ys)) ≡ map f (cond v (x ∷ y ∷ ys) (y ∷ put cmp x ys)))
+      ∙ elim (is_gt (cmp y x)) as (λ v. cond v (f x ∷ f y ∷ map f ys) (f y
+      ∷ map f (put cmp x ys)) ≡ map f (cond v (x ∷ y ∷ ys) (y ∷ put cmp x ys)))
       [ true ↦ refl | false ↦ refl ]
 
-  all_map : (f : X → X) → ((x y : X) → cmp (f x) (f y) ≡ cmp x y) → (xs there : List X) → put_all cmp (map f xs) (map f there) ≡ map f (put_all cmp xs there)
+  all_map : (f : X → X) → ((x y : X) → cmp (f x) (f y) ≡ cmp x y) → (xs there : List X)
+      → put_all cmp (map f xs) (map f there) ≡ map f (put_all cmp xs there)
   all_map f e [] there = refl
   all_map f e (x ∷ xs) there = ap (put_all cmp (map f xs)) (put_map f e there x) ∙ all_map f e xs (put cmp x there)
 
   -- rows that are set and keep their keys
-  pub listed_map : (f : X → X) → ((x y : X) → cmp (f x) (f y) ≡ cmp x y) → (xs : List X) → in_key_order cmp (map f xs) ≡ map f (in_key_order cmp xs)
+  pub listed_map : (f : X → X) → ((x y : X) → cmp (f x) (f y) ≡ cmp x y) → (xs : List X)
+      → in_key_order cmp (map f xs) ≡ map f (in_key_order cmp xs)
   listed_map f e xs = all_map f e xs []
 
   has_put : (xs : List X) (x z : X) → Has (put cmp x xs) z → Has (x ∷ xs) z
   has_put [] x z h = h
-  has_put (y ∷ ys) x z h = elim (is_gt (cmp y x)) as (λ v. Has (cond v (x ∷ y ∷ ys) (y ∷ put cmp x ys)) z → Has (x ∷ y ∷ ys) z) [
-    | true ↦ λ g. g
-    | false ↦ λ g. elim g [ inl e ↦ inr (inl e) | inr k ↦ elim (has_put ys x z k) [ inl e ↦ inl e | inr m ↦ inr (inr m) ] ]
-  ] h
+  has_put (y ∷ ys) x z h =
+      elim (is_gt (cmp y x)) as (λ v. Has (cond v (x ∷ y ∷ ys) (y ∷ put cmp x ys)) z → Has (x ∷ y ∷ ys) z) [
+        | true ↦ λ g. g
+        | false ↦ λ g. elim g [
+          | inl e ↦ inr (inl e)
+          | inr k ↦ elim (has_put ys x z k) [
+            | inl e ↦ inl e
+            | inr m ↦ inr (inr m)
+          ]
+        ]
+      ] h
 
   put_has : (xs : List X) (x z : X) → Has (x ∷ xs) z → Has (put cmp x xs) z
   put_has [] x z h = h
   put_has (y ∷ ys) x z h = elim (is_gt (cmp y x)) as (λ v. Has (cond v (x ∷ y ∷ ys) (y ∷ put cmp x ys)) z) [
     | true ↦ h
-    | false ↦ elim h [ inl e ↦ inr (put_has ys x z (inl e)) | inr g ↦ elim g [ inl e ↦ inl e | inr m ↦ inr (put_has ys x z (inr m)) ] ]
+    | false ↦ elim h [
+      | inl e ↦ inr (put_has ys x z (inl e))
+      | inr g ↦ elim g [
+        | inl e ↦ inl e
+        | inr m ↦ inr (put_has ys
+            x z (inr m))
+      ]
+    ]
   ]
 
   all_has : (xs there : List X) (z : X) → Has (put_all cmp xs there) z → Has xs z ⊎ Has there z
@@ -94,7 +114,8 @@ module _ {X : Type 0} (cmp : X → X → Ordering) where
   all_any : (p : X → Bool) (xs there : List X) → list_any p (put_all cmp xs there) ≡ (list_any p xs || list_any p there)
   all_any p [] there = refl
   all_any p (x ∷ xs) there =
-      all_any p xs (put cmp x there) ∙ ap (λ v. list_any p xs || v) (any_put cmp p there x) ∙ turned (list_any p xs) (list_any p there) (p x)
+      all_any p xs (put cmp x there) ∙ ap (λ v. list_any p xs || v) (any_put cmp p there x)
+      ∙ turned (list_any p xs) (list_any p there) (p x)
 
   or_none : (b : Bool) → (b || false) ≡ b
   or_none true = refl
@@ -105,7 +126,8 @@ module _ {X : Type 0} (cmp : X → X → Ordering) where
   listed_any p xs = all_any p xs [] ∙ or_none (list_any p xs)
 
 module _ {X : Type 0} {cmp : X → X → Ordering} (total : IsTotalOrder cmp) where
-  all_filter : (p : X → Bool) (xs there : List X) → InOrder cmp there → filter p (put_all cmp xs there) ≡ put_all cmp (filter p xs) (filter p there)
+  all_filter : (p : X → Bool) (xs there : List X) → InOrder cmp there
+      → filter p (put_all cmp xs there) ≡ put_all cmp (filter p xs) (filter p there)
   all_filter p [] there a = refl
   all_filter p (x ∷ xs) there a =
       let more = all_filter p xs (put cmp x there) (in_order_put total there x a) in
@@ -128,7 +150,8 @@ module _ {X : Type 0} {cmp : X → X → Ordering} (total : IsTotalOrder cmp) wh
       by_answer Equal g = cc
       by_answer Greater g = refl
 
-  none_equal : (x : X) (there : List X) → AllByRecursion (λ y. is_eq (cmp y x) ≡ false) there → list_any (λ y. is_eq (cmp y x)) there ≡ false
+  none_equal : (x : X) (there : List X) → AllByRecursion (λ y. is_eq (cmp y x) ≡ false) there
+      → list_any (λ y. is_eq (cmp y x)) there ≡ false
   none_equal x [] a = refl
   none_equal x (y ∷ ys) a = ap₂ (λ v w. v || w) a.0 (none_equal x ys a.1)
 
@@ -136,20 +159,25 @@ module _ {X : Type 0} {cmp : X → X → Ordering} (total : IsTotalOrder cmp) wh
   abbrev Differ : List X → List X → Type 0
   Differ xs there = AllByRecursion (λ x. AllByRecursion (λ y. is_eq (cmp y x) ≡ false) there) xs
 
-  put_differs : (z x : X) (there : List X) → is_eq (cmp x z) ≡ false → AllByRecursion (λ y. is_eq (cmp y z) ≡ false) there
+  put_differs : (z x : X) (there : List X) → is_eq (cmp x z) ≡ false
+      → AllByRecursion (λ y. is_eq (cmp y z) ≡ false) there
       → AllByRecursion (λ y. is_eq (cmp y z) ≡ false) (put cmp x there)
   put_differs z x [] e a = (e, tt)
-  put_differs z x (y ∷ ys) e a = elim (is_gt (cmp y x)) as (λ v. AllByRecursion (λ y. is_eq (cmp y z) ≡ false) (cond v (x ∷ y ∷ ys) (y ∷ put cmp x ys)))
+  put_differs z x (y ∷ ys) e a =
+      elim (is_gt (cmp y x)) as (λ v. AllByRecursion (λ y. is_eq (cmp y z) ≡ false) (cond v (x ∷ y ∷ ys) (y
+      ∷ put cmp x ys)))
       [ true ↦ (e, a) | false ↦ (a.0, put_differs z x ys e a.1) ]
 
-  still_differ : (x : X) (xs there : List X) → AllByRecursion (λ y. is_eq (cmp x y) ≡ false) xs → Differ xs there → Differ xs (put cmp x there)
+  still_differ : (x : X) (xs there : List X) → AllByRecursion (λ y. is_eq (cmp x y) ≡ false) xs → Differ xs there
+      → Differ xs (put cmp x there)
   still_differ x [] there a d = tt
   still_differ x (z ∷ zs) there a d = (put_differs z x there a.0 d.0, still_differ x zs there a.1 d.1)
 
   all_rises : (xs there : List X) → Apart cmp xs → Rises cmp there → Differ xs there → Rises cmp (put_all cmp xs there)
   all_rises [] there a b d = b
   all_rises (x ∷ xs) there a b d =
-      all_rises xs (put cmp x there) a.1 (rises_put total x there b (none_equal x there d.0)) (still_differ x xs there a.0 d.1)
+      all_rises xs (put cmp x there) a.1 (rises_put total x there b (none_equal x there d.0)) (still_differ x xs there
+      a.0 d.1)
 
   from_none : (xs : List X) → Differ xs []
   from_none [] = tt

@@ -1,5 +1,7 @@
 -- No key of a table stands twice, so what its rows say rises by the key.
-use Rattle.std.proofs.Common.{◌≡◌, ℕ, ◌+◌, ◌*◌, ◌^◌, ◌<◌, nat_lt, ℤ, pos, negsuc, Bool, true, false, cond, not, ◌&&◌, ◌==◌, inl, inr, List, [], ◌∷◌, map, refl, sym, ap, ap₂, subst, ◌∙◌, arith, IsTrue, true≢false}
+use Rattle.std.proofs.Common.{◌≡◌, ℕ, ◌+◌, ◌*◌, ◌^◌, ◌<◌, nat_lt, ℤ, pos, negsuc, Bool, true, false, cond, not, ◌&&◌}
+use Rattle.std.proofs.Common.{◌==◌, inl, inr, List, [], ◌∷◌, map, refl, sym, ap, ap₂, subst, ◌∙◌, arith, IsTrue}
+use Rattle.std.proofs.Common.{true≢false}
 use Rattle.std.specs.Bool.{⊤}
 use Rattle.std.specs.List.{AllByRecursion, list_any}
 use Rattle.std.specs.declared.cmp.Ordering.{Ordering}
@@ -30,11 +32,15 @@ use Rattle.sqlite_sql.specs.Ops.{binary}
 use Rattle.sqlite_rules.specs.Edit.{id_in}
 use Rattle.sqlite_rules.proofs.TableLemmas.{int_is}
 use Rattle.hub_tables.specs.Keys.{bytes_cmp}
-use Rattle.hub_tables.specs.Rows.{order_cmp, line_cmp, advice_cmp, pallet_cmp, content_cmp, receipt_cmp, remembered_cmp, mail_cmp}
+use Rattle.hub_tables.specs.Rows.{order_cmp, line_cmp, advice_cmp, pallet_cmp, content_cmp, receipt_cmp, remembered_cmp}
+use Rattle.hub_tables.specs.Rows.{mail_cmp}
 use Rattle.hub_tables.specs.Sets.{Rises, Rising}
-use Rattle.hub_tables.proofs.KindOrders.{order_total, line_total, advice_total, pallet_total, content_total, receipt_total, remembered_total, mail_total}
-use Rattle.hub_schema.specs.Rows.{order_in, line_in, advice_in, pallet_in, content_in, receipt_in, remembered_in, mail_in, tables_in}
-use Rattle.hub_schema.specs.Schema.{order_table, line_table, advice_table, pallet_table, content_table, receipt_table, remembered_table, mail_table, hub_schema}
+use Rattle.hub_tables.proofs.KindOrders.{order_total, line_total, advice_total, pallet_total, content_total}
+use Rattle.hub_tables.proofs.KindOrders.{receipt_total, remembered_total, mail_total}
+use Rattle.hub_schema.specs.Rows.{order_in, line_in, advice_in, pallet_in, content_in, receipt_in, remembered_in}
+use Rattle.hub_schema.specs.Rows.{mail_in, tables_in}
+use Rattle.hub_schema.specs.Schema.{order_table, line_table, advice_table, pallet_table, content_table, receipt_table}
+use Rattle.hub_schema.specs.Schema.{remembered_table, mail_table, hub_schema}
 use Rattle.hub_schema.specs.State.{AreOrdered, IsHub}
 use Rattle.hub_tables.proofs.Lists.{decide, same_is, same_if}
 use Rattle.sql_rows.proofs.Answers.{is_truth, same_bytes}
@@ -48,11 +54,39 @@ odd_even n m e = omega (arith, e)
 
 pub natural_same : (a b : ℤ) → natural a ≡ natural b → a ≡ b
 natural_same (pos n) (pos m) e = ap pos (elim (decide (nat_lt n (2 ^ 64))) [
-  | inl p ↦ elim (decide (nat_lt m (2 ^ 64))) [ inl q ↦ grind (arith, nat_tests, p, q, e) | inr q ↦ grind (arith, nat_tests, p, q, e) ]
-  | inr p ↦ elim (decide (nat_lt m (2 ^ 64))) [ inl q ↦ grind (arith, nat_tests, p, q, e) | inr q ↦ grind (arith, nat_tests, p, q, e) ]
+  | inl p ↦ elim (decide (nat_lt m (2 ^ 64))) [
+    | inl q ↦ grind (arith, nat_tests, p, q, e)
+    | inr q ↦ grind (
+      arith,
+      nat_tests,
+      p,
+      q,
+      e,
+    )
+  ]
+  | inr p ↦ elim (decide (nat_lt m (2 ^ 64))) [
+    | inl q ↦ grind (arith, nat_tests, p, q, e)
+    | inr q ↦ grind (
+      arith,
+      nat_tests,
+      p,
+      q,
+      e,
+    )
+  ]
 ])
-natural_same (pos n) (negsuc m) e = absurd (elim (decide (nat_lt n (2 ^ 64))) [ inl p ↦ grind (arith, nat_tests, p, e) | inr p ↦ odd_even m n (sym e ∙ rw p) ])
-natural_same (negsuc n) (pos m) e = absurd (elim (decide (nat_lt m (2 ^ 64))) [ inl p ↦ grind (arith, nat_tests, p, e) | inr p ↦ odd_even n m (e ∙ rw p) ])
+natural_same (pos n) (negsuc m) e =
+    absurd (elim (decide (nat_lt n (2 ^ 64))) [
+      | inl p ↦ grind (arith, nat_tests, p, e)
+      | inr p ↦ odd_even m n (sym e
+          ∙ rw p)
+    ])
+natural_same (negsuc n) (pos m) e =
+    absurd (elim (decide (nat_lt m (2 ^ 64))) [
+      | inl p ↦ grind (arith, nat_tests, p, e)
+      | inr p ↦ odd_even n m (e
+          ∙ rw p)
+    ])
 natural_same (negsuc n) (negsuc m) e = let same : n ≡ m = omega (arith, e) in ap negsuc same
 
 equal_is : (o : Ordering) → is_eq o ≡ true → o ≡ Equal
@@ -60,24 +94,32 @@ equal_is Less h = cc
 equal_is Equal h = refl
 equal_is Greater h = cc
 
-same_blobs : (v w : Value) (b c : List ℕ) → v ≡ value.Blob b → w ≡ value.Blob c → bytes_in v ≡ bytes_in w → equal Binary v w ≡ true
+same_blobs : (v w : Value) (b c : List ℕ) → v ≡ value.Blob b → w ≡ value.Blob c → bytes_in v ≡ bytes_in w
+    → equal Binary v w ≡ true
 same_blobs v w b c is at e =
     let bytes : b ≡ c = sym (ap bytes_in is) ∙ e ∙ ap bytes_in at in
     ap (equal Binary v) at ∙ same_bytes v b c is ∙ same_if b c bytes
 
 same_wholes : (n : ℤ) → equal Binary (value.Int n) (value.Int n) ≡ true
 unfolding binary
-same_wholes n = is_truth (is_eq (value_cmp (value.Int n) (value.Int n))) ∙ ap is_eq (tied_itself value_cmp_total (value.Int n))
+same_wholes n = is_truth (is_eq (value_cmp (value.Int n) (value.Int n)))
+    ∙ ap is_eq (tied_itself value_cmp_total (value.Int n))
 
-same_numbers : (v w : Value) (n m : ℤ) → v ≡ value.Int n → w ≡ value.Int m → number_in v ≡ number_in w → equal Binary v w ≡ true
+same_numbers : (v w : Value) (n m : ℤ) → v ≡ value.Int n → w ≡ value.Int m → number_in v ≡ number_in w
+    → equal Binary v w ≡ true
 same_numbers v w n m is at e =
     let whole : n ≡ m = natural_same n m (sym (ap number_in is) ∙ e ∙ ap number_in at) in
     ap₂ (equal Binary) is at ∙ ap (λ k. equal Binary (value.Int n) (value.Int k)) (sym whole) ∙ same_wholes n
 
 -- rows whose numbers rise are different ones
-different : (x y : Row) → IsTrue (is_int (rowid x)) → IsTrue (is_int (rowid y)) → value_cmp (rowid x) (rowid y) ≡ Less → differ (rowid x) (rowid y) ≡ true
+different : (x y : Row) → IsTrue (is_int (rowid x)) → IsTrue (is_int (rowid y)) → value_cmp (rowid x) (rowid y) ≡ Less
+    → differ (rowid x) (rowid y) ≡ true
 unfolding binary
-different x y p q less = rw (int_is (rowid x) p, int_is (rowid y) q) (is_truth (is_ne (value_cmp (value.Int (id_in (rowid x))) (value.Int (id_in (rowid y)))))
+different x y p q less =
+    rw (
+      int_is (rowid x) p,
+      int_is (rowid y) q,
+    ) (is_truth (is_ne (value_cmp (value.Int (id_in (rowid x))) (value.Int (id_in (rowid y)))))
     ∙ ap is_ne (sym (ap₂ value_cmp (int_is (rowid x) p) (int_is (rowid y) q)) ∙ less))
 
 -- Keys that tie.
@@ -96,7 +138,8 @@ number_tied a b h = grind (arith, nat_tests, h)
 -- No two rows of a table have one key, where none clashes with another.
 
 module _ {X : Type 0} (cmp : X → X → Ordering) (f : Row → X) (places : List ℕ) (Typed : Row → Type 0)
-    (tied : (a b : Row) → Typed a → Typed b → is_eq (cmp (f a) (f b)) ≡ true → agree plain places a places b ≡ true) where
+    (tied : (a b : Row) → Typed a → Typed b → is_eq (cmp (f a) (f b)) ≡ true
+    → agree plain places a places b ≡ true) where
   abbrev Free : List Row → List Row → Type 0
   Free all rows = AllByRecursion (λ row. clashes plain places all row ≡ false) rows
 
@@ -108,7 +151,8 @@ module _ {X : Type 0} (cmp : X → X → Ordering) (f : Row → X) (places : Lis
   IsWhole row = IsTrue (is_int (rowid row))
 
   apart_from : (x : Row) (all ys : List Row) → Typed x → IsWhole x → AllByRecursion Typed ys → AllByRecursion IsWhole ys
-      → AllByRecursion (λ y. value_cmp (rowid x) (rowid y) ≡ Less) ys → Free (x ∷ all) ys → AllByRecursion (λ z. is_eq (cmp (f x) z) ≡ false) (map f ys)
+      → AllByRecursion (λ y. value_cmp (rowid x) (rowid y) ≡ Less) ys → Free (x ∷ all) ys
+      → AllByRecursion (λ z. is_eq (cmp (f x) z) ≡ false) (map f ys)
   apart_from x all [] t w typed whole less free = tt
   apart_from x all (y ∷ ys) t w typed whole less free = (
     elim (decide (is_eq (cmp (f x) (f y)))) [
@@ -121,7 +165,8 @@ module _ {X : Type 0} (cmp : X → X → Ordering) (f : Row → X) (places : Lis
     apart_from x all ys t w typed.1 whole.1 less.1 free.1,
   )
 
-  pub all_apart : (rows : List Row) → IsTable rows → AllByRecursion IsWhole rows → AllByRecursion Typed rows → Free rows rows → Apart cmp (map f rows)
+  pub all_apart : (rows : List Row) → IsTable rows → AllByRecursion IsWhole rows → AllByRecursion Typed rows
+      → Free rows rows → Apart cmp (map f rows)
   all_apart [] up whole typed free = tt
   all_apart (x ∷ xs) up whole typed free = (
     apart_from x xs xs typed.0 whole.0 typed.1 whole.1 up.0 free.1,
@@ -130,9 +175,11 @@ module _ {X : Type 0} (cmp : X → X → Ordering) (f : Row → X) (places : Lis
 
 -- Each kind.
 
-unclashed : (clash rest : Row → Bool) (rows : List Row) → AllByRecursion (λ row. (not (clash row) && rest row) ≡ true) rows → AllByRecursion (λ row. clash row ≡ false) rows
+unclashed : (clash rest : Row → Bool) (rows : List Row)
+    → AllByRecursion (λ row. (not (clash row) && rest row) ≡ true) rows → AllByRecursion (λ row. clash row ≡ false) rows
 unclashed clash rest [] a = tt
-unclashed clash rest (row ∷ rows) a = (not-true _ (and_parts (not (clash row)) (rest row) a.0).0, unclashed clash rest rows a.1)
+unclashed clash rest (row ∷ rows) a =
+    (not-true _ (and_parts (not (clash row)) (rest row) a.0).0, unclashed clash rest rows a.1)
 
 -- the kinds of the columns; those of an advice are an order's
 abbrev pub order_kinds : List Kind
@@ -160,7 +207,8 @@ order_tied : (a b : Row) → AreOf order_kinds 0 a → AreOf order_kinds 0 b
     → is_eq (order_cmp (order_in a) (order_in b)) ≡ true → agree plain (1 ∷ 2 ∷ []) a (1 ∷ 2 ∷ []) b ≡ true
 unfolding first_key
 order_tied a b t u e =
-    let keys = both_tied (bytes_cmp (order_in a).supplier (order_in b).supplier) (bytes_cmp (order_in a).number (order_in b).number) e in
+    let keys = both_tied (bytes_cmp (order_in a).supplier (order_in b).supplier) (bytes_cmp (order_in a).number
+    (order_in b).number) e in
     and_from _ _ (same_blobs _ _ _ _ t.0.1 u.0.1 (text_tied _ _ keys.0))
     (and_from _ _ (same_blobs _ _ _ _ t.1.0.1 u.1.0.1 (text_tied _ _ keys.1)) refl)
 
@@ -178,7 +226,8 @@ advice_tied : (a b : Row) → AreOf order_kinds 0 a → AreOf order_kinds 0 b
     → is_eq (advice_cmp (advice_in a) (advice_in b)) ≡ true → agree plain (1 ∷ 2 ∷ []) a (1 ∷ 2 ∷ []) b ≡ true
 unfolding first_key
 advice_tied a b t u e =
-    let keys = both_tied (bytes_cmp (advice_in a).supplier (advice_in b).supplier) (bytes_cmp (advice_in a).number (advice_in b).number) e in
+    let keys = both_tied (bytes_cmp (advice_in a).supplier (advice_in b).supplier) (bytes_cmp (advice_in a).number
+    (advice_in b).number) e in
     and_from _ _ (same_blobs _ _ _ _ t.0.1 u.0.1 (text_tied _ _ keys.0))
     (and_from _ _ (same_blobs _ _ _ _ t.1.0.1 u.1.0.1 (text_tied _ _ keys.1)) refl)
 
@@ -191,7 +240,8 @@ content_tied : (a b : Row) → AreOf content_kinds 0 a → AreOf content_kinds 0
     → is_eq (content_cmp (content_in a) (content_in b)) ≡ true → agree plain (1 ∷ 2 ∷ []) a (1 ∷ 2 ∷ []) b ≡ true
 unfolding first_key
 content_tied a b t u e =
-    let keys = both_tied (bytes_cmp (content_in a).sscc (content_in b).sscc) (nat_cmp (content_in a).place (content_in b).place) e in
+    let keys = both_tied (bytes_cmp (content_in a).sscc (content_in b).sscc) (nat_cmp (content_in a).place (content_in
+    b).place) e in
     and_from _ _ (same_blobs _ _ _ _ t.0.1 u.0.1 (text_tied _ _ keys.0))
     (and_from _ _ (same_numbers _ _ _ _ t.1.0.1 u.1.0.1 (number_tied _ _ keys.1)) refl)
 
@@ -199,7 +249,8 @@ receipt_tied : (a b : Row) → AreOf receipt_kinds 0 a → AreOf receipt_kinds 0
     → is_eq (receipt_cmp (receipt_in a) (receipt_in b)) ≡ true → agree plain (1 ∷ 2 ∷ []) a (1 ∷ 2 ∷ []) b ≡ true
 unfolding first_key
 receipt_tied a b t u e =
-    let keys = both_tied (bytes_cmp (receipt_in a).sscc (receipt_in b).sscc) (bytes_cmp (receipt_in a).gtin (receipt_in b).gtin) e in
+    let keys = both_tied (bytes_cmp (receipt_in a).sscc (receipt_in b).sscc) (bytes_cmp (receipt_in a).gtin (receipt_in
+    b).gtin) e in
     and_from _ _ (same_blobs _ _ _ _ t.0.1 u.0.1 (text_tied _ _ keys.0))
     (and_from _ _ (same_blobs _ _ _ _ t.1.0.1 u.1.0.1 (text_tied _ _ keys.1)) refl)
 
@@ -220,7 +271,8 @@ mail_tied : (a b : Row) → AreOf mail_kinds 0 a → AreOf mail_kinds 0 b
     → is_eq (mail_cmp (mail_in a) (mail_in b)) ≡ true → agree plain (1 ∷ 2 ∷ []) a (1 ∷ 2 ∷ []) b ≡ true
 unfolding first_key
 mail_tied a b t u e =
-    let keys = both_tied (bytes_cmp (mail_in a).supplier (mail_in b).supplier) (nat_cmp (mail_in a).number (mail_in b).number) e in
+    let keys = both_tied (bytes_cmp (mail_in a).supplier (mail_in b).supplier) (nat_cmp (mail_in a).number (mail_in
+    b).number) e in
     and_from _ _ (same_blobs _ _ _ _ t.0.1 u.0.1 (text_tied _ _ keys.0))
     (and_from _ _ (same_numbers _ _ _ _ t.1.0.1 u.1.0.1 (number_tied _ _ keys.1)) refl)
 
@@ -230,76 +282,100 @@ module _ (db : Database) (has : db.schema ≡ hub_schema) (sound : IsDatabase db
 
   -- what is known of each stored row
   pub order_cells : AllByRecursion (AreOf order_kinds 0) (db.trees 1)
-  order_cells = all_cells_of hub_schema db.trees order_table (db.trees 1) refl refl (rules.rules Datatype).1.0 (rules.rules NotNull).1.0
+  order_cells = all_cells_of hub_schema db.trees order_table (db.trees 1) refl refl (rules.rules Datatype).1.0
+      (rules.rules NotNull).1.0
 
   orders_rise : Rises order_cmp (tables_in db.trees).orders
   orders_rise =
       listed_rises order_total (map order_in (db.trees 1))
-      (all_apart order_cmp order_in (1 ∷ 2 ∷ []) (AreOf order_kinds 0) order_tied (db.trees 1) (ordered.1.0).0 (ordered.1.0).1 order_cells
+      (all_apart order_cmp order_in (1 ∷ 2
+      ∷ []) (AreOf order_kinds 0) order_tied (db.trees 1) (ordered.1.0).0 (ordered.1.0).1 order_cells
       (unclashed (clashes plain (1 ∷ 2 ∷ []) (db.trees 1)) (λ _. true) (db.trees 1) (rules.rules Unique).1.0))
 
   pub line_cells : AllByRecursion (AreOf line_kinds 0) (db.trees 3)
-  line_cells = all_cells_of hub_schema db.trees line_table (db.trees 3) refl refl (rules.rules Datatype).1.1.0 (rules.rules NotNull).1.1.0
+  line_cells = all_cells_of hub_schema db.trees line_table (db.trees 3) refl refl (rules.rules Datatype).1.1.0
+      (rules.rules NotNull).1.1.0
 
   lines_rise : Rises line_cmp (tables_in db.trees).lines
   lines_rise =
       listed_rises line_total (map line_in (db.trees 3))
-      (all_apart line_cmp line_in (1 ∷ 2 ∷ 3 ∷ []) (AreOf line_kinds 0) line_tied (db.trees 3) (ordered.1.1.0).0 (ordered.1.1.0).1 line_cells
+      (all_apart line_cmp line_in (1 ∷ 2 ∷ 3
+      ∷ []) (AreOf line_kinds 0) line_tied (db.trees 3) (ordered.1.1.0).0 (ordered.1.1.0).1 line_cells
       (unclashed (clashes plain (1 ∷ 2 ∷ 3 ∷ []) (db.trees 3)) (λ _. true) (db.trees 3) (rules.rules Unique).1.1.0))
 
   pub advice_cells : AllByRecursion (AreOf order_kinds 0) (db.trees 5)
-  advice_cells = all_cells_of hub_schema db.trees advice_table (db.trees 5) refl refl (rules.rules Datatype).1.1.1.0 (rules.rules NotNull).1.1.1.0
+  advice_cells = all_cells_of hub_schema db.trees advice_table (db.trees 5) refl refl (rules.rules Datatype).1.1.1.0
+      (rules.rules NotNull).1.1.1.0
 
   advices_rise : Rises advice_cmp (tables_in db.trees).advices
   advices_rise =
       listed_rises advice_total (map advice_in (db.trees 5))
-      (all_apart advice_cmp advice_in (1 ∷ 2 ∷ []) (AreOf order_kinds 0) advice_tied (db.trees 5) (ordered.1.1.1.0).0 (ordered.1.1.1.0).1 advice_cells
+      (all_apart advice_cmp advice_in (1 ∷ 2
+      ∷ []) (AreOf order_kinds 0) advice_tied (db.trees 5) (ordered.1.1.1.0).0 (ordered.1.1.1.0).1 advice_cells
       (unclashed (clashes plain (1 ∷ 2 ∷ []) (db.trees 5)) (λ _. true) (db.trees 5) (rules.rules Unique).1.1.1.0))
 
   pub pallet_cells : AllByRecursion (AreOf pallet_kinds 0) (db.trees 7)
-  pallet_cells = all_cells_of hub_schema db.trees pallet_table (db.trees 7) refl refl (rules.rules Datatype).1.1.1.1.0 (rules.rules NotNull).1.1.1.1.0
+  pallet_cells = all_cells_of hub_schema db.trees pallet_table (db.trees 7) refl refl (rules.rules Datatype).1.1.1.1.0
+      (rules.rules NotNull).1.1.1.1.0
 
   pallets_rise : Rises pallet_cmp (tables_in db.trees).pallets
   pallets_rise =
       listed_rises pallet_total (map pallet_in (db.trees 7))
-      (all_apart pallet_cmp pallet_in (1 ∷ []) (AreOf pallet_kinds 0) pallet_tied (db.trees 7) (ordered.1.1.1.1.0).0 (ordered.1.1.1.1.0).1 pallet_cells
-      (unclashed (clashes plain (1 ∷ []) (db.trees 7)) (λ row. not (clashes plain (2 ∷ 1 ∷ []) (db.trees 7) row) && true) (db.trees 7) (rules.rules Unique).1.1.1.1.0))
+      (all_apart pallet_cmp pallet_in (1
+      ∷ []) (AreOf pallet_kinds 0) pallet_tied (db.trees 7) (ordered.1.1.1.1.0).0 (ordered.1.1.1.1.0).1 pallet_cells
+      (unclashed (clashes plain (1 ∷ []) (db.trees 7)) (λ row. not (clashes plain (2 ∷ 1 ∷ []) (db.trees 7) row)
+      && true) (db.trees 7) (rules.rules Unique).1.1.1.1.0))
 
   pub content_cells : AllByRecursion (AreOf content_kinds 0) (db.trees 10)
-  content_cells = all_cells_of hub_schema db.trees content_table (db.trees 10) refl refl (rules.rules Datatype).1.1.1.1.1.0 (rules.rules NotNull).1.1.1.1.1.0
+  content_cells = all_cells_of hub_schema db.trees content_table (db.trees 10) refl refl (rules.rules
+      Datatype).1.1.1.1.1.0 (rules.rules NotNull).1.1.1.1.1.0
 
   contents_rise : Rises content_cmp (tables_in db.trees).contents
   contents_rise =
       listed_rises content_total (map content_in (db.trees 10))
-      (all_apart content_cmp content_in (1 ∷ 2 ∷ []) (AreOf content_kinds 0) content_tied (db.trees 10) (ordered.1.1.1.1.1.0).0 (ordered.1.1.1.1.1.0).1 content_cells
+      (all_apart content_cmp content_in (1 ∷ 2
+      ∷ []) (AreOf content_kinds 0) content_tied (db.trees 10) (ordered.1.1.1.1.1.0).0 (ordered.1.1.1.1.1.0).1
+      content_cells
       (unclashed (clashes plain (1 ∷ 2 ∷ []) (db.trees 10)) (λ _. true) (db.trees 10) (rules.rules Unique).1.1.1.1.1.0))
 
   pub receipt_cells : AllByRecursion (AreOf receipt_kinds 0) (db.trees 12)
-  receipt_cells = all_cells_of hub_schema db.trees receipt_table (db.trees 12) refl refl (rules.rules Datatype).1.1.1.1.1.1.0 (rules.rules NotNull).1.1.1.1.1.1.0
+  receipt_cells = all_cells_of hub_schema db.trees receipt_table (db.trees 12) refl refl (rules.rules
+      Datatype).1.1.1.1.1.1.0 (rules.rules NotNull).1.1.1.1.1.1.0
 
   receipts_rise : Rises receipt_cmp (tables_in db.trees).receipts
   receipts_rise =
       listed_rises receipt_total (map receipt_in (db.trees 12))
-      (all_apart receipt_cmp receipt_in (1 ∷ 2 ∷ []) (AreOf receipt_kinds 0) receipt_tied (db.trees 12) (ordered.1.1.1.1.1.1.0).0 (ordered.1.1.1.1.1.1.0).1 receipt_cells
-      (unclashed (clashes plain (1 ∷ 2 ∷ []) (db.trees 12)) (λ _. true) (db.trees 12) (rules.rules Unique).1.1.1.1.1.1.0))
+      (all_apart receipt_cmp receipt_in (1 ∷ 2
+      ∷ []) (AreOf receipt_kinds 0) receipt_tied (db.trees 12) (ordered.1.1.1.1.1.1.0).0 (ordered.1.1.1.1.1.1.0).1
+      receipt_cells
+      (unclashed (clashes plain (1 ∷ 2
+      ∷ []) (db.trees 12)) (λ _. true) (db.trees 12) (rules.rules Unique).1.1.1.1.1.1.0))
 
   pub remembered_cells : AllByRecursion (AreOf remembered_kinds 0) (db.trees 14)
-  remembered_cells = all_cells_of hub_schema db.trees remembered_table (db.trees 14) refl refl (rules.rules Datatype).1.1.1.1.1.1.1.0 (rules.rules NotNull).1.1.1.1.1.1.1.0
+  remembered_cells = all_cells_of hub_schema db.trees remembered_table (db.trees 14) refl refl (rules.rules
+      Datatype).1.1.1.1.1.1.1.0 (rules.rules NotNull).1.1.1.1.1.1.1.0
 
   remembered_rise : Rises remembered_cmp (tables_in db.trees).remembered
   remembered_rise =
       listed_rises remembered_total (map remembered_in (db.trees 14))
-      (all_apart remembered_cmp remembered_in (1 ∷ 2 ∷ 3 ∷ 4 ∷ []) (AreOf remembered_kinds 0) remembered_tied (db.trees 14) (ordered.1.1.1.1.1.1.1.0).0 (ordered.1.1.1.1.1.1.1.0).1 remembered_cells
-      (unclashed (clashes plain (1 ∷ 2 ∷ 3 ∷ 4 ∷ []) (db.trees 14)) (λ _. true) (db.trees 14) (rules.rules Unique).1.1.1.1.1.1.1.0))
+      (all_apart remembered_cmp remembered_in (1 ∷ 2 ∷ 3 ∷ 4
+      ∷ []) (AreOf remembered_kinds 0) remembered_tied (db.trees 14) (ordered.1.1.1.1.1.1.1.0).0
+      (ordered.1.1.1.1.1.1.1.0).1 remembered_cells
+      (unclashed (clashes plain (1 ∷ 2 ∷ 3 ∷ 4
+      ∷ []) (db.trees 14)) (λ _. true) (db.trees 14) (rules.rules Unique).1.1.1.1.1.1.1.0))
 
   pub mail_cells : AllByRecursion (AreOf mail_kinds 0) (db.trees 16)
-  mail_cells = all_cells_of hub_schema db.trees mail_table (db.trees 16) refl refl (rules.rules Datatype).1.1.1.1.1.1.1.1.0 (rules.rules NotNull).1.1.1.1.1.1.1.1.0
+  mail_cells = all_cells_of hub_schema db.trees mail_table (db.trees 16) refl refl (rules.rules
+      Datatype).1.1.1.1.1.1.1.1.0 (rules.rules NotNull).1.1.1.1.1.1.1.1.0
 
   mail_rise : Rises mail_cmp (tables_in db.trees).mail
   mail_rise =
       listed_rises mail_total (map mail_in (db.trees 16))
-      (all_apart mail_cmp mail_in (1 ∷ 2 ∷ []) (AreOf mail_kinds 0) mail_tied (db.trees 16) (ordered.1.1.1.1.1.1.1.1.0).0 (ordered.1.1.1.1.1.1.1.1.0).1 mail_cells
-      (unclashed (clashes plain (1 ∷ 2 ∷ []) (db.trees 16)) (λ _. true) (db.trees 16) (rules.rules Unique).1.1.1.1.1.1.1.1.0))
+      (all_apart mail_cmp mail_in (1 ∷ 2
+      ∷ []) (AreOf mail_kinds 0) mail_tied (db.trees 16) (ordered.1.1.1.1.1.1.1.1.0).0
+      (ordered.1.1.1.1.1.1.1.1.0).1 mail_cells
+      (unclashed (clashes plain (1 ∷ 2
+      ∷ []) (db.trees 16)) (λ _. true) (db.trees 16) (rules.rules Unique).1.1.1.1.1.1.1.1.0))
 
   -- what the rows of all tables say rises by its keys
   pub tables_rise : Rising (tables_in db.trees)

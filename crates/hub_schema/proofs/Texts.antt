@@ -7,7 +7,8 @@ use Rattle.sqlite.specs.Term.{lit}
 use Rattle.sqlite.specs.declared.types.Value.TheVariants.{Null, Int}
 use Rattle.sqlite.proofs.Callers.{IsPlain, command_of}
 use Rattle.sqlite_tied.specs.Compute.{everything}
-use Rattle.hub_schema.specs.Schema.{schema_table, order_table, line_table, advice_table, pallet_table, content_table, receipt_table, remembered_table, mail_table, no_schema, hub_schema, hub_tables}
+use Rattle.hub_schema.specs.Schema.{schema_table, order_table, line_table, advice_table, pallet_table, content_table}
+use Rattle.hub_schema.specs.Schema.{receipt_table, remembered_table, mail_table, no_schema, hub_schema, hub_tables}
 use Rattle.hub_schema.specs.Making.{Defines, schema_with}
 
 abbrev pub create_schema : List ℕ
@@ -49,27 +50,33 @@ pub line_defined : Defines create_line (schema_with (schema_table ∷ order_tabl
 unfolding understood everything
 line_defined = record { command = refl; whole = refl; plain = (refl, refl); defined = refl; calm = refl }
 
-pub advice_defined : Defines create_advice (schema_with (schema_table ∷ order_table ∷ line_table ∷ [])) (record advice_table { tree = 0 })
+pub advice_defined : Defines create_advice (schema_with (schema_table ∷ order_table ∷ line_table
+    ∷ [])) (record advice_table { tree = 0 })
 unfolding understood everything
 advice_defined = record { command = refl; whole = refl; plain = (refl, refl); defined = refl; calm = refl }
 
-pub pallet_defined : Defines create_pallet (schema_with (schema_table ∷ order_table ∷ line_table ∷ advice_table ∷ [])) (record pallet_table { tree = 0 })
+pub pallet_defined : Defines create_pallet (schema_with (schema_table ∷ order_table ∷ line_table ∷ advice_table
+    ∷ [])) (record pallet_table { tree = 0 })
 unfolding understood everything
 pallet_defined = record { command = refl; whole = refl; plain = (refl, refl); defined = refl; calm = refl }
 
-pub content_defined : Defines create_content (schema_with (schema_table ∷ order_table ∷ line_table ∷ advice_table ∷ pallet_table ∷ [])) (record content_table { tree = 0 })
+pub content_defined : Defines create_content (schema_with (schema_table ∷ order_table ∷ line_table ∷ advice_table
+    ∷ pallet_table ∷ [])) (record content_table { tree = 0 })
 unfolding understood everything
 content_defined = record { command = refl; whole = refl; plain = (refl, refl); defined = refl; calm = refl }
 
-pub receipt_defined : Defines create_receipt (schema_with (schema_table ∷ order_table ∷ line_table ∷ advice_table ∷ pallet_table ∷ content_table ∷ [])) (record receipt_table { tree = 0 })
+pub receipt_defined : Defines create_receipt (schema_with (schema_table ∷ order_table ∷ line_table ∷ advice_table
+    ∷ pallet_table ∷ content_table ∷ [])) (record receipt_table { tree = 0 })
 unfolding understood everything
 receipt_defined = record { command = refl; whole = refl; plain = (refl, refl); defined = refl; calm = refl }
 
-pub remembered_defined : Defines create_remembered (schema_with (schema_table ∷ order_table ∷ line_table ∷ advice_table ∷ pallet_table ∷ content_table ∷ receipt_table ∷ [])) (record remembered_table { tree = 0 })
+pub remembered_defined : Defines create_remembered (schema_with (schema_table ∷ order_table ∷ line_table ∷ advice_table
+    ∷ pallet_table ∷ content_table ∷ receipt_table ∷ [])) (record remembered_table { tree = 0 })
 unfolding understood everything
 remembered_defined = record { command = refl; whole = refl; plain = (refl, refl); defined = refl; calm = refl }
 
-pub mail_defined : Defines create_mail (schema_with (schema_table ∷ order_table ∷ line_table ∷ advice_table ∷ pallet_table ∷ content_table ∷ receipt_table ∷ remembered_table ∷ [])) (record mail_table { tree = 0 })
+pub mail_defined : Defines create_mail (schema_with (schema_table ∷ order_table ∷ line_table ∷ advice_table
+    ∷ pallet_table ∷ content_table ∷ receipt_table ∷ remembered_table ∷ [])) (record mail_table { tree = 0 })
 unfolding understood everything
 mail_defined = record { command = refl; whole = refl; plain = (refl, refl); defined = refl; calm = refl }
 
@@ -79,7 +86,8 @@ all_made = refl
 abbrev pub put_number : List ℕ
 put_number = codes "INSERT INTO schema (number) VALUES (1)"
 
-pub put_number_is : command_of (understood hub_schema put_number) ≡ Insert 0 (Values (lit Null ∷ lit (Int (pos 1)) ∷ []) 2)
+pub put_number_is : command_of (understood hub_schema put_number) ≡ Insert 0 (Values (lit Null ∷ lit (Int (pos 1))
+    ∷ []) 2)
 unfolding understood everything
 put_number_is = refl
 

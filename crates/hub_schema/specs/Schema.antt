@@ -62,7 +62,8 @@ mail_table = keyed 16 (codes "mail") (
 
 -- the index of a key
 abbrev pub index_of : List ℕ → ℕ → ℕ → List ℕ → Index
-index_of name tree table key = record { name = name; tree = tree; table = table; columns = key; order = plain; is_unique = true }
+index_of name tree table key =
+    record { name = name; tree = tree; table = table; columns = key; order = plain; is_unique = true }
 
 abbrev pub no_schema : Schema
 no_schema = record { tables = []; indexes = []; views = [] }
@@ -70,15 +71,19 @@ no_schema = record { tables = []; indexes = []; views = [] }
 -- the tables in the order of their making
 abbrev pub hub_tables : List Table
 hub_tables =
-    schema_table ∷ order_table ∷ line_table ∷ advice_table ∷ pallet_table ∷ content_table ∷ receipt_table ∷ remembered_table ∷ mail_table ∷ []
+    schema_table ∷ order_table ∷ line_table ∷ advice_table ∷ pallet_table ∷ content_table ∷ receipt_table
+    ∷ remembered_table ∷ mail_table ∷ []
 
 -- with an index for each key
 abbrev pub hub_schema : Schema
 hub_schema = record {
   tables = hub_tables;
   indexes =
-      automatic order_table 0 (1 ∷ 2 ∷ []) 2 ∷ automatic line_table 0 (1 ∷ 2 ∷ 3 ∷ []) 4 ∷ automatic advice_table 0 (1 ∷ 2 ∷ []) 6
-      ∷ automatic pallet_table 0 (1 ∷ []) 8 ∷ automatic pallet_table 1 (2 ∷ 1 ∷ []) 9 ∷ automatic content_table 0 (1 ∷ 2 ∷ []) 11
-      ∷ automatic receipt_table 0 (1 ∷ 2 ∷ []) 13 ∷ automatic remembered_table 0 (1 ∷ 2 ∷ 3 ∷ 4 ∷ []) 15 ∷ automatic mail_table 0 (1 ∷ 2 ∷ []) 17 ∷ [];
+      automatic order_table 0 (1 ∷ 2 ∷ []) 2 ∷ automatic line_table 0 (1 ∷ 2 ∷ 3 ∷ []) 4
+      ∷ automatic advice_table 0 (1 ∷ 2 ∷ []) 6
+      ∷ automatic pallet_table 0 (1 ∷ []) 8 ∷ automatic pallet_table 1 (2 ∷ 1 ∷ []) 9
+      ∷ automatic content_table 0 (1 ∷ 2 ∷ []) 11
+      ∷ automatic receipt_table 0 (1 ∷ 2 ∷ []) 13 ∷ automatic remembered_table 0 (1 ∷ 2 ∷ 3 ∷ 4 ∷ []) 15
+      ∷ automatic mail_table 0 (1 ∷ 2 ∷ []) 17 ∷ [];
   views = [];
 }

@@ -1,5 +1,6 @@
 -- What a connection shows that holds the tables of a hub, and what calls do to it.
-use Rattle.std.specs.Prelude.{◌≡◌, ◌≢◌, ◌⊎◌, ℕ, pos, false, IsTrue, List, [], ◌∷◌, map, Result, Ok, Err, IfOk, OnOk, OnErr}
+use Rattle.std.specs.Prelude.{◌≡◌, ◌≢◌, ◌⊎◌, ℕ, pos, false, IsTrue, List, [], ◌∷◌, map, Result, Ok, Err, IfOk, OnOk}
+use Rattle.std.specs.Prelude.{OnErr}
 use Rattle.std.specs.List.{AllByRecursion}
 use Rattle.sqlite_value.specs.declared.value.Value.TheVariants.{Int}
 use Rattle.sqlite_value.specs.Order.{column}
@@ -69,7 +70,8 @@ pub record LooksUp {X : Type 0} (answer : Tables → X) (old new : State) (resul
 pub record CommitsTo (changes : List Change) (old new : State) (result : Result (Unit {0}) StoreFault) : Type 0 where
   pub done :
       HasCleanDisk new → Holds old →
-      OnOk result (IsTrue new.is_open × IsHub new × (tables_in new.now.trees ≡ apply_all changes (tables_in old.now.trees)))
+      OnOk result (IsTrue new.is_open × IsHub new
+      × (tables_in new.now.trees ≡ apply_all changes (tables_in old.now.trees)))
   pub ran : HasCleanDisk new → OnOk result (IsTrue old.is_open)
   pub kept :
       HasCleanDisk new → Holds old → IsTrue new.is_open → OnErr result (IsTrue old.is_open × (new.now ≡ old.now))

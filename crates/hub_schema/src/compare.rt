@@ -39,7 +39,8 @@ fn is_unstamped(stamps: &Stamps) -> bool
 
 // Whether the table has columns and keys, and no other rule.
 fn is_plain(table: &Table, name: &[u8], tree: u32, primary: &[usize]) -> bool
-    ensures { IsTrue result ↔ (table.now ≡ plain_table tree name.now table.now.columns primary.now table.now.uniques table.now.orders) }
+    ensures { IsTrue result ↔
+        (table.now ≡ plain_table tree name.now table.now.columns primary.now table.now.uniques table.now.orders) }
 {
     table.name.as_slice() == name
         && table.tree == tree
@@ -280,7 +281,8 @@ fn are_message_tables(tables: &[Table]) -> bool
 
 // Whether the tables from the advices on are these.
 fn are_pallet_tables(tables: &[Table]) -> bool
-    ensures { IsTrue result ↔ (tables.now ≡ advice_table ∷ pallet_table ∷ content_table ∷ receipt_table ∷ remembered_table ∷ mail_table ∷ []) }
+    ensures { IsTrue result ↔
+        (tables.now ≡ advice_table ∷ pallet_table ∷ content_table ∷ receipt_table ∷ remembered_table ∷ mail_table ∷ []) }
 {
     let [advice, pallet, content, rest @ ..] = tables else {
         return false;

@@ -17,8 +17,12 @@ use sqlite::{Alter, Connection, Error, Transaction};
 // Makes one table.
 fn create<S: Alter>(tx: &mut Transaction<'_, S>, text: &str) -> Result<usize, Error>
     ensures same_reference { tx.new.conn.ghost_name ≡ tx.old.conn.ghost_name }
-    ensures makes { HasCleanDisk (state S.Store tx.new.conn.now) → (schema : Schema) (table : Table) → Defines text.now schema table → HasMade schema (state S.Store tx.old.conn.now) → OnOk result (MakesOn (created schema table) (state S.Store tx.old.conn.now) (state S.Store tx.new.conn.now)) }
-    ensures kept { HasCleanDisk (state S.Store tx.new.conn.now) → KeepsCommit (state S.Store tx.old.conn.now) (state S.Store tx.new.conn.now) }
+    ensures makes { HasCleanDisk (state S.Store tx.new.conn.now) → (schema : Schema) (table : Table) →
+        Defines text.now schema table → HasMade schema (state S.Store tx.old.conn.now) →
+        OnOk result (MakesOn (created schema table) (state S.Store tx.old.conn.now)
+        (state S.Store tx.new.conn.now)) }
+    ensures kept { HasCleanDisk (state S.Store tx.new.conn.now) →
+        KeepsCommit (state S.Store tx.old.conn.now) (state S.Store tx.new.conn.now) }
     ensures survives { Survives (state S.Store tx.old.conn.now) (state S.Store tx.new.conn.now) (λ _. ⊥) }
 {
     tx.execute(text, &[])
@@ -27,8 +31,11 @@ fn create<S: Alter>(tx: &mut Transaction<'_, S>, text: &str) -> Result<usize, Er
 // The tables of orders, behind that of the schema's number.
 fn make_orders<S: Alter>(tx: &mut Transaction<'_, S>) -> Result<(), Error>
     ensures same_reference { tx.new.conn.ghost_name ≡ tx.old.conn.ghost_name }
-    ensures makes { HasCleanDisk (state S.Store tx.new.conn.now) → HasMade (no_schema) (state S.Store tx.old.conn.now) → OnOk result (MakesOn (schema_with (schema_table ∷ order_table ∷ line_table ∷ [])) (state S.Store tx.old.conn.now) (state S.Store tx.new.conn.now)) }
-    ensures kept { HasCleanDisk (state S.Store tx.new.conn.now) → KeepsCommit (state S.Store tx.old.conn.now) (state S.Store tx.new.conn.now) }
+    ensures makes { HasCleanDisk (state S.Store tx.new.conn.now) → HasMade (no_schema) (state S.Store tx.old.conn.now) →
+        OnOk result (MakesOn (schema_with (schema_table ∷ order_table ∷ line_table ∷ []))
+        (state S.Store tx.old.conn.now) (state S.Store tx.new.conn.now)) }
+    ensures kept { HasCleanDisk (state S.Store tx.new.conn.now) →
+        KeepsCommit (state S.Store tx.old.conn.now) (state S.Store tx.new.conn.now) }
     ensures survives { Survives (state S.Store tx.old.conn.now) (state S.Store tx.new.conn.now) (λ _. ⊥) }
 {
     create(tx, "CREATE TABLE schema (number INTEGER NOT NULL) STRICT")?;
@@ -46,8 +53,13 @@ fn make_orders<S: Alter>(tx: &mut Transaction<'_, S>) -> Result<(), Error>
 // The tables of pallets.
 fn make_pallets<S: Alter>(tx: &mut Transaction<'_, S>) -> Result<(), Error>
     ensures same_reference { tx.new.conn.ghost_name ≡ tx.old.conn.ghost_name }
-    ensures makes { HasCleanDisk (state S.Store tx.new.conn.now) → HasMade (schema_with (schema_table ∷ order_table ∷ line_table ∷ [])) (state S.Store tx.old.conn.now) → OnOk result (MakesOn (schema_with (schema_table ∷ order_table ∷ line_table ∷ advice_table ∷ pallet_table ∷ content_table ∷ [])) (state S.Store tx.old.conn.now) (state S.Store tx.new.conn.now)) }
-    ensures kept { HasCleanDisk (state S.Store tx.new.conn.now) → KeepsCommit (state S.Store tx.old.conn.now) (state S.Store tx.new.conn.now) }
+    ensures makes { HasCleanDisk (state S.Store tx.new.conn.now) →
+        HasMade (schema_with (schema_table ∷ order_table ∷ line_table ∷ [])) (state S.Store tx.old.conn.now) →
+        OnOk result (MakesOn (schema_with
+        (schema_table ∷ order_table ∷ line_table ∷ advice_table ∷ pallet_table ∷ content_table ∷ []))
+        (state S.Store tx.old.conn.now) (state S.Store tx.new.conn.now)) }
+    ensures kept { HasCleanDisk (state S.Store tx.new.conn.now) →
+        KeepsCommit (state S.Store tx.old.conn.now) (state S.Store tx.new.conn.now) }
     ensures survives { Survives (state S.Store tx.old.conn.now) (state S.Store tx.new.conn.now) (λ _. ⊥) }
 {
     create(
@@ -68,8 +80,10 @@ fn make_pallets<S: Alter>(tx: &mut Transaction<'_, S>) -> Result<(), Error>
 // The tables of receipts and messages.
 fn make_messages<S: Alter>(tx: &mut Transaction<'_, S>) -> Result<(), Error>
     ensures same_reference { tx.new.conn.ghost_name ≡ tx.old.conn.ghost_name }
-    ensures makes { HasCleanDisk (state S.Store tx.new.conn.now) → HasMade (schema_with (schema_table ∷ order_table ∷ line_table ∷ advice_table ∷ pallet_table ∷ content_table ∷ [])) (state S.Store tx.old.conn.now) → OnOk result (MakesOn (hub_schema) (state S.Store tx.old.conn.now) (state S.Store tx.new.conn.now)) }
-    ensures kept { HasCleanDisk (state S.Store tx.new.conn.now) → KeepsCommit (state S.Store tx.old.conn.now) (state S.Store tx.new.conn.now) }
+    ensures makes { HasCleanDisk (state S.Store tx.new.conn.now) →
+        HasMade (schema_with (schema_table ∷ order_table ∷ line_table ∷ advice_table ∷ pallet_table ∷ content_table ∷ [])) (state S.Store tx.old.conn.now) → OnOk result (MakesOn (hub_schema) (state S.Store tx.old.conn.now) (state S.Store tx.new.conn.now)) }
+    ensures kept { HasCleanDisk (state S.Store tx.new.conn.now) →
+        KeepsCommit (state S.Store tx.old.conn.now) (state S.Store tx.new.conn.now) }
     ensures survives { Survives (state S.Store tx.old.conn.now) (state S.Store tx.new.conn.now) (λ _. ⊥) }
 {
     create(
@@ -90,8 +104,10 @@ fn make_messages<S: Alter>(tx: &mut Transaction<'_, S>) -> Result<(), Error>
 // Puts the number of the schema into its table.
 fn put_number<S: Alter>(tx: &mut Transaction<'_, S>) -> Result<usize, Error>
     ensures same_reference { tx.new.conn.ghost_name ≡ tx.old.conn.ghost_name }
-    ensures makes { HasCleanDisk (state S.Store tx.new.conn.now) → HasMade hub_schema (state S.Store tx.old.conn.now) → OnOk result (Makes (λ _. empty) (state S.Store tx.old.conn.now) (state S.Store tx.new.conn.now)) }
-    ensures kept { HasCleanDisk (state S.Store tx.new.conn.now) → KeepsCommit (state S.Store tx.old.conn.now) (state S.Store tx.new.conn.now) }
+    ensures makes { HasCleanDisk (state S.Store tx.new.conn.now) → HasMade hub_schema (state S.Store tx.old.conn.now) →
+        OnOk result (Makes (λ _. empty) (state S.Store tx.old.conn.now) (state S.Store tx.new.conn.now)) }
+    ensures kept { HasCleanDisk (state S.Store tx.new.conn.now) →
+        KeepsCommit (state S.Store tx.old.conn.now) (state S.Store tx.new.conn.now) }
     ensures survives { Survives (state S.Store tx.old.conn.now) (state S.Store tx.new.conn.now) (λ _. ⊥) }
 {
     tx.execute("INSERT INTO schema (number) VALUES (1)", &[])
@@ -100,8 +116,10 @@ fn put_number<S: Alter>(tx: &mut Transaction<'_, S>) -> Result<usize, Error>
 /// Makes the tables of schema 1 in a database that has none, without rows but the one with the schema's number.
 pub fn make_tables<S: Alter>(tx: &mut Transaction<'_, S>) -> Result<(), Error>
     ensures same_reference { tx.new.conn.ghost_name ≡ tx.old.conn.ghost_name }
-    ensures makes { HasCleanDisk (state S.Store tx.new.conn.now) → HasMade no_schema (state S.Store tx.old.conn.now) → OnOk result (Makes (λ _. empty) (state S.Store tx.old.conn.now) (state S.Store tx.new.conn.now)) }
-    ensures kept { HasCleanDisk (state S.Store tx.new.conn.now) → KeepsCommit (state S.Store tx.old.conn.now) (state S.Store tx.new.conn.now) }
+    ensures makes { HasCleanDisk (state S.Store tx.new.conn.now) → HasMade no_schema (state S.Store tx.old.conn.now) →
+        OnOk result (Makes (λ _. empty) (state S.Store tx.old.conn.now) (state S.Store tx.new.conn.now)) }
+    ensures kept { HasCleanDisk (state S.Store tx.new.conn.now) →
+        KeepsCommit (state S.Store tx.old.conn.now) (state S.Store tx.new.conn.now) }
     ensures survives { Survives (state S.Store tx.old.conn.now) (state S.Store tx.new.conn.now) (λ _. ⊥) }
 {
     make_orders(tx)?;
@@ -116,8 +134,12 @@ pub fn make_schema<S: Alter>(conn: &mut Connection<S>) -> Result<(), Error>
     requires { (state S.Store conn.old).in_transaction ≡ false }
     ensures mode { (state S.Store conn.new).in_transaction ≡ false }
     ensures clean { HasCleanDisk (state S.Store conn.new) → HasCleanDisk (state S.Store conn.old) }
-    ensures done { HasCleanDisk (state S.Store conn.new) → (state S.Store conn.old).now.schema ≡ no_schema → OnOk result (IsTrue (state S.Store conn.new).is_open × IsHub (state S.Store conn.new) × (tables_in (state S.Store conn.new).now.trees ≡ empty)) }
-    ensures durable { HasCleanDisk (state S.Store conn.new) → OnOk result ((trees : Trees) → (state S.Store conn.new).may_leave trees → trees ≡ (state S.Store conn.new).now.trees) }
+    ensures done { HasCleanDisk (state S.Store conn.new) → (state S.Store conn.old).now.schema ≡ no_schema →
+        OnOk result (IsTrue (state S.Store conn.new).is_open × IsHub (state S.Store conn.new)
+        × (tables_in (state S.Store conn.new).now.trees ≡ empty)) }
+    ensures durable { HasCleanDisk (state S.Store conn.new) →
+        OnOk result ((trees : Trees) → (state S.Store conn.new).may_leave trees →
+        trees ≡ (state S.Store conn.new).now.trees) }
 {
     let mut tx = conn.transaction();
     make_tables(&mut tx)?;

@@ -1,5 +1,6 @@
 -- Despatch advices in SQL.
-use Rattle.std.proofs.Common.{◌≡◌, ◌&&◌, ℕ, true, None, List, [], ◌∷◌, map, codes, Ok, Err, Result, OnOk, IsTrue, refl, sym, ap, subst, ◌∙◌, arith}
+use Rattle.std.proofs.Common.{◌≡◌, ◌&&◌, ℕ, true, None, List, [], ◌∷◌, map, codes, Ok, Err, Result, OnOk, IsTrue, refl}
+use Rattle.std.proofs.Common.{sym, ap, subst, ◌∙◌, arith}
 use Rattle.std.specs.Ordering.{is_eq}
 use Rattle.std.proofs.lemmas.Bool.{and_parts}
 use Rattle.std.proofs.lemmas.Cmp.{tied_itself}
@@ -60,19 +61,35 @@ module _ (row : AdviceRow) where
   abbrev stored : List Row → Row
   stored rows = Int (next_rowid rows) ∷ cells
 
-  edit_is : (db : Trees) → edited db (edit_of db advice_table [] Chosen 0 ((Null ∷ cells) ∷ [])) ≡ put_row (stored (db 5)) (db 5)
+  edit_is : (db : Trees)
+      → edited db (edit_of db advice_table [] Chosen 0 ((Null ∷ cells) ∷ [])) ≡ put_row (stored (db 5)) (db 5)
   edit_is db = rw cast_null
 
-  tables_are : (rows : List Row) (old new : State) → Alters 5 rows old new → tables_in new.now.trees ≡ record (tables_in old.now.trees) { advices = in_key_order advice_cmp (map advice_in rows) }
+  tables_are : (rows : List Row) (old new : State) → Alters 5 rows old new
+      → tables_in new.now.trees ≡ record (tables_in old.now.trees) {
+        advices = in_key_order advice_cmp (map advice_in
+            rows);
+      }
   tables_are rows old new it =
       let kept = it.others in
-      rw (it.rows, kept.1.0 (λ e. absurd (omega (arith, e))), kept.1.1.0 (λ e. absurd (omega (arith, e))), kept.1.1.1.1.0 (λ e. absurd (omega (arith, e))), kept.1.1.1.1.1.0 (λ e. absurd (omega (arith, e))), kept.1.1.1.1.1.1.0 (λ e. absurd (omega (arith, e))), kept.1.1.1.1.1.1.1.0 (λ e. absurd (omega (arith, e))), kept.1.1.1.1.1.1.1.1.0 (λ e. absurd (omega (arith, e))))
+      rw (
+        it.rows,
+        kept.1.0 (λ e. absurd (omega (arith, e))),
+        kept.1.1.0 (λ e. absurd (omega (arith, e))),
+        kept.1.1.1.1.0 (λ e. absurd (omega (arith, e))),
+        kept.1.1.1.1.1.0 (λ e. absurd (omega (arith, e))),
+        kept.1.1.1.1.1.1.0 (λ e. absurd (omega (arith, e))),
+        kept.1.1.1.1.1.1.1.0 (λ e. absurd (omega (arith, e))),
+        kept.1.1.1.1.1.1.1.1.0 (λ e. absurd (omega (arith, e))),
+      )
 
-  adds_advice : (old new : State) (text : List ℕ) (count : ℕ) → IsHub old → old.in_transaction ≡ true → Writes old new None (Insert 3 (Values terms 3)) text cells count
+  adds_advice : (old new : State) (text : List ℕ) (count : ℕ) → IsHub old → old.in_transaction ≡ true
+      → Writes old new None (Insert 3 (Values terms 3)) text cells count
       → Makes (apply_all (AddAdvice row ∷ [])) old new
   adds_advice old new text count hub begun w =
       let db = old.now.trees in
-      let it = adds 3 5 _ _ _ _ _ refl (λ _ _. refl) old new hub begun hub.ordered.1.1.1.0 cells cells _ _ _ count w (edit_is db) in
+      let it = adds 3 5 _ _ _ _ _ refl (λ _ _. refl) old new hub begun hub.ordered.1.1.1.0 cells cells _ _ _ count w
+      (edit_is db) in
       let rows = listed_last advice_total advice_in (db 5) (stored (db 5)) in
       record {
         hub = still_hub 5 _ old new (λ e. absurd (omega (arith, e))) hub it;
@@ -81,30 +98,57 @@ module _ (row : AdviceRow) where
         mode = it.mode;
       }
 
-  pub makes : (old new : State) (r : Result ℕ Error) → IsHub old → old.in_transaction ≡ true → ExecutesInside 0 add_advice cells old new r → OnOk r (Makes (apply_all (AddAdvice row ∷ [])) old new)
+  pub makes : (old new : State) (r : Result ℕ Error) → IsHub old → old.in_transaction ≡ true
+      → ExecutesInside 0 add_advice cells old new r → OnOk r (Makes (apply_all (AddAdvice row ∷ [])) old new)
   makes old new (Err e) hub begun h = tt
-  makes old new (Ok count) hub begun h = adds_advice old new _ count hub begun (runs_as add_advice cells old new hub_schema hub.schema _ add_advice_is add_advice_plain count h.0)
+  makes old new (Ok count) hub begun h =
+      adds_advice old new _ count hub begun (runs_as add_advice cells old new hub_schema hub.schema _ add_advice_is
+      add_advice_plain count h.0)
 
-  tied : (r : Row) (rows : List Row) → AreOf order_kinds 0 r → agree plain (1 ∷ 2 ∷ []) r (1 ∷ 2 ∷ []) (stored rows) ≡ true → is_eq (advice_cmp (advice_in r) row) ≡ true
+  tied : (r : Row) (rows : List Row) → AreOf order_kinds 0 r
+      → agree plain (1 ∷ 2 ∷ []) r (1 ∷ 2 ∷ []) (stored rows) ≡ true → is_eq (advice_cmp (advice_in r) row) ≡ true
   unfolding first_key
   tied r rows typed e =
-      let p1 = and_parts (equal Binary (column r 1) (Blob row.supplier)) (equal Binary (column r 2) (Blob row.number) && true) e in
+      let p1 = and_parts (equal Binary (column r 1) (Blob row.supplier)) (equal Binary (column r 2) (Blob row.number)
+      && true) e in
       let p2 = and_parts (equal Binary (column r 2) (Blob row.number)) (true) p1.1 in
       let e1 = bytes_are (column r 1) row.supplier typed.0 p1.0 in
       let e2 = bytes_are (column r 2) row.number typed.1.0 p2.0 in
-      (λ i. is_eq (advice_cmp (record (advice_in r) { supplier = e1 i; number = e2 i }) row)) ∙ ap is_eq (tied_itself advice_total row)
+      (λ i. is_eq (advice_cmp (record (advice_in r) { supplier = e1 i; number = e2 i }) row))
+      ∙ ap is_eq (tied_itself advice_total row)
 
-  keeps : (s : State) → IsHub s → Rising (apply_all (AddAdvice row ∷ []) (tables_in s.now.trees)) → Keeps Unique hub_schema (with_tree s.now.trees 5 (edited s.now.trees (edit_of s.now.trees advice_table [] Chosen 0 ((Null ∷ cells) ∷ []))))
+  keeps : (s : State) → IsHub s → Rising (apply_all (AddAdvice row ∷ []) (tables_in s.now.trees))
+      → Keeps Unique hub_schema (with_tree s.now.trees 5 (edited s.now.trees (edit_of s.now.trees advice_table []
+      Chosen 0 ((Null ∷ cells) ∷ []))))
   keeps s hub rising =
       let db = s.now.trees in
       let new = stored (db 5) in
       let typed = advice_cells s.now hub.schema hub.sound hub.ordered in
-      let fresh = is_new advice_total advice_in row plain (1 ∷ 2 ∷ []) new (AreOf order_kinds 0) (λ r. tied r (db 5)) (db 5) typed rising.advices in
+      let fresh = is_new advice_total advice_in row plain (1 ∷ 2
+      ∷ []) new (AreOf order_kinds 0) (λ r. tied r (db 5)) (db 5) typed rising.advices in
       let rules = subst (λ schema. Obeys schema db) hub.schema hub.sound.obeys in
-      subst (λ rows. Keeps Unique hub_schema (with_tree db 5 rows)) (sym (edit_is db ∙ put_next (db 5) cells hub.ordered.1.1.1.0))
-      (keeps_unique db 5 new (next_rowid (db 5)) refl hub_schema (λ e. absurd cc, (λ e. absurd cc, (λ _. fresh, (λ e. absurd cc, (λ e. absurd cc, (λ e. absurd cc, (λ e. absurd cc, (λ e. absurd cc, (λ e. absurd cc, tt))))))))) (rules.rules Unique))
+      subst (λ rows. Keeps Unique hub_schema (with_tree db 5 rows)) (sym (edit_is db
+      ∙ put_next (db 5) cells hub.ordered.1.1.1.0))
+      (keeps_unique db 5 new (next_rowid (db 5)) refl hub_schema (
+        λ e. absurd cc,
+        (
+          λ e. absurd cc,
+          (
+            λ _. fresh,
+            (
+              λ e. absurd cc,
+              (
+                λ e. absurd cc,
+                (λ e. absurd cc, (λ e. absurd cc, (λ e. absurd cc, (λ e. absurd cc, tt)))),
+              ),
+            ),
+          ),
+        ),
+      ) (rules.rules Unique))
 
-  pub fits_not : (old new : State) → ExecutesInside 0 add_advice cells old new (Err not_unique) → IsTrue old.is_open × (IsHub old → Rising (apply_all (AddAdvice row ∷ []) (tables_in old.now.trees)) → ⊥)
+  pub fits_not : (old new : State) → ExecutesInside 0 add_advice cells old new (Err not_unique) → IsTrue old.is_open
+      × (IsHub old → Rising (apply_all (AddAdvice row ∷ []) (tables_in old.now.trees)) → ⊥)
   fits_not old new h =
-      let it = refused hub_schema 3 5 _ _ _ _ _ refl (λ _ _. refl) add_advice terms 3 add_advice_is add_advice_plain old new cells h in
+      let it = refused hub_schema 3 5 _ _ _ _ _ refl (λ _ _. refl) add_advice terms 3 add_advice_is add_advice_plain
+      old new cells h in
       (it.0, λ hub rising. it.1 hub.schema (keeps old hub rising))

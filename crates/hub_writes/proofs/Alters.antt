@@ -1,5 +1,6 @@
 -- One table of a hub is altered, inside a transaction.
-use Rattle.std.proofs.Common.{◌≡◌, ◌≢◌, ◌⊎◌, inl, inr, ℕ, ◌/◌, ◌==◌, Bool, true, false, length, List, [], ◌∷◌, ◌++◌, slice_get, map, pos, if◌then◌else◌, Some, None, IsTrue, refl, sym, subst, ◌∙◌, arith}
+use Rattle.std.proofs.Common.{◌≡◌, ◌≢◌, ◌⊎◌, inl, inr, ℕ, ◌/◌, ◌==◌, Bool, true, false, length, List, [], ◌∷◌, ◌++◌}
+use Rattle.std.proofs.Common.{slice_get, map, pos, if◌then◌else◌, Some, None, IsTrue, refl, sym, subst, ◌∙◌, arith}
 use Rattle.std.specs.List.{AllByRecursion}
 use Rattle.std.proofs.lemmas.Bool.Decides.{nat_tests}
 use Rattle.sqlite_value.specs.declared.value.Value.TheVariants.{Int}
@@ -46,7 +47,8 @@ either : (n m : ℕ) (b : Bool) → (n == m) ≡ b → (n ≡ m) ⊎ (n ≢ m)
 either n m true e = inl (grind (arith, nat_tests, e))
 either n m false e = inr (λ same. absurd (grind (arith, nat_tests, e, same)))
 
-still_shaped : (tree : ℕ) (trees : List ℕ) (old new : Trees) → IsShaped shape.Table (new tree) → KeepsOthers tree trees old new → AllByRecursion (λ t. IsShaped shape.Table (old t)) trees
+still_shaped : (tree : ℕ) (trees : List ℕ) (old new : Trees) → IsShaped shape.Table (new tree)
+    → KeepsOthers tree trees old new → AllByRecursion (λ t. IsShaped shape.Table (old t)) trees
     → AllByRecursion (λ t. IsShaped shape.Table (new t)) trees
 still_shaped tree [] old new here others all = tt
 still_shaped tree (t ∷ trees) old new here others all = (
@@ -57,17 +59,23 @@ still_shaped tree (t ∷ trees) old new here others all = (
   still_shaped tree trees old new here others.1 all.1,
 )
 
-pub still_hub : (tree : ℕ) (rows : List Row) (old new : State) → 0 ≢ tree → IsHub old → Alters tree rows old new → IsHub new
+pub still_hub : (tree : ℕ) (rows : List Row) (old new : State) → 0 ≢ tree → IsHub old → Alters tree rows old new
+    → IsHub new
 still_hub tree rows old new other hub it = record {
   schema = it.schema;
-  numbered = subst (λ (rs : List Row). map (λ row. column row 1) rs ≡ Int (pos 1) ∷ []) (sym (it.others.0 other)) hub.numbered;
-  ordered = still_shaped tree all_trees old.now.trees new.now.trees (subst (IsShaped shape.Table) (sym it.rows) it.shaped) it.others hub.ordered;
+  numbered = subst (λ (rs : List Row). map (λ row. column row 1) rs ≡ Int (pos 1)
+      ∷ []) (sym (it.others.0 other)) hub.numbered;
+  ordered = still_shaped tree all_trees old.now.trees new.now.trees (subst (IsShaped shape.Table) (sym it.rows)
+      it.shaped) it.others hub.ordered;
   sound = it.sound;
 }
 
 -- where a statement wrote these rows
-pub altered : (tree : ℕ) (rows : List Row) (old new : State) → old.in_transaction ≡ true → new.now.schema ≡ hub_schema → IsDatabase new.now → IsShaped shape.Table rows → new.now.trees tree ≡ rows
-    → KeepsOthers tree all_trees old.now.trees new.now.trees → Shows old new new.now (if old.in_transaction then old.committed else new.now) old.in_transaction → Alters tree rows old new
+pub altered : (tree : ℕ) (rows : List Row) (old new : State) → old.in_transaction ≡ true → new.now.schema ≡ hub_schema
+    → IsDatabase new.now → IsShaped shape.Table rows → new.now.trees tree ≡ rows
+    → KeepsOthers tree all_trees old.now.trees new.now.trees
+    → Shows old new new.now (if old.in_transaction then old.committed else new.now) old.in_transaction
+    → Alters tree rows old new
 altered tree rows old new begun schema sound shaped is others shown = record {
   schema = schema;
   sound = sound;
@@ -78,17 +86,24 @@ altered tree rows old new begun schema sound shaped is others shown = record {
   mode = shown.mode ∙ begun;
 }
 
-module _ (place tree : ℕ) (name : List ℕ) (columns : List Column) (primary : List ℕ) (uniques : List (List ℕ)) (orders : List keys.Order)
-    (found : slice_get hub_schema.tables place ≡ Some (plain_table tree name columns primary uniques orders)) (still : (olds news : List Row) → works hub_schema Enforced 0 tree olds news ≡ [])
-    (old new : State) (hub : IsHub old) (begun : old.in_transaction ≡ true) (shaped : IsShaped shape.Table (old.now.trees tree)) where
+module _ (place tree : ℕ) (name : List ℕ) (columns : List Column) (primary : List ℕ) (uniques : List (List ℕ)) (orders
+    : List keys.Order)
+    (found : slice_get hub_schema.tables place ≡ Some (plain_table tree name columns primary uniques orders)) (still :
+    (olds news : List Row) → works hub_schema Enforced 0 tree olds news ≡ [])
+    (old new : State) (hub : IsHub old) (begun : old.in_transaction ≡ true) (shaped : IsShaped shape.Table
+    (old.now.trees tree)) where
   -- an INSERT adds one row behind the others
-  pub adds : (cells params : Row) (text : List ℕ) (terms : List Term) (width count : ℕ) → Writes old new None (Insert place (Values terms width)) text params count
-      → edited old.now.trees (edit_of old.now.trees (plain_table tree name columns primary uniques orders) [] Chosen 0 (value_rows (params ++ []) width (length terms / width) terms))
+  pub adds : (cells params : Row) (text : List ℕ) (terms : List Term) (width count : ℕ)
+      → Writes old new None (Insert place (Values terms width)) text params count
+      → edited old.now.trees (edit_of old.now.trees (plain_table tree name columns primary uniques orders) [] Chosen 0
+      (value_rows (params ++ []) width (length terms / width) terms))
       ≡ put_row (Int (next_rowid (old.now.trees tree)) ∷ cells) (old.now.trees tree)
       → Alters tree (old.now.trees tree ++ (Int (next_rowid (old.now.trees tree)) ∷ cells) ∷ []) old new
   adds cells params text terms width count w edit =
       let before = old.now.trees tree in
       let row : Row = Int (next_rowid before) ∷ cells in
-      let did = inserts hub_schema place tree name columns primary uniques orders found still old new params text terms width count hub.schema w in
+      let did = inserts hub_schema place tree name columns primary uniques orders found still old new params text terms
+      width count hub.schema w in
       let last = put_next before cells shaped in
-      altered tree _ old new begun did.schema_is w.sound (subst (IsShaped shape.Table) last (IsShaped-put_row row before refl shaped)) (did.step.rows ∙ edit ∙ last) did.step.tables w.shown
+      altered tree _ old new begun did.schema_is w.sound (subst (IsShaped shape.Table) last (IsShaped-put_row row
+      before refl shaped)) (did.step.rows ∙ edit ∙ last) did.step.tables w.shown

@@ -1,5 +1,6 @@
 -- A row that is added under a key, and stored rows under it.
-use Rattle.std.proofs.Common.{◌≡◌, inl, inr, ℕ, ◌<◌, ◌^◌, ◌==◌, ℤ, pos, true, false, List, [], ◌∷◌, ◌++◌, map, sym, ap, ◌∙◌, true≢false, arith}
+use Rattle.std.proofs.Common.{◌≡◌, inl, inr, ℕ, ◌<◌, ◌^◌, ◌==◌, ℤ, pos, true, false, List, [], ◌∷◌, ◌++◌, map, sym, ap}
+use Rattle.std.proofs.Common.{◌∙◌, true≢false, arith}
 use Rattle.std.specs.List.{AllByRecursion, list_any}
 use Rattle.std.specs.declared.cmp.Ordering.{Ordering}
 use Rattle.std.specs.Ordering.{is_eq}
@@ -33,40 +34,52 @@ pub number_shown : (n : ℕ) → n < 2 ^ 64 → number_in (Int (pos n)) ≡ n
 number_shown n low = natural_plain n low
 
 -- whether a stored cell has the bytes
-pub bytes_equal : (v : Value) (bytes : List ℕ) → ((b : List ℕ) × (v ≡ Blob b)) → equal Binary v (Blob bytes) ≡ bytes_eq (bytes_in v) bytes
+pub bytes_equal : (v : Value) (bytes : List ℕ) → ((b : List ℕ) × (v ≡ Blob b))
+    → equal Binary v (Blob bytes) ≡ bytes_eq (bytes_in v) bytes
 bytes_equal v bytes (b, is) = same_bytes v b bytes is ∙ ap (λ (w : Value). bytes_eq (bytes_in w) bytes) (sym is)
 
 -- whether it has the number
-pub number_equal : (v : Value) (number : ℕ) → number < 2 ^ 64 → ((n : ℤ) × (v ≡ Int n)) → equal Binary v (Int (pos number)) ≡ (number_in v == number)
+pub number_equal : (v : Value) (number : ℕ) → number < 2 ^ 64 → ((n : ℤ) × (v ≡ Int n))
+    → equal Binary v (Int (pos number)) ≡ (number_in v == number)
 number_equal v number low (n, is) =
-    same_int natural natural_plain (λ n large. grind (arith, nat_tests, large)) (λ n. omega arith) v n number low is ∙ ap (λ (w : Value). number_in w == number) (sym is)
+    same_int natural natural_plain (λ n large. grind (arith, nat_tests, large)) (λ n. omega arith) v n number low is
+    ∙ ap (λ (w : Value). number_in w == number) (sym is)
 
 pub number_same : (a b : ℕ) → (a == b) ≡ true → a ≡ b
 number_same a b e = grind (arith, nat_tests, e)
 
-pub bytes_are : (v : Value) (bytes : List ℕ) → ((b : List ℕ) × (v ≡ Blob b)) → equal Binary v (Blob bytes) ≡ true → bytes_in v ≡ bytes
+pub bytes_are : (v : Value) (bytes : List ℕ) → ((b : List ℕ) × (v ≡ Blob b)) → equal Binary v (Blob bytes) ≡ true
+    → bytes_in v ≡ bytes
 bytes_are v bytes is e = same_is (bytes_in v) bytes (sym (bytes_equal v bytes is) ∙ e)
 
-pub number_is : (v : Value) (number : ℕ) → number < 2 ^ 64 → ((n : ℤ) × (v ≡ Int n)) → equal Binary v (Int (pos number)) ≡ true → number_in v ≡ number
+pub number_is : (v : Value) (number : ℕ) → number < 2 ^ 64 → ((n : ℤ) × (v ≡ Int n))
+    → equal Binary v (Int (pos number)) ≡ true → number_in v ≡ number
 number_is v number low is e = let same = sym (number_equal v number low is) ∙ e in grind (arith, nat_tests, same)
 
 module _ {X : Type 0} {cmp : X → X → Ordering} (total : IsTotalOrder cmp) (f : Row → X) where
   -- a row that comes last is put at its place
-  pub listed_last : (rows : List Row) (new : Row) → in_key_order cmp (map f (rows ++ new ∷ [])) ≡ put cmp (f new) (in_key_order cmp (map f rows))
+  pub listed_last : (rows : List Row) (new : Row)
+      → in_key_order cmp (map f (rows ++ new ∷ [])) ≡ put cmp (f new) (in_key_order cmp (map f rows))
   listed_last rows new = ap (in_key_order cmp) (map-append f rows (new ∷ [])) ∙ listed_more cmp (map f rows) (f new)
 
   module _ (row : X) (o : keys.Order) (places : List ℕ) (new : Row) (Typed : Row → Type 0)
       (tied : (r : Row) → Typed r → agree o places r places new ≡ true → is_eq (cmp (f r) row) ≡ true) where
-    none_tied : (rows : List Row) → AllByRecursion Typed rows → list_any (λ x. is_eq (cmp x row)) (map f rows) ≡ false → IsNew o places new rows
+    none_tied : (rows : List Row) → AllByRecursion Typed rows → list_any (λ x. is_eq (cmp x row)) (map f rows) ≡ false
+        → IsNew o places new rows
     none_tied [] typed none = tt
     none_tied (r ∷ rows) typed none =
         let parts = or_parts (is_eq (cmp (f r) row)) (list_any (λ x. is_eq (cmp x row)) (map f rows)) none in (
-          elim (decide (agree o places r places new)) [ inl e ↦ absurd (true≢false (sym (tied r typed.0 e) ∙ parts.0)) | inr e ↦ e ],
+          elim (decide (agree o places r places new)) [
+            | inl e ↦ absurd (true≢false (sym (tied r typed.0 e)
+                ∙ parts.0))
+            | inr e ↦ e
+          ],
           none_tied rows typed.1 parts.1,
         )
 
     -- where the rows rise with it, no stored row has its key
-    pub is_new : (rows : List Row) → AllByRecursion Typed rows → Rises cmp (put cmp row (in_key_order cmp (map f rows))) → IsNew o places new rows
+    pub is_new : (rows : List Row) → AllByRecursion Typed rows
+        → Rises cmp (put cmp row (in_key_order cmp (map f rows))) → IsNew o places new rows
     is_new rows typed rises =
         let listed = in_key_order cmp (map f rows) in
         none_tied rows typed (elim (decide (list_any (λ x. is_eq (cmp x row)) listed)) [

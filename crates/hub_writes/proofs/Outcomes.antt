@@ -1,5 +1,6 @@
 -- What a statement comes to.
-use Rattle.std.proofs.Common.{Bool, ◌==◌, if◌then◌else◌, ◌≡◌, inl, inr, false, true, ℕ, List, Result, Ok, Err, OnOk, IsTrue, refl, sym, subst, ap, ◌∙◌}
+use Rattle.std.proofs.Common.{Bool, ◌==◌, if◌then◌else◌, ◌≡◌, inl, inr, false, true, ℕ, List, Result, Ok, Err, OnOk}
+use Rattle.std.proofs.Common.{IsTrue, refl, sym, subst, ap, ◌∙◌}
 use Rattle.std.proofs.lemmas.Bool.{cases_Bool}
 use Rattle.sqlite_schema.specs.declared.schema.Constraint.TheVariants as rule
 use Rattle.sqlite_trees.specs.declared.store.Store.{Ghosts}
@@ -118,12 +119,15 @@ no_unclean (Ok x) h = cc
 no_unclean (Err e) h = never_unclean e (let same : fault_of e ≡ Unclean = cc in same)
 
 -- what `execute` says of a statement in a transaction
-pub record Executed {S : Type 0} (g : Ghosts S) (sql : List ℕ) (params : Row) (old new : Held S) (r : Result ℕ Error) : Type 0 where
+pub record Executed {S : Type 0} (g : Ghosts S) (sql : List ℕ) (params : Row) (old new : Held S) (r : Result ℕ Error) :
+    Type 0 where
   pub ended : (state g old).in_transaction ≡ false → (r ≡ Err (SqliteFailure code.TransactionState)) × (new ≡ old)
-  pub runs : HasCleanDisk (state g new) → IsTrue (state g old).in_transaction → ExecutesInside 0 sql params (state g old) (state g new) r
+  pub runs : HasCleanDisk (state g new) → IsTrue (state g old).in_transaction
+      → ExecutesInside 0 sql params (state g old) (state g new) r
   pub survives : Survives (state g old) (state g new) (λ _. ⊥)
 
-module _ {S : Type 0} (g : Ghosts S) (sql : List ℕ) (params : Row) (old new : Held S) (r : Result ℕ Error) (did : Executed g sql params old new r) where
+module _ {S : Type 0} (g : Ghosts S) (sql : List ℕ) (params : Row) (old new : Held S) (r : Result ℕ Error) (did :
+    Executed g sql params old new r) where
   kept : HasCleanDisk (state g new) → KeepsCommit (state g old) (state g new)
   kept clean = elim (cases_Bool old.in_transaction) [
     | inl begun ↦ kept_ran sql params (state g old) (state g new) r (did.runs clean begun)
@@ -136,17 +140,22 @@ module _ {S : Type 0} (g : Ghosts S) (sql : List ℕ) (params : Row) (old new : 
 
   -- its key is there
   abbrev Refused : List Change → Type 0
-  Refused changes = IsTrue (state g old).is_open × (IsHub (state g old) → Rising (apply_all changes (tables_in (state g old).now.trees)) → ⊥)
+  Refused changes = IsTrue (state g old).is_open
+      × (IsHub (state g old) → Rising (apply_all changes (tables_in (state g old).now.trees)) → ⊥)
 
   -- an INSERT
-  pub insert_acts : (changes : List Change) → (IsHub (state g old) → old.in_transaction ≡ true → ExecutesInside 0 sql params (state g old) (state g new) r → OnOk r (Makes (apply_all changes) (state g old) (state g new)))
-      → (ExecutesInside 0 sql params (state g old) (state g new) (Err not_unique) → Refused changes) → (out : Result (Unit {0}) StoreFault) → out ≡ inserted r → Acts changes (state g old) (state g new) out
+  pub insert_acts : (changes : List Change)
+      → (IsHub (state g old) → old.in_transaction ≡ true → ExecutesInside 0 sql params (state g old) (state g new) r
+      → OnOk r (Makes (apply_all changes) (state g old) (state g new)))
+      → (ExecutesInside 0 sql params (state g old) (state g new) (Err not_unique) → Refused changes)
+      → (out : Result (Unit {0}) StoreFault) → out ≡ inserted r → Acts changes (state g old) (state g new) out
   insert_acts changes makes fits_not out is = subst (Acts changes (state g old) (state g new)) (sym is) (record {
     makes = λ clean hub begun. on_inserted _ r (makes hub begun (did.runs clean begun));
     unclean = λ clean h. let e = error_of r refl h in
         inl (elim (cases_Bool old.in_transaction) [
           | inl begun ↦
-              let no_fit = fits_not (subst (ExecutesInside 0 sql params (state g old) (state g new)) e (did.runs clean begun)) in
+              let no_fit = fits_not (subst (ExecutesInside 0 sql params (state g old) (state g new)) e (did.runs clean
+              begun)) in
               (no_fit.0, λ hub rising. absurd (no_fit.1 hub rising))
           | inr none ↦ absurd (let no = sym e ∙ (did.ended none).0 in cc)
         ]);
@@ -155,7 +164,9 @@ module _ {S : Type 0} (g : Ghosts S) (sql : List ℕ) (params : Row) (old new : 
   })
 
   -- an UPDATE
-  pub update_acts : (changes : List Change) → (IsHub (state g old) → old.in_transaction ≡ true → ExecutesInside 0 sql params (state g old) (state g new) r → OnOk r (Makes (apply_all changes) (state g old) (state g new)))
+  pub update_acts : (changes : List Change)
+      → (IsHub (state g old) → old.in_transaction ≡ true → ExecutesInside 0 sql params (state g old) (state g new) r
+      → OnOk r (Makes (apply_all changes) (state g old) (state g new)))
       → (out : Result (Unit {0}) StoreFault) → out ≡ ended r → Acts changes (state g old) (state g new) out
   update_acts changes makes out is = subst (Acts changes (state g old) (state g new)) (sym is) (record {
     makes = λ clean hub begun. on_ended _ r (makes hub begun (did.runs clean begun));
@@ -165,15 +176,21 @@ module _ {S : Type 0} (g : Ghosts S) (sql : List ℕ) (params : Row) (old new : 
   })
 
   -- an UPDATE that is to meet no row
-  module _ (changes : List Change) (makes : IsHub (state g old) → old.in_transaction ≡ true → (count : ℕ) → (count == 0) ≡ true → ExecutesInside 0 sql params (state g old) (state g new) (Ok count) → Makes (apply_all changes) (state g old) (state g new))
-      (met : IsHub (state g old) → (count : ℕ) → (count == 0) ≡ false → ExecutesInside 0 sql params (state g old) (state g new) (Ok count) → has_great (apply_all changes (tables_in (state g old).now.trees)) ≡ true) where
-    ran : (count : ℕ) → r ≡ Ok count → HasCleanDisk (state g new) → IsTrue old.in_transaction × ExecutesInside 0 sql params (state g old) (state g new) (Ok count)
+  module _ (changes : List Change) (makes : IsHub (state g old) → old.in_transaction ≡ true → (count : ℕ)
+      → (count == 0) ≡ true → ExecutesInside 0 sql params (state g old) (state g new) (Ok count)
+      → Makes (apply_all changes) (state g old) (state g new))
+      (met : IsHub (state g old) → (count : ℕ) → (count == 0) ≡ false
+      → ExecutesInside 0 sql params (state g old) (state g new) (Ok count)
+      → has_great (apply_all changes (tables_in (state g old).now.trees)) ≡ true) where
+    ran : (count : ℕ) → r ≡ Ok count → HasCleanDisk (state g new) → IsTrue old.in_transaction
+        × ExecutesInside 0 sql params (state g old) (state g new) (Ok count)
     ran count is clean = elim (cases_Bool old.in_transaction) [
       | inl begun ↦ (begun, subst (ExecutesInside 0 sql params (state g old) (state g new)) is (did.runs clean begun))
       | inr none ↦ absurd (let bad = sym is ∙ (did.ended none).0 in cc)
     ]
 
-    counted : (count : ℕ) → r ≡ Ok count → (b : Bool) → (count == 0) ≡ b → Acts changes (state g old) (state g new) (if b then Ok tt else Err Unclean)
+    counted : (count : ℕ) → r ≡ Ok count → (b : Bool) → (count == 0) ≡ b
+        → Acts changes (state g old) (state g new) (if b then Ok tt else Err Unclean)
     counted count is true e = record {
       makes = λ clean hub begun. makes hub begun count e (ran count is clean).1;
       unclean = λ clean h. absurd (let bad = h in cc);
@@ -182,7 +199,10 @@ module _ {S : Type 0} (g : Ghosts S) (sql : List ℕ) (params : Row) (old new : 
     }
     counted count is false e = record {
       makes = λ clean hub begun. tt;
-      unclean = λ clean h. inl ((ran count is clean).1.1.was_open, λ hub rising. met hub count e (ran count is clean).1);
+      unclean = λ clean h. inl (
+        (ran count is clean).1.1.was_open,
+        λ hub rising. met hub count e (ran count is clean).1,
+      );
       kept = kept;
       survives = did.survives;
     }
@@ -196,5 +216,6 @@ module _ {S : Type 0} (g : Ghosts S) (sql : List ℕ) (params : Row) (old new : 
       survives = did.survives;
     }
 
-    pub spare_acts : (out : Result (Unit {0}) StoreFault) → out ≡ spared r → Acts changes (state g old) (state g new) out
+    pub spare_acts : (out : Result (Unit {0}) StoreFault) → out ≡ spared r
+        → Acts changes (state g old) (state g new) out
     spare_acts out is = subst (Acts changes (state g old) (state g new)) (sym is) (spares r refl)

@@ -1,5 +1,6 @@
 -- Receipts of articles in SQL.
-use Rattle.std.proofs.Common.{◌≡◌, ◌&&◌, ◌<◌, ◌^◌, ℕ, pos, true, None, List, [], ◌∷◌, map, codes, Ok, Err, Result, OnOk, IsTrue, refl, sym, ap, subst, ◌∙◌, arith}
+use Rattle.std.proofs.Common.{◌≡◌, ◌&&◌, ◌<◌, ◌^◌, ℕ, pos, true, None, List, [], ◌∷◌, map, codes, Ok, Err, Result, OnOk}
+use Rattle.std.proofs.Common.{IsTrue, refl, sym, ap, subst, ◌∙◌, arith}
 use Rattle.std.specs.Ordering.{is_eq}
 use Rattle.std.proofs.lemmas.Bool.{and_parts}
 use Rattle.std.proofs.lemmas.Cmp.{tied_itself}
@@ -65,23 +66,44 @@ module _ (row : ReceiptRow) where
   abbrev stored : List Row → Row
   stored rows = Int (next_rowid rows) ∷ cells
 
-  edit_is : (db : Trees) → edited db (edit_of db receipt_table [] Chosen 0 ((Null ∷ cells) ∷ [])) ≡ put_row (stored (db 12)) (db 12)
+  edit_is : (db : Trees)
+      → edited db (edit_of db receipt_table [] Chosen 0 ((Null ∷ cells) ∷ [])) ≡ put_row (stored (db 12)) (db 12)
   edit_is db = rw (cast_null, cast_int (pos row.accepted), cast_int (pos row.returned), cast_int (pos row.destroyed))
 
-  tables_are : (rows : List Row) (old new : State) → Alters 12 rows old new → tables_in new.now.trees ≡ record (tables_in old.now.trees) { receipts = in_key_order receipt_cmp (map receipt_in rows) }
+  tables_are : (rows : List Row) (old new : State) → Alters 12 rows old new
+      → tables_in new.now.trees ≡ record (tables_in old.now.trees) {
+        receipts = in_key_order receipt_cmp (map
+            receipt_in rows);
+      }
   tables_are rows old new it =
       let kept = it.others in
-      rw (it.rows, kept.1.0 (λ e. absurd (omega (arith, e))), kept.1.1.0 (λ e. absurd (omega (arith, e))), kept.1.1.1.0 (λ e. absurd (omega (arith, e))), kept.1.1.1.1.0 (λ e. absurd (omega (arith, e))), kept.1.1.1.1.1.0 (λ e. absurd (omega (arith, e))), kept.1.1.1.1.1.1.1.0 (λ e. absurd (omega (arith, e))), kept.1.1.1.1.1.1.1.1.0 (λ e. absurd (omega (arith, e))))
+      rw (
+        it.rows,
+        kept.1.0 (λ e. absurd (omega (arith, e))),
+        kept.1.1.0 (λ e. absurd (omega (arith, e))),
+        kept.1.1.1.0 (λ e. absurd (omega (arith, e))),
+        kept.1.1.1.1.0 (λ e. absurd (omega (arith, e))),
+        kept.1.1.1.1.1.0 (λ e. absurd (omega (arith, e))),
+        kept.1.1.1.1.1.1.1.0 (λ e. absurd (omega (arith, e))),
+        kept.1.1.1.1.1.1.1.1.0 (λ e. absurd (omega (arith, e))),
+      )
 
   shown : (rows : List Row) → IsLow → receipt_in (stored rows) ≡ row
-  shown rows low = rw (number_shown row.accepted low.0, number_shown row.returned low.1, number_shown row.destroyed low.2)
+  shown rows low = rw (
+    number_shown row.accepted low.0,
+    number_shown row.returned low.1,
+    number_shown row.destroyed low.2,
+  )
 
-  adds_receipt : (old new : State) (text : List ℕ) (count : ℕ) → IsLow → IsHub old → old.in_transaction ≡ true → Writes old new None (Insert 6 (Values terms 6)) text cells count
+  adds_receipt : (old new : State) (text : List ℕ) (count : ℕ) → IsLow → IsHub old → old.in_transaction ≡ true
+      → Writes old new None (Insert 6 (Values terms 6)) text cells count
       → Makes (apply_all (AddReceipt row ∷ [])) old new
   adds_receipt old new text count low hub begun w =
       let db = old.now.trees in
-      let it = adds 6 12 _ _ _ _ _ refl (λ _ _. refl) old new hub begun hub.ordered.1.1.1.1.1.1.0 cells cells _ _ _ count w (edit_is db) in
-      let rows = listed_last receipt_total receipt_in (db 12) (stored (db 12)) ∙ ap (λ r. put receipt_cmp r (tables_in db).receipts) (shown (db 12) low) in
+      let it = adds 6 12 _ _ _ _ _ refl (λ _ _. refl) old new hub begun hub.ordered.1.1.1.1.1.1.0 cells cells _ _ _
+      count w (edit_is db) in
+      let rows = listed_last receipt_total receipt_in (db 12) (stored (db 12))
+      ∙ ap (λ r. put receipt_cmp r (tables_in db).receipts) (shown (db 12) low) in
       record {
         hub = still_hub 12 _ old new (λ e. absurd (omega (arith, e))) hub it;
         tables = tables_are _ old new it ∙ ap (λ rows. record (tables_in db) { receipts = rows }) rows;
@@ -89,30 +111,57 @@ module _ (row : ReceiptRow) where
         mode = it.mode;
       }
 
-  pub makes : (old new : State) (r : Result ℕ Error) → IsLow → IsHub old → old.in_transaction ≡ true → ExecutesInside 0 add_receipt cells old new r → OnOk r (Makes (apply_all (AddReceipt row ∷ [])) old new)
+  pub makes : (old new : State) (r : Result ℕ Error) → IsLow → IsHub old → old.in_transaction ≡ true
+      → ExecutesInside 0 add_receipt cells old new r → OnOk r (Makes (apply_all (AddReceipt row ∷ [])) old new)
   makes old new (Err e) low hub begun h = tt
-  makes old new (Ok count) low hub begun h = adds_receipt old new _ count low hub begun (runs_as add_receipt cells old new hub_schema hub.schema _ add_receipt_is add_receipt_plain count h.0)
+  makes old new (Ok count) low hub begun h =
+      adds_receipt old new _ count low hub begun (runs_as add_receipt cells old new hub_schema hub.schema _
+      add_receipt_is add_receipt_plain count h.0)
 
-  tied : (r : Row) (rows : List Row) → AreOf receipt_kinds 0 r → agree plain (1 ∷ 2 ∷ []) r (1 ∷ 2 ∷ []) (stored rows) ≡ true → is_eq (receipt_cmp (receipt_in r) row) ≡ true
+  tied : (r : Row) (rows : List Row) → AreOf receipt_kinds 0 r
+      → agree plain (1 ∷ 2 ∷ []) r (1 ∷ 2 ∷ []) (stored rows) ≡ true → is_eq (receipt_cmp (receipt_in r) row) ≡ true
   unfolding first_key
   tied r rows typed e =
-      let p1 = and_parts (equal Binary (column r 1) (Blob row.sscc)) (equal Binary (column r 2) (Blob row.gtin) && true) e in
+      let p1 = and_parts (equal Binary (column r 1) (Blob row.sscc)) (equal Binary (column r 2) (Blob row.gtin)
+      && true) e in
       let p2 = and_parts (equal Binary (column r 2) (Blob row.gtin)) (true) p1.1 in
       let e1 = bytes_are (column r 1) row.sscc typed.0 p1.0 in
       let e2 = bytes_are (column r 2) row.gtin typed.1.0 p2.0 in
-      (λ i. is_eq (receipt_cmp (record (receipt_in r) { sscc = e1 i; gtin = e2 i }) row)) ∙ ap is_eq (tied_itself receipt_total row)
+      (λ i. is_eq (receipt_cmp (record (receipt_in r) { sscc = e1 i; gtin = e2 i }) row))
+      ∙ ap is_eq (tied_itself receipt_total row)
 
-  keeps : (s : State) → IsHub s → Rising (apply_all (AddReceipt row ∷ []) (tables_in s.now.trees)) → Keeps Unique hub_schema (with_tree s.now.trees 12 (edited s.now.trees (edit_of s.now.trees receipt_table [] Chosen 0 ((Null ∷ cells) ∷ []))))
+  keeps : (s : State) → IsHub s → Rising (apply_all (AddReceipt row ∷ []) (tables_in s.now.trees))
+      → Keeps Unique hub_schema (with_tree s.now.trees 12 (edited s.now.trees (edit_of s.now.trees receipt_table []
+      Chosen 0 ((Null ∷ cells) ∷ []))))
   keeps s hub rising =
       let db = s.now.trees in
       let new = stored (db 12) in
       let typed = receipt_cells s.now hub.schema hub.sound hub.ordered in
-      let fresh = is_new receipt_total receipt_in row plain (1 ∷ 2 ∷ []) new (AreOf receipt_kinds 0) (λ r. tied r (db 12)) (db 12) typed rising.receipts in
+      let fresh = is_new receipt_total receipt_in row plain (1 ∷ 2
+      ∷ []) new (AreOf receipt_kinds 0) (λ r. tied r (db 12)) (db 12) typed rising.receipts in
       let rules = subst (λ schema. Obeys schema db) hub.schema hub.sound.obeys in
-      subst (λ rows. Keeps Unique hub_schema (with_tree db 12 rows)) (sym (edit_is db ∙ put_next (db 12) cells hub.ordered.1.1.1.1.1.1.0))
-      (keeps_unique db 12 new (next_rowid (db 12)) refl hub_schema (λ e. absurd cc, (λ e. absurd cc, (λ e. absurd cc, (λ e. absurd cc, (λ e. absurd cc, (λ e. absurd cc, (λ _. fresh, (λ e. absurd cc, (λ e. absurd cc, tt))))))))) (rules.rules Unique))
+      subst (λ rows. Keeps Unique hub_schema (with_tree db 12 rows)) (sym (edit_is db
+      ∙ put_next (db 12) cells hub.ordered.1.1.1.1.1.1.0))
+      (keeps_unique db 12 new (next_rowid (db 12)) refl hub_schema (
+        λ e. absurd cc,
+        (
+          λ e. absurd cc,
+          (
+            λ e. absurd cc,
+            (
+              λ e. absurd cc,
+              (
+                λ e. absurd cc,
+                (λ e. absurd cc, (λ _. fresh, (λ e. absurd cc, (λ e. absurd cc, tt)))),
+              ),
+            ),
+          ),
+        ),
+      ) (rules.rules Unique))
 
-  pub fits_not : (old new : State) → ExecutesInside 0 add_receipt cells old new (Err not_unique) → IsTrue old.is_open × (IsHub old → Rising (apply_all (AddReceipt row ∷ []) (tables_in old.now.trees)) → ⊥)
+  pub fits_not : (old new : State) → ExecutesInside 0 add_receipt cells old new (Err not_unique) → IsTrue old.is_open
+      × (IsHub old → Rising (apply_all (AddReceipt row ∷ []) (tables_in old.now.trees)) → ⊥)
   fits_not old new h =
-      let it = refused hub_schema 6 12 _ _ _ _ _ refl (λ _ _. refl) add_receipt terms 6 add_receipt_is add_receipt_plain old new cells h in
+      let it = refused hub_schema 6 12 _ _ _ _ _ refl (λ _ _. refl) add_receipt terms 6 add_receipt_is
+      add_receipt_plain old new cells h in
       (it.0, λ hub rising. it.1 hub.schema (keeps old hub rising))

@@ -1,5 +1,6 @@
 -- One change after another.
-use Rattle.std.proofs.Common.{◌≡◌, ◌||◌, ◌==◌, ◌^◌, nat_le, Bool, cond, ap₂, arith, inl, inr, ℕ, List, [], ◌∷◌, true, false, Result, Ok, Err, OnOk, IsTrue, refl, sym, ap, subst, ◌∙◌, true≢false}
+use Rattle.std.proofs.Common.{◌≡◌, ◌||◌, ◌==◌, ◌^◌, nat_le, Bool, cond, ap₂, arith, inl, inr, ℕ, List, [], ◌∷◌, true}
+use Rattle.std.proofs.Common.{false, Result, Ok, Err, OnOk, IsTrue, refl, sym, ap, subst, ◌∙◌, true≢false}
 use Rattle.std.proofs.lemmas.Bool.{cases_Bool}
 use Rattle.sqlite_trees.specs.declared.store.Store.{Ghosts}
 use Rattle.sqlite_schema.specs.declared.command.Command.TheVariants.{Nothing}
@@ -17,7 +18,9 @@ use Rattle.std.proofs.lemmas.Bool.{and_parts}
 use Rattle.std.proofs.lemmas.Bool.Decides.{nat_tests}
 use Rattle.hub_tables.specs.Keys.{replace}
 use Rattle.hub_tables.specs.Rows.{same, same_mail, content_cmp, mail_cmp}
-use Rattle.hub_tables.specs.declared.change.Change.TheVariants.{AddOrder, AddLine, SetLine, AddAdvice, AddPallet, SetPallet, AddContent, AddReceipt, Remember, AddMail, SetMail}
+use Rattle.hub_tables.specs.declared.change.Change.TheVariants.{AddOrder, AddLine, SetLine, AddAdvice, AddPallet}
+use Rattle.hub_tables.specs.declared.change.Change.TheVariants.{SetPallet, AddContent, AddReceipt, Remember, AddMail}
+use Rattle.hub_tables.specs.declared.change.Change.TheVariants.{SetMail}
 use Rattle.hub_tables.specs.declared.rows.ContentRow.{ContentRow}
 use Rattle.hub_tables.specs.declared.rows.MailRow.{MailRow}
 use Rattle.hub_tables.proofs.KeyOrder.{any_put}
@@ -54,14 +57,22 @@ unfolding understood everything
 nothing_plain = (refl, refl)
 
 -- an empty text changes nothing
-pub nothing_made : (old new : State) (r : Result ℕ Error) → IsHub old → old.in_transaction ≡ true → ExecutesInside 0 [] [] old new r → OnOk r (Makes (apply_all []) old new)
+pub nothing_made : (old new : State) (r : Result ℕ Error) → IsHub old → old.in_transaction ≡ true
+    → ExecutesInside 0 [] [] old new r → OnOk r (Makes (apply_all []) old new)
 nothing_made old new (Err e) hub begun h = tt
 nothing_made old new (Ok count) hub begun h =
     let same = (runs_as [] [] old new hub_schema hub.schema Nothing nothing_is nothing_plain count h.0).0.0 in
-    record { hub = same_hub old new same.now_is hub; tables = ap (λ d. tables_in d.trees) same.now_is; committed = same.committed_is; mode = same.mode ∙ begun }
+    record {
+      hub = same_hub old new same.now_is hub;
+      tables = ap (λ d. tables_in d.trees) same.now_is;
+      committed =
+          same.committed_is;
+      mode = same.mode ∙ begun;
+    }
 
 -- a statement that ran in a transaction met an open connection
-pub was_open : {S : Type 0} (g : Ghosts S) (sql : List ℕ) (params : _) (old new : Held S) (r : Result ℕ Error) → Executed g sql params old new r → HasCleanDisk (state g new)
+pub was_open : {S : Type 0} (g : Ghosts S) (sql : List ℕ) (params : _) (old new : Held S) (r : Result ℕ Error)
+    → Executed g sql params old new r → HasCleanDisk (state g new)
     → OnOk (ended r) (IsTrue (state g old).is_open × IsTrue (state g old).in_transaction)
 was_open g sql params old new (Err e) did clean = tt
 was_open g sql params old new (Ok count) did clean = elim (cases_Bool old.in_transaction) [
@@ -70,23 +81,32 @@ was_open g sql params old new (Ok count) did clean = elim (cases_Bool old.in_tra
 ]
 
 -- the first statement ran, and all changes are left
-pub run_none : (all : List Change) (a b : State) → Acts [] a b (Ok tt) → (HasCleanDisk b → IsTrue a.is_open × IsTrue a.in_transaction) → HasRun all all a b
+pub run_none : (all : List Change) (a b : State) → Acts [] a b (Ok tt)
+    → (HasCleanDisk b → IsTrue a.is_open × IsTrue a.in_transaction) → HasRun all all a b
 run_none all a b it met = record {
-  makes = λ clean hub. let did = it.makes clean hub (met clean).1 in record { hub = did.hub; tables = ap (apply_all all) did.tables; committed = did.committed; mode = did.mode };
+  makes = λ clean hub. let did = it.makes clean hub (met clean).1 in
+      record { hub = did.hub; tables = ap (apply_all all) did.tables; committed = did.committed; mode = did.mode };
   begun = met;
   splits = λ t. (t, refl);
   kept = it.kept;
   survives = it.survives;
 }
 
-pub run_one : (all left : List Change) (change : Change) (a b c : State) → HasRun all (change ∷ left) a b → Acts (change ∷ []) b c (Ok tt) → HasRun all left a c
+pub run_one : (all left : List Change) (change : Change) (a b c : State) → HasRun all (change ∷ left) a b
+    → Acts (change ∷ []) b c (Ok tt) → HasRun all left a c
 run_one all left change a b c so_far it =
     let before = clean_before b c _ it.survives in
     record {
       makes = λ clean hub.
           let was = so_far.makes (before clean) hub in
           let did = it.makes clean was.hub was.mode in
-          record { hub = did.hub; tables = ap (apply_all left) did.tables ∙ was.tables; committed = did.committed ∙ was.committed; mode = did.mode };
+          record {
+            hub = did.hub;
+            tables = ap (apply_all left) did.tables ∙ was.tables;
+            committed = did.committed
+                ∙ was.committed;
+            mode = did.mode;
+          };
       begun = λ clean. so_far.begun (before clean);
       splits = λ t. let u = so_far.splits t in (apply_all (change ∷ []) u.0, u.1);
       kept = λ clean. kept_then a b c (so_far.kept (before clean)) (it.kept clean);
@@ -95,13 +115,15 @@ run_one all left change a b c so_far it =
 
 pub run_all : (all : List Change) (a b : State) → HasRun all [] a b → Acts all a b (Ok tt)
 run_all all a b it = record {
-  makes = λ clean hub begun. let did = it.makes clean hub in record { hub = did.hub; tables = did.tables; committed = did.committed; mode = did.mode };
+  makes = λ clean hub begun. let did = it.makes clean hub in
+      record { hub = did.hub; tables = did.tables; committed = did.committed; mode = did.mode };
   unclean = λ clean no. absurd (let e = no in cc);
   kept = it.kept;
   survives = it.survives;
 }
 
-any_replaced : {X : Type 0} (p at : X → Bool) (row : X) (xs : List X) → ((x : X) → at x ≡ true → p row ≡ p x) → list_any p (replace at row xs) ≡ list_any p xs
+any_replaced : {X : Type 0} (p at : X → Bool) (row : X) (xs : List X) → ((x : X) → at x ≡ true → p row ≡ p x)
+    → list_any p (replace at row xs) ≡ list_any p xs
 any_replaced p at row [] same = refl
 any_replaced p at row (x ∷ xs) same = ap₂ ◌||◌ (one (at x) refl) (any_replaced p at row xs same)
   where
@@ -127,16 +149,20 @@ great_stays (AddAdvice row) t h = h
 great_stays (AddPallet row) t h = h
 great_stays (SetPallet row) t h = h
 great_stays (AddContent row) t h =
-    ap (λ b. b || list_any great_entry t.mail) (any_put content_cmp great_place t.contents row) ∙ more_great (list_any great_place t.contents) (list_any great_entry t.mail) (great_place row) h
+    ap (λ b. b || list_any great_entry t.mail) (any_put content_cmp great_place t.contents row)
+    ∙ more_great (list_any great_place t.contents) (list_any great_entry t.mail) (great_place row) h
 great_stays (AddReceipt row) t h = h
 great_stays (Remember row) t h = h
 great_stays (AddMail row) t h =
-    ap (λ b. list_any great_place t.contents || b) (any_put mail_cmp great_entry t.mail row) ∙ other_great (list_any great_place t.contents) (list_any great_entry t.mail) (great_entry row) h
+    ap (λ b. list_any great_place t.contents || b) (any_put mail_cmp great_entry t.mail row)
+    ∙ other_great (list_any great_place t.contents) (list_any great_entry t.mail) (great_entry row) h
 great_stays (SetMail row) t h =
-    ap (λ b. list_any great_place t.contents || b) (any_replaced great_entry (same_mail row) row t.mail (λ old e. ap (λ n. nat_le (2 ^ 63) n) (sym (same_number old e)))) ∙ h
+    ap (λ b. list_any great_place t.contents || b) (any_replaced great_entry (same_mail row) row t.mail (λ old e. ap (λ
+    n. nat_le (2 ^ 63) n) (sym (same_number old e)))) ∙ h
   where
     same_number : (old : MailRow) → same_mail row old ≡ true → old.number ≡ row.number
-    same_number old e = let alike = (and_parts (same old.supplier row.supplier) (old.number == row.number) e).1 in grind (arith, nat_tests, alike)
+    same_number old e = let alike = (and_parts (same old.supplier row.supplier) (old.number == row.number) e).1 in
+        grind (arith, nat_tests, alike)
 
 there : (a b c : Bool) → c ≡ true → ((a || (c || false)) || b) ≡ true
 there true b c h = refl
@@ -149,16 +175,21 @@ there_too false true c h = refl
 there_too false false true h = refl
 there_too false false false h = absurd cc
 
-pub place_is_great : (row : ContentRow) → great_place row ≡ true → (t : Tables) → has_great (apply_all (AddContent row ∷ []) t) ≡ true
+pub place_is_great : (row : ContentRow) → great_place row ≡ true → (t : Tables)
+    → has_great (apply_all (AddContent row ∷ []) t) ≡ true
 place_is_great row h t =
-    ap (λ b. b || list_any great_entry t.mail) (any_put content_cmp great_place t.contents row) ∙ there (list_any great_place t.contents) (list_any great_entry t.mail) (great_place row) h
+    ap (λ b. b || list_any great_entry t.mail) (any_put content_cmp great_place t.contents row)
+    ∙ there (list_any great_place t.contents) (list_any great_entry t.mail) (great_place row) h
 
-pub entry_is_great : (row : MailRow) → great_entry row ≡ true → (t : Tables) → has_great (apply_all (AddMail row ∷ []) t) ≡ true
+pub entry_is_great : (row : MailRow) → great_entry row ≡ true → (t : Tables)
+    → has_great (apply_all (AddMail row ∷ []) t) ≡ true
 entry_is_great row h t =
-    ap (λ b. list_any great_place t.contents || b) (any_put mail_cmp great_entry t.mail row) ∙ there_too (list_any great_place t.contents) (list_any great_entry t.mail) (great_entry row) h
+    ap (λ b. list_any great_place t.contents || b) (any_put mail_cmp great_entry t.mail row)
+    ∙ there_too (list_any great_place t.contents) (list_any great_entry t.mail) (great_entry row) h
 
 -- a change that is refused before any statement
-pub refused_before : (changes : List Change) (s : State) → ((t : Tables) → has_great (apply_all changes t) ≡ true) → Acts changes s s (Err Unclean)
+pub refused_before : (changes : List Change) (s : State) → ((t : Tables) → has_great (apply_all changes t) ≡ true)
+    → Acts changes s s (Err Unclean)
 refused_before changes s great = record {
   makes = λ clean hub begun. tt;
   unclean = λ clean e. inr great;
@@ -172,11 +203,15 @@ great_later [] t h = h
 great_later (change ∷ changes) t h = great_later changes (apply change t) (great_stays change t h)
 
 -- the first statement failed
-pub none_run : (all : List Change) (a b : State) (fault : StoreFault) → Acts [] a b (Err fault) → Acts all a b (Err fault)
+pub none_run : (all : List Change) (a b : State) (fault : StoreFault) → Acts [] a b (Err fault)
+    → Acts all a b (Err fault)
 none_run all a b fault it = record {
   makes = λ clean hub begun. tt;
   unclean = λ clean e. elim (it.unclean clean e) [
-    | inl refused ↦ inl (refused.0, λ hub rising. great_later all (tables_in a.now.trees) (refused.1 hub (hub_rises a hub)))
+    | inl refused ↦ inl (
+      refused.0,
+      λ hub rising. great_later all (tables_in a.now.trees) (refused.1 hub (hub_rises a hub)),
+    )
     | inr great ↦ absurd (true≢false (sym (great empty)))
   ];
   kept = it.kept;
@@ -184,7 +219,8 @@ none_run all a b fault it = record {
 }
 
 -- a change failed
-pub run_failed : (all left : List Change) (change : Change) (a b c : State) (fault : StoreFault) → HasRun all (change ∷ left) a b → Acts (change ∷ []) b c (Err fault) → Acts all a c (Err fault)
+pub run_failed : (all left : List Change) (change : Change) (a b c : State) (fault : StoreFault)
+    → HasRun all (change ∷ left) a b → Acts (change ∷ []) b c (Err fault) → Acts all a c (Err fault)
 run_failed all left change a b c fault so_far it =
     let before = clean_before b c _ it.survives in
     record {
@@ -194,10 +230,13 @@ run_failed all left change a b c fault so_far it =
           (so_far.begun (before clean)).0,
           λ hub rising.
               let was = so_far.makes (before clean) hub in
-              let great = refused.1 was.hub (rising_before left (apply_all (change ∷ []) (tables_in b.now.trees)) (subst Rising (sym was.tables) rising)) in
-              subst (λ t. has_great t ≡ true) was.tables (great_later left (apply_all (change ∷ []) (tables_in b.now.trees)) great),
+              let great = refused.1 was.hub (rising_before left (apply_all (change
+              ∷ []) (tables_in b.now.trees)) (subst Rising (sym was.tables) rising)) in
+              subst (λ t. has_great t ≡ true) was.tables (great_later left (apply_all (change
+              ∷ []) (tables_in b.now.trees)) great),
         )
-        | inr great ↦ inr (λ t. let u = so_far.splits t in ap has_great u.1 ∙ great_later left (apply_all (change ∷ []) u.0) (great u.0))
+        | inr great ↦ inr (λ t. let u =
+            so_far.splits t in ap has_great u.1 ∙ great_later left (apply_all (change ∷ []) u.0) (great u.0))
       ];
       kept = λ clean. kept_then a b c (so_far.kept (before clean)) (it.kept clean);
       survives = survives_then a b c _ _ (λ _. ⊥) (λ _ db none. none) (λ _ db none. none) so_far.survives it.survives;

@@ -30,7 +30,8 @@ pub record Acts (changes : List Change) (old new : State) (result : Result (Unit
   pub makes : HasCleanDisk new → IsHub old → IsTrue old.in_transaction → OnOk result (Makes (apply_all changes) old new)
   pub unclean :
       HasCleanDisk new → result ≡ Err Unclean →
-      (IsTrue old.is_open × (IsHub old → Rising (apply_all changes (tables_in old.now.trees)) → has_great (apply_all changes (tables_in old.now.trees)) ≡ true))
+      (IsTrue old.is_open × (IsHub old → Rising (apply_all changes (tables_in old.now.trees))
+      → has_great (apply_all changes (tables_in old.now.trees)) ≡ true))
       ⊎ ((t : Tables) → has_great (apply_all changes t) ≡ true)
   pub kept : HasCleanDisk new → KeepsCommit old new
   pub survives : Survives old new (λ _. ⊥)

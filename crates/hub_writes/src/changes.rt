@@ -21,7 +21,9 @@ use sqlite::{Alter, Transaction};
 fn touch<S: Alter>(tx: &mut Transaction<'_, S>) -> Result<(), StoreFault>
     ensures same_reference { tx.new.conn.ghost_name ≡ tx.old.conn.ghost_name }
     ensures acts { Acts [] (state S.Store tx.old.conn.now) (state S.Store tx.new.conn.now) result }
-    ensures was_open { HasCleanDisk (state S.Store tx.new.conn.now) → OnOk result (IsTrue (state S.Store tx.old.conn.now).is_open × IsTrue (state S.Store tx.old.conn.now).in_transaction) }
+    ensures was_open { HasCleanDisk (state S.Store tx.new.conn.now) →
+        OnOk result (IsTrue (state S.Store tx.old.conn.now).is_open
+        × IsTrue (state S.Store tx.old.conn.now).in_transaction) }
 {
     update_ended(tx.execute("", &[]))
 }
@@ -53,7 +55,8 @@ pub fn apply_all<S: Alter>(
 ) -> Result<(), StoreFault>
     ensures same_reference { tx.new.conn.ghost_name ≡ tx.old.conn.ghost_name }
     ensures acts { Acts changes.now (state S.Store tx.old.conn.now) (state S.Store tx.new.conn.now) result }
-    ensures was_open { HasCleanDisk (state S.Store tx.new.conn.now) → OnOk result (IsTrue (state S.Store tx.old.conn.now).is_open) }
+    ensures was_open { HasCleanDisk (state S.Store tx.new.conn.now) →
+        OnOk result (IsTrue (state S.Store tx.old.conn.now).is_open) }
 {
     touch(tx)?;
     'changes: for change in changes {

@@ -7,7 +7,7 @@ use sqlite::{Error, ErrorCode};
 use sqlite_schema::schema::Constraint;
 
 /// Out of memory, or all else.
-pub fn fault_by(error: &Error) -> StoreFault
+pub(crate) fn fault_by(error: &Error) -> StoreFault
     ensures { result ≡ fault_of error.now }
 {
     match error {
@@ -29,7 +29,7 @@ fn refusal_by(error: &Error) -> StoreFault
 }
 
 /// What an INSERT comes to.
-pub fn insert_ended(given: Result<usize, Error>) -> Result<(), StoreFault>
+pub(crate) fn insert_ended(given: Result<usize, Error>) -> Result<(), StoreFault>
     ensures { result ≡ inserted given }
 {
     match given {
@@ -39,7 +39,7 @@ pub fn insert_ended(given: Result<usize, Error>) -> Result<(), StoreFault>
 }
 
 /// What an UPDATE comes to.
-pub fn update_ended(given: Result<usize, Error>) -> Result<(), StoreFault>
+pub(crate) fn update_ended(given: Result<usize, Error>) -> Result<(), StoreFault>
     ensures { result ≡ ended given }
 {
     match given {
@@ -49,7 +49,7 @@ pub fn update_ended(given: Result<usize, Error>) -> Result<(), StoreFault>
 }
 
 /// What an UPDATE comes to that is to meet no row, as each that it meets is none of the kinds.
-pub fn spare_ended(given: Result<usize, Error>) -> Result<(), StoreFault>
+pub(crate) fn spare_ended(given: Result<usize, Error>) -> Result<(), StoreFault>
     ensures { result ≡ spared given }
 {
     match given {
@@ -60,7 +60,7 @@ pub fn spare_ended(given: Result<usize, Error>) -> Result<(), StoreFault>
 }
 
 /// What a COMMIT comes to.
-pub fn commit_ended(given: Result<(), Error>) -> Result<(), StoreFault>
+pub(crate) fn commit_ended(given: Result<(), Error>) -> Result<(), StoreFault>
     ensures { result ≡ ended given }
 {
     match given {

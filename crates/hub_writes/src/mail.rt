@@ -41,7 +41,8 @@ pub fn add_mail<S: Alter>(tx: &mut Transaction<'_, S>, row: &MailRow) -> Result<
 /// Sets no entry, as one has a number that SQL has not. A stored entry past those of SQL is none of the kinds.
 fn spare_great<S: Alter>(tx: &mut Transaction<'_, S>) -> Result<(), StoreFault>
     ensures same_reference { tx.new.conn.ghost_name ≡ tx.old.conn.ghost_name }
-    ensures acts { (row : MailRow) → great_entry row ≡ true → row.number < 2 ^ 64 → Acts (SetMail row ∷ []) (state S.Store tx.old.conn.now) (state S.Store tx.new.conn.now) result }
+    ensures acts { (row : MailRow) → great_entry row ≡ true → row.number < 2 ^ 64 →
+        Acts (SetMail row ∷ []) (state S.Store tx.old.conn.now) (state S.Store tx.new.conn.now) result }
 {
     let most = number_value(0x7FFF_FFFF_FFFF_FFFF);
     spare_ended(tx.execute("UPDATE mail SET taken = taken WHERE number > ?1", &[most]))

@@ -13,7 +13,8 @@ use sqlite::{Alter, Transaction};
 /// Adds a pallet.
 pub fn add_pallet<S: Alter>(tx: &mut Transaction<'_, S>, row: &PalletRow) -> Result<(), StoreFault>
     ensures same_reference { tx.new.conn.ghost_name ≡ tx.old.conn.ghost_name }
-    ensures acts { Acts (AddPallet row.now ∷ []) (state S.Store tx.old.conn.now) (state S.Store tx.new.conn.now) result }
+    ensures acts { Acts (AddPallet row.now ∷ []) (state S.Store tx.old.conn.now)
+        (state S.Store tx.new.conn.now) result }
 {
     let sscc = sscc_value(&row.sscc);
     let supplier = gln_value(&row.supplier);
@@ -28,7 +29,8 @@ pub fn add_pallet<S: Alter>(tx: &mut Transaction<'_, S>, row: &PalletRow) -> Res
 /// Sets what stands under the key of a pallet.
 pub fn set_pallet<S: Alter>(tx: &mut Transaction<'_, S>, row: &PalletRow) -> Result<(), StoreFault>
     ensures same_reference { tx.new.conn.ghost_name ≡ tx.old.conn.ghost_name }
-    ensures acts { Acts (SetPallet row.now ∷ []) (state S.Store tx.old.conn.now) (state S.Store tx.new.conn.now) result }
+    ensures acts { Acts (SetPallet row.now ∷ []) (state S.Store tx.old.conn.now)
+        (state S.Store tx.new.conn.now) result }
 {
     let sscc = sscc_value(&row.sscc);
     let supplier = gln_value(&row.supplier);

@@ -16,7 +16,8 @@ pub fn add_receipt<S: Alter>(
     row: &ReceiptRow,
 ) -> Result<(), StoreFault>
     ensures same_reference { tx.new.conn.ghost_name ≡ tx.old.conn.ghost_name }
-    ensures acts { Acts (AddReceipt row.now ∷ []) (state S.Store tx.old.conn.now) (state S.Store tx.new.conn.now) result }
+    ensures acts { Acts (AddReceipt row.now ∷ []) (state S.Store tx.old.conn.now)
+        (state S.Store tx.new.conn.now) result }
 {
     let sscc = sscc_value(&row.sscc);
     let gtin = gtin_value(&row.gtin);

@@ -10,42 +10,42 @@ use hub_tables::{Answered, Arrival, Column, MailKind, Side};
 use sqlite_value::value::ValueRef;
 
 /// The digits of a GLN.
-pub fn gln_value(gln: &Gln) -> ValueRef<'_>
+pub(crate) fn gln_value(gln: &Gln) -> ValueRef<'_>
     ensures { owned result ≡ Blob gln.now }
 {
     ValueRef::Blob(gln.digits().as_slice())
 }
 
 /// The digits of a GTIN.
-pub fn gtin_value(gtin: &Gtin) -> ValueRef<'_>
+pub(crate) fn gtin_value(gtin: &Gtin) -> ValueRef<'_>
     ensures { owned result ≡ Blob gtin.now }
 {
     ValueRef::Blob(gtin.digits().as_slice())
 }
 
 /// The digits of an SSCC.
-pub fn sscc_value(sscc: &Sscc) -> ValueRef<'_>
+pub(crate) fn sscc_value(sscc: &Sscc) -> ValueRef<'_>
     ensures { owned result ≡ Blob sscc.now }
 {
     ValueRef::Blob(sscc.digits().as_slice())
 }
 
 /// A text.
-pub fn text_value(text: &Items<u8>) -> ValueRef<'_>
+pub(crate) fn text_value(text: &Items<u8>) -> ValueRef<'_>
     ensures { owned result ≡ Blob text.now }
 {
     ValueRef::Blob(text.as_slice())
 }
 
 /// Whether SQL has not the number.
-pub fn is_great(number: u64) -> bool
+pub(crate) fn is_great(number: u64) -> bool
     ensures { result ≡ nat_le (2 ^ 63) number }
 {
     number >= 0x8000_0000_0000_0000
 }
 
 /// A number. SQL has none from 2^63 on.
-pub fn number_value<'a>(number: u64) -> ValueRef<'a>
+pub(crate) fn number_value<'a>(number: u64) -> ValueRef<'a>
     requires { number < 2 ^ 63 }
     ensures { owned result ≡ Int (pos number) }
 {
@@ -53,21 +53,21 @@ pub fn number_value<'a>(number: u64) -> ValueRef<'a>
 }
 
 /// A line number or a quantity.
-pub fn count_value<'a>(count: u32) -> ValueRef<'a>
+pub(crate) fn count_value<'a>(count: u32) -> ValueRef<'a>
     ensures { owned result ≡ Int (pos count) }
 {
     number_value(u64::from(count))
 }
 
 /// A byte, as its number.
-pub fn byte_value<'a>(byte: u8) -> ValueRef<'a>
+pub(crate) fn byte_value<'a>(byte: u8) -> ValueRef<'a>
     ensures { owned result ≡ Int (pos byte) }
 {
     number_value(u64::from(byte))
 }
 
 /// The seconds of a moment.
-pub fn moment_value<'a>(moment: Moment) -> ValueRef<'a>
+pub(crate) fn moment_value<'a>(moment: Moment) -> ValueRef<'a>
     ensures value { owned result ≡ Int (pos moment) }
     ensures low { moment < 2 ^ 63 }
 {
@@ -75,7 +75,7 @@ pub fn moment_value<'a>(moment: Moment) -> ValueRef<'a>
 }
 
 /// The letter of an answer.
-pub fn answer_value<'a>(answer: &Column<Answered>) -> ValueRef<'a>
+pub(crate) fn answer_value<'a>(answer: &Column<Answered>) -> ValueRef<'a>
     ensures value { owned result ≡ Int (pos answer.now) }
     ensures low { answer.now < 256 }
 {
@@ -88,7 +88,7 @@ pub fn answer_value<'a>(answer: &Column<Answered>) -> ValueRef<'a>
 }
 
 /// The letter of a side.
-pub fn side_value<'a>(side: &Column<Side>) -> ValueRef<'a>
+pub(crate) fn side_value<'a>(side: &Column<Side>) -> ValueRef<'a>
     ensures value { owned result ≡ Int (pos side.now) }
     ensures low { side.now < 256 }
 {
@@ -100,7 +100,7 @@ pub fn side_value<'a>(side: &Column<Side>) -> ValueRef<'a>
 }
 
 /// The letter of a mailbox entry's type.
-pub fn kind_value<'a>(kind: &Column<MailKind>) -> ValueRef<'a>
+pub(crate) fn kind_value<'a>(kind: &Column<MailKind>) -> ValueRef<'a>
     ensures value { owned result ≡ Int (pos kind.now) }
     ensures low { kind.now < 256 }
 {
@@ -111,7 +111,7 @@ pub fn kind_value<'a>(kind: &Column<MailKind>) -> ValueRef<'a>
 }
 
 /// How far a pallet has come.
-pub fn arrival_value<'a>(arrival: &Column<Arrival>) -> ValueRef<'a>
+pub(crate) fn arrival_value<'a>(arrival: &Column<Arrival>) -> ValueRef<'a>
     ensures value { owned result ≡ Int (pos arrival.now) }
     ensures low { arrival.now < 256 }
 {
@@ -122,7 +122,7 @@ pub fn arrival_value<'a>(arrival: &Column<Arrival>) -> ValueRef<'a>
 }
 
 /// Yes or no.
-pub fn truth_value<'a>(truth: &Column<bool>) -> ValueRef<'a>
+pub(crate) fn truth_value<'a>(truth: &Column<bool>) -> ValueRef<'a>
     ensures value { owned result ≡ Int (pos truth.now) }
     ensures low { truth.now < 256 }
 {

@@ -1,5 +1,8 @@
 -- What SELECT answers.
-use Rattle.std.proofs.Common.{Vec, Result, Ok, Err, IfOk, OnOk, ◌≡◌, ℕ, ◌==◌, ◌≤◌, ◌^◌, nat_lt, ◌⊎◌, inl, inr, ℤ, pos, negsuc, zero, suc, ◌+◌, ◌<◌, length, get_or, Ordering, Bool, true, false, ◌&&◌, if◌then◌else◌, Some, List, [], ◌∷◌, ◌++◌, map, filter, bytes_eq, refl, sym, ap, ◌∙◌, subst, arith}
+use Rattle.std.proofs.Common.{Vec, Result, Ok, Err, IfOk, OnOk, ◌≡◌, ℕ, ◌==◌, ◌≤◌, ◌^◌, nat_lt, ◌⊎◌, inl, inr, ℤ, pos}
+use Rattle.std.proofs.Common.{negsuc, zero, suc, ◌+◌, ◌<◌, length, get_or, Ordering, Bool, true, false, ◌&&◌}
+use Rattle.std.proofs.Common.{if◌then◌else◌, Some, List, [], ◌∷◌, ◌++◌, map, filter, bytes_eq, refl, sym, ap, ◌∙◌}
+use Rattle.std.proofs.Common.{subst, arith}
 use Rattle.std.specs.List.{AllByRecursion, flat_map}
 use Rattle.std.specs.List.Sorted.{IsPermutation, IsSorted, IsSortedByKey}
 use Rattle.std.specs.Ordering.{is_eq, int_cmp, on}
@@ -27,9 +30,12 @@ use Rattle.sqlite.specs.declared.error.Error.{Error}
 use Rattle.sqlite.proofs.Callers.{IsPlain, never_commits}
 
 -- the ways to fill one slot are the rows that pass
-pub matched : {E : Type 0} (f : Row → E) (p : Row → Bool) (rows : List Row) → flat_map (λ r. if p r then f r ∷ [] else []) rows ≡ map f (filter p rows)
+pub matched : {E : Type 0} (f : Row → E) (p : Row → Bool) (rows : List Row) → flat_map
+    (λ r. if p r then f r ∷ [] else []) rows ≡ map f (filter p rows)
 matched f p [] = refl
-matched f p (r ∷ rows) = elim (p r) as (λ b. (if b then f r ∷ [] else []) ++ flat_map (λ r. if p r then f r ∷ [] else []) rows ≡ map f (if b then r ∷ filter p rows else filter p rows))
+matched f p (r ∷ rows) =
+    elim (p r) as (λ b. (if b then f r ∷ [] else []) ++ flat_map (λ r. if p r then f r ∷ [] else []) rows ≡ map f
+    (if b then r ∷ filter p rows else filter p rows))
     [ true ↦ ap (λ xs. f r ∷ xs) (matched f p rows) | false ↦ matched f p rows ]
 
 pub and_true : (b : Bool) → (b && true) ≡ b
@@ -41,16 +47,21 @@ is_truth true = refl
 is_truth false = refl
 
 -- a cell of bytes is those bytes
-pub same_bytes : (v : Value) (b bytes : List ℕ) → v ≡ Blob b → is_true (binary (Compare Eq Binary) v (Blob bytes)) ≡ bytes_eq b bytes
+pub same_bytes : (v : Value) (b bytes : List ℕ) → v ≡ Blob b → is_true
+    (binary (Compare Eq Binary) v (Blob bytes)) ≡ bytes_eq b bytes
 unfolding binary
-same_bytes v b bytes is = ap (λ x. is_true (binary (Compare Eq Binary) x (Blob bytes))) is ∙ (is_truth _ ∙ (ap is_eq (value_cmp-Blob b bytes) ∙ is_eq-slice_cmp b bytes))
+same_bytes v b bytes is =
+    ap (λ x. is_true (binary (Compare Eq Binary) x (Blob bytes))) is ∙
+    (is_truth _ ∙ (ap is_eq (value_cmp-Blob b bytes) ∙ is_eq-slice_cmp b bytes))
 
 -- Numbers are shown as naturals: each below 2^64 as it is, and all others past that.
-module _ (shown : ℤ → ℕ) (plain : (n : ℕ) → n < 2 ^ 64 → shown (pos n) ≡ n) (great : (n : ℕ) → 2 ^ 64 ≤ n → 2 ^ 64 ≤ shown (pos n)) (past : (n : ℕ) → 2 ^ 64 ≤ shown (negsuc n)) where
+module _ (shown : ℤ → ℕ) (plain : (n : ℕ) → n < 2 ^ 64 → shown (pos n) ≡ n)
+    (great : (n : ℕ) → 2 ^ 64 ≤ n → 2 ^ 64 ≤ shown (pos n)) (past : (n : ℕ) → 2 ^ 64 ≤ shown (negsuc n)) where
   differ : (a b : ℕ) → 2 ^ 64 ≤ a → b < 2 ^ 64 → false ≡ (a == b)
   differ a b high low = grind (arith, nat_tests)
 
-  by_size : (n number : ℕ) → number < 2 ^ 64 → (n < 2 ^ 64) ⊎ (2 ^ 64 ≤ n) → is_eq (int_cmp (pos n) (pos number)) ≡ (shown (pos n) == number)
+  by_size : (n number : ℕ) → number < 2 ^ 64 → (n < 2 ^ 64) ⊎ (2 ^ 64 ≤ n) → is_eq (int_cmp (pos n) (pos number)) ≡
+      (shown (pos n) == number)
   by_size n number low (inl small) = rw (plain n small, both n number)
     where
       both : (n number : ℕ) → is_eq (int_cmp (pos n) (pos number)) ≡ (n == number)
@@ -69,7 +80,8 @@ module _ (shown : ℤ → ℕ) (plain : (n : ℕ) → n < 2 ^ 64 → shown (pos 
   same_shown (negsuc n) number low = differ (shown (negsuc n)) number (past n) low
 
   -- a cell of a number is that number
-  pub same_int : (v : Value) (n : ℤ) (number : ℕ) → number < 2 ^ 64 → v ≡ Int n → is_true (binary (Compare Eq Binary) v (Int (pos number))) ≡ (shown n == number)
+  pub same_int : (v : Value) (n : ℤ) (number : ℕ) → number < 2 ^ 64 → v ≡ Int n → is_true
+      (binary (Compare Eq Binary) v (Int (pos number))) ≡ (shown n == number)
   unfolding binary
   same_int v n number low is = rw is (is_truth _ ∙ (ap is_eq (value_cmp-Int n (pos number)) ∙ same_shown n number low))
 
@@ -91,15 +103,19 @@ pub length_map : {X Y : Type 0} (f : X → Y) (xs : List X) → length (map f xs
 length_map f [] = refl
 length_map f (x ∷ xs) = ap suc (length_map f xs)
 
-pub all_map : {X Y : Type 0} (P : Y → Type 0) (f : X → Y) (xs : List X) → ((x : X) → P (f x)) → AllByRecursion P (map f xs)
+pub all_map : {X Y : Type 0} (P : Y → Type 0) (f : X → Y) (xs : List X) → ((x : X) → P (f x)) → AllByRecursion P
+    (map f xs)
 all_map P f [] h = tt
 all_map P f (x ∷ xs) h = (h x, all_map P f xs h)
 
-pub every_shuffled : {X : Type 0} (P : X → Type 0) (xs ys : List X) → IsPermutation xs ys → AllByRecursion P xs → AllByRecursion P ys
+pub every_shuffled : {X : Type 0} (P : X → Type 0) (xs ys : List X) → IsPermutation xs ys → AllByRecursion P xs
+    → AllByRecursion P ys
 every_shuffled P xs ys s h = recursion_from_All P ys (All-permutation P xs ys s (All-from_recursion P xs h))
 
 -- what was sorted by a key that each shows is sorted by what is shown
-pub sorted_shown : (key : Row → Row) (cmp : Row → Row → Ordering) (os : List Output) → AllByRecursion (λ o. o.0 ≡ key o.1) os → IsSorted (on (λ (o : Output). o.0) cmp) os → IsSortedByKey key cmp (map (λ (o : Output). o.1) os)
+pub sorted_shown : (key : Row → Row) (cmp : Row → Row → Ordering) (os : List Output) → AllByRecursion
+    (λ o. o.0 ≡ key o.1) os → IsSorted (on (λ (o : Output). o.0) cmp) os → IsSortedByKey key cmp
+    (map (λ (o : Output). o.1) os)
 sorted_shown key cmp os keyed sorted k d low high =
     let none : Output = (key d, d) in
     let snd = λ (o : Output). o.1 in
@@ -110,7 +126,9 @@ sorted_shown key cmp os keyed sorted k d low high =
     rw (at_k, at_next, sym key_k, sym key_next, sorted k none low (subst (λ n. k + 1 < n) (length_map snd os) high))
 
 -- a query that has no RETURNING leaves all as it was
-pub shown_same : (sql : List ℕ) (params : Row) (old new : State) (r : Result (Vec Row Global) Error) → IsPlain (understood old.now.schema sql) → IfOk r (λ rows. Shown sql params old new rows.items) → OnOk r (IsUnchanged old new)
+pub shown_same : (sql : List ℕ) (params : Row) (old new : State) (r : Result (Vec Row Global) Error) → IsPlain
+    (understood old.now.schema sql) → IfOk r (λ rows. Shown sql params old new rows.items) → OnOk r
+    (IsUnchanged old new)
 unfolding Shown
 shown_same sql params old new (Err e) plain h = tt
 shown_same sql params old new (Ok rows) plain h =
@@ -118,5 +136,10 @@ shown_same sql params old new (Ok rows) plain h =
     (subst (ShowsRows old new sql h.0 (timed params h.0.formats h.1.now) rows.items) none h.2).3
 
 -- of a plain query no commit shows
-pub shows_no_commit : (schema : Schema) (sql : List ℕ) (params : Row) (old new : State) → IsPlain (understood schema sql) → Survives old new (CommitsShowing sql params old) → Survives old new (λ _. ¬ (old.now.schema ≡ schema))
-shows_no_commit schema sql params old new plain = survives_weaker old new _ _ (λ _ db commits has. never_commits sql params old db (subst (λ s. IsPlain (understood s sql)) (sym has) plain) commits)
+pub shows_no_commit : (schema : Schema) (sql : List ℕ) (params : Row) (old new : State) → IsPlain
+    (understood schema sql) → Survives old new (CommitsShowing sql params old) → Survives old new
+    (λ _. ¬ (old.now.schema ≡ schema))
+shows_no_commit schema sql params old new plain =
+    survives_weaker old new _ _
+    (λ _ db commits has. never_commits sql params old db
+    (subst (λ s. IsPlain (understood s sql)) (sym has) plain) commits)

@@ -1,5 +1,6 @@
 -- What INSERT does to the trees.
-use Rattle.std.proofs.Common.{◌≡◌, ◌⊎◌, inl, inr, ℕ, ◌/◌, ℤ, length, List, [], ◌++◌, slice_get, Bool, true, false, cond, Some, None, Ok, Err, Result, refl, sym, ap, subst, ◌∙◌}
+use Rattle.std.proofs.Common.{◌≡◌, ◌⊎◌, inl, inr, ℕ, ◌/◌, ℤ, length, List, [], ◌++◌, slice_get, Bool, true, false, cond}
+use Rattle.std.proofs.Common.{Some, None, Ok, Err, Result, refl, sym, ap, subst, ◌∙◌}
 use Rattle.sqlite.specs.declared.types.Value.{Value}
 use Rattle.sqlite.specs.declared.types.Value.TheVariants.{Null, Int}
 use Rattle.sqlite.specs.Order.{Row}
@@ -50,15 +51,22 @@ pub record Leaves (schema : Schema) (old : Trees) (edit : Edit) (now : Database)
   pub schema_is : now.schema ≡ schema
   pub step : Applies schema Enforced old edit now.trees
 
-module _ (schema : Schema) (place tree : ℕ) (name : List ℕ) (columns : List Column) (primary : List ℕ) (uniques : List (List ℕ)) (orders : List keys.Order)
-    (found : slice_get schema.tables place ≡ Some (plain_table tree name columns primary uniques orders)) (still : (olds news : List Row) → works schema Enforced 0 tree olds news ≡ []) where
-  pub inserts : (old new : State) (params : Row) (text : List ℕ) (terms : List Term) (width count : ℕ) → old.now.schema ≡ schema → Writes old new None (Insert place (Values terms width)) text params count
-      → Leaves schema old.now.trees (edit_of old.now.trees (plain_table tree name columns primary uniques orders) [] Chosen 0 (value_rows (params ++ []) width (length terms / width) terms)) new.now
+module _ (schema : Schema) (place tree : ℕ) (name : List ℕ) (columns : List Column) (primary : List ℕ)
+    (uniques : List (List ℕ)) (orders : List keys.Order)
+    (found : slice_get schema.tables place ≡ Some (plain_table tree name columns primary uniques orders))
+    (still : (olds news : List Row) → works schema Enforced 0 tree olds news ≡ []) where
+  pub inserts : (old new : State) (params : Row) (text : List ℕ) (terms : List Term) (width count : ℕ)
+      → old.now.schema ≡ schema → Writes old new None (Insert place (Values terms width)) text params count
+      → Leaves schema old.now.trees
+      (edit_of old.now.trees (plain_table tree name columns primary uniques orders) [] Chosen 0
+      (value_rows (params ++ []) width (length terms / width) terms)) new.now
   inserts old new params text terms width count has w =
       let table = plain_table tree name columns primary uniques orders in
       let db = old.now.trees in
       let command = Insert place (Values terms width) in
-      let done = went (rw found at (subst (λ s. Does old.step_limit (mode_of old) params (record old.now { schema = s }) text None command (Ok (w.tally, new.now))) has w.changed)) in
+      let done = went (rw found at
+      (subst (λ s. Does old.step_limit (mode_of old) params (record old.now { schema = s }) text None command
+      (Ok (w.tally, new.now))) has w.changed)) in
       let given = went done.1 in
       let counter = went given.2 in
       let mid = went counter.2 in
@@ -71,5 +79,6 @@ module _ (schema : Schema) (place tree : ℕ) (name : List ℕ) (columns : List 
       let step = one_step schema Enforced db mid.0 edit (still (taken_by db edit) edit.news) mid.1 in
       record {
         schema_is = ap (λ (d : Database). d.schema) now;
-        step = subst (Applies schema Enforced db _) (sym trees ∙ sym (ap (λ (d : Database). d.trees) now)) (subst (λ rows. Applies schema Enforced db (edit_of db table [] Chosen 0 rows) mid.0) given.1.1 step);
+        step = subst (Applies schema Enforced db _) (sym trees ∙ sym (ap (λ (d : Database). d.trees) now))
+            (subst (λ rows. Applies schema Enforced db (edit_of db table [] Chosen 0 rows) mid.0) given.1.1 step);
       }

@@ -1,5 +1,6 @@
 -- Rows of a table that are taken out, changed and put in again. Two tables with the same rows are one.
-use Rattle.std.proofs.Common.{◌≡◌, inl, inr, ℤ, Bool, true, false, not, if◌then◌else◌, List, [], ◌∷◌, map, drop, filter, IsTrue, Ordering, Less, Equal, Greater, is_eq, refl, sym, ap, ap₂, subst, ◌∙◌, true≢false}
+use Rattle.std.proofs.Common.{◌≡◌, inl, inr, ℤ, Bool, true, false, not, if◌then◌else◌, List, [], ◌∷◌, map, drop, filter}
+use Rattle.std.proofs.Common.{IsTrue, Ordering, Less, Equal, Greater, is_eq, refl, sym, ap, ap₂, subst, ◌∙◌, true≢false}
 use Rattle.std.specs.List.{AllByRecursion}
 use Rattle.std.specs.List.Sorted.{IsPermutation}
 use Rattle.std.specs.Ordering.{ordering_reverse}
@@ -39,21 +40,30 @@ never_both a b p q = let e = value_cmp_total.antisymm (rowid a) (rowid b) ∙ ap
 tied_same : (rows : List Row) (a b : Row) → IsTable rows → Has rows a → Has rows b → Tied a b → a ≡ b
 tied_same [] a b up h k tie = absurd h
 tied_same (r ∷ rows) a b up (inl h) (inl k) tie = h ∙ sym k
-tied_same (r ∷ rows) a b up (inl h) (inr k) tie = absurd (let lower = all_has _ rows b up.0 k in let same = rw h at tie in cc)
-tied_same (r ∷ rows) a b up (inr h) (inl k) tie = absurd (let lower = all_has _ rows a up.0 h in let same = tied_back value_cmp_total (rowid a) (rowid r) (rw k at tie) in cc)
+tied_same (r ∷ rows) a b up (inl h) (inr k) tie =
+    absurd (let lower = all_has _ rows b up.0 k in let same = rw h at tie in cc)
+tied_same (r ∷ rows) a b up (inr h) (inl k) tie =
+    absurd (let lower = all_has _ rows a up.0 h in let same = tied_back value_cmp_total (rowid a) (rowid r)
+    (rw k at tie) in cc)
 tied_same (r ∷ rows) a b up (inr h) (inr k) tie = tied_same rows a b up.1 h k tie
 
 -- two tables with the same rows are one
-same_rows : (xs ys : List Row) → IsTable xs → IsTable ys → ((r : Row) → Has xs r → Has ys r) → ((r : Row) → Has ys r → Has xs r) → xs ≡ ys
+same_rows : (xs ys : List Row) → IsTable xs → IsTable ys → ((r : Row) → Has xs r → Has ys r) →
+    ((r : Row) → Has ys r → Has xs r) → xs ≡ ys
 same_rows [] [] p q a b = refl
 same_rows [] (y ∷ ys) p q a b = absurd (b y (inl refl))
 same_rows (x ∷ xs) [] p q a b = absurd (a x (inl refl))
 same_rows (x ∷ xs) (y ∷ ys) p q a b =
     let first : x ≡ y = elim (a x (inl refl)) [
       | inl e ↦ e
-      | inr later ↦ elim (b y (inl refl)) [ inl e ↦ sym e | inr also ↦ absurd (never_both x y (all_has _ xs y p.0 also) (all_has _ ys x q.0 later)) ]
+      | inr later ↦ elim (b y (inl refl)) [
+        | inl e ↦ sym e
+        | inr also ↦ absurd
+            (never_both x y (all_has _ xs y p.0 also) (all_has _ ys x q.0 later))
+      ]
     ] in
-    let past = λ (z : Row) (zs : List Row) (up : AllByRecursion (λ r. value_cmp (rowid z) (rowid r) ≡ Less) zs) (r : Row) (h : Has zs r) (e : r ≡ z).
+    let past = λ (z : Row) (zs : List Row) (up : AllByRecursion (λ r. value_cmp (rowid z) (rowid r) ≡ Less) zs)
+    (r : Row) (h : Has zs r) (e : r ≡ z).
     let lower = rw e at (all_has _ zs r up h) in never_both z z lower lower in
     ap₂ ◌∷◌ first (same_rows xs ys p.1 q.1
     (λ r h. elim (a r (inr h)) [ inl e ↦ absurd (past x xs p.0 r h (e ∙ sym first)) | inr k ↦ k ])
@@ -66,7 +76,10 @@ put_all_table (n ∷ news) rows up = put_all_table news (put_row n rows) (IsTabl
 filter_table : (p : Row → Bool) (rows : List Row) → IsTable rows → IsTable (filter p rows)
 filter_table p [] up = tt
 filter_table p (r ∷ rows) up = elim (cases_Bool (p r)) [
-  | inl e ↦ rw e (all_from _ (filter p rows) (λ y h. all_has _ rows y up.0 (has_filtered p rows y h).0), filter_table p rows up.1)
+  | inl e ↦ rw e (
+    all_from _ (filter p rows) (λ y h. all_has _ rows y up.0 (has_filtered p rows y h).0),
+    filter_table p rows up.1,
+  )
   | inr e ↦ rw e (filter_table p rows up.1)
 ]
 
@@ -86,12 +99,17 @@ left_from (id ∷ ids) rows x h =
 
 left_has : (ids : List ℤ) (rows : List Row) (x : Row) → Has rows x → Lacks ids x → Has (without_all rows ids) x
 left_has [] rows x h lacks = h
-left_has (id ∷ ids) rows x h lacks = left_has ids (without_rowid id rows) x (has_kept (λ y. not (has_rowid id y)) rows x h (ap not (lacks id (inl refl)))) (λ other k. lacks other (inr k))
+left_has (id ∷ ids) rows x h lacks =
+    left_has ids (without_rowid id rows) x
+    (has_kept (λ y. not (has_rowid id y)) rows x h (ap not (lacks id (inl refl)))) (λ other k. lacks other (inr k))
 
 shuffled_has : {X : Type 0} (xs ys : List X) (x : X) → IsPermutation xs ys → Has xs x → Has ys x
-shuffled_has xs ys x s h = all_has (Has ys) xs x (every_shuffled (Has ys) ys xs (IsPermutation-sym xs ys s) (all_from (Has ys) ys (λ y k. k))) h
+shuffled_has xs ys x s h =
+    all_has (Has ys) xs x
+    (every_shuffled (Has ys) ys xs (IsPermutation-sym xs ys s) (all_from (Has ys) ys (λ y k. k))) h
 
-map_table : (f : Row → Row) (rows : List Row) → AllByRecursion (λ r. rowid (f r) ≡ rowid r) rows → IsTable rows → IsTable (map f rows)
+map_table : (f : Row → Row) (rows : List Row) → AllByRecursion (λ r. rowid (f r) ≡ rowid r) rows → IsTable rows
+    → IsTable (map f rows)
 map_table f [] keeps up = tt
 map_table f (r ∷ rows) keeps up = (
   all_from _ (map f rows) (λ y h.
@@ -103,7 +121,8 @@ map_table f (r ∷ rows) keeps up = (
 )
 
 -- The rows that pass are replaced, each by a row of its own rowid.
-module _ (table : Table) (show : Row → Row) (p : Row → Bool) (rows answer : List Row) (up : IsShaped shape.Table rows) (same : IsPermutation (map show (filter p rows)) answer)
+module _ (table : Table) (show : Row → Row) (p : Row → Bool) (rows answer : List Row) (up : IsShaped shape.Table rows)
+    (same : IsPermutation (map show (filter p rows)) answer)
     (shows : (r : Row) → (rowid (show r) ≡ rowid r) × (column (drop 1 (show r)) 0 ≡ rowid r)) where
   abbrev put_in_place : Row → Row
   put_in_place r = cast_row table (drop 1 (show r))
@@ -121,7 +140,8 @@ module _ (table : Table) (show : Row → Row) (p : Row → Bool) (rows answer : 
   int_at r h = all_has _ rows r up.1 h
 
   put_id : (r : Row) → Has rows r → rowid (put_in_place r) ≡ rowid r
-  put_id r h = ap (cast Integer) ((shows r).1 ∙ int_is (rowid r) (int_at r h)) ∙ cast_int (id_in (rowid r)) ∙ sym (int_is (rowid r) (int_at r h))
+  put_id r h = ap (cast Integer) ((shows r).1 ∙ int_is (rowid r) (int_at r h)) ∙ cast_int (id_in (rowid r)) ∙ sym
+      (int_is (rowid r) (int_at r h))
 
   shown_id : (r : Row) → Has rows r → Int (id_in (rowid (show r))) ≡ rowid r
   shown_id r h = ap (λ v. Int (id_in v)) (shows r).0 ∙ sym (int_is (rowid r) (int_at r h))
@@ -129,12 +149,15 @@ module _ (table : Table) (show : Row → Row) (p : Row → Bool) (rows answer : 
   -- a row of the answer shows a row that passes, and each that passes is shown
   shown_from : (s : Row) → Has answer s → (r : Row) × Has rows r × (p r ≡ true) × (s ≡ show r)
   shown_from s h =
-      let r = has_mapped show (filter p rows) s (shuffled_has answer (map show (filter p rows)) s (IsPermutation-sym (map show (filter p rows)) answer same) h) in
+      let r = has_mapped show (filter p rows) s
+      (shuffled_has answer (map show (filter p rows)) s
+      (IsPermutation-sym (map show (filter p rows)) answer same) h) in
       let k = has_filtered p rows r.0 r.1 in
       (r.0, k.0, k.1, r.2)
 
   shown_to : (r : Row) → Has rows r → p r ≡ true → Has answer (show r)
-  shown_to r h hit = shuffled_has (map show (filter p rows)) answer (show r) same (mapped_has show (filter p rows) r (has_kept p rows r h hit))
+  shown_to r h hit = shuffled_has (map show (filter p rows)) answer (show r) same
+      (mapped_has show (filter p rows) r (has_kept p rows r h hit))
 
   changed_yes : (r : Row) → p r ≡ true → changed r ≡ put_in_place r
   changed_yes r hit = rw hit
@@ -143,7 +166,9 @@ module _ (table : Table) (show : Row → Row) (p : Row → Bool) (rows answer : 
   changed_no r miss = rw miss
 
   keeps : AllByRecursion (λ r. rowid (changed r) ≡ rowid r) rows
-  keeps = all_from _ rows (λ r h. elim (p r) as (λ b. rowid (if b then put_in_place r else r) ≡ rowid r) [ true ↦ put_id r h | false ↦ refl ])
+  keeps = all_from _ rows
+      (λ r h. elim (p r) as
+      (λ b. rowid (if b then put_in_place r else r) ≡ rowid r) [ true ↦ put_id r h | false ↦ refl ])
 
   into : (x : Row) → Has (put_all left news) x → Has (map changed rows) x
   into x h = elim (put_all_has news left x h) [
@@ -156,8 +181,11 @@ module _ (table : Table) (show : Row → Row) (p : Row → Bool) (rows answer : 
         let was = left_from (ids_of answer) rows x old in
         elim (cases_Bool (p x)) [
           | inl hit ↦
-              let lacks = was.1 (id_in (rowid (show x))) (mapped_has (λ r. id_in (rowid r)) answer (show x) (shown_to x was.0 hit)) in
-              let found : has_rowid (id_in (rowid (show x))) x ≡ true = ap (λ v. is_eq (value_cmp (rowid x) v)) (shown_id x was.0) ∙ ap is_eq (tied_itself value_cmp_total (rowid x)) in
+              let lacks = was.1 (id_in (rowid (show x)))
+              (mapped_has (λ r. id_in (rowid r)) answer (show x) (shown_to x was.0 hit)) in
+              let found : has_rowid (id_in (rowid (show x))) x ≡ true =
+              ap (λ v. is_eq (value_cmp (rowid x) v)) (shown_id x was.0) ∙ ap is_eq
+              (tied_itself value_cmp_total (rowid x)) in
               absurd (true≢false (sym found ∙ lacks))
           | inr miss ↦ subst (Has (map changed rows)) (changed_no x miss) (mapped_has changed rows x was.0)
         ]
@@ -176,12 +204,21 @@ module _ (table : Table) (show : Row → Row) (p : Row → Bool) (rows answer : 
   out fresh x h =
       let r = has_mapped changed rows x h in
       elim (cases_Bool (p r.0)) [
-        | inl hit ↦ subst (Has (put_all left news)) (sym (r.2 ∙ changed_yes r.0 hit)) (put_all_adds news left (put_in_place r.0) fresh (mapped_has (λ row. cast_row table (drop 1 row)) answer (show r.0) (shown_to r.0 r.1 hit)))
-        | inr miss ↦ subst (Has (put_all left news)) (sym (r.2 ∙ changed_no r.0 miss)) (put_all_keeps news left r.0 fresh (stays r.0 r.1 miss))
+        | inl hit ↦ subst (Has (put_all left news)) (sym (r.2 ∙ changed_yes r.0 hit))
+            (put_all_adds news left (put_in_place r.0) fresh
+            (mapped_has (λ row. cast_row table (drop 1 row)) answer (show r.0) (shown_to r.0 r.1 hit)))
+        | inr miss ↦ subst (Has (put_all left news)) (sym (r.2 ∙ changed_no r.0 miss))
+            (put_all_keeps news left r.0 fresh (stays r.0 r.1 miss))
       ]
 
   pub replaced : are_fresh left news ≡ true → put_all left news ≡ map changed rows
-  replaced fresh = same_rows _ _ (put_all_table news left (without_all_table (ids_of answer) rows up.0)) (map_table changed rows keeps up.0) into (out fresh)
+  replaced fresh = same_rows _ _ (put_all_table news left (without_all_table (ids_of answer) rows up.0))
+      (map_table changed rows keeps up.0) into (out fresh)
 
   pub still_shaped : IsShaped shape.Table (map changed rows)
-  still_shaped = (map_table changed rows keeps up.0, all_from _ (map changed rows) (λ y h. let r = has_mapped changed rows y h in subst (λ v. IsTrue (is_int v)) (sym (ap rowid r.2 ∙ all_has (λ q. rowid (changed q) ≡ rowid q) rows r.0 keeps r.1)) (int_at r.0 r.1)))
+  still_shaped = (
+    map_table changed rows keeps up.0,
+    all_from _ (map changed rows)
+        (λ y h. let r = has_mapped changed rows y h in subst (λ v. IsTrue (is_int v))
+        (sym (ap rowid r.2 ∙ all_has (λ q. rowid (changed q) ≡ rowid q) rows r.0 keeps r.1)) (int_at r.0 r.1)),
+  )

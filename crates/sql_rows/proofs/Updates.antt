@@ -1,5 +1,6 @@
 -- What UPDATE does to the trees.
-use Rattle.std.proofs.Common.{length, unwrap_or, ◌≡◌, ◌≢◌, pos, negsuc, true, false, Bool, ◌∷◌, map, filter, drop, if◌then◌else◌, subst₂, ℕ, List, [], slice_get, Some, None, Ok, ap, subst, sym, ◌∙◌}
+use Rattle.std.proofs.Common.{length, unwrap_or, ◌≡◌, ◌≢◌, pos, negsuc, true, false, Bool, ◌∷◌, map, filter, drop}
+use Rattle.std.proofs.Common.{if◌then◌else◌, subst₂, ℕ, List, [], slice_get, Some, None, Ok, ap, subst, sym, ◌∙◌}
 use Rattle.std.specs.List.{AllByRecursion, list_all}
 use Rattle.std.specs.List.Sorted.{IsPermutation}
 use Rattle.std.proofs.lemmas.List.Sorted.{IsPermutation-map, length_permutation}
@@ -38,15 +39,23 @@ use Rattle.sql_rows.proofs.Answers.{matched, map_twice, length_map}
 use Rattle.sql_rows.proofs.Inserts.{Leaves, went, same_value}
 use Rattle.sql_rows.proofs.Sets.{replaced, still_shaped}
 
-module _ (schema : Schema) (place tree : ℕ) (name : List ℕ) (columns : List Column) (primary : List ℕ) (uniques : List (List ℕ)) (orders : List keys.Order)
-    (found : slice_get schema.tables place ≡ Some (plain_table tree name columns primary uniques orders)) (still : (olds news : List Row) → works schema Enforced 0 tree olds news ≡ []) where
-  pub updates : (old new : State) (params : Row) (text : List ℕ) (q : Program) (count : ℕ) → old.now.schema ≡ schema → Writes old new None (Update place q) text params count
-      → (rows : List Row) × IsProgramAnswer (lets_of q) q.body old.now.trees params rows × Leaves schema old.now.trees (edit_of old.now.trees (plain_table tree name columns primary uniques orders) (ids_of rows) Given 1 rows) new.now
-      × (count ≡ length (edit_of old.now.trees (plain_table tree name columns primary uniques orders) (ids_of rows) Given 1 rows).news)
+module _ (schema : Schema) (place tree : ℕ) (name : List ℕ) (columns : List Column) (primary : List ℕ)
+    (uniques : List (List ℕ)) (orders : List keys.Order)
+    (found : slice_get schema.tables place ≡ Some (plain_table tree name columns primary uniques orders))
+    (still : (olds news : List Row) → works schema Enforced 0 tree olds news ≡ []) where
+  pub updates : (old new : State) (params : Row) (text : List ℕ) (q : Program) (count : ℕ) → old.now.schema ≡ schema
+      → Writes old new None (Update place q) text params count
+      → (rows : List Row) × IsProgramAnswer (lets_of q) q.body old.now.trees params rows × Leaves schema old.now.trees
+      (edit_of old.now.trees (plain_table tree name columns primary uniques orders)
+      (ids_of rows) Given 1 rows) new.now
+      × (count ≡ length (edit_of old.now.trees (plain_table tree name columns primary uniques orders)
+      (ids_of rows) Given 1 rows).news)
   updates old new params text q count has w =
       let table = plain_table tree name columns primary uniques orders in
       let db = old.now.trees in
-      let done = went (rw found at (subst (λ s. Does old.step_limit (mode_of old) params (record old.now { schema = s }) text None (Update place q) (Ok (w.tally, new.now))) has w.changed)) in
+      let done = went (rw found at
+      (subst (λ s. Does old.step_limit (mode_of old) params (record old.now { schema = s }) text None
+      (Update place q) (Ok (w.tally, new.now))) has w.changed)) in
       let asked = went done.1 in
       let next = went asked.2 in
       let tested = went done.2 in
@@ -61,11 +70,13 @@ module _ (schema : Schema) (place tree : ℕ) (name : List ℕ) (columns : List 
           schema_is = ap (λ (d : Database). d.schema) now;
           step = subst (Applies schema Enforced db edit) (sym trees ∙ sym (ap (λ (d : Database). d.trees) now)) step;
         },
-        w.counted ∙ ap (λ (p : Tally × Database). unwrap_or p.0.rows 0) (same_value shown.2) ∙ ap (λ (it : Written). length it.rows) (same_value next.2),
+        w.counted ∙ ap (λ (p : Tally × Database). unwrap_or p.0.rows 0) (same_value shown.2) ∙ ap
+            (λ (it : Written). length it.rows) (same_value next.2),
       )
 
 -- A query that shows the rows of one table that pass, each with its number first.
-module _ (tree : ℕ) (stored : (db : Trees) → overlay db [] tree ≡ db tree) (tests shows : List Term) (values : Row) where
+module _ (tree : ℕ) (stored : (db : Trees) → overlay db [] tree ≡ db tree) (tests shows : List Term)
+    (values : Row) where
   abbrev pub one_table : Query
   one_table = record {
     from = inner tree end;
@@ -88,24 +99,34 @@ module _ (tree : ℕ) (stored : (db : Trees) → overlay db [] tree ≡ db tree)
   abbrev pub show : Row → Row
   show row = eval_all shows (env row)
 
-  pub answered : (db : Trees) (answer : List Row) → IsAnswer one_table (overlay db []) values answer → IsPermutation (map show (filter passes (db tree))) answer
+  pub answered : (db : Trees) (answer : List Row) → IsAnswer one_table (overlay db []) values answer → IsPermutation
+      (map show (filter passes (db tree))) answer
   answered db answer a =
       let found = filter passes (overlay db [] tree) in
       let staged : a.staged ≡ map env found = a.grouped ∙ matched env passes (overlay db [] tree) in
-      let kept : a.kept ≡ map (λ r. output one_table (env r)) found = a.distinct ∙ ap (map (output one_table)) staged ∙ map_twice (output one_table) env found in
+      let kept : a.kept ≡ map (λ r. output one_table (env r)) found =
+      a.distinct ∙ ap (map (output one_table)) staged ∙ map_twice (output one_table) env found in
       let row : Output → Row = λ o. o.1 in
-      let shuffled : IsPermutation (map row a.kept) (map row a.ordered) = IsPermutation-map row a.kept a.ordered a.same in
-      subst₂ IsPermutation (ap (map row) kept ∙ map_twice row (λ r. output one_table (env r)) found ∙ ap (λ rows. map show (filter passes rows)) (stored db)) (sym a.shown) shuffled
+      let shuffled : IsPermutation (map row a.kept) (map row a.ordered) =
+      IsPermutation-map row a.kept a.ordered a.same in
+      subst₂ IsPermutation
+      (ap (map row) kept ∙ map_twice row (λ r. output one_table (env r)) found ∙ ap
+      (λ rows. map show (filter passes rows)) (stored db)) (sym a.shown) shuffled
 
 -- Each row that passes is replaced by one of its own number.
-module _ (schema : Schema) (place tree : ℕ) (name : List ℕ) (columns : List Column) (primary : List ℕ) (uniques : List (List ℕ)) (orders : List keys.Order)
-    (found : slice_get schema.tables place ≡ Some (plain_table tree name columns primary uniques orders)) (still : (olds news : List Row) → works schema Enforced 0 tree olds news ≡ [])
-    (stored : (db : Trees) → overlay db [] tree ≡ db tree) (tests shows : List Term) (values : Row) (alike : (r : Row) → (rowid (show tree stored tests shows values r) ≡ rowid r) × (column (drop 1 (show tree stored tests shows values r)) 0 ≡ rowid r)) where
+module _ (schema : Schema) (place tree : ℕ) (name : List ℕ) (columns : List Column) (primary : List ℕ)
+    (uniques : List (List ℕ)) (orders : List keys.Order)
+    (found : slice_get schema.tables place ≡ Some (plain_table tree name columns primary uniques orders))
+    (still : (olds news : List Row) → works schema Enforced 0 tree olds news ≡ [])
+    (stored : (db : Trees) → overlay db [] tree ≡ db tree) (tests shows : List Term) (values : Row)
+    (alike : (r : Row) → (rowid (show tree stored tests shows values r) ≡ rowid r) ×
+    (column (drop 1 (show tree stored tests shows values r)) 0 ≡ rowid r)) where
   abbrev table : Table
   table = plain_table tree name columns primary uniques orders
 
   abbrev pub changed : Row → Row
-  changed row = if passes tree stored tests shows values row then cast_row table (drop 1 (show tree stored tests shows values row)) else row
+  changed row = if passes tree stored tests shows values row then cast_row table
+      (drop 1 (show tree stored tests shows values row)) else row
 
   -- what an UPDATE by such a query leaves
   pub record Sets (old new : State) (count : ℕ) : Type 0 where
@@ -115,11 +136,15 @@ module _ (schema : Schema) (place tree : ℕ) (name : List ℕ) (columns : List 
     pub others : AllByRecursion (λ t. t.tree ≢ tree → new.now.trees t.tree ≡ old.now.trees t.tree) schema.tables
     pub counted : count ≡ length (filter (passes tree stored tests shows values) (old.now.trees tree))
 
-  pub sets : (old new : State) (text : List ℕ) (count : ℕ) → old.now.schema ≡ schema → IsShaped shape.Table (old.now.trees tree)
-      → Writes old new None (Update place (record { lets = []; body = one_table tree stored tests shows values })) text values count → Sets old new count
+  pub sets : (old new : State) (text : List ℕ) (count : ℕ) → old.now.schema ≡ schema → IsShaped shape.Table
+      (old.now.trees tree)
+      → Writes old new None
+      (Update place (record { lets = []; body = one_table tree stored tests shows values })) text values count
+      → Sets old new count
   sets old new text count has shaped w =
       let db = old.now.trees in
-      let did = updates schema place tree name columns primary uniques orders found still old new values text (record { lets = []; body = one_table tree stored tests shows values }) count has w in
+      let did = updates schema place tree name columns primary uniques orders found still old new values text
+      (record { lets = []; body = one_table tree stored tests shows values }) count has w in
       let answer = did.0 in
       let step = did.2.step in
       let found_rows = filter (passes tree stored tests shows values) (db tree) in
@@ -130,8 +155,11 @@ module _ (schema : Schema) (place tree : ℕ) (name : List ℕ) (columns : List 
       let fresh : are_fresh left news ≡ true = ap (are_fresh left) (sym put) ∙ step.fresh in
       record {
         schema_is = did.2.schema_is;
-        rows = step.rows ∙ ap (put_all left) put ∙ replaced table (show tree stored tests shows values) (passes tree stored tests shows values) (db tree) answer shaped same alike fresh;
-        shaped = still_shaped table (show tree stored tests shows values) (passes tree stored tests shows values) (db tree) answer shaped same alike;
+        rows = step.rows ∙ ap (put_all left) put ∙ replaced table (show tree stored tests shows values)
+            (passes tree stored tests shows values) (db tree) answer shaped same alike fresh;
+        shaped = still_shaped table (show tree stored tests shows values) (passes tree stored tests shows values)
+            (db tree) answer shaped same alike;
         others = step.tables;
-        counted = did.3 ∙ ap length put ∙ length_map (λ s. cast_row table (drop 1 s)) answer ∙ length_permutation _ _ same ∙ length_map (show tree stored tests shows values) found_rows;
+        counted = did.3 ∙ ap length put ∙ length_map (λ s. cast_row table (drop 1 s)) answer
+            ∙ length_permutation _ _ same ∙ length_map (show tree stored tests shows values) found_rows;
       }

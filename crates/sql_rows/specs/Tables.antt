@@ -9,7 +9,8 @@ use Rattle.sqlite_schema.specs.declared.schema.Table.{Table}
 
 -- a column that takes values of its kind, and no NULL
 abbrev pub strict_column : List ℕ → Kind → Column
-strict_column name kind = record { name = name; kind = kind; is_strict = true; not_null = true; default = Null; collation = Binary }
+strict_column name kind =
+    record { name = name; kind = kind; is_strict = true; not_null = true; default = Null; collation = Binary }
 
 -- a table that has columns and keys, and no other rule
 abbrev pub plain_table : ℕ → List ℕ → List Column → List ℕ → List (List ℕ) → List Order → Table

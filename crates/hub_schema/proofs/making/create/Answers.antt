@@ -8,10 +8,13 @@ use Rattle.hub_schema.proofs.making.create.Goals as goal
 
 pub returns-clause-makes : goal.returns-clause-makes
 returns-clause-makes g c clean schema table defines has =
-    made_one c.args.text.now (state g.S.Store c.args.tx.now.conn.now) (state g.S.Store c.execute.new.self.conn.now) c.execute.result schema table defines has (c.execute.ensures.runs clean has.mode)
+    made_one c.args.text.now (state g.S.Store c.args.tx.now.conn.now) (state g.S.Store c.execute.new.self.conn.now)
+    c.execute.result schema table defines has (c.execute.ensures.runs clean has.mode)
 
 pub returns-clause-kept : goal.returns-clause-kept
 returns-clause-kept g c clean = elim (cases_Bool c.args.tx.now.conn.now.in_transaction) [
-  | inl begun ↦ kept_ran c.args.text.now [] (state g.S.Store c.args.tx.now.conn.now) (state g.S.Store c.execute.new.self.conn.now) c.execute.result (c.execute.ensures.runs clean begun)
-  | inr none ↦ subst (λ h. KeepsCommit (state g.S.Store c.args.tx.now.conn.now) (state g.S.Store h)) (sym (c.execute.ensures.ended none).1) (kept_still (state g.S.Store c.args.tx.now.conn.now))
+  | inl begun ↦ kept_ran c.args.text.now [] (state g.S.Store c.args.tx.now.conn.now) (state g.S.Store
+      c.execute.new.self.conn.now) c.execute.result (c.execute.ensures.runs clean begun)
+  | inr none ↦ subst (λ h. KeepsCommit (state g.S.Store c.args.tx.now.conn.now) (state g.S.Store h)) (sym
+      (c.execute.ensures.ended none).1) (kept_still (state g.S.Store c.args.tx.now.conn.now))
 ]

@@ -5,4 +5,6 @@ use Rattle.hub_writes.proofs.changes.apply_all.Given as goal
 
 abbrev pub invariant-changes : goal.invariant-changes
 invariant-changes g l =
-    (l.tx.conn.ghost_name ≡ l.fn.tx.conn.ghost_name) × HasRun l.changes (drop l.change-index l.changes) (state g.S.Store l.fn.tx.conn.now) (state g.S.Store l.tx.conn.now)
+    (l.tx.conn.ghost_name ≡ l.fn.tx.conn.ghost_name)
+    × HasRun l.changes (drop l.change-index l.changes) (state g.S.Store l.fn.tx.conn.now) (state g.S.Store
+    l.tx.conn.now)

@@ -12,7 +12,8 @@ returns-clause-acts g c =
       runs = c.execute.ensures.runs;
       survives = c.execute.ensures.survives;
     } in
-    update_acts g.S.Store _ _ _ _ c.execute.result did [] (nothing_made _ _ c.execute.result) c.update_ended.result c.update_ended.ensures
+    update_acts g.S.Store _ _ _ _ c.execute.result did [] (nothing_made _ _ c.execute.result) c.update_ended.result
+    c.update_ended.ensures
 
 pub returns-clause-was_open : goal.returns-clause-was_open
 returns-clause-was_open g c clean =
@@ -21,4 +22,6 @@ returns-clause-was_open g c clean =
       runs = c.execute.ensures.runs;
       survives = c.execute.ensures.survives;
     } in
-    subst (λ (r : Result (Unit {0}) StoreFault). OnOk r (IsTrue (state g.S.Store c.args.tx.now.conn.now).is_open × IsTrue (state g.S.Store c.args.tx.now.conn.now).in_transaction)) (sym c.update_ended.ensures) (was_open g.S.Store _ _ _ _ c.execute.result did clean)
+    subst (λ (r : Result (Unit {0}) StoreFault). OnOk r (IsTrue (state g.S.Store c.args.tx.now.conn.now).is_open
+    × IsTrue (state g.S.Store c.args.tx.now.conn.now).in_transaction)) (sym c.update_ended.ensures) (was_open
+    g.S.Store _ _ _ _ c.execute.result did clean)

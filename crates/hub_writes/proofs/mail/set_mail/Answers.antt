@@ -6,9 +6,19 @@ use Rattle.hub_writes.proofs.mail.set_mail.Goals as goal
 pub returns-clause-acts : goal.returns-clause-acts
 returns-clause-acts g c =
     let row = c.args.row.now in
-    let did : Executed g.S.Store set_mail (cells row) c.args.tx.now.conn.now c.execute.new.self.conn.now c.execute.result = record {
+    let did : Executed g.S.Store set_mail (cells row) c.args.tx.now.conn.now c.execute.new.self.conn.now
+    c.execute.result = record {
       ended = c.execute.ensures.ended;
-      runs = λ clean begun. rw (c.gln_value-supplier.ensures, c.number_value-number.ensures, c.moment_value-moment.ensures.value, c.byte_value-decimal.ensures, c.kind_value-kind.ensures.value, c.text_value-document.ensures, c.text_value-body.ensures, c.truth_value-taken.ensures.value) at (c.execute.ensures.runs clean begun);
+      runs = λ clean begun. rw (
+        c.gln_value-supplier.ensures,
+        c.number_value-number.ensures,
+        c.moment_value-moment.ensures.value,
+        c.byte_value-decimal.ensures,
+        c.kind_value-kind.ensures.value,
+        c.text_value-document.ensures,
+        c.text_value-body.ensures,
+        c.truth_value-taken.ensures.value,
+      ) at (c.execute.ensures.runs clean begun);
       survives = c.execute.ensures.survives;
     } in
     let low_number : c.args.row.now.number < 2 ^ 64 = omega arith in
@@ -16,4 +26,10 @@ returns-clause-acts g c =
     let low_decimal : c.args.row.now.decimal < 2 ^ 64 = omega arith in
     let low_kind : c.args.row.now.kind < 2 ^ 64 = omega (arith, c.kind_value-kind.ensures.low) in
     let low_taken : c.args.row.now.taken < 2 ^ 64 = omega (arith, c.truth_value-taken.ensures.low) in
-    update_acts g.S.Store _ _ _ _ c.execute.result did _ (set_makes row _ _ c.execute.result (low_number, low_moment, low_decimal, low_kind, low_taken)) c.update_ended.result c.update_ended.ensures
+    update_acts g.S.Store _ _ _ _ c.execute.result did _ (set_makes row _ _ c.execute.result (
+      low_number,
+      low_moment,
+      low_decimal,
+      low_kind,
+      low_taken,
+    )) c.update_ended.result c.update_ended.ensures

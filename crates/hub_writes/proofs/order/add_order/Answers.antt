@@ -4,9 +4,14 @@ use Rattle.hub_writes.proofs.order.add_order.Goals as goal
 
 pub returns-clause-acts : goal.returns-clause-acts
 returns-clause-acts g c =
-    let did : Executed g.S.Store add_order (cells c.args.row.now) c.args.tx.now.conn.now c.execute.new.self.conn.now c.execute.result = record {
+    let did : Executed g.S.Store add_order (cells c.args.row.now) c.args.tx.now.conn.now c.execute.new.self.conn.now
+    c.execute.result = record {
       ended = c.execute.ensures.ended;
-      runs = λ clean begun. rw (c.gln_value-supplier.ensures, c.text_value-number.ensures) at (c.execute.ensures.runs clean begun);
+      runs = λ clean begun. rw (
+        c.gln_value-supplier.ensures,
+        c.text_value-number.ensures,
+      ) at (c.execute.ensures.runs clean begun);
       survives = c.execute.ensures.survives;
     } in
-    insert_acts g.S.Store _ _ _ _ c.execute.result did _ (makes c.args.row.now _ _ c.execute.result) (fits_not c.args.row.now _ _) c.insert_ended.result c.insert_ended.ensures
+    insert_acts g.S.Store _ _ _ _ c.execute.result did _ (makes c.args.row.now _ _ c.execute.result) (fits_not
+    c.args.row.now _ _) c.insert_ended.result c.insert_ended.ensures

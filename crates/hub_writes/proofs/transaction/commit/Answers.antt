@@ -14,10 +14,13 @@ returns-in_err-apply_all g c =
     let mid = c.apply_all.new.tx.conn.now in
     let end = c.drop-tx.new.self.0 in
     let idle : IsTrue c.is_autocommit-idle.result = rw (c.is_autocommit-idle.ensures.value, c.requires) in
-    let acts = subst (Acts c.args.changes.now _ _) c.in_err-apply_all.was (rw c.transaction-tx.ensures.begun at c.apply_all.ensures.acts) in
-    let commits = failed g.S.Store old mid end c.args.changes.now fault acts (c.is_autocommit-idle.ensures.settled idle) c.drop-tx.ensures.ended c.drop-tx.ensures.undone c.drop-tx.ensures.survives in
+    let acts = subst (Acts c.args.changes.now _ _) c.in_err-apply_all.was (rw c.transaction-tx.ensures.begun at
+    c.apply_all.ensures.acts) in
+    let commits = failed g.S.Store old mid end c.args.changes.now fault acts (c.is_autocommit-idle.ensures.settled
+    idle) c.drop-tx.ensures.ended c.drop-tx.ensures.undone c.drop-tx.ensures.survives in
     let same : end ≡ c.conn-1.given.0 = search rules in
-    subst (λ (h : Held _). CommitsTo c.args.changes.now (state g.S.Store old) (state g.S.Store h) c.from_residual.result) same (subst (CommitsTo c.args.changes.now _ _) (sym given) commits)
+    subst (λ (h : Held _). CommitsTo c.args.changes.now (state g.S.Store old) (state g.S.Store h)
+    c.from_residual.result) same (subst (CommitsTo c.args.changes.now _ _) (sym given) commits)
 
 pub returns : goal.returns
 returns g c =
@@ -25,9 +28,13 @@ returns g c =
     let mid = c.apply_all.new.tx.conn.now in
     let end = c.commit.new.self.0 in
     let idle : IsTrue c.is_autocommit-idle.result = rw (c.is_autocommit-idle.ensures.value, c.requires) in
-    let acts = subst (Acts c.args.changes.now _ _) c.in_ok-apply_all.was (rw c.transaction-tx.ensures.begun at c.apply_all.ensures.acts) in
+    let acts = subst (Acts c.args.changes.now _ _) c.in_ok-apply_all.was (rw c.transaction-tx.ensures.begun at
+    c.apply_all.ensures.acts) in
     let was_open = rw c.transaction-tx.ensures.begun at c.in_ok-apply_all.ensures.was_open in
-    let commits = succeeded g.S.Store old mid end c.args.changes.now acts was_open c.commit.ensures.survives c.commit.result (c.is_autocommit-idle.ensures.settled idle) c.commit.ensures.ended
-    (λ clean. on_ok c.commit.result (λ h. h.1) (c.commit.ensures.ok clean)) c.commit.ensures.err (g.met.S.Store.settled end.store) in
+    let commits = succeeded g.S.Store old mid end c.args.changes.now acts was_open c.commit.ensures.survives
+    c.commit.result (c.is_autocommit-idle.ensures.settled idle) c.commit.ensures.ended
+    (λ clean. on_ok c.commit.result (λ h. h.1) (c.commit.ensures.ok clean)) c.commit.ensures.err (g.met.S.Store.settled
+    end.store) in
     let same : end ≡ c.conn-2-1.given.0 = search rules in
-    subst (λ (h : Held _). CommitsTo c.args.changes.now (state g.S.Store old) (state g.S.Store h) c.commit_ended.result) same (subst (CommitsTo c.args.changes.now _ _) (sym c.commit_ended.ensures) commits)
+    subst (λ (h : Held _). CommitsTo c.args.changes.now (state g.S.Store old) (state g.S.Store h)
+    c.commit_ended.result) same (subst (CommitsTo c.args.changes.now _ _) (sym c.commit_ended.ensures) commits)
