@@ -30,33 +30,40 @@ listed faulty.NoLine = inr (inr (inr (inr (inr (inr (inr (inr (inr (inr (inr (in
 listed faulty.Memory = inl refl
 
 -- a test of each fault, which out of memory never passes
-listed_or_false : (p : MessageFault → Bool) → p faulty.Memory ≡ false → (f : MessageFault) → (p f ≡ false) ⊎ Among f faults
+listed_or_false : (p : MessageFault → Bool) → p faulty.Memory ≡ false → (f : MessageFault) → (p f ≡ false)
+    ⊎ Among f faults
 listed_or_false p no_memory f =
     elim (listed f) [ inl memory ↦ inl (ap p memory ∙ no_memory) | inr among ↦ inr among ]
 
 module _ {X : Type 0} where
-  fault_found : (found : Option MessageFault) (content : X) (f : MessageFault) → unless found content ≡ Err f → found ≡ Some f
+  fault_found : (found : Option MessageFault) (content : X) (f : MessageFault) → unless found content ≡ Err f
+      → found ≡ Some f
   fault_found None content f h = absurd cc
   fault_found (Some g) content f h = let e : g ≡ f = cc in ap Some e
 
-  content_found : (found : Option MessageFault) (content right : X) → unless found content ≡ Ok right → (found ≡ None) × (content ≡ right)
+  content_found : (found : Option MessageFault) (content right : X) → unless found content ≡ Ok right → (found ≡ None)
+      × (content ≡ right)
   content_found None content right h = (refl, cc)
   content_found (Some g) content right h = absurd cc
 
   -- Where all is valid under lower numbers, the test of a fault is false exactly where what is valid under its number holds.
   module _ (p : MessageFault → Bool) (IsRight : MessageFault → Type 0)
-      (refutes : (f : MessageFault) → ((g : MessageFault) → number g < number f → IsRight g) → Refutes (p f) (IsRight f))
+      (refutes : (f : MessageFault) → ((g : MessageFault) → number g < number f → IsRight g) → Refutes (p f)
+          (IsRight f))
       (no_memory : p faulty.Memory ≡ false) (content : X) where
-    lower_right : (n : ℕ) → ((g : MessageFault) → number g < n → p g ≡ false) → (g : MessageFault) → number g < n → IsRight g
+    lower_right : (n : ℕ) → ((g : MessageFault) → number g < n → p g ≡ false) → (g : MessageFault) → number g < n
+        → IsRight g
     lower_right zero h g lt = absurd (omega (arith, lt))
     lower_right (suc n) h g lt =
-        (refutes g (λ k below. lower_right n (λ one small. h one (omega (arith, small))) k (omega (arith, below, lt)))).0
+        (refutes g (λ k below. lower_right n (λ one small. h one (omega (arith, small))) k
+            (omega (arith, below, lt)))).0
         (h g lt)
 
     all_right : ((g : MessageFault) → p g ≡ false) → (g : MessageFault) → IsRight g
     all_right h g = lower_right (suc (number g)) (λ one lt. h one) g (omega arith)
 
-    right_false : (f g : MessageFault) → ((one : MessageFault) → number one < number f → IsRight one) → number g < number f → p g ≡ false
+    right_false : (f g : MessageFault) → ((one : MessageFault) → number one < number f → IsRight one)
+        → number g < number f → p g ≡ false
     right_false f g h lt = (refutes g (λ one below. h one (omega (arith, below, lt)))).1 (h g lt)
 
     not_right : (f : MessageFault) → p f ≡ true → ((g : MessageFault) → number g < number f → IsRight g) → IsRight f → ⊥
@@ -72,7 +79,8 @@ module _ {X : Type 0} where
 
     found_from : (f : MessageFault) → IsLowest IsRight f → find p faults ≡ Some f
     found_from f h =
-        is_found number p faults rising (listed_or_false p no_memory) f (true_from_ne_false (p f) (λ e. h.here ((refutes f h.lower).0 e)))
+        is_found number p faults rising (listed_or_false p no_memory) f
+            (true_from_ne_false (p f) (λ e. h.here ((refutes f h.lower).0 e)))
         (λ g lt. right_false f g h.lower lt)
 
     pub judged_fault : (f : MessageFault) → (judged p content ≡ Err f) ↔ IsLowest IsRight f
@@ -83,6 +91,9 @@ module _ {X : Type 0} where
 
     pub judged_content : (right : X) → (judged p content ≡ Ok right) ↔ (IsFaultless IsRight × (content ≡ right))
     judged_content right = (
-      (λ h. let both = content_found (find p faults) content right h in (all_right (all_false number p faults rising (listed_or_false p no_memory) both.0), both.1)),
-      (λ h. ap (λ found. unless found content) (is_none number p faults rising (listed_or_false p no_memory) (λ f. (refutes f (λ g lt. h.0 g)).1 (h.0 f))) ∙ ap Ok h.1),
+      (λ h. let both = content_found (find p faults) content right h in
+          (all_right (all_false number p faults rising (listed_or_false p no_memory) both.0), both.1)),
+      (λ h. ap (λ found. unless found content)
+          (is_none number p faults rising (listed_or_false p no_memory) (λ f. (refutes f (λ g lt. h.0 g)).1 (h.0 f)))
+          ∙ ap Ok h.1),
     )

@@ -3,13 +3,17 @@ use Rattle.std.proofs.Common.{◌≡◌, ℕ, Bool, true, ◌&&◌, List, [], �
 use Rattle.std.specs.List.{AllByRecursion, list_all}
 use Rattle.std.proofs.lemmas.Bool.{and_parts}
 use Rattle.hub_tables.specs.Change.{apply, apply_all}
-use Rattle.hub_tables.specs.Rows.{same, order_cmp, line_cmp, advice_cmp, pallet_cmp, content_cmp, receipt_cmp, remembered_cmp, mail_cmp, same_line, same_pallet, same_mail}
+use Rattle.hub_tables.specs.Rows.{same, order_cmp, line_cmp, advice_cmp, pallet_cmp, content_cmp, receipt_cmp}
+use Rattle.hub_tables.specs.Rows.{remembered_cmp, mail_cmp, same_line, same_pallet, same_mail}
 use Rattle.hub_tables.specs.Tables.{Tables, view, holds}
 use Rattle.hub_tables.specs.declared.change.Change.{Change}
-use Rattle.hub_tables.specs.declared.change.Change.TheVariants.{AddOrder, AddLine, SetLine, AddAdvice, AddPallet, SetPallet, AddContent, AddReceipt, Remember, AddMail, SetMail}
+use Rattle.hub_tables.specs.declared.change.Change.TheVariants.{AddOrder, AddLine, SetLine, AddAdvice, AddPallet}
+use Rattle.hub_tables.specs.declared.change.Change.TheVariants.{SetPallet, AddContent, AddReceipt, Remember, AddMail}
+use Rattle.hub_tables.specs.declared.change.Change.TheVariants.{SetMail}
 use Rattle.hub_tables.proofs.KeyOrder.{all_put}
 use Rattle.hub_tables.proofs.Lists.{all_filter, all_replace}
-use Rattle.hub_store.specs.Clean.{clean_order, clean_line, clean_advice, clean_pallet, clean_content, clean_receipt, clean_remembered, clean_mail, are_clean}
+use Rattle.hub_store.specs.Clean.{clean_order, clean_line, clean_advice, clean_pallet, clean_content, clean_receipt}
+use Rattle.hub_store.specs.Clean.{clean_remembered, clean_mail, are_clean}
 
 pub both_true : {a b : Bool} → a ≡ true → b ≡ true → (a && b) ≡ true
 both_true {a} {b} p q = ap (λ v. v && b) p ∙ q
@@ -198,6 +202,7 @@ clean_after (SetMail row) t c h = record {
   mail = all_replace _ (same_mail row) row t.mail h.mail c;
 }
 
-pub clean_all : (changes : List Change) (t : Tables) → AllByRecursion CleanChange changes → CleanRows t → CleanRows (apply_all changes t)
+pub clean_all : (changes : List Change) (t : Tables) → AllByRecursion CleanChange changes → CleanRows t → CleanRows
+    (apply_all changes t)
 clean_all [] t all h = h
 clean_all (change ∷ changes) t all h = clean_all changes (apply change t) all.1 (clean_after change t all.0 h)

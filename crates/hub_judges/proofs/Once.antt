@@ -21,19 +21,23 @@ keeps_all : {X : Type 0} (p : X → Bool) (xs : List X) → AllByRecursion (λ x
 keeps_all p [] all = refl
 keeps_all p (x ∷ xs) all = ap₂ (λ v rest. cond v (x ∷ rest) rest) all.0 (keeps_all p xs all.1)
 
-of_gtins : (P : List ℕ → Type 0) (lines : List ReceiptLine) → AllByRecursion (λ line. P line.gtin) lines → AllByRecursion P (gtins lines)
+of_gtins : (P : List ℕ → Type 0) (lines : List ReceiptLine) → AllByRecursion (λ line. P line.gtin) lines
+    → AllByRecursion P (gtins lines)
 of_gtins P [] all = tt
-of_gtins P (line ∷ lines) all = (all.0, all_filter P (λ gtin. not (same gtin line.gtin)) (gtins lines) (of_gtins P lines all.1))
+of_gtins P (line ∷ lines) all =
+    (all.0, all_filter P (λ gtin. not (same gtin line.gtin)) (gtins lines) (of_gtins P lines all.1))
 
 abbrev Comes : List ReceiptLine → List ℕ → Type 0
 Comes lines article = is_some (total_from None article lines) ≡ true
 
-comes_here : (line : ReceiptLine) (lines : List ReceiptLine) (article : List ℕ) → same line.gtin article ≡ true → Comes (line ∷ lines) article
+comes_here : (line : ReceiptLine) (lines : List ReceiptLine) (article : List ℕ) → same line.gtin article ≡ true → Comes
+    (line ∷ lines) article
 comes_here line lines article e =
     ap is_some (ap (λ v. total_from (cond v (Some (with_line nothing line)) None) article lines) e
     ∙ from_some (with_line nothing line) article lines)
 
-comes_later : (line : ReceiptLine) (lines : List ReceiptLine) (article : List ℕ) → Comes lines article → Comes (line ∷ lines) article
+comes_later : (line : ReceiptLine) (lines : List ReceiptLine) (article : List ℕ) → Comes lines article → Comes
+    (line ∷ lines) article
 comes_later line lines article h =
     elim (decide (same line.gtin article)) [
       | inl e ↦ comes_here line lines article e
@@ -58,12 +62,14 @@ all_left totals lines are =
     (λ line h. ap is_some (are line.gtin) ∙ h) lines (all_come lines)))
 
 -- the receipt of an article with its total
-pub receipt_is : (sscc : List ℕ) (lines : List ReceiptLine) (gtin : List ℕ) (sum : Total) → total_from None gtin lines ≡ Some sum
+pub receipt_is : (sscc : List ℕ) (lines : List ReceiptLine) (gtin : List ℕ) (sum : Total)
+    → total_from None gtin lines ≡ Some sum
     → ◌≡◌ {A = Change} (AddReceipt
     (record { sscc = sscc; gtin = gtin; accepted = sum.accepted; returned = sum.returned; destroyed = sum.destroyed }))
     (new_receipt sscc lines gtin)
 receipt_is sscc lines gtin sum h =
-    let made : ℕ → ℕ → ℕ → Change = λ a r d. AddReceipt (record { sscc = sscc; gtin = gtin; accepted = a; returned = r; destroyed = d }) in
+    let made : ℕ → ℕ → ℕ → Change =
+        λ a r d. AddReceipt (record { sscc = sscc; gtin = gtin; accepted = a; returned = r; destroyed = d }) in
     let over = over_lines gtin lines sum h in
     let of_a = ap (λ (t : Total). t.accepted) over in
     let of_r = ap (λ (t : Total). t.returned) over in
@@ -88,14 +94,16 @@ module _ (old new : List ℕ → Option Total) (taken : List ℕ)
       elim (decide (same gtin taken)) [
         | inl e ↦
             let none : new gtin ≡ None = becomes gtin ∙ ap (λ v. cond v None (old gtin)) (turn ∙ e) in
-            ap (λ v. filter (λ gtin. is_some (old gtin)) (cond (not v) (gtin ∷ filter (λ gtin. not (same gtin taken)) gtins)
+            ap (λ v. filter (λ gtin. is_some (old gtin))
+                (cond (not v) (gtin ∷ filter (λ gtin. not (same gtin taken)) gtins)
             (filter (λ gtin. not (same gtin taken)) gtins))) e
             ∙ ih
             ∙ sym (ap (λ v. cond (is_some v) (gtin ∷ filter (λ gtin. is_some (new gtin)) gtins)
             (filter (λ gtin. is_some (new gtin)) gtins)) none)
         | inr e ↦
             let some : old gtin ≡ new gtin = sym (becomes gtin ∙ ap (λ v. cond v None (old gtin)) (turn ∙ e)) in
-            ap (λ v. filter (λ gtin. is_some (old gtin)) (cond (not v) (gtin ∷ filter (λ gtin. not (same gtin taken)) gtins)
+            ap (λ v. filter (λ gtin. is_some (old gtin))
+                (cond (not v) (gtin ∷ filter (λ gtin. not (same gtin taken)) gtins)
             (filter (λ gtin. not (same gtin taken)) gtins))) e
             ∙ ap₂ (λ v rest. cond (is_some v) (gtin ∷ rest) rest) some ih
       ]
@@ -123,8 +131,11 @@ module _ (lines : List ReceiptLine) (i : ℕ) (line : ReceiptLine) (inside : i <
       ∙ ap (λ rest. cond (is_some (old line.gtin)) (line.gtin ∷ rest) rest)
       (left_without old new line.gtin becomes (gtins (drop (i + 1) lines)))
 
-  pub left_taken : (sum : Total) → old line.gtin ≡ Some sum → left old (drop i lines) ≡ line.gtin ∷ left new (drop (i + 1) lines)
-  left_taken sum e = left_from ∙ ap (λ v. cond (is_some v) (line.gtin ∷ left new (drop (i + 1) lines)) (left new (drop (i + 1) lines))) e
+  pub left_taken : (sum : Total) → old line.gtin ≡ Some sum → left old (drop i lines) ≡ line.gtin ∷ left new
+      (drop (i + 1) lines)
+  left_taken sum e = left_from ∙ ap
+      (λ v. cond (is_some v) (line.gtin ∷ left new (drop (i + 1) lines)) (left new (drop (i + 1) lines))) e
 
   pub left_passed : old line.gtin ≡ None → left old (drop i lines) ≡ left new (drop (i + 1) lines)
-  left_passed e = left_from ∙ ap (λ v. cond (is_some v) (line.gtin ∷ left new (drop (i + 1) lines)) (left new (drop (i + 1) lines))) e
+  left_passed e = left_from ∙ ap
+      (λ v. cond (is_some v) (line.gtin ∷ left new (drop (i + 1) lines)) (left new (drop (i + 1) lines))) e

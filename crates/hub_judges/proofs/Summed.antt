@@ -1,5 +1,6 @@
 -- Totals line by line, and over all lines.
-use Rattle.std.proofs.Common.{◌≡◌, ℕ, ◌+◌, ◌<◌, ◌≤◌, Bool, true, false, cond, nat_le, ◌⊎◌, inl, inr, List, [], ◌∷◌, length}
+use Rattle.std.proofs.Common.{◌≡◌, ℕ, ◌+◌, ◌<◌, ◌≤◌, Bool, true, false, cond, nat_le, ◌⊎◌, inl, inr, List, [], ◌∷◌}
+use Rattle.std.proofs.Common.{length}
 use Rattle.std.proofs.Common.{get_or, drop, map, filter, sum_by, Option, Some, None, refl, sym, ◌∙◌, ap, arith}
 use Rattle.std.specs.List.{list_all}
 use Rattle.std.specs.Option.{unwrap_or}
@@ -33,16 +34,20 @@ alike a b accepted returned destroyed =
     ∙ ap (made b.accepted b.returned) destroyed
 
 module _ (article : List ℕ) (line : ReceiptLine) (lines : List ReceiptLine) where
-  total_with : (kind : ReceiptLine → ℕ) → same line.gtin article ≡ true → total kind article (line ∷ lines) ≡ kind line + total kind article lines
+  total_with : (kind : ReceiptLine → ℕ) → same line.gtin article ≡ true → total kind article
+      (line ∷ lines) ≡ kind line + total kind article lines
   total_with kind e =
       ap (λ v.
-      sum_by kind (cond v (line ∷ filter (λ line. same line.gtin article) lines) (filter (λ line. same line.gtin article) lines))) e
+      sum_by kind (cond v (line ∷ filter (λ line. same line.gtin article) lines)
+          (filter (λ line. same line.gtin article) lines))) e
       ∙ sum_by-cons kind line (filter (λ line. same line.gtin article) lines)
 
-  total_without : (kind : ReceiptLine → ℕ) → same line.gtin article ≡ false → total kind article (line ∷ lines) ≡ total kind article lines
+  total_without : (kind : ReceiptLine → ℕ) → same line.gtin article ≡ false → total kind article
+      (line ∷ lines) ≡ total kind article lines
   total_without kind e =
       ap (λ v.
-      sum_by kind (cond v (line ∷ filter (λ line. same line.gtin article) lines) (filter (λ line. same line.gtin article) lines))) e
+      sum_by kind (cond v (line ∷ filter (λ line. same line.gtin article) lines)
+          (filter (λ line. same line.gtin article) lines))) e
 
   lines_with : (before : Total)
       → same line.gtin article ≡ true
@@ -51,19 +56,23 @@ module _ (article : List ℕ) (line : ReceiptLine) (lines : List ReceiptLine) wh
       let a = total_with (λ line. line.accepted) e in
       let r = total_with (λ line. line.returned) e in
       let d = total_with (λ line. line.destroyed) e in
-      alike (with_lines (with_line before line) article lines) (with_lines before article (line ∷ lines)) (omega (arith, a))
+      alike (with_lines (with_line before line) article lines) (with_lines before article (line ∷ lines))
+          (omega (arith, a))
       (omega (arith, r)) (omega (arith, d))
 
-  lines_without : (before : Total) → same line.gtin article ≡ false → with_lines before article lines ≡ with_lines before article (line ∷ lines)
+  lines_without : (before : Total) → same line.gtin article ≡ false
+      → with_lines before article lines ≡ with_lines before article (line ∷ lines)
   lines_without before e =
       let a = total_without (λ line. line.accepted) e in
       let r = total_without (λ line. line.returned) e in
       let d = total_without (λ line. line.destroyed) e in
-      alike (with_lines before article lines) (with_lines before article (line ∷ lines)) (omega (arith, a)) (omega (arith, r)) (omega (arith, d))
+      alike (with_lines before article lines) (with_lines before article (line ∷ lines)) (omega (arith, a))
+          (omega (arith, r)) (omega (arith, d))
 
 pub from_some : (before : Total) (article : List ℕ) (lines : List ReceiptLine)
     → total_from (Some before) article lines ≡ Some (with_lines before article lines)
-from_some before article [] = ap Some (alike before (with_lines before article []) (omega arith) (omega arith) (omega arith))
+from_some before article [] =
+    ap Some (alike before (with_lines before article []) (omega arith) (omega arith) (omega arith))
 from_some before article (line ∷ lines) =
     elim (decide (same line.gtin article)) [
       | inl e ↦ ap (λ v. total_from (cond v (Some (with_line before line)) (Some before)) article lines) e
@@ -89,7 +98,8 @@ over_lines article (line ∷ lines) sum h =
           let g = lines_with article line lines nothing e in
           cc
       | inr e ↦
-          over_lines article lines sum (sym (ap (λ v. total_from (cond v (Some (with_line nothing line)) None) article lines) e) ∙ h)
+          over_lines article lines sum
+              (sym (ap (λ v. total_from (cond v (Some (with_line nothing line)) None) article lines) e) ∙ h)
           ∙ lines_without article line lines nothing e
     ]
 
@@ -103,13 +113,15 @@ of_item p article (line ∷ lines) sum h all =
     let parts = and_parts (p line.gtin) (list_all (λ line. p line.gtin) lines) all in
     elim (decide (same line.gtin article)) [
       | inl e ↦ ap p (sym (same_is line.gtin article e)) ∙ parts.0
-      | inr e ↦ of_item p article lines sum (sym (ap (λ v. total_from (cond v (Some (with_line nothing line)) None) article lines) e) ∙ h) parts.1
+      | inr e ↦ of_item p article lines sum
+          (sym (ap (λ v. total_from (cond v (Some (with_line nothing line)) None) article lines) e) ∙ h) parts.1
     ]
 
 -- amounts of one kind
 module _ (kind : ReceiptLine → ℕ) where
   abbrev sum_by_kind : List ℕ → List ReceiptLine → ℕ
-  sum_by_kind article lines = sum_of article (map (λ (line : ReceiptLine). record { gtin = line.gtin; quantity = kind line }) lines)
+  sum_by_kind article lines =
+      sum_of article (map (λ (line : ReceiptLine). record { gtin = line.gtin; quantity = kind line }) lines)
 
   sum_total : (article : List ℕ) (lines : List ReceiptLine) → sum_by_kind article lines ≡ total kind article lines
   sum_total article [] = refl
@@ -127,7 +139,8 @@ module _ (kind : ReceiptLine → ℕ) where
       → sums_within (map (λ (line : ReceiptLine). record { gtin = line.gtin; quantity = kind line }) lines) ≡ true
       → total kind article lines ≤ greatest
   within article lines sum h all =
-      let each : list_all (λ line. nat_le (sum_by_kind line.gtin lines) greatest) lines ≡ true = sym (list_all-map _ _ lines) ∙ all in
+      let each : list_all (λ line. nat_le (sum_by_kind line.gtin lines) greatest) lines ≡ true =
+          sym (list_all-map _ _ lines) ∙ all in
       let t = sum_total article lines in
       let l = leb-true (sum_by_kind article lines) greatest
       (of_item (λ gtin. nat_le (sum_by_kind gtin lines) greatest) article lines sum h each) in
@@ -140,7 +153,8 @@ pub record Fits (before : Total) (line : ReceiptLine) : Type 0 where
   pub destroyed : before.destroyed + line.destroyed ≤ greatest
 
 -- the line at a place, before the rest
-module _ (lines : List ReceiptLine) (i : ℕ) (line : ReceiptLine) (inside : i < length lines) (at : line ≡ get_or lines i line) where
+module _ (lines : List ReceiptLine) (i : ℕ) (line : ReceiptLine) (inside : i < length lines)
+    (at : line ≡ get_or lines i line) where
   pub rest_from : drop i lines ≡ line ∷ drop (i + 1) lines
   rest_from = drop_more lines i line inside ∙ ap (λ one. one ∷ drop (i + 1) lines) (sym at)
 
@@ -165,7 +179,8 @@ module _ (lines : List ReceiptLine) (i : ℕ) (line : ReceiptLine) (inside : i <
       let of_a = ap (λ (t : Total). t.accepted) over in
       let of_r = ap (λ (t : Total). t.returned) over in
       let of_d = ap (λ (t : Total). t.destroyed) over in
-      record { accepted = omega (arith, a, of_a); returned = omega (arith, r, of_r); destroyed = omega (arith, d, of_d) }
+      record { accepted = omega (arith, a, of_a); returned = omega (arith, r, of_r); destroyed = omega
+          (arith, d, of_d) }
 
   -- the totals with one more line
   pub totals_next : (old new : List ℕ → Option Total) (sum : Total)
@@ -177,7 +192,8 @@ module _ (lines : List ReceiptLine) (i : ℕ) (line : ReceiptLine) (inside : i <
   totals_next old new sum becomes grown so_far article =
       so_far article
       ∙ ap (total_from (old article) article) rest_from
-      ∙ ap (λ v. total_from v article (drop (i + 1) lines)) (agree (decide (same line.gtin article)) ∙ sym (becomes article))
+      ∙ ap (λ v. total_from v article (drop (i + 1) lines))
+          (agree (decide (same line.gtin article)) ∙ sym (becomes article))
     where
       agree : ((same line.gtin article ≡ true) ⊎ (same line.gtin article ≡ false))
           → cond (same line.gtin article) (Some (with_line (unwrap_or (old article) nothing) line)) (old article)

@@ -1,5 +1,7 @@
 -- Filters of filters.
-use Rattle.std.proofs.Common.{◌≡◌, ℕ, zero, suc, ◌+◌, ◌-◌, ◌<◌, ◌==◌, Bool, true, false, cond, ◌&&◌, ◌||◌, not, inl, inr, List, [], ◌∷◌, length, filter, find, map, take, drop, get_or, slice_get, Option, Some, None, refl, sym, ap, ap₂, ◌∙◌, arith}
+use Rattle.std.proofs.Common.{◌≡◌, ℕ, zero, suc, ◌+◌, ◌-◌, ◌<◌, ◌==◌, Bool, true, false, cond, ◌&&◌, ◌||◌, not, inl}
+use Rattle.std.proofs.Common.{inr, List, [], ◌∷◌, length, filter, find, map, take, drop, get_or, slice_get, Option}
+use Rattle.std.proofs.Common.{Some, None, refl, sym, ap, ap₂, ◌∙◌, arith}
 use Rattle.std.specs.List.{AllByRecursion, list_any, last_or, filter_map, cons_option}
 use Rattle.std.proofs.lemmas.Bool.Decides.{nat_tests}
 use Rattle.std.proofs.lemmas.List.{drop_more}
@@ -13,7 +15,8 @@ use Rattle.hub_tables.proofs.Lists.{decide, same_is}
 module _ {X : Type 0} (p q : X → Bool) where
   pub filter_both : (xs : List X) → filter (λ x. p x && q x) xs ≡ filter q (filter p xs)
   filter_both [] = refl
-  filter_both (x ∷ xs) = elim (p x) as (λ v. cond (v && q x) (x ∷ filter (λ x. p x && q x) xs) (filter (λ x. p x && q x) xs) ≡ filter q
+  filter_both (x ∷ xs) = elim (p x) as
+      (λ v. cond (v && q x) (x ∷ filter (λ x. p x && q x) xs) (filter (λ x. p x && q x) xs) ≡ filter q
       (cond v (x ∷ filter p xs) (filter p xs))) [
         | true ↦ ap₂ (λ ys zs. cond (q x) (x ∷ ys) zs) (filter_both xs) (filter_both xs)
         | false ↦ filter_both xs
@@ -23,7 +26,8 @@ module _ {X : Type 0} (p q : X → Bool) where
   first_of_both [] = refl
   first_of_both (x ∷ xs) = elim (p x) as (λ v. slice_get (cond (v && q x) (x ∷ filter (λ x. p x && q x) xs) (filter
       (λ x. p x && q x) xs)) 0 ≡ find q (cond v (x ∷ filter p xs) (filter p xs))) [
-        | true ↦ elim (q x) as (λ w. slice_get (cond w (x ∷ filter (λ x. p x && q x) xs) (filter (λ x. p x && q x) xs)) 0 ≡ cond w (Some x)
+        | true ↦ elim (q x) as
+            (λ w. slice_get (cond w (x ∷ filter (λ x. p x && q x) xs) (filter (λ x. p x && q x) xs)) 0 ≡ cond w (Some x)
             (find q (filter p xs))) [ true ↦ refl | false ↦ first_of_both xs ]
         | false ↦ first_of_both xs
       ]
@@ -39,10 +43,12 @@ any_filtered p (x ∷ xs) = elim (p x) as (λ v. (v || list_any p xs) ≡ not (l
 -- a test on what passes another
 any_within : {X : Type 0} (p q : X → Bool) (xs : List X) → list_any q (filter p xs) ≡ list_any (λ x. p x && q x) xs
 any_within p q [] = refl
-any_within p q (x ∷ xs) = elim (p x) as (λ v. list_any q (cond v (x ∷ filter p xs) (filter p xs)) ≡ ((v && q x) || list_any
+any_within p q (x ∷ xs) =
+    elim (p x) as (λ v. list_any q (cond v (x ∷ filter p xs) (filter p xs)) ≡ ((v && q x) || list_any
     (λ x. p x && q x) xs)) [ true ↦ ap (λ v. q x || v) (any_within p q xs) | false ↦ any_within p q xs ]
 
-pub any_of_both : {X : Type 0} (p q : X → Bool) (xs : List X) → list_any q (filter p xs) ≡ not (length (filter (λ x. p x && q x) xs) == 0)
+pub any_of_both : {X : Type 0} (p q : X → Bool) (xs : List X) → list_any q (filter p xs) ≡ not
+    (length (filter (λ x. p x && q x) xs) == 0)
 any_of_both p q xs = any_within p q xs ∙ any_filtered (λ x. p x && q x) xs
 
 turned : (a b : Bool) → (a && b) ≡ (b && a)
@@ -51,24 +57,28 @@ turned true false = refl
 turned false true = refl
 turned false false = refl
 
-pub any_of_either : {X : Type 0} (p q : X → Bool) (xs : List X) → list_any q (filter p xs) ≡ list_any (λ x. q x && p x) xs
+pub any_of_either : {X : Type 0} (p q : X → Bool) (xs : List X) → list_any q (filter p xs) ≡ list_any
+    (λ x. q x && p x) xs
 any_of_either p q xs = any_within p q xs ∙ (λ i. list_any (λ x. turned (p x) (q x) i) xs)
 
 find_within : {X : Type 0} (p q : X → Bool) (xs : List X) → find q (filter p xs) ≡ find (λ x. p x && q x) xs
 find_within p q [] = refl
-find_within p q (x ∷ xs) = elim (p x) as (λ v. find q (cond v (x ∷ filter p xs) (filter p xs)) ≡ cond (v && q x) (Some x) (find
+find_within p q (x ∷ xs) =
+    elim (p x) as (λ v. find q (cond v (x ∷ filter p xs) (filter p xs)) ≡ cond (v && q x) (Some x) (find
     (λ x. p x && q x) xs)) [ true ↦ ap (cond (q x) (Some x)) (find_within p q xs) | false ↦ find_within p q xs ]
 
 pub find_of_either : {X : Type 0} (p q : X → Bool) (xs : List X) → find q (filter p xs) ≡ find p (filter q xs)
 find_of_either p q xs = find_within p q xs ∙ (λ i. find (λ x. turned (p x) (q x) i) xs) ∙ sym (find_within q p xs)
 
-pub filter_three : {X : Type 0} (p q r : X → Bool) (xs : List X) → filter r (filter (λ x. p x && q x) xs) ≡ filter (λ x. q x && r x)
+pub filter_three : {X : Type 0} (p q r : X → Bool) (xs : List X) → filter r (filter (λ x. p x && q x) xs) ≡ filter
+    (λ x. q x && r x)
     (filter p xs)
 filter_three p q r xs = ap (filter r) (filter_both p q xs) ∙ sym (filter_both q r (filter p xs))
 
 -- what a supplier sees under a key, where it has the pallet of that key
 held : {X : Type 0} (key : X → List ℕ) (supplier sscc : List ℕ) (pallets : List PalletRow) (xs : List X) →
-    filter (λ x. same (key x) sscc) (filter (λ x. holds supplier pallets (key x)) xs) ≡ cond (holds supplier pallets sscc) (filter
+    filter (λ x. same (key x) sscc) (filter (λ x. holds supplier pallets (key x)) xs) ≡ cond
+        (holds supplier pallets sscc) (filter
     (λ x. same (key x) sscc) xs) []
 held {X} key supplier sscc pallets [] = elim (holds supplier pallets sscc) as (λ v. ◌≡◌ {A = List X} []
     (cond v [] [])) [ true ↦ refl | false ↦ refl ]
@@ -79,28 +89,35 @@ held {X} key supplier sscc pallets (x ∷ xs) =
     elim (is x) as (λ v. is x ≡ v → filter is (cond (has (key x)) (x ∷ filter (λ x. has (key x)) xs) (filter (λ x. has
     (key x)) xs)) ≡ cond (has sscc) (cond v (x ∷ filter is xs) (filter is xs)) []) [
       | true ↦ λ e.
-          ap (λ s. filter is (cond (has s) (x ∷ filter (λ x. has (key x)) xs) (filter (λ x. has (key x)) xs))) (same_is (key x) sscc e)
+          ap (λ s. filter is (cond (has s) (x ∷ filter (λ x. has (key x)) xs) (filter (λ x. has (key x)) xs)))
+              (same_is (key x) sscc e)
           ∙ elim (has sscc) as (λ w. filter is (filter (λ x. has (key x)) xs) ≡ cond w (filter is xs) [] →
-          filter is (cond w (x ∷ filter (λ x. has (key x)) xs) (filter (λ x. has (key x)) xs)) ≡ cond w (x ∷ filter is xs) []) [
-            | true ↦ λ r. ap (λ v. cond v (x ∷ filter is (filter (λ x. has (key x)) xs)) (filter is (filter (λ x. has (key x)) xs))) e
+          filter is (cond w (x ∷ filter (λ x. has (key x)) xs) (filter (λ x. has (key x)) xs)) ≡ cond w
+              (x ∷ filter is xs) []) [
+            | true ↦ λ r. ap (λ v. cond v (x ∷ filter is (filter (λ x. has (key x)) xs))
+                (filter is (filter (λ x. has (key x)) xs))) e
                 ∙ ap (λ ys. x ∷ ys) r
             | false ↦ λ r. r
           ] rest
       | false ↦ λ e.
-          elim (has (key x)) as (λ w. filter is (cond w (x ∷ filter (λ x. has (key x)) xs) (filter (λ x. has (key x)) xs)) ≡ cond
+          elim (has (key x)) as
+              (λ w. filter is (cond w (x ∷ filter (λ x. has (key x)) xs) (filter (λ x. has (key x)) xs)) ≡ cond
           (has sscc) (filter is xs) []) [
-            | true ↦ ap (λ v. cond v (x ∷ filter is (filter (λ x. has (key x)) xs)) (filter is (filter (λ x. has (key x)) xs))) e ∙ rest
+            | true ↦ ap (λ v. cond v (x ∷ filter is (filter (λ x. has (key x)) xs))
+                (filter is (filter (λ x. has (key x)) xs))) e ∙ rest
             | false ↦ rest
           ]
     ] refl
 
 pub contents_held : (supplier sscc : List ℕ) (pallets : List PalletRow) (rows : List ContentRow) →
-    filter (λ row. same row.sscc sscc) (filter (λ row. holds supplier pallets row.sscc) rows) ≡ cond (holds supplier pallets sscc)
+    filter (λ row. same row.sscc sscc) (filter (λ row. holds supplier pallets row.sscc) rows) ≡ cond
+        (holds supplier pallets sscc)
     (filter (λ row. same row.sscc sscc) rows) []
 contents_held supplier sscc pallets rows = held (λ (row : ContentRow). row.sscc) supplier sscc pallets rows
 
 pub receipts_held : (supplier sscc : List ℕ) (pallets : List PalletRow) (rows : List ReceiptRow) →
-    filter (λ row. same row.sscc sscc) (filter (λ row. holds supplier pallets row.sscc) rows) ≡ cond (holds supplier pallets sscc)
+    filter (λ row. same row.sscc sscc) (filter (λ row. holds supplier pallets row.sscc) rows) ≡ cond
+        (holds supplier pallets sscc)
     (filter (λ row. same row.sscc sscc) rows) []
 receipts_held supplier sscc pallets rows = held (λ (row : ReceiptRow). row.sscc) supplier sscc pallets rows
 
@@ -111,7 +128,8 @@ last_from x (y ∷ ys) = last_from y ys
 
 pub last_is : {X : Type 0} (xs : List X) → last_or None xs ≡ slice_get xs (length xs - 1)
 last_is [] = refl
-last_is (x ∷ xs) = let n : suc (length xs) - 1 ≡ length xs = omega arith in last_from x xs ∙ ap (slice_get (x ∷ xs)) (sym n)
+last_is (x ∷ xs) = let n : suc (length xs) - 1 ≡ length xs = omega arith in last_from x xs ∙ ap (slice_get (x ∷ xs))
+    (sym n)
 
 pub first_is_found : {X : Type 0} (p : X → Bool) (xs : List X) → slice_get (filter p xs) 0 ≡ find p xs
 first_is_found p [] = refl
@@ -119,7 +137,8 @@ first_is_found p (x ∷ xs) = elim (p x) as (λ v. slice_get (cond v (x ∷ filt
     (find p xs)) [ true ↦ refl | false ↦ first_is_found p xs ]
 
 -- one key more
-pub filter_map_step : {X Y : Type 0} (h : X → Option Y) (xs : List X) (i : ℕ) (x : X) → i < length xs → x ≡ get_or xs i x →
+pub filter_map_step : {X Y : Type 0} (h : X → Option Y) (xs : List X) (i : ℕ) (x : X) → i < length xs
+    → x ≡ get_or xs i x →
     filter_map h (drop i xs) ≡ cons_option (h x) (filter_map h (drop (i + 1) xs))
 filter_map_step h xs i x within is = ap (filter_map h) (drop_more xs i x within)
     ∙ ap (λ y. cons_option (h y) (filter_map h (drop (i + 1) xs))) (sym is)
@@ -135,10 +154,12 @@ filter_swap p q (x ∷ xs) =
       | inr e ↦ elim (decide (q x)) [ inl f ↦ grind (arith, e, f, rest) | inr f ↦ grind (arith, e, f, rest) ]
     ]
 
-pub filter_of_map : {X K : Type 0} (p : K → Bool) (key : X → K) (xs : List X) → filter p (map key xs) ≡ map key (filter (λ x. p (key x)) xs)
+pub filter_of_map : {X K : Type 0} (p : K → Bool) (key : X → K) (xs : List X) → filter p (map key xs) ≡ map key
+    (filter (λ x. p (key x)) xs)
 filter_of_map p key [] = refl
 filter_of_map p key (x ∷ xs) =
-    elim (p (key x)) as (λ v. cond v (key x ∷ filter p (map key xs)) (filter p (map key xs)) ≡ map key (cond v (x ∷ filter (λ x. p
+    elim (p (key x)) as (λ v. cond v (key x ∷ filter p (map key xs)) (filter p (map key xs)) ≡ map key
+        (cond v (x ∷ filter (λ x. p
     (key x)) xs) (filter (λ x. p (key x)) xs))) [
       | true ↦ ap (λ ks. key x ∷ ks) (filter_of_map p key xs)
       | false ↦ filter_of_map p key xs
@@ -151,7 +172,8 @@ any_none p (x ∷ xs) all = ap (λ v. v || list_any p xs) all.0 ∙ any_none p x
 pub none_any : {X : Type 0} (p : X → Bool) (xs : List X) → list_any p xs ≡ false → AllByRecursion (λ x. p x ≡ false) xs
 none_any p [] none = tt
 none_any p (x ∷ xs) none = elim (p x) as (λ v. p x ≡ v → (v || list_any p xs) ≡ false →
-    AllByRecursion (λ x. p x ≡ false) (x ∷ xs)) [ true ↦ λ e h. absurd (cc (h)) | false ↦ λ e h. (e, none_any p xs h) ] refl none
+    AllByRecursion (λ x. p x ≡ false) (x ∷ xs)) [ true ↦ λ e h. absurd (cc (h)) | false ↦ λ e h.
+        (e, none_any p xs h) ] refl none
 
 pub none_first : {X : Type 0} (p : X → Bool) (xs : List X) → slice_get (filter p xs) 0 ≡ None → list_any p xs ≡ false
 none_first p [] none = refl
@@ -173,7 +195,8 @@ any_among p q f (x ∷ xs) =
       ]
     ]
 
-pub any_of_map : {X K : Type 0} (p : K → Bool) (key : X → K) (xs : List X) → list_any p (map key xs) ≡ list_any (λ x. p (key x)) xs
+pub any_of_map : {X K : Type 0} (p : K → Bool) (key : X → K) (xs : List X) → list_any p (map key xs) ≡ list_any
+    (λ x. p (key x)) xs
 any_of_map p key [] = refl
 any_of_map p key (x ∷ xs) = ap (λ v. p (key x) || v) (any_of_map p key xs)
 

@@ -1,5 +1,6 @@
 -- An index follows the rows that it lists.
-use Rattle.std.proofs.Common.{◌≡◌, ℕ, suc, ◌+◌, Bool, true, false, cond, not, ◌||◌, inl, inr, List, [], ◌∷◌, filter, find, map, slice_get, Some, refl, sym, ap, subst, ◌∙◌, if◌then◌else◌, arith}
+use Rattle.std.proofs.Common.{◌≡◌, ℕ, suc, ◌+◌, Bool, true, false, cond, not, ◌||◌, inl, inr, List, [], ◌∷◌, filter}
+use Rattle.std.proofs.Common.{find, map, slice_get, Some, refl, sym, ap, subst, ◌∙◌, if◌then◌else◌, arith}
 use Rattle.std.specs.List.{AllByRecursion, list_any, remove, filter_map, cons_option}
 use Rattle.std.specs.declared.cmp.Ordering.{Ordering}
 use Rattle.std.specs.declared.cmp.Ordering.TheVariants.{Less, Equal, Greater}
@@ -10,7 +11,8 @@ use Rattle.hub_tables.specs.Keys.{InOrder, put, replace}
 use Rattle.hub_tables.specs.Rows.{same}
 use Rattle.hub_tables.specs.Sets.{Rises}
 use Rattle.hub_tables.proofs.KeyOrder.{filter_put_in, filter_put_out, in_order_filter, put_first}
-use Rattle.hub_tables.proofs.Lists.{decide, same_is, same_if, all_filter, all_weaker, all_passes, filter_alike, filter_none}
+use Rattle.hub_tables.proofs.Lists.{decide, same_is, same_if, all_filter, all_weaker, all_passes, filter_alike}
+use Rattle.hub_tables.proofs.Lists.{filter_none}
 use Rattle.hub_list.specs.Index.{IsIndex}
 use Rattle.hub_list.proofs.Filters.{filter_swap, filter_of_map, any_none, none_any, any_among, any_of_map}
 use Rattle.hub_tables.proofs.Setting.{equal_is, has, below, rises_put, all_above, after_equal, none_above}
@@ -60,7 +62,8 @@ module _ {X : Type 0} {cmp : X → X → Ordering} (total : IsTotalOrder cmp) (r
   greater_kept (x ∷ xs) all = keeps_others x xs (ap is_eq all.0) ∙ ap (λ ys. x ∷ ys) (greater_kept xs all.1)
 
   pub none_left : (xs : List X) → has total r (but xs) ≡ false
-  none_left xs = any_none at (but xs) (all_weaker (λ x. not (at x) ≡ true) (λ x. at x ≡ false) (λ x h. turned (at x) h) (but xs)
+  none_left xs = any_none at (but xs)
+      (all_weaker (λ x. not (at x) ≡ true) (λ x. at x ≡ false) (λ x h. turned (at x) h) (but xs)
       (all_passes (λ x. not (at x)) xs))
     where
       turned : (v : Bool) → not v ≡ true → v ≡ false
@@ -69,7 +72,8 @@ module _ {X : Type 0} {cmp : X → X → Ordering} (total : IsTotalOrder cmp) (r
 
   not_replaced : (xs : List X) → AllByRecursion (λ y. cmp y r ≡ Greater) xs → replace at r xs ≡ xs
   not_replaced [] all = refl
-  not_replaced (x ∷ xs) all = ap (λ v. cond v r x ∷ replace at r xs) (ap is_eq all.0) ∙ ap (λ ys. x ∷ ys) (not_replaced xs all.1)
+  not_replaced (x ∷ xs) all =
+      ap (λ v. cond v r x ∷ replace at r xs) (ap is_eq all.0) ∙ ap (λ ys. x ∷ ys) (not_replaced xs all.1)
 
   -- a row that is set is taken out and put anew
   pub replace_is_put : (xs : List X) → Rises cmp xs → has total r xs ≡ true → replace at r xs ≡ put cmp r (but xs)
@@ -81,9 +85,11 @@ module _ {X : Type 0} {cmp : X → X → Ordering} (total : IsTotalOrder cmp) (r
             ∙ ap (λ o. cond (is_gt o) (r ∷ x ∷ but xs) (x ∷ put cmp r (but xs))) (sym e)
         | Equal ↦ λ e there.
             let all = after_equal total r x xs e rises.0 in
-            let first = put_first cmp xs r (all_weaker (λ y. cmp y r ≡ Greater) (λ y. is_gt (cmp y r) ≡ true) (λ y g. ap is_gt g) xs all) in
+            let first = put_first cmp xs r
+                (all_weaker (λ y. cmp y r ≡ Greater) (λ y. is_gt (cmp y r) ≡ true) (λ y g. ap is_gt g) xs all) in
             ap (λ ys. r ∷ ys) (not_replaced xs all) ∙ sym (ap (put cmp r) (greater_kept xs all) ∙ first)
-        | Greater ↦ λ e there. let none = none_above total r xs (all_above total r x xs e rises.0) in absurd (cc (none, there))
+        | Greater ↦ λ e there. let none =
+            none_above total r xs (all_above total r x xs e rises.0) in absurd (cc (none, there))
       ] refl there
 
   -- the row that has the key is the only one
@@ -113,7 +119,8 @@ module _ {X : Type 0} {cmp : X → X → Ordering} (total : IsTotalOrder cmp) (r
             )
         | Greater ↦ λ e f.
             let all = all_above total r x xs e rises.0 in
-            let none = filter_none at xs (all_weaker (λ y. cmp y r ≡ Greater) (λ y. at y ≡ false) (λ y g. ap is_eq g) xs all) in
+            let none = filter_none at xs
+                (all_weaker (λ y. cmp y r ≡ Greater) (λ y. at y ≡ false) (λ y g. ap is_eq g) xs all) in
             let no = sym (ap (λ ys. slice_get ys 0) none) ∙ f in absurd (cc (no))
       ] refl first
 
@@ -125,10 +132,12 @@ module _ {X : Type 0} {cmp : X → X → Ordering} (total : IsTotalOrder cmp) (r
       remove (x ∷ xs) (cond (is_lt o) (1 + below total r xs) 0) ≡ cond (not (is_eq o)) (x ∷ but xs) (but xs)) [
         | Less ↦ λ e there. ap (remove (x ∷ xs)) more ∙ ap (λ ys. x ∷ ys) (removed xs rises.1 there)
         | Equal ↦ λ e there. sym (greater_kept xs (after_equal total r x xs e rises.0))
-        | Greater ↦ λ e there. let none = none_above total r xs (all_above total r x xs e rises.0) in absurd (cc (none, there))
+        | Greater ↦ λ e there. let none =
+            none_above total r xs (all_above total r x xs e rises.0) in absurd (cc (none, there))
       ] refl there
 
-module _ {X K : Type 0} {cmp : X → X → Ordering} {kcmp : K → K → Ordering} (total : IsTotalOrder cmp) (ktotal : IsTotalOrder kcmp)
+module _ {X K : Type 0} {cmp : X → X → Ordering} {kcmp : K → K → Ordering} (total : IsTotalOrder cmp)
+    (ktotal : IsTotalOrder kcmp)
     (supplier : K → List ℕ) (key : X → K) (listed : X → Bool)
     (tied : (a b : K) → is_eq (kcmp a b) ≡ true → supplier a ≡ supplier b)
     (alike : (x y : X) → supplier (key x) ≡ supplier (key y) → kcmp (key x) (key y) ≡ cmp x y) where
@@ -144,16 +153,19 @@ module _ {X K : Type 0} {cmp : X → X → Ordering} {kcmp : K → K → Orderin
   one_key : (x y : X) → is_eq (kcmp (key x) (key y)) ≡ true → is_eq (cmp x y) ≡ true
   one_key x y h = ap is_eq (sym (alike x y (tied (key x) (key y) h))) ∙ h
 
-  pub not_listed : (r : X) (index : List K) (rows : List X) → Is index rows → has total r rows ≡ false → has ktotal (key r) index ≡ false
+  pub not_listed : (r : X) (index : List K) (rows : List X) → Is index rows → has total r rows ≡ false → has ktotal
+      (key r) index ≡ false
   not_listed r index rows is new =
       let gln = supplier (key r) in
       let ours : List X = filter listed (filter (from gln) rows) in
-      let each = all_weaker (λ x. is_eq (cmp x r) ≡ false) (λ x. is_eq (kcmp (key x) (key r)) ≡ false) other rows (none_any (λ x. is_eq
+      let each = all_weaker (λ x. is_eq (cmp x r) ≡ false) (λ x. is_eq (kcmp (key x) (key r)) ≡ false) other rows
+          (none_any (λ x. is_eq
       (cmp x r)) rows new) in
       sym (any_among (of gln) (λ k. is_eq (kcmp k (key r))) (λ k h. same_if (supplier k) gln (tied k (key r) h)) index)
       ∙ ap (list_any (λ k. is_eq (kcmp k (key r)))) (is.each gln)
       ∙ any_of_map (λ k. is_eq (kcmp k (key r))) key ours
-      ∙ any_none (λ x. is_eq (kcmp (key x) (key r))) ours (all_filter (λ x. is_eq (kcmp (key x) (key r)) ≡ false) listed (filter
+      ∙ any_none (λ x. is_eq (kcmp (key x) (key r))) ours
+          (all_filter (λ x. is_eq (kcmp (key x) (key r)) ≡ false) listed (filter
       (from gln) rows) (all_filter (λ x. is_eq (kcmp (key x) (key r)) ≡ false) (from gln) rows each))
     where
       other : (x : X) → is_eq (cmp x r) ≡ false → is_eq (kcmp (key x) (key r)) ≡ false
@@ -167,7 +179,8 @@ module _ {X K : Type 0} {cmp : X → X → Ordering} {kcmp : K → K → Orderin
       map key (put cmp r xs) ≡ put kcmp (key r) (map key xs)
   map_put r [] all = refl
   map_put r (x ∷ xs) all =
-      elim (is_gt (cmp x r)) as (λ v. map key (cond v (r ∷ x ∷ xs) (x ∷ put cmp r xs)) ≡ cond v (key r ∷ key x ∷ map key xs)
+      elim (is_gt (cmp x r)) as
+          (λ v. map key (cond v (r ∷ x ∷ xs) (x ∷ put cmp r xs)) ≡ cond v (key r ∷ key x ∷ map key xs)
       (key x ∷ put kcmp (key r) (map key xs))) [
         | true ↦ refl
         | false ↦ ap (λ ks. key x ∷ ks) (map_put r xs all.1)
@@ -176,7 +189,8 @@ module _ {X K : Type 0} {cmp : X → X → Ordering} {kcmp : K → K → Orderin
 
   -- A new row.
 
-  listed_put : (r : X) (index : List K) (rows : List X) → Is index rows → Rises cmp rows → has total r rows ≡ false → listed r ≡ true →
+  listed_put : (r : X) (index : List K) (rows : List X) → Is index rows → Rises cmp rows → has total r rows ≡ false
+      → listed r ≡ true →
       Is (put kcmp (key r) index) (put cmp r rows)
   listed_put r index rows is rises new is_listed = record {
     rises = rises_put ktotal (key r) index is.rises (not_listed r index rows is new);
@@ -201,7 +215,8 @@ module _ {X K : Type 0} {cmp : X → X → Ordering} {kcmp : K → K → Orderin
       order : InOrder cmp rows
       order = rises_in_order cmp rows rises
 
-  unlisted_put : (r : X) (index : List K) (rows : List X) → Is index rows → Rises cmp rows → listed r ≡ false → Is index (put cmp r rows)
+  unlisted_put : (r : X) (index : List K) (rows : List X) → Is index rows → Rises cmp rows → listed r ≡ false
+      → Is index (put cmp r rows)
   unlisted_put r index rows is rises not_so = record {
     rises = is.rises;
     each = λ gln. is.each gln ∙ ap (map key) (sym (elim (decide (from gln r)) [
@@ -232,7 +247,8 @@ module _ {X K : Type 0} {cmp : X → X → Ordering} {kcmp : K → K → Orderin
     each = λ gln.
         let out : K → Bool = λ j. not (is_eq (kcmp j k)) in
         let ours : List X = filter listed (filter (from gln) rows) in
-        let each = all_weaker (λ x. is_eq (kcmp (key x) k) ≡ test x) (λ x. out (key x) ≡ not (test x)) (λ x e. ap not e) ours
+        let each = all_weaker (λ x. is_eq (kcmp (key x) k) ≡ test x) (λ x. out (key x) ≡ not (test x))
+            (λ x e. ap not e) ours
         (all_filter (λ x. is_eq (kcmp (key x) k) ≡ test x) listed (filter (from gln) rows) (all_filter (λ x. is_eq (kcmp
         (key x) k) ≡ test x) (from gln) rows all)) in
         filter_swap (of gln) out index
@@ -266,7 +282,8 @@ module _ {X K : Type 0} {cmp : X → X → Ordering} {kcmp : K → K → Orderin
     there : has total r rows ≡ true
     there = elim (decide (has total r rows)) [
       | inl e ↦ e
-      | inr e ↦ let none = filter_none (λ x. is_eq (cmp x r)) rows (none_any (λ x. is_eq (cmp x r)) rows e) in let no = sym (ap
+      | inr e ↦ let none = filter_none (λ x. is_eq (cmp x r)) rows (none_any (λ x. is_eq (cmp x r)) rows e) in
+          let no = sym (ap
           (λ xs. slice_get xs 0) none) ∙ first in absurd (cc (no))
     ]
 
@@ -285,7 +302,8 @@ module _ {X K : Type 0} {cmp : X → X → Ordering} {kcmp : K → K → Orderin
 
 -- Rows that are found again by their keys.
 
-module _ {X K : Type 0} {cmp : X → X → Ordering} (total : IsTotalOrder cmp) (key : X → K) (wanted : K → X → Bool) (exact : (x y : X) →
+module _ {X K : Type 0} {cmp : X → X → Ordering} (total : IsTotalOrder cmp) (key : X → K) (wanted : K → X → Bool)
+    (exact : (x y : X) →
     is_eq (cmp y x) ≡ wanted (key x) y) where
   abbrev pub Again : List X → X → Type 0
   Again rows x = find (wanted (key x)) rows ≡ Some x
@@ -307,7 +325,9 @@ module _ {X K : Type 0} {cmp : X → X → Ordering} (total : IsTotalOrder cmp) 
     later x xs xs rises.0 (all_again xs rises.1),
   )
 
-  pub found_again : (rows xs : List X) → AllByRecursion (Again rows) xs → filter_map (λ k. find (wanted k) rows) (map key xs) ≡ xs
+  pub found_again : (rows xs : List X) → AllByRecursion (Again rows) xs → filter_map (λ k. find (wanted k) rows)
+      (map key xs) ≡ xs
   found_again rows [] again = refl
-  found_again rows (x ∷ xs) again = ap (λ one. cons_option one (filter_map (λ k. find (wanted k) rows) (map key xs))) again.0
+  found_again rows (x ∷ xs) again =
+      ap (λ one. cons_option one (filter_map (λ k. find (wanted k) rows) (map key xs))) again.0
       ∙ ap (λ ys. x ∷ ys) (found_again rows xs again.1)

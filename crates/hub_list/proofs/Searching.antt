@@ -1,5 +1,6 @@
 -- The rows at a place stand together.
-use Rattle.std.proofs.Common.{◌≡◌, ℕ, zero, suc, ◌+◌, ◌-◌, ◌≤◌, ◌<◌, Bool, true, false, cond, List, [], ◌∷◌, length, take, drop, get_or, filter, refl, sym, ap, ◌∙◌, arith}
+use Rattle.std.proofs.Common.{◌≡◌, ℕ, zero, suc, ◌+◌, ◌-◌, ◌≤◌, ◌<◌, Bool, true, false, cond, List, [], ◌∷◌, length}
+use Rattle.std.proofs.Common.{take, drop, get_or, filter, refl, sym, ap, ◌∙◌, arith}
 use Rattle.std.specs.List.{AllByRecursion, prefix_len}
 use Rattle.std.specs.List.Sorted.{IsPartitionedBy, IsPartitionPoint}
 use Rattle.std.specs.declared.cmp.Ordering.{Ordering}
@@ -17,7 +18,8 @@ use Rattle.hub_list.specs.Search.{may_precede, KeepsPlaces, Parted}
 pub from_point : {X : Type 0} (p : X → Bool) (xs : List X) (n : ℕ) → n ≤ length xs →
     IsPartitionPoint (λ x. p x ≡ true) (λ x. p x ≡ false) xs n → n ≡ prefix_len p xs
 from_point p [] n bound point = omega arith
-from_point p (x ∷ xs) n bound point = sym (prefix_len_is p (x ∷ xs) n x bound (λ k l. point.0 k x (omega arith) l) (λ l. point.1 n x
+from_point p (x ∷ xs) n bound point =
+    sym (prefix_len_is p (x ∷ xs) n x bound (λ k l. point.0 k x (omega arith) l) (λ l. point.1 n x
     (omega arith) l))
 
 down_lt : (a b : Ordering) → may_precede a b ≡ true → is_lt b ≡ true → is_lt a ≡ true
@@ -45,15 +47,18 @@ module _ {X : Type 0} (place : X → Ordering) where
     parted cmp keeps xs rises.1,
   )
 
-  partitioned : (p : Ordering → Bool) → ((a b : Ordering) → may_precede a b ≡ true → p b ≡ true → p a ≡ true) → (xs : List X) →
+  partitioned : (p : Ordering → Bool) → ((a b : Ordering) → may_precede a b ≡ true → p b ≡ true → p a ≡ true) →
+      (xs : List X) →
       Parted place xs → IsPartitionedBy (λ x. p (place x)) xs
   partitioned p down [] h i j d le lt passes = absurd (omega arith)
   partitioned p down (x ∷ xs) h zero zero d le lt passes = passes
   partitioned p down (x ∷ xs) h zero (suc j) d le lt passes =
-      down (place x) (place (get_or xs j d)) (All-get_or (λ y. may_precede (place x) (place y) ≡ true) xs j d (omega arith)
+      down (place x) (place (get_or xs j d))
+          (All-get_or (λ y. may_precede (place x) (place y) ≡ true) xs j d (omega arith)
       (All-from_recursion (λ y. may_precede (place x) (place y) ≡ true) xs h.0)) passes
   partitioned p down (x ∷ xs) h (suc i) zero d le lt passes = absurd (omega arith)
-  partitioned p down (x ∷ xs) h (suc i) (suc j) d le lt passes = partitioned p down xs h.1 i j d (omega arith) (omega arith) passes
+  partitioned p down (x ∷ xs) h (suc i) (suc j) d le lt passes =
+      partitioned p down xs h.1 i j d (omega arith) (omega arith) passes
 
   pub below_first : (xs : List X) → Parted place xs → IsPartitionedBy (λ x. is_lt (place x)) xs
   below_first = partitioned is_lt down_lt
@@ -77,7 +82,8 @@ module _ {X : Type 0} (place : X → Ordering) where
   not_at Equal h = cc
   not_at Greater h = refl
 
-  pub at_place : (xs : List X) → Parted place xs → filter (λ x. is_eq (place x)) xs ≡ take (within (drop (below xs) xs)) (drop
+  pub at_place : (xs : List X) → Parted place xs → filter (λ x. is_eq (place x)) xs ≡ take
+      (within (drop (below xs) xs)) (drop
       (below xs) xs)
   at_place [] h = refl
   at_place (x ∷ xs) h =
@@ -85,7 +91,8 @@ module _ {X : Type 0} (place : X → Ordering) where
       let more : 1 + below xs ≡ suc (below xs) = omega arith in
       elim (place x) as (λ o. place x ≡ o → AllByRecursion (λ y. may_precede o (place y) ≡ true) xs →
       cond (is_eq o) (x ∷ filter (λ x. is_eq (place x)) xs) (filter (λ x. is_eq (place x)) xs)
-      ≡ take (within (drop (cond (is_lt o) (1 + below xs) 0) (x ∷ xs))) (drop (cond (is_lt o) (1 + below xs) 0) (x ∷ xs))) [
+      ≡ take (within (drop (cond (is_lt o) (1 + below xs) 0) (x ∷ xs)))
+          (drop (cond (is_lt o) (1 + below xs) 0) (x ∷ xs))) [
         | Less ↦ λ e all. rest ∙ sym (ap (λ n. take (within (drop n (x ∷ xs))) (drop n (x ∷ xs))) more)
         | Equal ↦ λ e all.
             let none = none_below xs all in
@@ -93,7 +100,8 @@ module _ {X : Type 0} (place : X → Ordering) where
             ap (λ ys. x ∷ ys) (rest ∙ ap (λ n. take (within (drop n xs)) (drop n xs)) none)
             ∙ sym (ap (λ n. take n (x ∷ xs)) (ap (λ o. cond (is_le o) (1 + within xs) 0) e ∙ one))
         | Greater ↦ λ e all.
-            filter_none (λ x. is_eq (place x)) xs (all_weaker (λ y. may_precede Greater (place y) ≡ true) (λ y. is_eq (place y) ≡ false)
+            filter_none (λ x. is_eq (place x)) xs
+                (all_weaker (λ y. may_precede Greater (place y) ≡ true) (λ y. is_eq (place y) ≡ false)
             (λ y g. not_at (place y) g) xs all)
             ∙ sym (ap (λ n. take n (x ∷ xs)) (ap (λ o. cond (is_le o) (1 + within xs) 0) e))
       ] refl h.0

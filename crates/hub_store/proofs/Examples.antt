@@ -17,7 +17,8 @@ use Rattle.hub_tables.specs.declared.rows.ContentRow.{ContentRow}
 use Rattle.hub_tables.specs.declared.rows.ReceiptRow.{ReceiptRow}
 use Rattle.hub_tables.specs.declared.rows.RememberedRow.{RememberedRow}
 use Rattle.hub_tables.specs.declared.rows.MailRow.{MailRow}
-use Rattle.hub_store.specs.Clean.{clean_order, clean_line, clean_advice, clean_pallet, clean_content, clean_receipt, clean_remembered, clean_mail, are_clean}
+use Rattle.hub_store.specs.Clean.{clean_order, clean_line, clean_advice, clean_pallet, clean_content, clean_receipt}
+use Rattle.hub_store.specs.Clean.{clean_remembered, clean_mail, are_clean}
 
 -- Keys that are right, and keys whose check digit is not.
 
@@ -70,7 +71,8 @@ module _ (gln no_gln item no_item sscc no_sscc : List ℕ)
   abbrev order : OrderRow
   order = record { supplier = gln; number = codes "128576" }
 
-  orders_within : list_all clean_order (order ∷ record order { number = bytes_35 } ∷ record order { number = 32 ∷ 126 ∷ [] } ∷ []) ≡ true
+  orders_within : list_all clean_order
+      (order ∷ record order { number = bytes_35 } ∷ record order { number = 32 ∷ 126 ∷ [] } ∷ []) ≡ true
   orders_within = simp right_g refl
 
   orders_past :
@@ -107,7 +109,8 @@ module _ (gln no_gln item no_item sscc no_sscc : List ℕ)
       ∷ record line { line = 0 } ∷ record line { line = 1_000_000 } ∷ record line { gtin = no_item }
       ∷ record line { ordered = 0; open_qty = 0; refused = 0; cancelled = 0 } ∷ record line { ordered = 1_000_000_000 }
       ∷ record line { open_qty = 13 } ∷ record line { refused = 25 } ∷ record line { cancelled = 13 }
-      ∷ record line { open_qty = no_number } ∷ record line { refused = no_number } ∷ record line { cancelled = no_number }
+      ∷ record line { open_qty = no_number } ∷ record line { refused = no_number }
+          ∷ record line { cancelled = no_number }
       ∷ record line { answer = 0 } ∷ record line { answer = no_number } ∷ []) ≡ false
   lines_past = simp (right_g, wrong_g, right_i, wrong_i) refl
 
@@ -117,13 +120,16 @@ module _ (gln no_gln item no_item sscc no_sscc : List ℕ)
   advices_within : list_all clean_advice (advice ∷ record advice { number = bytes_35 } ∷ []) ≡ true
   advices_within = simp right_g refl
 
-  advices_past : list_any clean_advice (record advice { supplier = no_gln } ∷ record advice { number = [] } ∷ record advice { number = bytes_36 } ∷ []) ≡ false
+  advices_past : list_any clean_advice
+      (record advice { supplier = no_gln } ∷ record advice { number = [] } ∷ record advice { number = bytes_36 }
+      ∷ []) ≡ false
   advices_past = simp (right_g, wrong_g) refl
 
   abbrev pallet : PalletRow
   pallet = record { sscc = sscc; supplier = gln; advice = codes "DES1"; received = arrival_number Announced }
 
-  pallets_within : list_all clean_pallet (pallet ∷ record pallet { advice = bytes_35 } ∷ record pallet { received = arrival_number Received } ∷ []) ≡ true
+  pallets_within : list_all clean_pallet
+      (pallet ∷ record pallet { advice = bytes_35 } ∷ record pallet { received = arrival_number Received } ∷ []) ≡ true
   pallets_within = simp (right_g, right_s) refl
 
   pallets_past :
@@ -137,7 +143,8 @@ module _ (gln no_gln item no_item sscc no_sscc : List ℕ)
 
   contents_within :
       list_all clean_content (
-      content ∷ record content { place = 999_999 } ∷ record content { number = bytes_35 } ∷ record content { line = 999_999 }
+      content ∷ record content { place = 999_999 } ∷ record content { number = bytes_35 }
+          ∷ record content { line = 999_999 }
       ∷ record content { quantity = 999_999_999 } ∷ []) ≡ true
   contents_within = simp right_s refl
 
@@ -145,7 +152,8 @@ module _ (gln no_gln item no_item sscc no_sscc : List ℕ)
       list_any clean_content (
       record content { sscc = no_sscc } ∷ record content { place = 0 } ∷ record content { place = 1_000_000 }
       ∷ record content { number = [] } ∷ record content { number = bytes_36 } ∷ record content { line = 0 }
-      ∷ record content { line = 1_000_000 } ∷ record content { quantity = 0 } ∷ record content { quantity = 1_000_000_000 } ∷ []) ≡ false
+      ∷ record content { line = 1_000_000 } ∷ record content { quantity = 0 }
+          ∷ record content { quantity = 1_000_000_000 } ∷ []) ≡ false
   contents_past = simp (right_s, wrong_s) refl
 
   abbrev receipt : ReceiptRow
@@ -159,7 +167,8 @@ module _ (gln no_gln item no_item sscc no_sscc : List ℕ)
 
   receipts_past :
       list_any clean_receipt (
-      record receipt { sscc = no_sscc } ∷ record receipt { gtin = no_item } ∷ record receipt { accepted = 1_000_000_000 }
+      record receipt { sscc = no_sscc } ∷ record receipt { gtin = no_item }
+          ∷ record receipt { accepted = 1_000_000_000 }
       ∷ record receipt { returned = 1_000_000_000 } ∷ record receipt { destroyed = 1_000_000_000 } ∷ []) ≡ false
   receipts_past = simp (right_i, wrong_i, right_s, wrong_s) refl
 
@@ -185,7 +194,8 @@ module _ (gln no_gln item no_item sscc no_sscc : List ℕ)
   remembered_past :
       list_any clean_remembered (
       record remembered { supplier = no_gln } ∷ record remembered { side = 0 } ∷ record remembered { control = [] }
-      ∷ record remembered { control = bytes_15 } ∷ record remembered { message = [] } ∷ record remembered { message = bytes_15 }
+      ∷ record remembered { control = bytes_15 } ∷ record remembered { message = [] }
+          ∷ record remembered { message = bytes_15 }
       ∷ record remembered { content = no_text } ∷ record cancellation { message = codes "7" }
       ∷ record cancellation { message = no_text } ∷ []) ≡ false
   remembered_past = simp (right_g, wrong_g) refl
@@ -204,7 +214,8 @@ module _ (gln no_gln item no_item sscc no_sscc : List ℕ)
 
   mail_within :
       list_all clean_mail (
-      entry ∷ record entry { number = 99_999_999_999_999 } ∷ record entry { moment = 4_102_444_799 } ∷ record entry { decimal = 44 }
+      entry ∷ record entry { number = 99_999_999_999_999 } ∷ record entry { moment = 4_102_444_799 }
+          ∷ record entry { decimal = 44 }
       ∷ record entry { kind = kind_letter Receipt } ∷ record entry { document = bytes_35 } ∷ record entry { body = [] }
       ∷ record entry { taken = truth_number true } ∷ []) ≡ true
   mail_within = simp right_g refl
@@ -236,8 +247,12 @@ module _ (gln no_gln item no_item sscc no_sscc : List ℕ)
   -- one row behind a clean one is not, of each kind in turn
   tables_not_clean :
       list_any are_clean (
-      record tables { orders = order ∷ record order { number = [] } ∷ [] } ∷ record tables { lines = line ∷ record line { line = 0 } ∷ [] }
-      ∷ record tables { advices = advice ∷ record advice { number = [] } ∷ [] } ∷ record tables { pallets = pallet ∷ record pallet { received = 2 } ∷ [] }
-      ∷ record tables { contents = content ∷ record content { place = 0 } ∷ [] } ∷ record tables { receipts = receipt ∷ record receipt { gtin = no_item } ∷ [] }
-      ∷ record tables { remembered = remembered ∷ record remembered { side = 0 } ∷ [] } ∷ record tables { mail = entry ∷ record entry { number = 0 } ∷ [] } ∷ []) ≡ false
+      record tables { orders = order ∷ record order { number = [] } ∷ [] }
+          ∷ record tables { lines = line ∷ record line { line = 0 } ∷ [] }
+      ∷ record tables { advices = advice ∷ record advice { number = [] } ∷ [] }
+          ∷ record tables { pallets = pallet ∷ record pallet { received = 2 } ∷ [] }
+      ∷ record tables { contents = content ∷ record content { place = 0 } ∷ [] }
+          ∷ record tables { receipts = receipt ∷ record receipt { gtin = no_item } ∷ [] }
+      ∷ record tables { remembered = remembered ∷ record remembered { side = 0 } ∷ [] }
+          ∷ record tables { mail = entry ∷ record entry { number = 0 } ∷ [] } ∷ []) ≡ false
   tables_not_clean = simp (right_g, right_i, wrong_i, right_s) refl

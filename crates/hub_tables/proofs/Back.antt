@@ -6,32 +6,40 @@ use Rattle.std.specs.declared.cmp.Ordering.{Ordering}
 use Rattle.std.specs.declared.cmp.Ordering.TheVariants.{Less}
 use Rattle.hub_tables.specs.Keys.{put, replace}
 use Rattle.hub_tables.specs.Change.{apply, apply_all}
-use Rattle.hub_tables.specs.Rows.{order_cmp, line_cmp, advice_cmp, pallet_cmp, content_cmp, receipt_cmp, remembered_cmp, mail_cmp, same_line, same_pallet, same_mail}
+use Rattle.hub_tables.specs.Rows.{order_cmp, line_cmp, advice_cmp, pallet_cmp, content_cmp, receipt_cmp, remembered_cmp}
+use Rattle.hub_tables.specs.Rows.{mail_cmp, same_line, same_pallet, same_mail}
 use Rattle.hub_tables.specs.Sets.{Rises, Rising}
 use Rattle.hub_tables.specs.Tables.{Tables}
 use Rattle.hub_tables.specs.declared.change.Change.{Change}
-use Rattle.hub_tables.specs.declared.change.Change.TheVariants.{AddOrder, AddLine, SetLine, AddAdvice, AddPallet, SetPallet, AddContent, AddReceipt, Remember, AddMail, SetMail}
+use Rattle.hub_tables.specs.declared.change.Change.TheVariants.{AddOrder, AddLine, SetLine, AddAdvice, AddPallet}
+use Rattle.hub_tables.specs.declared.change.Change.TheVariants.{SetPallet, AddContent, AddReceipt, Remember, AddMail}
+use Rattle.hub_tables.specs.declared.change.Change.TheVariants.{SetMail}
 use Rattle.hub_tables.proofs.KindOrders.{line_set, pallet_set, mail_set}
 
-all_put_step : {X : Type 0} (P : X → Type 0) (x y : X) (ys more : List X) (b : Bool) → (AllByRecursion P more → AllByRecursion P ys) →
+all_put_step : {X : Type 0} (P : X → Type 0) (x y : X) (ys more : List X) (b : Bool) →
+    (AllByRecursion P more → AllByRecursion P ys) →
     AllByRecursion P (cond b (x ∷ y ∷ ys) (y ∷ more)) → AllByRecursion P (y ∷ ys)
 all_put_step P x y ys more true f h = h.1
 all_put_step P x y ys more false f h = (h.0, f h.1)
 
-all_put_back : {X : Type 0} (P : X → Type 0) (cmp : X → X → Ordering) (x : X) (ys : List X) → AllByRecursion P (put cmp x ys) →
+all_put_back : {X : Type 0} (P : X → Type 0) (cmp : X → X → Ordering) (x : X) (ys : List X) → AllByRecursion P
+    (put cmp x ys) →
     AllByRecursion P ys
 all_put_back P cmp x [] h = tt
 all_put_back P cmp x (y ∷ ys) h = all_put_step P x y ys (put cmp x ys) (is_gt (cmp y x)) (all_put_back P cmp x ys) h
 
-rises_step : {X : Type 0} (cmp : X → X → Ordering) (x y : X) (ys more : List X) (b : Bool) → (AllByRecursion (λ z. cmp y z ≡ Less) more →
+rises_step : {X : Type 0} (cmp : X → X → Ordering) (x y : X) (ys more : List X) (b : Bool) →
+    (AllByRecursion (λ z. cmp y z ≡ Less) more →
     AllByRecursion (λ z. cmp y z ≡ Less) ys) → (Rises cmp more → Rises cmp ys) →
     Rises cmp (cond b (x ∷ y ∷ ys) (y ∷ more)) → Rises cmp (y ∷ ys)
 rises_step cmp x y ys more true f g h = h.1
 rises_step cmp x y ys more false f g h = (f h.0, g h.1)
 
-pub rises_put_back : {X : Type 0} (cmp : X → X → Ordering) (x : X) (ys : List X) → Rises cmp (put cmp x ys) → Rises cmp ys
+pub rises_put_back : {X : Type 0} (cmp : X → X → Ordering) (x : X) (ys : List X) → Rises cmp (put cmp x ys)
+    → Rises cmp ys
 rises_put_back cmp x [] h = tt
-rises_put_back cmp x (y ∷ ys) h = rises_step cmp x y ys (put cmp x ys) (is_gt (cmp y x)) (all_put_back (λ z. cmp y z ≡ Less) cmp x ys)
+rises_put_back cmp x (y ∷ ys) h =
+    rises_step cmp x y ys (put cmp x ys) (is_gt (cmp y x)) (all_put_back (λ z. cmp y z ≡ Less) cmp x ys)
     (rises_put_back cmp x ys) h
 
 module _ {X : Type 0} (cmp : X → X → Ordering) (at : X → Bool) (r : X) (alike : (x y : X) →

@@ -15,5 +15,6 @@ invariant-loop-line l = record {
       ≡ l.changes
       ++ map (new_receipt l.unit.sscc l.unit.lines)
       (left (get (slice_cmp nat_cmp) l.totals) (drop l.line-index l.unit.lines));
-  sums : (article : List ℕ) (sum : Total) → get (slice_cmp nat_cmp) l.totals article ≡ Some sum → total_from None article l.unit.lines ≡ Some sum;
+  sums : (article : List ℕ) (sum : Total) → get (slice_cmp nat_cmp) l.totals article ≡ Some sum
+      → total_from None article l.unit.lines ≡ Some sum;
 }
