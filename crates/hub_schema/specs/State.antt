@@ -1,5 +1,5 @@
 -- What a connection shows that holds the tables of a hub, and what calls do to it.
-use Rattle.std.specs.Prelude.{◌≡◌, ◌≢◌, ◌⊎◌, ℕ, pos, false, IsTrue, List, [], ◌∷◌, map, Result, Ok, Err, IfOk, OnOk}
+use Rattle.std.specs.Prelude.{◌≡◌, ◌≢◌, ◌⊎◌, ℕ, pos, true, false, IsTrue, List, [], ◌∷◌, map, Result, Ok, Err, IfOk, OnOk}
 use Rattle.std.specs.Prelude.{OnErr}
 use Rattle.std.specs.List.{AllByRecursion}
 use Rattle.sqlite_value.specs.declared.value.Value.TheVariants.{Int}
@@ -13,6 +13,7 @@ use Rattle.hub_tables.specs.Change.{apply_all}
 use Rattle.hub_tables.specs.Sets.{Rising}
 use Rattle.hub_tables.specs.Tables.{Tables}
 use Rattle.hub_tables.specs.declared.change.Change.{Change}
+use Rattle.hub_store.specs.Calls.{have_places}
 use Rattle.hub_store.specs.Clean.{are_clean}
 use Rattle.hub_store.specs.declared.fault.StoreFault.{StoreFault}
 use Rattle.hub_store.specs.declared.fault.StoreFault.TheVariants.{Unclean}
@@ -41,10 +42,11 @@ pub record Makes (change : Tables → Tables) (old new : State) : Type 0 where
   pub committed : new.committed ≡ old.committed
   pub mode : IsTrue new.in_transaction
 
--- the changes do not fit to the tables, or some row is none of the kinds, before or after them
+-- the changes do not fit to the tables, or set a row that has none in its place, or some row is none of the kinds,
+-- before or after them
 abbrev pub MayRefuse : List Change → Tables → Type 0
 MayRefuse changes t =
-    Rising (apply_all changes t) → (are_clean t ≡ false) ⊎ (are_clean (apply_all changes t) ≡ false)
+    Rising (apply_all changes t) → have_places changes t ≡ true → (are_clean t ≡ false) ⊎ (are_clean (apply_all changes t) ≡ false)
 
 -- where the connection is open it holds the tables of a hub
 abbrev pub Holds : State → Type 0
@@ -64,14 +66,16 @@ pub record LooksUp {X : Type 0} (answer : Tables → X) (old new : State) (resul
       HasCleanDisk new → Holds old → result ≡ Err Unclean →
       IsTrue old.is_open × (are_clean (tables_in old.now.trees) ≡ false)
 
--- a commit: all changes at Ok, and none at a fault. A crash leaves what it did before, or all changes. `Unclean` comes
--- where the changes do not fit to the rows, where some row is none of the kinds, before or after them, or where they
--- make such a row of any tables.
+-- a commit: all changes at Ok, where each row that is set has one in its place, and none at a fault. A crash leaves
+-- what it did before, or all changes. `Unclean` comes where the changes do not fit to the rows, where one is to be set
+-- that is not there, where some row is none of the kinds, before or after them, or where they make such a row of any
+-- tables.
 pub record CommitsTo (changes : List Change) (old new : State) (result : Result (Unit {0}) StoreFault) : Type 0 where
   pub done :
       HasCleanDisk new → Holds old →
       OnOk result (IsTrue new.is_open × IsHub new
       × (tables_in new.now.trees ≡ apply_all changes (tables_in old.now.trees)))
+  pub places : HasCleanDisk new → Holds old → OnOk result (have_places changes (tables_in old.now.trees) ≡ true)
   pub ran : HasCleanDisk new → OnOk result (IsTrue old.is_open)
   pub kept :
       HasCleanDisk new → Holds old → IsTrue new.is_open → OnErr result (IsTrue old.is_open × (new.now ≡ old.now))
@@ -83,4 +87,4 @@ pub record CommitsTo (changes : List Change) (old new : State) (result : Result 
   pub unclean :
       HasCleanDisk new → Holds old → result ≡ Err Unclean →
       (IsTrue old.is_open × MayRefuse changes (tables_in old.now.trees))
-      ⊎ ((t : Tables) → are_clean (apply_all changes t) ≡ false)
+      ⊎ ((t : Tables) → have_places changes t ≡ true → are_clean (apply_all changes t) ≡ false)

@@ -16,7 +16,7 @@ use Rattle.hub_store.specs.declared.fault.StoreFault.{StoreFault}
 use Rattle.hub_store.specs.declared.fault.StoreFault.TheVariants.{Unclean, Version}
 use Rattle.hub_schema.specs.Rows.{tables_in}
 use Rattle.hub_schema.specs.Schema.{hub_schema}
-use Rattle.hub_schema.specs.State.{Holds, CommitsTo}
+use Rattle.hub_schema.specs.State.{MayRefuse, Holds, CommitsTo}
 use Rattle.hub_sql.specs.Settling.{Settles}
 use Rattle.hub_sql.specs.Stored.{Stored, rows_in, content, left, IsSettled, honest}
 use Rattle.hub_sql.proofs.Looking.{failed, still, same_content}
@@ -88,9 +88,9 @@ module _ {S : Type 0} (g : Ghosts S) (old new : Stored S) (settled : IsSettled g
         ]
       ];
       was_honest = back;
-      unclean = λ clean none is fit. elim (did.unclean clean (held_before clean) (makes.unclean is)) [
-        | inl may ↦ subst (λ t. Rising (apply_all changes t) → (are_clean t ≡ false) ⊎ (are_clean (apply_all changes t) ≡ false)) (before_is clean may.0) may.1 fit
-        | inr any ↦ inr (any (content g old))
+      unclean = λ clean none is fit have. elim (did.unclean clean (held_before clean) (makes.unclean is)) [
+        | inl may ↦ subst (MayRefuse changes) (before_is clean may.0) may.1 fit have
+        | inr any ↦ inr (any (content g old) have)
       ];
     }
 

@@ -110,7 +110,7 @@ module _ (gln no_gln item no_item sscc no_sscc : List ℕ)
       ∷ record line { ordered = 0; open_qty = 0; refused = 0; cancelled = 0 } ∷ record line { ordered = 1_000_000_000 }
       ∷ record line { open_qty = 13 } ∷ record line { refused = 25 } ∷ record line { cancelled = 13 }
       ∷ record line { open_qty = no_number } ∷ record line { refused = no_number }
-          ∷ record line { cancelled = no_number }
+      ∷ record line { cancelled = no_number }
       ∷ record line { answer = 0 } ∷ record line { answer = no_number } ∷ []) ≡ false
   lines_past = simp (right_g, wrong_g, right_i, wrong_i) refl
 
@@ -144,7 +144,7 @@ module _ (gln no_gln item no_item sscc no_sscc : List ℕ)
   contents_within :
       list_all clean_content (
       content ∷ record content { place = 999_999 } ∷ record content { number = bytes_35 }
-          ∷ record content { line = 999_999 }
+      ∷ record content { line = 999_999 }
       ∷ record content { quantity = 999_999_999 } ∷ []) ≡ true
   contents_within = simp right_s refl
 
@@ -153,7 +153,7 @@ module _ (gln no_gln item no_item sscc no_sscc : List ℕ)
       record content { sscc = no_sscc } ∷ record content { place = 0 } ∷ record content { place = 1_000_000 }
       ∷ record content { number = [] } ∷ record content { number = bytes_36 } ∷ record content { line = 0 }
       ∷ record content { line = 1_000_000 } ∷ record content { quantity = 0 }
-          ∷ record content { quantity = 1_000_000_000 } ∷ []) ≡ false
+      ∷ record content { quantity = 1_000_000_000 } ∷ []) ≡ false
   contents_past = simp (right_s, wrong_s) refl
 
   abbrev receipt : ReceiptRow
@@ -168,7 +168,7 @@ module _ (gln no_gln item no_item sscc no_sscc : List ℕ)
   receipts_past :
       list_any clean_receipt (
       record receipt { sscc = no_sscc } ∷ record receipt { gtin = no_item }
-          ∷ record receipt { accepted = 1_000_000_000 }
+      ∷ record receipt { accepted = 1_000_000_000 }
       ∷ record receipt { returned = 1_000_000_000 } ∷ record receipt { destroyed = 1_000_000_000 } ∷ []) ≡ false
   receipts_past = simp (right_i, wrong_i, right_s, wrong_s) refl
 
@@ -195,7 +195,7 @@ module _ (gln no_gln item no_item sscc no_sscc : List ℕ)
       list_any clean_remembered (
       record remembered { supplier = no_gln } ∷ record remembered { side = 0 } ∷ record remembered { control = [] }
       ∷ record remembered { control = bytes_15 } ∷ record remembered { message = [] }
-          ∷ record remembered { message = bytes_15 }
+      ∷ record remembered { message = bytes_15 }
       ∷ record remembered { content = no_text } ∷ record cancellation { message = codes "7" }
       ∷ record cancellation { message = no_text } ∷ []) ≡ false
   remembered_past = simp (right_g, wrong_g) refl
@@ -215,7 +215,7 @@ module _ (gln no_gln item no_item sscc no_sscc : List ℕ)
   mail_within :
       list_all clean_mail (
       entry ∷ record entry { number = 99_999_999_999_999 } ∷ record entry { moment = 4_102_444_799 }
-          ∷ record entry { decimal = 44 }
+      ∷ record entry { decimal = 44 }
       ∷ record entry { kind = kind_letter Receipt } ∷ record entry { document = bytes_35 } ∷ record entry { body = [] }
       ∷ record entry { taken = truth_number true } ∷ []) ≡ true
   mail_within = simp right_g refl
@@ -248,11 +248,11 @@ module _ (gln no_gln item no_item sscc no_sscc : List ℕ)
   tables_not_clean :
       list_any are_clean (
       record tables { orders = order ∷ record order { number = [] } ∷ [] }
-          ∷ record tables { lines = line ∷ record line { line = 0 } ∷ [] }
+      ∷ record tables { lines = line ∷ record line { line = 0 } ∷ [] }
       ∷ record tables { advices = advice ∷ record advice { number = [] } ∷ [] }
-          ∷ record tables { pallets = pallet ∷ record pallet { received = 2 } ∷ [] }
+      ∷ record tables { pallets = pallet ∷ record pallet { received = 2 } ∷ [] }
       ∷ record tables { contents = content ∷ record content { place = 0 } ∷ [] }
-          ∷ record tables { receipts = receipt ∷ record receipt { gtin = no_item } ∷ [] }
+      ∷ record tables { receipts = receipt ∷ record receipt { gtin = no_item } ∷ [] }
       ∷ record tables { remembered = remembered ∷ record remembered { side = 0 } ∷ [] }
-          ∷ record tables { mail = entry ∷ record entry { number = 0 } ∷ [] } ∷ []) ≡ false
+      ∷ record tables { mail = entry ∷ record entry { number = 0 } ∷ [] } ∷ []) ≡ false
   tables_not_clean = simp (right_g, right_i, wrong_i, right_s) refl

@@ -1,13 +1,17 @@
 -- What calls of a store do. A store is seen by five functions of its value: its content; whether what is below it has
 -- been honest, that is has returned what was written; what a crash now may leave; the fault for which it is broken,
 -- if any; and whether it is plain, with nothing below it.
-use Rattle.std.specs.Prelude.{◌≡◌, ◌≢◌, ◌⊎◌, Bool, false, IsTrue, List, Option, None, Some, Result, Ok, Err, IfOk}
+use Rattle.std.specs.Prelude.{◌≡◌, ◌≢◌, ◌⊎◌, ◌&&◌, Bool, true, false, IsTrue, List, [], ◌∷◌, Option, None, Some}
+use Rattle.std.specs.Prelude.{Result, Ok, Err, IfOk}
 use Rattle.std.specs.Prelude.{IfErr, OnOk, OnErr}
+use Rattle.std.specs.List.{list_any}
 use Rattle.std.specs.Option.{IfSome}
-use Rattle.hub_tables.specs.Change.{apply_all}
+use Rattle.hub_tables.specs.Change.{apply, apply_all}
+use Rattle.hub_tables.specs.Rows.{same_line, same_pallet, same_mail}
 use Rattle.hub_tables.specs.Sets.{Rising}
 use Rattle.hub_tables.specs.Tables.{Tables}
 use Rattle.hub_tables.specs.declared.change.Change.{Change}
+use Rattle.hub_tables.specs.declared.change.Change.TheVariants.{SetLine, SetPallet, SetMail}
 use Rattle.hub_store.specs.Clean.{are_clean}
 use Rattle.hub_store.specs.declared.fault.LastingFault.{LastingFault}
 use Rattle.hub_store.specs.declared.fault.LastingFault.TheVariants as lasting
@@ -53,11 +57,23 @@ pub record Looks {S X : Type 0} (content : S → Tables) (honest : S → Type 0)
 abbrev pub Fit : List Change → Tables → Type 0
 Fit changes t = Rising (apply_all changes t)
 
+-- a row that is set has one in its place
+abbrev pub has_place : Change → Tables → Bool
+has_place (SetLine row) t = list_any (same_line row) t.lines
+has_place (SetPallet row) t = list_any (same_pallet row) t.pallets
+has_place (SetMail row) t = list_any (same_mail row) t.mail
+has_place change t = true
+
+-- each at its turn
+abbrev pub have_places : List Change → Tables → Bool
+have_places [] t = true
+have_places (change ∷ changes) t = has_place change t && have_places changes (apply change t)
+
 -- a commit: changes that fit are all made at Ok, and at a fault none is made, whether they fit or not. After Ok a
 -- crash leaves the content alone; after a fault it leaves what it did before or, where the changes fit, the content
 -- with all of them. A store that is not broken answers `Unclean` only where some row is none of the kinds, before the
--- changes or after them, or where they do not fit. So what is judged is the outcome of all changes, and not the row of
--- each: a row that a later change sets right, or a set row that has none in its place, is no cause.
+-- changes or after them, or where they do not fit or set a row that has none in its place. So of the rows what is judged
+-- is the outcome of all changes: a row that a later change sets right is no cause.
 pub record Commits {S X : Type 0} (content : S → Tables) (honest : S → Type 0) (left : S → Tables → Type 0)
     (broken : S → Option LastingFault) (old new : S) (changes : List Change)
     (result : Result X StoreFault) : Type 0 where
@@ -69,4 +85,5 @@ pub record Commits {S X : Type 0} (content : S → Tables) (honest : S → Type 
       left old t ⊎ (Fit changes (content old) × (t ≡ apply_all changes (content old))))
   pub was_honest : honest new → honest old
   pub unclean : honest new → broken old ≡ None → result ≡ Err Unclean → Fit changes (content old) →
+      have_places changes (content old) ≡ true →
       (are_clean (content old) ≡ false) ⊎ (are_clean (apply_all changes (content old)) ≡ false)

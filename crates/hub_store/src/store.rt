@@ -126,8 +126,9 @@ pub trait Store {
         ensures plain { IsTrue plain → IsOk result };
 
     /// Makes the changes, one after another: all of them, or at a fault none. Changes that do not fit to the rows, as
-    /// a new row under a key that is there, may be made in part or be refused as `Unclean`. After any fault, also
-    /// `Memory`, a crash may leave all changes, where they fit, though the content is without them.
+    /// a new row under a key that is there or a set row that has none in its place, may be made in part or be refused as
+    /// `Unclean`. After any fault, also `Memory`, a crash may leave all changes, where they fit, though the content is
+    /// without them.
     fn commit(&mut self, changes: &[Change]) -> Result<(), StoreFault>
         requires { changes.now ≢ [] }
         ensures commits { Commits content honest left broken self.old self.new changes.now result }

@@ -106,6 +106,7 @@ module _ {S : Type 0} (g : Ghosts S) (old mid end : Held S) (changes : List Chan
       let early = clean_before (state g mid) (state g end) _ last in
       record {
         done = λ clean holds. tt;
+        places = λ clean holds. tt;
         ran = λ clean. tt;
         kept = λ clean holds o.
             let rolled = back clean in
@@ -120,10 +121,10 @@ module _ {S : Type 0} (g : Ghosts S) (old mid end : Held S) (changes : List Chan
         unclean = λ clean holds e. elim (it.unclean (early clean) e) [
           | inl refused ↦ inl (
             refused.0,
-            λ rising. inr (great_unclean (apply_all changes (tables_in (state g old).now.trees)) (refused.1
-                (begun_hub (holds refused.0)) rising)),
+            λ rising have. inr (great_unclean (apply_all changes (tables_in (state g old).now.trees))
+                (refused.1 (begun_hub (holds refused.0)) rising have)),
           )
-          | inr great ↦ inr (λ t. great_unclean (apply_all changes t) (great t))
+          | inr great ↦ inr (λ t have. great_unclean (apply_all changes t) (great t have))
         ];
       }
 
@@ -175,6 +176,7 @@ module _ {S : Type 0} (g : Ghosts S) (old mid end : Held S) (changes : List Chan
             same_hub (state g mid) (state g end) shows.now_is did.hub,
             ap (λ d. tables_in d.trees) shows.now_is ∙ did.tables,
           );
+      places = λ clean holds. it.places (early clean) (begun_hub (holds (was_open (early clean)))) refl;
       ran = λ clean. was_open (early clean);
       kept = λ clean holds o. tt;
       mode = idle;
@@ -184,6 +186,7 @@ module _ {S : Type 0} (g : Ghosts S) (old mid end : Held S) (changes : List Chan
     }
     succeeded (Err e) settled idle ok err law = record {
       done = λ clean holds. tt;
+      places = λ clean holds. tt;
       ran = λ clean. tt;
       kept = λ clean holds o. none_done settled clean holds o e (err clean);
       mode = idle;

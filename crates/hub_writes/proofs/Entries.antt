@@ -1,5 +1,5 @@
 -- Entries of mailboxes in SQL.
-use Rattle.std.proofs.Common.{◌≡◌, ◌&&◌, ◌==◌, ◌<◌, ◌^◌, ℕ, pos, Bool, true, false, None, List, [], ◌∷◌, map, drop}
+use Rattle.std.proofs.Common.{not, ◌≡◌, ◌&&◌, ◌==◌, ◌<◌, ◌^◌, ℕ, pos, Bool, true, false, None, List, [], ◌∷◌, map, drop}
 use Rattle.std.proofs.Common.{codes, if◌then◌else◌, Ok, Err, Result, OnOk, IsTrue, refl, sym, ap, ap₂, subst, ◌∙◌}
 use Rattle.std.proofs.Common.{arith}
 use Rattle.std.specs.List.{AllByRecursion}
@@ -41,11 +41,13 @@ use Rattle.hub_tables.specs.declared.change.Change.TheVariants.{AddMail, SetMail
 use Rattle.hub_tables.specs.declared.rows.MailRow.{MailRow}
 use Rattle.hub_tables.proofs.KindOrders.{mail_total, mail_set}
 use Rattle.hub_tables.proofs.Lists.{same_is}
+use Rattle.hub_store.specs.Calls.{have_places}
 use Rattle.hub_schema.specs.Rows.{mail_in, in_key_order, tables_in}
 use Rattle.hub_schema.specs.Schema.{hub_schema, mail_table}
 use Rattle.hub_schema.specs.State.{IsHub, Makes}
 use Rattle.hub_schema.proofs.InKeyOrder.{listed_map}
 use Rattle.hub_schema.proofs.Single.{mail_kinds, mail_cells}
+use Rattle.hub_writes.proofs.Places.{place_met}
 use Rattle.hub_writes.proofs.Alters.{Alters, adds, altered, still_hub}
 use Rattle.hub_writes.proofs.Keys.{listed_last, is_new, number_shown, number_same, bytes_equal, number_equal, bytes_are}
 use Rattle.hub_writes.proofs.Keys.{number_is}
@@ -259,6 +261,7 @@ module _ (row : MailRow) where
       → Writes old new None (Update 8 (record { lets = []; body = one_table 16 (λ _. refl) tests shows cells })) text
       cells count
       → Makes (apply_all (SetMail row ∷ [])) old new
+      × (have_places (SetMail row ∷ []) (tables_in old.now.trees) ≡ not (count == 0))
   sets_mail old new text count low hub begun w =
       let db = old.now.trees in
       let did = sets hub_schema 8 16 _ _ _ _ _ refl (λ _ _. refl) (λ _. refl) tests shows cells (λ r. (
@@ -268,16 +271,32 @@ module _ (row : MailRow) where
       let it = altered 16 _ old new begun did.schema_is w.sound did.shaped did.rows did.others w.shown in
       let rows = ap (in_key_order mail_cmp) (all_set (db 16) low (mail_cells old.now hub.schema hub.sound hub.ordered))
       ∙ listed_map mail_cmp (λ r. if same_mail row r then row else r) (mail_set row) (map mail_in (db 16)) in
-      record {
-        hub = still_hub 16 _ old new (λ e. absurd (omega (arith, e))) hub it;
-        tables = tables_are _ old new it ∙ ap (λ rows. record (tables_in db) { mail = rows }) rows;
-        committed = it.committed;
-        mode = it.mode;
-      }
+      let there = place_met mail_cmp (same_mail row) mail_in (AreOf mail_kinds 0) passes_all (λ r. passes_is r low) (db 16)
+      count (mail_cells old.now hub.schema hub.sound hub.ordered) did.counted in (
+        record {
+          hub = still_hub 16 _ old new (λ e. absurd (omega (arith, e))) hub it;
+          tables = tables_are _ old new it ∙ ap (λ rows. record (tables_in db) { mail = rows }) rows;
+          committed = it.committed;
+          mode = it.mode;
+        },
+        and_true _ ∙ there,
+      )
+
+  ran : (old new : State) (count : ℕ) → IsLow → IsHub old → old.in_transaction ≡ true
+      → ExecutesInside 0 set_mail cells old new (Ok count)
+      → Makes (apply_all (SetMail row ∷ [])) old new
+      × (have_places (SetMail row ∷ []) (tables_in old.now.trees) ≡ not (count == 0))
+  ran old new count low hub begun h =
+      sets_mail old new _ count low hub begun
+      (runs_as set_mail cells old new hub_schema hub.schema _ set_mail_is set_mail_plain count h.0)
 
   pub set_makes : (old new : State) (r : Result ℕ Error) → IsLow → IsHub old → old.in_transaction ≡ true
       → ExecutesInside 0 set_mail cells old new r → OnOk r (Makes (apply_all (SetMail row ∷ [])) old new)
   set_makes old new (Err e) low hub begun h = tt
-  set_makes old new (Ok count) low hub begun h =
-      sets_mail old new _ count low hub begun (runs_as set_mail cells old new hub_schema hub.schema _ set_mail_is
-      set_mail_plain count h.0)
+  set_makes old new (Ok count) low hub begun h = (ran old new count low hub begun h).0
+
+  -- a row stands in its place exactly where the statement met one
+  pub set_met : (old new : State) → IsLow → IsHub old → old.in_transaction ≡ true → (count : ℕ)
+      → ExecutesInside 0 set_mail cells old new (Ok count)
+      → have_places (SetMail row ∷ []) (tables_in old.now.trees) ≡ not (count == 0)
+  set_met old new low hub begun count h = (ran old new count low hub begun h).1

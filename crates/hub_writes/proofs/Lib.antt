@@ -3,12 +3,12 @@ pub mod Alters
 pub mod Contents
 pub mod Ends
 pub mod Entries
-pub mod Great
 pub mod Keys
 pub mod Lines
 pub mod Memories
 pub mod Orders
 pub mod Outcomes
 pub mod Pallets
+pub mod Places
 pub mod Receipts
 pub mod Steps

@@ -1,5 +1,5 @@
 -- Lines of orders in SQL.
-use Rattle.std.proofs.Common.{◌≡◌, ◌&&◌, ◌==◌, ◌<◌, ◌^◌, ℕ, pos, Bool, true, false, None, List, [], ◌∷◌, map, drop}
+use Rattle.std.proofs.Common.{not, ◌≡◌, ◌&&◌, ◌==◌, ◌<◌, ◌^◌, ℕ, pos, Bool, true, false, None, List, [], ◌∷◌, map, drop}
 use Rattle.std.proofs.Common.{codes, if◌then◌else◌, Ok, Err, Result, OnOk, IsTrue, refl, sym, ap, ap₂, subst, ◌∙◌}
 use Rattle.std.proofs.Common.{arith}
 use Rattle.std.specs.List.{AllByRecursion}
@@ -41,11 +41,13 @@ use Rattle.hub_tables.specs.declared.change.Change.TheVariants.{AddLine, SetLine
 use Rattle.hub_tables.specs.declared.rows.LineRow.{LineRow}
 use Rattle.hub_tables.proofs.KindOrders.{line_total, line_set}
 use Rattle.hub_tables.proofs.Lists.{same_is}
+use Rattle.hub_store.specs.Calls.{have_places}
 use Rattle.hub_schema.specs.Rows.{line_in, in_key_order, tables_in}
 use Rattle.hub_schema.specs.Schema.{hub_schema, line_table}
 use Rattle.hub_schema.specs.State.{IsHub, Makes}
 use Rattle.hub_schema.proofs.InKeyOrder.{listed_map}
 use Rattle.hub_schema.proofs.Single.{line_kinds, line_cells}
+use Rattle.hub_writes.proofs.Places.{place_met}
 use Rattle.hub_writes.proofs.Alters.{Alters, adds, altered, still_hub}
 use Rattle.hub_writes.proofs.Keys.{listed_last, is_new, number_shown, number_same, bytes_equal, number_equal, bytes_are}
 use Rattle.hub_writes.proofs.Keys.{number_is}
@@ -273,6 +275,7 @@ module _ (row : LineRow) where
       → Writes old new None (Update 2 (record { lets = []; body = one_table 3 (λ _. refl) tests shows cells })) text
       cells count
       → Makes (apply_all (SetLine row ∷ [])) old new
+      × (have_places (SetLine row ∷ []) (tables_in old.now.trees) ≡ not (count == 0))
   sets_line old new text count low hub begun w =
       let db = old.now.trees in
       let did = sets hub_schema 2 3 _ _ _ _ _ refl (λ _ _. refl) (λ _. refl) tests shows cells (λ r. (
@@ -282,16 +285,32 @@ module _ (row : LineRow) where
       let it = altered 3 _ old new begun did.schema_is w.sound did.shaped did.rows did.others w.shown in
       let rows = ap (in_key_order line_cmp) (all_set (db 3) low (line_cells old.now hub.schema hub.sound hub.ordered))
       ∙ listed_map line_cmp (λ r. if same_line row r then row else r) (line_set row) (map line_in (db 3)) in
-      record {
-        hub = still_hub 3 _ old new (λ e. absurd (omega (arith, e))) hub it;
-        tables = tables_are _ old new it ∙ ap (λ rows. record (tables_in db) { lines = rows }) rows;
-        committed = it.committed;
-        mode = it.mode;
-      }
+      let there = place_met line_cmp (same_line row) line_in (AreOf line_kinds 0) passes_all (λ r. passes_is r low) (db 3)
+      count (line_cells old.now hub.schema hub.sound hub.ordered) did.counted in (
+        record {
+          hub = still_hub 3 _ old new (λ e. absurd (omega (arith, e))) hub it;
+          tables = tables_are _ old new it ∙ ap (λ rows. record (tables_in db) { lines = rows }) rows;
+          committed = it.committed;
+          mode = it.mode;
+        },
+        and_true _ ∙ there,
+      )
+
+  ran : (old new : State) (count : ℕ) → IsLow → IsHub old → old.in_transaction ≡ true
+      → ExecutesInside 0 set_line cells old new (Ok count)
+      → Makes (apply_all (SetLine row ∷ [])) old new
+      × (have_places (SetLine row ∷ []) (tables_in old.now.trees) ≡ not (count == 0))
+  ran old new count low hub begun h =
+      sets_line old new _ count low hub begun
+      (runs_as set_line cells old new hub_schema hub.schema _ set_line_is set_line_plain count h.0)
 
   pub set_makes : (old new : State) (r : Result ℕ Error) → IsLow → IsHub old → old.in_transaction ≡ true
       → ExecutesInside 0 set_line cells old new r → OnOk r (Makes (apply_all (SetLine row ∷ [])) old new)
   set_makes old new (Err e) low hub begun h = tt
-  set_makes old new (Ok count) low hub begun h =
-      sets_line old new _ count low hub begun (runs_as set_line cells old new hub_schema hub.schema _ set_line_is
-      set_line_plain count h.0)
+  set_makes old new (Ok count) low hub begun h = (ran old new count low hub begun h).0
+
+  -- a row stands in its place exactly where the statement met one
+  pub set_met : (old new : State) → IsLow → IsHub old → old.in_transaction ≡ true → (count : ℕ)
+      → ExecutesInside 0 set_line cells old new (Ok count)
+      → have_places (SetLine row ∷ []) (tables_in old.now.trees) ≡ not (count == 0)
+  set_met old new low hub begun count h = (ran old new count low hub begun h).1

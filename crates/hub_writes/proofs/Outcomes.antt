@@ -1,6 +1,6 @@
 -- What a statement comes to.
-use Rattle.std.proofs.Common.{Bool, ◌==◌, if◌then◌else◌, ◌≡◌, inl, inr, false, true, ℕ, List, Result, Ok, Err, OnOk}
-use Rattle.std.proofs.Common.{IsTrue, refl, sym, subst, ap, ◌∙◌}
+use Rattle.std.proofs.Common.{Bool, ◌==◌, if◌then◌else◌, ◌≡◌, inl, inr, false, true, not, ℕ, List, [], Result, Ok, Err, OnOk}
+use Rattle.std.proofs.Common.{IsTrue, refl, sym, subst, ap, ◌∙◌, true≢false}
 use Rattle.std.proofs.lemmas.Bool.{cases_Bool}
 use Rattle.sqlite_schema.specs.declared.schema.Constraint.TheVariants as rule
 use Rattle.sqlite_trees.specs.declared.store.Store.{Ghosts}
@@ -15,12 +15,14 @@ use Rattle.sql_rows.proofs.Refusals.{not_unique}
 use Rattle.sql_rows.proofs.Transactions.{kept_ran, kept_still}
 use Rattle.hub_tables.specs.Change.{apply_all}
 use Rattle.hub_tables.specs.Sets.{Rising}
+use Rattle.hub_tables.specs.Tables.{Tables}
 use Rattle.hub_tables.specs.declared.change.Change.{Change}
+use Rattle.hub_store.specs.Calls.{have_places}
 use Rattle.hub_store.specs.declared.fault.StoreFault.{StoreFault}
 use Rattle.hub_store.specs.declared.fault.StoreFault.TheVariants.{Unclean}
 use Rattle.hub_schema.specs.Rows.{tables_in}
 use Rattle.hub_schema.specs.State.{IsHub, Makes}
-use Rattle.hub_writes.specs.Faults.{spared, inserted, ended, refusal_of, fault_of}
+use Rattle.hub_writes.specs.Faults.{placed, inserted, ended, refusal_of, fault_of}
 use Rattle.hub_writes.specs.Acts.{has_great, Acts}
 
 pub on_inserted : (A : Type 0) (r : Result ℕ Error) → OnOk r A → OnOk (inserted r) A
@@ -30,6 +32,14 @@ on_inserted A (Err e) h = tt
 pub on_ended : {X : Type 0} (A : Type 0) (r : Result X Error) → OnOk r A → OnOk (ended r) A
 on_ended A (Ok x) h = h
 on_ended A (Err e) h = tt
+
+at_ok : {X E P : Type 0} (r : Result X E) → P → OnOk r P
+at_ok (Ok x) p = p
+at_ok (Err e) p = tt
+
+on_ok_at : {X E P : Type 0} {r : Result X E} {x : X} → r ≡ Ok x → OnOk r P → P
+on_ok_at {r = Ok y} is h = h
+on_ok_at {r = Err e} is h = cc
 
 -- only a key that is there is `Unclean`
 refused_so : (e : Error) → refusal_of e ≡ Unclean → e ≡ not_unique
@@ -144,78 +154,84 @@ module _ {S : Type 0} (g : Ghosts S) (sql : List ℕ) (params : Row) (old new : 
       × (IsHub (state g old) → Rising (apply_all changes (tables_in (state g old).now.trees)) → ⊥)
 
   -- an INSERT
-  pub insert_acts : (changes : List Change)
-      → (IsHub (state g old) → old.in_transaction ≡ true → ExecutesInside 0 sql params (state g old) (state g new) r
+  pub insert_acts : (changes : List Change) → ((t : Tables) → have_places changes t ≡ true)
+      → (IsHub (state g old) → old.in_transaction ≡ true
+      → ExecutesInside 0 sql params (state g old) (state g new) r
       → OnOk r (Makes (apply_all changes) (state g old) (state g new)))
       → (ExecutesInside 0 sql params (state g old) (state g new) (Err not_unique) → Refused changes)
       → (out : Result (Unit {0}) StoreFault) → out ≡ inserted r → Acts changes (state g old) (state g new) out
-  insert_acts changes makes fits_not out is = subst (Acts changes (state g old) (state g new)) (sym is) (record {
+  insert_acts changes there makes fits_not out is = subst (Acts changes (state g old) (state g new)) (sym is) (record {
     makes = λ clean hub begun. on_inserted _ r (makes hub begun (did.runs clean begun));
+    places = λ clean hub begun. at_ok (inserted r) (there (tables_in (state g old).now.trees));
     unclean = λ clean h. let e = error_of r refl h in
         inl (elim (cases_Bool old.in_transaction) [
           | inl begun ↦
               let no_fit = fits_not (subst (ExecutesInside 0 sql params (state g old) (state g new)) e (did.runs clean
               begun)) in
-              (no_fit.0, λ hub rising. absurd (no_fit.1 hub rising))
+              (no_fit.0, λ hub rising _. absurd (no_fit.1 hub rising))
           | inr none ↦ absurd (let no = sym e ∙ (did.ended none).0 in cc)
         ]);
     kept = kept;
     survives = did.survives;
   })
 
-  -- an UPDATE
-  pub update_acts : (changes : List Change)
-      → (IsHub (state g old) → old.in_transaction ≡ true → ExecutesInside 0 sql params (state g old) (state g new) r
-      → OnOk r (Makes (apply_all changes) (state g old) (state g new)))
-      → (out : Result (Unit {0}) StoreFault) → out ≡ ended r → Acts changes (state g old) (state g new) out
-  update_acts changes makes out is = subst (Acts changes (state g old) (state g new)) (sym is) (record {
+  -- a statement that does nothing
+  pub touch_acts : (IsHub (state g old) → old.in_transaction ≡ true
+      → ExecutesInside 0 sql params (state g old) (state g new) r
+      → OnOk r (Makes (apply_all []) (state g old) (state g new)))
+      → (out : Result (Unit {0}) StoreFault) → out ≡ ended r → Acts [] (state g old) (state g new) out
+  touch_acts makes out is = subst (Acts [] (state g old) (state g new)) (sym is) (record {
     makes = λ clean hub begun. on_ended _ r (makes hub begun (did.runs clean begun));
+    places = λ clean hub begun. at_ok (ended r) refl;
     unclean = λ clean h. absurd (no_unclean r h);
     kept = kept;
     survives = did.survives;
   })
 
-  -- an UPDATE that is to meet no row
-  module _ (changes : List Change) (makes : IsHub (state g old) → old.in_transaction ≡ true → (count : ℕ)
-      → (count == 0) ≡ true → ExecutesInside 0 sql params (state g old) (state g new) (Ok count)
-      → Makes (apply_all changes) (state g old) (state g new))
-      (met : IsHub (state g old) → (count : ℕ) → (count == 0) ≡ false
+  -- an UPDATE that is to meet a row, and tells how many it met
+  module _ (changes : List Change) (makes : IsHub (state g old) → old.in_transaction ≡ true
+      → ExecutesInside 0 sql params (state g old) (state g new) r
+      → OnOk r (Makes (apply_all changes) (state g old) (state g new)))
+      (met : IsHub (state g old) → old.in_transaction ≡ true → (count : ℕ)
       → ExecutesInside 0 sql params (state g old) (state g new) (Ok count)
-      → has_great (apply_all changes (tables_in (state g old).now.trees)) ≡ true) where
-    ran : (count : ℕ) → r ≡ Ok count → HasCleanDisk (state g new) → IsTrue old.in_transaction
-        × ExecutesInside 0 sql params (state g old) (state g new) (Ok count)
+      → have_places changes (tables_in (state g old).now.trees) ≡ not (count == 0)) where
+    ran : (count : ℕ) → r ≡ Ok count → HasCleanDisk (state g new)
+        → IsTrue old.in_transaction × ExecutesInside 0 sql params (state g old) (state g new) (Ok count)
     ran count is clean = elim (cases_Bool old.in_transaction) [
-      | inl begun ↦ (begun, subst (ExecutesInside 0 sql params (state g old) (state g new)) is (did.runs clean begun))
+      | inl begun ↦
+          (begun, subst (ExecutesInside 0 sql params (state g old) (state g new)) is (did.runs clean begun))
       | inr none ↦ absurd (let bad = sym is ∙ (did.ended none).0 in cc)
     ]
 
     counted : (count : ℕ) → r ≡ Ok count → (b : Bool) → (count == 0) ≡ b
-        → Acts changes (state g old) (state g new) (if b then Ok tt else Err Unclean)
-    counted count is true e = record {
-      makes = λ clean hub begun. makes hub begun count e (ran count is clean).1;
+        → Acts changes (state g old) (state g new) (if b then Err Unclean else Ok tt)
+    counted count is false e = record {
+      makes = λ clean hub begun. on_ok_at is (makes hub begun (did.runs clean begun));
+      places = λ clean hub begun. met hub begun count (ran count is clean).1 ∙ ap not e;
       unclean = λ clean h. absurd (let bad = h in cc);
       kept = kept;
       survives = did.survives;
     }
-    counted count is false e = record {
+    counted count is true e = record {
       makes = λ clean hub begun. tt;
-      unclean = λ clean h. inl (
-        (ran count is clean).1.1.was_open,
-        λ hub rising. met hub count e (ran count is clean).1,
-      );
+      places = λ clean hub begun. tt;
+      unclean = λ clean h.
+          let it = ran count is clean in
+          inl (it.1.1.was_open, λ hub rising have. absurd (true≢false (sym have ∙ met hub it.0 count it.1 ∙ ap not e)));
       kept = kept;
       survives = did.survives;
     }
 
-    spares : (out : Result ℕ Error) → r ≡ out → Acts changes (state g old) (state g new) (spared out)
-    spares (Ok count) is = counted count is (count == 0) refl
-    spares (Err e) is = record {
+    sets : (out : Result ℕ Error) → r ≡ out → Acts changes (state g old) (state g new) (placed out)
+    sets (Ok count) is = counted count is (count == 0) refl
+    sets (Err e) is = record {
       makes = λ clean hub begun. tt;
+      places = λ clean hub begun. tt;
       unclean = λ clean h. absurd (never_unclean e (let same : fault_of e ≡ Unclean = cc in same));
       kept = kept;
       survives = did.survives;
     }
 
-    pub spare_acts : (out : Result (Unit {0}) StoreFault) → out ≡ spared r
+    pub set_acts : (out : Result (Unit {0}) StoreFault) → out ≡ placed r
         → Acts changes (state g old) (state g new) out
-    spare_acts out is = subst (Acts changes (state g old) (state g new)) (sym is) (spares r refl)
+    set_acts out is = subst (Acts changes (state g old) (state g new)) (sym is) (sets r refl)

@@ -1,5 +1,5 @@
 -- Pallets in SQL.
-use Rattle.std.proofs.Common.{◌≡◌, ◌&&◌, ◌<◌, ◌^◌, ℕ, pos, Bool, true, false, None, List, [], ◌∷◌, map, drop, codes}
+use Rattle.std.proofs.Common.{not, ◌==◌, ◌≡◌, ◌&&◌, ◌<◌, ◌^◌, ℕ, pos, Bool, true, false, None, List, [], ◌∷◌, map, drop, codes}
 use Rattle.std.proofs.Common.{if◌then◌else◌, Ok, Err, Result, OnOk, IsTrue, refl, sym, ap, ap₂, subst, ◌∙◌, arith}
 use Rattle.std.specs.List.{AllByRecursion}
 use Rattle.std.specs.Ordering.{is_eq}
@@ -40,11 +40,13 @@ use Rattle.hub_tables.specs.declared.change.Change.TheVariants.{AddPallet, SetPa
 use Rattle.hub_tables.specs.declared.rows.PalletRow.{PalletRow}
 use Rattle.hub_tables.proofs.KindOrders.{pallet_total, pallet_set}
 use Rattle.hub_tables.proofs.Lists.{same_is}
+use Rattle.hub_store.specs.Calls.{have_places}
 use Rattle.hub_schema.specs.Rows.{pallet_in, in_key_order, tables_in}
 use Rattle.hub_schema.specs.Schema.{hub_schema, pallet_table}
 use Rattle.hub_schema.specs.State.{IsHub, Makes}
 use Rattle.hub_schema.proofs.InKeyOrder.{listed_map}
 use Rattle.hub_schema.proofs.Single.{pallet_kinds, pallet_cells}
+use Rattle.hub_writes.proofs.Places.{place_met}
 use Rattle.hub_writes.proofs.Alters.{Alters, adds, altered, still_hub}
 use Rattle.hub_writes.proofs.Keys.{listed_last, is_new, number_shown, bytes_equal, bytes_are}
 
@@ -243,6 +245,7 @@ module _ (row : PalletRow) where
       → Writes old new None (Update 4 (record { lets = []; body = one_table 7 (λ _. refl) tests shows cells })) text
       cells count
       → Makes (apply_all (SetPallet row ∷ [])) old new
+      × (have_places (SetPallet row ∷ []) (tables_in old.now.trees) ≡ not (count == 0))
   sets_pallet old new text count low hub begun w =
       let db = old.now.trees in
       let did = sets hub_schema 4 7 _ _ _ _ _ refl (λ _ _. refl) (λ _. refl) tests shows cells (λ r. (
@@ -253,16 +256,32 @@ module _ (row : PalletRow) where
       let rows = ap (in_key_order pallet_cmp) (all_set (db 7) low (pallet_cells old.now hub.schema hub.sound
       hub.ordered)) ∙ listed_map pallet_cmp (λ r. if same_pallet row r then row else r) (pallet_set row) (map
       pallet_in (db 7)) in
-      record {
-        hub = still_hub 7 _ old new (λ e. absurd (omega (arith, e))) hub it;
-        tables = tables_are _ old new it ∙ ap (λ rows. record (tables_in db) { pallets = rows }) rows;
-        committed = it.committed;
-        mode = it.mode;
-      }
+      let there = place_met pallet_cmp (same_pallet row) pallet_in (AreOf pallet_kinds 0) passes_all (λ r. passes_is r low) (db 7)
+      count (pallet_cells old.now hub.schema hub.sound hub.ordered) did.counted in (
+        record {
+          hub = still_hub 7 _ old new (λ e. absurd (omega (arith, e))) hub it;
+          tables = tables_are _ old new it ∙ ap (λ rows. record (tables_in db) { pallets = rows }) rows;
+          committed = it.committed;
+          mode = it.mode;
+        },
+        and_true _ ∙ there,
+      )
+
+  ran : (old new : State) (count : ℕ) → IsLow → IsHub old → old.in_transaction ≡ true
+      → ExecutesInside 0 set_pallet cells old new (Ok count)
+      → Makes (apply_all (SetPallet row ∷ [])) old new
+      × (have_places (SetPallet row ∷ []) (tables_in old.now.trees) ≡ not (count == 0))
+  ran old new count low hub begun h =
+      sets_pallet old new _ count low hub begun
+      (runs_as set_pallet cells old new hub_schema hub.schema _ set_pallet_is set_pallet_plain count h.0)
 
   pub set_makes : (old new : State) (r : Result ℕ Error) → IsLow → IsHub old → old.in_transaction ≡ true
       → ExecutesInside 0 set_pallet cells old new r → OnOk r (Makes (apply_all (SetPallet row ∷ [])) old new)
   set_makes old new (Err e) low hub begun h = tt
-  set_makes old new (Ok count) low hub begun h =
-      sets_pallet old new _ count low hub begun (runs_as set_pallet cells old new hub_schema hub.schema _ set_pallet_is
-      set_pallet_plain count h.0)
+  set_makes old new (Ok count) low hub begun h = (ran old new count low hub begun h).0
+
+  -- a row stands in its place exactly where the statement met one
+  pub set_met : (old new : State) → IsLow → IsHub old → old.in_transaction ≡ true → (count : ℕ)
+      → ExecutesInside 0 set_pallet cells old new (Ok count)
+      → have_places (SetPallet row ∷ []) (tables_in old.now.trees) ≡ not (count == 0)
+  set_met old new low hub begun count h = (ran old new count low hub begun h).1

@@ -1,5 +1,5 @@
 -- One change after another.
-use Rattle.std.proofs.Common.{◌≡◌, ◌||◌, ◌==◌, ◌^◌, nat_le, Bool, cond, ap₂, arith, inl, inr, ℕ, List, [], ◌∷◌, true}
+use Rattle.std.proofs.Common.{◌&&◌, ◌≡◌, ◌||◌, ◌==◌, ◌^◌, nat_le, Bool, cond, ap₂, arith, inl, inr, ℕ, List, [], ◌∷◌, true}
 use Rattle.std.proofs.Common.{false, Result, Ok, Err, OnOk, IsTrue, refl, sym, ap, subst, ◌∙◌, true≢false}
 use Rattle.std.proofs.lemmas.Bool.{cases_Bool}
 use Rattle.sqlite_trees.specs.declared.store.Store.{Ghosts}
@@ -24,11 +24,13 @@ use Rattle.hub_tables.specs.declared.change.Change.TheVariants.{SetMail}
 use Rattle.hub_tables.specs.declared.rows.ContentRow.{ContentRow}
 use Rattle.hub_tables.specs.declared.rows.MailRow.{MailRow}
 use Rattle.hub_tables.proofs.KeyOrder.{any_put}
+use Rattle.hub_tables.proofs.Lists.{decide}
 use Rattle.hub_tables.specs.Change.{apply, apply_all}
 use Rattle.hub_tables.specs.Sets.{Rising}
 use Rattle.hub_tables.specs.Tables.{Tables, empty}
 use Rattle.hub_tables.specs.declared.change.Change.{Change}
 use Rattle.hub_tables.proofs.Back.{rising_before}
+use Rattle.hub_store.specs.Calls.{has_place, have_places}
 use Rattle.hub_store.specs.declared.fault.StoreFault.{StoreFault}
 use Rattle.hub_store.specs.declared.fault.StoreFault.TheVariants.{Unclean}
 use Rattle.hub_schema.specs.Rows.{tables_in}
@@ -85,12 +87,26 @@ pub run_none : (all : List Change) (a b : State) → Acts [] a b (Ok tt)
     → (HasCleanDisk b → IsTrue a.is_open × IsTrue a.in_transaction) → HasRun all all a b
 run_none all a b it met = record {
   makes = λ clean hub. let did = it.makes clean hub (met clean).1 in
-      record { hub = did.hub; tables = ap (apply_all all) did.tables; committed = did.committed; mode = did.mode };
+      record {
+        hub = did.hub;
+        tables = ap (apply_all all) did.tables;
+        places = ap (have_places all) did.tables;
+        committed = did.committed;
+        mode = did.mode;
+      };
   begun = met;
-  splits = λ t. (t, refl);
+  splits = λ t. (t, refl, λ h. h);
   kept = it.kept;
   survives = it.survives;
 }
+
+first_placed : (a b : Bool) → (a && b) ≡ true → (a && true) ≡ true
+first_placed a b h = ap (λ v. v && true) (and_parts a b h).0
+
+-- where the first has its place, the later ones decide
+placed_later : (a b : Bool) → (a && true) ≡ true → b ≡ (a && b)
+placed_later true b h = refl
+placed_later false b h = absurd cc
 
 pub run_one : (all left : List Change) (change : Change) (a b c : State) → HasRun all (change ∷ left) a b
     → Acts (change ∷ []) b c (Ok tt) → HasRun all left a c
@@ -103,12 +119,17 @@ run_one all left change a b c so_far it =
           record {
             hub = did.hub;
             tables = ap (apply_all left) did.tables ∙ was.tables;
+            places = ap (have_places left) did.tables
+                ∙ placed_later (has_place change (tables_in b.now.trees)) _ (it.places clean was.hub was.mode)
+                ∙ was.places;
             committed = did.committed
                 ∙ was.committed;
             mode = did.mode;
           };
       begun = λ clean. so_far.begun (before clean);
-      splits = λ t. let u = so_far.splits t in (apply_all (change ∷ []) u.0, u.1);
+      splits = λ t.
+          let u = so_far.splits t in
+          (apply_all (change ∷ []) u.0, u.1, λ h. (and_parts (has_place change u.0) _ (u.2 h)).1);
       kept = λ clean. kept_then a b c (so_far.kept (before clean)) (it.kept clean);
       survives = survives_then a b c _ _ (λ _. ⊥) (λ _ db none. none) (λ _ db none. none) so_far.survives it.survives;
     }
@@ -117,6 +138,7 @@ pub run_all : (all : List Change) (a b : State) → HasRun all [] a b → Acts a
 run_all all a b it = record {
   makes = λ clean hub begun. let did = it.makes clean hub in
       record { hub = did.hub; tables = did.tables; committed = did.committed; mode = did.mode };
+  places = λ clean hub begun. sym (it.makes clean hub).places;
   unclean = λ clean no. absurd (let e = no in cc);
   kept = it.kept;
   survives = it.survives;
@@ -141,6 +163,17 @@ other_great true b c h = refl
 other_great false true c h = refl
 other_great false false c h = absurd cc
 
+-- what is under the key of an entry has its number
+same_great : (row old : MailRow) → same_mail row old ≡ true → great_entry row ≡ great_entry old
+same_great row old e =
+    let alike = (and_parts (same old.supplier row.supplier) (old.number == row.number) e).1 in
+    let number : old.number ≡ row.number = grind (arith, nat_tests, alike) in
+    ap (λ n. nat_le (2 ^ 63) n) (sym number)
+
+entries_still_great : (row : MailRow) (entries : List MailRow)
+    → list_any great_entry (replace (same_mail row) row entries) ≡ list_any great_entry entries
+entries_still_great row entries = any_replaced great_entry (same_mail row) row entries (same_great row)
+
 great_stays : (change : Change) (t : Tables) → has_great t ≡ true → has_great (apply change t) ≡ true
 great_stays (AddOrder row) t h = h
 great_stays (AddLine row) t h = h
@@ -156,13 +189,7 @@ great_stays (Remember row) t h = h
 great_stays (AddMail row) t h =
     ap (λ b. list_any great_place t.contents || b) (any_put mail_cmp great_entry t.mail row)
     ∙ other_great (list_any great_place t.contents) (list_any great_entry t.mail) (great_entry row) h
-great_stays (SetMail row) t h =
-    ap (λ b. list_any great_place t.contents || b) (any_replaced great_entry (same_mail row) row t.mail (λ old e. ap (λ
-    n. nat_le (2 ^ 63) n) (sym (same_number old e)))) ∙ h
-  where
-    same_number : (old : MailRow) → same_mail row old ≡ true → old.number ≡ row.number
-    same_number old e = let alike = (and_parts (same old.supplier row.supplier) (old.number == row.number) e).1 in
-        grind (arith, nat_tests, alike)
+great_stays (SetMail row) t h = ap (λ b. list_any great_place t.contents || b) (entries_still_great row t.mail) ∙ h
 
 there : (a b c : Bool) → c ≡ true → ((a || (c || false)) || b) ≡ true
 there true b c h = refl
@@ -187,11 +214,39 @@ entry_is_great row h t =
     ap (λ b. list_any great_place t.contents || b) (any_put mail_cmp great_entry t.mail row)
     ∙ there_too (list_any great_place t.contents) (list_any great_entry t.mail) (great_entry row) h
 
+-- an entry that stands in the place of one whose number is too great has such a number too
+place_great : (row : MailRow) → great_entry row ≡ true → (entries : List MailRow)
+    → list_any (same_mail row) entries ≡ true → list_any great_entry entries ≡ true
+place_great row great [] some = absurd cc
+place_great row great (old ∷ entries) some = elim (decide (same_mail row old)) [
+  | inl e ↦ ap (λ b. b || list_any great_entry entries) (sym (same_great row old e) ∙ great)
+  | inr e ↦
+      also (great_entry old) _
+      (place_great row great entries (sym (ap (λ b. b || list_any (same_mail row) entries) e) ∙ some))
+]
+  where
+    also : (a b : Bool) → b ≡ true → (a || b) ≡ true
+    also true b h = refl
+    also false b h = h
+
+pub set_is_great : (row : MailRow) → great_entry row ≡ true → (t : Tables)
+    → have_places (SetMail row ∷ []) t ≡ true → has_great (apply_all (SetMail row ∷ []) t) ≡ true
+set_is_great row great t have =
+    let some = place_great row great t.mail (and_parts (list_any (same_mail row) t.mail) true have).0 in
+    ap (λ b. list_any great_place t.contents || b) (entries_still_great row t.mail ∙ some)
+    ∙ or_true (list_any great_place t.contents)
+  where
+    or_true : (a : Bool) → (a || true) ≡ true
+    or_true true = refl
+    or_true false = refl
+
 -- a change that is refused before any statement
-pub refused_before : (changes : List Change) (s : State) → ((t : Tables) → has_great (apply_all changes t) ≡ true)
+pub refused_before : (changes : List Change) (s : State)
+    → ((t : Tables) → have_places changes t ≡ true → has_great (apply_all changes t) ≡ true)
     → Acts changes s s (Err Unclean)
 refused_before changes s great = record {
   makes = λ clean hub begun. tt;
+  places = λ clean hub begun. tt;
   unclean = λ clean e. inr great;
   kept = λ clean. kept_still s;
   survives = survives_still s;
@@ -207,12 +262,13 @@ pub none_run : (all : List Change) (a b : State) (fault : StoreFault) → Acts [
     → Acts all a b (Err fault)
 none_run all a b fault it = record {
   makes = λ clean hub begun. tt;
+  places = λ clean hub begun. tt;
   unclean = λ clean e. elim (it.unclean clean e) [
     | inl refused ↦ inl (
       refused.0,
-      λ hub rising. great_later all (tables_in a.now.trees) (refused.1 hub (hub_rises a hub)),
+      λ hub rising _. great_later all (tables_in a.now.trees) (refused.1 hub (hub_rises a hub) refl),
     )
-    | inr great ↦ absurd (true≢false (sym (great empty)))
+    | inr great ↦ absurd (true≢false (sym (great empty refl)))
   ];
   kept = it.kept;
   survives = it.survives;
@@ -225,18 +281,22 @@ run_failed all left change a b c fault so_far it =
     let before = clean_before b c _ it.survives in
     record {
       makes = λ clean hub begun. tt;
+      places = λ clean hub begun. tt;
       unclean = λ clean e. elim (it.unclean clean e) [
         | inl refused ↦ inl (
           (so_far.begun (before clean)).0,
-          λ hub rising.
+          λ hub rising have.
               let was = so_far.makes (before clean) hub in
               let great = refused.1 was.hub (rising_before left (apply_all (change
-              ∷ []) (tables_in b.now.trees)) (subst Rising (sym was.tables) rising)) in
+              ∷ []) (tables_in b.now.trees)) (subst Rising (sym was.tables) rising))
+              (first_placed (has_place change (tables_in b.now.trees)) _ (was.places ∙ have)) in
               subst (λ t. has_great t ≡ true) was.tables (great_later left (apply_all (change
               ∷ []) (tables_in b.now.trees)) great),
         )
-        | inr great ↦ inr (λ t. let u =
-            so_far.splits t in ap has_great u.1 ∙ great_later left (apply_all (change ∷ []) u.0) (great u.0))
+        | inr great ↦ inr (λ t have.
+            let u = so_far.splits t in
+            let first = great u.0 (first_placed (has_place change u.0) _ (u.2 have)) in
+            ap has_great u.1 ∙ great_later left (apply_all (change ∷ []) u.0) first)
       ];
       kept = λ clean. kept_then a b c (so_far.kept (before clean)) (it.kept clean);
       survives = survives_then a b c _ _ (λ _. ⊥) (λ _ db none. none) (λ _ db none. none) so_far.survives it.survives;

@@ -8,6 +8,7 @@ use Rattle.hub_tables.specs.Tables.{Tables}
 use Rattle.hub_tables.specs.declared.change.Change.{Change}
 use Rattle.hub_tables.specs.declared.rows.ContentRow.{ContentRow}
 use Rattle.hub_tables.specs.declared.rows.MailRow.{MailRow}
+use Rattle.hub_store.specs.Calls.{have_places}
 use Rattle.hub_store.specs.declared.fault.StoreFault.{StoreFault}
 use Rattle.hub_store.specs.declared.fault.StoreFault.TheVariants.{Unclean}
 use Rattle.hub_schema.specs.Rows.{tables_in}
@@ -24,15 +25,20 @@ great_entry row = nat_le (2 ^ 63) row.number
 abbrev pub has_great : Tables → Bool
 has_great t = list_any great_place t.contents || list_any great_entry t.mail
 
--- At Ok all changes are made, in the transaction alone. `Unclean` comes where a key is there, or where a number is none
--- of SQL. At no time is anything committed.
+-- At Ok all changes are made, in the transaction alone, and each row that is set had one in its place. `Unclean` comes
+-- where a key is there that is to be added, where a row is to be set that is not there, or where a number is none of
+-- SQL. At no time is anything committed.
 pub record Acts (changes : List Change) (old new : State) (result : Result (Unit {0}) StoreFault) : Type 0 where
   pub makes : HasCleanDisk new → IsHub old → IsTrue old.in_transaction → OnOk result (Makes (apply_all changes) old new)
+  pub places :
+      HasCleanDisk new → IsHub old → IsTrue old.in_transaction →
+      OnOk result (have_places changes (tables_in old.now.trees) ≡ true)
   pub unclean :
       HasCleanDisk new → result ≡ Err Unclean →
       (IsTrue old.is_open × (IsHub old → Rising (apply_all changes (tables_in old.now.trees))
+      → have_places changes (tables_in old.now.trees) ≡ true
       → has_great (apply_all changes (tables_in old.now.trees)) ≡ true))
-      ⊎ ((t : Tables) → has_great (apply_all changes t) ≡ true)
+      ⊎ ((t : Tables) → have_places changes t ≡ true → has_great (apply_all changes t) ≡ true)
   pub kept : HasCleanDisk new → KeepsCommit old new
   pub survives : Survives old new (λ _. ⊥)
 
@@ -40,12 +46,15 @@ pub record Acts (changes : List Change) (old new : State) (result : Result (Unit
 pub record IsUnderWay (all left : List Change) (old now : State) : Type 0 where
   pub hub : IsHub now
   pub tables : apply_all left (tables_in now.now.trees) ≡ apply_all all (tables_in old.now.trees)
+  pub places : have_places left (tables_in now.now.trees) ≡ have_places all (tables_in old.now.trees)
   pub committed : now.committed ≡ old.committed
   pub mode : IsTrue now.in_transaction
 
 pub record HasRun (all left : List Change) (old now : State) : Type 0 where
   pub makes : HasCleanDisk now → IsHub old → IsUnderWay all left old now
   pub begun : HasCleanDisk now → IsTrue old.is_open × IsTrue old.in_transaction
-  pub splits : (t : Tables) → (u : Tables) × (apply_all all t ≡ apply_all left u)
+  pub splits :
+      (t : Tables) → (u : Tables) × (apply_all all t ≡ apply_all left u)
+      × (have_places all t ≡ true → have_places left u ≡ true)
   pub kept : HasCleanDisk now → KeepsCommit old now
   pub survives : Survives old now (λ _. ⊥)

@@ -18,7 +18,7 @@ refusal_of (SqliteFailure code.OutOfMemory) = Memory
 refusal_of (SqliteFailure (code.ConstraintViolation Unique)) = Unclean
 refusal_of _ = Disk
 
--- what an INSERT, and what any other statement or a COMMIT comes to
+-- what an INSERT, and what a statement without effect or a COMMIT comes to
 abbrev pub inserted : Result ℕ Error → Result (Unit {0}) StoreFault
 inserted (Ok count) = Ok tt
 inserted (Err e) = Err (refusal_of e)
@@ -27,7 +27,7 @@ abbrev pub ended : {X : Type 0} → Result X Error → Result (Unit {0}) StoreFa
 ended (Ok x) = Ok tt
 ended (Err e) = Err (fault_of e)
 
--- what an UPDATE comes to that is to meet no row, as each that it meets is none of the kinds
-abbrev pub spared : Result ℕ Error → Result (Unit {0}) StoreFault
-spared (Ok count) = if count == 0 then Ok tt else Err Unclean
-spared (Err e) = Err (fault_of e)
+-- what an UPDATE comes to that is to meet a row
+abbrev pub placed : Result ℕ Error → Result (Unit {0}) StoreFault
+placed (Ok count) = if count == 0 then Err Unclean else Ok tt
+placed (Err e) = Err (fault_of e)

@@ -6,7 +6,7 @@ ghost use Rattle.hub_writes.specs.Acts.{Acts};
 
 use crate::advice::add_advice;
 use crate::content::add_content;
-use crate::faults::update_ended;
+use crate::faults::touch_ended;
 use crate::line::{add_line, set_line};
 use crate::mail::{add_mail, set_mail};
 use crate::order::add_order;
@@ -25,7 +25,7 @@ fn touch<S: Alter>(tx: &mut Transaction<'_, S>) -> Result<(), StoreFault>
         OnOk result (IsTrue (state S.Store tx.old.conn.now).is_open
         × IsTrue (state S.Store tx.old.conn.now).in_transaction) }
 {
-    update_ended(tx.execute("", &[]))
+    touch_ended(tx.execute("", &[]))
 }
 
 /// Makes one change.

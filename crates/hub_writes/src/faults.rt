@@ -1,6 +1,6 @@
 //! What errors of SQL mean for the hub.
 ghost use Rattle.std.specs.Prelude.{◌≡◌};
-ghost use Rattle.hub_writes.specs.Faults.{fault_of, refusal_of, inserted, spared, ended};
+ghost use Rattle.hub_writes.specs.Faults.{fault_of, refusal_of, inserted, placed, ended};
 
 use hub_store::StoreFault;
 use sqlite::{Error, ErrorCode};
@@ -38,22 +38,22 @@ pub(crate) fn insert_ended(given: Result<usize, Error>) -> Result<(), StoreFault
     }
 }
 
-/// What an UPDATE comes to.
+/// What an UPDATE comes to that is to meet a row: one that meets none does not fit.
 pub(crate) fn update_ended(given: Result<usize, Error>) -> Result<(), StoreFault>
-    ensures { result ≡ ended given }
+    ensures { result ≡ placed given }
 {
     match given {
+        Ok(0) => Err(StoreFault::Unclean),
         Ok(_) => Ok(()),
         Err(error) => Err(fault_by(&error)),
     }
 }
 
-/// What an UPDATE comes to that is to meet no row, as each that it meets is none of the kinds.
-pub(crate) fn spare_ended(given: Result<usize, Error>) -> Result<(), StoreFault>
-    ensures { result ≡ spared given }
+/// What a statement comes to that does nothing.
+pub(crate) fn touch_ended(given: Result<usize, Error>) -> Result<(), StoreFault>
+    ensures { result ≡ ended given }
 {
     match given {
-        Ok(count) if count > 0 => Err(StoreFault::Unclean),
         Ok(_) => Ok(()),
         Err(error) => Err(fault_by(&error)),
     }

@@ -5,7 +5,7 @@ ghost use Rattle.hub_tables.specs.declared.change.Change.TheVariants.{AddMail, S
 ghost use Rattle.hub_tables.specs.declared.rows.MailRow.{MailRow};
 ghost use Rattle.hub_writes.specs.Acts.{Acts, great_entry};
 
-use crate::faults::{insert_ended, spare_ended, update_ended};
+use crate::faults::{insert_ended, update_ended};
 use crate::values::{
     byte_value, gln_value, is_great, kind_value, moment_value, number_value, text_value,
     truth_value,
@@ -38,23 +38,13 @@ pub fn add_mail<S: Alter>(tx: &mut Transaction<'_, S>, row: &MailRow) -> Result<
     ))
 }
 
-/// Sets no entry, as one has a number that SQL has not. A stored entry past those of SQL is none of the kinds.
-fn spare_great<S: Alter>(tx: &mut Transaction<'_, S>) -> Result<(), StoreFault>
-    ensures same_reference { tx.new.conn.ghost_name ≡ tx.old.conn.ghost_name }
-    ensures acts { (row : MailRow) → great_entry row ≡ true → row.number < 2 ^ 64 →
-        Acts (SetMail row ∷ []) (state S.Store tx.old.conn.now) (state S.Store tx.new.conn.now) result }
-{
-    let most = number_value(0x7FFF_FFFF_FFFF_FFFF);
-    spare_ended(tx.execute("UPDATE mail SET taken = taken WHERE number > ?1", &[most]))
-}
-
-/// Sets what stands under the key of an entry.
+/// Sets what stands under the key of an entry. None of the kinds has a number that SQL has not.
 pub fn set_mail<S: Alter>(tx: &mut Transaction<'_, S>, row: &MailRow) -> Result<(), StoreFault>
     ensures same_reference { tx.new.conn.ghost_name ≡ tx.old.conn.ghost_name }
     ensures acts { Acts (SetMail row.now ∷ []) (state S.Store tx.old.conn.now) (state S.Store tx.new.conn.now) result }
 {
     if is_great(row.number) {
-        return spare_great(tx);
+        return Err(StoreFault::Unclean);
     }
     let supplier = gln_value(&row.supplier);
     let number = number_value(row.number);

@@ -1,3 +1,4 @@
+use Rattle.std.proofs.Common.{refl}
 use Rattle.hub_writes.proofs.Advices.{add_advice, cells, makes, fits_not}
 use Rattle.hub_writes.proofs.Outcomes.{Executed, insert_acts}
 use Rattle.hub_writes.proofs.advice.add_advice.Goals as goal
@@ -14,5 +15,5 @@ returns-clause-acts g c =
       ) at (c.execute.ensures.runs clean begun);
       survives = c.execute.ensures.survives;
     } in
-    insert_acts g.S.Store _ _ _ _ c.execute.result did _ (makes row _ _ c.execute.result) (fits_not row _ _)
+    insert_acts g.S.Store _ _ _ _ c.execute.result did _ (λ t. refl) (makes row _ _ c.execute.result) (fits_not row _ _)
     c.insert_ended.result c.insert_ended.ensures

@@ -1,7 +1,7 @@
 use Rattle.std.proofs.Common.{[], Result, OnOk, IsTrue, sym, subst}
 use Rattle.sqlite.specs.Held.{state}
 use Rattle.hub_store.specs.declared.fault.StoreFault.{StoreFault}
-use Rattle.hub_writes.proofs.Outcomes.{Executed, update_acts}
+use Rattle.hub_writes.proofs.Outcomes.{Executed, touch_acts}
 use Rattle.hub_writes.proofs.Steps.{nothing_made, was_open}
 use Rattle.hub_writes.proofs.changes.touch.Goals as goal
 
@@ -12,8 +12,8 @@ returns-clause-acts g c =
       runs = c.execute.ensures.runs;
       survives = c.execute.ensures.survives;
     } in
-    update_acts g.S.Store _ _ _ _ c.execute.result did [] (nothing_made _ _ c.execute.result) c.update_ended.result
-    c.update_ended.ensures
+    touch_acts g.S.Store _ _ _ _ c.execute.result did (nothing_made _ _ c.execute.result) c.touch_ended.result
+    c.touch_ended.ensures
 
 pub returns-clause-was_open : goal.returns-clause-was_open
 returns-clause-was_open g c clean =
@@ -23,5 +23,5 @@ returns-clause-was_open g c clean =
       survives = c.execute.ensures.survives;
     } in
     subst (λ (r : Result (Unit {0}) StoreFault). OnOk r (IsTrue (state g.S.Store c.args.tx.now.conn.now).is_open
-    × IsTrue (state g.S.Store c.args.tx.now.conn.now).in_transaction)) (sym c.update_ended.ensures) (was_open
+    × IsTrue (state g.S.Store c.args.tx.now.conn.now).in_transaction)) (sym c.touch_ended.ensures) (was_open
     g.S.Store _ _ _ _ c.execute.result did clean)

@@ -1,4 +1,4 @@
-use Rattle.std.proofs.Common.{sym, ◌∙◌, ◌<◌, ◌^◌, arith}
+use Rattle.std.proofs.Common.{sym, ◌∙◌, ◌<◌, ◌^◌, arith, refl}
 use Rattle.hub_writes.proofs.Contents.{add_content, cells, makes, fits_not}
 use Rattle.hub_writes.proofs.Outcomes.{Executed, insert_acts}
 use Rattle.hub_writes.proofs.Steps.{place_is_great, refused_before}
@@ -6,7 +6,7 @@ use Rattle.hub_writes.proofs.content.add_content.Goals as goal
 
 pub returns-then-is_great-clause-acts : goal.returns-then-is_great-clause-acts
 returns-then-is_great-clause-acts g c =
-    refused_before _ _ (place_is_great c.args.row.now (sym c.is_great.ensures ∙ c.if-is_great.true))
+    refused_before _ _ (λ t _. place_is_great c.args.row.now (sym c.is_great.ensures ∙ c.if-is_great.true) t)
 
 pub returns-clause-acts : goal.returns-clause-acts
 returns-clause-acts g c =
@@ -26,7 +26,7 @@ returns-clause-acts g c =
     let low_place : c.args.row.now.place < 2 ^ 64 = omega arith in
     let low_line : c.args.row.now.line < 2 ^ 64 = omega arith in
     let low_quantity : c.args.row.now.quantity < 2 ^ 64 = omega arith in
-    insert_acts g.S.Store _ _ _ _ c.execute.result did _ (makes row _ _ c.execute.result (
+    insert_acts g.S.Store _ _ _ _ c.execute.result did _ (λ t. refl) (makes row _ _ c.execute.result (
       low_place,
       low_line,
       low_quantity,

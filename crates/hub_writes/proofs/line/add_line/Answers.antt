@@ -1,4 +1,4 @@
-use Rattle.std.proofs.Common.{◌<◌, ◌^◌, arith}
+use Rattle.std.proofs.Common.{◌<◌, ◌^◌, arith, refl}
 use Rattle.hub_writes.proofs.Lines.{add_line, cells, makes, fits_not}
 use Rattle.hub_writes.proofs.Outcomes.{Executed, insert_acts}
 use Rattle.hub_writes.proofs.line.add_line.Goals as goal
@@ -28,7 +28,7 @@ returns-clause-acts g c =
     let low_refused : c.args.row.now.refused < 2 ^ 64 = omega arith in
     let low_cancelled : c.args.row.now.cancelled < 2 ^ 64 = omega arith in
     let low_answer : c.args.row.now.answer < 2 ^ 64 = omega (arith, c.answer_value-answer.ensures.low) in
-    insert_acts g.S.Store _ _ _ _ c.execute.result did _ (makes row _ _ c.execute.result (
+    insert_acts g.S.Store _ _ _ _ c.execute.result did _ (λ t. refl) (makes row _ _ c.execute.result (
       low_line,
       low_ordered,
       low_open_qty,

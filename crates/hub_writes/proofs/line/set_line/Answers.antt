@@ -1,6 +1,6 @@
 use Rattle.std.proofs.Common.{◌<◌, ◌^◌, arith}
-use Rattle.hub_writes.proofs.Lines.{set_line, cells, set_makes}
-use Rattle.hub_writes.proofs.Outcomes.{Executed, update_acts}
+use Rattle.hub_writes.proofs.Lines.{set_line, cells, IsLow, set_makes, set_met}
+use Rattle.hub_writes.proofs.Outcomes.{Executed, set_acts}
 use Rattle.hub_writes.proofs.line.set_line.Goals as goal
 
 pub returns-clause-acts : goal.returns-clause-acts
@@ -28,11 +28,13 @@ returns-clause-acts g c =
     let low_refused : c.args.row.now.refused < 2 ^ 64 = omega arith in
     let low_cancelled : c.args.row.now.cancelled < 2 ^ 64 = omega arith in
     let low_answer : c.args.row.now.answer < 2 ^ 64 = omega (arith, c.answer_value-answer.ensures.low) in
-    update_acts g.S.Store _ _ _ _ c.execute.result did _ (set_makes row _ _ c.execute.result (
+    let low : IsLow row = (
       low_line,
       low_ordered,
       low_open_qty,
       low_refused,
       low_cancelled,
       low_answer,
-    )) c.update_ended.result c.update_ended.ensures
+    ) in
+    set_acts g.S.Store _ _ _ _ c.execute.result did _ (set_makes row _ _ c.execute.result low) (set_met row _ _ low)
+    c.update_ended.result c.update_ended.ensures

@@ -1,4 +1,4 @@
-use Rattle.std.proofs.Common.{sym, ◌∙◌, ◌<◌, ◌^◌, arith}
+use Rattle.std.proofs.Common.{sym, ◌∙◌, ◌<◌, ◌^◌, arith, refl}
 use Rattle.hub_writes.proofs.Entries.{add_mail, cells, makes, fits_not}
 use Rattle.hub_writes.proofs.Outcomes.{Executed, insert_acts}
 use Rattle.hub_writes.proofs.Steps.{entry_is_great, refused_before}
@@ -6,7 +6,7 @@ use Rattle.hub_writes.proofs.mail.add_mail.Goals as goal
 
 pub returns-then-is_great-clause-acts : goal.returns-then-is_great-clause-acts
 returns-then-is_great-clause-acts g c =
-    refused_before _ _ (entry_is_great c.args.row.now (sym c.is_great.ensures ∙ c.if-is_great.true))
+    refused_before _ _ (λ t _. entry_is_great c.args.row.now (sym c.is_great.ensures ∙ c.if-is_great.true) t)
 
 pub returns-clause-acts : goal.returns-clause-acts
 returns-clause-acts g c =
@@ -31,7 +31,7 @@ returns-clause-acts g c =
     let low_decimal : c.args.row.now.decimal < 2 ^ 64 = omega arith in
     let low_kind : c.args.row.now.kind < 2 ^ 64 = omega (arith, c.kind_value-kind.ensures.low) in
     let low_taken : c.args.row.now.taken < 2 ^ 64 = omega (arith, c.truth_value-taken.ensures.low) in
-    insert_acts g.S.Store _ _ _ _ c.execute.result did _ (makes row _ _ c.execute.result (
+    insert_acts g.S.Store _ _ _ _ c.execute.result did _ (λ t. refl) (makes row _ _ c.execute.result (
       low_number,
       low_moment,
       low_decimal,

@@ -1,7 +1,12 @@
-use Rattle.std.proofs.Common.{◌<◌, ◌^◌, arith}
-use Rattle.hub_writes.proofs.Entries.{set_mail, cells, set_makes}
-use Rattle.hub_writes.proofs.Outcomes.{Executed, update_acts}
+use Rattle.std.proofs.Common.{sym, ◌∙◌, ◌<◌, ◌^◌, arith}
+use Rattle.hub_writes.proofs.Entries.{set_mail, cells, IsLow, set_makes, set_met}
+use Rattle.hub_writes.proofs.Outcomes.{Executed, set_acts}
+use Rattle.hub_writes.proofs.Steps.{set_is_great, refused_before}
 use Rattle.hub_writes.proofs.mail.set_mail.Goals as goal
+
+pub returns-then-is_great-clause-acts : goal.returns-then-is_great-clause-acts
+returns-then-is_great-clause-acts g c =
+    refused_before _ _ (set_is_great c.args.row.now (sym c.is_great.ensures ∙ c.if-is_great.true))
 
 pub returns-clause-acts : goal.returns-clause-acts
 returns-clause-acts g c =
@@ -26,10 +31,12 @@ returns-clause-acts g c =
     let low_decimal : c.args.row.now.decimal < 2 ^ 64 = omega arith in
     let low_kind : c.args.row.now.kind < 2 ^ 64 = omega (arith, c.kind_value-kind.ensures.low) in
     let low_taken : c.args.row.now.taken < 2 ^ 64 = omega (arith, c.truth_value-taken.ensures.low) in
-    update_acts g.S.Store _ _ _ _ c.execute.result did _ (set_makes row _ _ c.execute.result (
+    let low : IsLow row = (
       low_number,
       low_moment,
       low_decimal,
       low_kind,
       low_taken,
-    )) c.update_ended.result c.update_ended.ensures
+    ) in
+    set_acts g.S.Store _ _ _ _ c.execute.result did _ (set_makes row _ _ c.execute.result low) (set_met row _ _ low)
+    c.update_ended.result c.update_ended.ensures

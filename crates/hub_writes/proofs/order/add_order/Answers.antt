@@ -1,3 +1,4 @@
+use Rattle.std.proofs.Common.{refl}
 use Rattle.hub_writes.proofs.Orders.{add_order, cells, makes, fits_not}
 use Rattle.hub_writes.proofs.Outcomes.{Executed, insert_acts}
 use Rattle.hub_writes.proofs.order.add_order.Goals as goal
@@ -13,5 +14,5 @@ returns-clause-acts g c =
       ) at (c.execute.ensures.runs clean begun);
       survives = c.execute.ensures.survives;
     } in
-    insert_acts g.S.Store _ _ _ _ c.execute.result did _ (makes c.args.row.now _ _ c.execute.result) (fits_not
+    insert_acts g.S.Store _ _ _ _ c.execute.result did _ (λ t. refl) (makes c.args.row.now _ _ c.execute.result) (fits_not
     c.args.row.now _ _) c.insert_ended.result c.insert_ended.ensures

@@ -1,4 +1,4 @@
-use Rattle.std.proofs.Common.{◌<◌, ◌^◌, arith}
+use Rattle.std.proofs.Common.{◌<◌, ◌^◌, arith, refl}
 use Rattle.hub_writes.proofs.Pallets.{add_pallet, cells, makes, fits_not}
 use Rattle.hub_writes.proofs.Outcomes.{Executed, insert_acts}
 use Rattle.hub_writes.proofs.pallet.add_pallet.Goals as goal
@@ -18,5 +18,5 @@ returns-clause-acts g c =
       survives = c.execute.ensures.survives;
     } in
     let low_received : c.args.row.now.received < 2 ^ 64 = omega (arith, c.arrival_value-received.ensures.low) in
-    insert_acts g.S.Store _ _ _ _ c.execute.result did _ (makes row _ _ c.execute.result low_received) (fits_not row _
+    insert_acts g.S.Store _ _ _ _ c.execute.result did _ (λ t. refl) (makes row _ _ c.execute.result low_received) (fits_not row _
     _) c.insert_ended.result c.insert_ended.ensures

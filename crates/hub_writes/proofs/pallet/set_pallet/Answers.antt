@@ -1,6 +1,6 @@
 use Rattle.std.proofs.Common.{◌<◌, ◌^◌, arith}
-use Rattle.hub_writes.proofs.Pallets.{set_pallet, cells, set_makes}
-use Rattle.hub_writes.proofs.Outcomes.{Executed, update_acts}
+use Rattle.hub_writes.proofs.Pallets.{set_pallet, cells, set_makes, set_met}
+use Rattle.hub_writes.proofs.Outcomes.{Executed, set_acts}
 use Rattle.hub_writes.proofs.pallet.set_pallet.Goals as goal
 
 pub returns-clause-acts : goal.returns-clause-acts
@@ -18,5 +18,6 @@ returns-clause-acts g c =
       survives = c.execute.ensures.survives;
     } in
     let low_received : c.args.row.now.received < 2 ^ 64 = omega (arith, c.arrival_value-received.ensures.low) in
-    update_acts g.S.Store _ _ _ _ c.execute.result did _ (set_makes row _ _ c.execute.result low_received)
+    let low = low_received in
+    set_acts g.S.Store _ _ _ _ c.execute.result did _ (set_makes row _ _ c.execute.result low) (set_met row _ _ low)
     c.update_ended.result c.update_ended.ensures

@@ -1,4 +1,4 @@
-use Rattle.std.proofs.Common.{◌<◌, ◌^◌, arith}
+use Rattle.std.proofs.Common.{◌<◌, ◌^◌, arith, refl}
 use Rattle.hub_writes.proofs.Receipts.{add_receipt, cells, makes, fits_not}
 use Rattle.hub_writes.proofs.Outcomes.{Executed, insert_acts}
 use Rattle.hub_writes.proofs.receipt.add_receipt.Goals as goal
@@ -21,7 +21,7 @@ returns-clause-acts g c =
     let low_accepted : c.args.row.now.accepted < 2 ^ 64 = omega arith in
     let low_returned : c.args.row.now.returned < 2 ^ 64 = omega arith in
     let low_destroyed : c.args.row.now.destroyed < 2 ^ 64 = omega arith in
-    insert_acts g.S.Store _ _ _ _ c.execute.result did _ (makes row _ _ c.execute.result (
+    insert_acts g.S.Store _ _ _ _ c.execute.result did _ (λ t. refl) (makes row _ _ c.execute.result (
       low_accepted,
       low_returned,
       low_destroyed,

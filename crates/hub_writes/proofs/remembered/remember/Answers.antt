@@ -1,4 +1,4 @@
-use Rattle.std.proofs.Common.{◌<◌, ◌^◌, arith}
+use Rattle.std.proofs.Common.{◌<◌, ◌^◌, arith, refl}
 use Rattle.hub_writes.proofs.Memories.{remember, cells, makes, fits_not}
 use Rattle.hub_writes.proofs.Outcomes.{Executed, insert_acts}
 use Rattle.hub_writes.proofs.remembered.remember.Goals as goal
@@ -19,5 +19,5 @@ returns-clause-acts g c =
       survives = c.execute.ensures.survives;
     } in
     let low_side : c.args.row.now.side < 2 ^ 64 = omega (arith, c.side_value-side.ensures.low) in
-    insert_acts g.S.Store _ _ _ _ c.execute.result did _ (makes row _ _ c.execute.result low_side) (fits_not row _ _
+    insert_acts g.S.Store _ _ _ _ c.execute.result did _ (λ t. refl) (makes row _ _ c.execute.result low_side) (fits_not row _ _
     low_side) c.insert_ended.result c.insert_ended.ensures
