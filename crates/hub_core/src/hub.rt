@@ -1,14 +1,16 @@
 //! A hub.
-ghost use Rattle.std.specs.Prelude.{◌≡◌, IfOk, OnErr};
+ghost use Rattle.std.specs.Prelude.{◌≡◌, List, [], ◌∷◌, ◌++◌, IfOk, OnErr};
 ghost use Rattle.hub_parties.specs.Rows.{role_of};
 ghost use Rattle.hub_rules.specs.Sound.{Sound};
+ghost use Rattle.hub_law.specs.declared.reply.Reply.{Reply};
+ghost use Rattle.hub_law.specs.declared.request.Input.{Input};
 ghost use Rattle.hub_core.specs.Steps.{Stepped, Ran, input_of};
 
 use crate::step;
 use edi_base::{Items, MemoryFault};
 use edi_envelope::Moment;
 use gs1_ids::Gln;
-use hub_law::{Input, Reply, Request};
+use hub_law::{Input, Reply, Request, each_line_balances, run_is_own};
 use hub_parties::Role;
 use hub_register::Register;
 use hub_store::Store;
@@ -86,6 +88,23 @@ impl<S: Store> Hub<S> {
             key,
             &request,
         )
+    }
+
+    /// A law of runs over this register, for who asks one request after another: no request is a run, and a run and one
+    /// step more are a run.
+    pub fn steps_are_a_run(&self)
+        ensures none { (store : S) → Sound self.now.0.suppliers (S.content store) →
+            Ran self.now.0 (S.content store) (S.content store) (S.left store) (S.left store) [] [] }
+        ensures more { (old between new : S) (inputs : List Input) (replies : List Reply) (input : Input)
+            (reply : Reply) → Sound self.now.0.suppliers (S.content old) →
+            Ran self.now.0 (S.content old) (S.content between) (S.left old) (S.left between) inputs replies →
+            Stepped self.now.0 (S.content between) (S.content new) (S.left between) (S.left new) input reply →
+            Ran self.now.0 (S.content old) (S.content new) (S.left old) (S.left new) (inputs ++ input ∷ [])
+            (replies ++ reply ∷ []) }
+    {
+        run_is_own();
+        each_line_balances();
+        step::prefixes_are_free(&self.register);
     }
 
     /// Answers requests one after another, each as `step` does. Room for the replies is taken before the first: where

@@ -25,8 +25,8 @@ use hub_register::Register;
 use hub_store::{Store, StoreFault};
 use std::alloc::Global;
 
-// No prefix of a supplier of a register begins a prefix of another.
-fn prefixes_are_free(register: &Register)
+/// No prefix of a supplier of a register begins a prefix of another.
+pub(crate) fn prefixes_are_free(register: &Register)
     ensures { PrefixFree (company_prefixes register.now.suppliers) }
 {
     let _hub = register.hub();

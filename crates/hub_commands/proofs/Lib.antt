@@ -1,0 +1,4 @@
+mod OneFile
+mod Output
+mod Running
+mod SoFar

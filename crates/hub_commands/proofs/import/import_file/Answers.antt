@@ -1,0 +1,46 @@
+use Rattle.std.proofs.Common.{ℕ, List, refl, ap, inr, string_bytes}
+use Rattle.hub_core.specs.Steps.{input_of}
+use Rattle.hub_law.specs.declared.request.Request.TheVariants.{Upload}
+use Rattle.hub_commands.specs.Import.{Answered, Unprinted, file_line}
+use Rattle.hub_commands.proofs.OneFile.{is_called, is_file, of_fault, of_unread, nothing_done, ended, answered, unread, lost_at_once}
+use Rattle.hub_commands.proofs.Output.{written_as, lost_as}
+use Rattle.hub_commands.proofs.Running.{StepsTo}
+use Rattle.hub_commands.proofs.import.import_file.Goals as goal
+
+pub returns-in_err-print_file_line-clause-looks_at : goal.returns-in_err-print_file_line-clause-looks_at
+returns-in_err-print_file_line-clause-looks_at g c =
+    let name = string_bytes c.in-Named.file.name in record {
+      one = Unprinted name;
+      is = is_called c.args.file c.in-Named.file c.in-Named.is;
+      did = refl;
+      comes =
+          ended (Unprinted name) c.from_residual-in_err-print_file_line.result c.from_residual-in_err-print_file_line.ensures.0
+          (inr (lost_at_once (lost_as (ap file_line c.as_str.ensures.value) c.in_err-print_file_line.ensures.err)));
+    }
+
+pub returns-in-Ok-clause-looks_at : goal.returns-in-Ok-clause-looks_at
+returns-in-Ok-clause-looks_at g c =
+    let name = string_bytes c.in-Named.file.name in record {
+      one = Answered name c.in-Ok.bytes c.step-reply.result;
+      is = is_file c.args.file c.in-Named.file _ c.in-Named.is c.in-Ok.is;
+      did = c.step-reply.ensures.stepped;
+      comes =
+          answered (g.W.Sink.contents c.print_reply.new.out) (g.W.Sink.failed c.print_reply.new.out) name c.in-Ok.bytes
+          c.step-reply.result c.print_reply.result
+          (written_as (ap file_line c.as_str.ensures.value) c.in_ok-print_file_line.ensures.ok) c.print_reply.ensures;
+    }
+
+pub returns-clause-looks_at : goal.returns-clause-looks_at
+returns-clause-looks_at g c =
+    let name = string_bytes c.in-Named.file.name in
+    let asked = λ (bytes : List ℕ). input_of c.args.moment c.args.caller.now c.args.key.now (Upload bytes) in
+    let hub = c.args.hub.now in record {
+      one = of_fault name c.in-Err.fault;
+      is = of_unread c.args.file c.in-Named.file c.in-Err.fault c.in-Named.is c.in-Err.is;
+      did =
+          nothing_done (StepsTo g.S.Store.content g.S.Store.honest g.S.Store.left asked hub hub) name c.in-Err.fault refl;
+      comes =
+          unread (g.W.Sink.contents c.print_fault.new.out) (g.W.Sink.failed c.print_fault.new.out) name c.in-Err.fault
+          c.print_fault.result (written_as (ap file_line c.as_str.ensures.value) c.in_ok-print_file_line.ensures.ok)
+          c.print_fault.ensures;
+    }

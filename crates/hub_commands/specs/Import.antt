@@ -1,0 +1,154 @@
+-- An import of files: what comes of each, what is asked of the hub, what is printed, and the exit status.
+use Rattle.std.specs.Prelude.{◌≡◌, ◌≢◌, ◌⊎◌, ⊤, ℕ, max, Bool, List, [], ◌∷◌, ◌++◌, codes, Option, Some, None}
+use Rattle.std.specs.Prelude.{Ok, Err, IfSome, flat_map, fold}
+use Rattle.std.specs.List.{AllByRecursion}
+use Rattle.std.specs.Io.KnownBytes.{Appends}
+use Rattle.edi_base.specs.declared.source.ReadFault.TheVariants.{Read}
+use Rattle.hub_law.specs.declared.reply.Outcome.TheVariants.{Stopped}
+use Rattle.hub_law.specs.declared.reply.Reply.{Reply}
+use Rattle.hub_law.specs.declared.request.Input.{Input}
+use Rattle.hub_commands.specs.Files.{IsCalled, IsFile}
+use Rattle.hub_commands.specs.Output.{Written, Lost}
+use Rattle.hub_commands.specs.Replies.{status_of}
+use Rattle.hub_commands.specs.declared.files.NextFile.{NextFile}
+use Rattle.hub_commands.specs.declared.files.NextFile.TheVariants as files
+
+-- What comes of a file. Answered: it has this name and these bytes, and this is the reply to their upload. Unread: it
+-- cannot be read. Unnamed: its name is no UTF-8. NoMemory: memory gave out for its bytes, or before its name was known.
+-- Unprinted: its line could not be written, and it was not uploaded.
+pub data Looked : Type 0 where
+  Answered : List ℕ → List ℕ → Reply → Looked
+  Unread : List ℕ → Looked
+  Unnamed : Looked
+  NoMemory : Option (List ℕ) → Looked
+  Unprinted : List ℕ → Looked
+
+-- that may come of the file
+abbrev pub Of : NextFile → Looked → Type 0
+Of file (Answered name bytes reply) = IsFile file name (Ok bytes)
+Of file (Unread name) = IsFile file name (Err Read)
+Of file Unnamed = file ≡ files.Unnamed
+Of file (NoMemory name) = IfSome name (IsCalled file)
+Of file (Unprinted name) = IsCalled file name
+
+-- it came of the first files, one after another, and the rest still come
+abbrev pub Takes : List NextFile → List Looked → List NextFile → Type 0
+Takes files [] rest = files ≡ rest
+Takes [] (one ∷ looked) rest = ⊥
+Takes (file ∷ files) (one ∷ looked) rest = Of file one × Takes files looked rest
+
+-- the import goes on after it
+abbrev pub GoesOn : Looked → Type 0
+GoesOn (Answered name bytes reply) = reply.outcome ≢ Stopped
+GoesOn (Unread name) = ⊤
+GoesOn Unnamed = ⊤
+GoesOn (NoMemory name) = ⊥
+GoesOn (Unprinted name) = ⊥
+
+-- the import stops after it
+abbrev pub Stops : Looked → Type 0
+Stops (Answered name bytes reply) = reply.outcome ≡ Stopped
+Stops (Unread name) = ⊥
+Stops Unnamed = ⊥
+Stops (NoMemory name) = ⊤
+Stops (Unprinted name) = ⊥
+
+-- what is asked of the hub, where an upload of some bytes is asked so
+abbrev pub upload_of : (List ℕ → Input) → Looked → List Input
+upload_of asked (Answered name bytes reply) = asked bytes ∷ []
+upload_of asked (Unread name) = []
+upload_of asked Unnamed = []
+upload_of asked (NoMemory name) = []
+upload_of asked (Unprinted name) = []
+
+abbrev pub reply_of : Looked → List Reply
+reply_of (Answered name bytes reply) = reply ∷ []
+reply_of (Unread name) = []
+reply_of Unnamed = []
+reply_of (NoMemory name) = []
+reply_of (Unprinted name) = []
+
+-- the line of a file
+abbrev pub file_line : List ℕ → List ℕ
+file_line name = codes "file " ++ (name ++ codes "\n")
+
+-- what is printed of it before it is uploaded, and then
+abbrev pub line_of : Looked → List ℕ
+line_of (Answered name bytes reply) = file_line name
+line_of (Unread name) = file_line name
+line_of Unnamed = []
+line_of (NoMemory (Some name)) = file_line name
+line_of (NoMemory None) = []
+line_of (Unprinted name) = []
+
+abbrev pub words_of : Looked → List ℕ
+words_of (Answered name bytes reply) = reply.body
+words_of (Unread name) = codes "fault\n"
+words_of Unnamed = codes "fault\n"
+words_of (NoMemory name) = codes "stopped\n"
+words_of (Unprinted name) = file_line name
+
+abbrev pub text_of : Looked → List ℕ
+text_of one = line_of one ++ words_of one
+
+-- its exit status
+abbrev pub file_status : Looked → ℕ
+file_status (Answered name bytes reply) = status_of reply
+file_status (Unread name) = 3
+file_status Unnamed = 3
+file_status (NoMemory name) = 3
+file_status (Unprinted name) = 3
+
+-- the same of all that were looked at
+abbrev pub uploads : (List ℕ → Input) → List Looked → List Input
+uploads asked = flat_map (upload_of asked)
+
+abbrev pub replies : List Looked → List Reply
+replies = flat_map reply_of
+
+abbrev pub import_text : List Looked → List ℕ
+import_text = flat_map text_of
+
+-- the greatest status
+abbrev pub greatest : List Looked → ℕ
+greatest looked = fold (λ status one. max status (file_status one)) 0 looked
+
+-- some bytes were written, and then a front of a text, since a write failed
+pub record BrokenOff (old new : Option (List ℕ)) (after : Bool) (start text : List ℕ) : Type 0 where
+  pub between : Option (List ℕ)
+  pub written : Appends old between start
+  pub lost : Lost between new after text
+
+-- The import ends at the last that was looked at: it stops there, and all of it is written; or a write failed. What was
+-- written before comes first.
+abbrev pub Ends : Option (List ℕ) → Option (List ℕ) → Bool → Bool → List ℕ → Looked → Type 0
+Ends old new failed after before last =
+    (Stops last × Written old new failed after (before ++ text_of last))
+    ⊎ BrokenOff old new after (before ++ line_of last) (words_of last)
+
+-- all known files were looked at
+pub record Whole (old new : Option (List ℕ)) (failed after : Bool) (looked : List Looked) (rest : List NextFile)
+    (status : ℕ) : Type 0 where
+  pub none_left : rest ≡ []
+  pub go_on : AllByRecursion GoesOn looked
+  pub written : Written old new failed after (import_text looked)
+  pub status_is : status ≡ greatest looked
+
+-- the import ended before
+pub record Early (old new : Option (List ℕ)) (failed after : Bool) (looked : List Looked)
+    (status : ℕ) : Type 0 where
+  pub earlier : List Looked
+  pub last : Looked
+  pub are : looked ≡ earlier ++ last ∷ []
+  pub go_on : AllByRecursion GoesOn earlier
+  pub ends : Ends old new failed after (import_text earlier) last
+  pub status_is : status ≡ 3
+
+-- An import. What was looked at are the first of the known files, and their uploads ran with these replies.
+pub record Imported (Runs : List Input → List Reply → Type 0) (asked : List ℕ → Input) (known : Option (List NextFile))
+    (old new : Option (List ℕ)) (failed after : Bool) (status : ℕ) : Type 0 where
+  pub looked : List Looked
+  pub rest : List NextFile
+  pub taken : IfSome known (λ files. Takes files looked rest)
+  pub ran : Runs (uploads asked looked) (replies looked)
+  pub ended : Whole old new failed after looked rest status ⊎ Early old new failed after looked status

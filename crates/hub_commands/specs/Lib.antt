@@ -1,0 +1,5 @@
+pub mod Files
+pub mod Import
+pub mod OneFile
+pub mod Output
+pub mod Replies

@@ -1,0 +1,130 @@
+//! An import of files.
+ghost use Rattle.std.specs.Prelude.{◌≡◌};
+ghost use Rattle.hub_core.specs.Steps.{Stepped, Ran, input_of};
+ghost use Rattle.hub_commands.specs.Import.{Imported};
+ghost use Rattle.hub_commands.specs.OneFile.{FaultComes, LooksAt, ReplyComes};
+ghost use Rattle.hub_law.specs.declared.request.Request.TheVariants.{Upload};
+ghost use Rattle.hub_rules.specs.Sound.{Sound};
+
+use crate::files::{Files, NamedFile, NextFile};
+use crate::print::{print, print_file_line};
+use crate::reply::{DONE, FAILED, reply_run};
+use edi_base::{ReadFault, Sink, WriteFault};
+use edi_envelope::Moment;
+use gs1_ids::Gln;
+use hub_core::{Hub, Reply, Request};
+use hub_store::Store;
+use std::alloc::Global;
+
+// The import ends before it comes to the next file.
+struct Ended;
+
+impl From<WriteFault> for Ended {
+    fn from(_fault: WriteFault) -> Ended {
+        Ended
+    }
+}
+
+// Prints a reply, and answers its exit status.
+fn print_reply<W: Sink>(reply: &Reply, out: &mut W) -> Result<u8, Ended>
+    ensures { ReplyComes (W.contents out.old) (W.contents out.new) (W.failed out.old) (W.failed out.new) reply.now
+        result }
+{
+    let status = reply_run(reply, out);
+    if status == FAILED {
+        Err(Ended)
+    } else {
+        Ok(status)
+    }
+}
+
+// Prints why the bytes of a file are not known, and answers the exit status of the file.
+fn print_fault<W: Sink>(fault: ReadFault, out: &mut W) -> Result<u8, Ended>
+    ensures { FaultComes (W.contents out.old) (W.contents out.new) (W.failed out.old) (W.failed out.new) fault result }
+{
+    match fault {
+        ReadFault::Read => {
+            print(b"fault\n", out)?;
+            Ok(FAILED)
+        }
+        ReadFault::Memory => {
+            print(b"stopped\n", out)?;
+            Err(Ended)
+        }
+    }
+}
+
+// Uploads a file, and prints what comes of it. Answers its exit status.
+fn import_file<S: Store, W: Sink>(
+    hub: &mut Hub<S>,
+    moment: Moment,
+    caller: &Gln,
+    key: &[u8],
+    file: NextFile,
+    out: &mut W,
+) -> Result<u8, Ended>
+    ensures looks_at { LooksAt
+        (λ bytes reply. S.honest hub.new.1 → Sound hub.old.0.suppliers (S.content hub.old.1) →
+        Stepped hub.old.0 (S.content hub.old.1) (S.content hub.new.1) (S.left hub.old.1) (S.left hub.new.1)
+        (input_of moment caller.now key.now (Upload bytes)) reply)
+        (hub.new ≡ hub.old) file (W.contents out.old) (W.contents out.new) (W.failed out.old) (W.failed out.new)
+        result }
+    ensures register { hub.new.0 ≡ hub.old.0 }
+    ensures was_honest { S.honest hub.new.1 → S.honest hub.old.1 }
+{
+    let NextFile::Named(file) = file else {
+        print(b"fault\n", out)?;
+        return Ok(FAILED);
+    };
+    let NamedFile { name, bytes } = file;
+    print_file_line(name.as_str(), out)?;
+    match bytes {
+        Ok(bytes) => {
+            let reply = hub.step(moment, caller, key, Request::Upload(bytes));
+            print_reply(&reply, out)
+        }
+        Err(fault) => print_fault(fault, out),
+    }
+}
+
+/// Uploads files one after another, each in the name of whoever has this GLN and this key, and prints of each the line
+/// `file NAME` before it is uploaded, and then the reply. A file that cannot be read has the line `fault` in place of
+/// the reply, and one whose name is no UTF-8 this line alone; the next file follows. A reply that is stopped ends the
+/// import, and so does want of memory, with the line `stopped`, and a failed write. What was accepted stays accepted.
+///
+/// Answers the exit status, the greatest of all files: of a reply 0, 1 or 3, as `reply_run` has it; 3 for a file that
+/// cannot be read or has no name, for want of memory, and for a failed write.
+pub fn import_run<S: Store, F: Files, W: Sink>(
+    alloc: Global,
+    hub: &mut Hub<S>,
+    moment: Moment,
+    caller: &Gln,
+    key: &[u8],
+    files: &mut F,
+    out: &mut W,
+) -> u8
+    ensures imported { Imported
+        (λ inputs replies. S.honest hub.new.1 → Sound hub.old.0.suppliers (S.content hub.old.1) →
+        Ran hub.old.0 (S.content hub.old.1) (S.content hub.new.1) (S.left hub.old.1) (S.left hub.new.1) inputs replies)
+        (λ bytes. input_of moment caller.now key.now (Upload bytes)) (F.remaining files.old)
+        (W.contents out.old) (W.contents out.new) (W.failed out.old) (W.failed out.new) result }
+    ensures register { hub.new.0 ≡ hub.old.0 }
+    ensures was_honest { S.honest hub.new.1 → S.honest hub.old.1 }
+{
+    hub.steps_are_a_run();
+    let mut greatest = DONE;
+    loop {
+        let file = match files.next(alloc) {
+            Ok(Some(file)) => file,
+            Ok(None) => return greatest,
+            Err(_) => {
+                let _ = print(b"stopped\n", out);
+                return FAILED;
+            }
+        };
+        match import_file(hub, moment, caller, key, file, out) {
+            Ok(status) => greatest = greatest.max(status),
+            Err(Ended) => return FAILED,
+        }
+    }
+}

@@ -1,0 +1,11 @@
+//! The commands of the program over a hub: an import of files, and the printing of one reply.
+#![tactic(auto)]
+
+mod files;
+mod import;
+mod print;
+mod reply;
+
+pub use files::{Files, LONGEST_FILE, NamedFile, NextFile};
+pub use import::import_run;
+pub use reply::reply_run;

@@ -1,0 +1,40 @@
+//! One reply.
+ghost use Rattle.std.specs.Prelude.{◌≡◌, OnOk};
+ghost use Rattle.hub_commands.specs.Output.{Prints};
+ghost use Rattle.hub_commands.specs.Replies as spec;
+
+use crate::print::print;
+use edi_base::Sink;
+use hub_core::{Outcome, Reply};
+
+/// Done.
+pub(crate) const DONE: u8 = 0;
+
+/// Something was refused, denied or unknown.
+const REFUSED: u8 = 1;
+
+/// A failed read or write, or out of memory.
+pub(crate) const FAILED: u8 = 3;
+
+// The exit status of a reply.
+fn status_of(reply: &Reply) -> u8
+    ensures { result ≡ spec.status_of reply.now }
+{
+    match reply.outcome {
+        Outcome::Done => { if reply.refused { REFUSED } else { DONE } }
+        Outcome::Stopped => FAILED,
+        Outcome::Bad | Outcome::Denied | Outcome::Unknown => REFUSED,
+    }
+}
+
+/// Prints the body of a reply. Answers the exit status: 0 where it is done and nothing was refused; 3 where it was
+/// stopped, or a write failed, and then a front of the body was written; else 1.
+pub fn reply_run<W: Sink>(reply: &Reply, out: &mut W) -> u8
+    ensures { Prints (W.contents out.old) (W.contents out.new) (W.failed out.old) (W.failed out.new) reply.now.body
+        (spec.status_of reply.now) result }
+{
+    match print(reply.body.as_slice(), out) {
+        Ok(()) => status_of(reply),
+        Err(_) => FAILED,
+    }
+}
