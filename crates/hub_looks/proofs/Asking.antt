@@ -1,5 +1,5 @@
 -- What a query does, from its clauses.
-use Rattle.std.proofs.Common.{Vec, Ok, Err, ◌≡◌, ◌≢◌, ◌⊎◌, inl, inr, ℕ, false, List, IsTrue, refl, sym, ◌∙◌, subst}
+use Rattle.std.proofs.Common.{Vec, Result, Ok, Err, IfOk, ◌≡◌, ◌≢◌, ◌⊎◌, inl, inr, ℕ, false, List, IsTrue, refl, sym, ◌∙◌, subst}
 use Rattle.std.specs.declared.alloc.Global.{Global}
 use Rattle.sqlite_value.specs.Order.{Row}
 use Rattle.sqlite.specs.declared.error.Error.{Error}
@@ -53,3 +53,24 @@ module _ (text : List ℕ) (params : Row) (old new : State) (mode : old.in_trans
     mode = mode;
     survives = survives;
   }
+
+-- an answer of which more is true
+pub reads_more : {X : Type 0} {Reads : List Row → X → Type 0} {Spoil : List Row → Type 0} {text : List ℕ} {params : Row} {old new : State}
+    (More : X → Type 0) (result : Result X StoreFault) → IfOk result More → Asks Reads Spoil text params old new result
+    → Asks (λ rows x. Reads rows x × More x) Spoil text params old new result
+reads_more More (Ok x) more asks = record {
+  reads = λ clean. let h = asks.reads clean in (h.0, h.1, (h.2, more));
+  spoils = asks.spoils;
+  same = asks.same;
+  stays = asks.stays;
+  mode = asks.mode;
+  survives = asks.survives;
+}
+reads_more More (Err fault) more asks = record {
+  reads = λ clean. tt;
+  spoils = asks.spoils;
+  same = asks.same;
+  stays = asks.stays;
+  mode = asks.mode;
+  survives = asks.survives;
+}

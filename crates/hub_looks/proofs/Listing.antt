@@ -39,6 +39,10 @@ pub clean_all : {X : Type 0} (p : X → Bool) (xs : List X) → AllByRecursion (
 clean_all p [] h = refl
 clean_all p (x ∷ xs) h = and_from (p x) (list_all p xs) h.0 (clean_all p xs h.1)
 
+-- what follows of each that passes
+pub all_then : {X : Type 0} (p : X → Bool) (P : X → Type 0) → ((x : X) → p x ≡ true → P x) → (xs : List X) → list_all p xs ≡ true → AllByRecursion P xs
+all_then p P each xs h = all_such (λ x. p x ≡ true) P each xs (all_clean p xs h)
+
 pub all_of_map : {X Y : Type 0} (P : Y → Type 0) (f : X → Y) (xs : List X) → AllByRecursion P (map f xs) → AllByRecursion (λ x. P (f x)) xs
 all_of_map P f [] h = tt
 all_of_map P f (x ∷ xs) h = (h.0, all_of_map P f xs h.1)

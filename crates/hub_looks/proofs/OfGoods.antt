@@ -1,6 +1,9 @@
 -- What a query finds of the goods on a pallet.
 use Rattle.std.proofs.Common.{◌≡◌, ℕ, ◌==◌, Bool, not, length, cond, inl, inr, true, false, ◌&&◌, Result, List, [], ◌∷◌, map, filter, refl, sym, ap, ap₂, subst, ◌∙◌}
 use Rattle.std.specs.List.{AllByRecursion, list_all}
+use Rattle.std.proofs.lemmas.Bool.{and_parts}
+use Rattle.std.proofs.lemmas.Bool.Decides.{nat_tests}
+use Rattle.gs1_ids.specs.Digits.{is_key}
 use Rattle.std.specs.Ordering.{ordering_then}
 use Rattle.sqlite_value.specs.declared.value.Value.TheVariants.{Blob}
 use Rattle.sqlite_value.specs.Order.{Row, column}
@@ -34,14 +37,15 @@ use Rattle.hub_tables.specs.Tables.{holds}
 use Rattle.hub_tables.specs.declared.rows.ContentRow.{ContentRow}
 use Rattle.hub_tables.specs.declared.rows.ReceiptRow.{ReceiptRow}
 use Rattle.hub_tables.proofs.KindOrders.{content_total, receipt_total}
-use Rattle.hub_store.specs.Clean.{clean_content, clean_receipt}
+use Rattle.hub_store.specs.Clean.{clean_content, clean_receipt, is_line, is_number, is_quantity, is_within}
 use Rattle.hub_schema.specs.Rows.{content_in, receipt_in}
 use Rattle.hub_schema.proofs.Single.{content_kinds, content_cells, receipt_kinds, receipt_cells}
 use Rattle.hub_looks.specs.Shown.{shown_content, shown_receipt}
-use Rattle.hub_looks.proofs.Listing.{rows_are, rows_spoil}
+use Rattle.hub_looks.proofs.Asking.{reads_more}
+use Rattle.hub_looks.proofs.Listing.{rows_are, rows_spoil, all_then}
 use Rattle.hub_looks.proofs.Unclean.{contents_unclean, receipts_unclean}
 use Rattle.hub_looks.proofs.Texts.{held_text, held_selects, content_columns, on_pallet_order, contents_text, contents_select, receipts_text, receipts_select}
-use Rattle.std.proofs.Common.{◌<◌, ◌^◌}
+use Rattle.std.proofs.Common.{◌<◌, ◌^◌, IfOk, arith}
 use Rattle.hub_tables.proofs.Lists.{decide}
 use Rattle.hub_looks.proofs.Joining.{looks_on, looks_then}
 use Rattle.std.proofs.Common.{Ok}
@@ -68,10 +72,20 @@ content_ranked : (params x y : Row) → AreOf content_kinds 0 x × ((content_in 
 content_ranked params x y a b =
     ap₂ ordering_then (rank_bytes (column x 1) (column y 1) a.0.0 b.0.0) (then_none _ ∙ rank_numbers (column x 2) (column y 2) a.0.1.0 b.0.1.0 a.1 b.1)
 
-pub contents_look : (old new : State) (sscc : List ℕ) (result : Result (List ContentRow) StoreFault)
-    → Asks (λ rows items. (items ≡ map shown_content rows) × AllByRecursion (λ content. content.place < 2 ^ 64) items) (λ rows. list_all clean_content (map shown_content rows) ≡ false) contents_text (Blob sscc ∷ []) old new result
+-- the place of a content that is of its kind
+content_numbered : (content : ContentRow) → clean_content content ≡ true → content.place < 2 ^ 64
+content_numbered content h =
+    let more = is_number content.number && (is_line content.line && is_quantity content.quantity) in
+    let a = and_parts (is_key 18 content.sscc) (is_within 1 999_999 content.place && more) h in
+    within content.place (and_parts (is_within 1 999_999 content.place) more a.1).0
+  where
+    within : (n : ℕ) → is_within 1 999_999 n ≡ true → n < 2 ^ 64
+    within n e = grind (arith, nat_tests)
+
+pub contents_look : (old new : State) (sscc : List ℕ) (result : Result (List ContentRow) StoreFault) → IfOk result (λ contents. list_all clean_content contents ≡ true)
+    → Asks (λ rows items. items ≡ map shown_content rows) (λ rows. list_all clean_content (map shown_content rows) ≡ false) contents_text (Blob sscc ∷ []) old new result
     → LooksUp (λ t. filter (λ content. same content.sscc sscc) t.contents) old new result
-contents_look old new sscc =
+contents_look old new sscc result clean asks =
     let tests = given_at 1 0 ∷ [] in
     let params = Blob sscc ∷ [] in
     let db = old.now.trees in
@@ -81,9 +95,13 @@ contents_look old new sscc =
     (λ hub rows answer items it. it.0 ∙ rows_are content_total content_in shown_content content_columns on_pallet_order (db 10) tests params rows (λ row. refl)
     (finds db 10 tests content_columns on_pallet_order no_limit params rows refl answer)
     (AreOf content_kinds 0) (λ content. content.place < 2 ^ 64) (content_ranked params) (content_cells old.now hub.schema hub.sound hub.ordered) test passed (hub_rises old hub).contents
-    (subst (AllByRecursion (λ content. content.place < 2 ^ 64)) it.0 it.1))
+    (all_then clean_content (λ content. content.place < 2 ^ 64) content_numbered (map shown_content rows) (subst (λ contents. list_all clean_content contents ≡ true) it.0 it.1)))
     (λ hub rows answer spoilt. contents_unclean (tables_in db) (rows_spoil content_total content_in shown_content content_columns on_pallet_order (db 10) tests params rows (λ row. refl)
-    (finds db 10 tests content_columns on_pallet_order no_limit params rows refl answer) clean_content spoilt))
+    (finds db 10 tests content_columns on_pallet_order no_limit params rows refl answer) clean_content spoilt)) result (reads_more (λ contents. list_all clean_content contents ≡ true) result clean asks)
+
+all_any : {X : Type 0} (xs : List X) → AllByRecursion (λ _. ⊤) xs
+all_any [] = tt
+all_any (x ∷ xs) = (tt, all_any xs)
 
 receipt_ranked : (params x y : Row) → AreOf receipt_kinds 0 x × ⊤ → AreOf receipt_kinds 0 y × ⊤
     → sort_cmp on_pallet_order (params ∷ x ∷ []) (params ∷ y ∷ []) ≡ receipt_cmp (receipt_in x) (receipt_in y)
@@ -91,7 +109,7 @@ receipt_ranked params x y a b =
     ap₂ ordering_then (rank_bytes (column x 1) (column y 1) a.0.0 b.0.0) (then_none _ ∙ rank_bytes (column x 2) (column y 2) a.0.1.0 b.0.1.0)
 
 pub receipts_look : (old new : State) (sscc : List ℕ) (result : Result (List ReceiptRow) StoreFault)
-    → Asks (λ rows items. (items ≡ map shown_receipt rows) × AllByRecursion (λ receipt. ⊤) items) (λ rows. list_all clean_receipt (map shown_receipt rows) ≡ false) receipts_text (Blob sscc ∷ []) old new result
+    → Asks (λ rows items. items ≡ map shown_receipt rows) (λ rows. list_all clean_receipt (map shown_receipt rows) ≡ false) receipts_text (Blob sscc ∷ []) old new result
     → LooksUp (λ t. filter (λ receipt. same receipt.sscc sscc) t.receipts) old new result
 receipts_look old new sscc =
     let tests = given_at 1 0 ∷ [] in
@@ -100,10 +118,10 @@ receipts_look old new sscc =
     let test : ReceiptRow → Bool = λ receipt. same receipt.sscc sscc in
     let passed : (row : Row) → AreOf receipt_kinds 0 row → passes tests params row ≡ test (receipt_in row) = λ row it. and_true _ ∙ cell_bytes (column row 1) sscc it.0 in
     looks receipts_select _ _ _ params old new
-    (λ hub rows answer items it. it.0 ∙ rows_are receipt_total receipt_in shown_receipt content_columns on_pallet_order (db 12) tests params rows (λ row. refl)
+    (λ hub rows answer items is. is ∙ rows_are receipt_total receipt_in shown_receipt content_columns on_pallet_order (db 12) tests params rows (λ row. refl)
     (finds db 12 tests content_columns on_pallet_order no_limit params rows refl answer)
     (AreOf receipt_kinds 0) (λ receipt. ⊤) (receipt_ranked params) (receipt_cells old.now hub.schema hub.sound hub.ordered) test passed (hub_rises old hub).receipts
-    (subst (AllByRecursion (λ receipt. ⊤)) it.0 it.1))
+    (all_any (map shown_receipt rows)))
     (λ hub rows answer spoilt. receipts_unclean (tables_in db) (rows_spoil receipt_total receipt_in shown_receipt content_columns on_pallet_order (db 12) tests params rows (λ row. refl)
     (finds db 12 tests content_columns on_pallet_order no_limit params rows refl answer) clean_receipt spoilt))
 

@@ -31,7 +31,6 @@ use Rattle.hub_looks.proofs.Unclean.{pallets_unclean}
 use Rattle.sql_rows.proofs.Answers.{and_true}
 use Rattle.std.proofs.lemmas.Bool.{and_parts}
 use Rattle.std.specs.Ordering.{is_eq}
-use Rattle.std.specs.Bool.{⊤}
 use Rattle.std.specs.List.Sorted.{IsPermutation}
 use Rattle.std.proofs.lemmas.Map.Text.{is_eq-slice_cmp}
 use Rattle.hub_tables.proofs.Lists.{same_is, same_if}
@@ -111,12 +110,12 @@ pallet_look old new supplier sscc =
     (λ hub rows answer spoilt. pallets_spoil old hub _ [] params rows answer spoilt)
 
 pub all_pallets_look : (old new : State) (supplier : List ℕ) (result : Result (List PalletRow) StoreFault)
-    → Asks (λ rows items. (items ≡ map shown_pallet rows) × AllByRecursion (λ pallet. ⊤) items) (λ rows. list_all clean_pallet (map shown_pallet rows) ≡ false) all_pallets_text (Blob supplier ∷ []) old new result
+    → Asks (λ rows items. items ≡ map shown_pallet rows) (λ rows. list_all clean_pallet (map shown_pallet rows) ≡ false) all_pallets_text (Blob supplier ∷ []) old new result
     → LooksUp (λ t. (view supplier t).pallets) old new result
 all_pallets_look old new supplier =
     let params = Blob supplier ∷ [] in
     let passed : (row : Row) → AreOf pallet_kinds 0 row → passes (given_at 2 0 ∷ []) params row ≡ same (pallet_in row).supplier supplier =
     λ row it. and_true _ ∙ cell_bytes (column row 2) supplier it.1.0 in
     looks all_pallets_select _ _ _ params old new
-    (λ hub rows answer items it. it.0 ∙ pallets_are old hub _ params rows answer (λ pallet. same pallet.supplier supplier) passed)
+    (λ hub rows answer items is. is ∙ pallets_are old hub _ params rows answer (λ pallet. same pallet.supplier supplier) passed)
     (λ hub rows answer spoilt. pallets_spoil old hub _ (rising 1 ∷ []) params rows answer spoilt)

@@ -145,11 +145,11 @@ module _ (s : State) (hub : IsHub s) (supplier : List ℕ) (bound : ℕ) (low : 
       (limited_spoil clean_mail (as_count most) (map mail_in found.sources) (sym (ap (list_all clean_mail) told) ∙ spoilt)))
 
 pub untaken_look : (old new : State) (supplier : List ℕ) (bound : ℕ) → bound < 2 ^ 63 → (most : Value) (result : Result (List MailRow) StoreFault)
-    → Asks (λ rows items. (items ≡ map shown_mail rows) × AllByRecursion (λ entry. entry.number < 2 ^ 64) items) (λ rows. list_all clean_mail (map shown_mail rows) ≡ false) after_text (Blob supplier ∷ Int (pos bound) ∷ most ∷ []) old new result
+    → Asks (λ rows items. items ≡ map shown_mail rows) (λ rows. list_all clean_mail (map shown_mail rows) ≡ false) after_text (Blob supplier ∷ Int (pos bound) ∷ most ∷ []) old new result
     → LooksUp (λ t. limited (as_count most) (filter (wanted bound) (view supplier t).mail)) old new result
 untaken_look old new supplier bound low most =
     looks after_selects _ _ _ _ old new
-    (λ hub rows answer items it. it.0 ∙ untaken_are old hub supplier bound low most rows answer
+    (λ hub rows answer items is. is ∙ untaken_are old hub supplier bound low most rows answer
     ∙ ap (limited (as_count most)) (sym (filter_both (λ entry. same entry.supplier supplier) (wanted bound) (tables_in old.now.trees).mail)))
     (λ hub rows answer spoilt. untaken_spoil old hub supplier bound low most rows answer spoilt)
 

@@ -1,8 +1,9 @@
 -- When a row is none of its kind.
-use Rattle.std.proofs.Common.{◌≡◌, ℕ, ◌+◌, ◌-◌, Bool, true, false, ◌&&◌, nat_le, refl, arith}
+use Rattle.std.proofs.Common.{◌≡◌, ℕ, ◌+◌, ◌-◌, ◌<◌, nat_lt, List, length, get_or, Bool, true, false, ◌&&◌, Option, Some, None, if◌then◌else◌, nat_le, refl, arith}
 use Rattle.std.proofs.lemmas.Bool.Decides.{nat_tests}
+use Rattle.std.proofs.lemmas.List.Sums.{list_all-from_AllPass}
 use Rattle.std.specs.List.{list_all}
-use Rattle.hub_store.specs.Clean.{is_within, are_clean, clean_order, clean_line, clean_advice, clean_pallet, clean_content, clean_receipt, clean_remembered, clean_mail}
+use Rattle.hub_store.specs.Clean.{is_within, are_bytes, are_clean, clean_order, clean_line, clean_advice, clean_pallet, clean_content, clean_receipt, clean_remembered, clean_mail}
 use Rattle.hub_tables.specs.Tables.{Tables}
 
 pub first_fails : (a b : Bool) → a ≡ false → (a && b) ≡ false
@@ -12,6 +13,21 @@ first_fails false b h = refl
 pub later_fails : (a b : Bool) → b ≡ false → (a && b) ≡ false
 later_fails true b h = h
 later_fails false b h = refl
+
+pub bytes_fit : (xs : List ℕ) → ((k d : ℕ) → k < length xs → get_or xs k d < 256) → are_bytes xs ≡ true
+bytes_fit xs h = list_all-from_AllPass (λ byte. nat_lt byte 256) xs (λ k d within. less (get_or xs k d) (h k d within))
+  where
+    less : (n : ℕ) → n < 256 → nat_lt n 256 ≡ true
+    less n low = grind (arith, nat_tests)
+
+-- what a test lets through, and what it does not
+pub passed : {X : Type 0} (b : Bool) (x y : X) → Some x ≡ (if b then Some y else None) → b ≡ true
+passed true x y h = refl
+passed false x y h = absurd cc
+
+pub failed : {X : Type 0} (b : Bool) (y : X) → ◌≡◌ {A = Option X} None (if b then Some y else None) → b ≡ false
+failed true y h = absurd cc
+failed false y h = refl
 
 -- the pieces of a line are more than it orders
 pub too_open : (ordered open_qty refused cancelled : ℕ) → is_within 0 ordered open_qty ≡ false → nat_le (open_qty + refused + cancelled) ordered ≡ false
@@ -25,6 +41,14 @@ too_cancelled ordered open_qty refused cancelled h = grind (arith, nat_tests)
 
 pub too_many : (most n : ℕ) → is_within 0 most n ≡ false → nat_le n most ≡ false
 too_many most n h = grind (arith, nat_tests)
+
+-- the pieces of a line are no more than it orders
+pub fits : (ordered open_qty refused cancelled : ℕ) → is_within 0 ordered open_qty ≡ true → is_within 0 (ordered - open_qty) refused ≡ true
+    → is_within 0 (ordered - open_qty - refused) cancelled ≡ true → nat_le (open_qty + refused + cancelled) ordered ≡ true
+fits ordered open_qty refused cancelled h g k = grind (arith, nat_tests)
+
+pub no_more : (most n : ℕ) → is_within 0 most n ≡ true → nat_le n most ≡ true
+no_more most n h = grind (arith, nat_tests)
 
 -- where a row of one table is none of its kind
 module _ (t : Tables) where

@@ -1,6 +1,6 @@
 //! Asking a connection by a fixed text.
-ghost use Rattle.std.specs.Prelude.{◌≡◌, ◌≢◌, ◌==◌, false, not, length, map, slice_get};
-ghost use Rattle.std.specs.List.{AllByRecursion, list_all};
+ghost use Rattle.std.specs.Prelude.{◌≡◌, ◌≢◌, ◌==◌, false, not, length, map, slice_get, IsTrue, IfOk, IfSome};
+ghost use Rattle.std.specs.List.{list_all};
 ghost use Rattle.sqlite.specs.Held.{state};
 ghost use Rattle.sqlite.specs.Values.{bound};
 ghost use Rattle.hub_looks.specs.Asks.{Asks};
@@ -56,7 +56,8 @@ pub(crate) fn rows_of<S: Alter, T: Shown>(
     text: &str,
     params: &[ValueRef<'_>],
 ) -> Result<Items<T>, StoreFault>
-    ensures asks { Asks (λ rows items. (items ≡ map T.shown rows) × AllByRecursion T.is_numbered items) (λ rows. list_all T.clean (map T.shown rows) ≡ false) text.now (bound params.now) (state S.Store conn.old) (state S.Store conn.new) result }
+    ensures asks { Asks (λ rows items. items ≡ map T.shown rows) (λ rows. list_all T.clean (map T.shown rows) ≡ false) text.now (bound params.now) (state S.Store conn.old) (state S.Store conn.new) result }
+    ensures clean { IfOk result (λ items. IsTrue (list_all T.clean items)) }
 {
     let rows = ask(conn, text, params)?;
     all_shown(alloc, rows.as_slice())
@@ -69,6 +70,7 @@ pub(crate) fn first_of<S: Alter, T: Shown>(
     params: &[ValueRef<'_>],
 ) -> Result<Option<T>, StoreFault>
     ensures asks { Asks (λ rows first. first ≡ slice_get (map T.shown rows) 0) (λ rows. list_all T.clean (map T.shown rows) ≡ false) text.now (bound params.now) (state S.Store conn.old) (state S.Store conn.new) result }
+    ensures clean { IfOk result (λ first. IfSome first (λ x. IsTrue (T.clean x))) }
 {
     let rows = ask(conn, text, params)?;
     first_shown(rows.as_slice())

@@ -1,10 +1,10 @@
 //! Cells of a row as values of the hub.
-ghost use Rattle.std.specs.Prelude.{◌≡◌, ◌≢◌, ◌≤◌, ◌^◌, ◌∷◌, [], false, Err, nat_le, IfOk};
+ghost use Rattle.std.specs.Prelude.{◌≡◌, ◌≢◌, ◌≤◌, ◌^◌, ◌∷◌, [], false, Err, nat_le, IfOk, IsTrue};
 ghost use Rattle.edi_tokens.specs.Service.{is_decimal};
 ghost use Rattle.edi_envelope.specs.Moment.{last_moment};
 ghost use Rattle.gs1_ids.specs.Digits.{is_key};
 ghost use Rattle.gs1_ids.specs.Gln.{is_gln};
-ghost use Rattle.hub_store.specs.Clean.{is_within, is_number, is_answer, is_arrival, is_kind, is_truth};
+ghost use Rattle.hub_store.specs.Clean.{is_within, is_number, is_answer, is_arrival, is_kind, is_truth, are_bytes};
 ghost use Rattle.hub_schema.specs.Cells.{bytes_in, number_in};
 ghost use Rattle.sqlite_value.specs.Order.{column};
 
@@ -25,13 +25,22 @@ fn unread(error: &Error) -> StoreFault
     }
 }
 
+// The bytes, each of which is below 256.
+fn items_of(bytes: Vec<u8>) -> Items<u8>
+    ensures value { result ≡ bytes.items }
+    ensures right { IsTrue (are_bytes result) }
+{
+    Items::from_vec(bytes)
+}
+
 /// The bytes of a cell.
 pub(crate) fn bytes_at(row: &Row, at: usize) -> Result<Items<u8>, StoreFault>
     ensures ok { IfOk result (λ bytes. bytes ≡ bytes_in (column row.now at)) }
+    ensures right { IfOk result (λ bytes. IsTrue (are_bytes bytes)) }
     ensures unclean { result ≡ Err StoreFault.Unclean → bytes_in (column row.now at) ≡ 256 ∷ [] }
 {
     match row.get::<Vec<u8>>(at) {
-        Ok(bytes) => Ok(Items::from_vec(bytes)),
+        Ok(bytes) => Ok(items_of(bytes)),
         Err(error) => Err(unread(&error)),
     }
 }
@@ -49,7 +58,8 @@ pub(crate) fn number_at(row: &Row, at: usize) -> Result<u64, StoreFault>
 
 /// The number of a cell, within limits.
 pub(crate) fn within_at(row: &Row, at: usize, low: u64, high: u64) -> Result<u64, StoreFault>
-    ensures ok { IfOk result (λ number. (number ≡ number_in (column row.now at)) × (number ≤ high)) }
+    ensures ok { IfOk result (λ number. number ≡ number_in (column row.now at)) }
+    ensures right { IfOk result (λ number. IsTrue (is_within low high number)) }
     ensures unclean { result ≡ Err StoreFault.Unclean → is_within low high (number_in (column row.now at)) ≡ false }
 {
     let number = number_at(row, at)?;
@@ -62,6 +72,7 @@ pub(crate) fn within_at(row: &Row, at: usize, low: u64, high: u64) -> Result<u64
 /// The number of a document.
 pub(crate) fn document_at(row: &Row, at: usize) -> Result<Items<u8>, StoreFault>
     ensures ok { IfOk result (λ number. number ≡ bytes_in (column row.now at)) }
+    ensures right { IfOk result (λ number. IsTrue (is_number number)) }
     ensures unclean { result ≡ Err StoreFault.Unclean → is_number (bytes_in (column row.now at)) ≡ false }
 {
     let number = bytes_at(row, at)?;
@@ -74,6 +85,7 @@ pub(crate) fn document_at(row: &Row, at: usize) -> Result<Items<u8>, StoreFault>
 /// A supplier.
 pub(crate) fn gln_at(row: &Row, at: usize) -> Result<Gln, StoreFault>
     ensures ok { IfOk result (λ gln. gln ≡ bytes_in (column row.now at)) }
+    ensures right { IfOk result (λ gln. IsTrue (is_gln gln)) }
     ensures unclean { result ≡ Err StoreFault.Unclean → is_gln (bytes_in (column row.now at)) ≡ false }
 {
     let digits = bytes_at(row, at)?;
@@ -86,6 +98,7 @@ pub(crate) fn gln_at(row: &Row, at: usize) -> Result<Gln, StoreFault>
 /// A pallet's SSCC.
 pub(crate) fn sscc_at(row: &Row, at: usize) -> Result<Sscc, StoreFault>
     ensures ok { IfOk result (λ sscc. sscc ≡ bytes_in (column row.now at)) }
+    ensures right { IfOk result (λ sscc. IsTrue (is_key 18 sscc)) }
     ensures unclean { result ≡ Err StoreFault.Unclean → is_key 18 (bytes_in (column row.now at)) ≡ false }
 {
     let digits = bytes_at(row, at)?;
@@ -98,6 +111,7 @@ pub(crate) fn sscc_at(row: &Row, at: usize) -> Result<Sscc, StoreFault>
 /// An article, by all fourteen digits.
 pub(crate) fn gtin_at(row: &Row, at: usize) -> Result<Gtin, StoreFault>
     ensures ok { IfOk result (λ gtin. gtin ≡ bytes_in (column row.now at)) }
+    ensures right { IfOk result (λ gtin. IsTrue (is_key 14 gtin)) }
     ensures unclean { result ≡ Err StoreFault.Unclean → is_key 14 (bytes_in (column row.now at)) ≡ false }
 {
     let digits = bytes_at(row, at)?;
@@ -113,6 +127,7 @@ pub(crate) fn gtin_at(row: &Row, at: usize) -> Result<Gtin, StoreFault>
 /// How a line was answered.
 pub(crate) fn answer_at(row: &Row, at: usize) -> Result<Column<Answered>, StoreFault>
     ensures ok { IfOk result (λ answer. answer ≡ number_in (column row.now at)) }
+    ensures right { IfOk result (λ answer. IsTrue (is_answer answer)) }
     ensures unclean { result ≡ Err StoreFault.Unclean → is_answer (number_in (column row.now at)) ≡ false }
 {
     match number_at(row, at)? {
@@ -127,6 +142,7 @@ pub(crate) fn answer_at(row: &Row, at: usize) -> Result<Column<Answered>, StoreF
 /// How far a pallet has come.
 pub(crate) fn arrival_at(row: &Row, at: usize) -> Result<Column<Arrival>, StoreFault>
     ensures ok { IfOk result (λ arrival. arrival ≡ number_in (column row.now at)) }
+    ensures right { IfOk result (λ arrival. IsTrue (is_arrival arrival)) }
     ensures unclean { result ≡ Err StoreFault.Unclean → is_arrival (number_in (column row.now at)) ≡ false }
 {
     match number_at(row, at)? {
@@ -139,6 +155,7 @@ pub(crate) fn arrival_at(row: &Row, at: usize) -> Result<Column<Arrival>, StoreF
 /// The type of a message in a mailbox.
 pub(crate) fn kind_at(row: &Row, at: usize) -> Result<Column<MailKind>, StoreFault>
     ensures ok { IfOk result (λ kind. kind ≡ number_in (column row.now at)) }
+    ensures right { IfOk result (λ kind. IsTrue (is_kind kind)) }
     ensures unclean { result ≡ Err StoreFault.Unclean → is_kind (number_in (column row.now at)) ≡ false }
 {
     match number_at(row, at)? {
@@ -151,6 +168,7 @@ pub(crate) fn kind_at(row: &Row, at: usize) -> Result<Column<MailKind>, StoreFau
 /// No or yes.
 pub(crate) fn truth_at(row: &Row, at: usize) -> Result<Column<bool>, StoreFault>
     ensures ok { IfOk result (λ truth. truth ≡ number_in (column row.now at)) }
+    ensures right { IfOk result (λ truth. IsTrue (is_truth truth)) }
     ensures unclean { result ≡ Err StoreFault.Unclean → is_truth (number_in (column row.now at)) ≡ false }
 {
     match number_at(row, at)? {
@@ -163,6 +181,7 @@ pub(crate) fn truth_at(row: &Row, at: usize) -> Result<Column<bool>, StoreFault>
 /// A decimal mark.
 pub(crate) fn decimal_at(row: &Row, at: usize) -> Result<u8, StoreFault>
     ensures ok { IfOk result (λ decimal. decimal ≡ number_in (column row.now at)) }
+    ensures right { IfOk result (λ decimal. IsTrue (is_decimal decimal)) }
     ensures unclean { result ≡ Err StoreFault.Unclean → is_decimal (number_in (column row.now at)) ≡ false }
 {
     match number_at(row, at)? {
@@ -175,6 +194,7 @@ pub(crate) fn decimal_at(row: &Row, at: usize) -> Result<u8, StoreFault>
 /// When a message came.
 pub(crate) fn moment_at(row: &Row, at: usize) -> Result<Moment, StoreFault>
     ensures ok { IfOk result (λ moment. moment ≡ number_in (column row.now at)) }
+    ensures right { IfOk result (λ moment. moment ≤ last_moment) }
     ensures unclean { result ≡ Err StoreFault.Unclean → nat_le (number_in (column row.now at)) last_moment ≡ false }
 {
     match Moment::new(number_at(row, at)?) {

@@ -1,6 +1,8 @@
 //! Look-ups of what is on a pallet.
-ghost use Rattle.std.specs.Prelude.{◌≡◌, filter};
+ghost use Rattle.std.specs.Prelude.{◌≡◌, filter, IsTrue, IfOk};
+ghost use Rattle.std.specs.List.{list_all};
 ghost use Rattle.sqlite.specs.Held.{state};
+ghost use Rattle.hub_store.specs.Clean.{clean_content, clean_receipt};
 ghost use Rattle.hub_schema.specs.State.{LooksUp};
 ghost use Rattle.hub_tables.specs.Rows.{same};
 ghost use Rattle.hub_tables.specs.State.{contents_of as contents, receipts_of as receipts};
@@ -40,6 +42,7 @@ fn contents_on<S: Alter>(
     sscc: &Sscc,
 ) -> Result<Items<ContentRow>, StoreFault>
     ensures looks { LooksUp (λ t. filter (λ content. same content.sscc sscc.now) t.contents) (state S.Store conn.old) (state S.Store conn.new) result }
+    ensures clean { IfOk result (λ rows. IsTrue (list_all clean_content rows)) }
 {
     rows_of(
         conn,
@@ -56,6 +59,7 @@ fn receipts_on<S: Alter>(
     sscc: &Sscc,
 ) -> Result<Items<ReceiptRow>, StoreFault>
     ensures looks { LooksUp (λ t. filter (λ receipt. same receipt.sscc sscc.now) t.receipts) (state S.Store conn.old) (state S.Store conn.new) result }
+    ensures clean { IfOk result (λ rows. IsTrue (list_all clean_receipt rows)) }
 {
     rows_of(
         conn,
@@ -73,6 +77,7 @@ pub fn contents_of<S: Alter>(
     sscc: &Sscc,
 ) -> Result<Items<ContentRow>, StoreFault>
     ensures looks { LooksUp (λ t. contents (view supplier.now t) sscc.now) (state S.Store conn.old) (state S.Store conn.new) result }
+    ensures clean { IfOk result (λ rows. IsTrue (list_all clean_content rows)) }
 {
     let held = is_held(conn, supplier, sscc)?;
     if !held {
@@ -89,6 +94,7 @@ pub fn receipts_of<S: Alter>(
     sscc: &Sscc,
 ) -> Result<Items<ReceiptRow>, StoreFault>
     ensures looks { LooksUp (λ t. receipts (view supplier.now t) sscc.now) (state S.Store conn.old) (state S.Store conn.new) result }
+    ensures clean { IfOk result (λ rows. IsTrue (list_all clean_receipt rows)) }
 {
     let own = is_held(conn, supplier, sscc)?;
     if !own {

@@ -1,6 +1,8 @@
 //! Look-ups of the lines of orders.
-ghost use Rattle.std.specs.Prelude.{◌≡◌};
+ghost use Rattle.std.specs.Prelude.{◌≡◌, IsTrue, IfOk};
+ghost use Rattle.std.specs.List.{list_all};
 ghost use Rattle.sqlite.specs.Held.{state};
+ghost use Rattle.hub_store.specs.Clean.{clean_line};
 ghost use Rattle.hub_schema.specs.State.{LooksUp};
 ghost use Rattle.hub_tables.specs.State.{lines_of as lines};
 ghost use Rattle.hub_tables.specs.Tables.{view};
@@ -22,6 +24,7 @@ pub fn lines_of<S: Alter>(
     number: &[u8],
 ) -> Result<Items<LineRow>, StoreFault>
     ensures looks { LooksUp (λ t. lines (view supplier.now t) number.now) (state S.Store conn.old) (state S.Store conn.new) result }
+    ensures clean { IfOk result (λ rows. IsTrue (list_all clean_line rows)) }
 {
     rows_of(
         conn,
@@ -38,6 +41,7 @@ pub fn all_lines<S: Alter>(
     supplier: &Gln,
 ) -> Result<Items<LineRow>, StoreFault>
     ensures looks { LooksUp (λ t. (view supplier.now t).lines) (state S.Store conn.old) (state S.Store conn.new) result }
+    ensures clean { IfOk result (λ rows. IsTrue (list_all clean_line rows)) }
 {
     rows_of(
         conn,

@@ -1,8 +1,10 @@
 //! Look-ups in mailboxes.
-ghost use Rattle.std.specs.Prelude.{◌≡◌, ◌<◌, ◌≤◌, ◌^◌, ◌&&◌, ◌⊎◌, pos, negsuc, not, filter, take, None, option_map};
-ghost use Rattle.std.specs.List.{list_any, last_or};
+ghost use Rattle.std.specs.Prelude.{◌≡◌, ◌<◌, ◌≤◌, ◌^◌, ◌&&◌, ◌⊎◌, pos, negsuc, not, filter, take, None, option_map, IsTrue, IfOk, IfSome};
+ghost use Rattle.std.specs.List.{list_all, list_any, last_or};
 ghost use Rattle.std.specs.Option.{unwrap_or};
 ghost use Rattle.sqlite.specs.Held.{state};
+ghost use Rattle.edi_envelope.specs.Mail.{last_number};
+ghost use Rattle.hub_store.specs.Clean.{clean_mail, is_within};
 ghost use Rattle.hub_schema.specs.State.{LooksUp};
 ghost use Rattle.hub_tables.specs.State.{entry_at, is_taken, untaken_after, last_mail as last};
 ghost use Rattle.hub_tables.specs.Tables.{view};
@@ -66,6 +68,7 @@ fn entry_of<S: Alter>(
 ) -> Result<Option<MailRow>, StoreFault>
     requires { number < 2 ^ 63 }
     ensures looks { LooksUp (λ t. entry_at (view supplier.now t) number) (state S.Store conn.old) (state S.Store conn.new) result }
+    ensures clean { IfOk result (λ found. IfSome found (λ entry. IsTrue (clean_mail entry))) }
 {
     let key = signed(number);
     first_of(
@@ -82,6 +85,7 @@ pub fn mail_item<S: Alter>(
     number: u64,
 ) -> Result<Option<MailRow>, StoreFault>
     ensures looks { LooksUp (λ t. entry_at (view supplier.now t) number) (state S.Store conn.old) (state S.Store conn.new) result }
+    ensures clean { IfOk result (λ found. IfSome found (λ entry. IsTrue (clean_mail entry))) }
 {
     if number <= LAST_MAIL_NUMBER {
         return entry_of(conn, supplier, number);
@@ -122,6 +126,7 @@ fn entries_above<S: Alter>(
 ) -> Result<Items<MailRow>, StoreFault>
     requires { number < 2 ^ 63 }
     ensures looks { LooksUp (λ t. limited (as_count (bound_value (owned most.entry))) (filter (λ entry. is_above number entry.number && not (is_taken entry)) (view supplier.now t).mail)) (state S.Store conn.old) (state S.Store conn.new) result }
+    ensures clean { IfOk result (λ entries. IsTrue (list_all clean_mail entries)) }
 {
     let bound = signed(number);
     rows_of(
@@ -133,6 +138,7 @@ fn entries_above<S: Alter>(
 }
 
 // The first of them, above a number that can be a parameter.
+#[tactic(auto, using(crate::proofs::Counting::all_take))]
 fn first_above<S: Alter>(
     conn: &mut Connection<S>,
     alloc: Global,
@@ -142,6 +148,7 @@ fn first_above<S: Alter>(
 ) -> Result<Items<MailRow>, StoreFault>
     requires { number < 2 ^ 63 }
     ensures looks { LooksUp (λ t. take limit (filter (λ entry. is_above number entry.number && not (is_taken entry)) (view supplier.now t).mail)) (state S.Store conn.old) (state S.Store conn.new) result }
+    ensures clean { IfOk result (λ entries. IsTrue (list_all clean_mail entries)) }
 {
     let most = most_rows(limit);
     let entries = entries_above(conn, alloc, supplier, number, most)?;
@@ -157,6 +164,7 @@ fn untaken_above<S: Alter>(
     limit: usize,
 ) -> Result<Items<MailRow>, StoreFault>
     ensures looks { LooksUp (λ t. take limit (filter (λ entry. is_above number entry.number && not (is_taken entry)) (view supplier.now t).mail)) (state S.Store conn.old) (state S.Store conn.new) result }
+    ensures clean { IfOk result (λ entries. IsTrue (list_all clean_mail entries)) }
 {
     if number <= LAST_MAIL_NUMBER {
         return first_above(conn, alloc, supplier, number, limit);
@@ -177,6 +185,7 @@ pub fn mail_after<S: Alter>(
     limit: usize,
 ) -> Result<Items<MailRow>, StoreFault>
     ensures looks { LooksUp (λ t. take limit (untaken_after (view supplier.now t) number)) (state S.Store conn.old) (state S.Store conn.new) result }
+    ensures clean { IfOk result (λ entries. IsTrue (list_all clean_mail entries)) }
 {
     let low = has_low(conn, supplier)?;
     if low {
@@ -188,6 +197,7 @@ pub fn mail_after<S: Alter>(
 // The number of the last entry above zero.
 fn highest<S: Alter>(conn: &mut Connection<S>, supplier: &Gln) -> Result<Option<u64>, StoreFault>
     ensures looks { LooksUp (λ t. option_map (λ entry. entry.number) (last_or None (filter (λ entry. is_above 0 entry.number) (view supplier.now t).mail))) (state S.Store conn.old) (state S.Store conn.new) result }
+    ensures within { IfOk result (λ found. IfSome found (λ number. IsTrue (is_within 1 last_number number))) }
 {
     first_of(
         conn,
@@ -199,6 +209,7 @@ fn highest<S: Alter>(conn: &mut Connection<S>, supplier: &Gln) -> Result<Option<
 // The same, and 0 where there is none.
 fn highest_or_zero<S: Alter>(conn: &mut Connection<S>, supplier: &Gln) -> Result<u64, StoreFault>
     ensures looks { LooksUp (λ t. unwrap_or (option_map (λ entry. entry.number) (last_or None (filter (λ entry. is_above 0 entry.number) (view supplier.now t).mail))) 0) (state S.Store conn.old) (state S.Store conn.new) result }
+    ensures within { IfOk result (λ number. number ≤ last_number) }
 {
     let number = highest(conn, supplier)?;
     Ok(number.unwrap_or(0))
@@ -207,6 +218,7 @@ fn highest_or_zero<S: Alter>(conn: &mut Connection<S>, supplier: &Gln) -> Result
 /// The number of the last entry of the supplier's mailbox, 0 where there is none.
 pub fn last_mail<S: Alter>(conn: &mut Connection<S>, supplier: &Gln) -> Result<u64, StoreFault>
     ensures looks { LooksUp (λ t. last (view supplier.now t)) (state S.Store conn.old) (state S.Store conn.new) result }
+    ensures within { IfOk result (λ number. number ≤ last_number) }
 {
     let low = has_low(conn, supplier)?;
     if low {

@@ -1,6 +1,8 @@
 //! Look-ups of pallets.
-ghost use Rattle.std.specs.Prelude.{◌≡◌};
+ghost use Rattle.std.specs.Prelude.{◌≡◌, IsTrue, IfOk, IfSome};
+ghost use Rattle.std.specs.List.{list_all};
 ghost use Rattle.sqlite.specs.Held.{state};
+ghost use Rattle.hub_store.specs.Clean.{clean_pallet};
 ghost use Rattle.hub_schema.specs.State.{LooksUp};
 ghost use Rattle.hub_tables.specs.State.{pallet_of};
 ghost use Rattle.hub_tables.specs.Tables.{view, has_pallet};
@@ -32,6 +34,7 @@ pub fn pallet<S: Alter>(
     sscc: &Sscc,
 ) -> Result<Option<PalletRow>, StoreFault>
     ensures looks { LooksUp (λ t. pallet_of (view supplier.now t) sscc.now) (state S.Store conn.old) (state S.Store conn.new) result }
+    ensures clean { IfOk result (λ found. IfSome found (λ pallet. IsTrue (clean_pallet pallet))) }
 {
     first_of(
         conn,
@@ -50,6 +53,7 @@ pub fn all_pallets<S: Alter>(
     supplier: &Gln,
 ) -> Result<Items<PalletRow>, StoreFault>
     ensures looks { LooksUp (λ t. (view supplier.now t).pallets) (state S.Store conn.old) (state S.Store conn.new) result }
+    ensures clean { IfOk result (λ rows. IsTrue (list_all clean_pallet rows)) }
 {
     rows_of(
         conn,

@@ -1,8 +1,9 @@
 //! Look-ups of what is remembered under references.
-ghost use Rattle.std.specs.Prelude.{◌≡◌, pos};
+ghost use Rattle.std.specs.Prelude.{◌≡◌, pos, IsTrue, IfOk, IfSome};
 ghost use Rattle.sqlite.specs.Held.{state};
 ghost use Rattle.sqlite_value.specs.Value.{owned};
 ghost use Rattle.sqlite_value.specs.declared.value.Value.TheVariants.{Int};
+ghost use Rattle.hub_store.specs.Clean.{are_bytes};
 ghost use Rattle.hub_schema.specs.State.{LooksUp};
 ghost use Rattle.hub_tables.specs.Cases.{side_letter};
 ghost use Rattle.hub_tables.specs.State.{remembered_content};
@@ -36,6 +37,7 @@ pub fn remembered<'a, S: Alter>(
     message: &'a [u8],
 ) -> Result<Option<Items<u8>>, StoreFault>
     ensures looks { LooksUp (λ t. remembered_content (view supplier.now t) side control.now message.now) (state S.Store conn.old) (state S.Store conn.new) result }
+    ensures clean { IfOk result (λ found. IfSome found (λ content. IsTrue (are_bytes content))) }
 {
     let letter = letter_of(side);
     first_of(

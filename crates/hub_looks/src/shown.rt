@@ -1,6 +1,6 @@
 //! Rows of an answer as rows of the hub. A query shows all columns of a row, in their order.
-ghost use Rattle.std.specs.Prelude.{◌≡◌, ◌<◌, ◌^◌, ◌∷◌, Bool, false, ⊤, IfOk, Err, map, slice_get};
-ghost use Rattle.std.specs.List.{AllByRecursion, list_all};
+ghost use Rattle.std.specs.Prelude.{◌≡◌, Bool, false, IsTrue, IfOk, IfSome, Err, map, slice_get};
+ghost use Rattle.std.specs.List.{list_all};
 ghost use Rattle.hub_store.specs.Clean.{clean_line, clean_pallet, clean_content, clean_receipt, clean_mail};
 ghost use Rattle.hub_looks.specs.Shown.{shown_line, shown_pallet, shown_content, shown_receipt, shown_mail};
 ghost use Rattle.sqlite_value.specs.Order.{Row as Values};
@@ -24,12 +24,9 @@ pub(crate) trait Shown: Drop {
     /// It is of the kind.
     ghost clean: { Self → Bool };
 
-    /// The numbers of its key are those of cells.
-    ghost is_numbered: { Self → Type 0 };
-
     /// The row, where it is of the kind.
     fn of_row(row: &Row) -> Result<Self, StoreFault>
-        ensures ok { IfOk result (λ x. (x ≡ shown row.now) × is_numbered x) }
+        ensures ok { IfOk result (λ x. (x ≡ shown row.now) × IsTrue (clean x)) }
         ensures unclean { result ≡ Err StoreFault.Unclean → clean (shown row.now) ≡ false };
 }
 
@@ -40,8 +37,6 @@ impl Shown for LineRow {
     ghost shown = { shown_line };
 
     ghost clean = { clean_line };
-
-    ghost is_numbered = { λ line. line.line < 2 ^ 64 };
 
     #[tactic(auto, using(crate::proofs::Unclean::first_fails, crate::proofs::Unclean::later_fails, crate::proofs::Unclean::too_open, crate::proofs::Unclean::too_refused, crate::proofs::Unclean::too_cancelled))]
     fn of_row(row: &Row) -> Result<Self, StoreFault> {
@@ -73,8 +68,6 @@ impl Shown for PalletRow {
 
     ghost clean = { clean_pallet };
 
-    ghost is_numbered = { λ pallet. ⊤ };
-
     #[tactic(auto, using(crate::proofs::Unclean::first_fails, crate::proofs::Unclean::later_fails))]
     fn of_row(row: &Row) -> Result<Self, StoreFault> {
         let sscc = sscc_at(row, 0)?;
@@ -94,8 +87,6 @@ impl Shown for ContentRow {
     ghost shown = { shown_content };
 
     ghost clean = { clean_content };
-
-    ghost is_numbered = { λ content. content.place < 2 ^ 64 };
 
     #[tactic(auto, using(crate::proofs::Unclean::first_fails, crate::proofs::Unclean::later_fails))]
     fn of_row(row: &Row) -> Result<Self, StoreFault> {
@@ -119,8 +110,6 @@ impl Shown for ReceiptRow {
 
     ghost clean = { clean_receipt };
 
-    ghost is_numbered = { λ receipt. ⊤ };
-
     #[tactic(auto, using(crate::proofs::Unclean::first_fails, crate::proofs::Unclean::later_fails, crate::proofs::Unclean::too_many))]
     fn of_row(row: &Row) -> Result<Self, StoreFault> {
         let sscc = sscc_at(row, 0)?;
@@ -142,8 +131,6 @@ impl Shown for MailRow {
     ghost shown = { shown_mail };
 
     ghost clean = { clean_mail };
-
-    ghost is_numbered = { λ entry. entry.number < 2 ^ 64 };
 
     #[tactic(auto, using(crate::proofs::Unclean::first_fails, crate::proofs::Unclean::later_fails))]
     fn of_row(row: &Row) -> Result<Self, StoreFault> {
@@ -169,7 +156,6 @@ impl Shown for MailRow {
 }
 
 impl Shown for Items<u8> {
-    ghost use Rattle.std.specs.Prelude.{⊤};
     ghost use Rattle.hub_store.specs.Clean.{are_bytes};
     ghost use Rattle.hub_looks.specs.Shown.{shown_bytes};
 
@@ -177,15 +163,12 @@ impl Shown for Items<u8> {
 
     ghost clean = { are_bytes };
 
-    ghost is_numbered = { λ bytes. ⊤ };
-
     fn of_row(row: &Row) -> Result<Self, StoreFault> {
         bytes_at(row, 0)
     }
 }
 
 impl Shown for u64 {
-    ghost use Rattle.std.specs.Prelude.{⊤};
     ghost use Rattle.edi_envelope.specs.Mail.{last_number};
     ghost use Rattle.hub_store.specs.Clean.{is_within};
     ghost use Rattle.hub_looks.specs.Shown.{shown_number};
@@ -194,17 +177,16 @@ impl Shown for u64 {
 
     ghost clean = { is_within 1 last_number };
 
-    ghost is_numbered = { λ number. ⊤ };
-
     fn of_row(row: &Row) -> Result<Self, StoreFault> {
         within_at(row, 0, 1, LAST_MAIL_NUMBER)
     }
 }
 
 /// The rows, where each is of the kind.
-#[tactic(auto, using(crate::proofs::Counting::all_more))]
+#[tactic(auto, using(crate::proofs::Counting::one_more))]
 pub(crate) fn all_shown<T: Shown>(alloc: Global, rows: &[Row]) -> Result<Items<T>, StoreFault>
-    ensures ok { IfOk result (λ items. (items ≡ map T.shown rows.now) × AllByRecursion T.is_numbered items) }
+    ensures ok { IfOk result (λ items. items ≡ map T.shown rows.now) }
+    ensures clean { IfOk result (λ items. IsTrue (list_all T.clean items)) }
     ensures unclean { result ≡ Err StoreFault.Unclean → list_all T.clean (map T.shown rows.now) ≡ false }
 {
     let mut items = Items::new(alloc);
@@ -220,6 +202,7 @@ pub(crate) fn all_shown<T: Shown>(alloc: Global, rows: &[Row]) -> Result<Items<T
 /// The first row, where it is of the kind.
 pub(crate) fn first_shown<T: Shown>(rows: &[Row]) -> Result<Option<T>, StoreFault>
     ensures ok { IfOk result (λ first. first ≡ slice_get (map T.shown rows.now) 0) }
+    ensures clean { IfOk result (λ first. IfSome first (λ x. IsTrue (T.clean x))) }
     ensures unclean { result ≡ Err StoreFault.Unclean → list_all T.clean (map T.shown rows.now) ≡ false }
 {
     match rows.first() {

@@ -4,8 +4,7 @@ use Rattle.sqlite_value.specs.Value.{owned}
 use Rattle.hub_looks.proofs.OfUntaken.{untaken_look}
 use Rattle.hub_looks.proofs.mail.entries_above.Goals as goal
 
-pub returns : goal.returns
-returns g c = record {
-  looks = untaken_look (state g.S.Store c.args.conn.now) (state g.S.Store c.rows_of.new.conn) c.args.supplier.now c.args.number c.requires
-      (bound_value (owned c.args.most)) c.rows_of.result (rw (c.digits.ensures.value, c.signed-bound.ensures) at c.rows_of.ensures.asks);
-}
+pub returns-clause-looks : goal.returns-clause-looks
+returns-clause-looks g c =
+    untaken_look (state g.S.Store c.args.conn.now) (state g.S.Store c.rows_of.new.conn) c.args.supplier.now c.args.number c.requires
+    (bound_value (owned c.args.most)) c.rows_of.result (rw (c.digits.ensures.value, c.signed-bound.ensures) at c.rows_of.ensures.asks)

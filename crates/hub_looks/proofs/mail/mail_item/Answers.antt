@@ -6,14 +6,12 @@ use Rattle.hub_tables.specs.Tables.{view}
 use Rattle.hub_looks.proofs.OfMail.{no_entry, past_entry}
 use Rattle.hub_looks.proofs.mail.mail_item.Goals as goal
 
-pub returns-then-above : goal.returns-then-above
-returns-then-above g c = record {
-  looks = past_entry (λ t. entry_at (view c.args.supplier.now t) c.args.number) (state g.S.Store c.args.conn.now) (state g.S.Store c.has_above.new.conn)
-      c.args.supplier.now c.in_ok-above.above c.if-above.true c.in_ok-above.ensures.looks;
-}
+pub returns-then-above-clause-looks : goal.returns-then-above-clause-looks
+returns-then-above-clause-looks g c =
+    past_entry (λ t. entry_at (view c.args.supplier.now t) c.args.number) (state g.S.Store c.args.conn.now) (state g.S.Store c.has_above.new.conn)
+    c.args.supplier.now c.in_ok-above.above c.if-above.true c.in_ok-above.ensures.looks
 
-pub returns : goal.returns
-returns g c = record {
-  looks = no_entry (state g.S.Store c.args.conn.now) (state g.S.Store c.has_above.new.conn) c.args.supplier.now c.args.number
-      c.in_ok-above.above c.if-above.false (grind (arith, nat_tests, c.if-number-le-LAST_MAIL_NUMBER.false)) c.ranges.number.fits c.in_ok-above.ensures.looks;
-}
+pub returns-clause-looks : goal.returns-clause-looks
+returns-clause-looks g c =
+    no_entry (state g.S.Store c.args.conn.now) (state g.S.Store c.has_above.new.conn) c.args.supplier.now c.args.number
+    c.in_ok-above.above c.if-above.false (grind (arith, nat_tests, c.if-number-le-LAST_MAIL_NUMBER.false)) c.ranges.number.fits c.in_ok-above.ensures.looks
