@@ -1,14 +1,14 @@
 -- What the number of the schema is.
-use Rattle.std.specs.Prelude.{◌≡◌, false, Bool, IsTrue, Result, IfOk, OnOk}
+use Rattle.std.specs.Prelude.{◌≡◌, ◌↔◌, false, Bool, IsTrue, Result, IfOk, OnOk}
 use Rattle.sqlite.specs.State.{State, HasCleanDisk}
 use Rattle.hub_store.specs.declared.fault.StoreFault.{StoreFault}
 use Rattle.hub_schema.specs.Schema.{hub_schema}
 use Rattle.hub_schema.specs.State.{IsNumbered}
 
--- whether it is 1; nothing changes
+-- whether it is 1, exactly; nothing changes
 pub record TellsNumber (old new : State) (result : Result Bool StoreFault) : Type 0 where
   pub number :
-      HasCleanDisk new → old.now.schema ≡ hub_schema → IfOk result (λ is. IsTrue is → IsNumbered old.now.trees)
+      HasCleanDisk new → old.now.schema ≡ hub_schema → IfOk result (λ is. IsTrue is ↔ IsNumbered old.now.trees)
   pub same : HasCleanDisk new → OnOk result (IsTrue old.is_open × IsTrue new.is_open × (new.now ≡ old.now))
   pub mode : old.in_transaction ≡ false → new.in_transaction ≡ false
   pub clean : HasCleanDisk new → HasCleanDisk old

@@ -1,21 +1,22 @@
 //! The number of the schema.
-ghost use Rattle.std.specs.Prelude.{◌≡◌, ◌∷◌, [], pos, IsTrue};
+ghost use Rattle.std.specs.Prelude.{◌≡◌, ◌↔◌, ◌∷◌, [], pos, IsTrue};
 ghost use Rattle.sqlite.specs.Held.{state};
 ghost use Rattle.sqlite_value.specs.declared.value.Value.TheVariants.{Int};
 ghost use Rattle.hub_looks.specs.Numbered.{TellsNumber};
 
 use crate::ask::ask;
 use hub_store::StoreFault;
+use sqlite::types::ValueRef;
 use sqlite::{Alter, Connection, Row};
 
 // Whether the answer is the number 1 alone.
 fn is_one(rows: &[Row]) -> bool
-    ensures { IsTrue result → rows.now ≡ (Int (pos 1) ∷ []) ∷ [] }
+    ensures { IsTrue result ↔ (rows.now ≡ (Int (pos 1) ∷ []) ∷ []) }
 {
     let [row] = rows else {
         return false;
     };
-    row.column_count() == 1 && matches!(row.get::<u32>(0), Ok(1))
+    row.column_count() == 1 && matches!(row.get_ref(0), Ok(ValueRef::Int(1)))
 }
 
 /// Whether the schema's number is 1, in a database that has the hub's tables.
