@@ -4,18 +4,21 @@ use Rattle.std.specs.declared.alloc.Global.{Global}
 use Rattle.sqlite_value.specs.Order.{Row}
 use Rattle.sqlite.specs.declared.error.Error.{Error}
 use Rattle.sqlite.specs.Clock.{timed}
-use Rattle.sqlite.specs.State.{State, HasCleanDisk, Shown, ShowsRows, FailsToQuery, FailsToShow, IsNotRun, IsUnchanged, IsRolledBack, Survives, CommitsShowing}
+use Rattle.sqlite.specs.State.{State, HasCleanDisk, Shown, ShowsRows, FailsToQuery, FailsToShow, IsNotRun, IsUnchanged}
+use Rattle.sqlite.specs.State.{IsRolledBack, Survives, CommitsShowing}
 use Rattle.hub_store.specs.declared.fault.StoreFault.{StoreFault}
 use Rattle.hub_store.specs.declared.fault.StoreFault.TheVariants.{Unclean}
 use Rattle.hub_looks.specs.Asks.{OnlyReads, Asks}
 
-pub shown_same : (sql : List ℕ) (params : Row) (old new : State) (rows : List Row) → OnlyReads sql → Shown sql params old new rows → IsUnchanged old new
+pub shown_same : (sql : List ℕ) (params : Row) (old new : State) (rows : List Row) → OnlyReads sql → Shown sql params old new rows
+    → IsUnchanged old new
 unfolding Shown
 shown_same sql params old new rows plain h =
     let none = plain old.now.schema h.0 h.1.is in
     (subst (ShowsRows old new sql h.0 (timed params h.0.formats h.1.now) rows) none h.2).3
 
-failed_same : (sql : List ℕ) (params : Row) (old new : State) (e : Error) → OnlyReads sql → FailsToQuery sql params old new e → IsUnchanged old new ⊎ IsRolledBack old new
+failed_same : (sql : List ℕ) (params : Row) (old new : State) (e : Error) → OnlyReads sql → FailsToQuery sql params old new e
+    → IsUnchanged old new ⊎ IsRolledBack old new
 unfolding FailsToQuery IsNotRun
 failed_same sql params old new e plain (inl (inl h)) = inl h.1
 failed_same sql params old new e plain (inl (inr h)) = inr h.3
@@ -33,7 +36,8 @@ module _ (text : List ℕ) (params : Row) (old new : State) (mode : old.in_trans
   asked_ok rows shown = record {
     reads = λ clean. (rows.items, shown clean, refl);
     spoils = λ clean e. absurd cc;
-    same = λ clean plain. let it = (shown_same text params old new rows.items plain (shown clean)).0 in (it.was_open, it.is_open, it.now_is);
+    same = λ clean plain. let it = (shown_same text params old new rows.items plain (shown clean)).0 in
+        (it.was_open, it.is_open, it.now_is);
     stays = λ clean idle plain up. let it = (shown_same text params old new rows.items plain (shown clean)).0 in (it.was_open, it.now_is);
     mode = mode;
     survives = survives;

@@ -1,5 +1,7 @@
 -- Whether rows pass, and whether a query finds some.
-use Rattle.std.proofs.Common.{◌≡◌, ◌++◌, ℕ, zero, suc, take, ◌==◌, ◌<◌, ◌^◌, ◌*◌, ℤ, negsuc, nat_lt, inl, inr, Bool, true, false, cond, not, ◌&&◌, ◌||◌, List, [], ◌∷◌, map, filter, length, pos, refl, sym, ap, ap₂, ◌∙◌, arith}
+use Rattle.std.proofs.Common.{◌≡◌, ◌++◌, ℕ, zero, suc, take, ◌==◌, ◌<◌, ◌^◌, ◌*◌, ℤ, negsuc, nat_lt, inl, inr, Bool}
+use Rattle.std.proofs.Common.{true, false, cond, not, ◌&&◌, ◌||◌, List, [], ◌∷◌, map, filter, length, pos, refl, sym}
+use Rattle.std.proofs.Common.{ap, ap₂, ◌∙◌, arith}
 use Rattle.std.specs.List.{AllByRecursion, list_all, list_any}
 use Rattle.std.proofs.lemmas.Bool.Decides.{nat_tests}
 use Rattle.std.proofs.lemmas.List.Sorted.{length_permutation}
@@ -23,7 +25,8 @@ use Rattle.hub_looks.proofs.Finding.{no_limit, passes, Finds}
 use Rattle.hub_tables.specs.Rows.{same}
 use Rattle.hub_schema.specs.Cells.{bytes_in, natural, number_in}
 
-pub cell_bytes : (v : Value) (bytes : List ℕ) → IsOf kind.Blob v → is_true (binary (Compare Eq Binary) v (Blob bytes)) ≡ same (bytes_in v) bytes
+pub cell_bytes : (v : Value) (bytes : List ℕ) → IsOf kind.Blob v
+    → is_true (binary (Compare Eq Binary) v (Blob bytes)) ≡ same (bytes_in v) bytes
 cell_bytes v bytes it = same_bytes v it.0 bytes it.1 ∙ ap (λ w. same w bytes) (sym (ap bytes_in it.1))
 
 pub same_natural : (m : ℤ) (n : ℕ) → n < 2 ^ 64 → is_eq (int_cmp m (pos n)) ≡ (natural m == n)
@@ -39,7 +42,8 @@ same_natural (pos k) n low = elim (cases_Bool (nat_lt k (2 ^ 64))) [
     differs k n low e = grind (arith, ints, nat_tests)
 same_natural (negsuc k) n low = grind (arith, ints, nat_tests)
 
-pub cell_number : (v : Value) (n : ℕ) → n < 2 ^ 64 → IsOf kind.Integer v → is_true (binary (Compare Eq Binary) v (Int (pos n))) ≡ (number_in v == n)
+pub cell_number : (v : Value) (n : ℕ) → n < 2 ^ 64 → IsOf kind.Integer v
+    → is_true (binary (Compare Eq Binary) v (Int (pos n))) ≡ (number_in v == n)
 unfolding binary
 cell_number v n low it =
     ap (λ w. is_true (binary (Compare Eq Binary) w (Int (pos n)))) it.1
@@ -48,10 +52,12 @@ cell_number v n low it =
 
 pub any_filter : {X : Type 0} (p q : X → Bool) (xs : List X) → list_any q (filter p xs) ≡ list_any (λ x. p x && q x) xs
 any_filter p q [] = refl
-any_filter p q (x ∷ xs) = elim (p x) as (λ v. list_any q (cond v (x ∷ filter p xs) (filter p xs)) ≡ ((v && q x) || list_any (λ x. p x && q x) xs))
+any_filter p q (x ∷ xs) = elim (p x) as (λ v. list_any q (cond v (x ∷ filter p xs) (filter p xs))
+    ≡ ((v && q x) || list_any (λ x. p x && q x) xs))
     [ true ↦ ap (λ v. q x || v) (any_filter p q xs) | false ↦ any_filter p q xs ]
 
-pub any_shown : {X Y : Type 0} (f : X → Y) (p : Y → Bool) (q : X → Bool) (xs : List X) → AllByRecursion (λ x. q x ≡ p (f x)) xs → list_any q xs ≡ list_any p (map f xs)
+pub any_shown : {X Y : Type 0} (f : X → Y) (p : Y → Bool) (q : X → Bool) (xs : List X) → AllByRecursion (λ x. q x ≡ p (f x)) xs
+    → list_any q xs ≡ list_any p (map f xs)
 any_shown f p q [] all = refl
 any_shown f p q (x ∷ xs) all = ap₂ (λ v w. v || w) all.0 (any_shown f p q xs all.1)
 
@@ -79,7 +85,9 @@ all_take p (suc n) (x ∷ xs) all =
     let parts = and_parts (p x) (list_all p xs) all in and_from (p x) (list_all p (take n xs)) parts.0 (all_take p n xs parts.1)
 
 -- the query has rows where some stored row passes
-pub some_found : (stored : List Row) (tests shown : List Term) (order : List (Term × Key)) (params : Row) (rows : List Row) → Finds stored tests shown order no_limit params rows
+pub some_found : (stored : List Row) (tests shown : List Term) (order : List (Term × Key)) (params : Row) (rows : List Row)
+    → Finds stored tests shown order no_limit params rows
     → not (length rows == 0) ≡ list_any (passes tests params) stored
 some_found stored tests shown order params rows it =
-    ap (λ n. not (n == 0)) (ap length it.is ∙ length_map _ it.sources ∙ length_permutation _ it.sources it.same) ∙ some_pass (passes tests params) stored
+    ap (λ n. not (n == 0)) (ap length it.is ∙ length_map _ it.sources ∙ length_permutation _ it.sources it.same)
+    ∙ some_pass (passes tests params) stored

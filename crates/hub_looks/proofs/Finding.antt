@@ -1,5 +1,6 @@
 -- What a query of one table finds there.
-use Rattle.std.proofs.Common.{◌≡◌, ℕ, zero, suc, ◌+◌, ◌<◌, Bool, false, List, [], ◌∷◌, map, filter, get_or, slice_set, Ordering, None, refl, sym, ap, ap₂, subst, ◌∙◌, pos, negsuc, if◌then◌else◌}
+use Rattle.std.proofs.Common.{◌≡◌, ℕ, zero, suc, ◌+◌, ◌<◌, Bool, false, List, [], ◌∷◌, map, filter, get_or, slice_set}
+use Rattle.std.proofs.Common.{Ordering, None, refl, sym, ap, ap₂, subst, ◌∙◌, pos, negsuc, if◌then◌else◌}
 use Rattle.std.specs.List.{list_all, swap, flat_map}
 use Rattle.std.specs.List.Sorted.{IsPermutation, IsSorted, SwapsInRange, apply_swaps}
 use Rattle.std.specs.Ordering.{on}
@@ -29,7 +30,8 @@ swaps_map f xs [] = refl
 swaps_map f xs (m ∷ moves) = ap (λ zs. swap zs m.0 m.1) (swaps_map f xs moves) ∙ swap_map f (apply_swaps xs moves) m.0 m.1
 
 -- what is shown in another order is shown of the rows in that order
-pub shuffled_sources : {X Y : Type 0} (f : X → Y) (xs : List X) (ys : List Y) → IsPermutation (map f xs) ys → (zs : List X) × IsPermutation xs zs × (ys ≡ map f zs)
+pub shuffled_sources : {X Y : Type 0} (f : X → Y) (xs : List X) (ys : List Y) → IsPermutation (map f xs) ys → (zs : List X)
+    × IsPermutation xs zs × (ys ≡ map f zs)
 shuffled_sources f xs ys p = (
   apply_swaps xs p.moves,
   record { moves = p.moves; below = subst (λ n. SwapsInRange n p.moves) (length_map f xs) p.below; is = refl },
@@ -67,24 +69,28 @@ abbrev pub passes : List Term → Row → Row → Bool
 passes tests params row = list_all (holds (params ∷ row ∷ [])) tests
 
 -- the stored rows that pass, in an order that the query allows, and what is shown of them
-pub record Finds (stored : List Row) (tests shown : List Term) (order : List (Term × Key)) (limit : Term) (params : Row) (rows : List Row) : Type 0 where
+pub record Finds (stored : List Row) (tests shown : List Term) (order : List (Term × Key)) (limit : Term) (params : Row)
+    (rows : List Row) : Type 0 where
   pub sources : List Row
   pub same : IsPermutation (filter (passes tests params) stored) sources
   pub sorted : IsSorted (λ x y. sort_cmp order (params ∷ x ∷ []) (params ∷ y ∷ [])) sources
   pub is : rows ≡ limited (as_count (eval limit (params ∷ []))) (map (λ row. eval_all shown (params ∷ row ∷ [])) sources)
 
 pub finds : (db : Trees) (tree : ℕ) (tests shown : List Term) (order : List (Term × Key)) (limit : Term) (params : Row) (rows : List Row)
-    → overlay db [] tree ≡ db tree → IsAnswer (some_of tree tests shown order limit) (overlay db []) params rows → Finds (db tree) tests shown order limit params rows
+    → overlay db [] tree ≡ db tree → IsAnswer (some_of tree tests shown order limit) (overlay db []) params rows
+    → Finds (db tree) tests shown order limit params rows
 finds db tree tests shown order limit params rows plain a =
     let env : Row → Env = λ r. params ∷ r ∷ [] in
     let found = filter (passes tests params) (db tree) in
     let q = some_of tree tests shown order limit in
-    let staged : a.staged ≡ map env found = a.grouped ∙ ap (flat_map (λ r. if passes tests params r then env r ∷ [] else [])) plain ∙ matched env (passes tests params) (db tree) in
+    let staged : a.staged ≡ map env found = a.grouped ∙ ap (flat_map (λ r. if passes tests params r then env r ∷ [] else [])) plain
+    ∙ matched env (passes tests params) (db tree) in
     let kept : a.kept ≡ map (λ r. output q (env r)) found = a.distinct ∙ ap (map (output q)) staged ∙ map_twice (output q) env found in
     let lifted = shuffled_sources (λ r. output q (env r)) found a.ordered (subst (λ k. IsPermutation k a.ordered) kept a.same) in
     record {
       sources = lifted.0;
       same = lifted.1;
       sorted = sorted_back (λ r. output q (env r)) (output_cmp q) lifted.0 (subst (IsSorted (output_cmp q)) lifted.2 a.sorted);
-      is = a.shown ∙ ap (limited (as_count (eval limit (params ∷ [])))) (ap (map (λ (o : Output). o.1)) lifted.2 ∙ map_twice (λ (o : Output). o.1) (λ r. output q (env r)) lifted.0);
+      is = a.shown ∙ ap (limited (as_count (eval limit (params ∷ []))))
+          (ap (map (λ (o : Output). o.1)) lifted.2 ∙ map_twice (λ (o : Output). o.1) (λ r. output q (env r)) lifted.0);
     }

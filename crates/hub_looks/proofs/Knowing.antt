@@ -27,17 +27,20 @@ use Rattle.hub_looks.proofs.Texts.{given_at, document, order_text, order_selects
 
 -- the row is of the supplier, and has the number
 passed : (supplier number : List ℕ) (row : Row) → AreOf (kind.Blob ∷ kind.Blob ∷ []) 0 row
-    → passes (given_at 1 0 ∷ given_at 2 1 ∷ []) (Blob supplier ∷ Blob number ∷ []) row ≡ (same (bytes_in (column row 1)) supplier && same (bytes_in (column row 2)) number)
+    → passes (given_at 1 0 ∷ given_at 2 1 ∷ []) (Blob supplier ∷ Blob number ∷ []) row
+    ≡ (same (bytes_in (column row 1)) supplier && same (bytes_in (column row 2)) number)
 passed supplier number row it =
     ap₂ (λ v w. v && w) (cell_bytes (column row 1) supplier it.0) (and_true _ ∙ cell_bytes (column row 2) number it.1.0)
 
-orders_right : (s : State) (supplier number : List ℕ) (rows : List Row) → IsHub s → IsAnswer (document 1) (overlay s.now.trees []) (Blob supplier ∷ Blob number ∷ []) rows
+orders_right : (s : State) (supplier number : List ℕ) (rows : List Row) → IsHub s
+    → IsAnswer (document 1) (overlay s.now.trees []) (Blob supplier ∷ Blob number ∷ []) rows
     → not (length rows == 0) ≡ knows_order (view supplier (tables_in s.now.trees)) number
 orders_right s supplier number rows hub answer =
     let db = s.now.trees in
     let both : OrderRow → Bool = λ order. same order.supplier supplier && same order.number number in
     some_found (db 1) _ _ _ _ rows (finds db 1 _ _ _ no_limit _ rows refl answer)
-    ∙ any_shown order_in both (passes (given_at 1 0 ∷ given_at 2 1 ∷ []) (Blob supplier ∷ Blob number ∷ [])) (db 1) (all_such _ _ (passed supplier number) (db 1) (order_cells s.now hub.schema hub.sound hub.ordered))
+    ∙ any_shown order_in both (passes (given_at 1 0 ∷ given_at 2 1 ∷ []) (Blob supplier ∷ Blob number ∷ [])) (db 1)
+    (all_such _ _ (passed supplier number) (db 1) (order_cells s.now hub.schema hub.sound hub.ordered))
     ∙ sym (listed_any order_cmp both (map order_in (db 1)))
     ∙ sym (any_filter (λ order. same order.supplier supplier) (λ order. same order.number number) (tables_in db).orders)
 
@@ -45,15 +48,18 @@ pub order_looks : (old new : State) (supplier number : List ℕ) (result : Resul
     → Asks (λ rows answer. answer ≡ not (length rows == 0)) (λ _. ⊥) order_text (Blob supplier ∷ Blob number ∷ []) old new result
     → LooksUp (λ t. knows_order (view supplier t) number) old new result
 order_looks old new supplier number =
-    looks order_selects _ _ _ _ old new (λ hub rows answer x is. is ∙ orders_right old supplier number rows hub answer) (λ hub rows answer no. absurd no)
+    looks order_selects _ _ _ _ old new (λ hub rows answer x is. is ∙ orders_right old supplier number rows hub answer)
+    (λ hub rows answer no. absurd no)
 
-advices_right : (s : State) (supplier number : List ℕ) (rows : List Row) → IsHub s → IsAnswer (document 5) (overlay s.now.trees []) (Blob supplier ∷ Blob number ∷ []) rows
+advices_right : (s : State) (supplier number : List ℕ) (rows : List Row) → IsHub s
+    → IsAnswer (document 5) (overlay s.now.trees []) (Blob supplier ∷ Blob number ∷ []) rows
     → not (length rows == 0) ≡ knows_advice (view supplier (tables_in s.now.trees)) number
 advices_right s supplier number rows hub answer =
     let db = s.now.trees in
     let both : AdviceRow → Bool = λ advice. same advice.supplier supplier && same advice.number number in
     some_found (db 5) _ _ _ _ rows (finds db 5 _ _ _ no_limit _ rows refl answer)
-    ∙ any_shown advice_in both (passes (given_at 1 0 ∷ given_at 2 1 ∷ []) (Blob supplier ∷ Blob number ∷ [])) (db 5) (all_such _ _ (passed supplier number) (db 5) (advice_cells s.now hub.schema hub.sound hub.ordered))
+    ∙ any_shown advice_in both (passes (given_at 1 0 ∷ given_at 2 1 ∷ []) (Blob supplier ∷ Blob number ∷ [])) (db 5)
+    (all_such _ _ (passed supplier number) (db 5) (advice_cells s.now hub.schema hub.sound hub.ordered))
     ∙ sym (listed_any advice_cmp both (map advice_in (db 5)))
     ∙ sym (any_filter (λ advice. same advice.supplier supplier) (λ advice. same advice.number number) (tables_in db).advices)
 
@@ -61,4 +67,5 @@ pub advice_looks : (old new : State) (supplier number : List ℕ) (result : Resu
     → Asks (λ rows answer. answer ≡ not (length rows == 0)) (λ _. ⊥) advice_text (Blob supplier ∷ Blob number ∷ []) old new result
     → LooksUp (λ t. knows_advice (view supplier t) number) old new result
 advice_looks old new supplier number =
-    looks advice_selects _ _ _ _ old new (λ hub rows answer x is. is ∙ advices_right old supplier number rows hub answer) (λ hub rows answer no. absurd no)
+    looks advice_selects _ _ _ _ old new (λ hub rows answer x is. is ∙ advices_right old supplier number rows hub answer)
+    (λ hub rows answer no. absurd no)

@@ -39,9 +39,12 @@ module _ {text : List ℕ} {query : Query} {names : List (List ℕ)} (it : Selec
   was_open : (params : Row) (old new : State) (rows : List Row) → Shown text params old new rows → IsTrue old.is_open
   was_open params old new rows h = (shown_same text params old new rows reads_none h).0.was_open
 
-  pub looks : {X : Type 0} (answer : Tables → X) (Reads : List Row → X → Type 0) (Spoil : List Row → Type 0) (params : Row) (old new : State)
-      → (IsHub old → (rows : List Row) → IsAnswer query (overlay old.now.trees []) params rows → (x : X) → Reads rows x → x ≡ answer (tables_in old.now.trees))
-      → (IsHub old → (rows : List Row) → IsAnswer query (overlay old.now.trees []) params rows → Spoil rows → are_clean (tables_in old.now.trees) ≡ false)
+  pub looks : {X : Type 0} (answer : Tables → X) (Reads : List Row → X → Type 0) (Spoil : List Row → Type 0) (params : Row)
+      (old new : State)
+      → (IsHub old → (rows : List Row) → IsAnswer query (overlay old.now.trees []) params rows → (x : X) → Reads rows x
+      → x ≡ answer (tables_in old.now.trees))
+      → (IsHub old → (rows : List Row) → IsAnswer query (overlay old.now.trees []) params rows → Spoil rows
+      → are_clean (tables_in old.now.trees) ≡ false)
       → (result : Result X StoreFault) → Asks Reads Spoil text params old new result → LooksUp answer old new result
   looks answer Reads Spoil params old new right wrong (Ok x) asks = record {
     answers = λ clean holds. let h = asks.reads clean in

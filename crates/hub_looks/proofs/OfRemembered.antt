@@ -1,5 +1,6 @@
 -- What a query finds of what is remembered.
-use Rattle.std.proofs.Common.{◌≡◌, ℕ, ◌==◌, ◌<◌, ◌^◌, Bool, true, false, ◌&&◌, Result, Option, option_map, List, [], ◌∷◌, pos, map, slice_get, refl, sym, ap, ap₂, subst, ◌∙◌, arith}
+use Rattle.std.proofs.Common.{◌≡◌, ℕ, ◌==◌, ◌<◌, ◌^◌, Bool, true, false, ◌&&◌, Result, Option, option_map, List, []}
+use Rattle.std.proofs.Common.{◌∷◌, pos, map, slice_get, refl, sym, ap, ap₂, subst, ◌∙◌, arith}
 use Rattle.std.specs.List.{list_all}
 use Rattle.std.specs.List.Sorted.{IsPermutation}
 use Rattle.std.specs.Ordering.{is_eq}
@@ -61,7 +62,9 @@ module _ (supplier : List ℕ) (side : ℕ) (control message : List ℕ) where
       (both_tied _ _ (numbers_tied x.side y.side side a1.0 b1.0)
       (both_tied _ _ (bytes_tied x.control y.control control a2.0 b2.0) (bytes_tied x.message y.message message a2.1 b2.1)))
 
-  passed : side < 2 ^ 64 → (row : Row) → AreOf remembered_kinds 0 row → passes remembered_tests (Blob supplier ∷ Int (pos side) ∷ Blob control ∷ Blob message ∷ []) row ≡ (whose (remembered_in row) && at (remembered_in row))
+  passed : side < 2 ^ 64 → (row : Row) → AreOf remembered_kinds 0 row
+      → passes remembered_tests (Blob supplier ∷ Int (pos side) ∷ Blob control ∷ Blob message ∷ []) row
+      ≡ (whose (remembered_in row) && at (remembered_in row))
   passed low row it =
       ap₂ (λ v w. v && w) (cell_bytes (column row 1) supplier it.0)
       (ap₂ (λ v w. v && w) (cell_number (column row 2) side low it.1.0)
@@ -69,13 +72,16 @@ module _ (supplier : List ℕ) (side : ℕ) (control message : List ℕ) where
 
 content_clean : (x : RememberedRow) → clean_remembered x ≡ true → are_bytes x.content ≡ true
 content_clean x h =
-    let a = and_parts (is_gln x.supplier) (is_side x.side && (is_reference x.control && (is_message x.side x.message && are_bytes x.content))) h in
+    let a = and_parts (is_gln x.supplier) (is_side x.side && (is_reference x.control
+    && (is_message x.side x.message && are_bytes x.content))) h in
     let b = and_parts (is_side x.side) (is_reference x.control && (is_message x.side x.message && are_bytes x.content)) a.1 in
     let c = and_parts (is_reference x.control) (is_message x.side x.message && are_bytes x.content) b.1 in
     (and_parts (is_message x.side x.message) (are_bytes x.content) c.1).1
 
-pub remembered_look : (old new : State) (supplier : List ℕ) (side : Side) (control message : List ℕ) (result : Result (Option (List ℕ)) StoreFault)
-    → Asks (λ rows first. first ≡ slice_get (map shown_bytes rows) 0) (λ rows. list_all are_bytes (map shown_bytes rows) ≡ false) remembered_text
+pub remembered_look : (old new : State) (supplier : List ℕ) (side : Side) (control message : List ℕ)
+    (result : Result (Option (List ℕ)) StoreFault)
+    → Asks (λ rows first. first ≡ slice_get (map shown_bytes rows) 0)
+    (λ rows. list_all are_bytes (map shown_bytes rows) ≡ false) remembered_text
     (Blob supplier ∷ Int (pos (side_letter side)) ∷ Blob control ∷ Blob message ∷ []) old new result
     → LooksUp (λ t. remembered_content (view supplier t) side control message) old new result
 remembered_look old new supplier side control message =
@@ -83,20 +89,26 @@ remembered_look old new supplier side control message =
     let params = Blob supplier ∷ Int (pos n) ∷ Blob control ∷ Blob message ∷ [] in
     let db = old.now.trees in
     let content : RememberedRow → List ℕ = λ row. row.content in
-    let found : (rows : List Row) → IsAnswer (all_of 14 remembered_tests (col 1 5 ∷ []) []) (overlay db []) params rows → Finds (db 14) remembered_tests (col 1 5 ∷ []) [] no_limit params rows =
+    let found : (rows : List Row) → IsAnswer (all_of 14 remembered_tests (col 1 5 ∷ []) []) (overlay db []) params rows
+    → Finds (db 14) remembered_tests (col 1 5 ∷ []) [] no_limit params rows =
     λ rows answer. finds db 14 remembered_tests (col 1 5 ∷ []) [] no_limit params rows refl answer in
-    let told : (rows : List Row) (it : Finds (db 14) remembered_tests (col 1 5 ∷ []) [] no_limit params rows) → map shown_bytes rows ≡ map content (map remembered_in it.sources) =
-    λ rows it. ap (map shown_bytes) it.is ∙ shown_say (λ row. (remembered_in row).content) shown_bytes (col 1 5 ∷ []) params it.sources (λ row. refl) ∙ sym (map_twice content remembered_in it.sources) in
+    let told : (rows : List Row) (it : Finds (db 14) remembered_tests (col 1 5 ∷ []) [] no_limit params rows)
+    → map shown_bytes rows ≡ map content (map remembered_in it.sources) =
+    λ rows it. ap (map shown_bytes) it.is ∙ shown_say (λ row. (remembered_in row).content) shown_bytes (col 1 5 ∷ []) params it.sources
+    (λ row. refl) ∙ sym (map_twice content remembered_in it.sources) in
     looks remembered_selects _ _ _ params old new
     (λ hub rows answer first is.
     let it = found rows answer in
     let all = (tables_in db).remembered in
     let cells = remembered_cells old.now hub.schema hub.sound hub.ordered in
-    let moved = sources_moved remembered_total remembered_in (db 14) remembered_tests params it.sources it.same (λ x. whose supplier n control message x && at supplier n control message x)
+    let moved = sources_moved remembered_total remembered_in (db 14) remembered_tests params it.sources it.same
+    (λ x. whose supplier n control message x && at supplier n control message x)
     (all_such _ _ (passed supplier n control message (letter_low side)) (db 14) cells) in
     is ∙ ap (λ xs. slice_get xs 0) (told rows it) ∙ shown_first content (map remembered_in it.sources)
-    ∙ ap (option_map content) (found_first remembered_cmp (whose supplier n control message) (at supplier n control message) all (map remembered_in it.sources) (hub_rises old hub).remembered (alike supplier n control message)
-    (subst (λ xs. IsPermutation xs (map remembered_in it.sources)) (sym (filter_both (whose supplier n control message) (at supplier n control message) all)) moved)))
+    ∙ ap (option_map content) (found_first remembered_cmp (whose supplier n control message) (at supplier n control message) all
+    (map remembered_in it.sources) (hub_rises old hub).remembered (alike supplier n control message)
+    (subst (λ xs. IsPermutation xs (map remembered_in it.sources))
+    (sym (filter_both (whose supplier n control message) (at supplier n control message) all)) moved)))
     (λ hub rows answer spoilt.
     let it = found rows answer in
     let some = sym (all_through are_bytes content (map remembered_in it.sources)) ∙ sym (ap (list_all are_bytes) (told rows it)) ∙ spoilt in

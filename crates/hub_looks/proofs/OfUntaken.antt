@@ -1,5 +1,7 @@
 -- What a query finds of entries that are not taken, in the order of their numbers.
-use Rattle.std.proofs.Common.{◌≡◌, ℕ, ◌<◌, ◌^◌, nat_lt, zero, suc, Bool, true, false, not, ◌&&◌, ◌⊎◌, inl, inr, Result, Ok, Err, Option, Some, None, List, [], ◌∷◌, pos, negsuc, map, filter, take, refl, sym, ap, ap₂, ◌∙◌, arith, true≢false}
+use Rattle.std.proofs.Common.{◌≡◌, ℕ, ◌<◌, ◌^◌, nat_lt, zero, suc, Bool, true, false, not, ◌&&◌, ◌⊎◌, inl, inr, Result}
+use Rattle.std.proofs.Common.{Ok, Err, Option, Some, None, List, [], ◌∷◌, pos, negsuc, map, filter, take, refl, sym, ap}
+use Rattle.std.proofs.Common.{ap₂, ◌∙◌, arith, true≢false}
 use Rattle.std.specs.List.{AllByRecursion, list_all, list_any}
 use Rattle.std.specs.Ordering.{ordering_then}
 use Rattle.std.proofs.lemmas.Bool.{and_parts, and_from, cases_Bool}
@@ -35,7 +37,8 @@ use Rattle.hub_looks.proofs.Comparing.{cell_above, cell_untaken, rank_above}
 use Rattle.hub_looks.proofs.Counting.{cell_bytes, all_such}
 use Rattle.hub_looks.proofs.Finding.{some_of, passes, Finds, finds}
 use Rattle.hub_looks.proofs.Joining.{looks_on, looks_spoilt, looks_then}
-use Rattle.hub_looks.proofs.Listing.{shown_say, sources_have, sources_pass, sources_are, sources_sorted, sources_spoil, filter_both, all_both, all_clean, clean_all}
+use Rattle.hub_looks.proofs.Listing.{shown_say, sources_have, sources_pass, sources_are, sources_sorted, sources_spoil}
+use Rattle.hub_looks.proofs.Listing.{filter_both, all_both, all_clean, clean_all}
 use Rattle.hub_looks.proofs.Looking.{looks}
 use Rattle.hub_looks.proofs.OfMail.{all_not, none_found, low_spoils}
 use Rattle.hub_looks.proofs.Ranking.{rank_bytes, then_none}
@@ -62,9 +65,11 @@ all_limited : {X : Type 0} (P : X → Type 0) (most : Option ℕ) (xs : List X) 
 all_limited P None xs all = all
 all_limited P (Some n) xs all = all_take P n xs all
 
-pub limited_spoil : {X : Type 0} (clean : X → Bool) (most : Option ℕ) (xs : List X) → list_all clean (limited most xs) ≡ false → list_all clean xs ≡ false
+pub limited_spoil : {X : Type 0} (clean : X → Bool) (most : Option ℕ) (xs : List X) → list_all clean (limited most xs) ≡ false
+    → list_all clean xs ≡ false
 limited_spoil clean most xs h = elim (cases_Bool (list_all clean xs)) [
-  | inl e ↦ absurd (true≢false (sym (clean_all clean (limited most xs) (all_limited (λ x. clean x ≡ true) most xs (all_clean clean xs e))) ∙ h))
+  | inl e ↦ absurd (true≢false (sym (clean_all clean (limited most xs) (all_limited (λ x. clean x ≡ true) most xs (all_clean clean xs e)))
+      ∙ h))
   | inr e ↦ e
 ]
 
@@ -74,7 +79,8 @@ take_twice (suc n) [] = refl
 take_twice (suc n) (x ∷ xs) = ap (λ ys. x ∷ ys) (take_twice n xs)
 
 -- the limit of a query and the one of the caller
-pub first_of_limited : {X : Type 0} (most : Value) (limit : ℕ) → (most ≡ Int (pos limit)) ⊎ (most ≡ Int (negsuc 0)) → (xs : List X) → take limit (limited (as_count most) xs) ≡ take limit xs
+pub first_of_limited : {X : Type 0} (most : Value) (limit : ℕ) → (most ≡ Int (pos limit)) ⊎ (most ≡ Int (negsuc 0)) → (xs : List X)
+    → take limit (limited (as_count most) xs) ≡ take limit xs
 first_of_limited most limit (inl e) xs = ap (λ v. take limit (limited (as_count v) xs)) e ∙ take_twice limit xs
 first_of_limited most limit (inr e) xs = ap (λ v. take limit (limited (as_count v) xs)) e
 
@@ -93,12 +99,15 @@ wanted bound entry = is_above bound entry.number && not (is_taken entry)
 abbrev Above : ℕ → Row → Type 0
 Above bound row = AreOf mail_kinds 0 row × (is_above bound (mail_in row).number ≡ true)
 
-ranked : (bound : ℕ) (params x y : Row) → Above bound x → Above bound y → sort_cmp order (params ∷ x ∷ []) (params ∷ y ∷ []) ≡ mail_cmp (mail_in x) (mail_in y)
+ranked : (bound : ℕ) (params x y : Row) → Above bound x → Above bound y
+    → sort_cmp order (params ∷ x ∷ []) (params ∷ y ∷ []) ≡ mail_cmp (mail_in x) (mail_in y)
 ranked bound params x y a b =
-    ap₂ ordering_then (rank_bytes (column x 1) (column y 1) a.0.0 b.0.0) (then_none _ ∙ rank_above bound (column x 2) (column y 2) a.0.1.0 b.0.1.0 a.1 b.1)
+    ap₂ ordering_then (rank_bytes (column x 1) (column y 1) a.0.0 b.0.0)
+    (then_none _ ∙ rank_above bound (column x 2) (column y 2) a.0.1.0 b.0.1.0 a.1 b.1)
 
 module _ (s : State) (hub : IsHub s) (supplier : List ℕ) (bound : ℕ) (low : bound < 2 ^ 63) (most : Value) (rows : List Row)
-    (answer : IsAnswer (some_of 16 tests mail_columns order (col 0 2)) (overlay s.now.trees []) (Blob supplier ∷ Int (pos bound) ∷ most ∷ []) rows) where
+    (answer : IsAnswer (some_of 16 tests mail_columns order (col 0 2)) (overlay s.now.trees [])
+    (Blob supplier ∷ Int (pos bound) ∷ most ∷ []) rows) where
   abbrev params : Row
   params = Blob supplier ∷ Int (pos bound) ∷ most ∷ []
 
@@ -117,13 +126,16 @@ module _ (s : State) (hub : IsHub s) (supplier : List ℕ) (bound : ℕ) (low : 
   found = finds s.now.trees 16 tests mail_columns order (col 0 2) params rows refl answer
 
   told : map shown_mail rows ≡ limited (as_count most) (map mail_in found.sources)
-  told = ap (map shown_mail) found.is ∙ map_limited shown_mail (as_count most) _ ∙ ap (limited (as_count most)) (shown_say mail_in shown_mail mail_columns params found.sources (λ row. refl))
+  told = ap (map shown_mail) found.is ∙ map_limited shown_mail (as_count most) _
+      ∙ ap (limited (as_count most)) (shown_say mail_in shown_mail mail_columns params found.sources (λ row. refl))
 
   above : AllByRecursion (Above bound) found.sources
   above =
       let typed = sources_have mail_total mail_in (s.now.trees 16) tests params found.sources found.same (AreOf mail_kinds 0) cells in
-      let through = sources_pass mail_total mail_in (s.now.trees 16) tests params found.sources found.same (λ row. passes tests params row ≡ true) (all_passes (passes tests params) (s.now.trees 16)) in
-      all_such (λ row. AreOf mail_kinds 0 row × (passes tests params row ≡ true)) (Above bound) (λ row h. (h.0, number_above row h.0 h.1)) found.sources
+      let through = sources_pass mail_total mail_in (s.now.trees 16) tests params found.sources found.same
+      (λ row. passes tests params row ≡ true) (all_passes (passes tests params) (s.now.trees 16)) in
+      all_such (λ row. AreOf mail_kinds 0 row × (passes tests params row ≡ true)) (Above bound)
+      (λ row h. (h.0, number_above row h.0 h.1)) found.sources
       (all_both (AreOf mail_kinds 0) (λ row. passes tests params row ≡ true) found.sources typed through)
     where
       number_above : (row : Row) → AreOf mail_kinds 0 row → passes tests params row ≡ true → is_above bound (mail_in row).number ≡ true
@@ -134,8 +146,10 @@ module _ (s : State) (hub : IsHub s) (supplier : List ℕ) (bound : ℕ) (low : 
   pub untaken_are : map shown_mail rows ≡ limited (as_count most) (filter test (tables_in s.now.trees).mail)
   untaken_are =
       told ∙ ap (limited (as_count most))
-      (sources_are mail_total mail_in (s.now.trees 16) tests params found.sources found.same test (all_such _ _ passed (s.now.trees 16) cells)
-      (sources_sorted mail_total mail_in (s.now.trees 16) tests params found.sources found.same order (Above bound) (ranked bound params) above found.sorted)
+      (sources_are mail_total mail_in (s.now.trees 16) tests params found.sources found.same test
+      (all_such _ _ passed (s.now.trees 16) cells)
+      (sources_sorted mail_total mail_in (s.now.trees 16) tests params found.sources found.same order (Above bound)
+      (ranked bound params) above found.sorted)
       (hub_rises s hub).mail)
 
   pub untaken_spoil : list_all clean_mail (map shown_mail rows) ≡ false → are_clean (tables_in s.now.trees) ≡ false
@@ -144,24 +158,30 @@ module _ (s : State) (hub : IsHub s) (supplier : List ℕ) (bound : ℕ) (low : 
       (sources_spoil mail_total mail_in (s.now.trees 16) tests params found.sources found.same clean_mail
       (limited_spoil clean_mail (as_count most) (map mail_in found.sources) (sym (ap (list_all clean_mail) told) ∙ spoilt)))
 
-pub untaken_look : (old new : State) (supplier : List ℕ) (bound : ℕ) → bound < 2 ^ 63 → (most : Value) (result : Result (List MailRow) StoreFault)
-    → Asks (λ rows items. items ≡ map shown_mail rows) (λ rows. list_all clean_mail (map shown_mail rows) ≡ false) after_text (Blob supplier ∷ Int (pos bound) ∷ most ∷ []) old new result
+pub untaken_look : (old new : State) (supplier : List ℕ) (bound : ℕ) → bound < 2 ^ 63
+    → (most : Value) (result : Result (List MailRow) StoreFault)
+    → Asks (λ rows items. items ≡ map shown_mail rows) (λ rows. list_all clean_mail (map shown_mail rows) ≡ false) after_text
+    (Blob supplier ∷ Int (pos bound) ∷ most ∷ []) old new result
     → LooksUp (λ t. limited (as_count most) (filter (wanted bound) (view supplier t).mail)) old new result
 untaken_look old new supplier bound low most =
     looks after_selects _ _ _ _ old new
     (λ hub rows answer items is. is ∙ untaken_are old hub supplier bound low most rows answer
-    ∙ ap (limited (as_count most)) (sym (filter_both (λ entry. same entry.supplier supplier) (wanted bound) (tables_in old.now.trees).mail)))
+    ∙ ap (limited (as_count most)) (sym (filter_both (λ entry. same entry.supplier supplier) (wanted bound)
+    (tables_in old.now.trees).mail)))
     (λ hub rows answer spoilt. untaken_spoil old hub supplier bound low most rows answer spoilt)
 
 -- What follows.
 
-pub first_look : (old new : State) (supplier : List ℕ) (bound : ℕ) (most : Value) (limit : ℕ) → (most ≡ Int (pos limit)) ⊎ (most ≡ Int (negsuc 0)) → (entries first : List MailRow) → first ≡ take limit entries
+pub first_look : (old new : State) (supplier : List ℕ) (bound : ℕ) (most : Value) (limit : ℕ)
+    → (most ≡ Int (pos limit)) ⊎ (most ≡ Int (negsuc 0)) → (entries first : List MailRow) → first ≡ take limit entries
     → LooksUp (λ t. limited (as_count (bound_value most)) (filter (wanted bound) (view supplier t).mail)) old new (Ok entries)
     → LooksUp (λ t. take limit (filter (wanted bound) (view supplier t).mail)) old new (Ok first)
 first_look old new supplier bound most limit which entries first is =
-    looks_on _ _ old new entries first (λ t e. is ∙ ap (take limit) e ∙ first_of_limited (bound_value most) limit (as_bound which) (filter (wanted bound) (view supplier t).mail))
+    looks_on _ _ old new entries first (λ t e. is ∙ ap (take limit) e
+    ∙ first_of_limited (bound_value most) limit (as_bound which) (filter (wanted bound) (view supplier t).mail))
   where
-    as_bound : (most ≡ Int (pos limit)) ⊎ (most ≡ Int (negsuc 0)) → (bound_value most ≡ Int (pos limit)) ⊎ (bound_value most ≡ Int (negsuc 0))
+    as_bound : (most ≡ Int (pos limit)) ⊎ (most ≡ Int (negsuc 0))
+        → (bound_value most ≡ Int (pos limit)) ⊎ (bound_value most ≡ Int (negsuc 0))
     as_bound (inl e) = inl (ap bound_value e)
     as_bound (inr e) = inr (ap bound_value e)
 
@@ -177,7 +197,8 @@ take_none : {X : Type 0} (n : ℕ) → ◌≡◌ {A = List X} (take n []) []
 take_none zero = refl
 take_none (suc n) = refl
 
-pub none_above : (old new : State) (supplier : List ℕ) (number limit : ℕ) (above : Bool) (rows : List MailRow) → above ≡ false → last_number < number → rows ≡ []
+pub none_above : (old new : State) (supplier : List ℕ) (number limit : ℕ) (above : Bool) (rows : List MailRow) → above ≡ false
+    → last_number < number → rows ≡ []
     → LooksUp (λ t. list_any (above_of supplier last_number) t.mail) old new (Ok above)
     → LooksUp (λ t. take limit (filter (wanted number) (view supplier t).mail)) old new (Ok rows)
 none_above old new supplier number limit above rows none more empty =
@@ -189,20 +210,24 @@ none_above old new supplier number limit above rows none more empty =
 
 -- where no number is zero or less, those above are the greater ones
 above_greater : (supplier : List ℕ) (number : ℕ) (mail : List MailRow) → list_any (low_of supplier) mail ≡ false
-    → filter (wanted number) (filter (λ entry. same entry.supplier supplier) mail) ≡ filter (λ entry. nat_lt number entry.number && not (is_taken entry)) (filter (λ entry. same entry.supplier supplier) mail)
+    → filter (wanted number) (filter (λ entry. same entry.supplier supplier) mail) ≡ filter
+    (λ entry. nat_lt number entry.number && not (is_taken entry)) (filter (λ entry. same entry.supplier supplier) mail)
 above_greater supplier number mail none =
     let whose : MailRow → Bool = λ entry. same entry.supplier supplier in
     let greater : MailRow → Bool = λ entry. nat_lt number entry.number && not (is_taken entry) in
     filter_both whose (wanted number) mail
     ∙ filter_alike (λ entry. whose entry && wanted number entry) (λ entry. whose entry && greater entry) mail
-    (all_such (λ entry. low_of supplier entry ≡ false) (λ entry. (whose entry && wanted number entry) ≡ (whose entry && greater entry)) each mail (all_not (low_of supplier) mail none))
+    (all_such (λ entry. low_of supplier entry ≡ false) (λ entry.
+    (whose entry && wanted number entry) ≡ (whose entry && greater entry)) each mail (all_not (low_of supplier) mail none))
     ∙ sym (filter_both whose greater mail)
   where
     true_right : (b : Bool) → (b && true) ≡ b
     true_right true = refl
     true_right false = refl
 
-    each : (entry : MailRow) → low_of supplier entry ≡ false → (same entry.supplier supplier && wanted number entry) ≡ (same entry.supplier supplier && (nat_lt number entry.number && not (is_taken entry)))
+    each : (entry : MailRow) → low_of supplier entry ≡ false
+        → (same entry.supplier supplier && wanted number entry)
+        ≡ (same entry.supplier supplier && (nat_lt number entry.number && not (is_taken entry)))
     each entry low = elim (cases_Bool (same entry.supplier supplier)) [
       | inl e ↦
           let high : is_low entry.number ≡ false = sym (ap (λ b. b && is_low entry.number) e) ∙ low in

@@ -37,8 +37,10 @@ is_counted (negsuc k) low = absurd (omega (arith, low))
 nat_int : (a b : ℕ) → int_cmp (pos a) (pos b) ≡ nat_cmp a b
 nat_int a b = grind (arith, ints, nat_tests)
 
-pub rank_numbers : (v w : Value) → IsOf kind.Integer v → IsOf kind.Integer w → number_in v < 2 ^ 64 → number_in w < 2 ^ 64 → value_cmp v w ≡ nat_cmp (number_in v) (number_in w)
+pub rank_numbers : (v w : Value) → IsOf kind.Integer v → IsOf kind.Integer w → number_in v < 2 ^ 64 → number_in w < 2 ^ 64
+    → value_cmp v w ≡ nat_cmp (number_in v) (number_in w)
 rank_numbers v w a b low also =
     let first : a.0 ≡ pos (number_in v) = is_counted a.0 (rw (sym (ap number_in a.1)) low) ∙ ap pos (sym (ap number_in a.1)) in
     let second : b.0 ≡ pos (number_in w) = is_counted b.0 (rw (sym (ap number_in b.1)) also) ∙ ap pos (sym (ap number_in b.1)) in
-    ap₂ value_cmp (a.1 ∙ ap Int first) (b.1 ∙ ap Int second) ∙ value_cmp-Int (pos (number_in v)) (pos (number_in w)) ∙ nat_int (number_in v) (number_in w)
+    ap₂ value_cmp (a.1 ∙ ap Int first) (b.1 ∙ ap Int second) ∙ value_cmp-Int (pos (number_in v)) (pos (number_in w))
+    ∙ nat_int (number_in v) (number_in w)

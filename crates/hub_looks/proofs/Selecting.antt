@@ -23,7 +23,8 @@ begins_query (Ok p) = is_query p.statement
 begins_query (Err e) = true
 
 -- what gave a value gave it through both steps
-given : {A B : Type 0} (one : Checked A) (next : A → Checked B) (b : B) → and_then one next ≡ Ok b → (a : A) × (one ≡ Ok a) × (next a ≡ Ok b)
+given : {A B : Type 0} (one : Checked A) (next : A → Checked B) (b : B) → and_then one next ≡ Ok b → (a : A) × (one ≡ Ok a)
+    × (next a ≡ Ok b)
 given (Ok a) next b h = (a, refl, h)
 given (Err e) next b h = absurd cc
 
@@ -35,7 +36,8 @@ unfolding returning
 returns_none schema base (written.Select s) h = refl
 returns_none schema base _ h = absurd cc
 
-compiled_reads : (schema : Schema) (text : List ℕ) (c : Compiled) → begins_query (first text) ≡ true → compiled schema text ≡ Ok c → c.returning ≡ None
+compiled_reads : (schema : Schema) (text : List ℕ) (c : Compiled) → begins_query (first text) ≡ true → compiled schema text ≡ Ok c
+    → c.returning ≡ None
 unfolding compiled planned meaning
 compiled_reads schema text c query h =
     let parsed = given (first text) _ c h in
@@ -61,6 +63,8 @@ listed_reads (Err e) c h = absurd cc
 pub only_reads : (text : List ℕ) → begins_query (first text) ≡ true → OnlyReads text
 unfolding understood
 only_reads text query schema c h = elim (cases_Bool (reads_listing schema text)) [
-  | inl e ↦ compiled_reads listing_schema text c query (listed_reads (compiled listing_schema text) c (sym (ap (λ b. cond b (if_select (compiled listing_schema text)) (compiled schema text)) e) ∙ h))
-  | inr e ↦ compiled_reads schema text c query (sym (ap (λ b. cond b (if_select (compiled listing_schema text)) (compiled schema text)) e) ∙ h)
+  | inl e ↦ compiled_reads listing_schema text c query (listed_reads (compiled listing_schema text) c
+      (sym (ap (λ b. cond b (if_select (compiled listing_schema text)) (compiled schema text)) e) ∙ h))
+  | inr e ↦ compiled_reads schema text c query (sym (ap (λ b. cond b (if_select (compiled listing_schema text)) (compiled schema text)) e)
+      ∙ h)
 ]

@@ -1,5 +1,6 @@
 -- Rows of which one at most has a key.
-use Rattle.std.proofs.Common.{◌≡◌, ℕ, Bool, true, false, cond, ◌&&◌, inl, inr, ◌==◌, option_map, map, Some, List, [], ◌∷◌, filter, find, slice_get, refl, sym, ap, ap₂, subst, ◌∙◌, arith, true≢false}
+use Rattle.std.proofs.Common.{◌≡◌, ℕ, Bool, true, false, cond, ◌&&◌, inl, inr, ◌==◌, option_map, map, Some, List, []}
+use Rattle.std.proofs.Common.{◌∷◌, filter, find, slice_get, refl, sym, ap, ap₂, subst, ◌∙◌, arith, true≢false}
 use Rattle.std.specs.List.{AllByRecursion, list_all}
 use Rattle.std.specs.List.Sorted.{IsPermutation}
 use Rattle.std.specs.declared.cmp.Ordering.{Ordering}
@@ -32,14 +33,17 @@ filter_turned p q xs = filter_alike (λ x. p x && q x) (λ x. q x && p x) (λ x.
 
 pub first_passes : {X : Type 0} (p : X → Bool) (xs : List X) → slice_get (filter p xs) 0 ≡ find p xs
 first_passes p [] = refl
-first_passes p (x ∷ xs) = elim (p x) as (λ v. slice_get (cond v (x ∷ filter p xs) (filter p xs)) 0 ≡ cond v (Some x) (find p xs)) [ true ↦ refl | false ↦ first_passes p xs ]
+first_passes p (x ∷ xs) = elim (p x) as (λ v. slice_get (cond v (x ∷ filter p xs) (filter p xs)) 0 ≡ cond v (Some x)
+    (find p xs)) [ true ↦ refl | false ↦ first_passes p xs ]
 
 empty_moved : {X : Type 0} (ys : List X) → IsPermutation [] ys → ys ≡ []
 empty_moved [] p = refl
 empty_moved (y ∷ ys) p = absurd (let none = length_permutation [] (y ∷ ys) p in cc)
 
 -- rows that rise and that all have one key, in any order
-one_at_most : {X : Type 0} (cmp : X → X → Ordering) (xs ys : List X) → Rises cmp xs → ((x y : X) → is_eq (cmp x y) ≡ true → cmp x y ≡ Less → ⊥) → AllByRecursion (λ x. AllByRecursion (λ y. is_eq (cmp x y) ≡ true) xs) xs → IsPermutation xs ys → ys ≡ xs
+one_at_most : {X : Type 0} (cmp : X → X → Ordering) (xs ys : List X) → Rises cmp xs
+    → ((x y : X) → is_eq (cmp x y) ≡ true → cmp x y ≡ Less → ⊥) → AllByRecursion (λ x. AllByRecursion (λ y. is_eq (cmp x y) ≡ true) xs) xs
+    → IsPermutation xs ys → ys ≡ xs
 one_at_most cmp [] ys rises never tied p = empty_moved ys p
 one_at_most cmp (x ∷ []) ys rises never tied p = one_permutation x ys p
 one_at_most cmp (x ∷ y ∷ xs) ys rises never tied p = absurd (never x y tied.0.1.0 rises.0.0)
@@ -47,7 +51,8 @@ one_at_most cmp (x ∷ y ∷ xs) ys rises never tied p = absurd (never x y tied.
 never_less : {X : Type 0} (cmp : X → X → Ordering) (x y : X) → is_eq (cmp x y) ≡ true → cmp x y ≡ Less → ⊥
 never_less cmp x y h less = let no : false ≡ true = sym (ap is_eq less) ∙ h in cc
 
-all_tied : {X : Type 0} (P : X → Type 0) (R : X → X → Type 0) → ((x y : X) → P x → P y → R x y) → (xs ys : List X) → AllByRecursion P xs → AllByRecursion P ys → AllByRecursion (λ x. AllByRecursion (R x) ys) xs
+all_tied : {X : Type 0} (P : X → Type 0) (R : X → X → Type 0) → ((x y : X) → P x → P y → R x y) → (xs ys : List X) → AllByRecursion P xs
+    → AllByRecursion P ys → AllByRecursion (λ x. AllByRecursion (R x) ys) xs
 all_tied P R f [] ys a b = tt
 all_tied P R f (x ∷ xs) ys a b = (each x ys a.0 b, all_tied P R f xs ys a.1 b)
   where
@@ -64,7 +69,8 @@ found_first cmp whose at all rows rises alike moved =
     let same = filter_both whose at all in
     let passed = all_passes (λ x. whose x && at x) all in
     let one = one_at_most cmp xs rows (rises_filter cmp (λ x. whose x && at x) all rises) (never_less cmp)
-    (all_tied (λ x. (whose x && at x) ≡ true) (λ x y. is_eq (cmp x y) ≡ true) alike xs xs passed passed) (subst (λ ys. IsPermutation ys rows) same moved) in
+    (all_tied (λ x. (whose x && at x) ≡ true) (λ x y. is_eq (cmp x y) ≡ true) alike xs xs passed passed)
+    (subst (λ ys. IsPermutation ys rows) same moved) in
     ap (λ ys. slice_get ys 0) (one ∙ sym same) ∙ first_passes at (filter whose all)
 
 -- Keys that tie.
@@ -89,7 +95,8 @@ all_through p f [] = refl
 all_through p f (x ∷ xs) = ap (λ v. p (f x) && v) (all_through p f xs)
 
 -- what spoils for one test spoils for one that asks more
-pub spoils_more : {X : Type 0} (p q : X → Bool) → ((x : X) → q x ≡ true → p x ≡ true) → (xs : List X) → list_all p xs ≡ false → list_all q xs ≡ false
+pub spoils_more : {X : Type 0} (p q : X → Bool) → ((x : X) → q x ≡ true → p x ≡ true) → (xs : List X) → list_all p xs ≡ false
+    → list_all q xs ≡ false
 spoils_more p q more xs h = elim (cases_Bool (list_all q xs)) [
   | inl e ↦ absurd (true≢false (sym (clean_all p xs (all_weaker (λ x. q x ≡ true) (λ x. p x ≡ true) more xs (all_clean q xs e))) ∙ h))
   | inr e ↦ e

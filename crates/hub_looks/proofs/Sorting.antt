@@ -1,5 +1,6 @@
 -- A sorted answer is the one list of its rows.
-use Rattle.std.proofs.Common.{◌≡◌, ℕ, zero, suc, ◌+◌, ◌<◌, ◌≤◌, Bool, true, false, cond, inl, inr, List, [], ◌∷◌, ◌++◌, map, filter, length, get_or, append-nil, refl, sym, ap, subst, ◌∙◌, arith}
+use Rattle.std.proofs.Common.{◌≡◌, ℕ, zero, suc, ◌+◌, ◌<◌, ◌≤◌, Bool, true, false, cond, inl, inr, List, [], ◌∷◌, ◌++◌}
+use Rattle.std.proofs.Common.{map, filter, length, get_or, append-nil, refl, sym, ap, subst, ◌∙◌, arith}
 use Rattle.std.specs.List.{AllByRecursion, Contains, IsDistinct}
 use Rattle.std.specs.List.Sorted.{IsPermutation, IsSorted}
 use Rattle.std.specs.declared.cmp.Ordering.{Ordering}
@@ -7,7 +8,9 @@ use Rattle.std.specs.declared.cmp.Ordering.TheVariants.{Less, Equal, Greater}
 use Rattle.std.specs.Ordering.{is_gt, is_lt, is_eq, ordering_reverse, on}
 use Rattle.std.specs.Cmp.{IsTotalOrder}
 use Rattle.std.proofs.lemmas.List.Elements.{recursion_from_All, All-from_recursion}
-use Rattle.std.proofs.lemmas.List.Sorted.{sorted_far, ranks_by, Contains-permutation, IsPermutation-refl, IsPermutation-sym, IsPermutation-trans, IsPermutation-cons, IsPermutation-middle, IsPermutation-append_right}
+use Rattle.std.proofs.lemmas.List.Sorted.{sorted_far, ranks_by, Contains-permutation, IsPermutation-refl}
+use Rattle.std.proofs.lemmas.List.Sorted.{IsPermutation-sym, IsPermutation-trans, IsPermutation-cons}
+use Rattle.std.proofs.lemmas.List.Sorted.{IsPermutation-middle, IsPermutation-append_right}
 use Rattle.std.proofs.lemmas.Map.Keys.{IsDistinct-IsPermutation}
 use Rattle.sql_rows.proofs.Answers.{at_map, length_map}
 use Rattle.hub_tables.specs.Keys.{put}
@@ -24,7 +27,11 @@ contains_has (y ∷ ys) x (suc k) h e = inr (contains_has ys x k (omega (arith, 
 
 has_contains : {X : Type 0} (xs : List X) (x : X) → Has xs x → Contains xs x
 has_contains [] x h = absurd h
-has_contains (y ∷ ys) x h = elim h [ inl e ↦ (0, omega arith, sym e) | inr g ↦ let c = has_contains ys x g in (suc c.0, omega (arith, c.1), c.2) ]
+has_contains (y ∷ ys) x h = elim h [
+  | inl e ↦ (0, omega arith, sym e)
+  | inr g ↦ let c = has_contains ys x g in
+      (suc c.0, omega (arith, c.1), c.2)
+]
 
 permuted_has : {X : Type 0} (xs ys : List X) → IsPermutation xs ys → (x : X) → Has xs x → Has ys x
 permuted_has xs ys p x h = let c = Contains-permutation xs ys x p (has_contains xs x h) in contains_has ys x c.0 c.1 c.2
@@ -35,7 +42,9 @@ module _ {X : Type 0} (cmp : X → X → Ordering) where
   put_moves x [] = IsPermutation-refl (x ∷ [])
   put_moves x (y ∷ ys) = elim (is_gt (cmp y x)) as (λ v. IsPermutation (x ∷ y ∷ ys) (cond v (x ∷ y ∷ ys) (y ∷ put cmp x ys))) [
     | true ↦ IsPermutation-refl (x ∷ y ∷ ys)
-    | false ↦ IsPermutation-trans (x ∷ y ∷ ys) (y ∷ x ∷ ys) (y ∷ put cmp x ys) (IsPermutation-sym (y ∷ x ∷ ys) (x ∷ y ∷ ys) (IsPermutation-middle (y ∷ []) x ys)) (IsPermutation-cons y (x ∷ ys) (put cmp x ys) (put_moves x ys))
+    | false ↦ IsPermutation-trans (x ∷ y ∷ ys) (y ∷ x ∷ ys) (y ∷ put cmp x ys)
+        (IsPermutation-sym (y ∷ x ∷ ys) (x ∷ y ∷ ys) (IsPermutation-middle (y ∷ []) x ys))
+        (IsPermutation-cons y (x ∷ ys) (put cmp x ys) (put_moves x ys))
   ]
 
   all_moved : (xs there : List X) → IsPermutation (xs ++ there) (put_all cmp xs there)
@@ -81,11 +90,13 @@ module _ {X : Type 0} {cmp : X → X → Ordering} (total : IsTotalOrder cmp) wh
       by_answer Equal = refl
       by_answer Greater = refl
 
-  all_less : (x : X) (ys : List X) → AllByRecursion (λ y. is_lt (cmp y x) ≡ false) ys → AllByRecursion (λ y. is_eq (cmp x y) ≡ false) ys → AllByRecursion (λ y. cmp x y ≡ Less) ys
+  all_less : (x : X) (ys : List X) → AllByRecursion (λ y. is_lt (cmp y x) ≡ false) ys → AllByRecursion (λ y. is_eq (cmp x y) ≡ false) ys
+      → AllByRecursion (λ y. cmp x y ≡ Less) ys
   all_less x [] a b = tt
   all_less x (y ∷ ys) a b = (less_of x y a.0 b.0, all_less x ys a.1 b.1)
 
-  rises_from : (xs : List X) → ((i j : ℕ) (d : X) → i ≤ j → j < length xs → is_lt (cmp (get_or xs j d) (get_or xs i d)) ≡ false) → IsDistinct (λ x y. is_eq (cmp x y)) xs → Rises cmp xs
+  rises_from : (xs : List X) → ((i j : ℕ) (d : X) → i ≤ j → j < length xs → is_lt (cmp (get_or xs j d) (get_or xs i d)) ≡ false)
+      → IsDistinct (λ x y. is_eq (cmp x y)) xs → Rises cmp xs
   unfolding IsDistinct
   rises_from [] f a = tt
   rises_from (x ∷ xs) f a = (
@@ -111,7 +122,13 @@ sorted_map f cmp [] sorted k d low high = absurd (omega (arith, high))
 sorted_map f cmp (x ∷ xs) sorted k d low high =
     let long : k + 1 < length (x ∷ xs) = subst (λ n. k + 1 < n) (length_map f (x ∷ xs)) high in
     let less : k < length (map f (x ∷ xs)) = omega (arith, high) in
-    rw (in_range (map f (x ∷ xs)) k d (f x) less, in_range (map f (x ∷ xs)) (k + 1) d (f x) high, at_map f (x ∷ xs) k x, at_map f (x ∷ xs) (k + 1) x, sorted k x low long)
+    rw (
+      in_range (map f (x ∷ xs)) k d (f x) less,
+      in_range (map f (x ∷ xs)) (k + 1) d (f x) high,
+      at_map f (x ∷ xs) k x,
+      at_map f (x ∷ xs) (k + 1) x,
+      sorted k x low long,
+    )
 
 -- of rows with a property, on which two orders agree
 pub sorted_alike : {X : Type 0} (one other : X → X → Ordering) (P : X → Type 0) → ((x y : X) → P x → P y → one x y ≡ other x y)

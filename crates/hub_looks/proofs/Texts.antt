@@ -110,14 +110,16 @@ on_pallet_order = rising 1 ∷ rising 2 ∷ []
 abbrev pub contents_text : List ℕ
 contents_text = codes "SELECT sscc, place, number, line, quantity FROM content WHERE sscc = ?1 ORDER BY sscc, place"
 
-pub contents_select : Selects contents_text (all_of 10 (given_at 1 0 ∷ []) content_columns on_pallet_order) (codes "sscc" ∷ codes "place" ∷ codes "number" ∷ codes "line" ∷ codes "quantity" ∷ [])
+pub contents_select : Selects contents_text (all_of 10 (given_at 1 0 ∷ []) content_columns on_pallet_order)
+    (codes "sscc" ∷ codes "place" ∷ codes "number" ∷ codes "line" ∷ codes "quantity" ∷ [])
 unfolding understood everything
 contents_select = record { first = refl; plain = (refl, refl); unlisted = refl; is = refl }
 
 abbrev pub receipts_text : List ℕ
 receipts_text = codes "SELECT sscc, gtin, accepted, returned, destroyed FROM receipt WHERE sscc = ?1 ORDER BY sscc, gtin"
 
-pub receipts_select : Selects receipts_text (all_of 12 (given_at 1 0 ∷ []) content_columns on_pallet_order) (codes "sscc" ∷ codes "gtin" ∷ codes "accepted" ∷ codes "returned" ∷ codes "destroyed" ∷ [])
+pub receipts_select : Selects receipts_text (all_of 12 (given_at 1 0 ∷ []) content_columns on_pallet_order)
+    (codes "sscc" ∷ codes "gtin" ∷ codes "accepted" ∷ codes "returned" ∷ codes "destroyed" ∷ [])
 unfolding understood everything
 receipts_select = record { first = refl; plain = (refl, refl); unlisted = refl; is = refl }
 
@@ -179,7 +181,8 @@ untaken_test = op2 (Compare Ne Binary) (col 1 8) one
 abbrev pub after_text : List ℕ
 after_text = codes "SELECT supplier, number, moment, decimal, kind, document, body, taken FROM mail WHERE supplier = ?1 AND number > ?2 AND taken <> 1 ORDER BY supplier, number LIMIT ?3"
 
-pub after_selects : Selects after_text (some_of 16 (given_at 1 0 ∷ above_test ∷ untaken_test ∷ []) mail_columns (rising 1 ∷ rising 2 ∷ []) (col 0 2)) mail_names
+pub after_selects : Selects after_text
+    (some_of 16 (given_at 1 0 ∷ above_test ∷ untaken_test ∷ []) mail_columns (rising 1 ∷ rising 2 ∷ []) (col 0 2)) mail_names
 unfolding understood everything
 after_selects = record { first = refl; plain = (refl, refl); unlisted = refl; is = refl }
 
@@ -192,6 +195,7 @@ positive_test = op2 (Compare Gt Binary) (col 1 2) (lit (Int (pos 0)))
 abbrev pub last_text : List ℕ
 last_text = codes "SELECT number FROM mail WHERE supplier = ?1 AND number > 0 ORDER BY number DESC LIMIT 1"
 
-pub last_selects : Selects last_text (some_of 16 (given_at 1 0 ∷ positive_test ∷ []) (col 1 2 ∷ []) (falling 2 ∷ []) one) (codes "number" ∷ [])
+pub last_selects : Selects last_text
+    (some_of 16 (given_at 1 0 ∷ positive_test ∷ []) (col 1 2 ∷ []) (falling 2 ∷ []) one) (codes "number" ∷ [])
 unfolding understood everything
 last_selects = record { first = refl; plain = (refl, refl); unlisted = refl; is = refl }

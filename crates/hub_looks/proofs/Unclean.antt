@@ -1,9 +1,11 @@
 -- When a row is none of its kind.
-use Rattle.std.proofs.Common.{◌≡◌, ℕ, ◌+◌, ◌-◌, ◌<◌, nat_lt, List, length, get_or, Bool, true, false, ◌&&◌, Option, Some, None, if◌then◌else◌, nat_le, refl, arith}
+use Rattle.std.proofs.Common.{◌≡◌, ℕ, ◌+◌, ◌-◌, ◌<◌, nat_lt, List, length, get_or, Bool, true, false, ◌&&◌, Option}
+use Rattle.std.proofs.Common.{Some, None, if◌then◌else◌, nat_le, refl, arith}
 use Rattle.std.proofs.lemmas.Bool.Decides.{nat_tests}
 use Rattle.std.proofs.lemmas.List.Sums.{list_all-from_AllPass}
 use Rattle.std.specs.List.{list_all}
-use Rattle.hub_store.specs.Clean.{is_within, are_bytes, are_clean, clean_order, clean_line, clean_advice, clean_pallet, clean_content, clean_receipt, clean_remembered, clean_mail}
+use Rattle.hub_store.specs.Clean.{is_within, are_bytes, are_clean, clean_order, clean_line, clean_advice, clean_pallet}
+use Rattle.hub_store.specs.Clean.{clean_content, clean_receipt, clean_remembered, clean_mail}
 use Rattle.hub_tables.specs.Tables.{Tables}
 
 pub first_fails : (a b : Bool) → a ≡ false → (a && b) ≡ false
@@ -30,13 +32,16 @@ failed true y h = absurd cc
 failed false y h = refl
 
 -- the pieces of a line are more than it orders
-pub too_open : (ordered open_qty refused cancelled : ℕ) → is_within 0 ordered open_qty ≡ false → nat_le (open_qty + refused + cancelled) ordered ≡ false
+pub too_open : (ordered open_qty refused cancelled : ℕ) → is_within 0 ordered open_qty ≡ false
+    → nat_le (open_qty + refused + cancelled) ordered ≡ false
 too_open ordered open_qty refused cancelled h = grind (arith, nat_tests)
 
-pub too_refused : (ordered open_qty refused cancelled : ℕ) → is_within 0 (ordered - open_qty) refused ≡ false → nat_le (open_qty + refused + cancelled) ordered ≡ false
+pub too_refused : (ordered open_qty refused cancelled : ℕ) → is_within 0 (ordered - open_qty) refused ≡ false
+    → nat_le (open_qty + refused + cancelled) ordered ≡ false
 too_refused ordered open_qty refused cancelled h = grind (arith, nat_tests)
 
-pub too_cancelled : (ordered open_qty refused cancelled : ℕ) → is_within 0 (ordered - open_qty - refused) cancelled ≡ false → nat_le (open_qty + refused + cancelled) ordered ≡ false
+pub too_cancelled : (ordered open_qty refused cancelled : ℕ) → is_within 0 (ordered - open_qty - refused) cancelled ≡ false
+    → nat_le (open_qty + refused + cancelled) ordered ≡ false
 too_cancelled ordered open_qty refused cancelled h = grind (arith, nat_tests)
 
 pub too_many : (most n : ℕ) → is_within 0 most n ≡ false → nat_le n most ≡ false
@@ -54,24 +59,98 @@ no_more most n h = grind (arith, nat_tests)
 module _ (t : Tables) where
   pub lines_unclean : list_all clean_line t.lines ≡ false → are_clean t ≡ false
   lines_unclean h =
-      later_fails (list_all clean_order t.orders) (list_all clean_line t.lines && (list_all clean_advice t.advices && (list_all clean_pallet t.pallets && (list_all clean_content t.contents && (list_all clean_receipt t.receipts && (list_all clean_remembered t.remembered && list_all clean_mail t.mail)))))) (first_fails (list_all clean_line t.lines) (list_all clean_advice t.advices && (list_all clean_pallet t.pallets && (list_all clean_content t.contents && (list_all clean_receipt t.receipts && (list_all clean_remembered t.remembered && list_all clean_mail t.mail))))) h)
+      later_fails (list_all clean_order t.orders) (list_all clean_line t.lines
+      && (list_all clean_advice t.advices && (list_all clean_pallet t.pallets
+      && (list_all clean_content t.contents && (list_all clean_receipt t.receipts
+      && (list_all clean_remembered t.remembered && list_all clean_mail t.mail))))))
+      (first_fails (list_all clean_line t.lines) (list_all clean_advice t.advices
+      && (list_all clean_pallet t.pallets && (list_all clean_content t.contents
+      && (list_all clean_receipt t.receipts && (list_all clean_remembered t.remembered && list_all clean_mail t.mail))))) h)
 
   pub pallets_unclean : list_all clean_pallet t.pallets ≡ false → are_clean t ≡ false
   pallets_unclean h =
-      later_fails (list_all clean_order t.orders) (list_all clean_line t.lines && (list_all clean_advice t.advices && (list_all clean_pallet t.pallets && (list_all clean_content t.contents && (list_all clean_receipt t.receipts && (list_all clean_remembered t.remembered && list_all clean_mail t.mail)))))) (later_fails (list_all clean_line t.lines) (list_all clean_advice t.advices && (list_all clean_pallet t.pallets && (list_all clean_content t.contents && (list_all clean_receipt t.receipts && (list_all clean_remembered t.remembered && list_all clean_mail t.mail))))) (later_fails (list_all clean_advice t.advices) (list_all clean_pallet t.pallets && (list_all clean_content t.contents && (list_all clean_receipt t.receipts && (list_all clean_remembered t.remembered && list_all clean_mail t.mail)))) (first_fails (list_all clean_pallet t.pallets) (list_all clean_content t.contents && (list_all clean_receipt t.receipts && (list_all clean_remembered t.remembered && list_all clean_mail t.mail))) h)))
+      later_fails (list_all clean_order t.orders) (list_all clean_line t.lines
+      && (list_all clean_advice t.advices && (list_all clean_pallet t.pallets
+      && (list_all clean_content t.contents && (list_all clean_receipt t.receipts
+      && (list_all clean_remembered t.remembered && list_all clean_mail t.mail))))))
+      (later_fails (list_all clean_line t.lines) (list_all clean_advice t.advices
+      && (list_all clean_pallet t.pallets && (list_all clean_content t.contents
+      && (list_all clean_receipt t.receipts && (list_all clean_remembered t.remembered && list_all clean_mail t.mail)))))
+      (later_fails (list_all clean_advice t.advices) (list_all clean_pallet t.pallets
+      && (list_all clean_content t.contents && (list_all clean_receipt t.receipts
+      && (list_all clean_remembered t.remembered && list_all clean_mail t.mail))))
+      (first_fails (list_all clean_pallet t.pallets) (list_all clean_content t.contents
+      && (list_all clean_receipt t.receipts && (list_all clean_remembered t.remembered && list_all clean_mail t.mail))) h)))
 
   pub contents_unclean : list_all clean_content t.contents ≡ false → are_clean t ≡ false
   contents_unclean h =
-      later_fails (list_all clean_order t.orders) (list_all clean_line t.lines && (list_all clean_advice t.advices && (list_all clean_pallet t.pallets && (list_all clean_content t.contents && (list_all clean_receipt t.receipts && (list_all clean_remembered t.remembered && list_all clean_mail t.mail)))))) (later_fails (list_all clean_line t.lines) (list_all clean_advice t.advices && (list_all clean_pallet t.pallets && (list_all clean_content t.contents && (list_all clean_receipt t.receipts && (list_all clean_remembered t.remembered && list_all clean_mail t.mail))))) (later_fails (list_all clean_advice t.advices) (list_all clean_pallet t.pallets && (list_all clean_content t.contents && (list_all clean_receipt t.receipts && (list_all clean_remembered t.remembered && list_all clean_mail t.mail)))) (later_fails (list_all clean_pallet t.pallets) (list_all clean_content t.contents && (list_all clean_receipt t.receipts && (list_all clean_remembered t.remembered && list_all clean_mail t.mail))) (first_fails (list_all clean_content t.contents) (list_all clean_receipt t.receipts && (list_all clean_remembered t.remembered && list_all clean_mail t.mail)) h))))
+      later_fails (list_all clean_order t.orders) (list_all clean_line t.lines
+      && (list_all clean_advice t.advices && (list_all clean_pallet t.pallets
+      && (list_all clean_content t.contents && (list_all clean_receipt t.receipts
+      && (list_all clean_remembered t.remembered && list_all clean_mail t.mail))))))
+      (later_fails (list_all clean_line t.lines) (list_all clean_advice t.advices
+      && (list_all clean_pallet t.pallets && (list_all clean_content t.contents
+      && (list_all clean_receipt t.receipts && (list_all clean_remembered t.remembered && list_all clean_mail t.mail)))))
+      (later_fails (list_all clean_advice t.advices) (list_all clean_pallet t.pallets
+      && (list_all clean_content t.contents && (list_all clean_receipt t.receipts
+      && (list_all clean_remembered t.remembered && list_all clean_mail t.mail))))
+      (later_fails (list_all clean_pallet t.pallets) (list_all clean_content t.contents
+      && (list_all clean_receipt t.receipts && (list_all clean_remembered t.remembered && list_all clean_mail t.mail)))
+      (first_fails (list_all clean_content t.contents) (list_all clean_receipt t.receipts
+      && (list_all clean_remembered t.remembered && list_all clean_mail t.mail)) h))))
 
   pub receipts_unclean : list_all clean_receipt t.receipts ≡ false → are_clean t ≡ false
   receipts_unclean h =
-      later_fails (list_all clean_order t.orders) (list_all clean_line t.lines && (list_all clean_advice t.advices && (list_all clean_pallet t.pallets && (list_all clean_content t.contents && (list_all clean_receipt t.receipts && (list_all clean_remembered t.remembered && list_all clean_mail t.mail)))))) (later_fails (list_all clean_line t.lines) (list_all clean_advice t.advices && (list_all clean_pallet t.pallets && (list_all clean_content t.contents && (list_all clean_receipt t.receipts && (list_all clean_remembered t.remembered && list_all clean_mail t.mail))))) (later_fails (list_all clean_advice t.advices) (list_all clean_pallet t.pallets && (list_all clean_content t.contents && (list_all clean_receipt t.receipts && (list_all clean_remembered t.remembered && list_all clean_mail t.mail)))) (later_fails (list_all clean_pallet t.pallets) (list_all clean_content t.contents && (list_all clean_receipt t.receipts && (list_all clean_remembered t.remembered && list_all clean_mail t.mail))) (later_fails (list_all clean_content t.contents) (list_all clean_receipt t.receipts && (list_all clean_remembered t.remembered && list_all clean_mail t.mail)) (first_fails (list_all clean_receipt t.receipts) (list_all clean_remembered t.remembered && list_all clean_mail t.mail) h)))))
+      later_fails (list_all clean_order t.orders) (list_all clean_line t.lines
+      && (list_all clean_advice t.advices && (list_all clean_pallet t.pallets
+      && (list_all clean_content t.contents && (list_all clean_receipt t.receipts
+      && (list_all clean_remembered t.remembered && list_all clean_mail t.mail))))))
+      (later_fails (list_all clean_line t.lines) (list_all clean_advice t.advices
+      && (list_all clean_pallet t.pallets && (list_all clean_content t.contents
+      && (list_all clean_receipt t.receipts && (list_all clean_remembered t.remembered && list_all clean_mail t.mail)))))
+      (later_fails (list_all clean_advice t.advices) (list_all clean_pallet t.pallets
+      && (list_all clean_content t.contents && (list_all clean_receipt t.receipts
+      && (list_all clean_remembered t.remembered && list_all clean_mail t.mail))))
+      (later_fails (list_all clean_pallet t.pallets) (list_all clean_content t.contents
+      && (list_all clean_receipt t.receipts && (list_all clean_remembered t.remembered && list_all clean_mail t.mail)))
+      (later_fails (list_all clean_content t.contents) (list_all clean_receipt t.receipts
+      && (list_all clean_remembered t.remembered && list_all clean_mail t.mail))
+      (first_fails (list_all clean_receipt t.receipts) (list_all clean_remembered t.remembered && list_all clean_mail t.mail) h)))))
 
   pub remembered_unclean : list_all clean_remembered t.remembered ≡ false → are_clean t ≡ false
   remembered_unclean h =
-      later_fails (list_all clean_order t.orders) (list_all clean_line t.lines && (list_all clean_advice t.advices && (list_all clean_pallet t.pallets && (list_all clean_content t.contents && (list_all clean_receipt t.receipts && (list_all clean_remembered t.remembered && list_all clean_mail t.mail)))))) (later_fails (list_all clean_line t.lines) (list_all clean_advice t.advices && (list_all clean_pallet t.pallets && (list_all clean_content t.contents && (list_all clean_receipt t.receipts && (list_all clean_remembered t.remembered && list_all clean_mail t.mail))))) (later_fails (list_all clean_advice t.advices) (list_all clean_pallet t.pallets && (list_all clean_content t.contents && (list_all clean_receipt t.receipts && (list_all clean_remembered t.remembered && list_all clean_mail t.mail)))) (later_fails (list_all clean_pallet t.pallets) (list_all clean_content t.contents && (list_all clean_receipt t.receipts && (list_all clean_remembered t.remembered && list_all clean_mail t.mail))) (later_fails (list_all clean_content t.contents) (list_all clean_receipt t.receipts && (list_all clean_remembered t.remembered && list_all clean_mail t.mail)) (later_fails (list_all clean_receipt t.receipts) (list_all clean_remembered t.remembered && list_all clean_mail t.mail) (first_fails (list_all clean_remembered t.remembered) (list_all clean_mail t.mail) h))))))
+      later_fails (list_all clean_order t.orders) (list_all clean_line t.lines
+      && (list_all clean_advice t.advices && (list_all clean_pallet t.pallets
+      && (list_all clean_content t.contents && (list_all clean_receipt t.receipts
+      && (list_all clean_remembered t.remembered && list_all clean_mail t.mail))))))
+      (later_fails (list_all clean_line t.lines) (list_all clean_advice t.advices
+      && (list_all clean_pallet t.pallets && (list_all clean_content t.contents
+      && (list_all clean_receipt t.receipts && (list_all clean_remembered t.remembered && list_all clean_mail t.mail)))))
+      (later_fails (list_all clean_advice t.advices) (list_all clean_pallet t.pallets
+      && (list_all clean_content t.contents && (list_all clean_receipt t.receipts
+      && (list_all clean_remembered t.remembered && list_all clean_mail t.mail))))
+      (later_fails (list_all clean_pallet t.pallets) (list_all clean_content t.contents
+      && (list_all clean_receipt t.receipts && (list_all clean_remembered t.remembered && list_all clean_mail t.mail)))
+      (later_fails (list_all clean_content t.contents) (list_all clean_receipt t.receipts
+      && (list_all clean_remembered t.remembered && list_all clean_mail t.mail))
+      (later_fails (list_all clean_receipt t.receipts) (list_all clean_remembered t.remembered && list_all clean_mail t.mail)
+      (first_fails (list_all clean_remembered t.remembered) (list_all clean_mail t.mail) h))))))
 
   pub mail_unclean : list_all clean_mail t.mail ≡ false → are_clean t ≡ false
   mail_unclean h =
-      later_fails (list_all clean_order t.orders) (list_all clean_line t.lines && (list_all clean_advice t.advices && (list_all clean_pallet t.pallets && (list_all clean_content t.contents && (list_all clean_receipt t.receipts && (list_all clean_remembered t.remembered && list_all clean_mail t.mail)))))) (later_fails (list_all clean_line t.lines) (list_all clean_advice t.advices && (list_all clean_pallet t.pallets && (list_all clean_content t.contents && (list_all clean_receipt t.receipts && (list_all clean_remembered t.remembered && list_all clean_mail t.mail))))) (later_fails (list_all clean_advice t.advices) (list_all clean_pallet t.pallets && (list_all clean_content t.contents && (list_all clean_receipt t.receipts && (list_all clean_remembered t.remembered && list_all clean_mail t.mail)))) (later_fails (list_all clean_pallet t.pallets) (list_all clean_content t.contents && (list_all clean_receipt t.receipts && (list_all clean_remembered t.remembered && list_all clean_mail t.mail))) (later_fails (list_all clean_content t.contents) (list_all clean_receipt t.receipts && (list_all clean_remembered t.remembered && list_all clean_mail t.mail)) (later_fails (list_all clean_receipt t.receipts) (list_all clean_remembered t.remembered && list_all clean_mail t.mail) (later_fails (list_all clean_remembered t.remembered) (list_all clean_mail t.mail) (h)))))))
+      later_fails (list_all clean_order t.orders) (list_all clean_line t.lines
+      && (list_all clean_advice t.advices && (list_all clean_pallet t.pallets
+      && (list_all clean_content t.contents && (list_all clean_receipt t.receipts
+      && (list_all clean_remembered t.remembered && list_all clean_mail t.mail))))))
+      (later_fails (list_all clean_line t.lines) (list_all clean_advice t.advices
+      && (list_all clean_pallet t.pallets && (list_all clean_content t.contents
+      && (list_all clean_receipt t.receipts && (list_all clean_remembered t.remembered && list_all clean_mail t.mail)))))
+      (later_fails (list_all clean_advice t.advices) (list_all clean_pallet t.pallets
+      && (list_all clean_content t.contents && (list_all clean_receipt t.receipts
+      && (list_all clean_remembered t.remembered && list_all clean_mail t.mail))))
+      (later_fails (list_all clean_pallet t.pallets) (list_all clean_content t.contents
+      && (list_all clean_receipt t.receipts && (list_all clean_remembered t.remembered && list_all clean_mail t.mail)))
+      (later_fails (list_all clean_content t.contents) (list_all clean_receipt t.receipts
+      && (list_all clean_remembered t.remembered && list_all clean_mail t.mail))
+      (later_fails (list_all clean_receipt t.receipts) (list_all clean_remembered t.remembered && list_all clean_mail t.mail)
+      (later_fails (list_all clean_remembered t.remembered) (list_all clean_mail t.mail) (h)))))))

@@ -1,4 +1,5 @@
--- What a cell says. A cell that no row of the code has says something past every limit, and two cells never say the same.
+-- What a cell says. A cell that no row of the code has says something past every limit, and two cells never say the
+-- same.
 use Rattle.std.specs.Prelude.{ℕ, ◌+◌, ◌*◌, ◌^◌, nat_lt, if◌then◌else◌, ℤ, pos, negsuc, List, [], ◌∷◌}
 use Rattle.sqlite_value.specs.declared.value.Value.{Value}
 use Rattle.sqlite_value.specs.declared.value.Value.TheVariants.{Null, Int, Real, Text, Blob}

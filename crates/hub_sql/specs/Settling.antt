@@ -8,8 +8,8 @@ use Rattle.hub_store.specs.declared.fault.StoreFault.{StoreFault}
 use Rattle.hub_store.specs.declared.fault.StoreFault.TheVariants.{Unclean, Version}
 
 -- a value is handed on; a fault is for good, but for want of memory where the schema is the hub's
-pub record Settles {X : Type 0} (found : Result X StoreFault) (schema : Schema) (result : Result X StoreFault) (fault : Option LastingFault)
-    : Type 0 where
+pub record Settles {X : Type 0} (found : Result X StoreFault) (schema : Schema) (result : Result X StoreFault)
+    (fault : Option LastingFault) : Type 0 where
   pub value : IfOk result (λ x. found ≡ Ok x)
   pub failed : IfErr result (λ _. IfErr found (λ _. Unit {0}))
   pub unclean : result ≡ Err Unclean → found ≡ Err Unclean

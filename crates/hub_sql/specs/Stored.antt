@@ -23,7 +23,8 @@ pub record Stored (S : Type 0) : Type 0 where
 abbrev pub stored_code : {S : Type 0} → Coded S → Coded (Stored S)
 stored_code {S} code =
     code_by (Held S × (Option LastingFault × List (Held S × Bool)))
-    (coded× (held_code code) (coded× (coded_option lasting.the_row.coded) (coded_list (coded× (held_code code) coded_bool))))
+    (coded× (held_code code)
+    (coded× (coded_option lasting.the_row.coded) (coded_list (coded× (held_code code) coded_bool))))
     (λ s. (s.held, (s.fault, s.past))) (λ p. record { held = p.0; fault = p.1.0; past = p.1.1 }) (λ _. refl)
 
 module _ {S : Type 0} (g : Ghosts S) where
@@ -43,7 +44,8 @@ module _ {S : Type 0} (g : Ghosts S) where
   abbrev pub left : Stored S → Tables → Type 0
   left s t = (t ≡ content s) ⊎ ((trees : Trees) × (state g s.held).may_leave trees × (t ≡ tables_in trees))
 
-  -- what is true of each store: while no fault is for good, its schema is the hub's, and where it is open, its rows are the content
+  -- what is true of each store: while no fault is for good, its schema is the hub's, and where it is open, its rows
+  -- are the content
   pub record IsSettled (s : Stored S) : Type 0 where
     pub idle : s.held.in_transaction ≡ false
     pub schema : s.fault ≡ None → HasCleanDisk (state g s.held) → s.held.schema ≡ hub_schema

@@ -9,4 +9,5 @@ returns-in-Some-clause-right c =
 
 pub returns-clause-unclean : goal.returns-clause-unclean
 returns-clause-unclean c _ =
-    subst (λ d. is_key 18 d ≡ false) (c.as_slice.ensures ∙ c.in_ok-digits.ensures.ok) (failed (is_key 18 c.as_slice.result.now) _ c.in-None.ensures.value)
+    subst (λ d. is_key 18 d ≡ false) (c.as_slice.ensures ∙ c.in_ok-digits.ensures.ok)
+    (failed (is_key 18 c.as_slice.result.now) _ c.in-None.ensures.value)

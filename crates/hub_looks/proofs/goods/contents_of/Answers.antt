@@ -10,4 +10,5 @@ returns-then-not-held-clause-looks g c =
 pub returns-clause-looks : goal.returns-clause-looks
 returns-clause-looks g c =
     contents_seen (state g.S.Store c.args.conn.now) (state g.S.Store c.is_held.new.conn) (state g.S.Store c.contents_on.new.conn)
-    c.args.supplier.now c.args.sscc.now c.in_ok-held.held c.if-not-held.false c.in_ok-held.ensures.looks c.contents_on.result c.contents_on.ensures.looks
+    c.args.supplier.now c.args.sscc.now c.in_ok-held.held c.if-not-held.false c.in_ok-held.ensures.looks
+    c.contents_on.result c.contents_on.ensures.looks

@@ -10,4 +10,5 @@ returns-then-not-own-clause-looks g c =
 pub returns-clause-looks : goal.returns-clause-looks
 returns-clause-looks g c =
     receipts_seen (state g.S.Store c.args.conn.now) (state g.S.Store c.is_held.new.conn) (state g.S.Store c.receipts_on.new.conn)
-    c.args.supplier.now c.args.sscc.now c.in_ok-own.own c.if-not-own.false c.in_ok-own.ensures.looks c.receipts_on.result c.receipts_on.ensures.looks
+    c.args.supplier.now c.args.sscc.now c.in_ok-own.own c.if-not-own.false c.in_ok-own.ensures.looks
+    c.receipts_on.result c.receipts_on.ensures.looks

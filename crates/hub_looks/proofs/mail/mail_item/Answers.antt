@@ -8,10 +8,15 @@ use Rattle.hub_looks.proofs.mail.mail_item.Goals as goal
 
 pub returns-then-above-clause-looks : goal.returns-then-above-clause-looks
 returns-then-above-clause-looks g c =
-    past_entry (λ t. entry_at (view c.args.supplier.now t) c.args.number) (state g.S.Store c.args.conn.now) (state g.S.Store c.has_above.new.conn)
+    past_entry (λ t. entry_at (view c.args.supplier.now t) c.args.number) (state g.S.Store c.args.conn.now)
+    (state g.S.Store c.has_above.new.conn)
     c.args.supplier.now c.in_ok-above.above c.if-above.true c.in_ok-above.ensures.looks
 
 pub returns-clause-looks : goal.returns-clause-looks
 returns-clause-looks g c =
     no_entry (state g.S.Store c.args.conn.now) (state g.S.Store c.has_above.new.conn) c.args.supplier.now c.args.number
-    c.in_ok-above.above c.if-above.false (grind (arith, nat_tests, c.if-number-le-LAST_MAIL_NUMBER.false)) c.ranges.number.fits c.in_ok-above.ensures.looks
+    c.in_ok-above.above c.if-above.false (grind (
+      arith,
+      nat_tests,
+      c.if-number-le-LAST_MAIL_NUMBER.false,
+    )) c.ranges.number.fits c.in_ok-above.ensures.looks

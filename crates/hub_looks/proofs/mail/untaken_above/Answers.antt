@@ -15,4 +15,5 @@ returns-then-above-clause-looks g c =
 pub returns-clause-looks : goal.returns-clause-looks
 returns-clause-looks g c =
     none_above (state g.S.Store c.args.conn.now) (state g.S.Store c.has_above.new.conn) c.args.supplier.now c.args.number c.args.limit
-    c.in_ok-above.above c.new.result c.if-above.false (grind (arith, nat_tests, c.if-number-le-LAST_MAIL_NUMBER.false)) c.new.ensures c.in_ok-above.ensures.looks
+    c.in_ok-above.above c.new.result c.if-above.false (grind
+    (arith, nat_tests, c.if-number-le-LAST_MAIL_NUMBER.false)) c.new.ensures c.in_ok-above.ensures.looks

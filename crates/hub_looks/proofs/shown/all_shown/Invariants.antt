@@ -8,5 +8,6 @@ invariant-rows g l =
     record {
       told : map shown l.rows ≡ l.items ++ map shown (drop l.row-index l.rows);
       clean : list_all g.T.Shown.clean l.items ≡ true;
-      spoiled : list_all g.T.Shown.clean (map shown (drop l.row-index l.rows)) ≡ false → list_all g.T.Shown.clean (map shown l.rows) ≡ false;
+      spoiled : list_all g.T.Shown.clean (map shown (drop l.row-index l.rows)) ≡ false
+          → list_all g.T.Shown.clean (map shown l.rows) ≡ false;
     }
