@@ -3,7 +3,7 @@ ghost use Rattle.std.specs.Prelude.{◌≡◌, ◌≢◌, [], true, None, Some, 
 ghost use Rattle.std.specs.Option.{IfSome};
 ghost use Rattle.hub_tables.specs.Change.{apply_all};
 ghost use Rattle.hub_tables.specs.Tables.{Tables};
-ghost use Rattle.hub_store.specs.Calls.{Fit, broken_after, fault_of};
+ghost use Rattle.hub_store.specs.Calls.{Fit, have_places, broken_after, fault_of};
 ghost use Rattle.hub_store.specs.Clean.{are_clean};
 ghost use Rattle.hub_store.specs.declared.fault.LastingFault.TheVariants as lasting;
 ghost use Rattle.hub_store.specs.declared.fault.StoreFault.TheVariants.{Memory, Disk, Unclean, Version};
@@ -82,6 +82,7 @@ fn ask_clean_trial(
 fn commit_clean<S: Store>(store: &mut S, changes: &[Change]) -> Result<(), StoreFault>
     requires { changes.now ≢ [] }
     ensures clean { S.honest store.new → S.broken store.old ≡ None → Fit changes.now (S.content store.old) →
+        have_places changes.now (S.content store.old) ≡ true →
         are_clean (S.content store.old) ≡ true → are_clean (apply_all changes.now (S.content store.old)) ≡ true →
         result ≢ Err Unclean }
     ensures durable { S.honest store.new → Fit changes.now (S.content store.old) →
@@ -93,8 +94,8 @@ fn commit_clean<S: Store>(store: &mut S, changes: &[Change]) -> Result<(), Store
 // The same in lists, where a crash leaves the content.
 fn commit_listed(store: &mut VecStore, changes: &[Change]) -> Result<(), StoreFault>
     requires { changes.now ≢ [] }
-    ensures clean { Fit changes.now store.old → are_clean store.old ≡ true →
-        are_clean (apply_all changes.now store.old) ≡ true → result ≢ Err Unclean }
+    ensures clean { Fit changes.now store.old → have_places changes.now store.old ≡ true →
+        are_clean store.old ≡ true → are_clean (apply_all changes.now store.old) ≡ true → result ≢ Err Unclean }
     ensures durable { Fit changes.now store.old → OnOk result (store.new ≡ apply_all changes.now store.old) }
 {
     commit_clean(store, changes)
