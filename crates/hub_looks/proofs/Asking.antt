@@ -7,7 +7,7 @@ use Rattle.sqlite.specs.Clock.{timed}
 use Rattle.sqlite.specs.State.{State, HasCleanDisk, Shown, ShowsRows, FailsToQuery, FailsToShow, IsNotRun, IsUnchanged}
 use Rattle.sqlite.specs.State.{IsRolledBack, Survives, CommitsShowing}
 use Rattle.hub_store.specs.declared.fault.StoreFault.{StoreFault}
-use Rattle.hub_store.specs.declared.fault.StoreFault.TheVariants.{Unclean}
+use Rattle.hub_store.specs.declared.fault.StoreFault.TheVariants.{Unclean, Memory, Disk}
 use Rattle.hub_looks.specs.Asks.{OnlyReads, Asks}
 
 pub shown_same : (sql : List ℕ) (params : Row) (old new : State) (rows : List Row) → OnlyReads sql → Shown sql params old new rows
@@ -36,6 +36,7 @@ module _ (text : List ℕ) (params : Row) (old new : State) (mode : old.in_trans
   asked_ok rows shown = record {
     reads = λ clean. (rows.items, shown clean, refl);
     spoils = λ clean e. absurd cc;
+    kept = λ clean plain. (shown_same text params old new rows.items plain (shown clean)).0.committed_is;
     same = λ clean plain. let it = (shown_same text params old new rows.items plain (shown clean)).0 in
         (it.was_open, it.is_open, it.now_is);
     stays = λ clean idle plain up. let it = (shown_same text params old new rows.items plain (shown clean)).0 in (it.was_open, it.now_is);
@@ -43,13 +44,14 @@ module _ (text : List ℕ) (params : Row) (old new : State) (mode : old.in_trans
     survives = survives;
   }
 
-  pub asked_err : (e : Error) (fault : StoreFault) → fault ≢ Unclean → (HasCleanDisk new → FailsToQuery text params old new e)
+  pub asked_err : (e : Error) (fault : StoreFault) → (fault ≡ Memory) ⊎ (fault ≡ Disk) → (HasCleanDisk new → FailsToQuery text params old new e)
       → (old.in_transaction ≡ false → IsTrue old.is_open → old.now ≡ old.committed)
       → Asks {X = Vec Row Global} Rows (λ _. ⊥) text params old new (Err fault)
   asked_err e fault other fails settled = record {
     reads = λ clean. tt;
-    spoils = λ clean e. absurd (other cc);
+    spoils = λ clean e. absurd (elim other [ inl memory ↦ cc | inr disk ↦ cc ]);
     same = λ clean plain. tt;
+    kept = λ clean plain. tt;
     stays = λ clean idle plain up. elim (failed_same text params old new e plain (fails clean)) [
       | inl it ↦ (it.0.was_open, it.0.now_is)
       | inr back ↦ (back.was_open up, (back.undone up).0 ∙ sym (settled idle (back.was_open up)))
@@ -66,6 +68,7 @@ reads_more More (Ok x) more asks = record {
   reads = λ clean. let h = asks.reads clean in (h.0, h.1, (h.2, more));
   spoils = asks.spoils;
   same = asks.same;
+  kept = asks.kept;
   stays = asks.stays;
   mode = asks.mode;
   survives = asks.survives;
@@ -74,6 +77,7 @@ reads_more More (Err fault) more asks = record {
   reads = λ clean. tt;
   spoils = asks.spoils;
   same = asks.same;
+  kept = asks.kept;
   stays = asks.stays;
   mode = asks.mode;
   survives = asks.survives;

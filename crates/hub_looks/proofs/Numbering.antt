@@ -1,6 +1,6 @@
 -- The number of the schema, from the answer.
 use Rattle.std.proofs.Common.{Vec, ◌≡◌, ◌↔◌, ℕ, pos, Bool, IsTrue, List, [], ◌∷◌, map, filter, codes}
-use Rattle.std.proofs.Common.{Ok, refl, sym, ap, subst, ◌∙◌}
+use Rattle.std.proofs.Common.{◌⊎◌, Ok, Err, refl, sym, ap, subst, ◌∙◌}
 use Rattle.std.specs.List.Sorted.{IsPermutation}
 use Rattle.std.specs.declared.alloc.Global.{Global}
 use Rattle.std.proofs.lemmas.List.Sorted.{IsPermutation-map, IsPermutation-sym}
@@ -11,8 +11,10 @@ use Rattle.sqlite_tied.specs.Compute.{everything}
 use Rattle.sqlite.specs.Listing.{understood}
 use Rattle.sqlite.specs.State.{State, Shown}
 use Rattle.sqlite.proofs.Callers.{reads_as, one_permutation}
-use Rattle.sql_rows.proofs.Transactions.{clean_before}
+use Rattle.sql_rows.proofs.Answers.{shows_no_commit}
 use Rattle.hub_schema.specs.Schema.{hub_schema}
+use Rattle.hub_store.specs.declared.fault.StoreFault.{StoreFault}
+use Rattle.hub_store.specs.declared.fault.StoreFault.TheVariants.{Memory, Disk}
 use Rattle.hub_schema.specs.State.{IsNumbered}
 use Rattle.hub_looks.specs.Asks.{Asks}
 use Rattle.hub_looks.specs.Numbered.{TellsNumber}
@@ -77,7 +79,20 @@ pub tells : (old new : State) (rows : Vec Row Global) (is : Bool)
 tells old new rows is asks one = record {
   number = λ clean has. let h = asks.reads clean in
       (λ yes. number_read old new h.0 has h.1 (sym h.2 ∙ one.0 yes), λ numbered. one.1 (h.2 ∙ number_shown old new h.0 has h.1 numbered));
-  same = λ clean. asks.same clean (only_reads number_text number_selects.first);
+  same = λ clean. let it = asks.same clean (only_reads number_text number_selects.first) in
+      (it.0, it.1, it.2, asks.kept clean (only_reads number_text number_selects.first));
+  fault = tt;
   mode = asks.mode;
-  clean = λ clean. clean_before old new _ asks.survives clean;
+  crash = shows_no_commit hub_schema number_text [] old new number_selects.plain asks.survives;
+}
+
+pub tells_none : (old new : State) (fault : StoreFault) → (fault ≡ Memory) ⊎ (fault ≡ Disk)
+    → Asks {X = Vec Row Global} (λ rows answer. answer.items ≡ rows) (λ _. ⊥) number_text [] old new (Err fault)
+    → TellsNumber old new (Err fault)
+tells_none old new fault which asks = record {
+  number = λ clean has. tt;
+  same = λ clean. tt;
+  fault = which;
+  mode = asks.mode;
+  crash = shows_no_commit hub_schema number_text [] old new number_selects.plain asks.survives;
 }

@@ -19,6 +19,7 @@ pub record Asks {X : Type 0} (Reads : List Row → X → Type 0) (Spoil : List R
   pub spoils : HasCleanDisk new → result ≡ Err Unclean → (rows : List Row) × Shown text params old new rows × Spoil rows
   pub same :
       HasCleanDisk new → OnlyReads text → OnOk result (IsTrue old.is_open × IsTrue new.is_open × (new.now ≡ old.now))
+  pub kept : HasCleanDisk new → OnlyReads text → OnOk result (new.committed ≡ old.committed)
   pub stays :
       HasCleanDisk new → old.in_transaction ≡ false → OnlyReads text → IsTrue new.is_open →
       IsTrue old.is_open × (new.now ≡ old.now)

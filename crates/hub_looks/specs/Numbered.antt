@@ -1,14 +1,18 @@
 -- What the number of the schema is.
-use Rattle.std.specs.Prelude.{◌≡◌, ◌↔◌, false, Bool, IsTrue, Result, IfOk, OnOk}
-use Rattle.sqlite.specs.State.{State, HasCleanDisk}
+use Rattle.std.specs.Prelude.{◌≡◌, ◌≢◌, ◌⊎◌, ◌↔◌, false, Bool, IsTrue, Result, IfOk, IfErr, OnOk}
+use Rattle.sqlite.specs.State.{State, HasCleanDisk, Survives}
 use Rattle.hub_store.specs.declared.fault.StoreFault.{StoreFault}
+use Rattle.hub_store.specs.declared.fault.StoreFault.TheVariants.{Memory, Disk}
 use Rattle.hub_schema.specs.Schema.{hub_schema}
 use Rattle.hub_schema.specs.State.{IsNumbered}
 
--- whether it is 1, exactly; nothing changes
+-- whether it is 1, exactly; nothing changes, also after a crash
 pub record TellsNumber (old new : State) (result : Result Bool StoreFault) : Type 0 where
   pub number :
       HasCleanDisk new → old.now.schema ≡ hub_schema → IfOk result (λ is. IsTrue is ↔ IsNumbered old.now.trees)
-  pub same : HasCleanDisk new → OnOk result (IsTrue old.is_open × IsTrue new.is_open × (new.now ≡ old.now))
+  pub same :
+      HasCleanDisk new →
+      OnOk result (IsTrue old.is_open × IsTrue new.is_open × (new.now ≡ old.now) × (new.committed ≡ old.committed))
+  pub fault : IfErr result (λ fault. (fault ≡ Memory) ⊎ (fault ≡ Disk))
   pub mode : old.in_transaction ≡ false → new.in_transaction ≡ false
-  pub clean : HasCleanDisk new → HasCleanDisk old
+  pub crash : Survives old new (λ trees. old.now.schema ≢ hub_schema)

@@ -1,5 +1,5 @@
 //! Asking a connection by a fixed text.
-ghost use Rattle.std.specs.Prelude.{◌≡◌, ◌≢◌, ◌==◌, false, not, length, map, slice_get, IsTrue, IfOk, IfSome};
+ghost use Rattle.std.specs.Prelude.{◌≡◌, ◌⊎◌, ◌==◌, false, not, length, map, slice_get, IsTrue, IfOk, IfErr, IfSome};
 ghost use Rattle.std.specs.List.{list_all};
 ghost use Rattle.sqlite.specs.Held.{state};
 ghost use Rattle.sqlite.specs.Values.{bound};
@@ -14,7 +14,7 @@ use std::alloc::Global;
 
 // Out of memory, or a fault of the disk for all else.
 fn fault_of(error: &Error) -> StoreFault
-    ensures { result ≢ StoreFault.Unclean }
+    ensures { (result ≡ StoreFault.Memory) ⊎ (result ≡ StoreFault.Disk) }
 {
     match error {
         Error::SqliteFailure(ErrorCode::OutOfMemory) => StoreFault::Memory,
@@ -29,6 +29,7 @@ pub(crate) fn ask<S: Alter>(
     params: &[ValueRef<'_>],
 ) -> Result<Vec<Row>, StoreFault>
     ensures asks { Asks (λ rows answer. answer.items ≡ rows) (λ _. ⊥) text.now (bound params.now) (state S.Store conn.old) (state S.Store conn.new) result }
+    ensures fails { IfErr result (λ fault. (fault ≡ StoreFault.Memory) ⊎ (fault ≡ StoreFault.Disk)) }
 {
     let _ = conn.is_autocommit();
     match conn.query_all(text, params) {

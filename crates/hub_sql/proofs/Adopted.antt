@@ -1,13 +1,16 @@
 -- A store that takes over a connection with tables.
-use Rattle.std.proofs.Common.{◌≡◌, inl, inr, true, IsTrue, [], ◌∷◌, None, Result, Ok, Err, IfOk, sym, ap, ◌∙◌}
+use Rattle.std.proofs.Common.{◌≡◌, ◌⊎◌, inl, inr, true, IsTrue, [], ◌∷◌, None, Result, Ok, Err, IfOk, IfErr, sym, ap, ◌∙◌}
 use Rattle.sqlite.specs.Held.{Held, state}
 use Rattle.sqlite.specs.State.{State, HasCleanDisk}
 use Rattle.sqlite_trees.specs.Tree.{Trees}
 use Rattle.sqlite_trees.specs.declared.store.Store.{Ghosts}
 use Rattle.hub_tables.specs.Tables.{Tables}
 use Rattle.hub_schema.specs.Rows.{tables_in}
-use Rattle.hub_schema.specs.Schema.{no_schema, hub_schema}
-use Rattle.hub_sql.specs.Opening.{Adopts}
+use Rattle.hub_schema.specs.Schema.{hub_schema}
+use Rattle.hub_store.specs.declared.fault.StoreFault.{StoreFault}
+use Rattle.hub_store.specs.declared.fault.StoreFault.TheVariants.{Memory, Disk}
+use Rattle.hub_sql.specs.Opening.{Adopts, Refuses, HoldsHub, IsAsBefore}
+use Rattle.hub_sql.specs.declared.adopting.Returned.{Returned}
 use Rattle.hub_sql.specs.Stored.{Stored, content, left, honest}
 
 -- a crash leaves the rows of an idle connection
@@ -18,14 +21,31 @@ pub left_alone : {S : Type 0} (g : Ghosts S) (h : Held S)
 left_alone g h settled idle up t (inl e) = e
 left_alone g h settled idle up t (inr it) = it.2 ∙ ap tables_in (settled it.0 up it.1 ∙ ap (λ d. d.trees) (sym (idle up)))
 
-module _ {S X : Type 0} (g : Ghosts S) (was : State) (has : was.now.schema ≡ hub_schema) where
-  pub all_adopted : (conn : Held S) (r : Result (Stored S) X) → (HasCleanDisk (state g conn) → (state g conn).now.trees ≡ was.committed.trees)
+-- a connection is found as it was, and opened again as its commit left it
+module _ {S X : Type 0} (g : Ghosts S) (was : State) (mid conn : Held S)
+    (hub : HasCleanDisk (state g mid) → HoldsHub was.now × IsAsBefore was (state g mid))
+    (early : HasCleanDisk (state g conn) → HasCleanDisk (state g mid))
+    (trees : HasCleanDisk (state g conn) → (state g conn).now.trees ≡ (state g mid).committed.trees) where
+  pub all_adopted : (r : Result (Stored S) X)
       → IfOk r (λ s. s.fault ≡ None) → IfOk r (λ s. honest g s → content g s ≡ tables_in (state g conn).now.trees)
       → IfOk r (λ s. honest g s → (t : Tables) → left g s t → t ≡ content g s) → IfOk r (λ s. honest g s → HasCleanDisk (state g conn))
       → IfOk r (Adopts g was)
-  all_adopted conn (Err x) rows whole same crash clean = tt
-  all_adopted conn (Ok s) rows whole same crash clean = record {
+  all_adopted (Err x) whole same crash clean = tt
+  all_adopted (Ok s) whole same crash clean = record {
     whole = whole;
-    rows = λ honest. inr (has, same honest ∙ ap tables_in (rows (clean honest)));
+    rows = λ honest. let it = hub (early (clean honest)) in
+        inr (it.0, same honest ∙ ap tables_in (trees (clean honest) ∙ ap (λ d. d.trees) it.1.committed));
     crash = crash;
   }
+
+-- once the tables are known to be a hub's, a fault is one of the disk or of memory
+module _ {S : Type 0} (g : Ghosts S) (was : State) (has : was.now.schema ≡ hub_schema) where
+  pub refused_later : (back : Returned S) (fault : StoreFault) → (fault ≡ Memory) ⊎ (fault ≡ Disk) → Refuses g was back fault
+  refused_later back fault which = record {
+    version = λ is. absurd (elim which [ inl memory ↦ cc | inr disk ↦ cc ]);
+    other = λ none hub. absurd (hub has);
+  }
+
+  pub all_refused : {X : Type 0} (r : Result X (Returned S × StoreFault)) → IfErr r (λ e. e.1 ≡ Disk) → IfErr r (λ e. Refuses g was e.0 e.1)
+  all_refused (Ok x) fails = tt
+  all_refused (Err e) fails = refused_later e.0 e.1 (inr fails)

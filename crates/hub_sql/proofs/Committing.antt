@@ -1,21 +1,16 @@
 -- A commit of a store, from what it is on the connection.
-use Rattle.std.proofs.Common.{◌≡◌, ◌≢◌, ◌⊎◌, inl, inr, Bool, true, false, IsTrue, List, [], ◌∷◌, ◌++◌, Option, None, Some, Result, Ok, Err, IfOk, IfErr, OnOk, OnErr, refl, sym, ap, subst, ◌∙◌}
+use Rattle.std.proofs.Common.{◌≡◌, ◌⊎◌, inl, inr, true, false, IsTrue, List, [], ◌∷◌, ◌++◌, Option, None, Some, Result, Ok, Err, refl, sym, ap, subst, ◌∙◌}
 use Rattle.std.specs.List.{last_or}
-use Rattle.sqlite.specs.Held.{Held, state}
-use Rattle.sqlite.specs.State.{HasCleanDisk}
-use Rattle.sqlite_trees.specs.Tree.{Trees}
+use Rattle.sqlite.specs.Held.{state}
 use Rattle.sqlite_trees.specs.declared.store.Store.{Ghosts}
-use Rattle.sql_rows.proofs.Transactions.{clean_before}
 use Rattle.hub_tables.specs.Change.{apply_all}
 use Rattle.hub_tables.specs.Sets.{Rising}
 use Rattle.hub_tables.specs.Tables.{Tables}
 use Rattle.hub_tables.specs.declared.change.Change.{Change}
-use Rattle.hub_store.specs.Calls.{Commits, Fails, Fit, broken_after}
+use Rattle.hub_store.specs.Calls.{Commits, Fails}
 use Rattle.hub_store.specs.Clean.{are_clean}
 use Rattle.hub_store.specs.declared.fault.StoreFault.{StoreFault}
-use Rattle.hub_store.specs.declared.fault.StoreFault.TheVariants.{Unclean, Version}
 use Rattle.hub_schema.specs.Rows.{tables_in}
-use Rattle.hub_schema.specs.Schema.{hub_schema}
 use Rattle.hub_schema.specs.State.{MayRefuse, Holds, CommitsTo}
 use Rattle.hub_sql.specs.Settling.{Settles}
 use Rattle.hub_sql.specs.Stored.{Stored, rows_in, content, left, IsSettled, honest}

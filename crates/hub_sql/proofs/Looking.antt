@@ -1,9 +1,7 @@
 -- A look-up of a store, from what it is on the connection.
-use Rattle.std.proofs.Common.{◌≡◌, ◌≢◌, ◌⊎◌, inl, inr, Bool, false, IsTrue, Option, None, Some, Result, Ok, Err, IfOk, IfErr, OnOk, refl, sym, ap, subst, ◌∙◌}
+use Rattle.std.proofs.Common.{◌≡◌, ◌≢◌, inl, inr, false, IsTrue, Option, None, Some, Result, Ok, Err, IfOk, IfErr, OnOk, refl, sym, ap, subst, ◌∙◌}
 use Rattle.std.specs.List.{last_or}
-use Rattle.sqlite.specs.Held.{Held, state}
-use Rattle.sqlite.specs.State.{HasCleanDisk}
-use Rattle.sqlite_trees.specs.Tree.{Trees}
+use Rattle.sqlite.specs.Held.{state}
 use Rattle.sqlite_trees.specs.declared.store.Store.{Ghosts}
 use Rattle.sql_rows.proofs.Transactions.{clean_before}
 use Rattle.hub_tables.specs.Tables.{Tables}
@@ -12,7 +10,7 @@ use Rattle.hub_store.specs.Clean.{are_clean}
 use Rattle.hub_store.specs.declared.fault.LastingFault.{LastingFault}
 use Rattle.hub_store.specs.declared.fault.LastingFault.TheVariants as lasting
 use Rattle.hub_store.specs.declared.fault.StoreFault.{StoreFault}
-use Rattle.hub_store.specs.declared.fault.StoreFault.TheVariants.{Unclean, Version}
+use Rattle.hub_store.specs.declared.fault.StoreFault.TheVariants.{Version}
 use Rattle.hub_schema.specs.Rows.{tables_in}
 use Rattle.hub_schema.specs.Schema.{hub_schema}
 use Rattle.hub_schema.specs.State.{Holds, LooksUp}

@@ -1,16 +1,42 @@
--- What a store is that takes over a connection.
-use Rattle.std.specs.Prelude.{◌≡◌, ◌⊎◌, None}
-use Rattle.sqlite.specs.State.{State}
+-- What a store is that takes over a connection, and when none does.
+use Rattle.std.specs.Prelude.{◌≡◌, ◌≢◌, ◌⊎◌, None}
+use Rattle.sqlite.specs.Effect.{Database}
+use Rattle.sqlite.specs.Held.{Held, state}
+use Rattle.sqlite.specs.State.{State, HasCleanDisk}
+use Rattle.sqlite_trees.specs.Tree.{Trees}
 use Rattle.sqlite_trees.specs.declared.store.Store.{Ghosts}
 use Rattle.hub_tables.specs.Tables.{Tables, empty}
+use Rattle.hub_store.specs.declared.fault.StoreFault.{StoreFault}
+use Rattle.hub_store.specs.declared.fault.StoreFault.TheVariants.{Version}
 use Rattle.hub_schema.specs.Rows.{tables_in}
 use Rattle.hub_schema.specs.Schema.{no_schema, hub_schema}
+use Rattle.hub_schema.specs.State.{IsNumbered}
 use Rattle.hub_sql.specs.Stored.{Stored, content, left, honest}
+use Rattle.hub_sql.specs.declared.adopting.Returned.{Returned}
+use Rattle.hub_sql.specs.declared.adopting.Returned.TheVariants.{Connection}
+
+-- the tables are a hub's, and their number is 1
+abbrev pub HoldsHub : Database → Type 0
+HoldsHub db = (db.schema ≡ hub_schema) × IsNumbered db.trees
+
+-- the same database is shown, and no crash leaves what it did not leave before
+pub record IsAsBefore (was now : State) : Type 0 where
+  pub shown : now.now ≡ was.now
+  pub committed : now.committed ≡ was.committed
+  pub crash : (trees : Trees) → now.may_leave trees → was.may_leave trees
 
 -- without rows where the connection had no tables, and else with those that it had; a crash leaves these alone
 pub record Adopts {S : Type 0} (g : Ghosts S) (was : State) (store : Stored S) : Type 0 where
   pub whole : store.fault ≡ None
   pub rows :
       honest g store → ((was.now.schema ≡ no_schema) × (content g store ≡ empty))
-      ⊎ ((was.now.schema ≡ hub_schema) × (content g store ≡ tables_in was.committed.trees))
+      ⊎ (HoldsHub was.now × (content g store ≡ tables_in was.committed.trees))
   pub crash : honest g store → (t : Tables) → left g store t → t ≡ content g store
+
+-- `Version` comes with the connection as it was, and only where it has tables that are not a hub's of that number;
+-- where they are of another schema, no other fault comes
+pub record Refuses {S : Type 0} (g : Ghosts S) (was : State) (back : Returned S) (fault : StoreFault) : Type 0 where
+  pub version :
+      fault ≡ Version → (conn : Held S) × (back ≡ Connection conn)
+      × (HasCleanDisk (state g conn) → (was.now.schema ≢ no_schema) × (¬ HoldsHub was.now) × IsAsBefore was (state g conn))
+  pub other : was.now.schema ≢ no_schema → was.now.schema ≢ hub_schema → fault ≡ Version

@@ -1,5 +1,5 @@
 -- What a store makes of a call on its connection.
-use Rattle.std.specs.Prelude.{◌≡◌, ◌≢◌, Option, None, Some, Result, Ok, Err, IfOk, IfErr}
+use Rattle.std.specs.Prelude.{◌≡◌, ◌≢◌, Option, None, Result, Ok, Err, IfOk, IfErr}
 use Rattle.sqlite.specs.Schema.{Schema}
 use Rattle.hub_schema.specs.Schema.{hub_schema}
 use Rattle.hub_store.specs.Calls.{broken_after}

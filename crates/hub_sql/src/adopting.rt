@@ -1,13 +1,14 @@
 //! Stores over connections that may hold tables.
-ghost use Rattle.std.specs.Prelude.{◌≡◌, ◌⊎◌, false, None, [], ◌∷◌, IfOk, IfErr, IsTrue};
+ghost use Rattle.std.specs.Prelude.{◌≡◌, ◌≢◌, ◌⊎◌, false, None, [], ◌∷◌, IfOk, IfErr, IsTrue};
 ghost use Rattle.std.specs.List.{AllByRecursion};
 ghost use Rattle.sqlite.specs.Held.{state, IsNew};
 ghost use Rattle.sqlite.specs.State.{HasCleanDisk, Opens, IsLive};
 ghost use Rattle.sqlite_trees.specs.declared.store.Shape.TheVariants as shape;
 ghost use Rattle.hub_tables.specs.Tables.{Tables};
 ghost use Rattle.hub_schema.specs.Rows.{tables_in};
-ghost use Rattle.hub_schema.specs.State.{AreOrdered};
-ghost use Rattle.hub_sql.specs.Opening.{Adopts};
+ghost use Rattle.hub_schema.specs.Schema.{hub_schema};
+ghost use Rattle.hub_schema.specs.State.{AreOrdered, IsNumbered};
+ghost use Rattle.hub_sql.specs.Opening.{Adopts, Refuses, HoldsHub, IsAsBefore};
 ghost use Rattle.hub_sql.specs.Stored.{content, left, honest};
 
 use crate::opening::{fault_of, found};
@@ -50,6 +51,8 @@ fn reopened<S: Alter + Drop>(
     ensures rows { IfOk result (λ c. HasCleanDisk (state S.Store c) → (state S.Store c).now.trees ≡ (state S.Store conn).committed.trees) }
     ensures opened { IfOk result (λ c. HasCleanDisk (state S.Store c) → Opens (state S.Store c) × IsLive (state S.Store c)) }
     ensures fresh { IfOk result IsNew }
+    ensures clean { IfOk result (λ c. HasCleanDisk (state S.Store c) → HasCleanDisk (state S.Store conn)) }
+    ensures fails { IfErr result (λ e. (e.0 ≡ StoreFault.Memory) ⊎ (e.0 ≡ StoreFault.Disk)) }
 {
     let store = conn.into_store();
     if store.is_broken() {
@@ -67,35 +70,58 @@ fn reopened<S: Alter + Drop>(
 /// A connection that is given back with a fault; or what was below it, where the fault came while it was opened anew.
 #[derive(Drop)]
 pub enum Returned<S: Alter> {
-    /// The connection, as it was.
+    /// The connection. With `Version` it is as it was.
     Connection(Connection<S>),
     /// What was below it. `Connection::over` opens it again.
     Store(S),
 }
 
-// The store of a connection whose row numbers rise, where it has the hub's tables and their number.
-fn numbered<S: Alter + Drop>(
-    alloc: Global,
+// The connection, where its tables are the hub's and their number is 1.
+fn of_this_version<S: Alter + Drop>(
     mut conn: Connection<S>,
-) -> Result<SqliteStore<S>, (Returned<S>, StoreFault)>
+) -> Result<Connection<S>, (Connection<S>, StoreFault)>
     requires idle { conn.in_transaction ≡ false }
-    requires ordered { HasCleanDisk (state S.Store conn) → AreOrdered (state S.Store conn).now.trees }
-    ensures whole { IfOk result (λ store. store.fault ≡ None) }
-    ensures rows { IfOk result (λ store. honest S.Store store → content S.Store store ≡ tables_in (state S.Store conn).now.trees) }
-    ensures crash { IfOk result (λ store. honest S.Store store → (t : Tables) → left S.Store store t → t ≡ content S.Store store) }
-    ensures clean { IfOk result (λ store. honest S.Store store → HasCleanDisk (state S.Store conn)) }
+    ensures idle { IfOk result (λ c. c.in_transaction ≡ false) }
+    ensures schema { IfOk result (λ _. conn.schema ≡ hub_schema) }
+    ensures hub { IfOk result (λ c. HasCleanDisk (state S.Store c) → HoldsHub (state S.Store conn).now × IsAsBefore (state S.Store conn) (state S.Store c)) }
+    ensures number { IfOk result (λ c. HasCleanDisk (state S.Store c) → IsNumbered (state S.Store c).committed.trees) }
+    ensures clean { IfOk result (λ c. HasCleanDisk (state S.Store c) → HasCleanDisk (state S.Store conn)) }
+    ensures refuses { IfErr result (λ e. e.1 ≡ StoreFault.Version → HasCleanDisk (state S.Store e.0) → ¬ HoldsHub (state S.Store conn).now × IsAsBefore (state S.Store conn) (state S.Store e.0)) }
+    ensures other { IfErr result (λ e. conn.schema ≢ hub_schema → e.1 ≡ StoreFault.Version) }
 {
     if !is_hub_schema(conn.schema()) {
-        return Err((Returned::Connection(conn), StoreFault::Version));
+        return Err((conn, StoreFault::Version));
     }
     match is_numbered(&mut conn) {
         Ok(true) => {
             let _idle = conn.is_autocommit();
-            Ok(SqliteStore::settled(alloc, conn))
+            Ok(conn)
         }
-        Ok(false) => Err((Returned::Connection(conn), StoreFault::Version)),
-        Err(fault) => Err((Returned::Connection(conn), fault)),
+        Ok(false) => Err((conn, StoreFault::Version)),
+        Err(fault) => Err((conn, fault)),
     }
+}
+
+// The store of a connection that was opened again, where it still lists the hub's tables.
+fn numbered<S: Alter + Drop>(
+    alloc: Global,
+    conn: Connection<S>,
+) -> Result<SqliteStore<S>, (Returned<S>, StoreFault)>
+    requires idle { conn.in_transaction ≡ false }
+    requires ordered { HasCleanDisk (state S.Store conn) → AreOrdered (state S.Store conn).now.trees }
+    requires number { HasCleanDisk (state S.Store conn) → IsNumbered (state S.Store conn).now.trees }
+    requires opened { HasCleanDisk (state S.Store conn) → Opens (state S.Store conn) × IsLive (state S.Store conn) }
+    ensures whole { IfOk result (λ store. store.fault ≡ None) }
+    ensures rows { IfOk result (λ store. honest S.Store store → content S.Store store ≡ tables_in (state S.Store conn).now.trees) }
+    ensures crash { IfOk result (λ store. honest S.Store store → (t : Tables) → left S.Store store t → t ≡ content S.Store store) }
+    ensures clean { IfOk result (λ store. honest S.Store store → HasCleanDisk (state S.Store conn)) }
+    ensures fails { IfErr result (λ e. e.1 ≡ StoreFault.Disk) }
+{
+    if !is_hub_schema(conn.schema()) {
+        return Err((Returned::Connection(conn), StoreFault::Disk));
+    }
+    let _idle = conn.is_autocommit();
+    Ok(SqliteStore::settled(alloc, conn))
 }
 
 /// The store of a connection, as `adopt` has it; with a fault the connection goes.
@@ -115,8 +141,8 @@ pub(crate) fn adopted<S: Alter + Drop>(
 
 impl<S: Alter + Drop> SqliteStore<S> {
     /// Takes over a connection in which no transaction is open and no statement is limited. A database without tables
-    /// gets those of schema 1. `Version` where it has other tables, or another number of the schema; then nothing of it
-    /// has changed.
+    /// gets those of schema 1. `Version` where it has other tables, or another number of the schema, and only there;
+    /// the connection that comes back with it is as it was.
     pub fn adopt(
         alloc: Global,
         conn: Connection<S>,
@@ -124,6 +150,7 @@ impl<S: Alter + Drop> SqliteStore<S> {
         requires idle { conn.in_transaction ≡ false }
         requires unlimited { conn.step_limit ≡ None }
         ensures adopts { IfOk result (Adopts S.Store (state S.Store conn)) }
+        ensures refuses { IfErr result (λ e. Refuses S.Store (state S.Store conn) e.0 e.1) }
     {
         if is_no_schema(conn.schema()) {
             return match found(alloc, conn) {
@@ -131,9 +158,10 @@ impl<S: Alter + Drop> SqliteStore<S> {
                 Err((conn, fault)) => Err((Returned::Connection(conn), fault)),
             };
         }
-        if !is_hub_schema(conn.schema()) {
-            return Err((Returned::Connection(conn), StoreFault::Version));
-        }
+        let conn = match of_this_version(conn) {
+            Ok(conn) => conn,
+            Err((conn, fault)) => return Err((Returned::Connection(conn), fault)),
+        };
         match reopened(alloc, conn) {
             Ok(conn) => numbered(alloc, conn),
             Err((fault, store)) => Err((Returned::Store(store), fault)),

@@ -1,5 +1,5 @@
 //! Stores over connections.
-ghost use Rattle.std.specs.Prelude.{◌≡◌, ◌⊎◌, false, None, IfOk};
+ghost use Rattle.std.specs.Prelude.{◌≡◌, ◌⊎◌, false, None, IfOk, IfErr};
 ghost use Rattle.sqlite.specs.Held.{state};
 ghost use Rattle.sqlite.specs.State.{HasCleanDisk};
 ghost use Rattle.sqlite.specs.Steps.{over_memory};
@@ -34,6 +34,7 @@ pub(crate) fn found<S: Alter + Drop>(
     ensures whole { IfOk result (λ store. store.fault ≡ None) }
     ensures rows { IfOk result (λ store. honest S.Store store → content S.Store store ≡ empty) }
     ensures crash { IfOk result (λ store. honest S.Store store → (t : Tables) → left S.Store store t → t ≡ empty) }
+    ensures fails { IfErr result (λ e. (e.1 ≡ StoreFault.Memory) ⊎ (e.1 ≡ StoreFault.Disk)) }
 {
     match make_schema(&mut conn) {
         Ok(()) => Ok(SqliteStore::settled(alloc, conn)),
