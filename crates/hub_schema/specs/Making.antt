@@ -1,5 +1,5 @@
 -- Making the tables, one after another, in a transaction.
-use Rattle.std.specs.Prelude.{◌≡◌, ℕ, false, IsTrue, List, [], fold, Ok, OnOk, Result}
+use Rattle.std.specs.Prelude.{◌≡◌, ℕ, false, IsTrue, List, [], fold, Ok}
 use Rattle.std.specs.List.{AllByRecursion}
 use Rattle.sqlite.specs.Command.TheVariants.{CreateTable}
 use Rattle.sqlite.specs.Compile.{table_defined_by}
