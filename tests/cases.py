@@ -130,6 +130,7 @@ RELAY = [
     Case("the help of relay", ["relay", "--help"], output=lambda it: b"Usage: edihub relay" in it and b"--moment" in it),
     Case("help that cannot be printed", ["--help"], output_to="/dev/full", error=b"file\n", status=3),
     Case("a word that is not UTF-8", ["relay", "--hub", b"\xff"], error=b"error: a word is not UTF-8\n", status=2),
+    Case("the version", ["--version"], output=b"edihub 1.0.0\n"),
     wrong_words("no command", []),
     wrong_words("an unknown command", ["deliver"]),
     wrong_words("no words for relay", ["relay"]),
@@ -241,6 +242,73 @@ CHECK = [
         Case(f"out of memory for a register, {mib} MiB in all", CHECK_WORDS, error=b"memory\n", status=3, memory=mib << 20, files={"register.toml": register(*[("", "", "")] * 15000).encode()})
         for mib in (4, 6, 8)
     ),
+]
+
+def over_a_hub(command, *more, **words):
+    """The words of a command over a hub; an option is left out by None."""
+    named = {"register": "register.toml", "db": "hub.db", "as": RETAILER, "key": "retail-key", **words}
+    options = [word for name, value in named.items() if value is not None for word in (f"--{name}", value)]
+    return [command, *options, *more]
+
+
+def hub_words(command, **more):
+    """Words of a command over a hub that are right, with its own options."""
+    own = {
+        "import": {"folder": "out"},
+        "status": {"of": ALPHA},
+        "mail": {"do": "after", "n": "0"},
+        "cancel": {"supplier": ALPHA, "reference": "C1", "order": "128576", "line": "1", "quantity": "10"},
+    }
+    return over_a_hub(command, **{**own[command], **more})
+
+
+OVER_A_HUB = ("import", "status", "mail", "cancel")
+WANTED = {
+    **{command: ("register", "db", "as", "key") for command in OVER_A_HUB},
+    "import": ("register", "db", "as", "key", "folder"),
+    "mail": ("register", "db", "as", "key", "do", "n"),
+    "cancel": ("register", "db", "as", "key", "supplier", "reference", "order", "line", "quantity"),
+}
+FIFTEEN = "0" * 14 + "1"
+# each option, and the values that are against its limits
+WRONG = {
+    "as": ("12", "5412345000014", "541234500001x", " 5412345000013", ""),
+    "moment": ("4102444800", "99999999999999", FIFTEEN, "+5", "1 ", "now", ""),
+    "of": ("12", "4012345500005", ""),
+    "do": ("send", "After", "after ", ""),
+    "n": (FIFTEEN, "+5", "-", "1.0", "one", ""),
+    "supplier": ("12", "4012345500005", ALPHA + "\n", ""),
+    "reference": ("C" * 15, "C\t1", "C\n1", "caf\u00e9", ""),
+    "order": ("1" * 36, "128\n576", "\u20ac", ""),
+    "line": ("0", "0000000", "1000000", "+1", "1\n", ""),
+    "quantity": ("0", "1000000000", "0000000001", "+1", "1.0", "1\n2", ""),
+}
+HAS = {
+    "import": ("as", "moment"),
+    "status": ("as", "moment", "of"),
+    "mail": ("as", "moment", "do", "n"),
+    "cancel": ("as", "moment", "supplier", "reference", "order", "line", "quantity"),
+}
+HUB_WORDS = [
+    *(wrong_words(f"no words for {command}", [command]) for command in OVER_A_HUB),
+    *(wrong_words(f"{command} without --{name}", hub_words(command, **{name: None})) for command in OVER_A_HUB for name in WANTED[command]),
+    *(
+        wrong_words(f"{command} with --{name} {value!r}", hub_words(command, **{name: value}))
+        for command in OVER_A_HUB
+        for name in HAS[command]
+        for value in WRONG[name]
+    ),
+    *(wrong_words(f"{command} with --key twice", [*hub_words(command), "--key", "retail-key"]) for command in OVER_A_HUB),
+    *(wrong_words(f"{command} with a word too many", [*hub_words(command), "more"]) for command in OVER_A_HUB),
+    wrong_words("a key that begins with -, parted", hub_words("status", key="-x")),
+    wrong_words("the option of another command", hub_words("status", folder="out")),
+    *(
+        Case(f"the help of {command}", [command, "--help"], output=lambda it, command=command: f"Usage: edihub {command}".encode() in it and b"--moment" in it and b"Exit status: 0" in it)
+        for command in OVER_A_HUB
+    ),
+    *(Case(f"the help of the program names {command}", ["--help"], output=lambda it, command=command: command.encode() in it) for command in OVER_A_HUB),
+    Case("the help of status shows both ways to ask", ["status", "--help"], output=lambda it: b"--of 4012345500004" in it and b"--as 4012345500004" in it),
+    Case("the help of mail has its three steps", ["mail", "--help"], output=lambda it: all(b"--do " + what in it for what in (b"after", b"item", b"taken"))),
 ]
 
 REGISTER_CASES = [checked(name, source, f"{verdict} suppliers") if verdict.startswith("ok") else faulty(name, source, verdict) for name, source, verdict in REGISTERS]
@@ -382,4 +450,4 @@ SHOW = [
     wrong_words("an option for show", ["show", "--hub", HUB]),
 ]
 
-CASES = RELAY + CUTS + MEMORY + EXAMPLES + CHECK + REGISTER_CASES + ENVELOPE_CASES + TEXT_CASES + SHOW + orders.CASES + goods.CASES
+CASES = RELAY + CUTS + MEMORY + EXAMPLES + CHECK + HUB_WORDS + REGISTER_CASES + ENVELOPE_CASES + TEXT_CASES + SHOW + orders.CASES + goods.CASES

@@ -1,10 +1,14 @@
 //! The program `edihub`: the EDI hub of one retailer.
 #![tactic(auto)]
 
+mod hub;
+
 use clap::Error;
-use clap::error::ErrorKind;
 use edi_tokens::{OfRead, OfWrite};
-use hub_app::{FAILED, Words, check_run, read_register_text, read_words, relay_run, show_run};
+use hub::over_a_hub;
+use hub_app::{
+    FAILED, Words, WordsFault, check_run, read_register_text, read_words, relay_run, show_run,
+};
 use std::fmt::Display;
 use std::fs::File;
 use std::process::ExitCode;
@@ -21,9 +25,6 @@ fn tell<T: Display + Drop>(rt: &HostRuntime, line: T, status: u8) -> u8 {
 
 // Prints what is wrong with the words, or the help that they ask for.
 fn tell_words(rt: &HostRuntime, error: &Error) -> u8 {
-    if error.kind() == ErrorKind::OutOfMemory {
-        return tell(rt, "memory", FAILED);
-    }
     match error.print(rt) {
         Ok(()) => error.exit_code() as u8,
         Err(_) => tell(rt, "file", FAILED),
@@ -49,7 +50,7 @@ fn check(rt: &HostRuntime, path: &str) -> u8 {
 // Runs the command that the words name.
 fn run(rt: &HostRuntime, words: &[String]) -> u8 {
     match read_words(rt.alloc(), words) {
-        Ok(Words::Check(words)) => check(rt, words.register.as_str()),
+        Ok(Words::Check(words)) => check(rt, words.register),
         Ok(Words::Relay(relay)) => relay_run(
             rt.alloc(),
             &relay,
@@ -63,7 +64,9 @@ fn run(rt: &HostRuntime, words: &[String]) -> u8 {
             &mut OfWrite::new(rt.stdout()),
             &mut OfWrite::new(rt.stderr()),
         ),
-        Err(error) => tell_words(rt, &error),
+        Ok(Words::Hub(words)) => over_a_hub(rt, &words),
+        Err(WordsFault::Told(error)) => tell_words(rt, &error),
+        Err(WordsFault::Memory) => tell(rt, "memory", FAILED),
     }
 }
 

@@ -1,3 +1,7 @@
-pub mod Mails
+pub mod Asked
+pub mod Commands
 pub mod Lines
+pub mod Mails
+pub mod Numbers
+pub mod Simple
 pub mod Texts

@@ -1,5 +1,7 @@
 pub mod Check
 pub mod Exit
+pub mod Options
+pub mod Program
 pub mod Relay
 pub mod Run
 pub mod Show

@@ -1,10 +1,93 @@
--- What words that are read always are.
+-- What the words of the command line say, as `clap` parses them.
+use Rattle.std.specs.Prelude.{◌≡◌, ◌⊎◌, ℕ, true, List, [], ◌∷◌, Option, Some, None, option_and_then, codes}
+use Rattle.clap.specs.Words.{Row, Text, first_of, subcommand_of, takes}
+use Rattle.gs1_ids.specs.Gln.{gln_of}
+use Rattle.hub_app.specs.declared.words.CancelLines.{CancelLines}
+use Rattle.hub_app.specs.declared.words.HubTask.{HubTask}
+use Rattle.hub_app.specs.declared.words.HubTask.TheVariants.{Import, Status, MailAfter, MailItem, MailTaken, Cancel}
+use Rattle.hub_app.specs.declared.words.HubWords.{HubWords}
 use Rattle.hub_app.specs.declared.words.Words.{Words}
-use Rattle.hub_app.specs.declared.words.Words.TheVariants.{Check, Relay, Show}
-use Rattle.hub_app.specs.Relay.{AreRelayWords}
+use Rattle.hub_app.specs.declared.words.Words.TheVariants.{Check, Relay, Show, Hub}
+use Rattle.hub_app.specs.declared.words.WordsFault.{WordsFault}
+use Rattle.hub_app.specs.declared.words.WordsFault.TheVariants.{Memory}
+use Rattle.hub_app.specs.declared.relay.RelayWords.{RelayWords}
+use Rattle.hub_app.specs.Options.{number_of, moment_of, if_given, values_of, in_lines}
+use Rattle.hub_app.specs.Program.{edihub}
+use Rattle.hub_app.specs.Relay.{AreRelayWords, relay_words_of}
+use Rattle.hub_rules.specs.declared.cancel.Cancel.{Cancel as Cancellation}
+use Rattle.hub_texts.specs.Cancel.{cancel_of}
 
--- each option is within its limits
+-- the options of `relay`
+pub record IsRelay (rows : List Row) (words : RelayWords) : Type 0 where
+  pub hub : first_of (codes "hub") rows ≡ Some words.hub
+  pub owner : first_of (codes "owner") rows ≡ Some words.owner
+  pub moment : option_and_then moment_of (first_of (codes "moment") rows) ≡ Some words.moment
+  pub number : option_and_then number_of (first_of (codes "number") rows) ≡ Some words.number
+  pub within : relay_words_of words.hub words.owner words.moment words.number ≡ Some words
+
+-- `mail` asks this of the entry of number n
+pub record IsMail (word : Text) (n : ℕ) (rows : List Row) : Type 0 where
+  pub what : first_of (codes "do") rows ≡ Some word
+  pub number : option_and_then number_of (first_of (codes "n") rows) ≡ Some n
+
+-- the options whose values are the five lines of a cancellation
+abbrev pub cancel_options : List Text
+cancel_options =
+    codes "supplier" ∷ codes "reference" ∷ codes "order" ∷ codes "line" ∷ codes "quantity" ∷ []
+
+abbrev pub texts_of : CancelLines → List Text
+texts_of lines = lines.supplier.now ∷ lines.reference.now ∷ lines.order.now ∷ lines.line.now ∷ lines.quantity.now ∷ []
+
+-- the cancellation whose body has these lines
+abbrev pub cancel_in : List Row → Option Cancellation
+cancel_in rows = option_and_then (λ lines. cancel_of (in_lines lines)) (values_of cancel_options rows)
+
+-- what a command over a hub asks
+abbrev pub IsTask : Text → List Row → HubTask → Type 0
+IsTask command rows (Import folder) =
+    (command ≡ codes "import") × (first_of (codes "folder") rows ≡ Some folder.now)
+IsTask command rows (Status supplier) =
+    (command ≡ codes "status") × (if_given gln_of (first_of (codes "of") rows) ≡ Some supplier)
+IsTask command rows (MailAfter number) = (command ≡ codes "mail") × IsMail (codes "after") number rows
+IsTask command rows (MailItem number) = (command ≡ codes "mail") × IsMail (codes "item") number rows
+IsTask command rows (MailTaken number) = (command ≡ codes "mail") × IsMail (codes "taken") number rows
+IsTask command rows (Cancel cancellation) = (command ≡ codes "cancel") × (cancel_in rows ≡ Some cancellation)
+
+-- the options of every command over a hub
+pub record IsHub (rows : List Row) (words : HubWords) : Type 0 where
+  pub register : first_of (codes "register") rows ≡ Some words.register.now
+  pub db : first_of (codes "db") rows ≡ Some words.db.now
+  pub caller : option_and_then gln_of (first_of (codes "as") rows) ≡ Some words.caller
+  pub key : first_of (codes "key") rows ≡ Some words.key.now
+  pub moment : if_given moment_of (first_of (codes "moment") rows) ≡ Some words.moment
+
+-- what a command with these options asks for
+abbrev pub Asks : Text → List Row → Words → Type 0
+Asks command rows (Check words) =
+    (command ≡ codes "check") × (first_of (codes "register") rows ≡ Some words.register.now)
+Asks command rows (Relay words) = (command ≡ codes "relay") × IsRelay rows words
+Asks command rows Show = command ≡ codes "show"
+Asks command rows (Hub words) = IsTask command rows words.task × IsHub rows words
+
+-- the same of a command over a hub alone
+abbrev pub IsOverHub : Text → List Row → Words → Type 0
+IsOverHub command rows (Hub words) = IsTask command rows words.task × IsHub rows words
+IsOverHub command rows _ = ⊥
+
+-- the words name this command, with its options
+abbrev pub Names : Option (Text × List Row) → Words → Type 0
+Names None words = ⊥
+Names (Some met) words = Asks met.0 met.1 words
+
+-- what the words of the command line say, the program's name first
+abbrev pub Say : List Text → Words → Type 0
+Say texts words = Names (subcommand_of edihub texts) words
+
+-- Words that `clap` takes are refused where memory runs out, and else only where they say nothing.
+abbrev pub Refuses : List Text → WordsFault → Type 0
+Refuses texts fault = takes edihub texts ≡ true → (fault ≡ Memory) ⊎ ((words : Words) → Say texts words → ⊥)
+
+-- the numbers of `relay` are within their limits
 abbrev pub AreWords : Words → Type 0
-AreWords (Check words) = Unit {0}
 AreWords (Relay words) = AreRelayWords words
-AreWords Show = Unit {0}
+AreWords _ = Unit {0}

@@ -3,6 +3,8 @@
 
 mod check;
 mod exit;
+mod options;
+mod program;
 mod relay;
 mod run;
 mod show;
@@ -13,4 +15,4 @@ pub use exit::FAILED;
 pub use relay::{RelayFault, RelayWords, relay_text};
 pub use run::relay_run;
 pub use show::show_run;
-pub use words::{CheckWords, Words, read_words};
+pub use words::{CheckWords, HubTask, HubWords, Words, WordsFault, read_words};

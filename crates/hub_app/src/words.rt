@@ -1,186 +1,343 @@
 //! The words of the command line.
 
-ghost use Rattle.std.specs.Prelude.{IfOk, IfSome};
+ghost use Rattle.std.specs.Prelude.{◌≡◌, map, option_map, codes, IfOk, IfErr, IfSome};
+ghost use Rattle.clap.specs.Words.{first_of, found_of, rows_of, subcommand_rows_of};
+ghost use Rattle.hub_app.specs.Options as spec;
+ghost use Rattle.hub_app.specs.Options.{Finds, if_given, moment_of, values_of};
 ghost use Rattle.hub_app.specs.Relay.{AreRelayWords};
-ghost use Rattle.hub_app.specs.Words.{AreWords};
+ghost use Rattle.hub_texts.specs.Cancel as body;
+ghost use Rattle.hub_app.specs.Words.{cancel_options, texts_of, AreWords, Asks, IsHub, IsOverHub, Names, Refuses, IsRelay, IsTask, Say};
 
+use crate::options::{gln, in_lines, moment, number, text};
+use crate::program::program;
 use crate::relay::RelayWords;
 use clap::error::ErrorKind;
-use clap::{Arg, ArgAction, ArgMatches, Command, Error};
+use clap::{ArgMatches, Error};
 use edi_envelope::Moment;
+use gs1_ids::Gln;
+use hub_rules::Cancel;
+use hub_texts::read_cancel;
 use std::alloc::{AllocError, Global};
 use std::convert::AsStr;
 
 /// What `check` is asked for.
 #[derive(Debug, Drop)]
-pub struct CheckWords {
+pub struct CheckWords<'a> {
     /// The path of the register's file.
-    pub register: String,
+    pub register: &'a str,
+}
+
+/// What is asked of a hub. Numbers of mailbox entries have at most 14 digits.
+#[derive(Debug, Drop)]
+pub enum HubTask<'a> {
+    /// To upload the interchanges in this folder.
+    Import(&'a str),
+    /// To report the lines and pallets of this supplier; of the caller where there is none.
+    Status(Option<Gln>),
+    /// To list the mailbox entries above this number that are not taken.
+    MailAfter(u64),
+    /// To give the mailbox entry of this number.
+    MailItem(u64),
+    /// To mark the mailbox entry of this number as taken.
+    MailTaken(u64),
+    /// To cancel a quantity of an order line.
+    Cancel(Cancel),
+}
+
+/// What a command over a hub is asked for.
+#[derive(Debug, Drop)]
+pub struct HubWords<'a> {
+    /// The path of the register's file.
+    pub register: &'a str,
+    /// The path of the database's file.
+    pub db: &'a str,
+    /// Who asks.
+    pub caller: Gln,
+    /// The key with which it is asked.
+    pub key: &'a str,
+    /// When it is asked; now where there is none.
+    pub moment: Option<Moment>,
+    /// What is asked.
+    pub task: HubTask<'a>,
 }
 
 /// What the words ask for: a command with its options.
 #[derive(Drop)]
-pub enum Words {
-    Check(CheckWords),
+pub enum Words<'a> {
+    Check(CheckWords<'a>),
     Relay(RelayWords),
     Show,
+    Hub(HubWords<'a>),
 }
 
-// An option that has to be given, with one value.
-fn option<'a>(alloc: Global, name: &'a str, value: &'a str, help: &'a str) -> Arg<'a> {
-    Arg::new(alloc, name)
-        .long(name)
-        .value_name(value)
-        .required(true)
-        .action(ArgAction::Set)
-        .help(help)
+/// Why words are not read.
+#[derive(Debug, Drop)]
+pub enum WordsFault {
+    /// A text to print: help or the version on standard output, with status 0, or a usage error on standard error, with
+    /// status 2.
+    Told(Error),
+    /// Out of memory.
+    Memory,
 }
 
-const RELAY: &str =
-    "Reads an ORDERS interchange on standard input, prints the supplier's mail texts";
+impl From<Error> for WordsFault {
+    ghost use Rattle.hub_app.specs.declared.words.WordsFault.{WordsFault};
+    ghost use Rattle.std.specs.Prelude.{◌≡◌};
+    ghost use Rattle.clap.specs.Words.{kind_of};
+    ghost use Rattle.clap.specs.declared.error.kind.ErrorKind.TheVariants.{OutOfMemory};
 
-const RELAY_LIMITS: &str =
-    "a GLN has 13 digits, --moment is 0 to 4102444799, and --number is 1 to 99999999999001";
+    ghost from_gives = { λ error fault. kind_of error ≡ OutOfMemory → fault ≡ WordsFault.Memory };
 
-const STATUS: &str =
-    "Exit status: 0 done; 1 refused, the code stands on standard error; 2 usage error; 3 a failed read or write, or out of memory";
-
-fn relay_command<'a>(alloc: Global) -> Result<Command<'a>, AllocError> {
-    Command::new(alloc, "relay")
-        .about(RELAY)
-        .after_help(STATUS)
-        .arg(option(alloc, "hub", "GLN", "GLN of the hub, 13 digits"))?
-        .arg(option(alloc, "owner", "GLN", "GLN of the supplier, 13 digits"))?
-        .arg(option(
-            alloc,
-            "moment",
-            "SECONDS",
-            "Moment of the mail, in seconds since 1970 began at UTC, at most 4102444799",
-        ))?
-        .arg(option(
-            alloc,
-            "number",
-            "N",
-            "Number of the first mail text, 1 to 99999999999001",
-        ))
+    fn from(error: Error) -> WordsFault {
+        if error.kind() == ErrorKind::OutOfMemory {
+            WordsFault::Memory
+        } else {
+            WordsFault::Told(error)
+        }
+    }
 }
 
-const CHECK: &str =
-    "Checks a register, and prints ok with the number of suppliers, or the register's first fault";
+impl From<AllocError> for WordsFault {
+    ghost use Rattle.hub_app.specs.declared.words.WordsFault.{WordsFault};
+    ghost use Rattle.std.specs.Prelude.{◌≡◌};
 
-const CHECK_HELP: &str = "The register is a TOML file of at most 1048576 bytes:
+    ghost from_gives = { λ _ fault. fault ≡ WordsFault.Memory };
 
-  hub = \"5412345000006\"
-
-  [retailer]
-  gln = \"5412345000013\"
-  key = \"retail-key\"
-
-  [[supplier]]
-  gln = \"4012345500004\"
-  prefix = \"40123455\"
-  key = \"alpha-key-1\"
-
-Faults, in the order in which they are looked for:
-  text         no TOML, or an entry is missing or no string
-  many         more than 1000 suppliers
-  gln          a GLN is not 13 digits, or its check digit is wrong
-  twice        two GLNs are equal
-  prefix       a prefix is not 4 to 12 digits
-  key          a key is not 8 to 64 visible characters
-  overlap I J  the prefix of supplier I begins that of supplier J, or the other way round
-
-Exit status: 0 a register; 1 a fault; 2 usage error; 3 the file cannot be read, is not UTF-8 or too long, or out of memory";
-
-fn check_command<'a>(alloc: Global) -> Result<Command<'a>, AllocError> {
-    Command::new(alloc, "check")
-        .about(CHECK)
-        .after_help(CHECK_HELP)
-        .arg(option(alloc, "register", "FILE", "The register, a TOML file"))
-}
-
-const SHOW: &str = "Reads an interchange on standard input, and prints in lines what it says";
-
-const SHOW_HELP: &str = "Of an interchange with one order it prints:
-
-  service component : element + decimal . release ? terminator '
-  interchange 1001
-    sender 5412345000013
-    recipient 5412345000006
-    prepared 250603 0915
-    messages 1
-  message 1
-    type ORDERS
-    order 128576
-    buyer 5412345000013
-    supplier 4012345500004
-    line 1 item 04000862141404 ordered 48
-
-A message that is refused has one line behind its type, as 'refused M08 quantity'. Where the whole
-is refused, one line is all, as 'refused E12 count of segments'.
-
-Exit status: 0 nothing is refused; 1 the text, the interchange or a message is refused; 2 usage error; 3 a failed read or write, or out of memory";
-
-fn show_command<'a>(alloc: Global) -> Command<'a> {
-    Command::new(alloc, "show")
-        .about(SHOW)
-        .after_help(SHOW_HELP)
-}
-
-fn program<'a>(alloc: Global) -> Result<Command<'a>, AllocError> {
-    Command::new(alloc, "edihub")
-        .about("The EDI hub of one retailer (GS1 EANCOM 2002, ISO 9735 syntax version 3)")
-        .subcommand_required(true)
-        .subcommand(check_command(alloc)?)?
-        .subcommand(relay_command(alloc)?)?
-        .subcommand(show_command(alloc))
-}
-
-// Whether a text is so many digits.
-fn are_digits(text: &str, least: usize, most: usize) -> bool {
-    let bytes = text.as_bytes();
-    least <= bytes.len() && bytes.len() <= most && bytes.iter().all(|byte| byte.is_ascii_digit())
-}
-
-// A number of 1 to 14 digits.
-fn number(text: &str) -> Option<u64> {
-    if are_digits(text, 1, 14) {
-        text.parse().ok()
-    } else {
-        None
+    fn from(_: AllocError) -> WordsFault {
+        WordsFault::Memory
     }
 }
 
 // The options of `relay`, where each is within its limits.
 fn relay_words(options: &ArgMatches<'_>) -> Option<RelayWords>
-    ensures { IfSome result AreRelayWords }
+    ensures found { Finds (IsRelay (rows_of (found_of options.now))) result }
+    ensures limits { IfSome result AreRelayWords }
 {
-    let hub = options.get_str("hub")?;
-    let owner = options.get_str("owner")?;
-    let moment = Moment::new(number(options.get_str("moment")?)?)?;
-    let first = number(options.get_str("number")?)?;
+    let hub = text(options, "hub")?;
+    let owner = text(options, "owner")?;
+    let moment = moment(text(options, "moment")?)?;
+    let first = number(text(options, "number")?)?;
     RelayWords::new(hub, owner, moment, first)
 }
 
-/// Reads the words of the command line, the program's name first. The error is a text to print, on standard output
-/// where it is help, else on standard error with status 2.
-pub fn read_words<'a, S: AsStr>(alloc: Global, words: &'a [S]) -> Result<Words, Error>
-    ensures { IfOk result AreWords }
+// What `import` asks.
+fn import_task<'a>(options: &ArgMatches<'a>) -> Option<HubTask<'a>>
+    ensures { Finds (IsTask (codes "import") (rows_of (found_of options.now))) result }
+{
+    Some(HubTask::Import(text(options, "folder")?))
+}
+
+// What `status` asks.
+fn status_task<'a>(options: &ArgMatches<'a>) -> Option<HubTask<'a>>
+    ensures { Finds (IsTask (codes "status") (rows_of (found_of options.now))) result }
+{
+    match text(options, "of") {
+        Some(digits) => Some(HubTask::Status(Some(gln(digits)?))),
+        None => Some(HubTask::Status(None)),
+    }
+}
+
+// What `mail` asks.
+fn mail_task<'a>(options: &ArgMatches<'a>) -> Option<HubTask<'a>>
+    ensures { Finds (IsTask (codes "mail") (rows_of (found_of options.now))) result }
+{
+    let what = text(options, "do")?;
+    let n = number(text(options, "n")?)?;
+    match what {
+        "after" => Some(HubTask::MailAfter(n)),
+        "item" => Some(HubTask::MailItem(n)),
+        "taken" => Some(HubTask::MailTaken(n)),
+        _ => None,
+    }
+}
+
+// The five lines of a cancellation.
+#[derive(Drop)]
+struct CancelLines<'a> {
+    supplier: &'a str,
+    reference: &'a str,
+    order: &'a str,
+    line: &'a str,
+    quantity: &'a str,
+}
+
+fn cancel_lines<'a>(options: &ArgMatches<'a>) -> Option<CancelLines<'a>>
+    ensures { option_map texts_of result ≡ values_of cancel_options (rows_of (found_of options.now)) }
+{
+    Some(CancelLines {
+        supplier: text(options, "supplier")?,
+        reference: text(options, "reference")?,
+        order: text(options, "order")?,
+        line: text(options, "line")?,
+        quantity: text(options, "quantity")?,
+    })
+}
+
+// The cancellation whose body has these lines.
+fn cancel_of(alloc: Global, lines: &CancelLines<'_>) -> Result<Option<Cancel>, AllocError>
+    ensures { IfOk result (λ found. found ≡ body.cancel_of (spec.in_lines (texts_of lines.now))) }
+{
+    let texts = [
+        lines.supplier,
+        lines.reference,
+        lines.order,
+        lines.line,
+        lines.quantity,
+    ];
+    let body = in_lines(alloc, &texts)?;
+    read_cancel(alloc, body.as_slice())
+}
+
+// What `cancel` asks.
+fn cancel_task<'a>(
+    alloc: Global,
+    options: &ArgMatches<'_>,
+) -> Result<Option<HubTask<'a>>, AllocError>
+    ensures { IfOk result (Finds (IsTask (codes "cancel") (rows_of (found_of options.now)))) }
+{
+    let Some(lines) = cancel_lines(options) else {
+        return Ok(None);
+    };
+    match cancel_of(alloc, &lines)? {
+        Some(cancel) => Ok(Some(HubTask::Cancel(cancel))),
+        None => Ok(None),
+    }
+}
+
+// What a command over a hub asks.
+fn task<'a>(
+    alloc: Global,
+    command: &str,
+    options: &ArgMatches<'a>,
+) -> Result<Option<HubTask<'a>>, AllocError>
+    ensures { IfOk result (Finds (IsTask command.now (rows_of (found_of options.now)))) }
+{
+    match command {
+        "import" => Ok(import_task(options)),
+        "status" => Ok(status_task(options)),
+        "mail" => Ok(mail_task(options)),
+        "cancel" => cancel_task(alloc, options),
+        _ => Ok(None),
+    }
+}
+
+// The moment, if one is named.
+fn named_moment(options: &ArgMatches<'_>) -> Option<Option<Moment>>
+    ensures { result ≡ if_given moment_of (first_of (codes "moment") (rows_of (found_of options.now))) }
+{
+    match text(options, "moment") {
+        Some(seconds) => Some(Some(moment(seconds)?)),
+        None => Some(None),
+    }
+}
+
+// The words of a command over a hub that asks this.
+fn hub_words<'a>(options: &ArgMatches<'a>, task: HubTask<'a>) -> Option<HubWords<'a>>
+    ensures found { Finds (IsHub (rows_of (found_of options.now))) result }
+    ensures task { IfSome result (λ words. words.task ≡ task.entry) }
+{
+    Some(HubWords {
+        register: text(options, "register")?,
+        db: text(options, "db")?,
+        caller: gln(text(options, "as")?)?,
+        key: text(options, "key")?,
+        moment: named_moment(options)?,
+        task,
+    })
+}
+
+// What a command over a hub with these options asks for.
+fn over_a_hub<'a>(
+    alloc: Global,
+    command: &str,
+    options: &ArgMatches<'a>,
+) -> Result<Option<Words<'a>>, AllocError>
+    ensures found { IfOk result (Finds (IsOverHub command.now (rows_of (found_of options.now)))) }
+    ensures limits { IfOk result (λ found. IfSome found AreWords) }
+{
+    let Some(task) = task(alloc, command, options)? else {
+        return Ok(None);
+    };
+    match hub_words(options, task) {
+        Some(words) => Ok(Some(Words::Hub(words))),
+        None => Ok(None),
+    }
+}
+
+// What a command with these options asks for, where each is within its limits.
+fn command_words<'a>(
+    alloc: Global,
+    command: &str,
+    options: &ArgMatches<'a>,
+) -> Result<Option<Words<'a>>, AllocError>
+    ensures found { IfOk result (Finds (Asks command.now (rows_of (found_of options.now)))) }
+    ensures limits { IfOk result (λ found. IfSome found AreWords) }
+{
+    match command {
+        "check" => match text(options, "register") {
+            Some(register) => Ok(Some(Words::Check(CheckWords { register }))),
+            None => Ok(None),
+        },
+        "relay" => match relay_words(options) {
+            Some(words) => Ok(Some(Words::Relay(words))),
+            None => Ok(None),
+        },
+        "show" => Ok(Some(Words::Show)),
+        _ => over_a_hub(alloc, command, options),
+    }
+}
+
+const RELAY_LIMITS: &str =
+    "a GLN has 13 digits, --moment is 0 to 4102444799, and --number is 1 to 99999999999001";
+
+const HUB_LIMITS: &str =
+    "a GLN is 13 digits with a right check digit, and --moment is 0 to 4102444799";
+
+const MAIL_LIMITS: &str =
+    "a GLN is 13 digits with a right check digit, --moment is 0 to 4102444799, --do is after, item or taken, and --n is 1 to 14 digits";
+
+const CANCEL_LIMITS: &str =
+    "a GLN is 13 digits with a right check digit, --moment is 0 to 4102444799, --reference is 1 to 14 and --order 1 to 35 printable ASCII characters, --line is 1 to 999999, and --quantity is 1 to 999999999";
+
+// What is wrong with options that are against their limits.
+fn limits(command: Option<&str>) -> &'static str {
+    match command {
+        Some("relay") => RELAY_LIMITS,
+        Some("mail") => MAIL_LIMITS,
+        Some("cancel") => CANCEL_LIMITS,
+        _ => HUB_LIMITS,
+    }
+}
+
+// What the matches ask for, where each option is within its limits.
+fn matched_words<'a>(
+    alloc: Global,
+    matches: &ArgMatches<'a>,
+) -> Result<Option<Words<'a>>, AllocError>
+    ensures found { IfOk result (Finds (Names (subcommand_rows_of matches.now))) }
+    ensures limits { IfOk result (λ found. IfSome found AreWords) }
+{
+    match matches.subcommand() {
+        Some((command, options)) => command_words(alloc, command, options),
+        None => Ok(None),
+    }
+}
+
+/// Reads the words of the command line, the program's name first. Words that `clap` takes are refused only where an
+/// option is against its limits.
+pub fn read_words<'a, S: AsStr>(alloc: Global, words: &'a [S]) -> Result<Words<'a>, WordsFault>
+    ensures read { IfOk result (Say (map S.text words.entry.now)) }
+    ensures limits { IfOk result AreWords }
+    ensures refused { IfErr result (Refuses (map S.text words.entry.now)) }
 {
     let mut program = program(alloc)?;
     let matches = program.try_get_matches_from_mut(words)?;
-    match matches.subcommand() {
-        Some(("check", options)) => match options.get_str("register") {
-            Some(path) => Ok(Words::Check(CheckWords {
-                register: String::from_str(alloc, path)?,
-            })),
-            None => Err(program.error(ErrorKind::MissingRequiredArgument, "no register is named")?),
-        },
-        Some(("relay", options)) => match relay_words(options) {
-            Some(relay) => Ok(Words::Relay(relay)),
-            None => Err(program.error(ErrorKind::ValueValidation, RELAY_LIMITS)?),
-        },
-        Some(("show", _)) => Ok(Words::Show),
-        _ => Err(program.error(ErrorKind::MissingSubcommand, "no command is named")?),
+    match matched_words(alloc, &matches)? {
+        Some(read) => Ok(read),
+        None => {
+            let limits = limits(matches.subcommand_name());
+            let error = program.error(ErrorKind::ValueValidation, limits)?;
+            Err(WordsFault::Told(error))
+        }
     }
 }

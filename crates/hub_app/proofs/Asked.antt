@@ -1,0 +1,75 @@
+-- What words ask, case by case.
+use Rattle.std.proofs.Common.{◌≡◌, true, List, Option, Some, None, Result, Ok, Err, codes, inl, inr, sym, ap, ◌∙◌, subst}
+use Rattle.std.specs.Prelude.{IfErr, IsErrAnd}
+use Rattle.clap.specs.Words.{App, HasMatchesOf, Row, Text, is_simple, kind_of, subcommand_of, subcommand_rows_of, takes}
+use Rattle.clap.specs.declared.error.Error.{Error}
+use Rattle.clap.specs.declared.error.kind.ErrorKind.TheVariants.{OutOfMemory}
+use Rattle.clap.specs.declared.parser.matches.ArgMatches.{ArgMatches}
+use Rattle.hub_app.specs.declared.words.WordsFault.{WordsFault}
+use Rattle.hub_app.specs.declared.words.WordsFault.TheVariants.{Memory}
+use Rattle.hub_app.specs.Program.{edihub}
+use Rattle.hub_app.specs.declared.words.HubWords.{HubWords}
+use Rattle.hub_app.specs.declared.words.Words.{Words}
+use Rattle.hub_app.specs.declared.words.Words.TheVariants.{Check, Relay, Show, Hub}
+use Rattle.hub_app.specs.Options.{Finds}
+use Rattle.hub_app.specs.Words.{Asks, IsHub, IsOverHub, Names, Refuses, Say}
+use Rattle.hub_app.proofs.Simple.{simple}
+
+-- without the options of a hub nothing is asked of one
+pub no_hub : (command : Text) (rows : List Row) → ((hub : HubWords) → IsHub rows hub → ⊥) → (words : Words) → IsOverHub command rows words → ⊥
+no_hub command rows none (Hub hub) h = none hub h.1
+no_hub command rows none (Check w) h = h
+no_hub command rows none (Relay w) h = h
+no_hub command rows none Show h = h
+
+-- a command that is none of the other three is one over a hub
+module _ (command : Text) (rows : List Row) (no_check : command ≡ codes "check" → ⊥)
+    (no_relay : command ≡ codes "relay" → ⊥)
+    (no_show : command ≡ codes "show" → ⊥) where
+  pub is_over_hub : (words : Words) → Asks command rows words → IsOverHub command rows words
+  is_over_hub (Hub hub) h = h
+  is_over_hub (Check w) h = no_check h.0
+  is_over_hub (Relay w) h = no_relay h.0
+  is_over_hub Show h = no_show h
+
+  pub is_asked : (words : Words) → IsOverHub command rows words → Asks command rows words
+  is_asked (Hub hub) h = h
+  is_asked (Check w) h = absurd h
+  is_asked (Relay w) h = absurd h
+  is_asked Show h = absurd h
+
+  pub finds_asked : (found : Option Words) → Finds (IsOverHub command rows) found → Finds (Asks command rows) found
+  finds_asked (Some words) h = is_asked words h
+  finds_asked None none = λ words h. none words (is_over_hub words h)
+
+-- an error of `clap` where it takes the words
+pub only_memory : {T : Type 0} (app : App) (texts : List Text) (error : Error) (result : Result T WordsFault) → app ≡ edihub
+    → (takes app texts ≡ true → kind_of error ≡ OutOfMemory)
+    → IsErrAnd result (λ fault. kind_of error ≡ OutOfMemory → fault ≡ Memory)
+    → IfErr result (Refuses texts)
+only_memory app texts error (Ok x) is passes h = tt
+only_memory app texts error (Err fault) is passes h =
+    λ took. inl (h (passes (subst (λ (a : App). takes a texts ≡ true) (sym is) took)))
+
+-- the command that `clap` met, where the program is the one that is defined
+pub met : (app : App) (texts : List Text) (matches : ArgMatches) → app ≡ edihub
+    → HasMatchesOf app texts matches
+    → subcommand_rows_of matches ≡ subcommand_of edihub texts
+met app texts matches is h = (h (ap is_simple is ∙ simple)).1 ∙ ap (λ (a : App). subcommand_of a texts) is
+
+-- what is said where something was found in the command, and where nothing was
+pub said : (texts : List Text) (command : Option (Text × List Row)) (found : Option Words) (words : Words) → command ≡ subcommand_of edihub texts
+    → Finds (Names command) found
+    → found ≡ Some words
+    → Say texts words
+said texts command found words met h is =
+    let asked : Names command words = subst (Finds (Names command)) is h in
+    subst (λ (m : Option (Text × List Row)). Names m words) met asked
+
+pub nothing_said : (texts : List Text) (command : Option (Text × List Row)) (found : Option Words) (fault : WordsFault) → command ≡ subcommand_of edihub texts
+    → Finds (Names command) found
+    → found ≡ None
+    → Refuses texts fault
+nothing_said texts command found fault met h is =
+    let none : (words : Words) → Names command words → ⊥ = subst (Finds (Names command)) is h in
+    λ took. inr (λ words said. none words (subst (λ (m : Option (Text × List Row)). Names m words) (sym met) said))

@@ -1,0 +1,36 @@
+-- The values of options.
+use Rattle.std.specs.Prelude.{◌≡◌, ℕ, ◌++◌, if◌then◌else◌, nat_le, List, [], ◌∷◌, Option, Some, None, option_map}
+use Rattle.std.specs.Prelude.{option_and_then}
+use Rattle.clap.specs.Words.{Row, Text, first_of}
+use Rattle.edi_base.specs.Limits as limits
+use Rattle.edi_base.specs.Limits.{are_digits}
+use Rattle.edi_envelope.specs.Moment.{last_moment}
+
+-- the number that 1 to 14 digits write
+abbrev pub number_of : Text → Option ℕ
+number_of text = if are_digits 1 14 text then Some (limits.number_of text) else None
+
+-- the moment that they write
+abbrev pub moment_of : Text → Option ℕ
+moment_of text = option_and_then (λ number. if nat_le number last_moment then Some number else None) (number_of text)
+
+-- an option that may be left out
+abbrev pub if_given : {X : Type 0} → (Text → Option X) → Option Text → Option (Option X)
+if_given read None = Some None
+if_given read (Some text) = option_map (λ x. Some x) (read text)
+
+-- the values of options, where all are given
+abbrev pub values_of : List Text → List Row → Option (List Text)
+values_of [] rows = Some []
+values_of (name ∷ names) rows =
+    option_and_then (λ value. option_map (λ values. value ∷ values) (values_of names rows)) (first_of name rows)
+
+-- texts in lines, each ended by LF
+abbrev pub in_lines : List Text → Text
+in_lines [] = []
+in_lines (text ∷ texts) = text ++ 0x0A ∷ in_lines texts
+
+-- what was found fits, and where nothing was found nothing fits
+abbrev pub Finds : {X : Type 0} → (X → Type 0) → Option X → Type 0
+Finds fits (Some x) = fits x
+Finds {X} fits None = (x : X) → fits x → ⊥

@@ -1,0 +1,74 @@
+-- The commands of the program, as `clap` parses them.
+use Rattle.std.specs.Prelude.{◌≡◌, ℕ, Bool, true, false, List, [], ◌∷◌, ◌++◌, Some, codes}
+use Rattle.clap.specs.Words.{App, Rule, Shape, Text, app_of, new_app, new_rule}
+use Rattle.clap.specs.declared.builder.action.ArgAction.TheVariants.{Set}
+use Rattle.clap.specs.declared.builder.command.Command.{Command}
+use Rattle.clap.specs.declared.builder.command.Command.TheViews.{out-Command as fields_of}
+
+-- an option with one value, that has to be given or not
+abbrev pub option : Bool → Text → Rule
+option required name = record (new_rule name) {
+  long = Some name;
+  value_names = 1;
+  action = Some Set;
+  required = required;
+}
+
+abbrev pub wanted : Text → Rule
+wanted = option true
+
+abbrev pub offered : Text → Rule
+offered = option false
+
+-- a command with these options
+abbrev pub with_options : Text → List Rule → Shape
+with_options name rules = record (new_app name).top { rules = rules }
+
+-- the options of every command over a hub, and more
+abbrev pub over_a_hub : Text → List Rule → Shape
+over_a_hub name more = with_options name (
+    wanted (codes "register") ∷ wanted (codes "db") ∷ wanted (codes "as") ∷ wanted (codes "key") ∷ offered (codes "moment")
+    ∷ more)
+
+abbrev pub check : Shape
+check = with_options (codes "check") (wanted (codes "register") ∷ [])
+
+abbrev pub relay : Shape
+relay = with_options (codes "relay") (
+    wanted (codes "hub") ∷ wanted (codes "owner") ∷ wanted (codes "moment") ∷ wanted (codes "number") ∷ [])
+
+abbrev pub show : Shape
+show = with_options (codes "show") []
+
+abbrev pub import : Shape
+import = over_a_hub (codes "import") (wanted (codes "folder") ∷ [])
+
+abbrev pub status : Shape
+status = over_a_hub (codes "status") (offered (codes "of") ∷ [])
+
+abbrev pub mail : Shape
+mail = over_a_hub (codes "mail") (wanted (codes "do") ∷ wanted (codes "n") ∷ [])
+
+abbrev pub cancel : Shape
+cancel = over_a_hub (codes "cancel") (
+    wanted (codes "supplier") ∷ wanted (codes "reference") ∷ wanted (codes "order") ∷ wanted (codes "line")
+    ∷ wanted (codes "quantity") ∷ [])
+
+-- the program before its commands, of which it wants one
+abbrev pub bare : App
+bare = record {
+  top = record (new_app (codes "edihub")).top { has_version = true; subcommand_required = true };
+  subs = [];
+}
+
+-- the program
+abbrev pub edihub : App
+edihub = record {
+  top = record bare.top { is_leaf = false };
+  subs = check ∷ relay ∷ show ∷ import ∷ status ∷ mail ∷ cancel ∷ [];
+}
+
+-- a command of this shape, with no subcommand and no option for all levels
+pub record IsCommand (shape : Shape) (command : Command) : Type 0 where
+  pub app : app_of command ≡ record { top = shape; subs = [] }
+  pub local : (fields_of command).has_globals ≡ false

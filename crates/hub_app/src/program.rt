@@ -1,0 +1,300 @@
+//! The commands of the program, with their options and help texts.
+
+ghost use Rattle.std.specs.Prelude.{◌≡◌, [], false, IfOk};
+ghost use Rattle.clap.specs.Words.{app_of, rule_of};
+ghost use Rattle.hub_app.specs.Program.{wanted, offered, over_a_hub, IsCommand, bare, check, relay, show, import, status, mail};
+ghost use Rattle.hub_app.specs.Program.{cancel, edihub};
+
+use clap::{Arg, ArgAction, Command};
+use std::alloc::{AllocError, Global};
+
+// An option that has to be given, with one value.
+fn option<'a>(alloc: Global, name: &'a str, value: &'a str, help: &'a str) -> Arg<'a>
+    ensures rule { rule_of result ≡ wanted name.now }
+    ensures local { result.global ≡ false }
+{
+    Arg::new(alloc, name)
+        .long(name)
+        .value_name(value)
+        .required(true)
+        .action(ArgAction::Set)
+        .help(help)
+}
+
+// The same, where it may be left out.
+fn extra<'a>(alloc: Global, name: &'a str, value: &'a str, help: &'a str) -> Arg<'a>
+    ensures rule { rule_of result ≡ offered name.now }
+    ensures local { result.global ≡ false }
+{
+    option(alloc, name, value, help).required(false)
+}
+
+const RELAY: &str =
+    "Reads an ORDERS interchange on standard input, prints the supplier's mail texts";
+
+const STATUS: &str =
+    "Exit status: 0 done; 1 refused, the code stands on standard error; 2 usage error; 3 a failed read or write, or out of memory";
+
+fn relay_command<'a>(alloc: Global) -> Result<Command<'a>, AllocError>
+    ensures { IfOk result (IsCommand relay) }
+{
+    Command::new(alloc, "relay")
+        .about(RELAY)
+        .after_help(STATUS)
+        .arg(option(alloc, "hub", "GLN", "GLN of the hub, 13 digits"))?
+        .arg(option(alloc, "owner", "GLN", "GLN of the supplier, 13 digits"))?
+        .arg(option(
+            alloc,
+            "moment",
+            "SECONDS",
+            "Moment of the mail, in seconds since 1970 began at UTC, at most 4102444799",
+        ))?
+        .arg(option(
+            alloc,
+            "number",
+            "N",
+            "Number of the first mail text, 1 to 99999999999001",
+        ))
+}
+
+const CHECK: &str =
+    "Checks a register, and prints ok with the number of suppliers, or the register's first fault";
+
+const CHECK_HELP: &str = "The register is a TOML file of at most 1048576 bytes:
+
+  hub = \"5412345000006\"
+
+  [retailer]
+  gln = \"5412345000013\"
+  key = \"retail-key\"
+
+  [[supplier]]
+  gln = \"4012345500004\"
+  prefix = \"40123455\"
+  key = \"alpha-key-1\"
+
+Faults, in the order in which they are looked for:
+  text         no TOML, or an entry is missing or no string
+  many         more than 1000 suppliers
+  gln          a GLN is not 13 digits, or its check digit is wrong
+  twice        two GLNs are equal
+  prefix       a prefix is not 4 to 12 digits
+  key          a key is not 8 to 64 visible characters
+  overlap I J  the prefix of supplier I begins that of supplier J, or the other way round
+
+Exit status: 0 a register; 1 a fault; 2 usage error; 3 the file cannot be read, is not UTF-8 or too long, or out of memory";
+
+fn check_command<'a>(alloc: Global) -> Result<Command<'a>, AllocError>
+    ensures { IfOk result (IsCommand check) }
+{
+    Command::new(alloc, "check")
+        .about(CHECK)
+        .after_help(CHECK_HELP)
+        .arg(option(alloc, "register", "FILE", "The register, a TOML file"))
+}
+
+const SHOW: &str = "Reads an interchange on standard input, and prints in lines what it says";
+
+const SHOW_HELP: &str = "Of an interchange with one order it prints:
+
+  service component : element + decimal . release ? terminator '
+  interchange 1001
+    sender 5412345000013
+    recipient 5412345000006
+    prepared 250603 0915
+    messages 1
+  message 1
+    type ORDERS
+    order 128576
+    buyer 5412345000013
+    supplier 4012345500004
+    line 1 item 04000862141404 ordered 48
+
+A message that is refused has one line behind its type, as 'refused M08 quantity'. Where the whole
+is refused, one line is all, as 'refused E12 count of segments'.
+
+Exit status: 0 nothing is refused; 1 the text, the interchange or a message is refused; 2 usage error; 3 a failed read or write, or out of memory";
+
+fn show_command<'a>(alloc: Global) -> Command<'a>
+    ensures { IsCommand show result }
+{
+    Command::new(alloc, "show")
+        .about(SHOW)
+        .after_help(SHOW_HELP)
+}
+
+// A command over the hub that is kept in a database.
+fn hub_command<'a>(
+    alloc: Global,
+    name: &'a str,
+    about: &'a str,
+    help: &'a str,
+) -> Result<Command<'a>, AllocError>
+    ensures { IfOk result (λ command. IsCommand (over_a_hub name.now []) command) }
+{
+    Command::new(alloc, name)
+        .about(about)
+        .after_help(help)
+        .arg(option(alloc, "register", "FILE", "The register, a TOML file"))?
+        .arg(option(
+            alloc,
+            "db",
+            "FILE",
+            "The hub's database; a new one is made where there is none",
+        ))?
+        .arg(option(
+            alloc,
+            "as",
+            "GLN",
+            "GLN of the retailer or supplier who asks, 13 digits",
+        ))?
+        .arg(option(alloc, "key", "KEY", "Its key, as the register has it"))?
+        .arg(extra(
+            alloc,
+            "moment",
+            "SECONDS",
+            "Moment of the call, in seconds since 1970 began at UTC, at most 4102444799 [default: now]",
+        ))
+}
+
+const IMPORT: &str = "Uploads the interchanges in a folder, and prints what becomes of each";
+
+const IMPORT_HELP: &str =
+    "The plain files of the folder are uploaded in the order of their names' bytes, and stay where they
+are. A file has at most 1048576 bytes.
+
+  edihub import --register register.toml --db hub.db --as 5412345000013 --key retail-key --folder out
+
+prints for each file its name and the hub's reply, which has a line for each message:
+
+  file orders.edi
+  interchange 1001 messages 1
+  1 ORDERS accepted
+
+A message that comes again is 'repeated'. One that is not taken is 'refused' with its code, as
+'1 ORDERS refused B01', and so is a whole interchange, as 'refused E12'.
+
+Exit status: 0 all is accepted or repeated; 1 something is refused or denied, or the register has a fault; 2 usage error; 3 a file or the database failed, the hub stopped, or out of memory";
+
+fn import_command<'a>(alloc: Global) -> Result<Command<'a>, AllocError>
+    ensures { IfOk result (IsCommand import) }
+{
+    hub_command(alloc, "import", IMPORT, IMPORT_HELP)?.arg(option(
+        alloc,
+        "folder",
+        "FOLDER",
+        "The folder with the interchanges",
+    ))
+}
+
+const REPORT: &str = "Prints the order lines and pallets of a supplier";
+
+const REPORT_HELP: &str =
+    "A supplier asks for its own report, the retailer names the supplier with --of:
+
+  edihub status --register register.toml --db hub.db --as 4012345500004 --key alpha-key-1
+  edihub status --register register.toml --db hub.db --as 5412345000013 --key retail-key --of 4012345500004
+
+It prints a line L for each order line: order number, line number, GTIN, the answer's letter, and what is
+ordered, open, refused, cancelled and despatched; then a line P for each article on a pallet: SSCC, GTIN, A
+for announced or R for received, what is despatched, accepted, returned and destroyed, and the difference;
+and last 'end'. Where it is 'denied', caller and key are not together in the register or the other side asks
+this; where it is 'unknown', there is no such supplier.
+
+Exit status: 0 done; 1 denied or unknown, or the register has a fault; 2 usage error; 3 a file or the database failed, the hub stopped, or out of memory";
+
+fn status_command<'a>(alloc: Global) -> Result<Command<'a>, AllocError>
+    ensures { IfOk result (IsCommand status) }
+{
+    hub_command(alloc, "status", REPORT, REPORT_HELP)?.arg(extra(
+        alloc,
+        "of",
+        "GLN",
+        "GLN of the supplier that the retailer asks about, 13 digits",
+    ))
+}
+
+const MAIL: &str = "Lists a supplier's mailbox, prints an entry of it, or marks one as taken";
+
+const MAIL_HELP: &str = "A supplier works through its mailbox in three steps:
+
+  edihub mail --register register.toml --db hub.db --as 4012345500004 --key alpha-key-1 --do after --n 0
+  edihub mail --register register.toml --db hub.db --as 4012345500004 --key alpha-key-1 --do item --n 1
+  edihub mail --register register.toml --db hub.db --as 4012345500004 --key alpha-key-1 --do taken --n 1
+
+  after  lists the entries above number N that are not taken, at most 100: number, type, document number;
+         then 'more' where there are further ones, else 'end'
+  item   prints the entry of number N, an interchange in one line without a line end
+  taken  marks the entry of number N, and prints 'taken'
+
+It prints 'denied' where caller and key are not together in the register, and 'unknown' where there is no
+such entry.
+
+Exit status: 0 done; 1 denied or unknown, or the register has a fault; 2 usage error; 3 a file or the database failed, the hub stopped, or out of memory";
+
+fn mail_command<'a>(alloc: Global) -> Result<Command<'a>, AllocError>
+    ensures { IfOk result (IsCommand mail) }
+{
+    hub_command(alloc, "mail", MAIL, MAIL_HELP)?
+        .arg(option(alloc, "do", "WHAT", "What to do: after, item or taken"))?
+        .arg(option(alloc, "n", "N", "Number of an entry, 1 to 14 digits"))
+}
+
+const CANCEL: &str = "Cancels a quantity of an order line that is still open";
+
+const CANCEL_HELP: &str = "The retailer cancels 10 pieces of line 1 of order 128576:
+
+  edihub cancel --register register.toml --db hub.db --as 5412345000013 --key retail-key \\
+    --supplier 4012345500004 --reference C1 --order 128576 --line 1 --quantity 10
+
+It prints 'accepted', 'repeated' where this cancellation was accepted before, or 'refused' with the code, as
+'refused B17' where less than that is open.
+
+Exit status: 0 accepted or repeated; 1 refused or denied, or the register has a fault; 2 usage error; 3 a file or the database failed, the hub stopped, or out of memory";
+
+fn cancel_command<'a>(alloc: Global) -> Result<Command<'a>, AllocError>
+    ensures { IfOk result (IsCommand cancel) }
+{
+    hub_command(alloc, "cancel", CANCEL, CANCEL_HELP)?
+        .arg(option(alloc, "supplier", "GLN", "GLN of the supplier, 13 digits"))?
+        .arg(option(
+            alloc,
+            "reference",
+            "TEXT",
+            "The cancellation's own reference, 1 to 14 printable ASCII characters",
+        ))?
+        .arg(option(
+            alloc,
+            "order",
+            "TEXT",
+            "Order number, 1 to 35 printable ASCII characters",
+        ))?
+        .arg(option(alloc, "line", "N", "Line number, 1 to 999999"))?
+        .arg(option(alloc, "quantity", "N", "Pieces to cancel, 1 to 999999999"))
+}
+
+const VERSION: &str = "1.0.0";
+
+// The program without its commands.
+fn bare_program<'a>(alloc: Global) -> Command<'a>
+    ensures { app_of result ≡ bare }
+{
+    Command::new(alloc, "edihub")
+        .version(VERSION)
+        .about("The EDI hub of one retailer (GS1 EANCOM 2002, ISO 9735 syntax version 3)")
+        .subcommand_required(true)
+}
+
+/// The program with its commands.
+pub(crate) fn program<'a>(alloc: Global) -> Result<Command<'a>, AllocError>
+    ensures { IfOk result (λ command. app_of command ≡ edihub) }
+{
+    bare_program(alloc)
+        .subcommand(check_command(alloc)?)?
+        .subcommand(relay_command(alloc)?)?
+        .subcommand(show_command(alloc))?
+        .subcommand(import_command(alloc)?)?
+        .subcommand(status_command(alloc)?)?
+        .subcommand(mail_command(alloc)?)?
+        .subcommand(cancel_command(alloc)?)
+}
