@@ -2,10 +2,12 @@
 #![tactic(auto)]
 
 mod files;
+mod folder;
 mod import;
 mod print;
 mod reply;
 
 pub use files::{Files, LONGEST_FILE, NamedFile, NextFile};
+pub use folder::Folder;
 pub use import::import_run;
 pub use reply::reply_run;

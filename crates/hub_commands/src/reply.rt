@@ -21,9 +21,9 @@ fn status_of(reply: &Reply) -> u8
     ensures { result ≡ spec.status_of reply.now }
 {
     match reply.outcome {
-        Outcome::Done => { if reply.refused { REFUSED } else { DONE } }
+        Outcome::Done if !reply.refused => DONE,
         Outcome::Stopped => FAILED,
-        Outcome::Bad | Outcome::Denied | Outcome::Unknown => REFUSED,
+        Outcome::Done | Outcome::Bad | Outcome::Denied | Outcome::Unknown => REFUSED,
     }
 }
 

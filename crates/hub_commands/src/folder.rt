@@ -1,0 +1,109 @@
+//! The plain files of a folder.
+use crate::files::{Files, LONGEST_FILE, NamedFile, NextFile};
+use edi_base::{Items, MemoryFault, OfRead, ReadFault, read_to_limit};
+use std::alloc::Global;
+use std::fs::{DirEntry, File};
+use std::io::ErrorKind;
+use std::rt::Files as FileSystem;
+use std::{fs, io};
+
+/// The plain files of a folder, by the names that it had when it was opened: in the order of the bytes of their names,
+/// and then those whose names are no UTF-8.
+#[derive(Drop)]
+pub struct Folder<'a, R> {
+    system: &'a R,
+    path: String,
+    names: Names,
+}
+
+// The names that still come.
+#[derive(Drop)]
+struct Names {
+    // In falling order, so that the next one is the last.
+    falling: Vec<String>,
+    // How many are no UTF-8.
+    unnamed: u64,
+}
+
+// Why something was not read.
+fn fault_of(error: io::Error) -> ReadFault {
+    if error.kind() == ErrorKind::OutOfMemory {
+        ReadFault::Memory
+    } else {
+        ReadFault::Read
+    }
+}
+
+// Whether an entry is a plain file. One of which that cannot be read is taken for one, so that it is told as a fault.
+fn is_plain<R: FileSystem>(entry: &DirEntry<R>) -> bool {
+    match entry.file_type() {
+        Ok(kind) => kind.is_file(),
+        Err(_) => true,
+    }
+}
+
+// The names of the plain files of a folder. Of an entry whose name is no UTF-8 nothing else is known.
+fn names_of<R: FileSystem + AllocGlobal + Clone + Drop>(
+    system: &R,
+    path: &str,
+) -> io::Result<Names> {
+    let alloc = system.alloc();
+    let mut falling = Vec::new(alloc);
+    let mut unnamed: u64 = 0;
+    for entry in fs::read_dir(system, path)? {
+        match entry {
+            Ok(entry) => {
+                if is_plain(&entry) {
+                    falling.push(String::from_str(alloc, entry.file_name())?)?;
+                }
+            }
+            Err(error) if error.kind() == ErrorKind::InvalidFilename => {
+                unnamed = unnamed.saturating_add(1);
+            }
+            Err(error) => return Err(error),
+        }
+    }
+    falling.sort()?;
+    falling.reverse();
+    Ok(Names { falling, unnamed })
+}
+
+impl<'a, R: FileSystem + AllocGlobal + Clone + Drop> Folder<'a, R> {
+    /// The folder at a path. Its plain files alone are taken, and not what lies in folders in it, nor links, pipes or
+    /// devices; but whatever has a name that is no UTF-8 is. Their names are read now, and are all in memory.
+    pub fn open(system: &'a R, path: &str) -> Result<Self, ReadFault> {
+        let names = names_of(system, path).map_err(fault_of)?;
+        let path = String::from_str(system.alloc(), path)?;
+        Ok(Folder {
+            system,
+            path,
+            names,
+        })
+    }
+
+    // The bytes of a file of the folder, as many as `Files` gives.
+    fn bytes_of(&self, alloc: Global, name: &str) -> Result<Items<u8>, ReadFault> {
+        let path = format!(in alloc; "{}/{name}", self.path.as_str())?;
+        let file = File::open(self.system, path.as_str()).map_err(fault_of)?;
+        let bytes = read_to_limit(alloc, &mut OfRead::new(file), LONGEST_FILE)?;
+        Ok(Items::from_vec(bytes))
+    }
+}
+
+impl<'a, R: FileSystem + AllocGlobal + Clone + Drop> Files for Folder<'a, R> {
+    ghost use Rattle.std.specs.Prelude.{◌+◌, vec_len};
+
+    ghost most = { λ folder. vec_len folder.names.falling + folder.names.unnamed };
+
+    fn next(&mut self, alloc: Global) -> Result<Option<NextFile>, MemoryFault> {
+        let Some(name) = self.names.falling.pop() else {
+            if self.names.unnamed == 0 {
+                return Ok(None);
+            }
+            self.names.unnamed -= 1;
+            return Ok(Some(NextFile::Unnamed));
+        };
+        let bytes = self.bytes_of(alloc, name.as_str());
+        Ok(Some(NextFile::Named(NamedFile { name, bytes })))
+    }
+}
