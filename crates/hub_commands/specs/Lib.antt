@@ -1,4 +1,5 @@
 pub mod Files
+pub mod Folder
 pub mod Import
 pub mod OneFile
 pub mod Output

@@ -1,14 +1,18 @@
 //! The plain files of a folder.
+ghost use Rattle.std.specs.Prelude.{◌≡◌, IfOk, IsSorted, string_cmp};
+
 use crate::files::{Files, LONGEST_FILE, NamedFile, NextFile};
 use edi_base::{Items, MemoryFault, OfRead, ReadFault, read_to_limit};
 use std::alloc::Global;
+use std::collections::VecDeque;
 use std::fs::{DirEntry, File};
 use std::io::ErrorKind;
+use std::marker::Model;
 use std::rt::Files as FileSystem;
 use std::{fs, io};
 
 /// The plain files of a folder, by the names that it had when it was opened: in the order of the bytes of their names,
-/// and then those whose names are no UTF-8.
+/// and then those whose names are no UTF-8. Contracts see the names that still come, and how many are no UTF-8.
 #[derive(Drop)]
 pub struct Folder<'a, R> {
     system: &'a R,
@@ -19,10 +23,18 @@ pub struct Folder<'a, R> {
 // The names that still come.
 #[derive(Drop)]
 struct Names {
-    // In falling order, so that the next one is the last.
-    falling: Vec<String>,
+    in_order: VecDeque<String>,
     // How many are no UTF-8.
     unnamed: u64,
+}
+
+impl<'a, R> Model for Folder<'a, R> {
+    ghost use Rattle.std.specs.Prelude.{ℕ, List, String};
+    ghost use Rattle.std.specs.declared.alloc.Global.{Global};
+
+    ghost Value = { List (String Global) × ℕ };
+
+    ghost view = { λ folder. (folder.names.in_order.items, folder.names.unnamed) };
 }
 
 // Why something was not read.
@@ -43,18 +55,17 @@ fn is_plain<R: FileSystem>(entry: &DirEntry<R>) -> bool {
 }
 
 // The names of the plain files of a folder. Of an entry whose name is no UTF-8 nothing else is known.
-fn names_of<R: FileSystem + AllocGlobal + Clone + Drop>(
-    system: &R,
-    path: &str,
-) -> io::Result<Names> {
+fn names_of<R: FileSystem + AllocGlobal + Clone + Drop>(system: &R, path: &str) -> io::Result<Names>
+    ensures { IfOk result (λ names. IsSorted string_cmp names.in_order.items) }
+{
     let alloc = system.alloc();
-    let mut falling = Vec::new(alloc);
+    let mut names = Vec::new(alloc);
     let mut unnamed: u64 = 0;
     for entry in fs::read_dir(system, path)? {
         match entry {
             Ok(entry) => {
                 if is_plain(&entry) {
-                    falling.push(String::from_str(alloc, entry.file_name())?)?;
+                    names.push(String::from_str(alloc, entry.file_name())?)?;
                 }
             }
             Err(error) if error.kind() == ErrorKind::InvalidFilename => {
@@ -63,15 +74,19 @@ fn names_of<R: FileSystem + AllocGlobal + Clone + Drop>(
             Err(error) => return Err(error),
         }
     }
-    falling.sort()?;
-    falling.reverse();
-    Ok(Names { falling, unnamed })
+    names.sort()?;
+    Ok(Names {
+        in_order: VecDeque::from(names),
+        unnamed,
+    })
 }
 
 impl<'a, R: FileSystem + AllocGlobal + Clone + Drop> Folder<'a, R> {
     /// The folder at a path. Its plain files alone are taken, and not what lies in folders in it, nor links, pipes or
     /// devices; but whatever has a name that is no UTF-8 is. Their names are read now, and are all in memory.
-    pub fn open(system: &'a R, path: &str) -> Result<Self, ReadFault> {
+    pub fn open(system: &'a R, path: &str) -> Result<Self, ReadFault>
+        ensures { IfOk result (λ folder. IsSorted string_cmp folder.0) }
+    {
         let names = names_of(system, path).map_err(fault_of)?;
         let path = String::from_str(system.alloc(), path)?;
         Ok(Folder {
@@ -91,19 +106,27 @@ impl<'a, R: FileSystem + AllocGlobal + Clone + Drop> Folder<'a, R> {
 }
 
 impl<'a, R: FileSystem + AllocGlobal + Clone + Drop> Files for Folder<'a, R> {
-    ghost use Rattle.std.specs.Prelude.{◌+◌, vec_len};
+    ghost use Rattle.std.specs.Prelude.{None};
+    ghost use Rattle.hub_commands.specs.Files.{Gives, GoesDown};
+    ghost use Rattle.hub_commands.specs.Folder.{GivesInOrder, most_of};
 
-    ghost most = { λ folder. vec_len folder.names.falling + folder.names.unnamed };
+    ghost most = { most_of };
 
-    fn next(&mut self, alloc: Global) -> Result<Option<NextFile>, MemoryFault> {
-        let Some(name) = self.names.falling.pop() else {
-            if self.names.unnamed == 0 {
-                return Ok(None);
+    fn next(&mut self, alloc: Global) -> Result<Option<NextFile>, MemoryFault>
+        ensures gives { Gives None None result }
+        ensures goes_down { GoesDown (most_of self.old) (most_of self.new) result }
+        ensures in_order { GivesInOrder self.old self.new result }
+    {
+        match self.names.in_order.pop_front() {
+            Some(name) => {
+                let bytes = self.bytes_of(alloc, name.as_str());
+                Ok(Some(NextFile::Named(NamedFile { name, bytes })))
             }
-            self.names.unnamed -= 1;
-            return Ok(Some(NextFile::Unnamed));
-        };
-        let bytes = self.bytes_of(alloc, name.as_str());
-        Ok(Some(NextFile::Named(NamedFile { name, bytes })))
+            None if self.names.unnamed == 0 => Ok(None),
+            None => {
+                self.names.unnamed -= 1;
+                Ok(Some(NextFile::Unnamed))
+            }
+        }
     }
 }
