@@ -3,13 +3,13 @@
 //! messages, keeps the same rows, and writes the same replies. What is refused ends it, as none of these loads has it.
 #[allow(dead_code)]
 #[path = "plain.rs"]
-mod plain;
+pub mod plain;
 
 use plain::{Message, Segment, open, read, write_segment};
 use std::collections::{BTreeMap, BTreeSet, HashSet};
 use std::io::{Read, Write};
 
-type Gln = [u8; 13];
+pub type Gln = [u8; 13];
 
 struct Line {
     gtin: [u8; 14],
@@ -49,7 +49,7 @@ struct Hub {
     mail: BTreeMap<(Gln, u64), Mail>,
 }
 
-fn valid_digits<const N: usize>(text: &[u8]) -> [u8; N] {
+pub fn valid_digits<const N: usize>(text: &[u8]) -> [u8; N] {
     let mut digits = [b'0'; N];
     digits[N - text.len()..].copy_from_slice(text);
     let sum: u32 = digits.iter().rev().enumerate().map(|(place, b)| (b - b'0') as u32 * if place % 2 == 0 { 1 } else { 3 }).sum();
@@ -71,7 +71,7 @@ fn document_date(segment: &Segment) {
 }
 
 /// The header's parts: document number, supplier, and the order that it names.
-fn header(message: &Message, code: &[u8]) -> (Vec<u8>, Gln, Vec<u8>, usize) {
+pub fn header(message: &Message, code: &[u8]) -> (Vec<u8>, Gln, Vec<u8>, usize) {
     let bgm = &message.segments[1];
     let right = bgm.tag == *b"BGM" && bgm.component(0, 0) == code && bgm.component(2, 0) == b"9";
     assert!(right && message.identifiers[0] == b"D" && message.identifiers[1] == b"01B" && message.identifiers[2] == b"UN");
@@ -96,7 +96,7 @@ fn header(message: &Message, code: &[u8]) -> (Vec<u8>, Gln, Vec<u8>, usize) {
 }
 
 /// Line groups: line number, item and quantity.
-fn line_groups(segments: &[Segment], quantity: &[u8]) -> Vec<(u32, [u8; 14], u32)> {
+pub fn line_groups(segments: &[Segment], quantity: &[u8]) -> Vec<(u32, [u8; 14], u32)> {
     let mut groups: Vec<(u32, [u8; 14], u32)> = Vec::new();
     let mut counted = true;
     for segment in segments {

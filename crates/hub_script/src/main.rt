@@ -1,12 +1,12 @@
-//! Plays a script on a hub over a store in memory, and prints each reply: `hub_script < script` over lists, and
-//! `hub_script sql < script` over tables of SQL.
+//! Plays a script on a hub, and prints each reply: `hub_script < script` over lists in memory, `hub_script sql < script`
+//! over tables of SQL in memory, and `hub_script file PATH < script` over tables of SQL in a file.
 //!
 //! A script is lines of words, each parted from the next by one blank. Where a line names a number of bytes, they
 //! follow it, and then a line end.
 //!
 //! | line | does |
 //! |---|---|
-//! | `hub N`, `hub N memory C`, `hub N disk C` | makes a hub without rows of the register whose text the N bytes are; its store fails with this fault at the call after C others |
+//! | `hub N`, `hub N memory C`, `hub N disk C` | makes a hub of the register whose text the N bytes are, without rows, or with those of the file; its store fails with this fault at the call after C others. Where the store is not opened, prints `store` and the fault |
 //! | `as MOMENT GLN KEY` | says who asks from now on, and when, in seconds |
 //! | `upload N`, `after N`, `item N`, `taken N`, `status`, `status-of GLN`, `cancel N` | asks; the bytes of `upload` and `cancel` follow |
 //! | `run`, `end` | puts what is asked between them into one run |
@@ -20,15 +20,22 @@
 #![tactic(auto)]
 
 mod fault;
+mod opening;
 mod request;
 mod script;
 mod trial;
 
 use crate::fault::ScriptFault;
-use crate::trial::{Blank, Trial};
+use crate::opening::{InFile, InMemory, Opener, Supposed};
+use crate::trial::Trial;
 use edi_base::{OfRead, OfWrite, read_to_limit};
 use hub_list::VecStore;
 use hub_sql::SqliteStore;
+use hub_store::Store;
+use sqlite::Alter;
+use sqlite_disk::Unknown;
+use sqlite_std_file::FileFrom;
+use sqlite_store::FileStore;
 use sqlite_trees::memory::MemStore;
 use std::env;
 use std::process::ExitCode;
@@ -37,30 +44,48 @@ use std::process::ExitCode;
 const SCRIPT_LIMIT: usize = 64 << 20;
 
 // Plays the script on standard input.
-fn play<S: Blank>(rt: &HostRuntime) -> Result<(), ScriptFault> {
+fn play<S: Store + Drop, O: Opener<S>>(rt: &HostRuntime, opener: O) -> Result<(), ScriptFault> {
     let text = read_to_limit(rt.alloc(), &mut OfRead::new(rt.stdin()), SCRIPT_LIMIT)?;
-    Trial::<S>::new(rt.alloc()).play(text.as_slice(), &mut OfWrite::new(rt.stdout()))
+    let mut trial = Trial::<S, O>::new(rt.alloc(), opener);
+    trial.play(rt, text.as_slice(), &mut OfWrite::new(rt.stdout()))
 }
 
-// Whether the store is to be one of SQL.
-fn is_sql(rt: &HostRuntime) -> Result<bool, ScriptFault> {
-    let words = env::args(rt).map_err(|_| ScriptFault::Memory)?;
-    let words = words
-        .collect::<Vec<String>>(rt.alloc())
-        .map_err(|_| ScriptFault::Memory)?;
-    match words.as_slice() {
-        [] | [_] => Ok(false),
-        [_, word] if word.as_str() == "sql" => Ok(true),
+fn over_lists(rt: &HostRuntime) -> Result<(), ScriptFault> {
+    play::<VecStore, InMemory>(rt, InMemory)
+}
+
+fn over_sql(rt: &HostRuntime) -> Result<(), ScriptFault> {
+    over_tables::<MemStore, InMemory>(rt, InMemory)
+}
+
+// Plays it over tables of SQL, wherever they are kept.
+fn over_tables<A: Alter + Drop, O: Opener<SqliteStore<A>>>(
+    rt: &HostRuntime,
+    opener: O,
+) -> Result<(), ScriptFault> {
+    play::<SqliteStore<A>, O>(rt, opener)
+}
+
+fn over_file<T: Supposed>(rt: &HostRuntime, path: &str) -> Result<(), ScriptFault> {
+    over_tables::<FileStore<FileFrom<T>>, InFile<'_>>(rt, InFile { path })
+}
+
+// Plays it over the store that the words name.
+fn over_named(rt: &HostRuntime, words: &[String]) -> Result<(), ScriptFault> {
+    match words {
+        [] | [_] => over_lists(rt),
+        [_, word] if word.as_str() == "sql" => over_sql(rt),
+        [_, word, path] if word.as_str() == "file" => over_file::<Unknown>(rt, path.as_str()),
         _ => Err(ScriptFault::Line),
     }
 }
 
 fn run(rt: &HostRuntime) -> Result<(), ScriptFault> {
-    if is_sql(rt)? {
-        play::<SqliteStore<MemStore>>(rt)
-    } else {
-        play::<VecStore>(rt)
-    }
+    let words = env::args(rt).map_err(|_| ScriptFault::Memory)?;
+    let words = words
+        .collect::<Vec<String>>(rt.alloc())
+        .map_err(|_| ScriptFault::Memory)?;
+    over_named(rt, words.as_slice())
 }
 
 fn main(rt: HostRuntime) -> ExitCode {

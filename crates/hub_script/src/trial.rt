@@ -1,17 +1,15 @@
 //! A hub that is tried by a script.
 use crate::fault::ScriptFault;
+use crate::opening::Opener;
 use crate::request::{payload, request_of};
 use crate::script::{Script, Words};
 use edi_base::{Items, Sink, copied, write_bytes};
 use edi_envelope::Moment;
 use gs1_ids::Gln;
 use hub_core::{Hub, Input, Outcome, Reply, Request};
-use hub_list::VecStore;
 use hub_register::Register;
-use hub_sql::SqliteStore;
 use hub_store::{Store, StoreFault};
 use hub_trial::TrialStore;
-use sqlite_trees::memory::MemStore;
 use std::alloc::Global;
 use std::str;
 
@@ -23,28 +21,11 @@ struct Caller {
     key: Items<u8>,
 }
 
-/// A store in memory that can be made without rows.
-pub trait Blank: Store + Drop {
-    /// A store without rows.
-    fn blank(alloc: Global) -> Result<Self, StoreFault>;
-}
-
-impl Blank for VecStore {
-    fn blank(alloc: Global) -> Result<Self, StoreFault> {
-        Ok(VecStore::new(alloc))
-    }
-}
-
-impl Blank for SqliteStore<MemStore> {
-    fn blank(alloc: Global) -> Result<Self, StoreFault> {
-        SqliteStore::in_memory(alloc)
-    }
-}
-
 /// The hub; who asks it; the inputs of a run that is not made yet; and whether replies are printed.
 #[derive(Drop)]
-pub struct Trial<S: Blank> {
+pub struct Trial<S: Store + Drop, O: Opener<S>> {
     alloc: Global,
+    opener: O,
     hub: Option<Hub<TrialStore<S>>>,
     caller: Option<Caller>,
     run: Option<Vec<Input>>,
@@ -62,9 +43,21 @@ fn word_of(outcome: Outcome) -> &'static str {
     }
 }
 
+// How a fault of opening is printed.
+fn word_of_fault(fault: StoreFault) -> &'static str {
+    match fault {
+        StoreFault::Memory => "memory",
+        StoreFault::Disk => "disk",
+        StoreFault::Unclean => "unclean",
+        StoreFault::Version => "version",
+    }
+}
+
 // The store of a line: plain, or one that fails at the call after so many others.
-fn store_of<S: Blank>(alloc: Global, words: &mut Words<'_>) -> Result<TrialStore<S>, ScriptFault> {
-    let plain = S::blank(alloc).map_err(|_| ScriptFault::Memory)?;
+fn store_of<S: Store + Drop>(
+    plain: S,
+    words: &mut Words<'_>,
+) -> Result<TrialStore<S>, ScriptFault> {
     let fault = match words.next_word() {
         b"" => return Ok(TrialStore::new(plain)),
         b"memory" => StoreFault::Memory,
@@ -75,11 +68,12 @@ fn store_of<S: Blank>(alloc: Global, words: &mut Words<'_>) -> Result<TrialStore
     Ok(TrialStore::failing(plain, calls, fault))
 }
 
-impl<S: Blank> Trial<S> {
+impl<S: Store + Drop, O: Opener<S>> Trial<S, O> {
     /// No hub yet.
-    pub fn new(alloc: Global) -> Self {
+    pub fn new(alloc: Global, opener: O) -> Self {
         Trial {
             alloc,
+            opener,
             hub: None,
             caller: None,
             run: None,
@@ -88,14 +82,19 @@ impl<S: Blank> Trial<S> {
     }
 
     /// Plays a script, and prints what it answers.
-    pub fn play<W: Sink>(&mut self, text: &[u8], out: &mut W) -> Result<(), ScriptFault> {
+    pub fn play<W: Sink>(
+        &mut self,
+        rt: &HostRuntime,
+        text: &[u8],
+        out: &mut W,
+    ) -> Result<(), ScriptFault> {
         let mut script = Script::new(text);
         // each line takes a byte at least
         for _ in 0..text.len() {
             let Some(mut words) = script.next_line() else {
                 return Ok(());
             };
-            self.obey(&mut words, &mut script, out)?;
+            self.obey(rt, &mut words, &mut script, out)?;
         }
         Ok(())
     }
@@ -103,6 +102,7 @@ impl<S: Blank> Trial<S> {
     // Does what a line says.
     fn obey<W: Sink>(
         &mut self,
+        rt: &HostRuntime,
         words: &mut Words<'_>,
         script: &mut Script<'_>,
         out: &mut W,
@@ -112,7 +112,7 @@ impl<S: Blank> Trial<S> {
             return self.ask(request, out);
         }
         match word {
-            b"hub" => self.make_hub(words, script),
+            b"hub" => self.make_hub(rt, words, script, out),
             b"as" => self.set_caller(words),
             b"run" => {
                 self.run = Some(Vec::new(self.alloc));
@@ -133,16 +133,27 @@ impl<S: Blank> Trial<S> {
         }
     }
 
-    // A new hub, by the text of its register.
-    fn make_hub(
+    // A hub, by the text of its register, over its store as it is opened anew.
+    fn make_hub<W: Sink>(
         &mut self,
+        rt: &HostRuntime,
         words: &mut Words<'_>,
         script: &mut Script<'_>,
+        out: &mut W,
     ) -> Result<(), ScriptFault> {
         let text = str::from_utf8(payload(words, script)?).map_err(|_| ScriptFault::Register)?;
         let register = Register::from_toml(self.alloc, text)?;
-        let store = store_of(self.alloc, words)?;
-        self.hub = Some(Hub::new(self.alloc, register, store));
+        // a file is opened once at a time
+        self.hub = None;
+        let plain = match self.opener.open(rt) {
+            Ok(plain) => plain,
+            Err(fault) => {
+                let word = word_of_fault(fault);
+                let line = format!(in self.alloc; "store {word}\n")?;
+                return Ok(write_bytes(line.as_bytes(), out)?);
+            }
+        };
+        self.hub = Some(Hub::new(self.alloc, register, store_of(plain, words)?));
         Ok(())
     }
 

@@ -1,0 +1,55 @@
+//! How the store of a hub is opened.
+use hub_list::VecStore;
+use hub_sql::SqliteStore;
+use hub_store::StoreFault;
+use sqlite_disk::{Start, Unknown};
+use sqlite_std_file::FileFrom;
+use sqlite_store::FileStore;
+use sqlite_trees::memory::MemStore;
+
+/// How the store of a hub is opened.
+pub trait Opener<S>: Drop {
+    /// The store, anew.
+    fn open(&self, rt: &HostRuntime) -> Result<S, StoreFault>;
+}
+
+/// In memory, without rows.
+#[derive(Drop)]
+pub struct InMemory;
+
+impl Opener<VecStore> for InMemory {
+    fn open(&self, rt: &HostRuntime) -> Result<VecStore, StoreFault> {
+        Ok(VecStore::new(rt.alloc()))
+    }
+}
+
+impl Opener<SqliteStore<MemStore>> for InMemory {
+    fn open(&self, rt: &HostRuntime) -> Result<SqliteStore<MemStore>, StoreFault> {
+        SqliteStore::in_memory(rt.alloc())
+    }
+}
+
+/// What is supposed of a file that is opened, made anew for each opening.
+pub trait Supposed: Start {
+    /// What is supposed.
+    fn supposed() -> Self;
+}
+
+impl Supposed for Unknown {
+    fn supposed() -> Unknown {
+        Unknown
+    }
+}
+
+/// In a file, with the rows that it has.
+#[derive(Drop)]
+pub struct InFile<'a> {
+    /// The path of the file.
+    pub path: &'a str,
+}
+
+impl<'a, T: Supposed> Opener<SqliteStore<FileStore<FileFrom<T>>>> for InFile<'a> {
+    fn open(&self, rt: &HostRuntime) -> Result<SqliteStore<FileStore<FileFrom<T>>>, StoreFault> {
+        SqliteStore::at_path(rt, self.path, T::supposed())
+    }
+}
