@@ -1,9 +1,123 @@
 //! The commands over a hub.
+use crate::fault::BeginFault;
+use crate::tell;
+use edi_base::{OfRead, OfWrite};
+use edi_envelope::Moment;
+use gs1_ids::Gln;
+use hub_app::{HubTask, HubWords, read_register_text};
+use hub_commands::{Folder, import_run, reply_run};
+use hub_core::{Hub, Request};
+use hub_register::Register;
+use hub_sql::SqliteStore;
+use jiff::Timestamp;
+use sqlite_disk::Unknown;
+use sqlite_std_file::FileFrom;
+use sqlite_store::FileStore;
+use std::fs::File;
 
-use hub_app::{FAILED, HubWords};
+/// A store in a file.
+type FileTables = SqliteStore<FileStore<FileFrom<Unknown>>>;
+
+// Who asks, and when.
+#[derive(Drop)]
+struct Caller<'a> {
+    moment: Moment,
+    gln: Gln,
+    key: &'a [u8],
+}
+
+// The register in a file.
+fn register_at(rt: &HostRuntime, path: &str) -> Result<Register, BeginFault> {
+    let file = File::open(rt, path).map_err(|_| BeginFault::File)?;
+    let text = read_register_text(rt.alloc(), &mut OfRead::new(file))?;
+    Ok(Register::from_toml(rt.alloc(), text.as_str())?)
+}
+
+// What the clock tells.
+fn now(rt: &HostRuntime) -> Result<Moment, BeginFault> {
+    let time = Timestamp::now(rt).map_err(|_| BeginFault::Clock)?;
+    let seconds = u64::try_from(time.as_second()).map_err(|_| BeginFault::Clock)?;
+    Moment::new(seconds).ok_or(BeginFault::Clock)
+}
+
+// Uploads what is in a folder.
+fn import(
+    rt: &HostRuntime,
+    hub: &mut Hub<FileTables>,
+    caller: &Caller<'_>,
+    folder: &str,
+) -> Result<u8, BeginFault> {
+    let mut files = Folder::open(rt, folder)?;
+    Ok(import_run(
+        rt.alloc(),
+        hub,
+        caller.moment,
+        &caller.gln,
+        caller.key,
+        &mut files,
+        &mut OfWrite::new(rt.stdout()),
+    ))
+}
+
+// Asks once, and prints the reply.
+fn ask(
+    rt: &HostRuntime,
+    hub: &mut Hub<FileTables>,
+    caller: &Caller<'_>,
+    request: Request,
+) -> Result<u8, BeginFault> {
+    let reply = hub.step(caller.moment, &caller.gln, caller.key, request);
+    Ok(reply_run(&reply, &mut OfWrite::new(rt.stdout())))
+}
+
+// Does what is asked of the hub.
+fn obey(
+    rt: &HostRuntime,
+    hub: &mut Hub<FileTables>,
+    caller: &Caller<'_>,
+    task: HubTask<'_>,
+) -> Result<u8, BeginFault> {
+    let request = match task {
+        HubTask::Import(folder) => return import(rt, hub, caller, folder),
+        HubTask::Status(None) => Request::Status,
+        HubTask::Status(Some(supplier)) => Request::StatusOf(supplier),
+        HubTask::MailAfter(number) => Request::MailAfter(number),
+        HubTask::MailItem(number) => Request::MailItem(number),
+        HubTask::MailTaken(number) => Request::MailTaken(number),
+        HubTask::Cancel(cancel) => Request::Cancel(cancel),
+    };
+    ask(rt, hub, caller, request)
+}
+
+// Closes the database file, with all that stands in the log beside it. What was accepted is kept where that fails too.
+fn close(hub: Hub<FileTables>) {
+    let (_register, store) = hub.into_store();
+    let _ = store.into_connection().close();
+}
+
+// Begins, and then does what is asked.
+fn begin(rt: &HostRuntime, words: HubWords<'_>) -> Result<u8, BeginFault> {
+    let register = register_at(rt, words.register)?;
+    let store = SqliteStore::at_path(rt, words.db, Unknown)?;
+    let moment = match words.moment {
+        Some(moment) => moment,
+        None => now(rt)?,
+    };
+    let caller = Caller {
+        moment,
+        gln: words.caller,
+        key: words.key.as_bytes(),
+    };
+    let mut hub = Hub::new(rt.alloc(), register, store);
+    let status = obey(rt, &mut hub, &caller, words.task);
+    close(hub);
+    status
+}
 
 /// Runs a command over a hub, and answers the exit status.
-pub(crate) fn over_a_hub(rt: &HostRuntime, _words: &HubWords<'_>) -> u8 {
-    let _ = rt.eprintln("the hub is not there yet");
-    FAILED
+pub(crate) fn over_a_hub(rt: &HostRuntime, words: HubWords<'_>) -> u8 {
+    match begin(rt, words) {
+        Ok(status) => status,
+        Err(fault) => tell(rt, fault, fault.status()),
+    }
 }

@@ -1,6 +1,7 @@
 //! The program `edihub`: the EDI hub of one retailer.
 #![tactic(auto)]
 
+mod fault;
 mod hub;
 
 use clap::Error;
@@ -18,7 +19,7 @@ use std::{env, io};
 const USAGE: u8 = 2;
 
 // Prints a line on standard error. Where that fails, the exit status alone tells.
-fn tell<T: Display + Drop>(rt: &HostRuntime, line: T, status: u8) -> u8 {
+pub(crate) fn tell<T: Display + Drop>(rt: &HostRuntime, line: T, status: u8) -> u8 {
     let _ = rt.eprintln(line);
     status
 }
@@ -64,7 +65,7 @@ fn run(rt: &HostRuntime, words: &[String]) -> u8 {
             &mut OfWrite::new(rt.stdout()),
             &mut OfWrite::new(rt.stderr()),
         ),
-        Ok(Words::Hub(words)) => over_a_hub(rt, &words),
+        Ok(Words::Hub(words)) => over_a_hub(rt, words),
         Err(WordsFault::Told(error)) => tell_words(rt, &error),
         Err(WordsFault::Memory) => tell(rt, "memory", FAILED),
     }
