@@ -18,3 +18,7 @@ class Case:
     memory: int = 0
     # files in the folder in which the program runs
     files: dict = field(default_factory=dict)
+    # what is wrong with that folder afterwards, if anything
+    after: object = None
+    # further cases in the same folder, one after another
+    then: list = field(default_factory=list)

@@ -1,4 +1,4 @@
-"""`make test`: the gate (rt ci), and then the cases of cases.py and hubs.py on the programs that the gate built.
+"""`make test`: the gate (rt ci), and then the cases of cases.py, hubs.py and files.py on the programs that the gate built.
 The last line is `N passed, M failed` over both. With `--alone`, the cases alone, on the programs that stand."""
 import os
 import re
@@ -8,8 +8,11 @@ import sys
 import tempfile
 
 import cases
+import files
 import hubs
+import made
 import refusals
+import stops
 
 ROOT = os.path.dirname(os.path.dirname(os.path.abspath(__file__)))
 SECONDS = 60
@@ -21,7 +24,15 @@ def built(crate):
 
 
 # each program, and its cases
-PROGRAMS = [(built("edihub"), cases.CASES), (built("hub_script"), hubs.HUBS + hubs.OVER_SQL)]
+PROGRAMS = [(built("edihub"), cases.CASES), (built("hub_script"), hubs.HUBS + hubs.OVER_SQL + files.FILES)]
+
+# what is tried on the scripts' program many times over: each says what is wrong, if anything
+TRIALS = [
+    ("a file that another program holds open", files.held_open),
+    ("made runs", made.made_runs),
+    ("changes of files stopped in turn", stops.stops),
+    ("allocations refused in turn", refusals.refusals),
+]
 
 
 def gate():
@@ -51,7 +62,9 @@ def gate():
 def run(program, case, folder):
     """Why the case fails, or nothing."""
     for name, data in case.files.items():
-        with open(os.path.join(folder, name), "wb") as file:
+        path = os.path.join(os.fsencode(folder), os.fsencode(name))
+        os.makedirs(os.path.dirname(path), exist_ok=True)
+        with open(path, "wb") as file:
             file.write(data)
     with tempfile.TemporaryFile() as source:
         source.write(case.input)
@@ -70,7 +83,10 @@ def run(program, case, folder):
     for what, found, wanted in (("status", ran.returncode, case.status), ("output", ran.stdout or b"", case.output), ("error", ran.stderr, case.error)):
         if callable(wanted) and not wanted(found) or not callable(wanted) and found != wanted:
             return f"{what} is {found!r:.300}" + ("" if callable(wanted) else f", not {wanted!r:.300}")
-    return None
+    why = case.after(folder) if case.after else None
+    for step in case.then:
+        why = why or run(program, step, folder)
+    return why
 
 
 def program_cases(program, of_program):
@@ -99,10 +115,11 @@ def main(words):
         more_passed, more_failed = program_cases(program, of_program)
         passed, failed = passed + more_passed, failed + more_failed
     if os.path.isfile(built("hub_script")):
-        why = refusals.refusals(built("hub_script"))
-        if why:
-            print(f"allocations refused in turn: {why}")
-        passed, failed = (passed, failed + 1) if why else (passed + 1, failed)
+        for name, trial in TRIALS:
+            why = trial(built("hub_script"))
+            if why:
+                print(f"{name}: {why}")
+            passed, failed = (passed, failed + 1) if why else (passed + 1, failed)
     spent = resource.getrusage(resource.RUSAGE_CHILDREN)
     print(f"processor time: {(spent.ru_utime + spent.ru_stime) / 60:.1f} minutes")
     print(f"{passed} passed, {failed} failed")

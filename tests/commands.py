@@ -1,0 +1,315 @@
+"""Cases of the commands over a hub: words, a register, folders and a database file, step by step in one folder."""
+import os
+import re
+import subprocess
+import tempfile
+
+import files
+from case import Case
+from envelopes import ORDERS
+from files import NAME, has_rows, is_still, is_whole
+from hubs import ALPHA, BETA, DESPATCH, FIRST_MAIL, HUB, KEYS, RECEIPT, RESPONSE, RETAILER, SECOND, STATUS, TWO_SUPPLIERS
+from hubs import OTHER_PALLET, despatch, interchange, line_status, order, response
+from registers import of_prefixes
+from stops import SHIM
+
+REGISTER = "register.toml"
+MOMENT = "1748942400"
+KEPT = os.path.join(os.path.dirname(os.path.abspath(__file__)), "kept")
+
+
+def over(command, who, *more, key=None, moment=MOMENT, db=NAME, register=REGISTER):
+    words = [command, "--register", register, "--db", db, "--as", who, "--key", key or KEYS.get(who, "a-key-of-nobody"), *more]
+    return words + (["--moment", moment] if moment else [])
+
+
+def step(words, output="", status=0, error="", files=(), after=None):
+    """One command, and what it prints."""
+    data = {name: it if isinstance(it, bytes) else it.encode("latin-1") for name, it in dict(files).items()}
+    output, error = (it if callable(it) or isinstance(it, bytes) else it.encode("latin-1") for it in (output, error))
+    return Case("", words, output=output, error=error, status=status, files=data, after=after)
+
+
+def steps(name, first, *rest):
+    """The commands, one after another, with a register beside them."""
+    first.name, first.then = name, list(rest)
+    first.files = {REGISTER: TWO_SUPPLIERS.encode(), **first.files}
+    return first
+
+
+def told(*lines):
+    return "".join(line + "\n" for line in lines)
+
+
+def imported(who, folder, *uploads, status=0, **how):
+    """An import of a folder: of each file its name, its text and the lines of its reply."""
+    printed = "".join(told(f"file {name}", *lines) for name, _, *lines in uploads)
+    return step(over("import", who, "--folder", folder, **how), printed, status, files={f"{folder}/{name}": text for name, text, *_ in uploads})
+
+
+def one(who, folder, reference, kind, text, word="accepted"):
+    status = 1 if word.startswith("refused") else 0
+    return imported(who, folder, (f"{folder}.edi", text, f"interchange {reference} messages 1", f"1 {kind} {word}"), status=status)
+
+
+def status_of(supplier, *lines):
+    return step(over("status", supplier), told(*lines, "end"))
+
+
+def cancelled(reference, quantity, word, line="1", status=0):
+    words = ("--supplier", ALPHA, "--reference", reference, "--order", "128576", "--line", line, "--quantity", quantity)
+    return step(over("cancel", RETAILER, *words), told(word), status)
+
+
+def mail(supplier, what, number, printed, status=0):
+    return step(over("mail", supplier, "--do", what, "--n", str(number)), printed, status)
+
+
+def in_turn():
+    """Orders, answers, despatches, receipts and cancellations of one supplier, each by a command of its own."""
+    return steps(
+        "orders, answers, despatches and receipts, each by a command of its own",
+        one(RETAILER, "1", "1001", "ORDERS", ORDERS),
+        mail(ALPHA, "item", 1, FIRST_MAIL),
+        one(RETAILER, "1", "1001", "ORDERS", ORDERS, "repeated"),
+        one(RETAILER, "3", "1001", "ORDERS", ORDERS.replace("QTY+21:48", "QTY+21:49"), "refused B03"),
+        one(RETAILER, "4", "1002", "ORDERS", SECOND),
+        imported(RETAILER, "5", ("5.edi", ORDERS.replace("1001'", "1003'").replace("UNT+10+1", "UNT+9+1"), "refused E12"), status=1),
+        imported(RETAILER, "6", ("6.edi", "", "refused E06"), status=1),
+        one(ALPHA, "8", "S1", "ORDRSP", RESPONSE),
+        one(ALPHA, "9", "S2", "DESADV", DESPATCH),
+        one(ALPHA, "12", "S6", "DESADV", interchange(ALPHA, "S6", despatch("DA4", OTHER_PALLET, 12, order="128577"))),
+        one(ALPHA, "12b", "S7", "ORDRSP", interchange(ALPHA, "S7", response("R2", 27, order="128577"))),
+        one(RETAILER, "13", "1005", "RECADV", RECEIPT),
+        status_of(ALPHA, *STATUS),
+        step(over("status", RETAILER, "--of", ALPHA), told(*STATUS, "end")),
+        status_of(BETA),
+        mail(ALPHA, "after", 0, told("             1 ORDERS 128576", "             2 ORDERS 128577", "             3 RECADV G1", "end")),
+        mail(ALPHA, "taken", 1, told("taken")),
+        mail(ALPHA, "after", 0, told("             2 ORDERS 128577", "             3 RECADV G1", "end")),
+        mail(ALPHA, "item", "00000000000001", FIRST_MAIL),
+        cancelled("C1", "10", "accepted"),
+        status_of(ALPHA, line_status("128576", "C", 48, 14, 12, 10, 12), *STATUS[1:]),
+        cancelled("C1", "10", "repeated"),
+        cancelled("C1", "010", "repeated", line="01"),
+        cancelled("C2", "15", "refused B17", status=1),
+        cancelled("C1", "11", "refused B03", status=1),
+    )
+
+
+def folder_in_order():
+    """The files of a folder by the bytes of their names, and the same folder again."""
+    uploads = {name: interchange(RETAILER, f"100{k}", order(f"12857{k}")) for k, name in enumerate(("B.edi", "a.edi", "b.edi"))}
+    lines = lambda word: [(name, text, f"interchange 100{k} messages 1", f"1 ORDERS {word}") for k, (name, text) in enumerate(uploads.items())]
+    rows = {'"order"': [(ALPHA.encode(), f"12857{k}".encode()) for k in range(3)]}
+    return steps(
+        "the files of a folder in the order of their names, twice",
+        imported(RETAILER, "in", *lines("accepted")),
+        imported(RETAILER, "in", *lines("repeated")),
+        step(over("status", ALPHA), told(*(line_status(f"12857{k}", "W", 48, 48, 0, 0, 0) for k in range(3)), "end"), after=has_rows(rows)),
+    )
+
+
+def make_folder(folder):
+    """What is no plain file, beside one that is, and two names that are no UTF-8."""
+    base = os.path.join(folder, "in")
+    os.mkdir(os.path.join(base, "more"))
+    os.symlink("a.edi", os.path.join(base, "link.edi"))
+    os.mkfifo(os.path.join(base, "pipe.edi"))
+    for name in (b"\xff.edi", b"a\xc3.edi"):
+        with open(os.path.join(os.fsencode(base), name), "wb") as file:
+            file.write(ORDERS.encode())
+
+
+def what_is_no_file():
+    upload = ("a.edi", ORDERS, "interchange 1001 messages 1", "1 ORDERS accepted")
+    first = imported(RETAILER, "in", upload)
+    first.after = make_folder
+    again = told("file a.edi", "interchange 1001 messages 1", "1 ORDERS repeated", "fault", "fault")
+    return steps("what is no plain file, and names that are no UTF-8", first, step(over("import", RETAILER, "--folder", "in"), again, 3))
+
+
+def cuts():
+    """An interchange cut at each of its lengths: each is refused, and nothing of it is taken."""
+    uploads = {f"in/{length:03}.edi": ORDERS[:length] for length in range(len(ORDERS))}
+    each = re.compile("".join(f"file {name[3:]}\nrefused E0[2346]\n" for name in uploads).encode())
+    return steps(
+        "an interchange cut at each of its lengths",
+        step(over("import", RETAILER, "--folder", "in"), lambda found: bool(each.fullmatch(found)), 1, files=uploads),
+        status_of(ALPHA),
+    )
+
+
+def long_mailbox():
+    orders = [order(str(1000 + k), reference=k) for k in range(1, 102)]
+    lines = [f"{k} ORDERS accepted" for k in range(1, 102)]
+    entries = [f"{k:>14} ORDERS {1000 + k}" for k in range(1, 102)]
+    return steps(
+        "a mailbox of 101 entries, by commands",
+        imported(RETAILER, "in", ("in.edi", interchange(RETAILER, "1001", *orders), "interchange 1001 messages 101", *lines)),
+        mail(ALPHA, "after", 0, told(*entries[:100], "more")),
+        mail(ALPHA, "after", 100, told(entries[100], "end")),
+        mail(ALPHA, "taken", 102, told("unknown"), 1),
+        mail(ALPHA, "item", 102, told("unknown"), 1),
+    )
+
+
+def two_suppliers():
+    alike = line_status("128576", "W", 48, 48, 0, 0, 0)
+    return steps(
+        "one order number for two suppliers, by commands",
+        *(one(RETAILER, supplier, "1001", "ORDERS", interchange(RETAILER, "1001", order(supplier=supplier))) for supplier in (BETA, ALPHA)),
+        *(status_of(supplier, alike) for supplier in (ALPHA, BETA)),
+        *(mail(supplier, "after", 0, told("             1 ORDERS 128576", "end")) for supplier in (ALPHA, BETA)),
+    )
+
+
+def denied():
+    """Who is not known, or may not ask it, is denied: of a folder for each file."""
+    uploads = (("a.edi", ORDERS, "denied"), ("b.edi", SECOND, "denied"))
+    return steps(
+        "a wrong key, and what a side may not ask",
+        imported(RETAILER, "in", *uploads, status=1, key="another-key"),
+        step(over("status", RETAILER), told("denied"), 1),
+        step(over("status", ALPHA, key=KEYS[BETA]), told("denied"), 1),
+        step(over("status", ALPHA, "--of", BETA), told("denied"), 1),
+        step(over("status", RETAILER, "--of", HUB), told("unknown"), 1),
+        mail(RETAILER, "after", 0, told("denied"), 1),
+    )
+
+
+def begins():
+    """Faults are looked for in the order register, store, clock, folder, and the first is told alone."""
+    wrong = of_prefixes("4012345", "40123455")
+    nine = files.file_of(files.TABLES, files.ROWS, "UPDATE schema SET number = 9")
+    words = lambda **how: over("import", RETAILER, "--folder", "none", **how)
+    return [
+        steps("a folder that is not there", step(words(), "", 3, "file\n")),
+        steps("a folder that is a file", step(over("import", RETAILER, "--folder", REGISTER), "", 3, "file\n")),
+        steps("an empty folder", step(over("import", RETAILER, "--folder", "in"), files={"in/x/y": ""})),
+        steps("a register that is not there", step(words(register="none.toml"), "", 3, "file\n")),
+        steps("prefixes that overlap", step(words(register="wrong.toml"), "", 1, "fault overlap 1 2\n", {"wrong.toml": wrong})),
+        steps("prefixes that overlap, before a schema of number 9", step(words(register="wrong.toml"), "", 1, "fault overlap 1 2\n", {"wrong.toml": wrong, NAME: nine}, is_still(nine))),
+        steps("a schema of number 9, before a folder that is not there", step(words(), "", 3, "store version\n", {NAME: nine}, is_still(nine))),
+        steps("a database file that is none", step(words(), "", 3, "store disk\n", {NAME: b"no database\n" * 1000})),
+        steps("a database in a folder that is not there", step(words(db="none/hub.db"), "", 3, "store disk\n")),
+        steps("a row that is none of the kinds", step(over("status", ALPHA), told("stopped"), 3, files={NAME: files.file_of(files.TABLES, files.ROWS, files.SPOILED[0][1])})),
+    ]
+
+
+def by_the_clock():
+    """Without a moment the clock tells it: the mail has a date of this century."""
+    now = re.compile(FIRST_MAIL.replace("250603:0920", "DATE").replace("+", r"\+").replace("?", r"\?").replace(".", r"\.").replace("DATE", r"\d{6}:\d{4}").encode())
+    return steps(
+        "without a moment",
+        imported(RETAILER, "in", ("a.edi", ORDERS, "interchange 1001 messages 1", "1 ORDERS accepted"), moment=None),
+        step(over("mail", ALPHA, "--do", "item", "--n", "1", moment=None), lambda found: bool(now.fullmatch(found))),
+    )
+
+
+def broken_output():
+    """Where standard output breaks off, what was accepted stays accepted."""
+    full = Case("", over("import", RETAILER, "--folder", "in"), output_to="/dev/full", status=3, files={"in/a.edi": ORDERS.encode()})
+    return steps(
+        "standard output is full",
+        full,
+        imported(RETAILER, "in", ("a.edi", ORDERS, "interchange 1001 messages 1", "1 ORDERS accepted")),
+        imported(RETAILER, "in", ("a.edi", ORDERS, "interchange 1001 messages 1", "1 ORDERS repeated")),
+    )
+
+
+def kept():
+    """A database file of schema 1 as it was first written: every later program opens it."""
+    with open(os.path.join(KEPT, "schema1.db"), "rb") as file:
+        data = file.read()
+    with open(os.path.join(KEPT, "schema1.status"), "r", encoding="ascii") as file:
+        status = file.read()
+    return steps(
+        "a database file that was written once for good",
+        step(over("status", ALPHA), status, files={NAME: data}),
+        mail(ALPHA, "item", 1, FIRST_MAIL),
+        one(RETAILER, "1", "1001", "ORDERS", ORDERS, "repeated"),
+        one(ALPHA, "9", "S2", "DESADV", DESPATCH, "repeated"),
+    )
+
+
+COMMANDS = [in_turn(), folder_in_order(), what_is_no_file(), cuts(), long_mailbox(), two_suppliers(), denied(), *begins(), by_the_clock(), broken_output(), kept()]
+
+
+def made_folder(folder, count=12):
+    """A folder of so many orders."""
+    os.makedirs(os.path.join(folder, "in"))
+    with open(os.path.join(folder, REGISTER), "w", encoding="ascii") as file:
+        file.write(TWO_SUPPLIERS)
+    for k in range(count):
+        with open(os.path.join(folder, "in", f"{k:02}.edi"), "w", encoding="ascii") as file:
+            file.write(interchange(RETAILER, f"U{k}", order(str(k))))
+    return count
+
+
+def killed(program):
+    """What is wrong where an import is killed at a change of its files and then made again, if anything."""
+    with tempfile.TemporaryDirectory() as top:
+        shim, count_file = os.path.join(top, "stop.so"), os.path.join(top, "count")
+        subprocess.run(["cc", "-O2", "-shared", "-fPIC", "-o", shim, SHIM, "-ldl"], check=True)
+
+        def imports(folder, **variables):
+            ran = subprocess.run([program, *over("import", RETAILER, "--folder", "in")], cwd=folder, capture_output=True, env=variables, timeout=60)
+            return ran.returncode, ran.stdout.decode()
+
+        def replies(words):
+            return "".join(told(f"file {k:02}.edi", f"interchange U{k} messages 1", f"1 ORDERS {word}") for k, word in enumerate(words))
+
+        def tried(number):
+            with tempfile.TemporaryDirectory(dir=top) as folder:
+                count = made_folder(folder)
+                name = os.path.join(folder, NAME)
+                status, printed = imports(folder, LD_PRELOAD=shim, STOP_FILE=name, STOP=str(number), COUNT=count_file)
+                done = printed.count(" ORDERS accepted\n")
+                if not number:
+                    return None if (status, printed) == (0, replies(["accepted"] * count)) else f"whole: {status}, {printed!r:.200}"
+                if status != 9 or not replies(["accepted"] * count).startswith(printed):
+                    return f"killed at {number}: {status}, {printed!r:.200}"
+                status, printed = imports(folder)
+                again = [replies(["repeated"] * k + ["accepted"] * (count - k)) for k in (done, done + 1) if k <= count]
+                if status or printed not in again:
+                    return f"killed at {number}, then: {status}, {printed!r:.200}"
+                return is_whole(folder)
+
+        why = tried(0)
+        with open(count_file, encoding="ascii") as file:
+            changes = int(file.read())
+        turns = range(1, changes + 1, max(1, changes // 40))
+        for number in turns:
+            why = why or tried(number)
+        if not why:
+            print(f"an import killed at {len(turns)} of {changes} changes of its files, and made again")
+        return why
+
+
+def held_open(program):
+    """What is wrong where a second command comes while one has the file open, if anything. The first waits for its output to be read."""
+    with tempfile.TemporaryDirectory() as folder:
+        made_folder(folder, 1500)
+        with subprocess.Popen([program, *over("import", RETAILER, "--folder", "in")], cwd=folder, stdout=subprocess.PIPE) as first:
+            try:
+                printed = first.stdout.read(1)
+                second = subprocess.run([program, *over("status", ALPHA)], cwd=folder, capture_output=True, timeout=60)
+                printed += first.stdout.read()
+            finally:
+                first.kill()
+        if (second.returncode, second.stdout, second.stderr) != (3, b"", b"store disk\n"):
+            return f"the second: {second.returncode}, {second.stdout!r:.100}, {second.stderr!r:.100}"
+        return f"the first: {printed[-100:]!r}" if printed.count(b" accepted\n") != 1500 else is_whole(folder)
+
+
+def day(program):
+    """What is wrong with the days of the example, if anything."""
+    example = os.path.join(os.path.dirname(os.path.abspath(__file__)), "..", "examples", "day")
+    ran = subprocess.run(["sh", os.path.join(example, "day.sh"), program], capture_output=True, timeout=60)
+    with open(os.path.join(example, "printed"), "rb") as file:
+        wanted = file.read()
+    return None if (ran.returncode, ran.stdout, ran.stderr) == (0, wanted, b"") else f"{ran.returncode}, {ran.stdout!r:.300}, {ran.stderr!r:.100}"
+
+
+TRIALS = [("an import that is killed and made again", killed), ("a file that another command has open", held_open), ("the days of the example", day)]

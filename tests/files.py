@@ -1,0 +1,259 @@
+"""Cases of a hub over a file of SQL: scripts for `hub_script file hub.db`, files as SQLite itself writes them, and what is told of
+a file that is none of a hub."""
+import os
+import re
+import sqlite3
+import subprocess
+import tempfile
+from dataclasses import replace
+
+from case import Case
+from hubs import ALPHA, DESPATCH, FIRST_MAIL, HUBS, ORDERS, PALLET, RESPONSE, RETAILER, STATUS
+from hubs import Play, accepted, line_status
+
+NAME = "hub.db"
+WORDS = ["file", NAME]
+
+# The tables of schema 1, as every file has them.
+TABLES = """
+CREATE TABLE schema (number INTEGER NOT NULL) STRICT;
+CREATE TABLE "order" (supplier BLOB NOT NULL, number BLOB NOT NULL, PRIMARY KEY (supplier, number)) STRICT;
+CREATE TABLE line (supplier BLOB NOT NULL, number BLOB NOT NULL, line INTEGER NOT NULL, gtin BLOB NOT NULL, ordered INTEGER NOT NULL, open_qty INTEGER NOT NULL, refused INTEGER NOT NULL, cancelled INTEGER NOT NULL, answer INTEGER NOT NULL, PRIMARY KEY (supplier, number, line)) STRICT;
+CREATE TABLE advice (supplier BLOB NOT NULL, number BLOB NOT NULL, PRIMARY KEY (supplier, number)) STRICT;
+CREATE TABLE pallet (sscc BLOB NOT NULL, supplier BLOB NOT NULL, advice BLOB NOT NULL, received INTEGER NOT NULL, PRIMARY KEY (sscc), UNIQUE (supplier, sscc)) STRICT;
+CREATE TABLE content (sscc BLOB NOT NULL, place INTEGER NOT NULL, number BLOB NOT NULL, line INTEGER NOT NULL, quantity INTEGER NOT NULL, PRIMARY KEY (sscc, place)) STRICT;
+CREATE TABLE receipt (sscc BLOB NOT NULL, gtin BLOB NOT NULL, accepted INTEGER NOT NULL, returned INTEGER NOT NULL, destroyed INTEGER NOT NULL, PRIMARY KEY (sscc, gtin)) STRICT;
+CREATE TABLE remembered (supplier BLOB NOT NULL, side INTEGER NOT NULL, control BLOB NOT NULL, message BLOB NOT NULL, content BLOB NOT NULL, PRIMARY KEY (supplier, side, control, message)) STRICT;
+CREATE TABLE mail (supplier BLOB NOT NULL, number INTEGER NOT NULL, moment INTEGER NOT NULL, decimal INTEGER NOT NULL, kind INTEGER NOT NULL, document BLOB NOT NULL, body BLOB NOT NULL, taken INTEGER NOT NULL, PRIMARY KEY (supplier, number)) STRICT;
+"""
+
+# What stands in them after the first order, its changed answer and its despatch.
+SUPPLIER, NUMBER, ITEM = ALPHA.encode(), b"128576", b"04000862141404"
+BODY = FIRST_MAIL[FIRST_MAIL.index("UNH") : FIRST_MAIL.index("UNZ")].encode()
+
+
+def canonical(interchange):
+    """The canonical text of its one message."""
+    return interchange[interchange.index("UNH") : interchange.index("UNZ")].encode()
+
+
+ROWS = {
+    "schema": [(1,)],
+    '"order"': [(SUPPLIER, NUMBER)],
+    "line": [(SUPPLIER, NUMBER, 1, ITEM, 48, 24, 12, 0, ord("C"))],
+    "advice": [(SUPPLIER, b"DA1")],
+    "pallet": [(PALLET.encode(), SUPPLIER, b"DA1", 0)],
+    "content": [(PALLET.encode(), 1, NUMBER, 1, 12)],
+    "receipt": [],
+    "remembered": [
+        (SUPPLIER, ord("R"), b"1001", b"1", canonical(ORDERS)),
+        (SUPPLIER, ord("S"), b"S1", b"1", canonical(RESPONSE)),
+        (SUPPLIER, ord("S"), b"S2", b"1", canonical(DESPATCH)),
+    ],
+    "mail": [(SUPPLIER, 1, 1748942400, ord("."), ord("O"), NUMBER, BODY, 0)],
+}
+
+
+def file_of(tables=TABLES, rows=ROWS, *changes):
+    """The bytes of a file that SQLite made of tables and rows, with these statements after them."""
+    with tempfile.TemporaryDirectory() as folder:
+        path = os.path.join(folder, NAME)
+        made = sqlite3.connect(path, isolation_level=None)
+        made.executescript(tables)
+        for table, its_rows in rows.items():
+            for row in its_rows:
+                made.execute(f"INSERT INTO {table} VALUES ({', '.join('?' * len(row))})", row)
+        for change in changes:
+            made.execute(change)
+        made.close()
+        with open(path, "rb") as file:
+            return file.read()
+
+
+def rows_in(folder):
+    """All rows of all tables of the file, as SQLite reads them, and what it says of the file's integrity."""
+    read = sqlite3.connect(os.path.join(folder, NAME))
+    try:
+        whole = read.execute("PRAGMA integrity_check").fetchall()
+        return whole, {table: sorted(read.execute(f"SELECT * FROM {table}").fetchall()) for table in ROWS}
+    finally:
+        read.close()
+
+
+def is_whole(folder):
+    """What SQLite finds wrong with the file."""
+    whole, _ = rows_in(folder)
+    return None if whole == [("ok",)] else f"integrity: {whole}"
+
+
+def has_rows(wanted):
+    def after(folder):
+        whole, rows = rows_in(folder)
+        if whole != [("ok",)]:
+            return f"integrity: {whole}"
+        wrong = [table for table in wanted if rows[table] != sorted(wanted[table])]
+        return f"rows of {wrong}: {rows[wrong[0]]}" if wrong else None
+
+    return after
+
+
+def is_still(data):
+    """The file is as it was, with no change in a log beside it."""
+
+    def after(folder):
+        with open(os.path.join(folder, NAME), "rb") as file:
+            if file.read() != data:
+                return "the file changed"
+        log = os.path.join(folder, NAME + "-wal")
+        return "a log stands beside it" if os.path.exists(log) and os.path.getsize(log) > 32 else None
+
+    return after
+
+
+def over_file(case):
+    return replace(case, name=f"over a file: {case.name}", words=WORDS, after=is_whole)
+
+
+def despatched():
+    """The first order, its answer and its despatch."""
+    play = accepted(Play(), RETAILER, "1001", "ORDERS", ORDERS)
+    accepted(play, ALPHA, "S1", "ORDRSP", RESPONSE)
+    return accepted(play, ALPHA, "S2", "DESADV", DESPATCH)
+
+
+def of_file(name, play, data, after=is_whole):
+    return Case(name, WORDS, play.script, play.printed, files={NAME: data}, after=after)
+
+
+def looked_at(play):
+    """What a file with these rows says."""
+    announced = f"P {PALLET} 04000862141404 A {12:>14} {0:>14} {0:>14} {0:>14} {'+0':>15}"
+    play.status(line_status("128576", "C", 48, 24, 12, 0, 12), announced)
+    play.list(0, (1, "ORDERS", "128576")).item(1, FIRST_MAIL)
+    play.upload(RETAILER, ORDERS, "interchange 1001 messages 1", "1 ORDERS repeated")
+    return play.upload(ALPHA, DESPATCH, "interchange S2 messages 1", "1 DESADV repeated")
+
+
+def opened_anew():
+    """Written, closed and opened again, in one script."""
+    play = despatched()
+    again = Play()
+    play.script += again.script
+    play.who = None
+    return looked_at(play)
+
+
+def told(fault):
+    """A file that is not opened."""
+    play = Play()
+    play.printed = f"store {fault}\n".encode()
+    return play
+
+
+def not_opened(name, fault, data):
+    return of_file(name, told(fault), data, is_still(data))
+
+
+def without(word, tables=TABLES):
+    assert word in tables
+    return tables.replace(word, "", 1)
+
+
+OTHERS = [
+    ("a schema of number 9", file_of(TABLES, ROWS, "UPDATE schema SET number = 9")),
+    ("a schema of number 0", file_of(TABLES, ROWS, "UPDATE schema SET number = 0")),
+    ("a schema without its number", file_of(TABLES, ROWS, "DELETE FROM schema")),
+    ("a schema with two numbers", file_of(TABLES, ROWS, "INSERT INTO schema VALUES (1)")),
+    ("tables without that of the number", file_of(without("CREATE TABLE schema (number INTEGER NOT NULL) STRICT;"), {})),
+    ("one table of something else", file_of("CREATE TABLE note (text TEXT);", {})),
+    ("a table more", file_of(TABLES + "CREATE TABLE note (text TEXT);", ROWS)),
+    ("a table less", file_of(TABLES, ROWS, "DROP TABLE advice")),
+    ("an index more", file_of(TABLES, ROWS, "CREATE INDEX lines_by_item ON line (gtin)")),
+    ("a view", file_of(TABLES, ROWS, "CREATE VIEW waiting AS SELECT * FROM line WHERE answer = 87")),
+    ("a column that takes NULL", file_of(TABLES.replace("content BLOB NOT NULL, PRIMARY", "content BLOB, PRIMARY"), ROWS)),
+    ("a column less", file_of(TABLES.replace(", cancelled INTEGER NOT NULL", ""), {"schema": ROWS["schema"]})),
+    ("pallets without their second key", file_of(TABLES.replace(", UNIQUE (supplier, sscc)", ""), ROWS)),
+    ("a table that is not strict", file_of(TABLES.replace("PRIMARY KEY (sscc, gtin)) STRICT", "PRIMARY KEY (sscc, gtin))"), ROWS)),
+]
+
+# A cell of a row that is none of the kinds, and what is asked that meets it.
+SPOILED = [
+    ("more open and refused than ordered", "UPDATE line SET open_qty = 48, refused = 1, cancelled = 0", "status"),
+    ("more cancelled than ordered", "UPDATE line SET cancelled = 13", "status"),
+    ("an item with a wrong check digit", "UPDATE line SET gtin = CAST('04000862141405' AS BLOB)", "status"),
+    ("an item of 13 digits", "UPDATE line SET gtin = CAST('4000862141404' AS BLOB)", "status"),
+    ("an order number of 36 bytes", "UPDATE line SET number = CAST('123456789012345678901234567890123456' AS BLOB)", "status"),
+    ("an order number without bytes", "UPDATE line SET number = x''", "status"),
+    ("an order number with a line end", "UPDATE line SET number = x'31320a'", "status"),
+    ("an answer that is no case", "UPDATE line SET answer = 88", "status"),
+    ("a quantity below zero", "UPDATE line SET refused = -1", "status"),
+    ("a quantity past its limit", "UPDATE line SET ordered = 1000000000", "status"),
+    ("nothing ordered", "UPDATE line SET ordered = 0, open_qty = 0, refused = 0", "status"),
+    ("line 0", "UPDATE line SET line = 0", "status"),
+    ("a pallet neither announced nor received", "UPDATE pallet SET received = 2", "status"),
+    ("a pallet with a wrong check digit", "UPDATE pallet SET sscc = CAST('340123455000000013' AS BLOB)", "status"),
+    ("an advice number of 36 bytes", "UPDATE pallet SET advice = CAST('123456789012345678901234567890123456' AS BLOB)", "status"),
+    ("a content of nothing", "UPDATE content SET quantity = 0", "status"),
+    ("a content at place 0", "UPDATE content SET place = 0", "status"),
+    ("an entry of no type", "UPDATE mail SET kind = 0", "after 0"),
+    ("an entry with another decimal mark", "UPDATE mail SET decimal = 45", "after 0"),
+    ("an entry later than 2099", "UPDATE mail SET moment = 4102444800", "item 1"),
+    ("an entry that is half taken", "UPDATE mail SET taken = 2", "item 1"),
+    ("an entry below zero", "UPDATE mail SET number = -1", "after 0"),
+]
+
+
+def spoiled(name, change, line):
+    """What meets the row is stopped, and so is all that comes after it, until the file is opened anew."""
+    data = file_of(TABLES, ROWS, change)
+    play = Play().ask(ALPHA, line, "stopped", "stopped\n").ask(ALPHA, "taken 1", "stopped", "stopped\n")
+    play.ask(ALPHA, "upload", "stopped", "interchange S1 messages 1\nstopped\n", RESPONSE)
+    return of_file(f"a stored row that is none: {name}", play, data, is_still(data))
+
+
+def of_another():
+    """Another supplier asks in vain for none of it: a row that is none of the kinds stops whom it belongs to."""
+    play = Play().status(who="8712345000004").ask(ALPHA, "status", "stopped", "stopped\n")
+    return play.ask("8712345000004", "status", "stopped", "stopped\n")
+
+
+FILES = [
+    # a script with one hub makes one file of it
+    *(over_file(case) for case in HUBS if len(re.findall(rb"^hub \d", case.input, re.MULTILINE)) == 1),
+    Case("what a file has after an order, its answer and its despatch", WORDS, despatched().script, despatched().printed, after=has_rows(ROWS)),
+    Case("a file that is opened again", WORDS, opened_anew().script, opened_anew().printed, after=has_rows(ROWS)),
+    of_file("a file that SQLite wrote", looked_at(Play()), file_of(), has_rows(ROWS)),
+    of_file("a file that SQLite wrote with a log", looked_at(Play()), file_of(TABLES, ROWS, "PRAGMA journal_mode = WAL"), has_rows(ROWS)),
+    of_file("a file without tables", Play().status(), file_of("", {}), has_rows({"schema": [(1,)], "line": []})),
+    of_file("an empty file", Play().status(), b"", has_rows({"schema": [(1,)], "line": []})),
+    *(not_opened(f"a file with {name}", "version", data) for name, data in OTHERS),
+    not_opened("a file that is no database", "disk", b"no database\n" * 1000),
+    not_opened("half of a file", "disk", file_of()[: len(file_of()) // 2]),
+    *(spoiled(*row) for row in SPOILED),
+    of_file("a row that is none stops whom it belongs to, and then all", of_another(), file_of(TABLES, ROWS, SPOILED[0][1])),
+    Case("a folder that is not there", ["file", "none/hub.db"], told("disk").script, told("disk").printed),
+]
+
+
+def held_open(program):
+    """What is wrong where a second program opens a file that one holds open, if anything. The first waits for its output to be
+    read, which is more than a pipe holds."""
+    play = despatched()
+    for _ in range(1000):
+        looked_at(play)
+    with tempfile.TemporaryDirectory() as folder:
+        source = os.path.join(folder, "script")
+        with open(source, "wb") as file:
+            file.write(play.script)
+        with open(source, "rb") as script, subprocess.Popen([program, *WORDS], stdin=script, stdout=subprocess.PIPE, cwd=folder) as first:
+            try:
+                printed = first.stdout.read(1)
+                second = subprocess.run([program, *WORDS], input=Play().script, capture_output=True, cwd=folder, timeout=60)
+                printed += first.stdout.read()
+            finally:
+                first.kill()
+        if (second.returncode, second.stdout) != (0, b"store disk\n"):
+            return f"the second: {second.returncode}, {second.stdout!r:.100}"
+        if printed != play.printed:
+            return f"the first: {printed!r:.100}"
+        return has_rows(ROWS)(folder)

@@ -1,0 +1,115 @@
+"""Made runs: some hundred scripts of inputs drawn by chance, the same each time, played over lists, over SQL in memory and over a
+file. The three answer alike."""
+import os
+import random
+import re
+import subprocess
+import tempfile
+from collections import Counter
+from concurrent.futures import ThreadPoolExecutor
+
+from files import NAME, WORDS, is_whole
+from hubs import ALPHA, BETA, KEYS, RETAILER
+from hubs import Play, advice, interchange, message, order, parties, response
+
+RUNS, INPUTS = 300, 30
+PREFIXES = {ALPHA: "40123455", BETA: "8712345"}
+ITEM = "4000862141404"
+
+
+def with_check_digit(digits):
+    return digits + str(-sum(int(it) * (3, 1)[place % 2] for place, it in enumerate(reversed(digits))) % 10)
+
+
+def pallet(draw, supplier):
+    prefix = PREFIXES[supplier]
+    return with_check_digit("3" + prefix + f"{draw.randrange(4):0{16 - len(prefix)}}")
+
+
+def lines_of_answer(draw):
+    action = draw.choice("3567")
+    quantity = [f"QTY+113:{draw.choice((6, 12, 20))}"] if action in "36" else []
+    return (f"LIN+1+{action}+{ITEM}:SRV", *quantity)
+
+
+def receipt_of(draw, supplier):
+    segments = [f"BGM+632+G{draw.randrange(9)}+9", "DTM+137:20250605:102", *parties(supplier)]
+    for place in range(draw.choice((1, 1, 2))):
+        segments += [f"CPS+{place + 1}", f"GIN+BJ+{pallet(draw, supplier)}", f"LIN+1++{ITEM}:SRV", f"QTY+194:{draw.randrange(20)}"]
+    return message("RECADV:D:01B:UN:EAN005", 1, *segments)
+
+
+def despatch_of(draw, supplier, number):
+    units = [(pallet(draw, supplier), *((number, draw.choice((1, 3, 8))) for _ in range(draw.choice((1, 1, 2))))) for _ in range(draw.choice((1, 1, 2)))]
+    return advice(f"DA{draw.randrange(6)}", *units, order=number, supplier=supplier)
+
+
+def upload_of(draw):
+    """Who uploads, and what."""
+    supplier, number = draw.choice((ALPHA, BETA)), f"{draw.randrange(4)}"
+    kind = draw.choice(("order", "order", "answer", "despatch", "despatch", "receipt", "two"))
+    reference = f"{kind[0]}{draw.randrange(12)}"
+    if kind == "answer":
+        whole = draw.random() < 0.3
+        text = response(f"R{reference}", draw.choice((27, 29)), order=number, supplier=supplier) if whole else response(f"R{reference}", 4, *lines_of_answer(draw), order=number, supplier=supplier)
+        return supplier, interchange(supplier, reference, text)
+    if kind == "despatch":
+        return supplier, interchange(supplier, reference, despatch_of(draw, supplier, number))
+    if kind == "receipt":
+        return RETAILER, interchange(RETAILER, reference, receipt_of(draw, supplier))
+    orders = [order(f"{draw.randrange(4)}", draw.choice((12, 20, 48)), draw.choice((ALPHA, BETA)), place + 1) for place in range(2 if kind == "two" else 1)]
+    return RETAILER, interchange(RETAILER, reference, *orders)
+
+
+def script_of(seed):
+    draw, play = random.Random(seed), Play()
+
+    def ask(who, line, payload=None):
+        play.ask(who, line, "", "", payload, key=KEYS[who])
+
+    for _ in range(INPUTS):
+        one = draw.random()
+        supplier = draw.choice((ALPHA, BETA))
+        if one < 0.7:
+            who, text = upload_of(draw)
+            ask(who, "upload", text)
+        elif one < 0.8:
+            ask(RETAILER, "cancel", f"{supplier}\nC{draw.randrange(4)}\n{draw.randrange(4)}\n1\n{draw.choice((1, 5))}\n")
+        elif one < 0.9:
+            ask(supplier, draw.choice(("after 0", "after 1", "item 1", "item 2", "taken 1", "taken 2")))
+        else:
+            ask(*draw.choice(((supplier, "status"), (RETAILER, f"status-of {supplier}"))))
+    for supplier in (ALPHA, BETA):
+        ask(supplier, "status")
+        ask(supplier, "after 0")
+    return play.script
+
+
+def answers(program, seed):
+    """What the three answer."""
+    script = script_of(seed)
+    with tempfile.TemporaryDirectory() as folder:
+        found = [subprocess.run([program, *words], input=script, capture_output=True, cwd=folder, timeout=60) for words in ([], ["sql"], WORDS)]
+        return found, is_whole(folder)
+
+
+def compared(program):
+    with ThreadPoolExecutor(len(os.sched_getaffinity(0))) as pool:
+        found = list(pool.map(lambda seed: answers(program, seed), range(RUNS)))
+    told = Counter()
+    for seed, (three, unsound) in enumerate(found):
+        if any(it.returncode or it.stdout != three[0].stdout for it in three) or unsound:
+            return f"run {seed}: {unsound or [it.stdout[:200] for it in three]}"
+        told.update(re.findall(rb"^\d \w+ (accepted|refused \w+|repeated)$", three[0].stdout, re.MULTILINE))
+    print(f"{RUNS} made runs alike over lists, SQL and files: " + ", ".join(f"{count} {word.decode()}" for word, count in told.most_common()))
+    if told[b"accepted"] < 1000 or len(told) < 12:
+        return "too few of them were accepted, or refused for too few causes"
+    return None
+
+
+def made_runs(program):
+    """Where the stores do not answer alike, if anywhere."""
+    try:
+        return compared(program)
+    except (OSError, subprocess.SubprocessError) as why:
+        return f"not tried: {why}"
