@@ -44,7 +44,8 @@ module _ (text : List ℕ) (params : Row) (old new : State) (mode : old.in_trans
     survives = survives;
   }
 
-  pub asked_err : (e : Error) (fault : StoreFault) → (fault ≡ Memory) ⊎ (fault ≡ Disk) → (HasCleanDisk new → FailsToQuery text params old new e)
+  pub asked_err : (e : Error) (fault : StoreFault) → (fault ≡ Memory) ⊎ (fault ≡ Disk)
+      → (HasCleanDisk new → FailsToQuery text params old new e)
       → (old.in_transaction ≡ false → IsTrue old.is_open → old.now ≡ old.committed)
       → Asks {X = Vec Row Global} Rows (λ _. ⊥) text params old new (Err fault)
   asked_err e fault other fails settled = record {

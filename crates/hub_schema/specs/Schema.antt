@@ -1,5 +1,6 @@
--- The tables of a hub in SQL, and their keys. All bytes are BLOB and all numbers INTEGER; tables are STRICT, no column takes
--- NULL, and the key of each kind is its PRIMARY KEY. Table and column names stay: files that are written have them.
+-- The tables of a hub in SQL, and their keys. All bytes are BLOB and all numbers INTEGER; tables are STRICT, no column
+-- takes NULL, and the key of each kind is its PRIMARY KEY. Table and column names stay: files that are written have
+-- them.
 use Rattle.std.specs.Prelude.{ℕ, true, List, [], ◌∷◌, map, codes}
 use Rattle.sqlite.specs.Kind.TheVariants.{Integer, Blob}
 use Rattle.sqlite.specs.Schema.{Schema}
@@ -32,8 +33,9 @@ order_table = keyed 1 (codes "order") (bytes (codes "supplier") ∷ bytes (codes
 
 abbrev pub line_table : Table
 line_table = keyed 3 (codes "line") (
-    bytes (codes "supplier") ∷ bytes (codes "number") ∷ number (codes "line") ∷ bytes (codes "gtin") ∷ number (codes "ordered")
-    ∷ number (codes "open_qty") ∷ number (codes "refused") ∷ number (codes "cancelled") ∷ number (codes "answer") ∷ []) (1 ∷ 2 ∷ 3 ∷ [])
+    bytes (codes "supplier") ∷ bytes (codes "number") ∷ number (codes "line") ∷ bytes (codes "gtin")
+    ∷ number (codes "ordered") ∷ number (codes "open_qty") ∷ number (codes "refused") ∷ number (codes "cancelled")
+    ∷ number (codes "answer") ∷ []) (1 ∷ 2 ∷ 3 ∷ [])
 
 abbrev pub advice_table : Table
 advice_table = keyed 5 (codes "advice") (bytes (codes "supplier") ∷ bytes (codes "number") ∷ []) (1 ∷ 2 ∷ [])
@@ -41,29 +43,40 @@ advice_table = keyed 5 (codes "advice") (bytes (codes "supplier") ∷ bytes (cod
 -- a second key, so that the pallets of one supplier are found by it
 abbrev pub pallet_table : Table
 pallet_table = table_of 7 (codes "pallet") (
-    bytes (codes "sscc") ∷ bytes (codes "supplier") ∷ bytes (codes "advice") ∷ number (codes "received") ∷ []) (1 ∷ []) ((1 ∷ []) ∷ (2 ∷ 1 ∷ []) ∷ [])
+    bytes (codes "sscc") ∷ bytes (codes "supplier") ∷ bytes (codes "advice") ∷ number (codes "received") ∷ [])
+    (1 ∷ []) ((1 ∷ []) ∷ (2 ∷ 1 ∷ []) ∷ [])
 
 abbrev pub content_table : Table
 content_table = keyed 10 (codes "content") (
-    bytes (codes "sscc") ∷ number (codes "place") ∷ bytes (codes "number") ∷ number (codes "line") ∷ number (codes "quantity") ∷ []) (1 ∷ 2 ∷ [])
+    bytes (codes "sscc") ∷ number (codes "place") ∷ bytes (codes "number") ∷ number (codes "line")
+    ∷ number (codes "quantity") ∷ []) (1 ∷ 2 ∷ [])
 
 abbrev pub receipt_table : Table
 receipt_table = keyed 12 (codes "receipt") (
-    bytes (codes "sscc") ∷ bytes (codes "gtin") ∷ number (codes "accepted") ∷ number (codes "returned") ∷ number (codes "destroyed") ∷ []) (1 ∷ 2 ∷ [])
+    bytes (codes "sscc") ∷ bytes (codes "gtin") ∷ number (codes "accepted") ∷ number (codes "returned")
+    ∷ number (codes "destroyed") ∷ []) (1 ∷ 2 ∷ [])
 
 abbrev pub remembered_table : Table
 remembered_table = keyed 14 (codes "remembered") (
-    bytes (codes "supplier") ∷ number (codes "side") ∷ bytes (codes "control") ∷ bytes (codes "message") ∷ bytes (codes "content") ∷ []) (1 ∷ 2 ∷ 3 ∷ 4 ∷ [])
+    bytes (codes "supplier") ∷ number (codes "side") ∷ bytes (codes "control") ∷ bytes (codes "message")
+    ∷ bytes (codes "content") ∷ []) (1 ∷ 2 ∷ 3 ∷ 4 ∷ [])
 
 abbrev pub mail_table : Table
 mail_table = keyed 16 (codes "mail") (
-    bytes (codes "supplier") ∷ number (codes "number") ∷ number (codes "moment") ∷ number (codes "decimal") ∷ number (codes "kind")
-    ∷ bytes (codes "document") ∷ bytes (codes "body") ∷ number (codes "taken") ∷ []) (1 ∷ 2 ∷ [])
+    bytes (codes "supplier") ∷ number (codes "number") ∷ number (codes "moment") ∷ number (codes "decimal")
+    ∷ number (codes "kind") ∷ bytes (codes "document") ∷ bytes (codes "body") ∷ number (codes "taken") ∷ [])
+    (1 ∷ 2 ∷ [])
 
 -- the index of a key
 abbrev pub index_of : List ℕ → ℕ → ℕ → List ℕ → Index
-index_of name tree table key =
-    record { name = name; tree = tree; table = table; columns = key; order = plain; is_unique = true }
+index_of name tree table key = record {
+  name = name;
+  tree = tree;
+  table = table;
+  columns = key;
+  order = plain;
+  is_unique = true;
+}
 
 abbrev pub no_schema : Schema
 no_schema = record { tables = []; indexes = []; views = [] }
@@ -80,9 +93,8 @@ hub_schema = record {
   tables = hub_tables;
   indexes =
       automatic order_table 0 (1 ∷ 2 ∷ []) 2 ∷ automatic line_table 0 (1 ∷ 2 ∷ 3 ∷ []) 4
-      ∷ automatic advice_table 0 (1 ∷ 2 ∷ []) 6
-      ∷ automatic pallet_table 0 (1 ∷ []) 8 ∷ automatic pallet_table 1 (2 ∷ 1 ∷ []) 9
-      ∷ automatic content_table 0 (1 ∷ 2 ∷ []) 11
+      ∷ automatic advice_table 0 (1 ∷ 2 ∷ []) 6 ∷ automatic pallet_table 0 (1 ∷ []) 8
+      ∷ automatic pallet_table 1 (2 ∷ 1 ∷ []) 9 ∷ automatic content_table 0 (1 ∷ 2 ∷ []) 11
       ∷ automatic receipt_table 0 (1 ∷ 2 ∷ []) 13 ∷ automatic remembered_table 0 (1 ∷ 2 ∷ 3 ∷ 4 ∷ []) 15
       ∷ automatic mail_table 0 (1 ∷ 2 ∷ []) 17 ∷ [];
   views = [];

@@ -38,5 +38,6 @@ pub record Adopts {S : Type 0} (g : Ghosts S) (was : State) (store : Stored S) :
 pub record Refuses {S : Type 0} (g : Ghosts S) (was : State) (back : Returned S) (fault : StoreFault) : Type 0 where
   pub version :
       fault ≡ Version → (conn : Held S) × (back ≡ Connection conn)
-      × (HasCleanDisk (state g conn) → (was.now.schema ≢ no_schema) × (¬ HoldsHub was.now) × IsAsBefore was (state g conn))
+      × (HasCleanDisk (state g conn) →
+      (was.now.schema ≢ no_schema) × (¬ HoldsHub was.now) × IsAsBefore was (state g conn))
   pub other : was.now.schema ≢ no_schema → was.now.schema ≢ hub_schema → fault ≡ Version

@@ -17,5 +17,6 @@ returns-in_err-rows g c =
     let new = state g.S.Store c.ask.new.conn in
     let failed = err_from_is_err_and c.from_residual.result c.from_residual.ensures.1 in
     record {
-      number = subst (TellsNumber old new) (sym (failed.1 ∙ ap Err failed.2)) (tells_none old new _ c.in_err-rows.ensures.fails c.in_err-rows.ensures.asks);
+      number = subst (TellsNumber old new) (sym (failed.1 ∙ ap Err failed.2))
+          (tells_none old new _ c.in_err-rows.ensures.fails c.in_err-rows.ensures.asks);
     }
