@@ -16,7 +16,9 @@ use Rattle.hub_app.specs.Words.{Asks, IsHub, IsOverHub, Names, Refuses, Say}
 use Rattle.hub_app.proofs.Simple.{simple}
 
 -- without the options of a hub nothing is asked of one
-pub no_hub : (command : Text) (rows : List Row) → ((hub : HubWords) → IsHub rows hub → ⊥) → (words : Words) → IsOverHub command rows words → ⊥
+pub no_hub : (command : Text) (rows : List Row) → ((hub : HubWords) → IsHub rows hub → ⊥) → (words : Words)
+    → IsOverHub command rows words
+    → ⊥
 no_hub command rows none (Hub hub) h = none hub h.1
 no_hub command rows none (Check w) h = h
 no_hub command rows none (Relay w) h = h
@@ -58,7 +60,8 @@ pub met : (app : App) (texts : List Text) (matches : ArgMatches) → app ≡ edi
 met app texts matches is h = (h (ap is_simple is ∙ simple)).1 ∙ ap (λ (a : App). subcommand_of a texts) is
 
 -- what is said where something was found in the command, and where nothing was
-pub said : (texts : List Text) (command : Option (Text × List Row)) (found : Option Words) (words : Words) → command ≡ subcommand_of edihub texts
+pub said : (texts : List Text) (command : Option (Text × List Row)) (found : Option Words) (words : Words)
+    → command ≡ subcommand_of edihub texts
     → Finds (Names command) found
     → found ≡ Some words
     → Say texts words
@@ -66,7 +69,8 @@ said texts command found words met h is =
     let asked : Names command words = subst (Finds (Names command)) is h in
     subst (λ (m : Option (Text × List Row)). Names m words) met asked
 
-pub nothing_said : (texts : List Text) (command : Option (Text × List Row)) (found : Option Words) (fault : WordsFault) → command ≡ subcommand_of edihub texts
+pub nothing_said : (texts : List Text) (command : Option (Text × List Row)) (found : Option Words) (fault : WordsFault)
+    → command ≡ subcommand_of edihub texts
     → Finds (Names command) found
     → found ≡ None
     → Refuses texts fault

@@ -8,7 +8,9 @@ use Rattle.edi_base.specs.Limits.{is_digit, has_length, are_digits, number_of}
 use Rattle.hub_texts.proofs.Digits.{numerals, digits_below}
 
 -- so many digits are read as the number that they write
-pub read : {E : Type 0} (digits : List ℕ) (r : Result ℕ E) → ParsesUnsigned 64 10 digits r → are_digits 1 14 digits ≡ true → r ≡ Ok (number_of digits)
+pub read : {E : Type 0} (digits : List ℕ) (r : Result ℕ E) → ParsesUnsigned 64 10 digits r
+    → are_digits 1 14 digits ≡ true
+    → r ≡ Ok (number_of digits)
 read digits r parses h =
     let parts = and_parts (has_length 1 14 digits) (list_all is_digit digits) h in
     let some : 1 ≤ length digits = leb-true _ _ (and_parts (nat_le 1 (length digits)) (nat_le (length digits) 14) parts.0).0 in

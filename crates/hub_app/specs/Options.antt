@@ -1,5 +1,5 @@
 -- The values of options.
-use Rattle.std.specs.Prelude.{◌≡◌, ℕ, ◌++◌, if◌then◌else◌, nat_le, List, [], ◌∷◌, Option, Some, None, option_map}
+use Rattle.std.specs.Prelude.{ℕ, ◌++◌, if◌then◌else◌, nat_le, List, [], ◌∷◌, Option, Some, None, option_map}
 use Rattle.std.specs.Prelude.{option_and_then}
 use Rattle.clap.specs.Words.{Row, Text, first_of}
 use Rattle.edi_base.specs.Limits as limits

@@ -1,5 +1,5 @@
 -- The commands of the program, as `clap` parses them.
-use Rattle.std.specs.Prelude.{◌≡◌, ℕ, Bool, true, false, List, [], ◌∷◌, ◌++◌, Some, codes}
+use Rattle.std.specs.Prelude.{◌≡◌, Bool, true, false, List, [], ◌∷◌, Some, codes}
 use Rattle.clap.specs.Words.{App, Rule, Shape, Text, app_of, new_app, new_rule}
 use Rattle.clap.specs.declared.builder.action.ArgAction.TheVariants.{Set}
 use Rattle.clap.specs.declared.builder.command.Command.{Command}
@@ -27,8 +27,8 @@ with_options name rules = record (new_app name).top { rules = rules }
 -- the options of every command over a hub, and more
 abbrev pub over_a_hub : Text → List Rule → Shape
 over_a_hub name more = with_options name (
-    wanted (codes "register") ∷ wanted (codes "db") ∷ wanted (codes "as") ∷ wanted (codes "key") ∷ offered (codes "moment")
-    ∷ more)
+    wanted (codes "register") ∷ wanted (codes "db") ∷ wanted (codes "as") ∷ wanted (codes "key")
+    ∷ offered (codes "moment") ∷ more)
 
 abbrev pub check : Shape
 check = with_options (codes "check") (wanted (codes "register") ∷ [])

@@ -2,8 +2,8 @@
 
 ghost use Rattle.std.specs.Prelude.{◌≡◌, [], false, IfOk};
 ghost use Rattle.clap.specs.Words.{app_of, rule_of};
-ghost use Rattle.hub_app.specs.Program.{wanted, offered, over_a_hub, IsCommand, bare, check, relay, show, import, status, mail};
-ghost use Rattle.hub_app.specs.Program.{cancel, edihub};
+ghost use Rattle.hub_app.specs.Program.{wanted, offered, over_a_hub, IsCommand, bare, check, relay, show, import};
+ghost use Rattle.hub_app.specs.Program.{status, mail, cancel, edihub};
 
 use clap::{Arg, ArgAction, Command};
 use std::alloc::{AllocError, Global};

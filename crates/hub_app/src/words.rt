@@ -6,7 +6,8 @@ ghost use Rattle.hub_app.specs.Options as spec;
 ghost use Rattle.hub_app.specs.Options.{Finds, if_given, moment_of, values_of};
 ghost use Rattle.hub_app.specs.Relay.{AreRelayWords};
 ghost use Rattle.hub_texts.specs.Cancel as body;
-ghost use Rattle.hub_app.specs.Words.{cancel_options, texts_of, AreWords, Asks, IsHub, IsOverHub, Names, Refuses, IsRelay, IsTask, Say};
+ghost use Rattle.hub_app.specs.Words.{cancel_options, texts_of, AreWords, Asks, IsHub, IsOverHub, IsRelay, IsTask};
+ghost use Rattle.hub_app.specs.Words.{Names, Refuses, Say};
 
 use crate::options::{gln, in_lines, moment, number, text};
 use crate::program::program;
@@ -332,7 +333,8 @@ pub fn read_words<'a, S: AsStr>(alloc: Global, words: &'a [S]) -> Result<Words<'
 {
     let mut program = program(alloc)?;
     let matches = program.try_get_matches_from_mut(words)?;
-    match matched_words(alloc, &matches)? {
+    let found = matched_words(alloc, &matches)?;
+    match found {
         Some(read) => Ok(read),
         None => {
             let limits = limits(matches.subcommand_name());

@@ -10,4 +10,5 @@ returns c =
     let owner : IsOption (wanted (codes "owner")) c.option-2.result = search rules in
     let moment : IsOption (wanted (codes "moment")) c.option-3.result = search rules in
     let number : IsOption (wanted (codes "number")) c.option-4.result = search rules in
-    last c.arg-4.result (more (more (more begun hub c.in_ok-arg.ensures) owner c.in_ok-arg-2.ensures) moment c.in_ok-arg-3.ensures) number c.arg-4.ensures
+    let parties = more (more begun hub c.in_ok-arg.ensures) owner c.in_ok-arg-2.ensures in
+    last c.arg-4.result (more parties moment c.in_ok-arg-3.ensures) number c.arg-4.ensures

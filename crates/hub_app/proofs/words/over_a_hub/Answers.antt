@@ -1,4 +1,3 @@
-use Rattle.std.proofs.Common.{rules}
 use Rattle.clap.specs.Words.{found_of, rows_of}
 use Rattle.hub_app.specs.declared.words.HubWords.{HubWords}
 use Rattle.hub_app.specs.Words.{IsHub}

@@ -1,6 +1,5 @@
 use Rattle.std.proofs.Common.{◌≡◌, List, ℕ, Some, None, map, rules}
-use Rattle.clap.specs.Words.{app_of, subcommand_of, subcommand_rows_of}
-use Rattle.hub_app.specs.Program.{edihub}
+use Rattle.clap.specs.Words.{app_of, subcommand_rows_of}
 use Rattle.hub_app.proofs.Asked.{met, nothing_said, only_memory, said}
 use Rattle.hub_app.proofs.words.read_words.Goals as goal
 
@@ -14,16 +13,16 @@ pub returns-in-Some-clause-read : goal.returns-in-Some-clause-read
 returns-in-Some-clause-read g c =
     let texts : List (List ℕ) = map g.S.AsStr.text c.args.words.now in
     let matches = c.in_ok-matches.matches in
-    let is : c.in_ok-read.field-0 ≡ Some c.in-Some.read = search rules in
-    said texts (subcommand_rows_of matches) c.in_ok-read.field-0 c.in-Some.read
+    let is : c.in_ok-found.found ≡ Some c.in-Some.read = search rules in
+    said texts (subcommand_rows_of matches) c.in_ok-found.found c.in-Some.read
     (met (app_of c.in_ok-program.program) texts matches c.in_ok-program.ensures c.in_ok-matches.ensures.ok.2)
-    c.in_ok-read.ensures.found is
+    c.in_ok-found.ensures.found is
 
 pub returns-clause-refused : goal.returns-clause-refused
 returns-clause-refused g c =
     let texts : List (List ℕ) = map g.S.AsStr.text c.args.words.now in
     let matches = c.in_ok-matches.matches in
-    let is : c.in_ok-read.field-0 ≡ None = search rules in
-    nothing_said texts (subcommand_rows_of matches) c.in_ok-read.field-0 _
+    let is : c.in_ok-found.found ≡ None = search rules in
+    nothing_said texts (subcommand_rows_of matches) c.in_ok-found.found _
     (met (app_of c.in_ok-program.program) texts matches c.in_ok-program.ensures c.in_ok-matches.ensures.ok.2)
-    c.in_ok-read.ensures.found is
+    c.in_ok-found.ensures.found is
