@@ -9,14 +9,13 @@ use hub_commands::{Folder, import_run, reply_run};
 use hub_core::{Hub, Request};
 use hub_register::Register;
 use hub_sql::SqliteStore;
+use hub_store::Store;
 use jiff::Timestamp;
-use sqlite_disk::Unknown;
+use sqlite::Alter;
+use sqlite_disk::{Start, Unknown};
 use sqlite_std_file::FileFrom;
 use sqlite_store::FileStore;
 use std::fs::File;
-
-/// A store in a file.
-type FileTables = SqliteStore<FileStore<FileFrom<Unknown>>>;
 
 // Who asks, and when.
 #[derive(Drop)]
@@ -41,9 +40,9 @@ fn now(rt: &HostRuntime) -> Result<Moment, BeginFault> {
 }
 
 // Uploads what is in a folder.
-fn import(
+fn import<S: Store>(
     rt: &HostRuntime,
-    hub: &mut Hub<FileTables>,
+    hub: &mut Hub<S>,
     caller: &Caller<'_>,
     folder: &str,
 ) -> Result<u8, BeginFault> {
@@ -60,9 +59,9 @@ fn import(
 }
 
 // Asks once, and prints the reply.
-fn ask(
+fn ask<S: Store>(
     rt: &HostRuntime,
-    hub: &mut Hub<FileTables>,
+    hub: &mut Hub<S>,
     caller: &Caller<'_>,
     request: Request,
 ) -> Result<u8, BeginFault> {
@@ -71,9 +70,9 @@ fn ask(
 }
 
 // Does what is asked of the hub.
-fn obey(
+fn obey<S: Store>(
     rt: &HostRuntime,
-    hub: &mut Hub<FileTables>,
+    hub: &mut Hub<S>,
     caller: &Caller<'_>,
     task: HubTask<'_>,
 ) -> Result<u8, BeginFault> {
@@ -89,34 +88,44 @@ fn obey(
     ask(rt, hub, caller, request)
 }
 
-// Closes the database file, with all that stands in the log beside it. What was accepted is kept where that fails too.
-fn close(hub: Hub<FileTables>) {
-    let (_register, store) = hub.into_store();
-    let _ = store.into_connection().close();
-}
-
-// Begins, and then does what is asked.
-fn begin(rt: &HostRuntime, words: HubWords<'_>) -> Result<u8, BeginFault> {
-    let register = register_at(rt, words.register)?;
-    let store = SqliteStore::at_path(rt, words.db, Unknown)?;
+// Begins, and then does what is asked. Gives the tables back, also where nothing was done.
+fn over_tables<A: Alter + Drop>(
+    rt: &HostRuntime,
+    register: Register,
+    tables: SqliteStore<A>,
+    words: HubWords<'_>,
+) -> (Result<u8, BeginFault>, SqliteStore<A>) {
     let moment = match words.moment {
         Some(moment) => moment,
-        None => now(rt)?,
+        None => match now(rt) {
+            Ok(moment) => moment,
+            Err(fault) => return (Err(fault), tables),
+        },
     };
     let caller = Caller {
         moment,
         gln: words.caller,
         key: words.key.as_bytes(),
     };
-    let mut hub = Hub::new(rt.alloc(), register, store);
+    let mut hub = Hub::new(rt.alloc(), register, tables);
     let status = obey(rt, &mut hub, &caller, words.task);
-    close(hub);
+    let (_register, tables) = hub.into_store();
+    (status, tables)
+}
+
+// Does what is asked over the tables in a file, and closes it, with all that stands in the log beside it. What was
+// accepted is kept where that fails too.
+fn over_file<S: Start>(rt: &HostRuntime, words: HubWords<'_>, start: S) -> Result<u8, BeginFault> {
+    let register = register_at(rt, words.register)?;
+    let tables = SqliteStore::at_path(rt, words.db, start)?;
+    let (status, tables) = over_tables::<FileStore<FileFrom<S>>>(rt, register, tables, words);
+    let _ = tables.into_connection().close();
     status
 }
 
 /// Runs a command over a hub, and answers the exit status.
 pub(crate) fn over_a_hub(rt: &HostRuntime, words: HubWords<'_>) -> u8 {
-    match begin(rt, words) {
+    match over_file(rt, words, Unknown) {
         Ok(status) => status,
         Err(fault) => tell(rt, fault, fault.status()),
     }
