@@ -1,11 +1,15 @@
 RELAY = relay --hub 5412345000006 --owner 4012345500004 --moment 1748942400 --number 1
 PROVED = crates/edihub/out/edihub
 
-.PHONY: run try test wrong bench edihub clean
+.PHONY: run day try test wrong bench edihub clean
 
 # The main job, with the proved program: the example's ORDERS interchange becomes the supplier's mailbox interchange.
 run: edihub
 	./edihub $(RELAY) < examples/orders.edi
+
+# Some days of one retailer with two suppliers, over a database file in a temporary folder.
+day: edihub
+	sh examples/day/day.sh ./edihub
 
 # Proves and builds the program. With no change since, nothing is proved again.
 edihub:
@@ -34,6 +38,9 @@ bench: edihub
 	cd crates/hub_script && rt run < stdin > out/printed
 	rustc --edition 2021 -O -o crates/hub_script/out/plain bench/hub.rs
 	python3 bench/hub.py crates/hub_script/out/hub_script crates/hub_script/out/plain
+	if rustc --edition 2021 -O -o crates/hub_script/out/plain_sql bench/sql.rs; then \
+		python3 bench/sql.py crates/hub_script/out/hub_script crates/hub_script/out/plain_sql; \
+	else echo "no SQLite library to compare with"; fi
 
 clean:
 	rm -rf edihub crates/*/out

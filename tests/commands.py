@@ -278,7 +278,7 @@ def killed(program):
 
         why = tried(0)
         with open(count_file, encoding="ascii") as file:
-            changes = int(file.read())
+            changes = int(file.read().split()[0])
         turns = range(1, changes + 1, max(1, changes // 40))
         for number in turns:
             why = why or tried(number)

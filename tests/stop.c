@@ -1,6 +1,6 @@
 /* Loaded before the C library: the program ends at the change of a database file or its log whose number is in STOP.
    Of a write that is stopped, half of the bytes are written where TORN is set. Where LOST is set, the files are then as
-   they were when they were last synced. Where COUNT names a file, the number of changes is written there at the end. */
+   they were when they were last synced. Where COUNT names a file, the number of changes is written there at the end, and how many of them were syncs. */
 #define _GNU_SOURCE
 #include <dlfcn.h>
 #include <fcntl.h>
@@ -10,13 +10,13 @@
 #include <string.h>
 #include <unistd.h>
 
-static long changes;
+static long changes, syncs;
 
 __attribute__((destructor)) static void tell(void) {
     const char *path = getenv("COUNT");
     FILE *file = path ? fopen(path, "w") : NULL;
     if (file) {
-        fprintf(file, "%ld", changes);
+        fprintf(file, "%ld %ld", changes, syncs);
         fclose(file);
     }
 }
@@ -93,6 +93,7 @@ int ftruncate(int fd, off_t length) {
 int fsync(int fd) {
     if (is_last(fd)) stop();
     int answer = REAL(fsync)(fd);
+    syncs++;
     synced(fd);
     return answer;
 }
@@ -100,6 +101,7 @@ int fsync(int fd) {
 int fdatasync(int fd) {
     if (is_last(fd)) stop();
     int answer = REAL(fdatasync)(fd);
+    syncs++;
     synced(fd);
     return answer;
 }

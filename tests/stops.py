@@ -86,7 +86,7 @@ class Stops:
             if status or output != script(self.count).printed:
                 raise OSError(f"not stopped: {output!r:.300}")
         with open(count, encoding="ascii") as file:
-            return int(file.read())
+            return int(file.read().split()[0])
 
     def told(self, output):
         """How many inputs were answered, where each answer is right."""

@@ -1,4 +1,4 @@
-"""`make test`: the gate (rt ci), and then the cases of cases.py, hubs.py and files.py on the programs that the gate built.
+"""`make test`: the gate (rt ci), and then the cases of cases.py, commands.py, hubs.py and files.py on the programs that the gate built.
 The last line is `N passed, M failed` over both. With `--alone`, the cases alone, on the programs that stand."""
 import os
 import re
@@ -8,6 +8,7 @@ import sys
 import tempfile
 
 import cases
+import commands
 import files
 import hubs
 import made
@@ -24,14 +25,15 @@ def built(crate):
 
 
 # each program, and its cases
-PROGRAMS = [(built("edihub"), cases.CASES), (built("hub_script"), hubs.HUBS + hubs.OVER_SQL + files.FILES)]
+PROGRAMS = [(built("edihub"), cases.CASES + commands.COMMANDS), (built("hub_script"), hubs.HUBS + hubs.OVER_SQL + files.FILES)]
 
-# what is tried on the scripts' program many times over: each says what is wrong, if anything
+# what is tried on a program many times over: each says what is wrong, if anything
 TRIALS = [
-    ("a file that another program holds open", files.held_open),
-    ("made runs", made.made_runs),
-    ("changes of files stopped in turn", stops.stops),
-    ("allocations refused in turn", refusals.refusals),
+    *((built("edihub"), *trial) for trial in commands.TRIALS),
+    (built("hub_script"), "a file that another program holds open", files.held_open),
+    (built("hub_script"), "made runs", made.made_runs),
+    (built("hub_script"), "changes of files stopped in turn", stops.stops),
+    (built("hub_script"), "allocations refused in turn", refusals.refusals),
 ]
 
 
@@ -114,12 +116,11 @@ def main(words):
     for program, of_program in PROGRAMS:
         more_passed, more_failed = program_cases(program, of_program)
         passed, failed = passed + more_passed, failed + more_failed
-    if os.path.isfile(built("hub_script")):
-        for name, trial in TRIALS:
-            why = trial(built("hub_script"))
-            if why:
-                print(f"{name}: {why}")
-            passed, failed = (passed, failed + 1) if why else (passed + 1, failed)
+    for program, name, trial in TRIALS:
+        why = trial(program) if os.path.isfile(program) else "the program was not built"
+        if why:
+            print(f"{name}: {why}")
+        passed, failed = (passed, failed + 1) if why else (passed + 1, failed)
     spent = resource.getrusage(resource.RUSAGE_CHILDREN)
     print(f"processor time: {(spent.ru_utime + spent.ru_stime) / 60:.1f} minutes")
     print(f"{passed} passed, {failed} failed")

@@ -1,0 +1,110 @@
+"""Despatches of ten lines on the proved hub over a file of SQL (`hub_script file`) and on a plain Rust program over the system's
+SQLite (sql.rs), with few and with many lines of the supplier: ratios of processor time a message, how it grows with the lines,
+and syncs a message. Then what opening a file costs, by its size. Where a bound is passed, it says so and ends with status 1.
+
+    python3 bench/sql.py crates/hub_script/out/hub_script PLAIN"""
+import os
+import shutil
+import subprocess
+import sys
+import tempfile
+
+from hub import ALPHA, Play, despatch, interchange, sent
+
+ROUNDS, MESSAGES = 3, 300
+LINES = (10, 1_000, 100_000)
+# the bounds: times of the plain program, growth from the fewest lines to the most, syncs a message
+MOST, MOST_GROWTH, MOST_SYNCS = 2, 1.3, 4
+SHIM = os.path.join(os.path.dirname(os.path.abspath(__file__)), "..", "tests", "stop.c")
+
+
+def base(lines):
+    """Orders of ten lines each."""
+    play = Play().say("quiet")
+    count = lines // 10
+    for first in range(0, count, 999):
+        sent(play, min(999, count - first), first, 10)
+    return play.script
+
+
+def despatches(lines):
+    play = Play()
+    for k in range(MESSAGES):
+        play.upload(ALPHA, interchange(ALPHA, f"S{k}", despatch(k, f"{4999 * k % (lines // 10):08}", 10)))
+    return play.script
+
+
+def run(program, script, folder, **variables):
+    """Processor seconds, most memory in MB, and output of one run in a folder."""
+    path = os.path.join(folder, "script")
+    with open(path, "wb") as file:
+        file.write(script)
+    with open(path, "rb") as source, tempfile.TemporaryFile() as target:
+        child = subprocess.Popen([program, "file", "hub.db"], stdin=source, stdout=target, cwd=folder, env={**os.environ, **variables})
+        _, state, used = os.wait4(child.pid, 0)
+        child.returncode = os.waitstatus_to_exitcode(state)
+        target.seek(0)
+        if child.returncode:
+            sys.exit(f"{program} ended with {child.returncode}")
+        return used.ru_utime + used.ru_stime, used.ru_maxrss / 1024, target.read()
+
+
+def copied(folder, top):
+    into = tempfile.mkdtemp(dir=top)
+    for name in os.listdir(folder):
+        shutil.copy(os.path.join(folder, name), into)
+    return into
+
+
+def cost(program, folder, script, top):
+    """The least processor time of a script, less that of opening alone; and its output."""
+    nothing = Play().script
+    opened = min(run(program, nothing, copied(folder, top))[0] for _ in range(ROUNDS))
+    runs = [run(program, script, copied(folder, top)) for _ in range(ROUNDS)]
+    return min(time for time, _, _ in runs) - opened, runs[0][2]
+
+
+def syncs(program, folder, script, top, shim):
+    into = copied(folder, top)
+    count = os.path.join(into, "count")
+    run(program, script, into, LD_PRELOAD=shim, STOP_FILE=os.path.join(into, "hub.db"), COUNT=count)
+    with open(count, encoding="ascii") as file:
+        return int(file.read().split()[1])
+
+
+def opening(program, folder, top):
+    into = copied(folder, top)
+    size = sum(os.path.getsize(os.path.join(into, name)) for name in os.listdir(into) if name.startswith("hub.db"))
+    time, memory, _ = run(program, Play().script, into)
+    print(f"opening a file of {size / 1e6:.0f} MB: {1000 * time:.0f} ms of processor time, {memory:.0f} MB of memory", flush=True)
+
+
+def main(ours, plain):
+    too_much, times = False, {}
+    with tempfile.TemporaryDirectory() as top:
+        shim = os.path.join(top, "stop.so")
+        subprocess.run(["cc", "-O2", "-shared", "-fPIC", "-o", shim, SHIM, "-ldl"], check=True)
+        for lines in LINES:
+            folders = []
+            for program in (ours, plain):
+                folders.append(tempfile.mkdtemp(dir=top))
+                run(program, base(lines), folders[-1])
+            script = despatches(lines)
+            (time, output), (plain_time, plain_output) = (cost(program, folder, script, top) for program, folder in zip((ours, plain), folders))
+            if output != plain_output:
+                sys.exit(f"{lines} lines: the two programs print different replies")
+            ratio, times[lines] = time / plain_time, time
+            each = (syncs(ours, folders[0], script, top, shim) - syncs(ours, folders[0], Play().script, top, shim)) / MESSAGES
+            print(f"a despatch of 10 lines among {lines:,}: processor time {ratio:.2f} of the plain program's ({1e6 * time / MESSAGES:.0f} of {1e6 * plain_time / MESSAGES:.0f} microseconds), {each:.1f} syncs", flush=True)
+            too_much |= ratio > MOST or each > MOST_SYNCS
+            opening(ours, folders[0], top)
+    growth = times[LINES[-1]] / times[LINES[0]]
+    print(f"from {LINES[0]} to {LINES[-1]:,} lines it grows by {growth:.2f}")
+    too_much |= growth > MOST_GROWTH
+    if too_much:
+        print(f"more than {MOST} times the processor time of the plain program, {MOST_SYNCS} syncs a message, or a growth of {MOST_GROWTH}")
+    return too_much
+
+
+if __name__ == "__main__":
+    sys.exit(main(*sys.argv[1:]))
