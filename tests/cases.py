@@ -160,7 +160,7 @@ CUTS = [refused(f"the order cut to {length} bytes", ORDERS[:length], cut(length)
 # so little memory in all that the interchange of 1 MiB cannot be held
 MEMORY = [
     Case(f"out of memory, {mib} MiB in all", relay(), loads.many_orders(TEXT_LIMIT), error=b"memory\n", status=3, memory=mib << 20)
-    for mib in (4, 6, 8, 10, 12, 16)
+    for mib in (5, 6, 8, 10, 12, 16)
 ]
 
 
@@ -240,7 +240,7 @@ CHECK = [
     wrong_words("a word too many for check", [*CHECK_WORDS, "more"]),
     *(
         Case(f"out of memory for a register, {mib} MiB in all", CHECK_WORDS, error=b"memory\n", status=3, memory=mib << 20, files={"register.toml": register(*[("", "", "")] * 15000).encode()})
-        for mib in (4, 6, 8)
+        for mib in (5, 6, 8)
     ),
 ]
 
@@ -442,7 +442,7 @@ SHOW = [
     Case("show: a failed write", ["show"], in_a_row(*ALL_TYPES).encode(), output_to="/dev/full", error=b"file\n", status=3),
     *(
         Case(f"show: out of memory, {mib} MiB in all", ["show"], loads.many_orders(TEXT_LIMIT), error=b"memory\n", status=3, memory=mib << 20)
-        for mib in (4, 6, 8, 10, 12, 16)
+        for mib in (5, 6, 8, 10, 12, 16)
     ),
     Case("the help of show", ["show", "--help"], output=lambda it: b"Usage: edihub show" in it and b"refused M08 quantity" in it),
     Case("the help of the program names show", ["--help"], output=lambda it: b"show" in it),

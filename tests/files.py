@@ -105,7 +105,8 @@ def is_still(data):
             if file.read() != data:
                 return "the file changed"
         log = os.path.join(folder, NAME + "-wal")
-        return "a log stands beside it" if os.path.exists(log) and os.path.getsize(log) > 32 else None
+        # a log without a frame has a head of 32 bytes
+        return "a log stands beside it" if os.path.exists(log) and os.path.getsize(log) >= 32 + 24 else None
 
     return after
 

@@ -24,6 +24,7 @@ edihub import $retailer --moment 1748935800 --folder 1-orders
 
 echo "08:10: A reads its mailbox, takes the order, and answers: all of the first article, 20 of the second."
 edihub mail $a --do after --n 0
+edihub mail $a --do item --n 1
 edihub mail $a --do taken --n 1
 edihub import $a --moment 1748938200 --folder 2-answer-of-a
 
