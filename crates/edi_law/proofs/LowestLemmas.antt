@@ -49,14 +49,14 @@ module _ {X : Type 0} where
   -- Where all is valid under lower numbers, the test of a fault is false exactly where what is valid under its number holds.
   module _ (p : MessageFault → Bool) (IsRight : MessageFault → Type 0)
       (refutes : (f : MessageFault) → ((g : MessageFault) → number g < number f → IsRight g) → Refutes (p f)
-          (IsRight f))
+      (IsRight f))
       (no_memory : p faulty.Memory ≡ false) (content : X) where
     lower_right : (n : ℕ) → ((g : MessageFault) → number g < n → p g ≡ false) → (g : MessageFault) → number g < n
         → IsRight g
     lower_right zero h g lt = absurd (omega (arith, lt))
     lower_right (suc n) h g lt =
         (refutes g (λ k below. lower_right n (λ one small. h one (omega (arith, small))) k
-            (omega (arith, below, lt)))).0
+        (omega (arith, below, lt)))).0
         (h g lt)
 
     all_right : ((g : MessageFault) → p g ≡ false) → (g : MessageFault) → IsRight g
@@ -80,7 +80,7 @@ module _ {X : Type 0} where
     found_from : (f : MessageFault) → IsLowest IsRight f → find p faults ≡ Some f
     found_from f h =
         is_found number p faults rising (listed_or_false p no_memory) f
-            (true_from_ne_false (p f) (λ e. h.here ((refutes f h.lower).0 e)))
+        (true_from_ne_false (p f) (λ e. h.here ((refutes f h.lower).0 e)))
         (λ g lt. right_false f g h.lower lt)
 
     pub judged_fault : (f : MessageFault) → (judged p content ≡ Err f) ↔ IsLowest IsRight f

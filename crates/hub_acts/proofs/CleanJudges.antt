@@ -77,11 +77,11 @@ le_true a b h = grind (arith, nat_tests)
 
 once_cases : (row : Option RememberedRow) (content : List ℕ) (fresh : Verdict) (changes : List Change) →
     once row content fresh ≡ Accept changes → (◌≡◌ {A = Verdict} (Accept []) (Accept changes)) ⊎
-        (fresh ≡ Accept changes)
+    (fresh ≡ Accept changes)
 once_cases None content fresh changes h = inr h
 once_cases (Some row) content fresh changes h =
     elim (same row.content content) as
-        (λ v. ◌≡◌ {A = Verdict} (cond v (Accept []) (Refuse codes.OtherContent)) (Accept changes) →
+    (λ v. ◌≡◌ {A = Verdict} (cond v (Accept []) (Refuse codes.OtherContent)) (Accept changes) →
     (◌≡◌ {A = Verdict} (Accept []) (Accept changes)) ⊎ (fresh ≡ Accept changes)) [
       | true ↦ λ g. inl g
       | false ↦ λ g. cc
@@ -101,7 +101,7 @@ module _ (s : SupplierRow) (gln : is_gln s.gln ≡ true) where
   cleans_message : (retailer : List ℕ) (side : Side) (incoming : IncomingMessage) (buyer : Option (List ℕ))
       (named : List ℕ)
       (rest : SupplierRow → Judge) → clean_remembered
-          (remembered (referred_by s side incoming) incoming.content) ≡ true →
+      (remembered (referred_by s side incoming) incoming.content) ≡ true →
       Cleans (rest s) → Cleans (judge_message retailer (Some s) side incoming buyer named rest)
   cleans_message retailer side incoming buyer named rest clean f state changes rows h =
       let a = not_refused (is_other_buyer retailer buyer) codes.Buyer _ changes h in
@@ -130,7 +130,7 @@ module _ (s : SupplierRow) (gln : is_gln s.gln ≡ true) where
       CleanChange (new_mail s.gln state incoming kind document body)
   clean_new_mail state incoming kind document body within room number bytes =
       both_true gln (both_true (number_within (length state.mail) room)
-          (both_true (le_true incoming.moment last_moment within.moment)
+      (both_true (le_true incoming.moment last_moment within.moment)
       (both_true within.decimal (both_true (known kind) (both_true number (both_true bytes refl))))))
     where
       known : (kind : MailKind) → is_kind (Rattle.hub_tables.specs.Cases.kind_letter kind) ≡ true
@@ -143,7 +143,7 @@ module _ (s : SupplierRow) (gln : is_gln s.gln ≡ true) where
       CleanChange (new_line s.gln number line)
   clean_new_line number line named within =
       both_true gln (both_true named
-          (both_true within.number (both_true within.item (both_true within.quantity (both_true (le_true
+      (both_true within.number (both_true within.item (both_true within.quantity (both_true (le_true
       (line.quantity + 0 + 0) line.quantity (omega arith)) refl)))))
 
   clean_new_lines : (number : List ℕ) (lines : List OrderLine) → is_number number ≡ true
@@ -172,7 +172,7 @@ module _ (s : SupplierRow) (gln : is_gln s.gln ≡ true) where
       are_bytes body ≡ true → WithinOrder order → Cleans (judge_order retailer (Some s) incoming body order)
   cleans_order retailer incoming body order within bytes fine =
       cleans_message retailer sides.Retailer incoming (Some order.buyer) order.supplier
-          (λ s. judge_new_order s.gln incoming body order)
+      (λ s. judge_new_order s.gln incoming body order)
       (retailers incoming within) (cleans_new_order incoming body order within bytes fine)
 
 -- Lines that change.
@@ -181,7 +181,7 @@ module _ (line : LineRow) (clean : clean_line line ≡ true) where
   changed_line : (open_qty refused cancelled answer : ℕ) →
       (nat_le (line.open_qty + line.refused + line.cancelled) line.ordered ≡ true →
       nat_le (open_qty + refused + cancelled) line.ordered ≡ true) →
-          (is_answer line.answer ≡ true → is_answer answer ≡ true) →
+      (is_answer line.answer ≡ true → is_answer answer ≡ true) →
       clean_line (record {
         supplier = line.supplier;
         number = line.number;
@@ -200,9 +200,9 @@ module _ (line : LineRow) (clean : clean_line line ≡ true) where
       let d = and_parts (is_key 14 line.gtin) _ c.1 in
       let e = and_parts (is_quantity line.ordered) _ d.1 in
       let f = and_parts (nat_le (line.open_qty + line.refused + line.cancelled) line.ordered)
-          (is_answer line.answer) e.1 in
+      (is_answer line.answer) e.1 in
       both_true a.0 (both_true b.0
-          (both_true c.0 (both_true d.0 (both_true e.0 (both_true (covered f.0) (known f.1))))))
+      (both_true c.0 (both_true d.0 (both_true e.0 (both_true (covered f.0) (known f.1))))))
 
   less_open : (quantity : ℕ) → clean_line (record line { open_qty = line.open_qty - quantity }) ≡ true
   less_open quantity = changed_line (line.open_qty - quantity) line.refused line.cancelled line.answer
@@ -220,7 +220,7 @@ module _ (line : LineRow) (clean : clean_line line ≡ true) where
   clean_answered (Changed quantity) sent range =
       let within = or_parts (nat_lt quantity sent) (nat_lt (sent + line.open_qty) quantity) range in
       changed_line (quantity - sent) (line.refused + (line.open_qty - (quantity - sent))) line.cancelled
-          (answer_letter answers.Changed)
+      (answer_letter answers.Changed)
       (λ h. grind (arith, nat_tests)) (λ h. refl)
 
   clean_cancelled : (quantity : ℕ) → nat_lt line.open_qty quantity ≡ false →
@@ -243,9 +243,11 @@ cleans_answer order said state changes rows h =
     let a = not_refused (not (waits line)) codes.NotWaiting _ changes found.2 in
     let b = not_refused (is_out_of_range said.answer (despatched state line) line) codes.OutOfRange _ changes a.1 in
     let c = not_refused (not (same line.gtin said.gtin)) codes.OtherArticle _ changes b.1 in
-    accepted (SetLine (answered said.answer (despatched state line) line) ∷ []) changes c.1
-    (clean_answered line (clean_found state order said.order_line said.gtin line rows found.1) said.answer
-        (despatched state line) b.0, tt)
+    accepted (SetLine (answered said.answer (despatched state line) line) ∷ []) changes c.1 (
+      clean_answered line (clean_found state order said.order_line said.gtin line rows found.1) said.answer
+          (despatched state line) b.0,
+      tt,
+    )
 
 all_answered : (answer : LineAnswer) → ((line : LineRow) → is_out_of_range answer 0 line ≡ false) →
     (lines : List LineRow) →
@@ -259,10 +261,10 @@ cleans_all : (answer : LineAnswer) (order : List ℕ) → ((line : LineRow) → 
 cleans_all answer order range state changes rows h =
     let a = not_refused (is_empty (waiting state order)) codes.NotWaiting _ changes h in
     let clean = all_filter (λ line. clean_line line ≡ true) waits (lines_of state order)
-        (all_filter (λ line. clean_line line ≡ true)
+    (all_filter (λ line. clean_line line ≡ true)
     (λ line. same line.number order) state.lines rows.lines) in
     accepted (map (λ line. SetLine (answered answer 0 line)) (waiting state order)) changes a.1
-        (all_answered answer range
+    (all_answered answer range
     (waiting state order) clean)
 
 every_answer : (order : List ℕ) (lines : List AnswerLine) → AllByRecursion
@@ -285,7 +287,7 @@ pub cleans_response : (s : SupplierRow) → is_gln s.gln ≡ true → (retailer 
     WithinIncoming incoming → Cleans (judge_response retailer (Some s) incoming response)
 cleans_response s gln retailer incoming response within =
     cleans_message s gln retailer sides.Supplier incoming (Some response.buyer) response.supplier
-        (λ s. judge_new_response response)
+    (λ s. judge_new_response response)
     (suppliers s gln incoming within) (cleans_new_response response)
 
 -- Cancellations.
@@ -299,16 +301,17 @@ cleans_new_cancel cancel state changes rows h =
     accepted (SetLine (record line {
       open_qty = line.open_qty - cancel.quantity;
       cancelled = line.cancelled + cancel.quantity;
-    }) ∷ []) changes b.1
-    (clean_cancelled line (clean_found state cancel.order (Some cancel.line) [] line rows found.1) cancel.quantity b.0,
-        tt)
+    }) ∷ []) changes b.1 (
+      clean_cancelled line (clean_found state cancel.order (Some cancel.line) [] line rows found.1) cancel.quantity b.0,
+      tt,
+    )
 
 pub cleans_cancel : (s : SupplierRow) → is_gln s.gln ≡ true → (content : List ℕ) (cancel : Cancel) →
     is_reference cancel.reference ≡ true → are_bytes content ≡ true → Cleans (judge_cancel (Some s) content cancel)
 cleans_cancel s gln content cancel named bytes state changes rows h =
     let a = not_refused (not (same cancel.supplier s.gln)) codes.Supplier _ changes h in
     let reference : Reference =
-        record { supplier = s.gln; side = sides.Cancellation; control = cancel.reference; message = [] } in
+    record { supplier = s.gln; side = sides.Cancellation; control = cancel.reference; message = [] } in
     let clean : clean_remembered (remembered reference content) ≡ true = both_true gln (both_true refl (both_true named
     (both_true refl bytes))) in
     cleans_once reference content (judge_new_cancel cancel) clean (cleans_new_cancel cancel) state changes rows a.1
@@ -340,11 +343,18 @@ module _ (sscc : List ℕ) (key : is_key 18 sscc ≡ true) where
       let n = and_parts (is_line line.line) _ number.1 in
       accepted (
       SetLine (record line { open_qty = line.open_qty - said.quantity })
-      ∷ AddContent (record { sscc = sscc; place = place; number = line.number; line = line.line; quantity =
-          said.quantity })
-      ∷ []) changes c.1
-      (less_open line clean said.quantity,
-          (both_true key (both_true within.0 (both_true number.0 (both_true n.0 within.1))), tt))
+      ∷ AddContent (record {
+        sscc = sscc;
+        place = place;
+        number = line.number;
+        line = line.line;
+        quantity =
+            said.quantity;
+      })
+      ∷ []) changes c.1 (
+        less_open line clean said.quantity,
+        (both_true key (both_true within.0 (both_true number.0 (both_true n.0 within.1))), tt),
+      )
 
   every_line : (lines : List (ℕ × DespatchLine)) → AllByRecursion WithinPlaced lines →
       AllByRecursion (λ line. Cleans (judge_despatched sscc line)) lines
@@ -357,12 +367,17 @@ module _ (s : SupplierRow) (gln : is_gln s.gln ≡ true) (used : List ℕ → Bo
   cleans_unit unit within state changes rows h =
       let a = not_refused (not (under_some unit.sscc s.prefixes)) codes.OtherPrefix _ changes h in
       let b = not_refused (used unit.sscc || has_pallet state unit.sscc) codes.SsccUsed _ changes a.1 in
-      let row : PalletRow = record { sscc = unit.sscc; supplier = s.gln; advice = advice; received = arrival_number
-          Announced } in
+      let row : PalletRow = record {
+        sscc = unit.sscc;
+        supplier = s.gln;
+        advice = advice;
+        received = arrival_number
+            Announced;
+      } in
       cleans_rest (AddPallet row ∷ []) (in_order (judge_despatched unit.sscc) (placed 0 unit.lines)) state changes rows
       (both_true within.sscc (both_true gln (both_true named refl)), tt)
       (cleans_in_order (judge_despatched unit.sscc) (placed 0 unit.lines)
-          (every_line unit.sscc within.sscc (placed 0 unit.lines)
+      (every_line unit.sscc within.sscc (placed 0 unit.lines)
       (placed_within 0 unit.lines (omega (arith, within.places)) within.quantities))) b.1
 
   every_unit : (units : List Unit) → AllByRecursion WithinUnit units → AllByRecursion
@@ -382,10 +397,10 @@ module _ (s : SupplierRow) (gln : is_gln s.gln ≡ true) where
 
   pub cleans_despatch : (retailer : List ℕ) (used : List ℕ → Bool) (incoming : IncomingMessage) (despatch : Despatch) →
       WithinIncoming incoming → WithinDespatch despatch → Cleans
-          (judge_despatch retailer (Some s) used incoming despatch)
+      (judge_despatch retailer (Some s) used incoming despatch)
   cleans_despatch retailer used incoming despatch within fine =
       cleans_message s gln retailer sides.Supplier incoming despatch.buyer despatch.supplier
-          (λ s. judge_new_despatch s used despatch)
+      (λ s. judge_new_despatch s used despatch)
       (suppliers s gln incoming within) (cleans_new_despatch used despatch fine)
 
 -- Receipts.
@@ -429,7 +444,7 @@ module _ (unit : ReceiptUnit) (within : WithinReceiptUnit unit) where
       let items = all_weaker (WithinReceiptLine unit.lines) (λ line. CleanChange
       (new_receipt unit.sscc unit.lines line.gtin)) clean_item unit.lines within.lines in
       accepted (SetPallet (record pallet { received = arrival_number Received }) ∷ map
-          (new_receipt unit.sscc unit.lines)
+      (new_receipt unit.sscc unit.lines)
       (gtins unit.lines)) changes a.1 (
         clean_arrived pallet clean,
         clean_receipts (gtins unit.lines) (all_gtins (λ gtin. CleanChange

@@ -69,7 +69,7 @@ pub receipt_is : (sscc : List ℕ) (lines : List ReceiptLine) (gtin : List ℕ) 
     (new_receipt sscc lines gtin)
 receipt_is sscc lines gtin sum h =
     let made : ℕ → ℕ → ℕ → Change =
-        λ a r d. AddReceipt (record { sscc = sscc; gtin = gtin; accepted = a; returned = r; destroyed = d }) in
+    λ a r d. AddReceipt (record { sscc = sscc; gtin = gtin; accepted = a; returned = r; destroyed = d }) in
     let over = over_lines gtin lines sum h in
     let of_a = ap (λ (t : Total). t.accepted) over in
     let of_r = ap (λ (t : Total). t.returned) over in
@@ -95,7 +95,7 @@ module _ (old new : List ℕ → Option Total) (taken : List ℕ)
         | inl e ↦
             let none : new gtin ≡ None = becomes gtin ∙ ap (λ v. cond v None (old gtin)) (turn ∙ e) in
             ap (λ v. filter (λ gtin. is_some (old gtin))
-                (cond (not v) (gtin ∷ filter (λ gtin. not (same gtin taken)) gtins)
+            (cond (not v) (gtin ∷ filter (λ gtin. not (same gtin taken)) gtins)
             (filter (λ gtin. not (same gtin taken)) gtins))) e
             ∙ ih
             ∙ sym (ap (λ v. cond (is_some v) (gtin ∷ filter (λ gtin. is_some (new gtin)) gtins)
@@ -103,7 +103,7 @@ module _ (old new : List ℕ → Option Total) (taken : List ℕ)
         | inr e ↦
             let some : old gtin ≡ new gtin = sym (becomes gtin ∙ ap (λ v. cond v None (old gtin)) (turn ∙ e)) in
             ap (λ v. filter (λ gtin. is_some (old gtin))
-                (cond (not v) (gtin ∷ filter (λ gtin. not (same gtin taken)) gtins)
+            (cond (not v) (gtin ∷ filter (λ gtin. not (same gtin taken)) gtins)
             (filter (λ gtin. not (same gtin taken)) gtins))) e
             ∙ ap₂ (λ v rest. cond (is_some v) (gtin ∷ rest) rest) some ih
       ]

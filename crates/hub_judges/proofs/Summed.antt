@@ -39,7 +39,7 @@ module _ (article : List ℕ) (line : ReceiptLine) (lines : List ReceiptLine) wh
   total_with kind e =
       ap (λ v.
       sum_by kind (cond v (line ∷ filter (λ line. same line.gtin article) lines)
-          (filter (λ line. same line.gtin article) lines))) e
+      (filter (λ line. same line.gtin article) lines))) e
       ∙ sum_by-cons kind line (filter (λ line. same line.gtin article) lines)
 
   total_without : (kind : ReceiptLine → ℕ) → same line.gtin article ≡ false → total kind article
@@ -47,7 +47,7 @@ module _ (article : List ℕ) (line : ReceiptLine) (lines : List ReceiptLine) wh
   total_without kind e =
       ap (λ v.
       sum_by kind (cond v (line ∷ filter (λ line. same line.gtin article) lines)
-          (filter (λ line. same line.gtin article) lines))) e
+      (filter (λ line. same line.gtin article) lines))) e
 
   lines_with : (before : Total)
       → same line.gtin article ≡ true
@@ -57,7 +57,7 @@ module _ (article : List ℕ) (line : ReceiptLine) (lines : List ReceiptLine) wh
       let r = total_with (λ line. line.returned) e in
       let d = total_with (λ line. line.destroyed) e in
       alike (with_lines (with_line before line) article lines) (with_lines before article (line ∷ lines))
-          (omega (arith, a))
+      (omega (arith, a))
       (omega (arith, r)) (omega (arith, d))
 
   lines_without : (before : Total) → same line.gtin article ≡ false
@@ -67,7 +67,7 @@ module _ (article : List ℕ) (line : ReceiptLine) (lines : List ReceiptLine) wh
       let r = total_without (λ line. line.returned) e in
       let d = total_without (λ line. line.destroyed) e in
       alike (with_lines before article lines) (with_lines before article (line ∷ lines)) (omega (arith, a))
-          (omega (arith, r)) (omega (arith, d))
+      (omega (arith, r)) (omega (arith, d))
 
 pub from_some : (before : Total) (article : List ℕ) (lines : List ReceiptLine)
     → total_from (Some before) article lines ≡ Some (with_lines before article lines)
@@ -99,7 +99,7 @@ over_lines article (line ∷ lines) sum h =
           cc
       | inr e ↦
           over_lines article lines sum
-              (sym (ap (λ v. total_from (cond v (Some (with_line nothing line)) None) article lines) e) ∙ h)
+          (sym (ap (λ v. total_from (cond v (Some (with_line nothing line)) None) article lines) e) ∙ h)
           ∙ lines_without article line lines nothing e
     ]
 
@@ -140,7 +140,7 @@ module _ (kind : ReceiptLine → ℕ) where
       → total kind article lines ≤ greatest
   within article lines sum h all =
       let each : list_all (λ line. nat_le (sum_by_kind line.gtin lines) greatest) lines ≡ true =
-          sym (list_all-map _ _ lines) ∙ all in
+      sym (list_all-map _ _ lines) ∙ all in
       let t = sum_total article lines in
       let l = leb-true (sum_by_kind article lines) greatest
       (of_item (λ gtin. nat_le (sum_by_kind gtin lines) greatest) article lines sum h each) in
@@ -179,8 +179,12 @@ module _ (lines : List ReceiptLine) (i : ℕ) (line : ReceiptLine) (inside : i <
       let of_a = ap (λ (t : Total). t.accepted) over in
       let of_r = ap (λ (t : Total). t.returned) over in
       let of_d = ap (λ (t : Total). t.destroyed) over in
-      record { accepted = omega (arith, a, of_a); returned = omega (arith, r, of_r); destroyed = omega
-          (arith, d, of_d) }
+      record {
+        accepted = omega (arith, a, of_a);
+        returned = omega (arith, r, of_r);
+        destroyed = omega
+            (arith, d, of_d);
+      }
 
   -- the totals with one more line
   pub totals_next : (old new : List ℕ → Option Total) (sum : Total)
@@ -193,7 +197,7 @@ module _ (lines : List ReceiptLine) (i : ℕ) (line : ReceiptLine) (inside : i <
       so_far article
       ∙ ap (total_from (old article) article) rest_from
       ∙ ap (λ v. total_from v article (drop (i + 1) lines))
-          (agree (decide (same line.gtin article)) ∙ sym (becomes article))
+      (agree (decide (same line.gtin article)) ∙ sym (becomes article))
     where
       agree : ((same line.gtin article ≡ true) ⊎ (same line.gtin article ≡ false))
           → cond (same line.gtin article) (Some (with_line (unwrap_or (old article) nothing) line)) (old article)

@@ -78,7 +78,7 @@ filter_three p q r xs = ap (filter r) (filter_both p q xs) ∙ sym (filter_both 
 -- what a supplier sees under a key, where it has the pallet of that key
 held : {X : Type 0} (key : X → List ℕ) (supplier sscc : List ℕ) (pallets : List PalletRow) (xs : List X) →
     filter (λ x. same (key x) sscc) (filter (λ x. holds supplier pallets (key x)) xs) ≡ cond
-        (holds supplier pallets sscc) (filter
+    (holds supplier pallets sscc) (filter
     (λ x. same (key x) sscc) xs) []
 held {X} key supplier sscc pallets [] = elim (holds supplier pallets sscc) as (λ v. ◌≡◌ {A = List X} []
     (cond v [] [])) [ true ↦ refl | false ↦ refl ]
@@ -90,10 +90,10 @@ held {X} key supplier sscc pallets (x ∷ xs) =
     (key x)) xs)) ≡ cond (has sscc) (cond v (x ∷ filter is xs) (filter is xs)) []) [
       | true ↦ λ e.
           ap (λ s. filter is (cond (has s) (x ∷ filter (λ x. has (key x)) xs) (filter (λ x. has (key x)) xs)))
-              (same_is (key x) sscc e)
+          (same_is (key x) sscc e)
           ∙ elim (has sscc) as (λ w. filter is (filter (λ x. has (key x)) xs) ≡ cond w (filter is xs) [] →
           filter is (cond w (x ∷ filter (λ x. has (key x)) xs) (filter (λ x. has (key x)) xs)) ≡ cond w
-              (x ∷ filter is xs) []) [
+          (x ∷ filter is xs) []) [
             | true ↦ λ r. ap (λ v. cond v (x ∷ filter is (filter (λ x. has (key x)) xs))
                 (filter is (filter (λ x. has (key x)) xs))) e
                 ∙ ap (λ ys. x ∷ ys) r
@@ -101,7 +101,7 @@ held {X} key supplier sscc pallets (x ∷ xs) =
           ] rest
       | false ↦ λ e.
           elim (has (key x)) as
-              (λ w. filter is (cond w (x ∷ filter (λ x. has (key x)) xs) (filter (λ x. has (key x)) xs)) ≡ cond
+          (λ w. filter is (cond w (x ∷ filter (λ x. has (key x)) xs) (filter (λ x. has (key x)) xs)) ≡ cond
           (has sscc) (filter is xs) []) [
             | true ↦ ap (λ v. cond v (x ∷ filter is (filter (λ x. has (key x)) xs))
                 (filter is (filter (λ x. has (key x)) xs))) e ∙ rest
@@ -111,13 +111,13 @@ held {X} key supplier sscc pallets (x ∷ xs) =
 
 pub contents_held : (supplier sscc : List ℕ) (pallets : List PalletRow) (rows : List ContentRow) →
     filter (λ row. same row.sscc sscc) (filter (λ row. holds supplier pallets row.sscc) rows) ≡ cond
-        (holds supplier pallets sscc)
+    (holds supplier pallets sscc)
     (filter (λ row. same row.sscc sscc) rows) []
 contents_held supplier sscc pallets rows = held (λ (row : ContentRow). row.sscc) supplier sscc pallets rows
 
 pub receipts_held : (supplier sscc : List ℕ) (pallets : List PalletRow) (rows : List ReceiptRow) →
     filter (λ row. same row.sscc sscc) (filter (λ row. holds supplier pallets row.sscc) rows) ≡ cond
-        (holds supplier pallets sscc)
+    (holds supplier pallets sscc)
     (filter (λ row. same row.sscc sscc) rows) []
 receipts_held supplier sscc pallets rows = held (λ (row : ReceiptRow). row.sscc) supplier sscc pallets rows
 
@@ -159,7 +159,7 @@ pub filter_of_map : {X K : Type 0} (p : K → Bool) (key : X → K) (xs : List X
 filter_of_map p key [] = refl
 filter_of_map p key (x ∷ xs) =
     elim (p (key x)) as (λ v. cond v (key x ∷ filter p (map key xs)) (filter p (map key xs)) ≡ map key
-        (cond v (x ∷ filter (λ x. p
+    (cond v (x ∷ filter (λ x. p
     (key x)) xs) (filter (λ x. p (key x)) xs))) [
       | true ↦ ap (λ ks. key x ∷ ks) (filter_of_map p key xs)
       | false ↦ filter_of_map p key xs
@@ -172,8 +172,11 @@ any_none p (x ∷ xs) all = ap (λ v. v || list_any p xs) all.0 ∙ any_none p x
 pub none_any : {X : Type 0} (p : X → Bool) (xs : List X) → list_any p xs ≡ false → AllByRecursion (λ x. p x ≡ false) xs
 none_any p [] none = tt
 none_any p (x ∷ xs) none = elim (p x) as (λ v. p x ≡ v → (v || list_any p xs) ≡ false →
-    AllByRecursion (λ x. p x ≡ false) (x ∷ xs)) [ true ↦ λ e h. absurd (cc (h)) | false ↦ λ e h.
-        (e, none_any p xs h) ] refl none
+    AllByRecursion (λ x. p x ≡ false) (x ∷ xs)) [
+      | true ↦ λ e h. absurd (cc (h))
+      | false ↦ λ e h.
+          (e, none_any p xs h)
+    ] refl none
 
 pub none_first : {X : Type 0} (p : X → Bool) (xs : List X) → slice_get (filter p xs) 0 ≡ None → list_any p xs ≡ false
 none_first p [] none = refl

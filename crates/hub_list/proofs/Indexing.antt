@@ -86,7 +86,7 @@ module _ {X : Type 0} {cmp : X → X → Ordering} (total : IsTotalOrder cmp) (r
         | Equal ↦ λ e there.
             let all = after_equal total r x xs e rises.0 in
             let first = put_first cmp xs r
-                (all_weaker (λ y. cmp y r ≡ Greater) (λ y. is_gt (cmp y r) ≡ true) (λ y g. ap is_gt g) xs all) in
+            (all_weaker (λ y. cmp y r ≡ Greater) (λ y. is_gt (cmp y r) ≡ true) (λ y g. ap is_gt g) xs all) in
             ap (λ ys. r ∷ ys) (not_replaced xs all) ∙ sym (ap (put cmp r) (greater_kept xs all) ∙ first)
         | Greater ↦ λ e there. let none =
             none_above total r xs (all_above total r x xs e rises.0) in absurd (cc (none, there))
@@ -120,7 +120,7 @@ module _ {X : Type 0} {cmp : X → X → Ordering} (total : IsTotalOrder cmp) (r
         | Greater ↦ λ e f.
             let all = all_above total r x xs e rises.0 in
             let none = filter_none at xs
-                (all_weaker (λ y. cmp y r ≡ Greater) (λ y. at y ≡ false) (λ y g. ap is_eq g) xs all) in
+            (all_weaker (λ y. cmp y r ≡ Greater) (λ y. at y ≡ false) (λ y g. ap is_eq g) xs all) in
             let no = sym (ap (λ ys. slice_get ys 0) none) ∙ f in absurd (cc (no))
       ] refl first
 
@@ -159,13 +159,13 @@ module _ {X K : Type 0} {cmp : X → X → Ordering} {kcmp : K → K → Orderin
       let gln = supplier (key r) in
       let ours : List X = filter listed (filter (from gln) rows) in
       let each = all_weaker (λ x. is_eq (cmp x r) ≡ false) (λ x. is_eq (kcmp (key x) (key r)) ≡ false) other rows
-          (none_any (λ x. is_eq
+      (none_any (λ x. is_eq
       (cmp x r)) rows new) in
       sym (any_among (of gln) (λ k. is_eq (kcmp k (key r))) (λ k h. same_if (supplier k) gln (tied k (key r) h)) index)
       ∙ ap (list_any (λ k. is_eq (kcmp k (key r)))) (is.each gln)
       ∙ any_of_map (λ k. is_eq (kcmp k (key r))) key ours
       ∙ any_none (λ x. is_eq (kcmp (key x) (key r))) ours
-          (all_filter (λ x. is_eq (kcmp (key x) (key r)) ≡ false) listed (filter
+      (all_filter (λ x. is_eq (kcmp (key x) (key r)) ≡ false) listed (filter
       (from gln) rows) (all_filter (λ x. is_eq (kcmp (key x) (key r)) ≡ false) (from gln) rows each))
     where
       other : (x : X) → is_eq (cmp x r) ≡ false → is_eq (kcmp (key x) (key r)) ≡ false
@@ -180,7 +180,7 @@ module _ {X K : Type 0} {cmp : X → X → Ordering} {kcmp : K → K → Orderin
   map_put r [] all = refl
   map_put r (x ∷ xs) all =
       elim (is_gt (cmp x r)) as
-          (λ v. map key (cond v (r ∷ x ∷ xs) (x ∷ put cmp r xs)) ≡ cond v (key r ∷ key x ∷ map key xs)
+      (λ v. map key (cond v (r ∷ x ∷ xs) (x ∷ put cmp r xs)) ≡ cond v (key r ∷ key x ∷ map key xs)
       (key x ∷ put kcmp (key r) (map key xs))) [
         | true ↦ refl
         | false ↦ ap (λ ks. key x ∷ ks) (map_put r xs all.1)
@@ -248,7 +248,7 @@ module _ {X K : Type 0} {cmp : X → X → Ordering} {kcmp : K → K → Orderin
         let out : K → Bool = λ j. not (is_eq (kcmp j k)) in
         let ours : List X = filter listed (filter (from gln) rows) in
         let each = all_weaker (λ x. is_eq (kcmp (key x) k) ≡ test x) (λ x. out (key x) ≡ not (test x))
-            (λ x e. ap not e) ours
+        (λ x e. ap not e) ours
         (all_filter (λ x. is_eq (kcmp (key x) k) ≡ test x) listed (filter (from gln) rows) (all_filter (λ x. is_eq (kcmp
         (key x) k) ≡ test x) (from gln) rows all)) in
         filter_swap (of gln) out index

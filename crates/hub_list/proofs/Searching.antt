@@ -54,7 +54,7 @@ module _ {X : Type 0} (place : X → Ordering) where
   partitioned p down (x ∷ xs) h zero zero d le lt passes = passes
   partitioned p down (x ∷ xs) h zero (suc j) d le lt passes =
       down (place x) (place (get_or xs j d))
-          (All-get_or (λ y. may_precede (place x) (place y) ≡ true) xs j d (omega arith)
+      (All-get_or (λ y. may_precede (place x) (place y) ≡ true) xs j d (omega arith)
       (All-from_recursion (λ y. may_precede (place x) (place y) ≡ true) xs h.0)) passes
   partitioned p down (x ∷ xs) h (suc i) zero d le lt passes = absurd (omega arith)
   partitioned p down (x ∷ xs) h (suc i) (suc j) d le lt passes =
@@ -92,7 +92,7 @@ module _ {X : Type 0} (place : X → Ordering) where
       elim (place x) as (λ o. place x ≡ o → AllByRecursion (λ y. may_precede o (place y) ≡ true) xs →
       cond (is_eq o) (x ∷ filter (λ x. is_eq (place x)) xs) (filter (λ x. is_eq (place x)) xs)
       ≡ take (within (drop (cond (is_lt o) (1 + below xs) 0) (x ∷ xs)))
-          (drop (cond (is_lt o) (1 + below xs) 0) (x ∷ xs))) [
+      (drop (cond (is_lt o) (1 + below xs) 0) (x ∷ xs))) [
         | Less ↦ λ e all. rest ∙ sym (ap (λ n. take (within (drop n (x ∷ xs))) (drop n (x ∷ xs))) more)
         | Equal ↦ λ e all.
             let none = none_below xs all in
@@ -101,7 +101,7 @@ module _ {X : Type 0} (place : X → Ordering) where
             ∙ sym (ap (λ n. take n (x ∷ xs)) (ap (λ o. cond (is_le o) (1 + within xs) 0) e ∙ one))
         | Greater ↦ λ e all.
             filter_none (λ x. is_eq (place x)) xs
-                (all_weaker (λ y. may_precede Greater (place y) ≡ true) (λ y. is_eq (place y) ≡ false)
+            (all_weaker (λ y. may_precede Greater (place y) ≡ true) (λ y. is_eq (place y) ≡ false)
             (λ y g. not_at (place y) g) xs all)
             ∙ sym (ap (λ n. take n (x ∷ xs)) (ap (λ o. cond (is_le o) (1 + within xs) 0) e))
       ] refl h.0

@@ -21,7 +21,7 @@ loop-message-init g c = record {
   may = λ h m. m;
   so_far =
       λ h m. so_far_none (delivered c.args.upload.now.register.now c.args.upload.now.caller) c.args.upload.now.moment
-          c.args.upload.now.interchange.now
+      c.args.upload.now.interchange.now
       (g.S.Store.content c.args.store.now) c.args.reply.items c.requires.line;
   left = λ h m t l. inr (refl, l);
 }
@@ -34,12 +34,12 @@ returns-in_default-clause-answered g c honest may =
     let count = c.loop-message.message-index in
     let was = c.take_message.ensures.unharmed.was_honest honest in
     let below : count < length c.args.upload.now.interchange.now.messages =
-        rw c.as_slice-message-items.ensures at c.loop-message-test.true in
+    rw c.as_slice-message-items.ensures at c.loop-message-test.true in
     let there : c.message-item.result ≡ get_or c.args.upload.now.interchange.now.messages count c.message-item.result =
     rw c.as_slice-message-items.ensures at c.message-item.is in
     let far = c.loop-message.invariant.so_far was may in
     let written : c.extend_from_slice.new.self.items ≡ c.take_message.new.reply.items ++ stopped_line =
-        grind (arith, common_steps) in
+    grind (arith, common_steps) in
     let body : c.from_vec.result ≡ c.loop-message.reply.items ++ stopped_line =
     c.from_vec.ensures ∙ written ∙ ap (λ xs. xs ++ stopped_line) c.in_default.ensures.kept in
     let same = c.in_default.ensures.unharmed.same honest in
@@ -47,7 +47,7 @@ returns-in_default-clause-answered g c honest may =
       mark = StoppedAfter count;
       is =
           uploaded_stopped deliver c.args.upload.now.moment c.args.upload.now.interchange.now t before count
-              c.loop-message.refused
+          c.loop-message.refused
           c.loop-message.reply.items below far
           ∙ (λ i. (record { outcome = Stopped; refused = c.loop-message.refused; body = sym body i }, sym same i));
       kept = λ u l. elim ((c.in_default.ensures.carried (c.loop-message.invariant.may was may)).crash honest u l) [
@@ -59,7 +59,7 @@ returns-in_default-clause-answered g c honest may =
             (λ mark t. uploaded deliver c.args.upload.now.moment mark (Ok c.args.upload.now.interchange.now) t) t
             (StoppedAfter count) u) (sym e)
             (so_far_then deliver c.args.upload.now.moment c.args.upload.now.interchange.now t before count
-                c.loop-message.refused
+            c.loop-message.refused
             c.loop-message.reply.items c.message-item.result below there far)))
       ];
     }
@@ -72,7 +72,7 @@ loop-message-preserved g c =
     let after = g.S.Store.content c.take_message.new.store in
     let count = c.loop-message.message-index in
     let below : count < length c.args.upload.now.interchange.now.messages =
-        rw c.as_slice-message-items.ensures at c.loop-message-test.true in
+    rw c.as_slice-message-items.ensures at c.loop-message-test.true in
     let there : c.message-item.result ≡ get_or c.args.upload.now.interchange.now.messages count c.message-item.result =
     rw c.as_slice-message-items.ensures at c.message-item.is in
     record {
@@ -85,17 +85,17 @@ loop-message-preserved g c =
           let told = told_of c.in-Ok.told in
           let more =
           so_far_more deliver c.args.upload.now.moment c.args.upload.now.interchange.now t before after count
-              c.loop-message.refused
+          c.loop-message.refused
           c.loop-message.reply.items c.message-item.result told below there
           (c.loop-message.invariant.so_far was m)
-              ((c.in-Ok.ensures.carried (c.loop-message.invariant.may was m)).done h) in
+          ((c.in-Ok.ensures.carried (c.loop-message.invariant.may was m)).done h) in
           subst (λ (xs : List ℕ).
           DoneSoFar deliver c.args.upload.now.moment c.args.upload.now.interchange.now t after
-              (count + 1) c.either_refused-refused.result xs)
+          (count + 1) c.either_refused-refused.result xs)
           (sym c.in-Ok.ensures.line)
           (subst (λ (b : Bool).
           DoneSoFar deliver c.args.upload.now.moment c.args.upload.now.interchange.now t after (count + 1) b
-              (c.loop-message.reply.items
+          (c.loop-message.reply.items
           ++ line (c.message-item.result.reference ∷ c.message-item.result.kind ∷ told_words told)))
           (sym c.either_refused-refused.ensures) more);
       left = λ h m u l.

@@ -13,10 +13,10 @@ invariant-loop-message g l = record {
       → MayDeliver l.upload.register.now l.upload.caller (g.S.Store.content l.store);
   so_far : g.S.Store.honest l.store → MayDeliver l.upload.register.now l.upload.caller (g.S.Store.content l.fn.store)
       → DoneSoFar (delivered l.upload.register.now l.upload.caller) l.upload.moment l.upload.interchange.now
-          (g.S.Store.content l.fn.store)
+      (g.S.Store.content l.fn.store)
       (g.S.Store.content l.store) l.message-index l.refused l.reply.items;
   left : g.S.Store.honest l.store → MayDeliver l.upload.register.now l.upload.caller (g.S.Store.content l.fn.store) →
       (t : Tables) → g.S.Store.left l.store t
       → (t ≡ g.S.Store.content l.store) ⊎
-          ((g.S.Store.content l.store ≡ g.S.Store.content l.fn.store) × g.S.Store.left l.fn.store t);
+      ((g.S.Store.content l.store ≡ g.S.Store.content l.fn.store) × g.S.Store.left l.fn.store t);
 }

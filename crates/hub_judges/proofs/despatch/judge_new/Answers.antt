@@ -21,16 +21,16 @@ returns c =
     let advice : List ℕ → Change = λ number. AddAdvice (record { supplier = s.gln; number = number }) in
     let units : Verdict = units_from s despatch.number known.orders despatch.units known.used known.lines in
     let same_orders : (order : List ℕ) → is_among order c.in_ok-numbers.numbers ≡ is_among order known.orders =
-        λ order. c.in_ok-numbers.ensures order ∙ ap (is_among order) c.as_slice-orders.ensures in
+    λ order. c.in_ok-numbers.ensures order ∙ ap (is_among order) c.as_slice-orders.ensures in
     let of_code = units_by_orders c.in_ok-numbers.numbers known.orders same_orders s despatch.number despatch.units
-        c.as_slice-used.result.now c.in_ok-book.book
+    c.as_slice-used.result.now c.in_ok-book.book
     ∙ ap₂ (λ flags lines. units_from s despatch.number known.orders despatch.units flags lines) c.as_slice-used.ensures
-        c.in_ok-book.ensures in
+    c.in_ok-book.ensures in
     let changes = c.in_ok-push-2.ensures.ok
     ∙ ap₂ (λ changes number. changes ++ advice number ∷ [])
-        (c.in_ok-push.ensures.ok ∙ ap₂
-        (λ changes change. changes ++ change ∷ []) c.new-changes.ensures c.remember.ensures)
-        (c.in_ok-copied.ensures ∙ c.as_slice.ensures) in
+    (c.in_ok-push.ensures.ok ∙ ap₂
+    (λ changes change. changes ++ change ∷ []) c.new-changes.ensures c.remember.ensures)
+    (c.in_ok-copied.ensures ∙ c.as_slice.ensures) in
     c.in_ok-verdict.ensures
     ∙ ap₂ joined changes of_code
     ∙ joined_grouped first (advice despatch.number ∷ []) units
