@@ -5,13 +5,14 @@ and syncs a message. Then what opening a file costs, by its size. Where a bound 
     python3 bench/sql.py crates/hub_script/out/hub_script PLAIN"""
 import os
 import shutil
+import sqlite3
 import subprocess
 import sys
 import tempfile
 
 from hub import ALPHA, Play, despatch, interchange, sent
 
-ROUNDS, MESSAGES = 3, 300
+ROUNDS, MESSAGES = 3, 600
 LINES = (10, 1_000, 100_000)
 # the bounds: times of the plain program, growth from the fewest lines to the most, syncs a message
 MOST, MOST_GROWTH, MOST_SYNCS = 2, 1.3, 4
@@ -47,6 +48,13 @@ def run(program, script, folder, **variables):
         if child.returncode:
             sys.exit(f"{program} ended with {child.returncode}")
         return used.ru_utime + used.ru_stime, used.ru_maxrss / 1024, target.read()
+
+
+def close(folder):
+    """Copies the log into the file, as a command leaves it."""
+    made = sqlite3.connect(os.path.join(folder, "hub.db"))
+    made.execute("PRAGMA wal_checkpoint(TRUNCATE)").fetchall()
+    made.close()
 
 
 def copied(folder, top):
@@ -89,6 +97,7 @@ def main(ours, plain):
             for program in (ours, plain):
                 folders.append(tempfile.mkdtemp(dir=top))
                 run(program, base(lines), folders[-1])
+                close(folders[-1])
             script = despatches(lines)
             (time, output), (plain_time, plain_output) = (cost(program, folder, script, top) for program, folder in zip((ours, plain), folders))
             if output != plain_output:
