@@ -1,5 +1,5 @@
 -- What the making of a table leaves.
-use Rattle.std.proofs.Common.{◌≡◌, ℕ, pos, true, if◌then◌else◌, List, [], ◌∷◌, ◌++◌, map, None, Result, Ok, Err, OnOk}
+use Rattle.std.proofs.Common.{◌≡◌, ℕ, pos, if◌then◌else◌, List, [], ◌∷◌, ◌++◌, map, None, Result, Ok, Err, OnOk}
 use Rattle.std.proofs.Common.{refl, sym, ap, subst, ◌∙◌, arith}
 use Rattle.std.specs.List.{AllByRecursion}
 use Rattle.sqlite.specs.Command.TheVariants.{CreateTable}

@@ -23,7 +23,7 @@ use Rattle.hub_store.specs.declared.fault.StoreFault.TheVariants.{Unclean}
 use Rattle.hub_schema.specs.Rows.{tables_in}
 use Rattle.hub_schema.specs.State.{IsHub, Makes}
 use Rattle.hub_writes.specs.Faults.{placed, inserted, ended, refusal_of, fault_of}
-use Rattle.hub_writes.specs.Acts.{has_great, Acts}
+use Rattle.hub_writes.specs.Acts.{Acts}
 
 pub on_inserted : (A : Type 0) (r : Result ℕ Error) → OnOk r A → OnOk (inserted r) A
 on_inserted A (Ok count) h = h
