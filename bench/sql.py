@@ -1,6 +1,7 @@
-"""Despatches of ten lines on the proved hub over a file of SQL (`hub_script file`) and on a plain Rust program over the system's
-SQLite (sql.rs), with few and with many lines of the supplier: ratios of processor time a message, how it grows with the lines,
-and syncs a message. Then what opening a file costs, by its size. Where a bound is passed, it says so and ends with status 1.
+"""Despatches of ten lines, and 999 orders in one upload and in as many, on the proved hub over a file of SQL (`hub_script file`) and
+on a plain Rust program over the system's SQLite (sql.rs), with few and with many lines of the supplier: ratios of processor
+time a message, how it grows with the lines, and syncs a message. Then what opening a file costs, by its size. Where a bound
+is passed, it says so and ends with status 1.
 
     python3 bench/sql.py crates/hub_script/out/hub_script PLAIN"""
 import os
@@ -33,6 +34,23 @@ def despatches(lines):
     for k in range(MESSAGES):
         play.upload(ALPHA, interchange(ALPHA, f"S{k}", despatch(k, f"{4999 * k % (lines // 10):08}", 10)))
     return play.script
+
+
+def orders_in_one(_):
+    play = Play()
+    sent(play, 999, 50_000, 1)
+    return play.script
+
+
+def orders_each(_):
+    play = Play()
+    for k in range(999):
+        sent(play, 1, 50_000 + k, 1)
+    return play.script
+
+
+# each load, and its messages
+LOADS = {"a despatch of 10 lines": (despatches, MESSAGES), "an order of one line, 999 in one upload": (orders_in_one, 999), "an order of one line, 999 uploads": (orders_each, 999)}
 
 
 def run(program, script, folder, **variables):
@@ -98,18 +116,20 @@ def main(ours, plain):
                 folders.append(tempfile.mkdtemp(dir=top))
                 run(program, base(lines), folders[-1])
                 close(folders[-1])
-            script = despatches(lines)
-            (time, output), (plain_time, plain_output) = (cost(program, folder, script, top) for program, folder in zip((ours, plain), folders))
-            if output != plain_output:
-                sys.exit(f"{lines} lines: the two programs print different replies")
-            ratio, times[lines] = time / plain_time, time
-            each = (syncs(ours, folders[0], script, top, shim) - syncs(ours, folders[0], Play().script, top, shim)) / MESSAGES
-            print(f"a despatch of 10 lines among {lines:,}: processor time {ratio:.2f} of the plain program's ({1e6 * time / MESSAGES:.0f} of {1e6 * plain_time / MESSAGES:.0f} microseconds), {each:.1f} syncs", flush=True)
-            too_much |= ratio > MOST or each > MOST_SYNCS
+            for name, (load, count) in LOADS.items():
+                script = load(lines)
+                (time, output), (plain_time, plain_output) = (cost(program, folder, script, top) for program, folder in zip((ours, plain), folders))
+                if output != plain_output:
+                    sys.exit(f"{name}, {lines} lines: the two programs print different replies")
+                ratio, times[name, lines] = time / plain_time, time
+                each = (syncs(ours, folders[0], script, top, shim) - syncs(ours, folders[0], Play().script, top, shim)) / count
+                print(f"{name}, among {lines:,}: processor time {ratio:.2f} of the plain program's ({1e6 * time / count:.0f} of {1e6 * plain_time / count:.0f} microseconds), {each:.1f} syncs", flush=True)
+                too_much |= ratio > MOST or each > MOST_SYNCS
             opening(ours, folders[0], top)
-    growth = times[LINES[-1]] / times[LINES[0]]
-    print(f"from {LINES[0]} to {LINES[-1]:,} lines it grows by {growth:.2f}")
-    too_much |= growth > MOST_GROWTH
+    for name in LOADS:
+        growth = times[name, LINES[-1]] / times[name, LINES[0]]
+        print(f"{name}: from {LINES[0]} to {LINES[-1]:,} lines it grows by {growth:.2f}")
+        too_much |= growth > MOST_GROWTH
     if too_much:
         print(f"more than {MOST} times the processor time of the plain program, {MOST_SYNCS} syncs a message, or a growth of {MOST_GROWTH}")
     return too_much
