@@ -46,7 +46,8 @@ pub record Makes (change : Tables → Tables) (old new : State) : Type 0 where
 -- before or after them
 abbrev pub MayRefuse : List Change → Tables → Type 0
 MayRefuse changes t =
-    Rising (apply_all changes t) → have_places changes t ≡ true → (are_clean t ≡ false) ⊎ (are_clean (apply_all changes t) ≡ false)
+    Rising (apply_all changes t) → have_places changes t ≡ true
+    → (are_clean t ≡ false) ⊎ (are_clean (apply_all changes t) ≡ false)
 
 -- where the connection is open it holds the tables of a hub
 abbrev pub Holds : State → Type 0

@@ -1,5 +1,6 @@
 -- A commit of a store, from what it is on the connection.
-use Rattle.std.proofs.Common.{◌≡◌, ◌⊎◌, inl, inr, true, false, IsTrue, List, [], ◌∷◌, ◌++◌, Option, None, Some, Result, Ok, Err, refl, sym, ap, subst, ◌∙◌}
+use Rattle.std.proofs.Common.{◌≡◌, ◌⊎◌, inl, inr, true, false, IsTrue, List, [], ◌∷◌, ◌++◌, Option, None, Some, Result}
+use Rattle.std.proofs.Common.{Ok, Err, refl, sym, ap, subst, ◌∙◌}
 use Rattle.std.specs.List.{last_or}
 use Rattle.sqlite.specs.Held.{state}
 use Rattle.sqlite_trees.specs.declared.store.Store.{Ghosts}
@@ -20,7 +21,8 @@ last_added : {X : Type 0} (xs : List X) (x : X) (d : Option X) → last_or d (xs
 last_added [] x d = refl
 last_added (y ∷ ys) x d = last_added ys x (Some y)
 
-module _ {S : Type 0} (g : Ghosts S) (old new : Stored S) (settled : IsSettled g old) (whole : old.fault ≡ None) (changes : List Change)
+module _ {S : Type 0} (g : Ghosts S) (old new : Stored S) (settled : IsSettled g old) (whole : old.fault ≡ None)
+    (changes : List Change)
     (back : honest g new → honest g old) where
   abbrev Done : Result (Unit {0}) StoreFault → Type 0
   Done found = CommitsTo changes (state g old.held) (state g new.held) found
@@ -38,11 +40,13 @@ module _ {S : Type 0} (g : Ghosts S) (old new : Stored S) (settled : IsSettled g
   -- all changes are made
   module _ (did : Done (Ok (tt {0}))) (past : new.past ≡ old.past ++ (new.held, true) ∷ []) where
     content_after : content g new ≡ tables_in (state g new.held).now.trees
-    content_after = ap (λ p. rows_in g (last_or None p)) past ∙ ap (rows_in g) (last_added old.past (new.held, true) None)
+    content_after = ap (λ p. rows_in g (last_or None p)) past ∙ ap (rows_in g)
+        (last_added old.past (new.held, true) None)
 
     pub made : Commits {X = Unit {0}} (content g) (honest g) (left g) (λ s. s.fault) old new changes (Ok (tt {0}))
     made = record {
-      done = λ clean fit. content_after ∙ (did.done clean (held_before clean)).2 ∙ ap (apply_all changes) (before_is clean (did.ran clean));
+      done = λ clean fit. content_after ∙ (did.done clean (held_before clean)).2 ∙ ap (apply_all changes)
+          (before_is clean (did.ran clean));
       kept = λ clean. tt;
       durable = λ clean t h. elim h [
         | inl e ↦ e
@@ -62,7 +66,8 @@ module _ {S : Type 0} (g : Ghosts S) (old new : Stored S) (settled : IsSettled g
     }
 
   -- none is
-  module _ (fault told : StoreFault) (did : Done (Err fault)) (makes : Settles {X = Unit {0}} (Err fault) new.held.schema (Err told) new.fault)
+  module _ (fault told : StoreFault) (did : Done (Err fault))
+      (makes : Settles {X = Unit {0}} (Err fault) new.held.schema (Err told) new.fault)
       (past : new.past ≡ old.past) where
     same : content g new ≡ content g old
     same = same_content g old new settled whole past

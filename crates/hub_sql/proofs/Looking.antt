@@ -1,5 +1,6 @@
 -- A look-up of a store, from what it is on the connection.
-use Rattle.std.proofs.Common.{◌≡◌, ◌≢◌, inl, inr, false, IsTrue, Option, None, Some, Result, Ok, Err, IfOk, IfErr, OnOk, refl, sym, ap, subst, ◌∙◌}
+use Rattle.std.proofs.Common.{◌≡◌, ◌≢◌, inl, inr, false, IsTrue, Option, None, Some, Result, Ok, Err, IfOk, IfErr, OnOk}
+use Rattle.std.proofs.Common.{refl, sym, ap, subst, ◌∙◌}
 use Rattle.std.specs.List.{last_or}
 use Rattle.sqlite.specs.Held.{state}
 use Rattle.sqlite_trees.specs.declared.store.Store.{Ghosts}
@@ -27,7 +28,8 @@ on_ok_of (Ok y) x e h = h
 on_ok_of (Err f) x e h = cc
 
 -- how a call fails that a store made while it had no fault
-pub failed : {X : Type 0} (before after : Option LastingFault) (result : Result X StoreFault) → before ≡ None → after ≡ broken_after None result
+pub failed : {X : Type 0} (before after : Option LastingFault) (result : Result X StoreFault) → before ≡ None
+    → after ≡ broken_after None result
     → result ≢ Err Version → Fails false before after result
 failed None after result none lasting known = record {
   again = tt;
@@ -41,7 +43,8 @@ failed None after result none lasting known = record {
     not_version (Err f) h = λ e. h (ap Err e)
 failed (Some f) after result none lasting known = cc
 
-module _ {S : Type 0} (g : Ghosts S) (old new : Stored S) (settled : IsSettled g old) (whole : old.fault ≡ None) (past : new.past ≡ old.past) where
+module _ {S : Type 0} (g : Ghosts S) (old new : Stored S) (settled : IsSettled g old) (whole : old.fault ≡ None)
+    (past : new.past ≡ old.past) where
   pub same_content : content g new ≡ content g old
   same_content = ap (λ p. rows_in g (last_or None p)) past
 
@@ -51,16 +54,20 @@ module _ {S : Type 0} (g : Ghosts S) (old new : Stored S) (settled : IsSettled g
   -- rows and schema are those that were, where the connection still shows them
   pub still : new.held.in_transaction ≡ false → (honest g new → new.fault ≡ None → new.held.schema ≡ hub_schema)
       → (honest g new → honest g old)
-      → (honest g new → IsTrue (state g new.held).is_open → IsTrue (state g old.held).is_open × ((state g new.held).now ≡ (state g old.held).now))
+      → (honest g new → IsTrue (state g new.held).is_open → IsTrue (state g old.held).is_open ×
+      ((state g new.held).now ≡ (state g old.held).now))
       → IsSettled g new
   still idle schema back shows = record {
     idle = idle;
     schema = λ none clean. schema clean none;
-    hub = λ none clean o. let was = shows clean o in hub_moved (state g old.held) (state g new.held) was.1 (settled.hub whole (back clean) was.0);
-    rows = λ none clean o. let was = shows clean o in ap (λ d. tables_in d.trees) was.1 ∙ settled.rows whole (back clean) was.0 ∙ sym same_content;
+    hub = λ none clean o. let was = shows clean o in hub_moved (state g old.held) (state g new.held) was.1
+        (settled.hub whole (back clean) was.0);
+    rows = λ none clean o. let was = shows clean o in ap (λ d. tables_in d.trees) was.1 ∙ settled.rows whole
+        (back clean) was.0 ∙ sym same_content;
   }
 
-  module _ {X : Type 0} (answer : Tables → X) (found result : Result X StoreFault) (looks : LooksUp answer (state g old.held) (state g new.held) found)
+  module _ {X : Type 0} (answer : Tables → X) (found result : Result X StoreFault)
+      (looks : LooksUp answer (state g old.held) (state g new.held) found)
       (makes : Settles found new.held.schema result new.fault) where
     back : honest g new → honest g old
     back clean = clean_before (state g old.held) (state g new.held) _ looks.crash clean
@@ -82,10 +89,12 @@ module _ {S : Type 0} (g : Ghosts S) (old new : Stored S) (settled : IsSettled g
           ap are_clean (sym (settled.rows whole (back clean) it.0)) ∙ it.1;
     }
       where
-        go : (r : Result X StoreFault) → IfOk r (λ x. found ≡ Ok x) → honest g new → IfOk r (λ x. x ≡ answer (content g old))
+        go : (r : Result X StoreFault) → IfOk r (λ x. found ≡ Ok x) → honest g new → IfOk r
+            (λ x. x ≡ answer (content g old))
         go (Ok x) is clean =
             let shown = on_ok_of found x is (looks.same clean) in
-            ok_of (λ y. y ≡ answer (tables_in (state g old.held).now.trees)) found x is (looks.answers clean (holds (back clean)))
+            ok_of (λ y. y ≡ answer (tables_in (state g old.held).now.trees)) found x is
+            (looks.answers clean (holds (back clean)))
             ∙ ap answer (settled.rows whole (back clean) shown.0)
         go (Err f) is clean = tt
 
@@ -97,7 +106,8 @@ module _ {S : Type 0} (g : Ghosts S) (old new : Stored S) (settled : IsSettled g
         still (looks.mode settled.idle) (λ clean none. schema result makes.value makes.usable clean none) back
         (λ clean o. looks.stays clean settled.idle (settled.schema whole (back clean)) o)
       where
-        schema : (r : Result X StoreFault) → IfOk r (λ x. found ≡ Ok x) → IfErr r (λ _. new.fault ≡ None → new.held.schema ≡ hub_schema)
+        schema : (r : Result X StoreFault) → IfOk r (λ x. found ≡ Ok x) → IfErr r
+            (λ _. new.fault ≡ None → new.held.schema ≡ hub_schema)
             → honest g new → new.fault ≡ None → new.held.schema ≡ hub_schema
         schema (Ok x) is usable clean none =
             let shown = on_ok_of found x is (looks.same clean) in
@@ -105,7 +115,8 @@ module _ {S : Type 0} (g : Ghosts S) (old new : Stored S) (settled : IsSettled g
         schema (Err f) is usable clean none = usable none
 
 -- a store with a fault for good answers it, and stays as it is
-module _ {S : Type 0} (g : Ghosts S) (s : Stored S) {X : Type 0} (result : Result X StoreFault) (good : LastingFault) (has : s.fault ≡ Some good)
+module _ {S : Type 0} (g : Ghosts S) (s : Stored S) {X : Type 0} (result : Result X StoreFault) (good : LastingFault)
+    (has : s.fault ≡ Some good)
     (is : result ≡ Err (fault_of good)) where
   pub refused : (answer : X) → Looks (content g) (honest g) (left g) (λ s. s.fault) s s answer result
   refused answer = record {

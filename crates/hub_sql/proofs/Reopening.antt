@@ -9,10 +9,12 @@ use Rattle.sqlite_trees.specs.declared.store.Shape.TheVariants.{Table}
 
 -- one that is not broken is open
 pub open_if_whole : (v : View) → (v.is_open ≡ false → IsTrue v.is_broken) → v.is_broken ≡ false → IsTrue v.is_open
-open_if_whole v law whole = elim (cases_Bool v.is_open) [ inl up ↦ up | inr down ↦ absurd (true≢false (sym (law down) ∙ whole)) ]
+open_if_whole v law whole =
+    elim (cases_Bool v.is_open) [ inl up ↦ up | inr down ↦ absurd (true≢false (sym (law down) ∙ whole)) ]
 
 -- trees of tables are in order
 pub all_shaped : (shape : ℕ → Shape) (trees : Trees) (numbers : List ℕ) → IsOrdered shape trees
     → AllByRecursion (λ tree. shape tree ≡ Table) numbers → AllByRecursion (λ tree. IsShaped Table (trees tree)) numbers
 all_shaped shape trees [] law tables = tt
-all_shaped shape trees (tree ∷ numbers) law tables = (subst (λ s. IsShaped s (trees tree)) tables.0 (law tree), all_shaped shape trees numbers law tables.1)
+all_shaped shape trees (tree ∷ numbers) law tables =
+    (subst (λ s. IsShaped s (trees tree)) tables.0 (law tree), all_shaped shape trees numbers law tables.1)

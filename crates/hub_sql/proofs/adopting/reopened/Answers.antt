@@ -11,11 +11,14 @@ returns-in-Ok-clause-ordered g c clean =
     let whole : (g.S.Store.view store).is_broken ≡ false = sym (c.is_broken.ensures early) ∙ c.if-is_broken.false in
     let tables = c.has_tables.ensures c.if-not-has_tables.false in
     subst AreOrdered (sym (c.in-Ok.ensures.trees clean))
-    (all_shaped (g.S.Store.view store).shape (g.S.Store.view store).trees (0 ∷ 1 ∷ 3 ∷ 5 ∷ 7 ∷ 10 ∷ 12 ∷ 14 ∷ 16 ∷ []) (g.met.S.Store.ordered store whole) tables)
+    (all_shaped (g.S.Store.view store).shape (g.S.Store.view store).trees (0 ∷ 1 ∷ 3 ∷ 5 ∷ 7 ∷ 10 ∷ 12 ∷ 14 ∷ 16 ∷ [])
+    (g.met.S.Store.ordered store whole) tables)
 
 pub returns-in-Ok-clause-rows : goal.returns-in-Ok-clause-rows
 returns-in-Ok-clause-rows g c clean =
     let store = c.into_store-store.result in
     let early : IsClean (g.S.Store.view store) = omega (arith, c.in-Ok.ensures.clean) in
     let whole : (g.S.Store.view store).is_broken ≡ false = sym (c.is_broken.ensures early) ∙ c.if-is_broken.false in
-    c.in-Ok.ensures.trees clean ∙ (c.into_store-store.ensures.undone.undone (open_if_whole (g.S.Store.view store) (g.met.S.Store.broken_if_shut store) whole)).0
+    c.in-Ok.ensures.trees clean ∙
+    (c.into_store-store.ensures.undone.undone
+    (open_if_whole (g.S.Store.view store) (g.met.S.Store.broken_if_shut store) whole)).0
