@@ -39,7 +39,7 @@ bench: edihub
 	rustc --edition 2021 -O -o crates/hub_script/out/plain bench/hub.rs
 	python3 bench/hub.py crates/hub_script/out/hub_script crates/hub_script/out/plain
 	if rustc --edition 2021 -O -o crates/hub_script/out/plain_sql bench/sql.rs; then \
-		python3 bench/sql.py crates/hub_script/out/hub_script crates/hub_script/out/plain_sql; \
+		python3 bench/sql.py crates/hub_script/out/hub_script crates/hub_script/out/plain_sql ./edihub; \
 	else echo "no SQLite library to compare with"; fi
 
 clean:

@@ -1,9 +1,10 @@
 """Despatches of ten lines, and 999 orders in one upload and in as many, on the proved hub over a file of SQL (`hub_script file`) and
 on a plain Rust program over the system's SQLite (sql.rs), with few and with many lines of the supplier: ratios of processor
 time a message, how it grows with the lines, and syncs a message. Then what opening a file costs, by its size. Where a bound
-is passed, it says so and ends with status 1.
+is passed, it says so and ends with status 1. Last, `edihub import` of 999 orders in one file and in as many, beside the plain
+program's uploads of the same.
 
-    python3 bench/sql.py crates/hub_script/out/hub_script PLAIN"""
+    python3 bench/sql.py crates/hub_script/out/hub_script PLAIN EDIHUB"""
 import os
 import shutil
 import sqlite3
@@ -11,7 +12,8 @@ import subprocess
 import sys
 import tempfile
 
-from hub import ALPHA, Play, despatch, interchange, sent
+from hub import ALPHA, RETAILER, Play, despatch, interchange, order, sent
+from hubs import TWO_SUPPLIERS
 
 ROUNDS, MESSAGES = 3, 600
 LINES = (10, 1_000, 100_000)
@@ -36,16 +38,18 @@ def despatches(lines):
     return play.script
 
 
+def orders_text(count, first):
+    return interchange(RETAILER, f"U{first}", *(order(k + 1, f"{first + k:08}", 1) for k in range(count)))
+
+
 def orders_in_one(_):
-    play = Play()
-    sent(play, 999, 50_000, 1)
-    return play.script
+    return Play().upload(RETAILER, orders_text(999, 50_000)).script
 
 
 def orders_each(_):
     play = Play()
     for k in range(999):
-        sent(play, 1, 50_000 + k, 1)
+        play.upload(RETAILER, orders_text(1, 50_000 + k))
     return play.script
 
 
@@ -53,19 +57,24 @@ def orders_each(_):
 LOADS = {"a despatch of 10 lines": (despatches, MESSAGES), "an order of one line, 999 in one upload": (orders_in_one, 999), "an order of one line, 999 uploads": (orders_each, 999)}
 
 
-def run(program, script, folder, **variables):
+def timed(words, folder, source=subprocess.DEVNULL, **variables):
     """Processor seconds, most memory in MB, and output of one run in a folder."""
-    path = os.path.join(folder, "script")
-    with open(path, "wb") as file:
-        file.write(script)
-    with open(path, "rb") as source, tempfile.TemporaryFile() as target:
-        child = subprocess.Popen([program, "file", "hub.db"], stdin=source, stdout=target, cwd=folder, env={**os.environ, **variables})
+    with tempfile.TemporaryFile() as target:
+        child = subprocess.Popen(words, stdin=source, stdout=target, cwd=folder, env={**os.environ, **variables})
         _, state, used = os.wait4(child.pid, 0)
         child.returncode = os.waitstatus_to_exitcode(state)
         target.seek(0)
         if child.returncode:
-            sys.exit(f"{program} ended with {child.returncode}")
+            sys.exit(f"{words[0]} ended with {child.returncode}")
         return used.ru_utime + used.ru_stime, used.ru_maxrss / 1024, target.read()
+
+
+def run(program, script, folder, **variables):
+    path = os.path.join(folder, "script")
+    with open(path, "wb") as file:
+        file.write(script)
+    with open(path, "rb") as source:
+        return timed([program, "file", "hub.db"], folder, source, **variables)
 
 
 def close(folder):
@@ -105,7 +114,28 @@ def opening(program, folder, top):
     print(f"opening a file of {size / 1e6:.0f} MB: {1000 * time:.0f} ms of processor time, {memory:.0f} MB of memory", flush=True)
 
 
-def main(ours, plain):
+def imported(edihub, plain, folder, plain_folder, lines, top):
+    """An import of 999 orders, in one file and in as many, beside the plain program's uploads of the same."""
+    words = ["--register", "register.toml", "--db", "hub.db", "--as", RETAILER, "--key", "retail-key"]
+    for name, load in (("one file", orders_in_one), ("999 files", orders_each)):
+        into = copied(folder, top)
+        files = os.path.join(into, "in")
+        os.mkdir(files)
+        with open(os.path.join(into, "register.toml"), "w", encoding="ascii") as file:
+            file.write(TWO_SUPPLIERS)
+        uploads = [orders_text(999, 50_000)] if load is orders_in_one else [orders_text(1, 50_000 + k) for k in range(999)]
+        for k, text in enumerate(uploads):
+            with open(os.path.join(files, f"{k:03}.edi"), "w", encoding="ascii") as file:
+                file.write(text)
+        os.mkdir(os.path.join(into, "empty"))
+        opened, memory, _ = timed([edihub, "import", *words, "--folder", "empty"], into)
+        time, most, _ = timed([edihub, "import", *words, "--folder", "in"], into)
+        plain_time, _ = cost(plain, plain_folder, load(lines), top)
+        print(f"an import of 999 orders in {name}, among {lines:,}: processor time {(time - opened) / plain_time:.2f} of the plain program's, {most:.0f} MB of memory, {memory:.0f} of them for the open file", flush=True)
+
+
+def main(ours, plain, edihub):
+    ours, plain, edihub = (os.path.abspath(it) for it in (ours, plain, edihub))
     too_much, times = False, {}
     with tempfile.TemporaryDirectory() as top:
         shim = os.path.join(top, "stop.so")
@@ -126,6 +156,7 @@ def main(ours, plain):
                 print(f"{name}, among {lines:,}: processor time {ratio:.2f} of the plain program's ({1e6 * time / count:.0f} of {1e6 * plain_time / count:.0f} microseconds), {each:.1f} syncs", flush=True)
                 too_much |= ratio > MOST or each > MOST_SYNCS
             opening(ours, folders[0], top)
+            imported(edihub, plain, *folders, lines, top)
     for name in LOADS:
         growth = times[name, LINES[-1]] / times[name, LINES[0]]
         print(f"{name}: from {LINES[0]} to {LINES[-1]:,} lines it grows by {growth:.2f}")
