@@ -1,5 +1,5 @@
 -- A commit of a store, from what it is on the connection.
-use Rattle.std.proofs.Common.{◌≡◌, ◌⊎◌, inl, inr, true, false, IsTrue, List, [], ◌∷◌, ◌++◌, Option, None, Some, Result}
+use Rattle.std.proofs.Common.{◌≡◌, inl, inr, true, false, IsTrue, List, [], ◌∷◌, ◌++◌, Option, None, Some, Result}
 use Rattle.std.proofs.Common.{Ok, Err, refl, sym, ap, subst, ◌∙◌}
 use Rattle.std.specs.List.{last_or}
 use Rattle.sqlite.specs.Held.{state}
@@ -9,7 +9,6 @@ use Rattle.hub_tables.specs.Sets.{Rising}
 use Rattle.hub_tables.specs.Tables.{Tables}
 use Rattle.hub_tables.specs.declared.change.Change.{Change}
 use Rattle.hub_store.specs.Calls.{Commits, Fails}
-use Rattle.hub_store.specs.Clean.{are_clean}
 use Rattle.hub_store.specs.declared.fault.StoreFault.{StoreFault}
 use Rattle.hub_schema.specs.Rows.{tables_in}
 use Rattle.hub_schema.specs.State.{MayRefuse, Holds, CommitsTo}
