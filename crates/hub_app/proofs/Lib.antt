@@ -2,6 +2,5 @@ pub mod Asked
 pub mod Commands
 pub mod Lines
 pub mod Mails
-pub mod Numbers
 pub mod Simple
 pub mod Texts

@@ -2,13 +2,8 @@
 use Rattle.std.specs.Prelude.{ℕ, ◌++◌, if◌then◌else◌, nat_le, List, [], ◌∷◌, Option, Some, None, option_map}
 use Rattle.std.specs.Prelude.{option_and_then}
 use Rattle.clap.specs.Words.{Row, Text, first_of}
-use Rattle.edi_base.specs.Limits as limits
-use Rattle.edi_base.specs.Limits.{are_digits}
 use Rattle.edi_envelope.specs.Moment.{last_moment}
-
--- the number that 1 to 14 digits write
-abbrev pub number_of : Text → Option ℕ
-number_of text = if are_digits 1 14 text then Some (limits.number_of text) else None
+pub use Rattle.hub_texts.specs.Number.{number_in as number_of}
 
 -- the moment that they write
 abbrev pub moment_of : Text → Option ℕ

@@ -3,12 +3,13 @@
 ghost use Rattle.std.specs.Prelude.{◌≡◌, map, option_map, option_and_then, IfOk};
 ghost use Rattle.clap.specs.Words.{first_of, found_of, rows_of};
 ghost use Rattle.gs1_ids.specs.Gln.{gln_of};
+ghost use Rattle.hub_texts.specs.Number.{number_in};
 ghost use Rattle.hub_app.specs.Options as spec;
 
 use clap::ArgMatches;
-use edi_base::are_digits;
 use edi_envelope::Moment;
 use gs1_ids::Gln;
+use hub_texts::number_of;
 use std::alloc::{AllocError, Global};
 
 /// The value of an option, where it is given.
@@ -20,13 +21,9 @@ pub(crate) fn text<'a>(options: &ArgMatches<'a>, name: &str) -> Option<&'a str>
 
 /// The number of 1 to 14 digits.
 pub(crate) fn number(text: &str) -> Option<u64>
-    ensures { result ≡ spec.number_of text.now }
+    ensures { result ≡ number_in text.now }
 {
-    if are_digits(1, 14, text.as_bytes()) {
-        text.parse().ok()
-    } else {
-        None
-    }
+    number_of(text.as_bytes())
 }
 
 /// The moment of 1 to 14 digits.

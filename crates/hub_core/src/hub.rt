@@ -1,6 +1,6 @@
 //! A hub.
 ghost use Rattle.std.specs.Prelude.{◌≡◌, List, [], ◌∷◌, ◌++◌, IfOk, OnErr};
-ghost use Rattle.hub_parties.specs.Rows.{role_of};
+ghost use Rattle.hub_parties.specs.Rows.{IsRegister, role_of};
 ghost use Rattle.hub_rules.specs.Sound.{Sound};
 ghost use Rattle.hub_law.specs.declared.reply.Reply.{Reply};
 ghost use Rattle.hub_law.specs.declared.request.Input.{Input};
@@ -64,6 +64,13 @@ impl<S: Store> Hub<S> {
         ensures { result ≡ role_of self.now.0 caller.now key.now }
     {
         self.register.may(caller, key)
+    }
+
+    /// A law of the register, which was read of a text: it keeps what every register keeps.
+    pub fn has_a_right_register(&self)
+        ensures { IsRegister self.now.0 }
+    {
+        let _hub = self.register.hub();
     }
 
     /// Answers a request that comes at a moment of whoever has this GLN and this key.

@@ -1,5 +1,5 @@
 -- Digits and the numbers that they write.
-use Rattle.std.proofs.Common.{◌≡◌, ℕ, ◌^◌, ◌<◌, ◌≤◌, true, not, ◌&&◌, ◌==◌, List, length, fold, cond, Some, None, nat_le}
+use Rattle.std.proofs.Common.{◌≡◌, ℕ, ◌^◌, ◌<◌, ◌≤◌, true, not, ◌&&◌, ◌==◌, List, [], ◌∷◌, length, fold, cond, Some, None, Result, Ok, nat_le}
 use Rattle.std.proofs.Common.{ap, ap₂, ◌∙◌, arith, rules}
 use Rattle.std.specs.Fmt.{decimal}
 use Rattle.std.specs.List.{list_all}
@@ -7,7 +7,11 @@ use Rattle.std.proofs.lemmas.Bool.{and_parts, le-leb, leb-true}
 use Rattle.std.proofs.lemmas.Bool.Decides.{nat_tests}
 use Rattle.std.proofs.lemmas.Fmt.{digits_decimal, digits_value-decimal, length-decimal-le, decimal_nonempty}
 use Rattle.std.proofs.lemmas.Option.{cond_some}
-use Rattle.std.proofs.lemmas.Str.Parse.{IsNumeralModel, numerals_by_fold, digits_value_short}
+use Rattle.std.specs.Str.Parse.{ParsesUnsigned}
+use Rattle.std.specs.Str.{IsUtf8, IsAscii}
+use Rattle.std.proofs.lemmas.Str.{IsUtf8-from_ascii}
+use Rattle.std.proofs.lemmas.Str.Ascii.{IsAscii-nil, IsAscii-cons}
+use Rattle.std.proofs.lemmas.Str.Parse.{IsNumeralModel, numerals_by_fold, digits_value_short, parse_gives}
 use Rattle.std.proofs.Math.Nat.{pow-le-pow_right}
 use Rattle.edi_base.specs.Limits.{is_digit, has_length, are_digits, with_digit, number_of, greatest, value_of}
 use Rattle.hub_texts.specs.Cancel.{positive}
@@ -54,3 +58,24 @@ positive_within most digits n h =
     let below = digits_below most digits parts.0 in
     let above : 0 < number_of digits = grind (arith, nat_tests, parts.1) in
     (omega (arith, above, read.1), omega (arith, below, read.1))
+
+-- so many digits are read as the number that they write
+pub read : {E : Type 0} (digits : List ℕ) (r : Result ℕ E) → ParsesUnsigned 64 10 digits r → are_digits 1 14 digits ≡ true
+    → r ≡ Ok (number_of digits)
+read digits r parses h =
+    let parts = and_parts (has_length 1 14 digits) (list_all is_digit digits) h in
+    let some : 1 ≤ length digits = leb-true _ _ (and_parts (nat_le 1 (length digits)) (nat_le (length digits) 14) parts.0).0 in
+    let below : number_of digits < 10 ^ 14 = digits_below 14 digits h in
+    parse_gives numerals 64 digits r parses parts.1 (omega arith) (omega (arith, below))
+
+-- digits are text
+digits_are_ascii : (digits : List ℕ) → AreDigits digits → IsAscii digits
+digits_are_ascii [] h = IsAscii-nil
+digits_are_ascii (d ∷ ds) h =
+    let parts = and_parts (is_digit d) (list_all is_digit ds) h in
+    let high : d ≤ 57 = leb-true _ _ (and_parts (nat_le 48 d) (nat_le d 57) parts.0).1 in
+    IsAscii-cons d ds (omega (arith, high)) (digits_are_ascii ds parts.1)
+
+pub digits_are_text : (most : ℕ) (digits : List ℕ) → are_digits 1 most digits ≡ true → IsUtf8 digits
+digits_are_text most digits h =
+    IsUtf8-from_ascii digits (digits_are_ascii digits (and_parts (has_length 1 most digits) (list_all is_digit digits) h).1)
