@@ -1,0 +1,129 @@
+ghost use Rattle.std.specs.Prelude.{◌≡◌, ◌≤◌, ◌+◌, ◌-◌, ◌<◌, true, IfOk, OnOk, OnErr, length, take, List, ℕ, drop};
+ghost use Rattle.http_head.specs.Head.{Heading, Finds, longest_head};
+ghost use Rattle.edi_base.specs.Source.{TakesPiece, TakesAtMost};
+ghost use Rattle.http_head.specs.Fields.{AreValues, values_of};
+
+use crate::fields::{Values, values_in};
+use edi_base::Source;
+use httparse::Status;
+use httparse::spans::{EMPTY_HEADER_SPAN, HeaderSpan, RequestSpans, parse_request};
+use std::marker::Model;
+
+/// How many bytes a head has at most.
+const LONGEST: usize = 8192;
+
+/// How many fields a head has at most.
+const FIELDS: usize = 32;
+
+/// The source answered an error.
+#[derive(Clone, Copy, Debug, PartialEq, Eq)]
+pub struct HeadFault;
+
+/// The head of a request, with the bytes that were read behind it.
+#[derive(Drop)]
+pub struct Head {
+    bytes: [u8; LONGEST],
+    filled: usize,
+    fields: [HeaderSpan; FIELDS],
+    spans: RequestSpans,
+}
+
+impl Model for Head {
+    ghost use Rattle.std.specs.Prelude.{◌≤◌, take};
+    ghost use Rattle.http_head.specs.Head.{Heading, shown};
+    ghost use Rattle.httparse.specs.Spans.{IsRequestWithin, span_bytes};
+    ghost use Rattle.std.specs.Prelude.{IsUtf8};
+
+    ghost Value = { Heading };
+
+    ghost view = { λ h. shown (take h.filled h.bytes) h.fields h.spans };
+
+    ghost invariant = { λ h. (h.filled ≤ 8192) × (h.spans.headers ≤ 32) × IsUtf8 (span_bytes (take h.filled h.bytes) h.spans.path) × IsRequestWithin (take h.filled h.bytes) h.fields h.spans };
+}
+
+impl Head {
+    /// The method.
+    pub fn method(&self) -> &[u8]
+        ensures { result.now ≡ self.now.method }
+    {
+        self.spans.method.of(&self.bytes[..self.filled])
+    }
+
+    /// The target.
+    pub fn target(&self) -> &str
+        ensures { result.now ≡ self.now.target }
+    {
+        str::from_utf8(self.spans.path.of(&self.bytes[..self.filled])).unwrap()
+    }
+
+    /// The bytes that were read behind the head.
+    pub fn rest(&self) -> &[u8]
+        ensures { result.now ≡ self.now.rest }
+    {
+        let read = &self.bytes[..self.filled];
+        &read[self.spans.len..]
+    }
+
+    /// The values of the fields of a name.
+    pub fn values(&self, name: &[u8]) -> Values<'_>
+        ensures { AreValues result (values_of name.now self.now.fields) }
+    {
+        values_in(
+            &self.bytes[..self.filled],
+            &self.fields[..self.spans.headers],
+            name,
+        )
+    }
+}
+
+/// Reads once behind the bytes that are there.
+fn read_more<R: Source>(
+    source: &mut R,
+    bytes: &mut [u8; LONGEST],
+    filled: usize,
+) -> Result<usize, HeadFault>
+    requires { filled ≤ longest_head }
+    ensures taken { IfOk result (λ count. TakesPiece (R.remaining source.old) (R.remaining source.new) (take filled bytes.old) (take (filled + count) bytes.new) (longest_head - filled) count) }
+    ensures none { OnErr result (TakesAtMost (R.remaining source.old) (R.remaining source.new) 0) }
+    ensures kept { OnOk result (R.failed source.new ≡ R.failed source.old) }
+    ensures failed { OnErr result (R.failed source.new ≡ true) }
+{
+    let Ok(count) = source.read(&mut bytes[filled..]) else {
+        return Err(HeadFault);
+    };
+    Ok(count)
+}
+
+/// Reads the head of a request. `None` where it is wrong, too long, cut, or has too many fields. Takes no memory.
+pub fn read_head<R: Source>(source: &mut R) -> Result<Option<Head>, HeadFault>
+    ensures head { IfOk result (Finds (R.remaining source.old) (R.remaining source.new)) }
+    ensures limit { TakesAtMost (R.remaining source.old) (R.remaining source.new) longest_head }
+    ensures kept { OnOk result (R.failed source.new ≡ R.failed source.old) }
+    ensures failed { OnErr result (R.failed source.new ≡ true) }
+{
+    let mut bytes = [0u8; LONGEST];
+    let mut filled = 0;
+    'reading: loop {
+        let mut fields = [EMPTY_HEADER_SPAN; FIELDS];
+        match parse_request(&bytes[..filled], &mut fields) {
+            Ok(Status::Complete(spans)) => {
+                return Ok(Some(Head {
+                    bytes,
+                    filled,
+                    fields,
+                    spans,
+                }));
+            }
+            Ok(Status::Partial) => {}
+            Err(_) => return Ok(None),
+        }
+        if filled == LONGEST {
+            return Ok(None);
+        }
+        let count = read_more(source, &mut bytes, filled)?;
+        if count == 0 {
+            return Ok(None);
+        }
+        filled += count;
+    }
+}
