@@ -3,10 +3,12 @@ use crate::fault::ScriptFault;
 use crate::opening::Opener;
 use crate::request::{payload, request_of};
 use crate::script::{Script, Words};
+use crate::wire::{Incoming, Manner, Outgoing};
 use edi_base::{Items, Sink, copied, write_bytes};
 use edi_envelope::Moment;
 use gs1_ids::Gln;
 use hub_core::{Hub, Input, Outcome, Reply, Request};
+use hub_http::serve_one;
 use hub_register::Register;
 use hub_store::{Store, StoreFault};
 use hub_trial::TrialStore;
@@ -119,6 +121,7 @@ impl<S: Store + Drop, O: Opener<S>> Trial<S, O> {
                 Ok(())
             }
             b"end" => self.make_run(out),
+            b"connection" => self.serve(words, script, out),
             b"mend" => self.mend(),
             b"counts" => self.tell_counts(out),
             b"quiet" => {
@@ -197,6 +200,42 @@ impl<S: Store + Drop, O: Opener<S>> Trial<S, O> {
         Ok(())
     }
 
+    // Serves a connection whose bytes follow, and prints the status that was written, or the fault, and what went out.
+    fn serve<W: Sink>(
+        &mut self,
+        words: &mut Words<'_>,
+        script: &mut Script<'_>,
+        out: &mut W,
+    ) -> Result<(), ScriptFault> {
+        let bytes = payload(words, script)?;
+        let manner = Manner::of(words)?;
+        let moment = self.caller.as_ref().ok_or(ScriptFault::Line)?.moment;
+        let hub = self.hub.as_mut().ok_or(ScriptFault::Line)?;
+        let mut writer = Outgoing::new(self.alloc, manner);
+        let mut reader = Incoming::new(bytes, manner);
+        let line = match serve_one(self.alloc, hub, moment, &mut reader, &mut writer) {
+            Ok(served) => {
+                let status = served.status;
+                format!(in self.alloc; "served {status}")?
+            }
+            Err(fault) => format!(in self.alloc; "fault {fault}")?,
+        };
+        self.tell_bytes(line.as_str(), writer.bytes(), out)
+    }
+
+    // Prints a line with the number of some bytes, and these.
+    fn tell_bytes<W: Sink>(
+        &self,
+        word: &str,
+        bytes: &[u8],
+        out: &mut W,
+    ) -> Result<(), ScriptFault> {
+        let length = bytes.len();
+        let line = format!(in self.alloc; "{word} {length}\n")?;
+        write_bytes(line.as_bytes(), out)?;
+        Ok(write_bytes(bytes, out)?)
+    }
+
     // Opens the store anew, with what it holds, and no call of it fails.
     fn mend(&mut self) -> Result<(), ScriptFault> {
         let hub = self.hub.take().ok_or(ScriptFault::Line)?;
@@ -223,10 +262,7 @@ impl<S: Store + Drop, O: Opener<S>> Trial<S, O> {
         }
         let outcome = word_of(reply.outcome);
         let refused = if reply.refused { " refused" } else { "" };
-        let body = reply.body.as_slice();
-        let length = body.len();
-        let line = format!(in self.alloc; "{outcome}{refused} {length}\n")?;
-        write_bytes(line.as_bytes(), out)?;
-        Ok(write_bytes(body, out)?)
+        let word = format!(in self.alloc; "{outcome}{refused}")?;
+        self.tell_bytes(word.as_str(), reply.body.as_slice(), out)
     }
 }

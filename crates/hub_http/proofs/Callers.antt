@@ -1,0 +1,40 @@
+-- Who asks has a GLN.
+use Rattle.std.proofs.Common.{◌≡◌, ℕ, List, [], ◌∷◌, Bool, true, false, ◌&&◌, Option, None, map, refl, sym, ap, ◌∙◌}
+use Rattle.std.specs.Prelude.{option_map}
+use Rattle.std.specs.List.{list_all}
+use Rattle.std.specs.Str.{bytes_eq}
+use Rattle.std.proofs.lemmas.Bool.{and_parts, and_left, false≢true, false_from_ne_true}
+use Rattle.std.proofs.lemmas.Slice.Eq.{bytes_eq-Decides}
+use Rattle.gs1_ids.specs.Gln.{is_gln}
+use Rattle.hub_parties.specs.Rows.{RegisterRows, IsRegister, supplier_row, role_by, role_of}
+use Rattle.hub_parties.specs.declared.row.SupplierRow.{SupplierRow}
+use Rattle.hub_http.specs.Asked.{Asker, asker_by}
+
+-- what is no GLN differs from a GLN
+differs : (gln party : List ℕ) → is_gln gln ≡ true → is_gln party ≡ false → bytes_eq gln party ≡ false
+differs gln party is none =
+    false_from_ne_true (bytes_eq gln party) (λ same. false≢true (sym none ∙ ap is_gln (sym ((bytes_eq-Decides gln party).0 same)) ∙ is))
+
+-- no row of suppliers has it
+no_row : (suppliers : List SupplierRow) (party : List ℕ)
+    → list_all is_gln (map (λ (row : SupplierRow). row.gln) suppliers) ≡ true
+    → is_gln party ≡ false
+    → supplier_row suppliers party ≡ None
+no_row [] party all none = refl
+no_row (s ∷ suppliers) party all none =
+    let parts = and_parts (is_gln s.gln) (list_all is_gln (map (λ (row : SupplierRow). row.gln) suppliers)) all in
+    rw (differs s.gln party parts.0 none) (no_row suppliers party parts.1 none)
+
+-- nobody asks with it
+pub nobody : (register : RegisterRows) (party key : List ℕ) → IsRegister register → is_gln party ≡ false
+    → role_of register party key ≡ None
+nobody register party key right none =
+    let parts = and_parts (is_gln register.hub) _ right.glns_right in
+    let others = and_parts (is_gln register.retailer) _ parts.1 in
+    let other : bytes_eq register.retailer party ≡ false = differs register.retailer party others.0 none in
+    rw (no_row register.suppliers party others.1 none, other) refl
+
+pub no_asker : (register : RegisterRows) (party key : List ℕ) → IsRegister register → is_gln party ≡ false
+    → None ≡ asker_by register party key
+no_asker register party key right none =
+    ap (option_map (λ role. record { role = role; gln = party; key = key })) (sym (nobody register party key right none))

@@ -1,0 +1,14 @@
+-- What a head asks for, once its first check passed.
+use Rattle.std.proofs.Common.{◌≡◌, ℕ, List, Bool, true, not, Option, Result, Err, ap, sym, ◌∙◌}
+use Rattle.std.specs.Prelude.{if◌then◌else◌}
+use Rattle.hub_parties.specs.Rows.{RegisterRows}
+use Rattle.http_head.specs.Head.{Heading}
+use Rattle.http_routes.specs.declared.routes.Place.{Place}
+use Rattle.hub_http.specs.Asked.{is_single, place_in, at_place, asked_by}
+use Rattle.hub_http.specs.declared.refusal.Refusal.TheVariants.{BadRequest}
+
+pub asked_single : (register : RegisterRows) (head : Heading) (place : Option (Place × List (List ℕ)))
+    → is_single head ≡ true → place ≡ place_in head.target → at_place register head place ≡ asked_by register head
+asked_single register head place single same =
+    ap (at_place register head) same
+    ∙ ap (λ b. if not b then Err BadRequest else at_place register head (place_in head.target)) (sym single)

@@ -1,0 +1,4 @@
+mod Bounds
+mod Callers
+mod Judging
+mod Serving

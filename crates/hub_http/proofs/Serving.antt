@@ -1,0 +1,72 @@
+-- The question of a connection, from its head.
+use Rattle.std.proofs.Common.{◌≡◌, ℕ, ◌+◌, List, Option, Some, None, Result, Ok, Err, false, refl}
+use Rattle.std.specs.Prelude.{IfOk, IfSome}
+use Rattle.std.specs.Io.KnownBytes.{Appends}
+use Rattle.edi_base.specs.Buffer.{AppendsFront}
+use Rattle.hub_law.specs.declared.reply.Reply.{Reply}
+use Rattle.hub_parties.specs.Rows.{RegisterRows}
+use Rattle.http_head.specs.Head.{Heading, Finds, before, longest_head}
+use Rattle.edi_base.specs.Source.{TakesAtMost}
+use Rattle.hub_http.specs.Answer.{Answers, Serves, announced_by}
+use Rattle.hub_http.specs.Asked.{is_single}
+use Rattle.hub_http.specs.Question.{Question, question_of}
+use Rattle.hub_http.specs.Serve.{response}
+use Rattle.hub_http.proofs.Bounds.{both_taken}
+use Rattle.hub_http.specs.declared.answer.Answer.{Answer}
+use Rattle.hub_http.specs.declared.refusal.Refusal.TheVariants.{BadRequest}
+
+module _ (Replies : Question → Reply → Type 0) (Same : Type 0) (register : RegisterRows) where
+  -- without a head
+  pub serves_none : (old new : Option (List ℕ)) (answer : Answer) → Finds old new None → TakesAtMost old new longest_head
+      → Answers Replies Same false (Err BadRequest) answer
+      → IfSome old (λ known. Serves Replies Same register known new answer)
+  serves_none None new answer found taken answers = tt
+  serves_none (Some known) None answer found taken answers = absurd found
+  serves_none (Some known) (Some left) answer found taken answers = record {
+    question = Err BadRequest;
+    asks = record { head = None; head_is = found; question_is = refl };
+    answers = answers;
+    taken = taken;
+  }
+
+  -- with one, and the bytes behind it
+  serves_head : (old new after : Option (List ℕ)) (head : Heading) (answer : Answer) → Finds old new (Some head)
+      → TakesAtMost old after (longest_head + announced_by register (Some head))
+      → IfSome new (λ left. Answers Replies Same (is_single head) (question_of register (Some (before left head))) answer)
+      → IfSome old (λ known. Serves Replies Same register known after answer)
+  serves_head None new after head answer found taken answers = tt
+  serves_head (Some known) None after head answer found taken answers = absurd found
+  serves_head (Some known) (Some left) after head answer found taken answers = record {
+    question = question_of register (Some (before left head));
+    asks = record { head = Some (before left head); head_is = found; question_is = refl };
+    answers = answers;
+    taken = taken;
+  }
+
+  pub serves_some : {E : Type 0} (old new after : Option (List ℕ)) (head : Heading) (r : Result Answer E)
+      → Finds old new (Some head)
+      → TakesAtMost old new longest_head
+      → TakesAtMost new after (announced_by register (Some head))
+      → IfOk r (λ answer. IfSome new (λ left.
+      Answers Replies Same (is_single head) (question_of register (Some (before left head))) answer))
+      → IfOk r (λ answer. IfSome old (λ known. Serves Replies Same register known after answer))
+  serves_some old new after head (Ok answer) found first more answers =
+      serves_head old new after head answer found (both_taken old new after _ _ first more) answers
+  serves_some old new after head (Err e) found first more answers = tt
+
+  -- a front of the response was written
+  pub ended_cut : (known after was is : Option (List ℕ)) (answer : Answer)
+      → IfSome known (λ bytes. Serves Replies Same register bytes after answer)
+      → AppendsFront was is (response answer)
+      → IfSome known (λ bytes. (a : Answer) × Serves Replies Same register bytes after a × AppendsFront was is (response a))
+  ended_cut None after was is answer serves front = tt
+  ended_cut (Some bytes) after was is answer serves front = (answer, serves, front)
+
+  -- all of it was
+  pub ended_whole : (known after was is : Option (List ℕ)) (answer : Answer) (status : ℕ)
+      → IfSome known (λ bytes. Serves Replies Same register bytes after answer)
+      → Appends was is (response answer)
+      → status ≡ answer.status
+      → IfSome known (λ bytes. (a : Answer) × Serves Replies Same register bytes after a × Appends was is (response a) × (status ≡ a.status))
+  ended_whole None after was is answer status serves whole e = tt
+  ended_whole (Some bytes) after was is answer status serves whole e = (answer, serves, whole, e)

@@ -1,0 +1,14 @@
+use Rattle.std.proofs.Common.{◌≡◌, ◌∙◌, sym, ap, Some}
+use Rattle.std.specs.Prelude.{option_map}
+use Rattle.http_routes.specs.Routes.{shown}
+use Rattle.hub_http.specs.Asked.{place_in}
+use Rattle.hub_http.proofs.Judging.{asked_single}
+use Rattle.hub_http.proofs.asked.judge.Goals as goal
+
+pub returns-in-Some-clause-value : goal.returns-in-Some-clause-value
+returns-in-Some-clause-value g c =
+    let place = c.in_ok-place_in.ensures in
+    let single = c.if-not-is_single.ensures in
+    c.at_place.ensures
+    ∙ asked_single c.args.hub.now.0 c.args.head.now (Some (shown c.in-Some.routed)) (sym single)
+    (sym (ap (option_map shown) c.in-Some.is) ∙ place ∙ ap place_in c.target.ensures)

@@ -1,0 +1,85 @@
+-- What is answered, and what became of the hub.
+use Rattle.std.specs.Prelude.{◌≡◌, ◌⊎◌, ◌+◌, ℕ, Bool, true, false, List, codes, Option, Some, None, Result, Ok, Err}
+use Rattle.edi_base.specs.Source.{TakesAtMost}
+use Rattle.hub_law.specs.declared.reply.Outcome.{Outcome}
+use Rattle.hub_law.specs.declared.reply.Outcome.TheVariants.{Done, Bad, Denied, Unknown, Stopped}
+use Rattle.hub_law.specs.declared.reply.Reply.{Reply}
+use Rattle.hub_parties.specs.Rows.{RegisterRows}
+use Rattle.hub_tables.specs.Tables.{Tables}
+use Rattle.hub_rules.specs.Sound.{Sound}
+use Rattle.hub_core.specs.Steps.{Stepped, input_of}
+use Rattle.http_head.specs.Head.{Heading, longest_head}
+use Rattle.hub_http.specs.Asked.{Asked, asked_by, is_single}
+use Rattle.hub_http.specs.Question.{Question, Asks}
+use Rattle.hub_http.specs.Refusal.{status_of, text_of}
+use Rattle.hub_http.specs.declared.answer.Answer.{Answer}
+use Rattle.hub_http.specs.declared.answer.Text.{Text}
+use Rattle.hub_http.specs.declared.answer.Text.TheVariants.{Fixed, Made}
+use Rattle.hub_http.specs.declared.refusal.Refusal.{Refusal}
+
+-- the status for what became of a request
+abbrev pub outcome_status : Outcome → ℕ
+outcome_status Done = 200
+outcome_status Bad = 400
+outcome_status Denied = 403
+outcome_status Unknown = 404
+outcome_status Stopped = 503
+
+abbrev pub bytes_of : Text → List ℕ
+bytes_of (Fixed bytes) = bytes.now
+bytes_of (Made bytes) = bytes
+
+-- this status, and this body
+pub record Says (status : ℕ) (text : List ℕ) (answer : Answer) : Type 0 where
+  pub status_is : answer.status ≡ status
+  pub text_is : bytes_of answer.text ≡ text
+
+-- a question was asked of the hub at a moment, and this was the reply
+abbrev pub Steps : {S : Type 0} → (S → Tables) → (S → Type 0) → (S → Tables → Type 0) → ℕ → RegisterRows × S
+    → RegisterRows × S → Question → Reply → Type 0
+Steps content honest left moment old new question reply =
+    honest new.1 → Sound old.0.suppliers (content old.1)
+    → Stepped old.0 (content old.1) (content new.1) (left old.1) (left new.1)
+    (input_of moment question.gln question.key question.request) reply
+
+module _ (Replies : Question → Reply → Type 0) (Same : Type 0) where
+  -- the hub is as before, or one question was asked
+  abbrev pub OneStep : Type 0
+  OneStep = Same ⊎ ((question : Question) × (reply : Reply) × Replies question reply)
+
+  -- the reply to the question, or the status without one, and then the hub is as before
+  abbrev pub Ends : Result Question Refusal → Answer → Type 0
+  Ends (Ok question) answer =
+      (reply : Reply) × Replies question reply × Says (outcome_status reply.outcome) reply.body answer
+  Ends (Err refusal) answer = Same × Says (status_of refusal) (text_of refusal) answer
+
+  -- memory was refused before a question was asked
+  abbrev pub Stops : Answer → Type 0
+  Stops answer = Same × Says 503 (codes "stopped\n") answer
+
+  -- memory is asked for only behind the first check
+  abbrev pub Answers : Bool → Result Question Refusal → Answer → Type 0
+  Answers passed question answer = Ends question answer ⊎ ((passed ≡ true) × Stops answer)
+
+-- the first check: a head stands there, and its key and its length at most once
+abbrev pub passes : Option Heading → Bool
+passes None = false
+passes (Some head) = is_single head
+
+-- how many bytes a body was announced to have, where it was looked at
+abbrev pub size_asked : Result Asked Refusal → ℕ
+size_asked (Ok asked) = asked.size
+size_asked (Err refusal) = 0
+
+abbrev pub announced_by : RegisterRows → Option Heading → ℕ
+announced_by register None = 0
+announced_by register (Some head) = size_asked (asked_by register head)
+
+-- What the bytes of a connection ask was answered. No more was taken of them than a head has and the body was announced
+-- to have.
+pub record Serves (Replies : Question → Reply → Type 0) (Same : Type 0) (register : RegisterRows) (bytes : List ℕ)
+    (after : Option (List ℕ)) (answer : Answer) : Type 0 where
+  pub question : Result Question Refusal
+  pub asks : Asks register bytes question
+  pub answers : Answers Replies Same (passes asks.head) question answer
+  pub taken : TakesAtMost (Some bytes) after (longest_head + announced_by register asks.head)

@@ -1,0 +1,6 @@
+pub mod Answer
+pub mod Asked
+pub mod Question
+pub mod Refusal
+pub mod Serve
+pub mod Told

@@ -1,0 +1,31 @@
+-- One connection: what was written, and what became of the hub.
+use Rattle.std.specs.Prelude.{◌≡◌, ℕ, List, codes, Option, Result, Ok, Err, IfSome}
+use Rattle.std.specs.Io.KnownBytes.{Appends}
+use Rattle.edi_base.specs.Buffer.{AppendsFront}
+use Rattle.hub_law.specs.declared.reply.Reply.{Reply}
+use Rattle.hub_parties.specs.Rows.{RegisterRows}
+use Rattle.http_response.specs.Text.{http_text}
+use Rattle.hub_http.specs.Answer.{Serves, bytes_of}
+use Rattle.hub_http.specs.Question.{Question}
+use Rattle.hub_http.specs.declared.answer.Answer.{Answer}
+use Rattle.hub_http.specs.declared.serve.IoFault.{IoFault}
+use Rattle.hub_http.specs.declared.serve.IoFault.TheVariants.{Read, Write}
+use Rattle.hub_http.specs.declared.serve.Served.{Served}
+
+-- the response
+abbrev pub response : Answer → List ℕ
+response answer = http_text answer.status (bytes_of answer.text)
+
+-- The whole response was written, and its status told. Where a read failed, nothing was written and the hub is as
+-- before; where a write failed, a front of the response was written, and the hub is as after the question.
+abbrev pub Ended : (Question → Reply → Type 0) → Type 0 → RegisterRows → Option (List ℕ) → Option (List ℕ)
+    → Option (List ℕ) → Option (List ℕ) → Result Served IoFault → Type 0
+Ended Replies Same register known after was is (Ok served) = IfSome known (λ bytes. (answer : Answer)
+    × Serves Replies Same register bytes after answer × Appends was is (response answer) × (served.status ≡ answer.status))
+Ended Replies Same register known after was is (Err Read) = Same × (is ≡ was)
+Ended Replies Same register known after was is (Err Write) = IfSome known (λ bytes. (answer : Answer)
+    × Serves Replies Same register bytes after answer × AppendsFront was is (response answer))
+
+abbrev pub io_fault_text : IoFault → List ℕ
+io_fault_text Read = codes "read"
+io_fault_text Write = codes "write"

@@ -1,0 +1,238 @@
+//! What the head of a request asks for, and who asks.
+ghost use Rattle.std.specs.Prelude.{◌≡◌, ◌≤◌, codes, Some, option_map, IfOk, IsOk, IsFalse};
+ghost use Rattle.http_head.specs.Fields.{values_of};
+ghost use Rattle.http_routes.specs.Routes.{shown};
+ghost use Rattle.hub_http.specs.Asked as spec;
+ghost use Rattle.hub_http.specs.Told.{told_asker, told, told_result};
+
+use crate::refusal::Refusal;
+use edi_base::{are_digits, value_of};
+use gs1_ids::Gln;
+use http_head::{Head, Values};
+use http_routes::{Place, Routed, place_of};
+use hub_core::{Hub, Role};
+use hub_store::Store;
+use std::alloc::{AllocError, Global};
+
+/// How many bytes a body has at most: as many as the longest upload.
+const LONGEST_BODY: u32 = 1_048_576;
+
+/// How many digits a length has at most: as many as there is room for in a head.
+const LONGEST_LENGTH: usize = 8192;
+
+/// Who asks, known by its own key.
+#[derive(Clone, Copy)]
+pub(crate) struct Asker<'h> {
+    pub role: Role,
+    pub gln: Gln,
+    pub key: &'h [u8],
+}
+
+/// What is asked for, and by whom.
+#[derive(Clone, Copy)]
+pub(crate) struct Asking<'h> {
+    pub routed: Routed<'h>,
+    pub asker: Asker<'h>,
+    /// How many bytes the body has.
+    pub size: usize,
+}
+
+// Whether the values of a field are fewer than two.
+fn is_once(head: &Head, name: &[u8]) -> bool
+    ensures { result ≡ spec.at_most_once (values_of name.now head.now.fields) }
+{
+    match head.values(name) {
+        Values::Several => false,
+        _ => true,
+    }
+}
+
+// Whether the key and the length stand at most once. Takes no memory.
+fn is_single(head: &Head) -> bool
+    ensures { result ≡ spec.is_single head.now }
+{
+    is_once(head, b"X-Hub-Key") && is_once(head, b"Content-Length")
+}
+
+fn has_query(target: &str) -> bool
+    ensures { result ≡ spec.has_query target.now }
+{
+    target.as_bytes().iter().any(|byte| *byte == b'?')
+}
+
+// The place that a target names.
+fn place_in(alloc: Global, target: &str) -> Result<Option<Routed<'_>>, AllocError>
+    ensures { IfOk result (λ found. option_map shown found ≡ spec.place_in target.now) }
+{
+    if has_query(target) {
+        return Ok(None);
+    }
+    place_of(alloc, target)
+}
+
+fn is_post(place: Place) -> bool
+    ensures { result ≡ spec.is_post place }
+{
+    matches!(
+        place,
+        Place::Interchanges | Place::MailTaken | Place::Cancellations
+    )
+}
+
+fn method_of(place: Place) -> &'static [u8]
+    ensures { result.now ≡ spec.method_of place }
+{
+    if is_post(place) { b"POST" } else { b"GET" }
+}
+
+fn has_number(place: Place) -> bool
+    ensures { result ≡ spec.has_number place }
+{
+    matches!(
+        place,
+        Place::MailAfter | Place::MailItem | Place::MailTaken
+    )
+}
+
+// Whether the number in a path is one.
+fn is_right(routed: Routed<'_>) -> bool
+    ensures { result ≡ spec.is_right routed.entry.place (shown routed.entry).1 }
+{
+    if !has_number(routed.place) {
+        return true;
+    }
+    match routed.part {
+        Some(part) => are_digits(1, 14, part),
+        None => false,
+    }
+}
+
+fn may_ask(role: Role, place: Place) -> bool
+    ensures { result ≡ spec.may_ask role place }
+{
+    match role {
+        Role::Retailer => matches!(
+            place,
+            Place::Interchanges | Place::StatusOf | Place::Cancellations
+        ),
+        Role::Supplier => !matches!(place, Place::StatusOf | Place::Cancellations),
+    }
+}
+
+// Who asks with this GLN and this key.
+fn asker_by<'h, S: Store>(hub: &Hub<S>, party: &[u8], key: &'h [u8]) -> Option<Asker<'h>>
+    ensures { option_map told_asker result ≡ spec.asker_by hub.now.0 party.now key.now }
+{
+    hub.has_a_right_register();
+    let gln = Gln::parse(party)?;
+    let role = hub.role(&gln, key)?;
+    Some(Asker { role, gln, key })
+}
+
+// The party of the path, with the one key of the head.
+fn asker_of<'h, S: Store>(hub: &Hub<S>, party: &[u8], head: &'h Head) -> Option<Asker<'h>>
+    ensures { (parts : List (List ℕ)) → option_map told_asker result ≡ spec.asker_of hub.now.0 (party.now ∷ parts)
+        (values_of (codes "X-Hub-Key") head.now.fields) }
+{
+    match head.values(b"X-Hub-Key") {
+        Values::One(key) => asker_by(hub, party, key),
+        _ => None,
+    }
+}
+
+// How many bytes a body has, by the value of its length.
+fn size_in(value: &[u8]) -> Result<usize, Refusal>
+    ensures { result ≡ spec.size_in value.now }
+{
+    if !are_digits(1, LONGEST_LENGTH, value) {
+        return Err(Refusal::BadRequest);
+    }
+    match value_of(value) {
+        Some(size) if size <= LONGEST_BODY => Ok(size as usize),
+        _ => Err(Refusal::TooLarge),
+    }
+}
+
+// By the one length in a head.
+fn announced(head: &Head) -> Result<usize, Refusal>
+    ensures { result ≡ spec.announced (values_of (codes "Content-Length") head.now.fields) }
+{
+    match head.values(b"Content-Length") {
+        Values::Absent => Err(Refusal::Length),
+        Values::One(value) => size_in(value),
+        Values::Several => Err(Refusal::BadRequest),
+    }
+}
+
+// Of a POST, whose body may not come in pieces.
+fn posted(head: &Head) -> Result<usize, Refusal>
+    ensures { result ≡ spec.posted head.now.fields }
+{
+    match head.values(b"Transfer-Encoding") {
+        Values::Absent => announced(head),
+        _ => Err(Refusal::Length),
+    }
+}
+
+// No other body is looked at.
+fn size_of(place: Place, head: &Head) -> Result<usize, Refusal>
+    ensures { result ≡ spec.size_of place head.now.fields }
+{
+    if is_post(place) { posted(head) } else { Ok(0) }
+}
+
+fn by_asker<'h>(
+    routed: Routed<'h>,
+    head: &Head,
+    asker: Option<Asker<'h>>,
+) -> Result<Asking<'h>, Refusal>
+    ensures { told_result result ≡ spec.by_asker routed.entry.place (shown routed.entry).1 head.now.fields
+        (option_map told_asker asker.entry) }
+{
+    let Some(asker) = asker else {
+        return Err(Refusal::Denied);
+    };
+    if !may_ask(asker.role, routed.place) {
+        return Err(Refusal::Denied);
+    }
+    let size = size_of(routed.place, head)?;
+    Ok(Asking {
+        routed,
+        asker,
+        size,
+    })
+}
+
+fn at_place<'h, S: Store>(
+    hub: &Hub<S>,
+    routed: Routed<'h>,
+    head: &'h Head,
+) -> Result<Asking<'h>, Refusal>
+    ensures { told_result result ≡ spec.at_place hub.now.0 head.now (Some (shown routed.entry)) }
+{
+    if !is_right(routed) {
+        return Err(Refusal::Unknown);
+    }
+    if head.method() != method_of(routed.place) {
+        return Err(Refusal::Method);
+    }
+    by_asker(routed, head, asker_of(hub, routed.party, head))
+}
+
+/// What a head asks for, and who asks; or why it is refused. Takes no memory where a key or a length stands twice.
+pub(crate) fn judge<'h, S: Store>(
+    alloc: Global,
+    hub: &Hub<S>,
+    head: &'h Head,
+) -> Result<Result<Asking<'h>, Refusal>, AllocError>
+    ensures value { IfOk result (λ asked. told_result asked ≡ spec.asked_by hub.now.0 head.now) }
+    ensures single { IsFalse (spec.is_single head.now) → IsOk result }
+{
+    if !is_single(head) {
+        return Ok(Err(Refusal::BadRequest));
+    }
+    match place_in(alloc, head.target())? {
+        None => Ok(Err(Refusal::Unknown)),
+        Some(routed) => Ok(at_place(hub, routed, head)),
+    }
+}

@@ -1,0 +1,104 @@
+//! One connection.
+ghost use Rattle.std.specs.Prelude.{◌≡◌, ◌≢◌, ◌+◌, true, Err};
+ghost use Rattle.edi_base.specs.Buffer.{Flags};
+ghost use Rattle.edi_base.specs.Source.{TakesAtMost};
+ghost use Rattle.http_head.specs.Head.{longest_head};
+ghost use Rattle.http_response.specs.Text.{Writes};
+ghost use Rattle.hub_http.specs.Answer.{OneStep, Steps};
+ghost use Rattle.hub_http.specs.Asked.{longest_body};
+ghost use Rattle.hub_http.specs.Serve as spec;
+
+use crate::answer::{Answer, Text, answer_one};
+use edi_base::{Sink, Source, WriteFault};
+use edi_envelope::Moment;
+use http_response::write_response;
+use hub_core::Hub;
+use hub_store::Store;
+use std::alloc::Global;
+use std::error::Error;
+use std::fmt;
+
+/// A connection was served.
+#[derive(Clone, Copy, Debug, PartialEq, Eq)]
+pub struct Served {
+    /// The status that was written.
+    pub status: u16,
+}
+
+/// Why a connection was not served.
+#[derive(Clone, Copy, Debug, PartialEq, Eq)]
+pub enum IoFault {
+    /// A read failed. Nothing was written, and nothing asked of the hub.
+    Read,
+    /// A write failed, or took nothing. What was asked of the hub was done.
+    Write,
+}
+
+impl fmt::Display for IoFault {
+    ghost use Rattle.std.specs.Prelude.{Some};
+    ghost use Rattle.hub_http.specs.Serve.{io_fault_text};
+
+    ghost output = { λ fault. Some (io_fault_text fault) };
+
+    fn fmt<W: fmt::Write>(&self, f: &mut fmt::Formatter<W>) -> fmt::Result {
+        match self {
+            IoFault::Read => f.write_str("read"),
+            IoFault::Write => f.write_str("write"),
+        }
+    }
+}
+
+impl Error for IoFault {}
+
+// Writes an answer.
+fn write_answer<W: Sink>(writer: &mut W, answer: &Answer) -> Result<(), WriteFault>
+    ensures bytes { Writes result (W.contents writer.old) (W.contents writer.new) (spec.response answer.now) }
+    ensures flag { Flags result (W.failed writer.old) (W.failed writer.new) }
+{
+    match &answer.text {
+        Text::Fixed(bytes) => write_response(writer, answer.status, *bytes),
+        Text::Made(bytes) => write_response(writer, answer.status, bytes.as_slice()),
+    }
+}
+
+/// Serves one connection of HTTP/1.1 that comes at a moment: reads one request, asks it of the hub in the name of the
+/// party that its path names and whose key it bears, and writes the response, after which the connection is to be
+/// closed.
+///
+/// What is no request, or is refused before anything is asked of the hub, is answered 400, 403, 404, 405, 411 or 413;
+/// a reply that is done 200, one that is bad 400, denied 403, unknown 404, and stopped 503. Where memory is refused
+/// before anything is asked, the response is 503 with `stopped`; that can not be before the head is read. A head has at
+/// most 8,192 bytes and 32 fields, a body at most 1,048,576 bytes, and no more is read than these.
+pub fn serve_one<S: Store, R: Source, W: Sink>(
+    alloc: Global,
+    hub: &mut Hub<S>,
+    moment: Moment,
+    reader: &mut R,
+    writer: &mut W,
+) -> Result<Served, IoFault>
+    ensures served { spec.Ended (Steps S.content S.honest S.left moment hub.old hub.new) (hub.new ≡ hub.old) hub.old.0
+        (R.remaining reader.old) (R.remaining reader.new) (W.contents writer.old) (W.contents writer.new) result }
+
+    // Also where nothing is known of the bytes, the hub is as before, or was asked once.
+    ensures stepped { OneStep (Steps S.content S.honest S.left moment hub.old hub.new) (hub.new ≡ hub.old) }
+    ensures register { hub.new.0 ≡ hub.old.0 }
+    ensures was_honest { S.honest hub.new.1 → S.honest hub.old.1 }
+
+    ensures front { TakesAtMost (R.remaining reader.old) (R.remaining reader.new) (longest_head + longest_body) }
+
+    // A fault comes only of the reader or of the writer, and else their flags stay.
+    ensures read { result ≡ Err IoFault.Read → R.failed reader.new ≡ true }
+    ensures read_kept { result ≢ Err IoFault.Read → R.failed reader.new ≡ R.failed reader.old }
+    ensures write { result ≡ Err IoFault.Write → W.failed writer.new ≡ true }
+    ensures write_kept { result ≢ Err IoFault.Write → W.failed writer.new ≡ W.failed writer.old }
+{
+    let Ok(answer) = answer_one(alloc, hub, moment, reader) else {
+        return Err(IoFault::Read);
+    };
+    match write_answer(writer, &answer) {
+        Ok(()) => Ok(Served {
+            status: answer.status.as_u16(),
+        }),
+        Err(WriteFault) => Err(IoFault::Write),
+    }
+}

@@ -1,0 +1,112 @@
+//! Connections whose bytes a script gives, and whose reads and writes fail where it says.
+use crate::fault::ScriptFault;
+use crate::script::Words;
+use edi_base::{Sink, Source};
+use std::alloc::Global;
+use std::io;
+
+/// How the bytes of a connection come and go.
+#[derive(Clone, Copy)]
+pub struct Manner {
+    /// A read gives at most so many bytes.
+    piece: usize,
+    /// The read after so many others fails.
+    reads: u64,
+    /// A write takes at most so many bytes.
+    takes: usize,
+    /// The write after so many others fails.
+    writes: u64,
+}
+
+impl Manner {
+    /// What the words of a line say, each with its number: `piece`, `reads`, `takes` and `writes`.
+    pub fn of(words: &mut Words<'_>) -> Result<Manner, ScriptFault> {
+        let mut manner = Manner {
+            piece: usize::MAX,
+            reads: u64::MAX,
+            takes: usize::MAX,
+            writes: u64::MAX,
+        };
+        for _ in 0..4u32 {
+            match words.next_word() {
+                b"" => return Ok(manner),
+                b"piece" => manner.piece = words.next_count().ok_or(ScriptFault::Line)?,
+                b"reads" => manner.reads = words.next_number().ok_or(ScriptFault::Line)?,
+                b"takes" => manner.takes = words.next_count().ok_or(ScriptFault::Line)?,
+                b"writes" => manner.writes = words.next_number().ok_or(ScriptFault::Line)?,
+                _ => return Err(ScriptFault::Line),
+            }
+        }
+        Ok(manner)
+    }
+}
+
+/// What comes of a connection.
+#[derive(Drop)]
+pub struct Incoming<'a> {
+    left: &'a [u8],
+    manner: Manner,
+}
+
+impl<'a> Incoming<'a> {
+    /// These bytes, in this manner.
+    pub fn new(bytes: &'a [u8], manner: Manner) -> Self {
+        Incoming {
+            left: bytes,
+            manner,
+        }
+    }
+}
+
+impl Source for Incoming<'_> {
+    ghost use Rattle.std.specs.Prelude.{true};
+
+    ghost failed = { λ _. true };
+
+    fn read(&mut self, buffer: &mut [u8]) -> io::Result<usize> {
+        if self.manner.reads == 0 {
+            return Err(io::Error::from(io::ErrorKind::Other));
+        }
+        self.manner.reads -= 1;
+        let room = buffer.len().min(self.manner.piece);
+        io::Read::read(&mut self.left, &mut buffer[..room])
+    }
+}
+
+/// What goes out on a connection.
+#[derive(Drop)]
+pub struct Outgoing {
+    taken: Vec<u8>,
+    manner: Manner,
+}
+
+impl Outgoing {
+    /// Nothing yet.
+    pub fn new(alloc: Global, manner: Manner) -> Self {
+        Outgoing {
+            taken: Vec::new(alloc),
+            manner,
+        }
+    }
+
+    /// What went out.
+    pub fn bytes(&self) -> &[u8] {
+        self.taken.as_slice()
+    }
+}
+
+impl Sink for Outgoing {
+    ghost use Rattle.std.specs.Prelude.{true};
+
+    ghost failed = { λ _. true };
+
+    fn write(&mut self, bytes: &[u8]) -> io::Result<usize> {
+        if self.manner.writes == 0 {
+            return Err(io::Error::from(io::ErrorKind::Other));
+        }
+        self.manner.writes -= 1;
+        let count = bytes.len().min(self.manner.takes);
+        self.taken.extend_from_slice(&bytes[..count])?;
+        Ok(count)
+    }
+}

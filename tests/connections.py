@@ -1,0 +1,92 @@
+"""Connections of HTTP whose bytes a script gives, for the program `hub_script`: by pieces, cut, and with reads and writes that fail."""
+from dataclasses import replace
+
+from case import Case
+from hubs import ALPHA, DESPATCH, FIRST_MAIL, KEYS, MOMENT, ORDERS, RETAILER, Play, bytes_of
+from http_texts import asking, response
+
+
+class Wire(Play):
+    """A script of connections, and what it prints."""
+
+    def connection(self, request, printed, went_out, manner=""):
+        self.say("connection", request, manner)
+        self.printed += f"{printed} {len(went_out)}\n".encode() + went_out
+        return self
+
+    def served(self, request, status, body, manner=""):
+        return self.connection(request, f"served {status}", response(status, body), manner)
+
+    def now(self):
+        """Says when, and whose the later lines are."""
+        self.say(f"as {MOMENT} {ALPHA} {KEYS[ALPHA]}")
+        self.who = (ALPHA, KEYS[ALPHA], MOMENT)
+        return self
+
+
+ORDER = asking("POST", f"/p/{RETAILER}/interchanges", RETAILER, ORDERS)
+ORDER_TAKEN = "interchange 1001 messages 1\n1 ORDERS accepted\n"
+ORDER_AGAIN = "interchange 1001 messages 1\n1 ORDERS repeated\n"
+LIST = asking("GET", f"/p/{ALPHA}/mail/after/0", ALPHA)
+LISTED = "             1 ORDERS 128576\nend\n"
+EMPTY = "end\n"
+
+
+def byte_by_byte():
+    """Reads of one byte, and writes of one."""
+    play = Wire().now()
+    play.served(ORDER, 200, ORDER_TAKEN, "piece 1 takes 1")
+    play.served(LIST, 200, LISTED, "piece 1 takes 1")
+    play.served(asking("GET", f"/p/{ALPHA}/mail/item/1", ALPHA), 200, FIRST_MAIL, "takes 1")
+    return play
+
+
+def cut_everywhere():
+    """A request cut at each of its lengths: nothing is taken."""
+    play = Wire().now()
+    for length in range(len(ORDER)):
+        play.served(ORDER[:length], 400, "bad request\n")
+    return play.served(LIST, 200, EMPTY).served(ORDER, 200, ORDER_TAKEN)
+
+
+def reads_that_fail():
+    """Each read fails in turn: nothing is written, and nothing taken."""
+    play = Wire().now()
+    for reads in range(len(ORDER)):
+        play.connection(ORDER, "fault read", b"", f"piece 1 reads {reads}")
+    play.served(LIST, 200, EMPTY)
+    # the read after the last byte is never made
+    return play.served(ORDER, 200, ORDER_TAKEN, f"piece 1 reads {len(ORDER)}")
+
+
+def writes_that_fail():
+    """Each write fails in turn, and what was sent is repeated; and a writer that takes nothing."""
+    play = Wire().now()
+    first, again = response(200, ORDER_TAKEN), response(200, ORDER_AGAIN)
+    play.connection(ORDER, "fault write", b"", "writes 0")
+    for writes in range(len(again)):
+        play.connection(ORDER, "fault write", again[:writes], f"takes 1 writes {writes}")
+    play.connection(ORDER, "fault write", b"", "takes 0")
+    play.served(ORDER, 200, ORDER_AGAIN, f"takes 1 writes {len(again)}")
+    assert len(first) == len(again)
+    return play.served(LIST, 200, LISTED)
+
+
+def stores_that_stop():
+    """A store that fails at a call answers 503, and the same again is done once it is mended."""
+    play = Wire("disk 0").now()
+    play.served(ORDER, 503, "interchange 1001 messages 1\nstopped\n")
+    play.served(LIST, 503, "stopped\n")
+    # what is refused before the store is asked is refused as ever
+    play.served(asking("GET", f"/p/{ALPHA}/mail/item/x", ALPHA), 404, "unknown\n")
+    play.say("mend")
+    return play.served(ORDER, 200, ORDER_TAKEN).served(LIST, 200, LISTED)
+
+
+CONNECTIONS = [
+    byte_by_byte().case("connections byte by byte"),
+    cut_everywhere().case("a request cut at each of its lengths"),
+    reads_that_fail().case("each read of a connection fails in turn"),
+    writes_that_fail().case("each write of a connection fails in turn"),
+    stores_that_stop().case("connections over a store that stops"),
+]
