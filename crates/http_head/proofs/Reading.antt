@@ -1,6 +1,8 @@
 -- What the bytes that were read say of the head at the front of all bytes.
 use Rattle.std.proofs.Common.{◌≡◌, ℕ, ◌+◌, ◌-◌, ◌≤◌, ◌<◌, List, [], ◌++◌, length, take, drop, map, Option, Some, None, Result, Ok, Err, refl, sym, ap, subst, ◌∙◌, arith, append_assoc, length-append, length-take-le, take_at}
-use Rattle.std.specs.Io.KnownBytes.{Consumes, IsAtEnd}
+use Rattle.std.specs.Io.{ReadsAtMost}
+use Rattle.std.specs.Io.KnownBytes.{Consumes, IsAtEnd, ReadConsumes}
+use Rattle.std.specs.Prelude.{IfOk}
 use Rattle.std.specs.Prelude.{IsUtf8}
 use Rattle.httparse.specs.Grammar.{RequestHead, ReadsRequest, HasNoRequest, print_request}
 use Rattle.httparse.specs.Spans.{IsRequestWithin, IsRequestAt, IsRequestOf, RequestOverflows, header_bytes, span_bytes, name_and_value}
@@ -95,13 +97,27 @@ finds_some (Some known) (Some left) front fields r taken room short within is =
     subst P (sym taken) (some_at front left fields r room short within is)
 
 -- bytes that were put at the end of those that are there
-pub take-put : (filled count : ℕ) (bytes buffer : List ℕ) → filled ≤ length bytes → count ≤ length buffer
-    → take (filled + count) (put_mid filled (8192 - filled) bytes buffer) ≡ take filled bytes ++ take count buffer
-take-put filled count bytes buffer fits few =
+take-put : (filled room count : ℕ) (bytes buffer : List ℕ) → filled ≤ length bytes → count ≤ length buffer
+    → take (filled + count) (put_mid filled room bytes buffer) ≡ take filled bytes ++ take count buffer
+take-put filled room count bytes buffer fits few =
     let front : length (take filled bytes) ≡ filled = length-take-le filled bytes fits in
-    ap (λ n. take (n + count) (put_mid filled (8192 - filled) bytes buffer)) (sym front)
-    ∙ take-append-add (take filled bytes) (buffer ++ post_of filled (8192 - filled) bytes) count
-    ∙ ap (λ l. take filled bytes ++ l) (take-append-le count buffer (post_of filled (8192 - filled) bytes) few)
+    ap (λ n. take (n + count) (put_mid filled room bytes buffer)) (sym front)
+    ∙ take-append-add (take filled bytes) (buffer ++ post_of filled room bytes) count
+    ∙ ap (λ l. take filled bytes ++ l) (take-append-le count buffer (post_of filled room bytes) few)
+
+-- what one read puts behind the bytes that are there
+pub read_behind : {E : Type 0} (r : Result ℕ E) (old new : Option (List ℕ)) (filled : ℕ) (bytes buffer : List ℕ) → filled ≤ length bytes
+    → length buffer ≡ length bytes - filled → ReadsAtMost r buffer → ReadConsumes old new r buffer
+    → IfOk r (λ count. TakesPiece old new (take filled bytes) (take (filled + count) (put_mid filled (length bytes - filled) bytes buffer)) (length bytes - filled) count)
+read_behind {E} (Err e) old new filled bytes buffer fits room bound read = tt
+read_behind {E} (Ok count) old new filled bytes buffer fits room bound read = record {
+  bytes = take count buffer;
+  consumed = read.0;
+  after_is = take-put filled (length bytes - filled) count bytes buffer fits bound.0;
+  count_is = sym bound.1;
+  within = omega (arith, bound.0, room);
+  ends = λ none some. read.1 none (omega (arith, some, room));
+}
 
 -- the target is text
 pub target_text : (front : List ℕ) (fields : List HeaderSpan) (r : RequestSpans) → IsRequestOf front fields r → IsUtf8 (span_bytes front r.path)

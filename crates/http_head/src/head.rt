@@ -4,6 +4,7 @@ ghost use Rattle.edi_base.specs.Source.{TakesPiece, TakesAtMost};
 ghost use Rattle.http_head.specs.Fields.{AreValues, values_of};
 
 use crate::fields::{Values, values_in};
+use crate::more::read_more;
 use edi_base::Source;
 use httparse::Status;
 use httparse::spans::{EMPTY_HEADER_SPAN, HeaderSpan, RequestSpans, parse_request};
@@ -76,24 +77,6 @@ impl Head {
     }
 }
 
-/// Reads once behind the bytes that are there.
-fn read_more<R: Source>(
-    source: &mut R,
-    bytes: &mut [u8; LONGEST],
-    filled: usize,
-) -> Result<usize, HeadFault>
-    requires { filled ≤ longest_head }
-    ensures taken { IfOk result (λ count. TakesPiece (R.remaining source.old) (R.remaining source.new) (take filled bytes.old) (take (filled + count) bytes.new) (longest_head - filled) count) }
-    ensures none { OnErr result (TakesAtMost (R.remaining source.old) (R.remaining source.new) 0) }
-    ensures kept { OnOk result (R.failed source.new ≡ R.failed source.old) }
-    ensures failed { OnErr result (R.failed source.new ≡ true) }
-{
-    let Ok(count) = source.read(&mut bytes[filled..]) else {
-        return Err(HeadFault);
-    };
-    Ok(count)
-}
-
 /// Reads the head of a request. `None` where it is wrong, too long, cut, or has too many fields. Takes no memory.
 pub fn read_head<R: Source>(source: &mut R) -> Result<Option<Head>, HeadFault>
     ensures head { IfOk result (Finds (R.remaining source.old) (R.remaining source.new)) }
@@ -120,7 +103,9 @@ pub fn read_head<R: Source>(source: &mut R) -> Result<Option<Head>, HeadFault>
         if filled == LONGEST {
             return Ok(None);
         }
-        let count = read_more(source, &mut bytes, filled)?;
+        let Ok(count) = read_more(source, &mut bytes, filled) else {
+            return Err(HeadFault);
+        };
         if count == 0 {
             return Ok(None);
         }
