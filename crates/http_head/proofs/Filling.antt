@@ -1,5 +1,5 @@
 -- Bytes of a source behind those that are there.
-use Rattle.std.proofs.Common.{◌≡◌, ℕ, ◌+◌, ◌-◌, ◌≤◌, ◌<◌, min, List, [], ◌++◌, length, take, Option, Some, None, IfSome, ◌⊎◌, inl, inr, take_all, take-append-le, if◌then◌else◌, refl, sym, ap, subst, ◌∙◌, arith, append_assoc, append-nil, length-append, length-take, length-take-le, take_at}
+use Rattle.std.proofs.Common.{◌≡◌, ℕ, ◌+◌, ◌-◌, ◌≤◌, ◌<◌, List, [], ◌++◌, length, take, Option, Some, None, IfSome, ◌⊎◌, inl, inr, take_all, sym, ap, ◌∙◌, arith, append_assoc, append-nil, length-append, length-take, length-take-le, take_at}
 use Rattle.std.proofs.lemmas.Bool.{cond_below, cond_above, cases_lt}
 use Rattle.std.proofs.lemmas.List.{nil_from_length, take-append-le}
 use Rattle.std.proofs.KnownBytes.{Consumes-trans, Consumes-nil}

@@ -1,20 +1,19 @@
 -- What the bytes that were read say of the head at the front of all bytes.
-use Rattle.std.proofs.Common.{◌≡◌, ℕ, ◌+◌, ◌-◌, ◌≤◌, ◌<◌, List, [], ◌++◌, length, take, drop, map, Option, Some, None, Result, Ok, Err, refl, sym, ap, subst, ◌∙◌, arith, append_assoc, length-append, length-take-le, take_at}
+use Rattle.std.proofs.Common.{◌≡◌, ℕ, ◌+◌, ◌-◌, ◌≤◌, List, ◌++◌, length, take, drop, map, Option, Some, None, Result, Ok, Err, refl, sym, ap, subst, ◌∙◌, arith, length-take-le, take_at}
 use Rattle.std.specs.Io.{ReadsAtMost}
 use Rattle.std.specs.Io.KnownBytes.{Consumes, IsAtEnd, ReadConsumes}
 use Rattle.std.specs.Prelude.{IfOk}
 use Rattle.std.specs.Prelude.{IsUtf8}
 use Rattle.httparse.specs.Grammar.{RequestHead, ReadsRequest, HasNoRequest, print_request}
-use Rattle.httparse.specs.Spans.{IsRequestWithin, IsRequestAt, IsRequestOf, RequestOverflows, header_bytes, span_bytes, name_and_value}
+use Rattle.httparse.specs.Spans.{IsRequestWithin, IsRequestOf, RequestOverflows, header_bytes, span_bytes, name_and_value}
 use Rattle.httparse.specs.declared.spans.HeaderSpan.{HeaderSpan}
 use Rattle.httparse.specs.declared.spans.RequestSpans.{RequestSpans}
 use Rattle.httparse.proofs.GrammarLemmas.{request_unique, ReadsRequest-append}
 use Rattle.std.proofs.lemmas.List.{take-append-drop, take-append-le, append-nil, length-map}
 use borrow.Rule.Slice.PartMut.{put_mid, post_of}
 use Rattle.std.proofs.Math.Seq.{take-append-add}
-use Rattle.edi_base.proofs.Going.{Consumes-then}
 use Rattle.edi_base.specs.Source.{TakesPiece}
-use Rattle.http_head.specs.Head.{Heading, HeadIs, Stands, Finds, before, shown, heading_of, longest_head, most_fields}
+use Rattle.http_head.specs.Head.{Heading, HeadIs, Finds, before, shown, heading_of, longest_head, most_fields}
 
 -- bytes have at most one head
 pub head_unique : (bytes : List ℕ) (a b : Option Heading) → HeadIs bytes a → HeadIs bytes b → a ≡ b

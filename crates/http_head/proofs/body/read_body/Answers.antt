@@ -1,6 +1,6 @@
-use Rattle.std.proofs.Common.{◌≡◌, ℕ, List, take, drop, length, min, ◌++◌, ◌∙◌, ap, sym, subst, Some, None, IfSome, take_at}
+use Rattle.std.proofs.Common.{◌≡◌, ℕ, List, take, drop, length, ◌++◌, ◌∙◌, ap, sym, subst, Some, IfSome, take_at}
 use Rattle.std.proofs.lemmas.List.{take_min}
-use Rattle.http_head.proofs.Filling.{Filled, ended_before, ended_with}
+use Rattle.http_head.proofs.Filling.{ended_before, ended_with}
 use Rattle.http_head.specs.Body.{body_in}
 use Rattle.http_head.proofs.body.read_body.Goals as goal
 
