@@ -1,11 +1,13 @@
--- The head of a request: what the grammar of HTTP/1.x says stands at the front of bytes, within two limits.
-use Rattle.std.specs.Prelude.{◌≡◌, ℕ, ◌≤◌, List, ◌++◌, length, take, drop, map, Option, Some, None, ⊤}
+-- The head of a request: what the grammar of HTTP/1.x (RFC 9112, sections 2 to 5) says stands at the front of bytes,
+-- within two limits. The grammar is that of the kit's `httparse`: lines end with CR LF or LF alone, empty lines may
+-- stand before the request line (both section 2.2), and the version is HTTP/1.0 or HTTP/1.1 (section 2.3).
+use Rattle.std.specs.Prelude.{◌≡◌, ℕ, ◌≤◌, List, ◌++◌, length, take, drop, map, Option, Some, None, IsUtf8, ⊤}
 use Rattle.httparse.specs.Grammar.{RequestHead, ReadsRequest, print_request}
-use Rattle.httparse.specs.Spans.{name_and_value, span_bytes, header_bytes}
+use Rattle.httparse.specs.Spans.{IsRequestWithin, name_and_value, span_bytes, header_bytes}
 use Rattle.httparse.specs.declared.spans.HeaderSpan.{HeaderSpan}
 use Rattle.httparse.specs.declared.spans.RequestSpans.{RequestSpans}
 
--- how many bytes a head has at most, empty lines in front of it among them
+-- how many bytes a head has at most, empty lines before it and the one at its end among them
 abbrev pub longest_head : ℕ
 longest_head = 8192
 
@@ -13,43 +15,55 @@ longest_head = 8192
 abbrev pub most_fields : ℕ
 most_fields = 32
 
--- what is read of a head: its method, its target, the names and values of its fields, and the bytes behind it
+-- what a head says: its method, its target, the names and values of its fields in their order, and the bytes behind it
 pub record Heading : Type 0 where
   pub method : List ℕ
   pub target : List ℕ
   pub fields : List (List ℕ × List ℕ)
   pub rest : List ℕ
 
--- the head h stands at the front, within the limits
-pub record Stands (bytes : List ℕ) (h : RequestHead) (rest : List ℕ) : Type 0 where
-  pub reads : ReadsRequest bytes h rest
-  pub short : length (print_request h) ≤ longest_head
-  pub few : length h.fields ≤ most_fields
+-- the bytes are a head within the limits, and then the rest
+pub record Stands (bytes : List ℕ) (head : RequestHead) (rest : List ℕ) : Type 0 where
+  pub reads : ReadsRequest bytes head rest
+  pub short : length (print_request head) ≤ longest_head
+  pub few : length head.fields ≤ most_fields
 
+-- what it says; the values are without the blanks and tabs around them (section 5.1)
 abbrev pub heading_of : RequestHead → List ℕ → Heading
-heading_of h rest = record { method = h.method; target = h.target; fields = map name_and_value h.fields; rest = rest }
+heading_of head rest = record {
+  method = head.method;
+  target = head.target;
+  fields = map name_and_value head.fields;
+  rest = rest;
+}
 
--- the head at the front of these bytes; none where it is wrong, too long, cut, or has too many fields
+-- what the head at the front of these bytes says; none where it is wrong, cut, too long, or has too many fields
 abbrev pub HeadIs : List ℕ → Option Heading → Type 0
-HeadIs bytes None = (h : RequestHead) (rest : List ℕ) → ¬ (Stands bytes h rest)
-HeadIs bytes (Some g) = (h : RequestHead) × Stands bytes h g.rest × (g ≡ heading_of h g.rest)
+HeadIs bytes None = (head : RequestHead) (rest : List ℕ) → ¬ (Stands bytes head rest)
+HeadIs bytes (Some heading) =
+    (head : RequestHead) × Stands bytes head heading.rest × (heading ≡ heading_of head heading.rest)
 
--- with more bytes behind it
+-- the same head with more bytes behind it
 abbrev pub before : List ℕ → Heading → Heading
-before more g = record g { rest = g.rest ++ more }
+before more heading = record heading { rest = heading.rest ++ more }
 
--- a source that had known bytes gave its head, or has none
+-- a source of known bytes has given its head, and has the others left; or it has no head
 abbrev pub Finds : Option (List ℕ) → Option (List ℕ) → Option Heading → Type 0
 Finds None new found = ⊤
 Finds (Some known) None found = ⊥
 Finds (Some known) (Some left) None = HeadIs known None
-Finds (Some known) (Some left) (Some g) = HeadIs known (Some (before left g))
+Finds (Some known) (Some left) (Some heading) = HeadIs known (Some (before left heading))
 
--- the heading that spans of a buffer show
+-- what spans say of bytes that were read
 abbrev pub shown : List ℕ → List HeaderSpan → RequestSpans → Heading
-shown buf fields r = record {
-  method = span_bytes buf r.method;
-  target = span_bytes buf r.path;
-  fields = map (header_bytes buf) (take r.headers fields);
-  rest = drop r.len buf;
+shown read fields spans = record {
+  method = span_bytes read spans.method;
+  target = span_bytes read spans.path;
+  fields = map (header_bytes read) (take spans.headers fields);
+  rest = drop spans.len read;
 }
+
+-- the spans lie within the bytes, and that of the target shows text
+pub record ShowsHead (read : List ℕ) (fields : List HeaderSpan) (spans : RequestSpans) : Type 0 where
+  pub target : IsUtf8 (span_bytes read spans.path)
+  pub within : IsRequestWithin read fields spans

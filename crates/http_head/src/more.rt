@@ -1,10 +1,13 @@
+//! One read behind bytes that are there.
+
 ghost use Rattle.std.specs.Prelude.{◌≡◌, ◌≤◌, ◌+◌, ◌-◌, ◌||◌, IfOk, OnErr, is_err, length, take};
 ghost use Rattle.edi_base.specs.Source.{TakesPiece, TakesAtMost};
 
 use edi_base::Source;
 use std::io;
 
-// Reads once, behind the bytes that are there.
+/// Reads once, behind the first `filled` bytes. Answers how many bytes came: none only at the end of the source, or
+/// where there is no room.
 pub(crate) fn read_more<R: Source>(
     source: &mut R,
     bytes: &mut [u8],
