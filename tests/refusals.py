@@ -10,7 +10,8 @@ from collections import Counter
 from concurrent.futures import ThreadPoolExecutor
 from dataclasses import dataclass
 
-from hubs import ALPHA, DESPATCH, FIRST_MAIL, ORDERS, OTHER_PALLET, RECEIPT, RESPONSE, RETAILER, SECOND, SECOND_MAIL, STATUS
+import http_texts
+from hubs import ALPHA, BETA, DESPATCH, FIRST_MAIL, ORDERS, OTHER_PALLET, RECEIPT, RESPONSE, RETAILER, SECOND, SECOND_MAIL, STATUS
 from hubs import Play, despatch, interchange, line_status, order, response
 
 SHIM = os.path.join(os.path.dirname(os.path.abspath(__file__)), "refuse.c")
@@ -71,6 +72,32 @@ def sent_twice():
     looks(lambda: play.list(0, (2, "ORDERS", "128577"), (3, "RECADV", "G1")))
     looks(lambda: play.item(1, FIRST_MAIL))
     looks(lambda: play.item(2, SECOND_MAIL))
+
+    def wired(request, body, again=None, status=200, stops=(b"", b"stopped\n")):
+        """A connection of HTTP, served twice, and the bodies that a response of 503 may have."""
+
+        def printed(status, text):
+            data = http_texts.response(status, text)
+            return b"served %d %d\n%s" % (status, len(data), data)
+
+        play.say("connection", request)
+        play.say("connection", request)
+        asked.append(Asked(printed(status, body), printed(status, again or body), {printed(503, text) for text in stops}))
+
+    path, after = f"/p/{ALPHA}", http_texts.asking
+    head = "interchange 1011 messages 1\n"
+    upload = after("POST", f"/p/{RETAILER}/interchanges", RETAILER, interchange(RETAILER, "1011", order("128579")))
+    wired(upload, head + "1 ORDERS accepted\n", head + "1 ORDERS repeated\n", stops=(b"", b"stopped\n", f"{head}stopped\n".encode()))
+    wired(after("GET", f"{path}/mail/item/1", ALPHA), FIRST_MAIL)
+    wired(after("GET", f"{path}/mail/after/3", ALPHA), "             4 ORDERS 128579\nend\n")
+    wired(after("POST", f"{path}/mail/item/4/taken", ALPHA, ""), "taken\n")
+    wired(after("GET", f"/p/{RETAILER}/status/{BETA}", RETAILER), "end\n")
+    cancel = f"{ALPHA}\nC5\n128579\n1\n7\n"
+    wired(after("POST", f"/p/{RETAILER}/cancellations", RETAILER, cancel), "accepted\n", "repeated\n")
+    wired(after("GET", f"{path}/mail/item/x", ALPHA), "unknown\n", status=404)
+    # nothing asks for memory up to the first check
+    wired(b"GET /\r\n\r\n", "bad request\n", status=400, stops=())
+    wired(after("GET", f"{path}/status", ALPHA, None, "X-Hub-Key: alpha-key-1"), "bad request\n", status=400, stops=())
     return play.script, asked
 
 

@@ -9,6 +9,7 @@ import tempfile
 
 import cases
 import commands
+import connections
 import files
 import hubs
 import made
@@ -25,7 +26,7 @@ def built(crate):
 
 
 # each program, and its cases
-PROGRAMS = [(built("edihub"), cases.CASES + commands.COMMANDS), (built("hub_script"), hubs.HUBS + hubs.OVER_SQL + files.FILES)]
+PROGRAMS = [(built("edihub"), cases.CASES + commands.COMMANDS), (built("hub_script"), hubs.HUBS + hubs.OVER_SQL + files.FILES + connections.CONNECTIONS)]
 
 # what is tried on a program many times over: each says what is wrong, if anything
 TRIALS = [

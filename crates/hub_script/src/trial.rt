@@ -211,7 +211,7 @@ impl<S: Store + Drop, O: Opener<S>> Trial<S, O> {
         let manner = Manner::of(words)?;
         let moment = self.caller.as_ref().ok_or(ScriptFault::Line)?.moment;
         let hub = self.hub.as_mut().ok_or(ScriptFault::Line)?;
-        let mut writer = Outgoing::new(self.alloc, manner);
+        let mut writer = Outgoing::new(self.alloc, manner)?;
         let mut reader = Incoming::new(bytes, manner);
         let line = match serve_one(self.alloc, hub, moment, &mut reader, &mut writer) {
             Ok(served) => {

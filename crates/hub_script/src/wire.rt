@@ -2,8 +2,11 @@
 use crate::fault::ScriptFault;
 use crate::script::Words;
 use edi_base::{Sink, Source};
-use std::alloc::Global;
+use std::alloc::{AllocError, Global};
 use std::io;
+
+/// How many bytes of a response there is room for.
+const ROOM: usize = 65_536;
 
 /// How the bytes of a connection come and go.
 #[derive(Clone, Copy)]
@@ -81,12 +84,12 @@ pub struct Outgoing {
 }
 
 impl Outgoing {
-    /// Nothing yet.
-    pub fn new(alloc: Global, manner: Manner) -> Self {
-        Outgoing {
-            taken: Vec::new(alloc),
+    /// Nothing yet. There is room for most responses, so that memory refused here is not taken for a failed write.
+    pub fn new(alloc: Global, manner: Manner) -> Result<Self, AllocError> {
+        Ok(Outgoing {
+            taken: Vec::with_capacity(alloc, ROOM)?,
             manner,
-        }
+        })
     }
 
     /// What went out.

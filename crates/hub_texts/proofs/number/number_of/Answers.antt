@@ -13,7 +13,10 @@ unwrap-text-requires c =
 
 pub returns : goal.returns
 returns c =
-    let text : List ℕ = c.args.digits.now in
-    let digits : are_digits 1 14 text ≡ true = search rules in
-    c.ok.ensures.value ∙ ap result_ok (read text c.parse.result c.parse.ensures.value.0 digits)
-    ∙ ap (λ (b : Bool). cond b (Some (number_of text)) None) (sym digits)
+    let text : List ℕ = c.unwrap-text.result.now in
+    let same : text ≡ c.args.digits.now = search rules in
+    let digits : are_digits 1 14 c.args.digits.now ≡ true = search rules in
+    let again : are_digits 1 14 text ≡ true = ap (are_digits 1 14) same ∙ digits in
+    c.ok.ensures.value ∙ ap result_ok (read text c.parse.result c.parse.ensures.value.0 again)
+    ∙ ap (λ (t : List ℕ). Some (number_of t)) same
+    ∙ ap (λ (b : Bool). cond b (Some (number_of c.args.digits.now)) None) (sym digits)
