@@ -1,5 +1,7 @@
 -- Bytes of a source behind those that are there.
-use Rattle.std.proofs.Common.{◌≡◌, ℕ, ◌+◌, ◌-◌, ◌≤◌, ◌<◌, List, [], ◌++◌, length, take, Option, Some, None, IfSome, ◌⊎◌, inl, inr, take_all, sym, ap, ◌∙◌, arith, append_assoc, append-nil, length-append, length-take, length-take-le, take_at}
+use Rattle.std.proofs.Common.{◌≡◌, ℕ, ◌+◌, ◌-◌, ◌≤◌, ◌<◌, List, [], ◌++◌, length, take, Option, Some, None, IfSome, ◌⊎◌}
+use Rattle.std.proofs.Common.{inl, inr, take_all, sym, ap, ◌∙◌, arith, append_assoc, append-nil, length-append}
+use Rattle.std.proofs.Common.{length-take, length-take-le, take_at}
 use Rattle.std.proofs.lemmas.Bool.{cond_below, cond_above, cases_lt}
 use Rattle.std.proofs.lemmas.List.{nil_from_length, take-append-le}
 use Rattle.std.proofs.KnownBytes.{Consumes-trans, Consumes-nil}
@@ -19,7 +21,8 @@ pub follows_none : (a : Option (List ℕ)) (before : List ℕ) → Follows a a b
 follows_none a before = record { more = []; consumed = Consumes-nil a; after_is = sym (append-nil before) }
 
 -- one more piece
-pub follows_piece : (a b c : Option (List ℕ)) (before mid after : List ℕ) (room count : ℕ) → Follows a b before mid → TakesPiece b c mid after room count
+pub follows_piece : (a b c : Option (List ℕ)) (before mid after : List ℕ) (room count : ℕ) → Follows a b before mid
+    → TakesPiece b c mid after room count
     → Follows a c before after
 follows_piece a b c before mid after room count so_far piece = record {
   more = so_far.more ++ piece.bytes;
@@ -28,7 +31,8 @@ follows_piece a b c before mid after room count so_far piece = record {
 }
 
 -- how many were read
-more_length : (a b : Option (List ℕ)) (before after : List ℕ) (so_far : Follows a b before after) → length after ≡ length before + length so_far.more
+more_length : (a b : Option (List ℕ)) (before after : List ℕ) (so_far : Follows a b before after)
+    → length after ≡ length before + length so_far.more
 more_length a b before after so_far = ap length so_far.after_is ∙ length-append before so_far.more
 
 -- no more than so many, with those that are read then
@@ -38,7 +42,8 @@ follows_limit a b c before after room limit so_far more fits =
     takes_more a b c so_far.more room limit so_far.consumed more (omega (arith, fits, more_length a b before after so_far))
 
 -- one more piece, no longer than its room
-pub piece_limit : (a b c : Option (List ℕ)) (before mid after : List ℕ) (room count limit : ℕ) → Follows a b before mid → TakesPiece b c mid after room count
+pub piece_limit : (a b c : Option (List ℕ)) (before mid after : List ℕ) (room count limit : ℕ) → Follows a b before mid
+    → TakesPiece b c mid after room count
     → length mid + room ≤ length before + limit → TakesAtMost a c limit
 piece_limit a b c before mid after room count limit so_far piece fits =
     follows_limit a b c before mid room limit so_far
@@ -79,7 +84,8 @@ ended_before (Some known) (Some left) front start after size end f short =
     ∙ length-take-le end after (omega (arith, short, f.size_is, f.same_size)) in
     let kept_len : length f.kept ≡ length (take size front) = ap length f.kept_is in
     let gone : known ≡ f.fills.more =
-    f.fills.consumed ∙ ap (λ l. f.fills.more ++ l) (f.fills.ends (omega (arith, len, kept_len, short, f.size_is))) ∙ append-nil f.fills.more in
+    f.fills.consumed ∙ ap (λ l. f.fills.more ++ l) (f.fills.ends (omega (arith, len, kept_len, short, f.size_is)))
+    ∙ append-nil f.fills.more in
     cond_below (length (front ++ known)) size None (Some (take size (front ++ known)))
     (omega (arith, length-append front known, ap length gone, len, length-take size front, short))
 
@@ -90,8 +96,10 @@ is_front front more rest size (inr within) len =
     let all : take size front ≡ front = take_all size front within in
     sym (take_at (take size front ++ more) rest size len) ∙ ap (take size) (ap (λ l. l ++ more ++ rest) all ∙ append_assoc front more rest)
 is_front front more rest size (inl past) len =
-    let none : more ≡ [] = nil_from_length more (omega (arith, len, length-append (take size front) more, length-take-le size front (omega (arith, past)))) in
-    ap (λ l. take size front ++ l) none ∙ append-nil (take size front) ∙ sym (take-append-le size front (more ++ rest) (omega (arith, past)))
+    let none : more ≡ [] = nil_from_length more
+    (omega (arith, len, length-append (take size front) more, length-take-le size front (omega (arith, past)))) in
+    ap (λ l. take size front ++ l) none ∙ append-nil (take size front) ∙ sym
+    (take-append-le size front (more ++ rest) (omega (arith, past)))
 
 -- all of the body was read
 pub ended_with : (a b : Option (List ℕ)) (front start after : List ℕ) (size end : ℕ) → Filled a b front start after size end → size ≤ end

@@ -1,5 +1,6 @@
 -- What the bytes that were read say of the head at the front of all bytes.
-use Rattle.std.proofs.Common.{◌≡◌, ℕ, ◌+◌, ◌-◌, ◌≤◌, List, ◌++◌, length, take, drop, map, Option, Some, None, Result, Ok, Err, refl, sym, ap, subst, ◌∙◌, arith, length-take-le, take_at}
+use Rattle.std.proofs.Common.{◌≡◌, ℕ, ◌+◌, ◌-◌, ◌≤◌, List, ◌++◌, length, take, drop, map, Option, Some, None, Result}
+use Rattle.std.proofs.Common.{Ok, Err, refl, sym, ap, subst, ◌∙◌, arith, length-take-le, take_at}
 use Rattle.std.specs.Io.{ReadsAtMost}
 use Rattle.std.specs.Io.KnownBytes.{Consumes, IsAtEnd, ReadConsumes}
 use Rattle.std.specs.Prelude.{IfOk}
@@ -30,7 +31,8 @@ in_front : (front more : List ℕ) (h : RequestHead) (rest : List ℕ) → lengt
 in_front front more h rest fits reads = (
   reads.0,
   let cut : take (length (print_request h)) front ≡ print_request h =
-      sym (take-append-le (length (print_request h)) front more fits) ∙ ap (λ l. take (length (print_request h)) l) reads.1 ∙ take_at (print_request h) rest _ refl in
+      sym (take-append-le (length (print_request h)) front more fits) ∙ ap (λ l. take (length (print_request h)) l) reads.1 ∙ take_at
+      (print_request h) rest _ refl in
       sym (take-append-drop (length (print_request h)) front) ∙ ap (λ l. l ++ drop (length (print_request h)) front) cut,
 )
 
@@ -61,25 +63,30 @@ some_at front more fields r room short within (h, at) = (
     short = omega (arith, within.section.len_fits, at.len);
     few = omega (arith, within.section.count_fits, counted front fields r h within.section.count_fits at.fields);
   },
-  let made : List ℕ → List ℕ → List (List ℕ × List ℕ) → Heading = λ m t f. record { method = m; target = t; fields = f; rest = drop r.len front ++ more } in
+  let made : List ℕ → List ℕ → List (List ℕ × List ℕ)
+      → Heading = λ m t f. record { method = m; target = t; fields = f; rest = drop r.len front ++ more } in
       ap (λ m. made m (span_bytes front r.path) (map (header_bytes front) (take r.headers fields))) at.method
       ∙ ap (λ t. made h.method t (map (header_bytes front) (take r.headers fields))) at.path
       ∙ ap (λ f. made h.method h.target f) at.fields,
 )
 
 -- the source has given the front, and there is no head whatever follows
-finds_none : (old new : Option (List ℕ)) (front : List ℕ) → Consumes old new front → ((more : List ℕ) → HeadIs (front ++ more) None) → Finds old new None
+finds_none : (old new : Option (List ℕ)) (front : List ℕ) → Consumes old new front → ((more : List ℕ) → HeadIs (front ++ more) None)
+    → Finds old new None
 finds_none None new front taken none = tt
 finds_none (Some known) None front taken none = taken
 finds_none (Some known) (Some left) front taken none = let P : List ℕ → Type 0 = λ l. HeadIs l None in subst P (sym taken) (none left)
 
-pub finds_overflow : (old new : Option (List ℕ)) (front : List ℕ) → Consumes old new front → RequestOverflows most_fields front → Finds old new None
+pub finds_overflow : (old new : Option (List ℕ)) (front : List ℕ) → Consumes old new front → RequestOverflows most_fields front
+    → Finds old new None
 finds_overflow old new front taken over = finds_none old new front taken (λ more. none_in_overflow front more over)
 
-pub finds_full : (old new : Option (List ℕ)) (front : List ℕ) → Consumes old new front → longest_head ≤ length front → HasNoRequest front → Finds old new None
+pub finds_full : (old new : Option (List ℕ)) (front : List ℕ) → Consumes old new front → longest_head ≤ length front → HasNoRequest front
+    → Finds old new None
 finds_full old new front taken full none = finds_none old new front taken (λ more. none_in_full front more full none)
 
-pub finds_end : (old new : Option (List ℕ)) (front : List ℕ) → Consumes old new front → IsAtEnd new → HasNoRequest front → Finds old new None
+pub finds_end : (old new : Option (List ℕ)) (front : List ℕ) → Consumes old new front → IsAtEnd new → HasNoRequest front
+    → Finds old new None
 finds_end None new front taken end none = tt
 finds_end (Some known) None front taken end none = taken
 finds_end (Some known) (Some left) front taken end none =
@@ -107,7 +114,8 @@ take-put filled room count bytes buffer fits few =
 -- what one read puts behind the bytes that are there
 pub read_behind : {E : Type 0} (r : Result ℕ E) (old new : Option (List ℕ)) (filled : ℕ) (bytes buffer : List ℕ) → filled ≤ length bytes
     → length buffer ≡ length bytes - filled → ReadsAtMost r buffer → ReadConsumes old new r buffer
-    → IfOk r (λ count. TakesPiece old new (take filled bytes) (take (filled + count) (put_mid filled (length bytes - filled) bytes buffer)) (length bytes - filled) count)
+    → IfOk r (λ count. TakesPiece old new (take filled bytes)
+    (take (filled + count) (put_mid filled (length bytes - filled) bytes buffer)) (length bytes - filled) count)
 read_behind {E} (Err e) old new filled bytes buffer fits room bound read = tt
 read_behind {E} (Ok count) old new filled bytes buffer fits room bound read = record {
   bytes = take count buffer;
@@ -119,5 +127,6 @@ read_behind {E} (Ok count) old new filled bytes buffer fits room bound read = re
 }
 
 -- the target is text
-pub target_text : (front : List ℕ) (fields : List HeaderSpan) (r : RequestSpans) → IsRequestOf front fields r → IsUtf8 (span_bytes front r.path)
+pub target_text : (front : List ℕ) (fields : List HeaderSpan) (r : RequestSpans) → IsRequestOf front fields r → IsUtf8
+    (span_bytes front r.path)
 target_text front fields r (h, at) = subst IsUtf8 (sym at.path) at.reads.0.target_text

@@ -63,7 +63,8 @@ shown read fields spans = record {
   rest = drop spans.len read;
 }
 
--- the spans lie within the bytes, and that of the target shows text
+-- the spans lie within the bytes, those of fields are few, and that of the target shows text
 pub record ShowsHead (read : List ℕ) (fields : List HeaderSpan) (spans : RequestSpans) : Type 0 where
+  pub few : spans.headers ≤ most_fields
   pub target : IsUtf8 (span_bytes read spans.path)
   pub within : IsRequestWithin read fields spans

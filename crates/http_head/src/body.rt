@@ -54,7 +54,8 @@ pub fn read_body<R: Source>(
     size: usize,
 ) -> Result<Option<Items<u8>>, ReadFault>
     // The front, and what the source had left, begin with the body.
-    ensures body { IfOk result (λ body. IfSome (R.remaining source.old) (λ left. body ≡ body_in size (front.now ++ left))) }
+    ensures body { IfOk result (λ body. IfSome (R.remaining source.old) (λ left.
+        body ≡ body_in size (front.now ++ left))) }
 
     // Whatever is answered, no more than the front lacks was taken from the source.
     ensures front { TakesAtMost (R.remaining source.old) (R.remaining source.new) (size - length front.now) }

@@ -40,7 +40,7 @@ impl Model for Head {
 
     ghost view = { λ h. shown (take h.filled h.bytes) h.fields h.spans };
 
-    ghost invariant = { λ h. (h.filled ≤ 8192) × (h.spans.headers ≤ 32) × ShowsHead (take h.filled h.bytes) h.fields h.spans };
+    ghost invariant = { λ h. (h.filled ≤ 8192) × ShowsHead (take h.filled h.bytes) h.fields h.spans };
 }
 
 impl Head {

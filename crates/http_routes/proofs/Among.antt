@@ -1,6 +1,6 @@
 -- What holds of each route's row holds of the one that a walk finds.
-use Rattle.std.proofs.Common.{◌≡◌, ℕ, ◌-◌, List, [], ◌∷◌, length, Bool, true, false, cond, ltb, ◌==◌, Option, Some, None, refl, subst, zero, suc}
-use Rattle.std.specs.Prelude.{All}
+use Rattle.std.proofs.Common.{◌≡◌, ℕ, ◌-◌, List, [], ◌∷◌, length, true, false, cond, ltb, ◌==◌, Option, Some}
+use Rattle.std.proofs.Common.{None, subst, zero, suc}
 use Rattle.matchit.specs.Rows.{RowsOf, param_token, catch_all_token, comes_before}
 use Rattle.matchit.specs.Order.{placed}
 use Rattle.matchit.specs.Seek.{own, step, or_else, with_suffix, longest_suffix, segment, has_slash, same_text, param_step, seek, first}
@@ -39,7 +39,8 @@ module _ {K : Type 0} (P : K → Type 0) where
   each_param rs path h =
       let long : List ℕ = longest_suffix (segment path) rs in
       elim (ltb 0 (length long))
-      as (λ v. Each (cond {A = ℕ × RowsOf K} v (length (segment path) - length long, with_suffix long rs) (cond {A = ℕ × RowsOf K} (has_slash path) (0, []) (length path, rs))).1) [
+      as (λ v. Each (cond {A = ℕ × RowsOf K} v (length (segment path) - length long, with_suffix long rs)
+      (cond {A = ℕ × RowsOf K} (has_slash path) (0, []) (length path, rs))).1) [
         | true ↦ each_suffix long rs h
         | false ↦ elim (has_slash path) as (λ w. Each (cond {A = ℕ × RowsOf K} w (0, []) (length path, rs)).1) [ true ↦ tt | false ↦ h ]
       ]
@@ -54,7 +55,8 @@ module _ {K : Type 0} (P : K → Type 0) where
   each_seek (suc skip) rs (b ∷ path) h = each_seek skip rs path h
   each_seek zero rs (b ∷ path) h =
       holds_or _ _ (each_seek 0 (step b rs) path (each_step b rs h))
-      (holds_or _ _ (each_seek ((param_step (step param_token rs) (b ∷ path)).0 - 1) (param_step (step param_token rs) (b ∷ path)).1 path (each_param (step param_token rs) (b ∷ path) (each_step param_token rs h)))
+      (holds_or _ _ (each_seek ((param_step (step param_token rs) (b ∷ path)).0 - 1) (param_step (step param_token rs) (b ∷ path)).1 path
+      (each_param (step param_token rs) (b ∷ path) (each_step param_token rs h)))
       (each_own (step catch_all_token rs) (each_step catch_all_token rs h)))
 
   pub found_holds : (rs : RowsOf K) (path : List ℕ) (key : K) → Each rs → first rs path ≡ Some key → P key

@@ -1,28 +1,38 @@
-ghost use Rattle.std.specs.Prelude.{◌≡◌, ◌≤◌, [], length, map, IfOk, OnOk, option_map};
-ghost use Rattle.matchit.specs.Params.{part_of};
+//! The seven routes.
+
+ghost use Rattle.std.specs.Prelude.{◌≡◌, IfOk, OnOk, option_map};
 ghost use Rattle.http_routes.specs.Routes as spec;
 
+use crate::parts::with_parts;
 use matchit::{InsertError, Router};
 use std::alloc::{AllocError, Global};
 
-/// What a path asks for.
+/// The place that a path names.
 #[derive(Clone, Copy, Debug, PartialEq, Eq)]
 pub enum Place {
+    /// `/p/{gln}/interchanges`
     Interchanges,
+    /// `/p/{gln}/mail/after/{n}`
     MailAfter,
+    /// `/p/{gln}/mail/item/{n}`
     MailItem,
+    /// `/p/{gln}/mail/item/{n}/taken`
     MailTaken,
+    /// `/p/{gln}/status`
     Status,
+    /// `/p/{gln}/status/{supplier}`
     StatusOf,
+    /// `/p/{gln}/cancellations`
     Cancellations,
 }
 
-/// The place of a path, and its parts in braces.
+/// The place that a path names, and its parts in braces.
 #[derive(Clone, Copy)]
 pub struct Routed<'p> {
     pub place: Place,
+    /// Who asks: what stands for `{gln}`.
     pub party: &'p [u8],
-    /// The number or the supplier, where there is one.
+    /// What stands for `{n}` or `{supplier}`, where the path has one.
     pub part: Option<&'p [u8]>,
 }
 
@@ -52,59 +62,9 @@ fn seven_routes(alloc: Global) -> Result<Router<Place>, InsertError>
     Ok(router)
 }
 
-// Where a part ends that begins here and stops before a slash.
-fn to_slash(path: &[u8], at: usize) -> usize
-    ensures { result ≡ spec.to_slash path.now at }
-{
-    let mut end = at;
-    while end < path.len() {
-        end += 1;
-        if path[end - 1] == b'/' {
-            break;
-        }
-    }
-    end.saturating_sub(1)
-}
-
-// The bytes between two places, or none where these do not fit.
-fn part(path: &[u8], start: usize, end: usize) -> &[u8]
-    ensures { result.now ≡ part_of path.now start end }
-{
-    path.get(start..end).unwrap_or(b"")
-}
-
-// Where a part begins that is so many bytes on.
-fn begin(skip: usize, path: &[u8], at: usize) -> usize
-    requires { skip ≤ 100 }
-    ensures { result ≡ spec.begin skip (length path.now) at }
-{
-    at.max(at.saturating_add(skip).min(path.len()))
-}
-
-// The parts of a place's path.
-fn with_parts(place: Place, path: &[u8]) -> Routed<'_>
-    ensures { spec.shown result ≡ (place, spec.parts place path.now) }
-{
-    let start = begin(3, path, 0);
-    let end = to_slash(path, start);
-    let part_of_path = match place {
-        Place::MailAfter => Some(part(path, begin(12, path, end), path.len())),
-        Place::MailItem => Some(part(path, begin(11, path, end), path.len())),
-        Place::MailTaken => {
-            let start = begin(11, path, end);
-            Some(part(path, start, to_slash(path, start)))
-        }
-        Place::StatusOf => Some(part(path, begin(8, path, end), path.len())),
-        _ => None,
-    };
-    Routed {
-        place,
-        party: part(path, start, end),
-        part: part_of_path,
-    }
-}
-
-/// What a path asks for; `None` where there is no such path.
+/// The place that a path names, with its parts in braces; `None` where it names none of the seven. The path is the
+/// target of a request in origin form without its query (RFC 9112, section 3.2.1); it is taken as it is, and nothing in
+/// it is decoded. `AllocError` where there is no memory for the router.
 pub fn place_of(alloc: Global, path: &str) -> Result<Option<Routed<'_>>, AllocError>
     ensures { IfOk result (λ found. option_map spec.shown found ≡ spec.place_at path.now) }
 {

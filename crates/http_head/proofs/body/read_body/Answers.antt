@@ -28,6 +28,8 @@ returns-clause-body g c =
       fills = c.in_ok-end.ensures.bytes;
     }) c.if-end-size.false in
     let same : c.from_vec.result ≡ c.fill.new.bytes =
-    c.from_vec.ensures ∙ take_at c.fill.new.bytes (drop (length c.fill.new.bytes) c.in_ok-bytes.bytes.items) c.in_ok-bytes.bytes.len (c.fill.auto.bytes ∙ c.deref_mut.ensures.len) in
-    let P : List ℕ → Type 0 = λ bytes. IfSome (g.R.Source.remaining c.args.source.now) (λ left. Some bytes ≡ body_in c.args.size (c.args.front.now ++ left)) in
+    c.from_vec.ensures ∙ take_at c.fill.new.bytes (drop (length c.fill.new.bytes) c.in_ok-bytes.bytes.items) c.in_ok-bytes.bytes.len
+    (c.fill.auto.bytes ∙ c.deref_mut.ensures.len) in
+    let P : List ℕ → Type 0 = λ bytes. IfSome (g.R.Source.remaining c.args.source.now)
+    (λ left. Some bytes ≡ body_in c.args.size (c.args.front.now ++ left)) in
     subst P (sym same) whole

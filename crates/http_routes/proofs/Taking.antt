@@ -1,16 +1,19 @@
 -- The parts that the seven routes take, from the path alone.
-use Rattle.std.proofs.Common.{◌≡◌, ℕ, ◌+◌, ◌-◌, ◌<◌, ◌≤◌, List, [], ◌∷◌, ◌++◌, length, map, max, min, drop, get_or, Bool, true, false, cond, ltb, ◌==◌, ◌⊎◌, inl, inr, zero, suc, Option, Some, None, Result, Ok, Err, codes, refl, ap, sym, subst, ◌∙◌, arith}
-use Rattle.std.specs.Prelude.{All}
+use Rattle.std.proofs.Common.{◌≡◌, ℕ, ◌+◌, List, [], ◌∷◌, ◌++◌, length, map, drop}
+use Rattle.std.proofs.Common.{Bool, true, false, cond, ltb, suc, Some, Result}
+use Rattle.std.proofs.Common.{Ok, Err, codes, refl, ap, ◌∙◌, arith}
 use Rattle.matchit.specs.Rows.{param_token}
-use Rattle.matchit.specs.Route.{Scan, parse_route, scan}
+use Rattle.matchit.specs.Route.{Scan, parse_route}
 use Rattle.matchit.specs.Router.{RouteOf, route_from}
 use Rattle.matchit.specs.Params.{walk, wild_from, wild_stop, next_at, part_of, after_token}
-use Rattle.matchit.specs.Seek.{segment, first}
+use Rattle.matchit.specs.Seek.{first}
 use Rattle.matchit.specs.declared.error.InsertError.{InsertError}
 use Rattle.matchit.proofs.OnLiterals.{matchit_on_literals}
-use Rattle.http_routes.specs.Routes.{Routes, added, added_scan, seven, parts, parts_by, begin, with_parts, place_at}
+use Rattle.http_routes.specs.Routes.{Routes, added_scan, seven, parts_by, with_parts, place_at}
+use Rattle.http_routes.specs.Parts.{parts, begin}
 use Rattle.http_routes.specs.declared.routes.Place.{Place}
-use Rattle.http_routes.specs.declared.routes.Place.TheVariants.{Interchanges, MailAfter, MailItem, MailTaken, Status, StatusOf, Cancellations}
+use Rattle.http_routes.specs.declared.routes.Place.TheVariants.{Interchanges, MailAfter, MailItem, MailTaken, Status}
+use Rattle.http_routes.specs.declared.routes.Place.TheVariants.{StatusOf, Cancellations}
 use Rattle.std.proofs.lemmas.Bool.{ltb-true, ltb-false}
 use Rattle.http_routes.proofs.Among.{Each, each_placed, found_holds}
 
@@ -39,7 +42,8 @@ literals [] rest len token at all =
     ap (λ t. wild_from rest len t at) e ∙ ap (λ a. wild_from rest len (token + 0) a) f
 literals (x ∷ w) rest len token at all =
     elim (ltb x param_token)
-    as (λ v. cond v (are_literals w) false ≡ true → cond {A = ℕ × ℕ} v (wild_from (w ++ rest) len (token + 1) (next_at len at)) (token, at) ≡ wild_from rest len (token + suc (length w)) (begin (suc (length w)) len at)) [
+    as (λ v. cond v (are_literals w) false ≡ true → cond {A = ℕ × ℕ} v (wild_from (w ++ rest) len (token + 1) (next_at len at))
+    (token, at) ≡ wild_from rest len (token + suc (length w)) (begin (suc (length w)) len at)) [
       | true ↦ λ all.
           let e : token + 1 + length w ≡ token + suc (length w) = omega arith in
           literals w rest len (token + 1) (next_at len at) all
@@ -53,7 +57,8 @@ one : (pattern text path : List ℕ) (name : ℕ × ℕ) (token at : ℕ) → wi
     → map (λ pair. pair.1) (walk pattern text path (name ∷ []) 0 0) ≡ part_of path at (wild_stop pattern token path at) ∷ []
 one pattern text path name token at e = ap (λ w. part_of path w.1 (wild_stop pattern w.0 path w.1) ∷ []) e
 
-two : (pattern text path : List ℕ) (first second : ℕ × ℕ) (token at later : ℕ) (on : ℕ → ℕ) → wild_from pattern (length path) 0 0 ≡ (token, at)
+two : (pattern text path : List ℕ) (first second : ℕ × ℕ) (token at later : ℕ) (on : ℕ → ℕ) → wild_from pattern (length path) 0 0 ≡
+    (token, at)
     → ((from : ℕ) → wild_from (drop (after_token token) pattern) (length path) (after_token token) from ≡ (later, on from))
     → map (λ pair. pair.1) (walk pattern text path (first ∷ second ∷ []) 0 0)
     ≡ part_of path at (wild_stop pattern token path at)
@@ -61,51 +66,64 @@ two : (pattern text path : List ℕ) (first second : ℕ × ℕ) (token at later
 two pattern text path first second token at later on e next =
     ap (λ (w : ℕ × ℕ). part_of path w.1 (wild_stop pattern w.0 path w.1)
     ∷ map (λ pair. pair.1) (walk pattern text path (second ∷ []) (after_token w.0) (wild_stop pattern w.0 path w.1))) e
-    ∙ ap (λ (w : ℕ × ℕ). part_of path at (wild_stop pattern token path at) ∷ part_of path w.1 (wild_stop pattern w.0 path w.1) ∷ []) (next (wild_stop pattern token path at))
+    ∙ ap (λ (w : ℕ × ℕ). part_of path at (wild_stop pattern token path at) ∷ part_of path w.1 (wild_stop pattern w.0 path w.1) ∷ [])
+    (next (wild_stop pattern token path at))
 
 abbrev pub TakesRead : Result Scan InsertError → Place → Type 0
 TakesRead (Ok s) place = Takes (route_from s place)
 TakesRead (Err e) place = Unit {0}
 
-each_added : (read : Result Scan InsertError) (place : Place) (routes : Routes) → TakesRead read place → Each Takes routes → Each Takes (added_scan read place routes)
+each_added : (read : Result Scan InsertError) (place : Place) (routes : Routes) → TakesRead read place → Each Takes routes → Each Takes
+    (added_scan read place routes)
 each_added (Ok s) place routes takes each = each_placed Takes (s.pattern, route_from s place) routes takes each
 each_added (Err e) place routes takes each = each
 
 interchanges_takes : TakesRead (parse_route (codes "/p/{gln}/interchanges")) Interchanges
 unfolding matchit_on_literals
-interchanges_takes path = one (codes "/p/" ++ 256 ∷ codes "/interchanges") (codes "/p/{gln}/interchanges") path (4, 7) 3 (begin 3 (length path) 0) (literals (codes "/p/") (256 ∷ codes "/interchanges") (length path) 0 0 refl)
+interchanges_takes path = one (codes "/p/" ++ 256 ∷ codes "/interchanges") (codes "/p/{gln}/interchanges") path (4, 7) 3
+    (begin 3 (length path) 0) (literals (codes "/p/") (256 ∷ codes "/interchanges") (length path) 0 0 refl)
 
 mail_after_takes : TakesRead (parse_route (codes "/p/{gln}/mail/after/{n}")) MailAfter
 unfolding matchit_on_literals
 mail_after_takes path =
-    two (codes "/p/" ++ (256 ∷ codes "/mail/after/" ++ 256 ∷ [])) (codes "/p/{gln}/mail/after/{n}") path (4, 7) (21, 22) 3 (begin 3 (length path) 0) 16 (begin 12 (length path)) (literals (codes "/p/") (256 ∷ codes "/mail/after/" ++ 256 ∷ []) (length path) 0 0 refl)
+    two (codes "/p/" ++ (256 ∷ codes "/mail/after/" ++ 256 ∷ [])) (codes "/p/{gln}/mail/after/{n}") path (4, 7) (21, 22) 3
+    (begin 3 (length path) 0) 16 (begin 12 (length path))
+    (literals (codes "/p/") (256 ∷ codes "/mail/after/" ++ 256 ∷ []) (length path) 0 0 refl)
     (λ from. literals (codes "/mail/after/") (256 ∷ []) (length path) 4 from refl)
 
 mail_item_takes : TakesRead (parse_route (codes "/p/{gln}/mail/item/{n}")) MailItem
 unfolding matchit_on_literals
 mail_item_takes path =
-    two (codes "/p/" ++ (256 ∷ codes "/mail/item/" ++ 256 ∷ [])) (codes "/p/{gln}/mail/item/{n}") path (4, 7) (20, 21) 3 (begin 3 (length path) 0) 15 (begin 11 (length path)) (literals (codes "/p/") (256 ∷ codes "/mail/item/" ++ 256 ∷ []) (length path) 0 0 refl)
+    two (codes "/p/" ++ (256 ∷ codes "/mail/item/" ++ 256 ∷ [])) (codes "/p/{gln}/mail/item/{n}") path (4, 7) (20, 21) 3
+    (begin 3 (length path) 0) 15 (begin 11 (length path))
+    (literals (codes "/p/") (256 ∷ codes "/mail/item/" ++ 256 ∷ []) (length path) 0 0 refl)
     (λ from. literals (codes "/mail/item/") (256 ∷ []) (length path) 4 from refl)
 
 mail_taken_takes : TakesRead (parse_route (codes "/p/{gln}/mail/item/{n}/taken")) MailTaken
 unfolding matchit_on_literals
 mail_taken_takes path =
-    two (codes "/p/" ++ (256 ∷ codes "/mail/item/" ++ 256 ∷ codes "/taken")) (codes "/p/{gln}/mail/item/{n}/taken") path (4, 7) (20, 21) 3 (begin 3 (length path) 0) 15 (begin 11 (length path)) (literals (codes "/p/") (256 ∷ codes "/mail/item/" ++ 256 ∷ codes "/taken") (length path) 0 0 refl)
+    two (codes "/p/" ++ (256 ∷ codes "/mail/item/" ++ 256 ∷ codes "/taken")) (codes "/p/{gln}/mail/item/{n}/taken") path (4, 7) (20, 21) 3
+    (begin 3 (length path) 0) 15 (begin 11 (length path))
+    (literals (codes "/p/") (256 ∷ codes "/mail/item/" ++ 256 ∷ codes "/taken") (length path) 0 0 refl)
     (λ from. literals (codes "/mail/item/") (256 ∷ codes "/taken") (length path) 4 from refl)
 
 status_takes : TakesRead (parse_route (codes "/p/{gln}/status")) Status
 unfolding matchit_on_literals
-status_takes path = one (codes "/p/" ++ 256 ∷ codes "/status") (codes "/p/{gln}/status") path (4, 7) 3 (begin 3 (length path) 0) (literals (codes "/p/") (256 ∷ codes "/status") (length path) 0 0 refl)
+status_takes path = one (codes "/p/" ++ 256 ∷ codes "/status") (codes "/p/{gln}/status") path (4, 7) 3 (begin 3 (length path) 0)
+    (literals (codes "/p/") (256 ∷ codes "/status") (length path) 0 0 refl)
 
 status_of_takes : TakesRead (parse_route (codes "/p/{gln}/status/{supplier}")) StatusOf
 unfolding matchit_on_literals
 status_of_takes path =
-    two (codes "/p/" ++ (256 ∷ codes "/status/" ++ 256 ∷ [])) (codes "/p/{gln}/status/{supplier}") path (4, 7) (17, 25) 3 (begin 3 (length path) 0) 12 (begin 8 (length path)) (literals (codes "/p/") (256 ∷ codes "/status/" ++ 256 ∷ []) (length path) 0 0 refl)
+    two (codes "/p/" ++ (256 ∷ codes "/status/" ++ 256 ∷ [])) (codes "/p/{gln}/status/{supplier}") path (4, 7) (17, 25) 3
+    (begin 3 (length path) 0) 12 (begin 8 (length path))
+    (literals (codes "/p/") (256 ∷ codes "/status/" ++ 256 ∷ []) (length path) 0 0 refl)
     (λ from. literals (codes "/status/") (256 ∷ []) (length path) 4 from refl)
 
 cancellations_takes : TakesRead (parse_route (codes "/p/{gln}/cancellations")) Cancellations
 unfolding matchit_on_literals
-cancellations_takes path = one (codes "/p/" ++ 256 ∷ codes "/cancellations") (codes "/p/{gln}/cancellations") path (4, 7) 3 (begin 3 (length path) 0) (literals (codes "/p/") (256 ∷ codes "/cancellations") (length path) 0 0 refl)
+cancellations_takes path = one (codes "/p/" ++ 256 ∷ codes "/cancellations") (codes "/p/{gln}/cancellations") path (4, 7) 3
+    (begin 3 (length path) 0) (literals (codes "/p/") (256 ∷ codes "/cancellations") (length path) 0 0 refl)
 
 pub each_seven : Each Takes seven
 unfolding seven
