@@ -1,14 +1,15 @@
 -- Who asks has a GLN.
-use Rattle.std.proofs.Common.{◌≡◌, ℕ, List, [], ◌∷◌, Bool, true, false, ◌&&◌, Option, None, map, refl, sym, ap, ◌∙◌}
+use Rattle.std.proofs.Common.{◌≡◌, ℕ, List, [], ◌∷◌, Bool, true, false, ◌&&◌, Option, Some, None, cond, map, refl, sym, ap, ◌∙◌}
 use Rattle.std.specs.Prelude.{option_map}
 use Rattle.std.specs.List.{list_all}
 use Rattle.std.specs.Str.{bytes_eq}
 use Rattle.std.proofs.lemmas.Bool.{and_parts, and_left, false≢true, false_from_ne_true}
 use Rattle.std.proofs.lemmas.Slice.Eq.{bytes_eq-Decides}
-use Rattle.gs1_ids.specs.Gln.{is_gln}
+use Rattle.std.proofs.lemmas.Option.{none-some}
+use Rattle.gs1_ids.specs.Gln.{gln_of, is_gln}
 use Rattle.hub_parties.specs.Rows.{RegisterRows, IsRegister, supplier_row, role_by, role_of}
 use Rattle.hub_parties.specs.declared.row.SupplierRow.{SupplierRow}
-use Rattle.hub_http.specs.Asked.{Asker, asker_by}
+use Rattle.hub_http.specs.Asked.{asker, asker_by}
 
 -- what is no GLN differs from a GLN
 differs : (gln party : List ℕ) → is_gln gln ≡ true → is_gln party ≡ false → bytes_eq gln party ≡ false
@@ -37,4 +38,9 @@ nobody register party key right none =
 pub no_asker : (register : RegisterRows) (party key : List ℕ) → IsRegister register → is_gln party ≡ false
     → None ≡ asker_by register party key
 no_asker register party key right none =
-    ap (option_map (λ role. record { role = role; gln = party; key = key })) (sym (nobody register party key right none))
+    ap (option_map (λ role. asker role party key)) (sym (nobody register party key right none))
+
+-- what is read as no GLN is none
+pub no_gln : (text : List ℕ) → gln_of text ≡ None → is_gln text ≡ false
+no_gln text none =
+    false_from_ne_true (is_gln text) (λ is. none-some (sym none ∙ ap (λ (b : Bool). cond b (Some text) None) is))

@@ -1,3 +1,4 @@
+mod Asking
 mod Bounds
 mod Callers
 mod Judging

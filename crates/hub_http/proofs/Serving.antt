@@ -1,5 +1,5 @@
 -- The question of a connection, from its head.
-use Rattle.std.proofs.Common.{◌≡◌, ℕ, ◌+◌, List, Option, Some, None, Result, Ok, Err, false, refl}
+use Rattle.std.proofs.Common.{◌≡◌, ℕ, ◌+◌, List, Option, Some, None, Result, Ok, Err, Bool, false, refl, inl, inr}
 use Rattle.std.specs.Prelude.{IfOk, IfSome}
 use Rattle.std.specs.Io.KnownBytes.{Appends}
 use Rattle.edi_base.specs.Buffer.{AppendsFront}
@@ -7,15 +7,23 @@ use Rattle.hub_law.specs.declared.reply.Reply.{Reply}
 use Rattle.hub_parties.specs.Rows.{RegisterRows}
 use Rattle.http_head.specs.Head.{Heading, Finds, before, longest_head}
 use Rattle.edi_base.specs.Source.{TakesAtMost}
-use Rattle.hub_http.specs.Answer.{Answers, Serves, announced_by}
+use Rattle.hub_http.specs.Answer.{Answers, OneStep, Serves, announced_by}
 use Rattle.hub_http.specs.Asked.{is_single}
 use Rattle.hub_http.specs.Question.{Question, question_of}
 use Rattle.hub_http.specs.Serve.{response}
 use Rattle.hub_http.proofs.Bounds.{both_taken}
 use Rattle.hub_http.specs.declared.answer.Answer.{Answer}
+use Rattle.hub_http.specs.declared.refusal.Refusal.{Refusal}
 use Rattle.hub_http.specs.declared.refusal.Refusal.TheVariants.{BadRequest}
 
 module _ (Replies : Question → Reply → Type 0) (Same : Type 0) (register : RegisterRows) where
+  -- where it is known what was answered, it is known what was asked
+  pub one_step : (passed : Bool) (question : Result Question Refusal) (answer : Answer)
+      → Answers Replies Same passed question answer → OneStep Replies Same
+  one_step passed (Ok question) answer (inl ends) = inr (question, ends.0, ends.1)
+  one_step passed (Err refusal) answer (inl ends) = inl ends.0
+  one_step passed question answer (inr stops) = inl stops.1.0
+
   -- without a head
   pub serves_none : (old new : Option (List ℕ)) (answer : Answer) → Finds old new None → TakesAtMost old new longest_head
       → Answers Replies Same false (Err BadRequest) answer

@@ -96,8 +96,11 @@ pub record Asker : Type 0 where
   pub gln : List ℕ
   pub key : List ℕ
 
+abbrev pub asker : Role → List ℕ → List ℕ → Asker
+asker role gln key = record { role = role; gln = gln; key = key }
+
 abbrev pub asker_by : RegisterRows → List ℕ → List ℕ → Option Asker
-asker_by register gln key = option_map (λ role. record { role = role; gln = gln; key = key }) (role_of register gln key)
+asker_by register gln key = option_map (λ role. asker role gln key) (role_of register gln key)
 
 -- the party that the path names first, with the one key of the head
 abbrev pub asker_of : RegisterRows → List (List ℕ) → List (List ℕ) → Option Asker
@@ -132,21 +135,23 @@ posted fields =
 abbrev pub size_of : Place → List (List ℕ × List ℕ) → Result ℕ Refusal
 size_of place fields = if is_post place then posted fields else Ok 0
 
--- a place, the parts of its path, who asks, and how long the body is
+-- a place, the parts of its path, who asks with which key, and how long the body is
 pub record Asked : Type 0 where
   pub place : Place
   pub parts : List (List ℕ)
-  pub asker : Asker
+  pub gln : List ℕ
+  pub key : List ℕ
   pub size : ℕ
 
 abbrev pub with_size : Place → List (List ℕ) → Asker → Result ℕ Refusal → Result Asked Refusal
-with_size place parts asker (Ok size) = Ok (record { place = place; parts = parts; asker = asker; size = size })
-with_size place parts asker (Err refusal) = Err refusal
+with_size place parts who (Ok size) =
+    Ok (record { place = place; parts = parts; gln = who.gln; key = who.key; size = size })
+with_size place parts who (Err refusal) = Err refusal
 
 abbrev pub by_asker : Place → List (List ℕ) → List (List ℕ × List ℕ) → Option Asker → Result Asked Refusal
 by_asker place parts fields None = Err Denied
-by_asker place parts fields (Some asker) =
-    if may_ask asker.role place then with_size place parts asker (size_of place fields) else Err Denied
+by_asker place parts fields (Some who) =
+    if may_ask who.role place then with_size place parts who (size_of place fields) else Err Denied
 
 abbrev pub at_place : RegisterRows → Heading → Option (Place × List (List ℕ)) → Result Asked Refusal
 at_place register head None = Err Unknown

@@ -59,7 +59,7 @@ pub record Question : Type 0 where
   pub request : Request
 
 abbrev pub of_asker : Asked → Result Request Refusal → Result Question Refusal
-of_asker asked (Ok request) = Ok (record { gln = asked.asker.gln; key = asked.asker.key; request = request })
+of_asker asked (Ok request) = Ok (record { gln = asked.gln; key = asked.key; request = request })
 of_asker asked (Err refusal) = Err refusal
 
 -- with the body, none where it is cut

@@ -15,7 +15,8 @@ abbrev pub told : Asking → Asked
 told asking = record {
   place = asking.routed.place;
   parts = (shown asking.routed).1;
-  asker = told_asker asking.asker;
+  gln = asking.gln;
+  key = asking.key.now;
   size = asking.size;
 }
 

@@ -94,11 +94,11 @@ fn answer_body<S: Store>(
     alloc: Global,
     hub: &mut Hub<S>,
     moment: Moment,
-    asking: Asking<'_>,
+    asking: &Asking<'_>,
     body: Option<Items<u8>>,
 ) -> Answer
     ensures answers { spec.Answers (spec.Steps S.content S.honest S.left moment hub.old hub.new) (hub.new ≡ hub.old)
-        true (with_body (told asking.entry) body) result }
+        true (with_body (told asking.now) body) result }
     ensures register { hub.new.0 ≡ hub.old.0 }
     ensures was_honest { S.honest hub.new.1 → S.honest hub.old.1 }
 {
@@ -116,16 +116,16 @@ fn answer_asked<R: Source, S: Store>(
     moment: Moment,
     reader: &mut R,
     front: &[u8],
-    asking: Asking<'_>,
+    asking: &Asking<'_>,
 ) -> Result<Answer, HeadFault>
     ensures answers { IfOk result (λ answer. IfSome (R.remaining reader.old) (λ left.
         spec.Answers (spec.Steps S.content S.honest S.left moment hub.old hub.new) (hub.new ≡ hub.old) true
-        (with_body (told asking.entry) (body_in (told asking.entry).size (front.now ++ left))) answer)) }
+        (with_body (told asking.now) (body_in (told asking.now).size (front.now ++ left))) answer)) }
     ensures stepped { spec.OneStep (spec.Steps S.content S.honest S.left moment hub.old hub.new) (hub.new ≡ hub.old) }
     ensures untouched { OnErr result (hub.new ≡ hub.old) }
     ensures register { hub.new.0 ≡ hub.old.0 }
     ensures was_honest { S.honest hub.new.1 → S.honest hub.old.1 }
-    ensures front { TakesAtMost (R.remaining reader.old) (R.remaining reader.new) asking.entry.size }
+    ensures front { TakesAtMost (R.remaining reader.old) (R.remaining reader.new) asking.now.size }
     ensures failed { OnErr result (R.failed reader.new ≡ true) }
     ensures kept { OnOk result (R.failed reader.new ≡ R.failed reader.old) }
 {
@@ -157,7 +157,7 @@ fn answer_head<R: Source, S: Store>(
     ensures kept { OnOk result (R.failed reader.new ≡ R.failed reader.old) }
 {
     match judge(alloc, hub, head) {
-        Ok(Ok(asking)) => answer_asked(alloc, hub, moment, reader, head.rest(), asking),
+        Ok(Ok(asking)) => answer_asked(alloc, hub, moment, reader, head.rest(), &asking),
         Ok(Err(refusal)) => Ok(refused(refusal)),
         Err(_) => Ok(stopped()),
     }

@@ -1,5 +1,5 @@
 //! What the head of a request asks for, and who asks.
-ghost use Rattle.std.specs.Prelude.{◌≡◌, ◌≤◌, codes, Some, option_map, IfOk, IsOk, IsFalse};
+ghost use Rattle.std.specs.Prelude.{◌≡◌, codes, Some, option_map, List, ◌∷◌, ℕ, IfOk, IsOk, IsFalse};
 ghost use Rattle.http_head.specs.Fields.{values_of};
 ghost use Rattle.http_routes.specs.Routes.{shown};
 ghost use Rattle.hub_http.specs.Asked as spec;
@@ -32,7 +32,8 @@ pub(crate) struct Asker<'h> {
 #[derive(Clone, Copy)]
 pub(crate) struct Asking<'h> {
     pub routed: Routed<'h>,
-    pub asker: Asker<'h>,
+    pub gln: Gln,
+    pub key: &'h [u8],
     /// How many bytes the body has.
     pub size: usize,
 }
@@ -181,28 +182,45 @@ fn size_of(place: Place, head: &Head) -> Result<usize, Refusal>
     if is_post(place) { posted(head) } else { Ok(0) }
 }
 
+// What is asked for by somebody who is known.
 fn by_asker<'h>(
     routed: Routed<'h>,
     head: &Head,
-    asker: Option<Asker<'h>>,
+    role: Role,
+    gln: Gln,
+    key: &'h [u8],
 ) -> Result<Asking<'h>, Refusal>
     ensures { told_result result ≡ spec.by_asker routed.entry.place (shown routed.entry).1 head.now.fields
-        (option_map told_asker asker.entry) }
+        (Some (spec.asker role gln key.now)) }
 {
-    let Some(asker) = asker else {
-        return Err(Refusal::Denied);
-    };
-    if !may_ask(asker.role, routed.place) {
+    if !may_ask(role, routed.place) {
         return Err(Refusal::Denied);
     }
     let size = size_of(routed.place, head)?;
     Ok(Asking {
         routed,
-        asker,
+        gln,
+        key,
         size,
     })
 }
 
+// What is asked for by the party of the path.
+fn by_party<'h, S: Store>(
+    hub: &Hub<S>,
+    routed: Routed<'h>,
+    head: &'h Head,
+) -> Result<Asking<'h>, Refusal>
+    ensures { told_result result ≡ spec.by_asker routed.entry.place (shown routed.entry).1 head.now.fields
+        (spec.asker_of hub.now.0 (shown routed.entry).1 (values_of (codes "X-Hub-Key") head.now.fields)) }
+{
+    match asker_of(hub, routed.party, head) {
+        Some(asker) => by_asker(routed, head, asker.role, asker.gln, asker.key),
+        None => Err(Refusal::Denied),
+    }
+}
+
+// What is asked for at the place of a path.
 fn at_place<'h, S: Store>(
     hub: &Hub<S>,
     routed: Routed<'h>,
@@ -216,7 +234,7 @@ fn at_place<'h, S: Store>(
     if head.method() != method_of(routed.place) {
         return Err(Refusal::Method);
     }
-    by_asker(routed, head, asker_of(hub, routed.party, head))
+    by_party(hub, routed, head)
 }
 
 /// What a head asks for, and who asks; or why it is refused. Takes no memory where a key or a length stands twice.

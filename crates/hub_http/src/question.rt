@@ -77,10 +77,10 @@ fn cancel_in(alloc: Global, place: Place, body: &[u8]) -> Result<Option<Cancel>,
 /// What is asked of the hub, with the body of the request, or `None` where it is cut; or why nothing is.
 pub(crate) fn question_of<'h>(
     alloc: Global,
-    asking: Asking<'h>,
+    asking: &Asking<'h>,
     body: Option<Items<u8>>,
 ) -> Result<Result<Posed<'h>, Refusal>, MemoryFault>
-    ensures { IfOk result (λ posed. told_questions posed ≡ spec.with_body (told asking.entry) body) }
+    ensures { IfOk result (λ posed. told_questions posed ≡ spec.with_body (told asking.now) body) }
 {
     let Some(body) = body else {
         return Ok(Err(Refusal::BadRequest));
@@ -88,8 +88,8 @@ pub(crate) fn question_of<'h>(
     let cancel = cancel_in(alloc, asking.routed.place, body.as_slice())?;
     match request_by(asking.routed, body, cancel) {
         Ok(request) => Ok(Ok(Posed {
-            gln: asking.asker.gln,
-            key: asking.asker.key,
+            gln: asking.gln,
+            key: asking.key,
             request,
         })),
         Err(refusal) => Ok(Err(refusal)),

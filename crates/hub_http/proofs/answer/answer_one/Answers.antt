@@ -1,13 +1,29 @@
-use Rattle.std.proofs.Common.{rules, inl, refl}
+use Rattle.std.proofs.Common.{rules, ◌≡◌, ◌+◌, ◌≤◌, Some, inl, refl, arith}
+use Rattle.http_head.specs.Head.{longest_head}
+use Rattle.hub_http.specs.Answer.{Steps, size_asked}
+use Rattle.hub_http.specs.Asked.{asked_by, longest_body}
+use Rattle.hub_http.proofs.Bounds.{asked_short, both_taken, taken_within}
 use Rattle.hub_http.proofs.Serving.{serves_none, serves_some}
 use Rattle.hub_http.proofs.answer.answer_one.Goals as goal
 
 pub returns-in-Some-clause-answered : goal.returns-in-Some-clause-answered
 returns-in-Some-clause-answered g c =
     let found = c.in_ok-head.ensures.head in
-    serves_some _ _ c.args.hub.now.0 _ _ c.in-Some.head c.answer_head.result (rw c.in-Some.is at found) c.answer_head.ensures.answers
+    serves_some (Steps g.S.Store.content g.S.Store.honest g.S.Store.left c.args.moment c.args.hub.now c.answer_head.new.hub)
+    (c.answer_head.new.hub ≡ c.args.hub.now) c.args.hub.now.0 _ _ _ c.in-Some.head c.answer_head.result
+    (rw c.in-Some.is at found) c.in_ok-head.ensures.limit c.answer_head.ensures.front c.answer_head.ensures.answers
+
+pub returns-in-Some-clause-front : goal.returns-in-Some-clause-front
+returns-in-Some-clause-front g c =
+    let short = asked_short c.args.hub.now.0 c.in-Some.head in
+    taken_within _ _ (longest_head + size_asked (asked_by c.args.hub.now.0 c.in-Some.head)) (longest_head + longest_body)
+    (omega (arith, short))
+    (both_taken _ _ _ longest_head (size_asked (asked_by c.args.hub.now.0 c.in-Some.head)) c.in_ok-head.ensures.limit
+    c.answer_head.ensures.front)
 
 pub returns-in-None-clause-answered : goal.returns-in-None-clause-answered
 returns-in-None-clause-answered g c =
     let found = c.in_ok-head.ensures.head in
-    serves_none _ _ c.args.hub.now.0 _ _ c.refused.result (rw c.in-None.is at found) (inl (refl, c.refused.ensures))
+    serves_none (Steps g.S.Store.content g.S.Store.honest g.S.Store.left c.args.moment c.args.hub.now c.args.hub.now)
+    (c.args.hub.now ≡ c.args.hub.now) c.args.hub.now.0 _ _ c.refused.result (rw c.in-None.is at found)
+    c.in_ok-head.ensures.limit (inl (refl, c.refused.ensures))

@@ -1,8 +1,10 @@
-use Rattle.std.proofs.Common.{rules, refl}
+use Rattle.std.proofs.Common.{rules, ◌≡◌, refl}
+use Rattle.hub_http.specs.Answer.{Steps}
 use Rattle.hub_http.proofs.Serving.{ended_cut, ended_whole}
 use Rattle.hub_http.proofs.serve.serve_one.Goals as goal
 
 pub returns-in-Ok-write_answer-clause-served : goal.returns-in-Ok-write_answer-clause-served
 returns-in-Ok-write_answer-clause-served g c =
-    ended_whole _ _ c.args.hub.now.0 _ _ _ _ c.as_u16.result c.in-Ok.ensures.answered c.in-Ok-write_answer.ensures.bytes
-    c.as_u16.ensures.value
+    ended_whole (Steps g.S.Store.content g.S.Store.honest g.S.Store.left c.args.moment c.args.hub.now c.answer_one.new.hub)
+    (c.answer_one.new.hub ≡ c.args.hub.now) c.args.hub.now.0 _ _ _ _ c.in-Ok.answer c.as_u16.result
+    c.in-Ok.ensures.answered c.in-Ok-write_answer.ensures.bytes c.as_u16.ensures.value
