@@ -1,0 +1,11 @@
+//! Tests of the public calls of the layers of HTTP, in one crate, so that no crate below is proved twice.
+#![tactic(auto)]
+
+#[cfg(test)]
+mod heads;
+#[cfg(test)]
+mod paths;
+#[cfg(test)]
+mod responses;
+#[cfg(test)]
+mod steps;

@@ -1,0 +1,98 @@
+use edi_base::{OfWrite, WriteFault};
+use http::StatusCode;
+use http_response::write_response;
+use std::alloc::Global;
+use std::io;
+use std::io::Write;
+use std::test::*;
+
+// The list of a mailbox with one order.
+const BODY: &[u8] = b"             1 ORDERS 128576\nend\n";
+
+const TEXT: &[u8] =
+    b"HTTP/1.1 200 OK\r\nContent-Type: application/octet-stream\r\nContent-Length: 33\r\nConnection: close\r\n\r\n             1 ORDERS 128576\nend\n";
+
+/// A writer with room for so many bytes, of which it takes a few at a time; then it takes nothing.
+#[derive(Drop)]
+struct Narrow {
+    written: Vec<u8>,
+    room: usize,
+}
+
+impl Write for Narrow {
+    fn write(&mut self, bytes: &[u8]) -> io::Result<usize> {
+        let count = bytes.len().min(7).min(self.room);
+        self.written.extend_from_slice(&bytes[..count])?;
+        self.room -= count;
+        Ok(count)
+    }
+
+    fn flush(&mut self) -> io::Result<()> {
+        Ok(())
+    }
+}
+
+/// What comes of a response over a writer with room for so many bytes, and what was written.
+fn written(
+    alloc: Global,
+    status: StatusCode,
+    body: &[u8],
+    room: usize,
+) -> (Result<(), WriteFault>, bool, Vec<u8>) {
+    let mut out = OfWrite::new(Narrow {
+        written: Vec::new(alloc),
+        room,
+    });
+    let result = write_response(&mut out, status, body);
+    let failed = out.failed();
+    (result, failed, out.into_inner().written)
+}
+
+static RESPONSES: [(u16, &[u8], &[u8]); 6] = [
+    (200, BODY, TEXT),
+    (
+        503,
+        b"stopped\n",
+        b"HTTP/1.1 503 Service Unavailable\r\nContent-Type: application/octet-stream\r\nContent-Length: 8\r\nConnection: close\r\n\r\nstopped\n",
+    ),
+    (
+        411,
+        b"length\n",
+        b"HTTP/1.1 411 Length Required\r\nContent-Type: application/octet-stream\r\nContent-Length: 7\r\nConnection: close\r\n\r\nlength\n",
+    ),
+    (
+        413,
+        b"too large\n",
+        b"HTTP/1.1 413 Payload Too Large\r\nContent-Type: application/octet-stream\r\nContent-Length: 10\r\nConnection: close\r\n\r\ntoo large\n",
+    ),
+    (
+        405,
+        b"",
+        b"HTTP/1.1 405 Method Not Allowed\r\nContent-Type: application/octet-stream\r\nContent-Length: 0\r\nConnection: close\r\n\r\n",
+    ),
+    // a status without a phrase of its own
+    (
+        599,
+        b"x",
+        b"HTTP/1.1 599 \r\nContent-Type: application/octet-stream\r\nContent-Length: 1\r\nConnection: close\r\n\r\nx",
+    ),
+];
+
+#[test]
+fn responses_are_written(rt: HostRuntime) -> Result<(), Fail> {
+    for (code, body, text) in &RESPONSES {
+        let Ok(status) = StatusCode::from_u16(*code) else {
+            return Err(Fail::from("a status"));
+        };
+        for room in [0, 9, text.len() - 1, text.len()] {
+            let (result, failed, written) = written(rt.alloc(), status, body, room);
+            let is_whole = room == text.len();
+            assert_eq!(rt;
+                (result.is_ok(), failed, Some(written.as_slice())),
+                (is_whole, !is_whole, text.get(..room)),
+                "{code} with room for {room}"
+            );
+        }
+    }
+    Ok(())
+}
