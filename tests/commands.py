@@ -1,6 +1,8 @@
 """Cases of the commands over a hub: words, a register, folders and a database file, step by step in one folder."""
 import os
+import pwd
 import re
+import shutil
 import subprocess
 import tempfile
 
@@ -303,6 +305,30 @@ def held_open(program):
         return f"the first: {printed[-100:]!r}" if printed.count(b" accepted\n") != 1500 else is_whole(folder)
 
 
+def unreadable(program):
+    """What is wrong where a file of a folder cannot be read, if anything. Root may read each file, so for root the program runs as nobody."""
+    with tempfile.TemporaryDirectory() as folder:
+        made_folder(folder, 3)
+        own = shutil.copy(program, os.path.join(folder, "program"))
+        shut, who = os.path.join(folder, "in", "01.edi"), {}
+        if not os.getuid():
+            nobody = pwd.getpwnam("nobody")
+            who = {"user": nobody.pw_uid, "group": nobody.pw_gid, "extra_groups": []}
+            for path, _, names in os.walk(folder):
+                for it in (path, *(os.path.join(path, name) for name in names)):
+                    os.chown(it, nobody.pw_uid, nobody.pw_gid)
+
+        def imports(mode, wanted, *words):
+            os.chmod(shut, mode)
+            ran = subprocess.run([own, *over("import", RETAILER, "--folder", "in")], cwd=folder, capture_output=True, timeout=60, **who)
+            lines = [("fault",) if word == "fault" else (f"interchange U{k} messages 1", f"1 ORDERS {word}") for k, word in enumerate(words)]
+            printed = "".join(told(f"file {k:02}.edi", *its) for k, its in enumerate(lines)).encode()
+            found = (ran.returncode, ran.stdout, ran.stderr)
+            return None if found == (wanted, printed, b"") else f"mode {mode:o}: {found!r:.300}"
+
+        return imports(0o000, 3, "accepted", "fault", "accepted") or imports(0o400, 0, "repeated", "accepted", "repeated")
+
+
 def day(program):
     """What is wrong with the days of the example, if anything."""
     example = os.path.join(os.path.dirname(os.path.abspath(__file__)), "..", "examples", "day")
@@ -312,4 +338,9 @@ def day(program):
     return None if (ran.returncode, ran.stdout, ran.stderr) == (0, wanted, b"") else f"{ran.returncode}, {ran.stdout!r:.300}, {ran.stderr!r:.100}"
 
 
-TRIALS = [("an import that is killed and made again", killed), ("a file that another command has open", held_open), ("the days of the example", day)]
+TRIALS = [
+    ("an import that is killed and made again", killed),
+    ("a file that another command has open", held_open),
+    ("a file of a folder that cannot be read", unreadable),
+    ("the days of the example", day),
+]

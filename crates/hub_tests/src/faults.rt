@@ -15,6 +15,7 @@ use hub_store::{LastingFault, Store, StoreFault};
 use hub_tables::{Change, OrderRow};
 use hub_trial::TrialStore;
 use std::alloc::Global;
+use std::slice;
 use std::test::Fail;
 
 // What is answered first, which fault is for good then, and what is answered again.
@@ -103,19 +104,18 @@ fn commit_listed(store: &mut VecStore, changes: &[Change]) -> Result<(), StoreFa
 
 const ORDER: &[u8] = b"128575";
 
-fn order(alloc: Global, supplier: Gln) -> Result<[Change; 1], MemoryFault> {
-    Ok([Change::AddOrder(OrderRow {
-        supplier,
-        number: copied(alloc, ORDER)?,
-    })])
+fn order(alloc: Global, supplier: Gln) -> Result<Change, MemoryFault> {
+    let number = copied(alloc, ORDER)?;
+    Ok(Change::AddOrder(OrderRow { supplier, number }))
 }
 
 #[test]
 fn a_fault_for_good_is_told_and_answered_again(rt: HostRuntime) -> Result<(), Fail> {
     let supplier = Gln::parse(b"4012345500004").ok_or("a GLN")?;
     let mut list = VecStore::new(rt.alloc());
-    let changes = order(rt.alloc(), supplier)?;
-    assert_eq!(rt; commit_listed(&mut list, &changes), Ok(()), "commit");
+    let change = order(rt.alloc(), supplier)?;
+    let done = commit_listed(&mut list, slice::from_ref(&change));
+    assert_eq!(rt; done, Ok(()), "commit");
     let found = ask_list_twice(&mut list, &supplier, ORDER);
     assert_eq!(rt; found, (Ok(true), None, Ok(true)), "lists");
     assert_eq!(rt; fault_of_list(&list), None, "no fault for good");

@@ -1,9 +1,6 @@
-//! Tests of the public calls of the register, the tables, the stores and the program's parts, in one crate, so that no
-//! crate below is proved twice.
+//! Tests of the public calls of the register, the tables and the stores, in one crate, so that no crate below is proved twice.
 #![tactic(auto)]
 
-#[cfg(test)]
-mod app;
 #[cfg(test)]
 mod faults;
 #[cfg(test)]

@@ -18,6 +18,7 @@ use hub_tables::{
 };
 use hub_trial::TrialStore;
 use std::alloc::Global;
+use std::slice;
 use std::test::Fail;
 
 const ALPHA: &[u8] = b"4012345500004";
@@ -41,12 +42,12 @@ struct Ids {
     moment: Moment,
 }
 
-fn ids_of(supplier: &[u8]) -> Result<Ids, Fail> {
-    Ok(Ids {
-        supplier: Gln::parse(supplier).ok_or("a GLN")?,
-        item: Gtin::parse(ITEM).ok_or("a GTIN")?,
-        pallet: Sscc::parse(PALLET).ok_or("an SSCC")?,
-        moment: Moment::new(1_748_942_400).ok_or("a moment")?,
+fn ids_of(supplier: &[u8]) -> Option<Ids> {
+    Some(Ids {
+        supplier: Gln::parse(supplier)?,
+        item: Gtin::parse(ITEM)?,
+        pallet: Sscc::parse(PALLET)?,
+        moment: Moment::new(1_748_942_400)?,
     })
 }
 
@@ -211,26 +212,98 @@ fn accepted(receipts: &[ReceiptRow]) -> (usize, u32) {
     (receipts.len(), first)
 }
 
-fn look_ups<S: Store>(store: &mut S, ids: Ids) -> Result<Seen, StoreFault> {
-    let supplier = &ids.supplier;
+// The look-ups, each by itself: its contract is then of no other's goals.
+fn is_remembered<S: Store>(store: &mut S, supplier: &Gln) -> Result<bool, StoreFault> {
     let content = store.remembered(supplier, Side::Retailer, b"1001", b"7")?;
-    let pallet = store.pallet(supplier, &ids.pallet)?;
+    Ok(content.map_or(false, |content| content.as_slice() == SAID))
+}
+
+fn is_known<S: Store>(store: &mut S, supplier: &Gln) -> Result<bool, StoreFault> {
+    store.order_known(supplier, ORDER)
+}
+
+fn lines<S: Store>(store: &mut S, supplier: &Gln) -> Result<u64, StoreFault> {
+    Ok(line_numbers(store.lines_of(supplier, ORDER)?.as_slice()))
+}
+
+fn is_advised<S: Store>(store: &mut S, supplier: &Gln) -> Result<bool, StoreFault> {
+    store.advice_known(supplier, b"DES1")
+}
+
+fn is_announced<S: Store>(store: &mut S, supplier: &Gln, sscc: &Sscc) -> Result<bool, StoreFault> {
+    let pallet = store.pallet(supplier, sscc)?;
+    Ok(pallet.map_or(false, |pallet| pallet.sscc == *sscc))
+}
+
+fn last<S: Store>(store: &mut S, supplier: &Gln) -> Result<u64, StoreFault> {
+    store.last_mail(supplier)
+}
+
+fn entry<S: Store>(store: &mut S, supplier: &Gln) -> Result<u64, StoreFault> {
     let entry = store.mail_item(supplier, 2)?;
-    Ok(Seen {
-        remembered: content.map_or(false, |content| content.as_slice() == SAID),
-        order: store.order_known(supplier, ORDER)?,
-        lines: line_numbers(store.lines_of(supplier, ORDER)?.as_slice()),
-        advice: store.advice_known(supplier, b"DES1")?,
-        pallet: pallet.map_or(false, |pallet| pallet.sscc == ids.pallet),
-        last: store.last_mail(supplier)?,
-        entry: entry.map_or(0, |entry| entry.number),
-        untaken: entry_numbers(store.mail_after(supplier, 0, 2)?.as_slice()),
-        all_lines: line_numbers(store.all_lines(supplier)?.as_slice()),
-        all_pallets: store.all_pallets(supplier)?.len(),
-        contents: quantity(store.contents_of(supplier, &ids.pallet)?.as_slice()),
-        receipts: accepted(store.receipts_of(supplier, &ids.pallet)?.as_slice()),
-        used: store.used(&ids.pallet)?,
-    })
+    Ok(entry.map_or(0, |entry| entry.number))
+}
+
+fn untaken<S: Store>(store: &mut S, supplier: &Gln) -> Result<u64, StoreFault> {
+    Ok(entry_numbers(store.mail_after(supplier, 0, 2)?.as_slice()))
+}
+
+fn all_lines<S: Store>(store: &mut S, supplier: &Gln) -> Result<u64, StoreFault> {
+    Ok(line_numbers(store.all_lines(supplier)?.as_slice()))
+}
+
+fn all_pallets<S: Store>(store: &mut S, supplier: &Gln) -> Result<usize, StoreFault> {
+    Ok(store.all_pallets(supplier)?.len())
+}
+
+fn contents<S: Store>(store: &mut S, ids: &Ids) -> Result<(usize, u32), StoreFault> {
+    Ok(quantity(store.contents_of(&ids.supplier, &ids.pallet)?.as_slice()))
+}
+
+fn receipts<S: Store>(store: &mut S, ids: &Ids) -> Result<(usize, u32), StoreFault> {
+    Ok(accepted(store.receipts_of(&ids.supplier, &ids.pallet)?.as_slice()))
+}
+
+fn is_used<S: Store>(store: &mut S, sscc: &Sscc) -> Result<bool, StoreFault> {
+    store.used(sscc)
+}
+
+fn see_order<S: Store>(store: &mut S, ids: &Ids, seen: &mut Seen) -> Result<(), StoreFault> {
+    seen.remembered = is_remembered(store, &ids.supplier)?;
+    seen.order = is_known(store, &ids.supplier)?;
+    seen.lines = lines(store, &ids.supplier)?;
+    seen.all_lines = all_lines(store, &ids.supplier)?;
+    Ok(())
+}
+
+fn see_mail<S: Store>(store: &mut S, ids: &Ids, seen: &mut Seen) -> Result<(), StoreFault> {
+    seen.last = last(store, &ids.supplier)?;
+    seen.entry = entry(store, &ids.supplier)?;
+    seen.untaken = untaken(store, &ids.supplier)?;
+    Ok(())
+}
+
+fn see_pallet<S: Store>(store: &mut S, ids: &Ids, seen: &mut Seen) -> Result<(), StoreFault> {
+    seen.pallet = is_announced(store, &ids.supplier, &ids.pallet)?;
+    seen.contents = contents(store, ids)?;
+    seen.receipts = receipts(store, ids)?;
+    Ok(())
+}
+
+fn see_goods<S: Store>(store: &mut S, ids: &Ids, seen: &mut Seen) -> Result<(), StoreFault> {
+    seen.advice = is_advised(store, &ids.supplier)?;
+    seen.all_pallets = all_pallets(store, &ids.supplier)?;
+    seen.used = is_used(store, &ids.pallet)?;
+    Ok(())
+}
+
+fn look_ups<S: Store>(store: &mut S, ids: &Ids) -> Result<Seen, StoreFault> {
+    let mut seen = NOTHING;
+    see_order(store, ids, &mut seen)?;
+    see_mail(store, ids, &mut seen)?;
+    see_pallet(store, ids, &mut seen)?;
+    see_goods(store, ids, &mut seen)?;
+    Ok(seen)
 }
 
 // Sets an entry of a mailbox as taken.
@@ -239,7 +312,7 @@ fn set_taken<S: Store>(store: &mut S, mut entry: MailRow) -> Result<(), StoreFau
     ensures only_memory { IsTrue S.plain → IfErr result (λ fault. fault ≡ Memory) }
 {
     entry.taken = Column::of(true);
-    store.commit(&[Change::SetMail(entry)])
+    store.commit(slice::from_ref(&Change::SetMail(entry)))
 }
 
 // Marks an entry of a mailbox as taken, where it is there.
@@ -265,6 +338,10 @@ fn take_listed(store: &mut VecStore, supplier: &Gln, number: u64) -> Result<bool
     ensures only_memory { IfErr result (λ fault. fault ≡ Memory) }
 {
     take_entry(store, supplier, number)
+}
+
+fn is_taken(store: &mut VecStore, supplier: &Gln, number: u64) -> Result<bool, StoreFault> {
+    take_listed(store, supplier, number)
 }
 
 // Whether any supplier has the pallet: lists always answer.
@@ -294,23 +371,24 @@ fn commit<S: Store>(store: &mut S, changes: &[Change]) -> Result<(), StoreFault>
 
 #[test]
 fn lists_answer_each_look_up(rt: HostRuntime) -> Result<(), Fail> {
-    let (alpha, beta) = (ids_of(ALPHA)?, ids_of(BETA)?);
+    let alpha = ids_of(ALPHA).ok_or("alpha")?;
+    let beta = ids_of(BETA).ok_or("beta")?;
     let mut store = TrialStore::new(VecStore::new(rt.alloc()));
     let changes = [ordered(rt.alloc(), alpha)?, despatched(rt.alloc(), alpha)?];
     for changes in &changes {
         assert_eq!(rt; commit(&mut store, changes.as_slice()), Ok(()));
     }
-    assert_eq!(rt; look_ups(&mut store, alpha), Ok(ALL), "alpha");
-    assert_eq!(rt; look_ups(&mut store, beta), Ok(NOTHING), "beta");
+    assert_eq!(rt; look_ups(&mut store, &alpha), Ok(ALL), "alpha");
+    assert_eq!(rt; look_ups(&mut store, &beta), Ok(NOTHING), "beta");
     assert_eq!(rt; (store.look_ups(), store.commits()), (26, 2), "calls");
     let mut list = store.into_store();
     for (number, is_there, untaken) in [(1, true, 2), (2, true, 0), (3, false, 0)] {
         assert_eq!(rt;
-            take_listed(&mut list, &alpha.supplier, number),
+            is_taken(&mut list, &alpha.supplier, number),
             Ok(is_there),
             "{number}"
         );
-        let found = look_ups(&mut list, alpha);
+        let found = look_ups(&mut list, &alpha);
         assert_eq!(rt;
             found,
             Ok(Seen { untaken, ..ALL }),
@@ -324,52 +402,80 @@ fn lists_answer_each_look_up(rt: HostRuntime) -> Result<(), Fail> {
 
 #[test]
 fn rows_under_keys_that_are_there_are_left_out(rt: HostRuntime) -> Result<(), Fail> {
-    let alpha = ids_of(ALPHA)?;
+    let alpha = ids_of(ALPHA).ok_or("alpha")?;
     let mut store = VecStore::new(rt.alloc());
     for round in ["new", "there"] {
         for changes in [ordered(rt.alloc(), alpha)?, despatched(rt.alloc(), alpha)?] {
             assert_eq!(rt; commit(&mut store, changes.as_slice()), Ok(()), "{round}");
         }
-        assert_eq!(rt; look_ups(&mut store, alpha), Ok(ALL), "{round}");
+        assert_eq!(rt; look_ups(&mut store, &alpha), Ok(ALL), "{round}");
     }
-    let none = [Change::SetLine(line(rt.alloc(), alpha, 3, 0)?)];
-    assert_eq!(rt; commit(&mut store, &none), Ok(()), "no such line");
-    assert_eq!(rt; look_ups(&mut store, alpha), Ok(ALL), "no such line");
+    let none = Change::SetLine(line(rt.alloc(), alpha, 3, 0)?);
+    let done = commit(&mut store, slice::from_ref(&none));
+    assert_eq!(rt; done, Ok(()), "no such line");
+    assert_eq!(rt; look_ups(&mut store, &alpha), Ok(ALL), "no such line");
     Ok(())
 }
 
+fn failing<S: Store + Drop>(store: S, calls: u64, fault: StoreFault) -> Option<TrialStore<S>> {
+    match fault {
+        StoreFault::Memory | StoreFault::Disk => Some(TrialStore::failing(store, calls, fault)),
+        StoreFault::Unclean | StoreFault::Version => None,
+    }
+}
+
+fn fault_for_good<S: Store>(store: &S) -> Option<LastingFault> {
+    store.fault()
+}
+
+// What a store answers round this one, where it fails at once for want of memory.
+fn known_around<S: Store + Drop>(store: S, supplier: &Gln) -> Option<Result<bool, StoreFault>> {
+    let mut outer = failing(store, 0, StoreFault::Memory)?;
+    Some(is_known(&mut outer, supplier))
+}
+
+// What a store answers to a commit and to two look-ups of its order, which fault is for good then, and what a store round it
+// answers.
+type Told = (
+    Result<(), StoreFault>,
+    Result<bool, StoreFault>,
+    Result<bool, StoreFault>,
+    Option<LastingFault>,
+    Option<Result<bool, StoreFault>>,
+);
+
+fn told<S: Store + Drop>(mut store: S, supplier: &Gln, changes: &[Change]) -> Told {
+    let done = commit(&mut store, changes);
+    let first = is_known(&mut store, supplier);
+    let second = is_known(&mut store, supplier);
+    let lasting = fault_for_good(&store);
+    let around = known_around(store, supplier);
+    (done, first, second, lasting, around)
+}
+
+const MEMORY: StoreFault = StoreFault::Memory;
+
+const DISK: StoreFault = StoreFault::Disk;
+
+const BROKEN: Option<LastingFault> = Some(LastingFault::Disk);
+
+// A fault, and behind how many calls it comes; and what is answered then.
+static FAILURES: [(StoreFault, u64, Told); 4] = [
+    (MEMORY, 0, (Err(MEMORY), Ok(false), Ok(false), None, Some(Err(MEMORY)))),
+    (MEMORY, 1, (Ok(()), Err(MEMORY), Ok(true), None, Some(Err(MEMORY)))),
+    (DISK, 0, (Err(DISK), Err(DISK), Err(DISK), BROKEN, Some(Err(DISK)))),
+    (DISK, 1, (Ok(()), Err(DISK), Err(DISK), BROKEN, Some(Err(DISK)))),
+];
+
 #[test]
 fn a_store_that_fails_keeps_its_rows(rt: HostRuntime) -> Result<(), Fail> {
-    let alpha = ids_of(ALPHA)?;
-    let (memory, disk) = (StoreFault::Memory, StoreFault::Disk);
-    for (fault, calls, done, first, second) in [
-        (memory, 0, Err(memory), Ok(false), Ok(false)),
-        (memory, 1, Ok(()), Err(memory), Ok(true)),
-        (disk, 0, Err(disk), Err(disk), Err(disk)),
-        (disk, 1, Ok(()), Err(disk), Err(disk)),
-    ] {
-        let mut store = TrialStore::failing(VecStore::new(rt.alloc()), calls, fault);
-        let changes = ordered(rt.alloc(), alpha)?;
-        let what = format!(in rt.alloc(); "{fault:?} behind {calls} calls")?;
-        assert_eq!(rt;
-            commit(&mut store, changes.as_slice()),
-            done,
-            "{what}: commit"
-        );
-        for (known, look_up) in [(first, "first"), (second, "second")] {
-            let found = store.order_known(&alpha.supplier, ORDER);
-            assert_eq!(rt; found, known, "{what}: {look_up} look-up");
-        }
-        let lasting = if fault == disk {
-            Some(LastingFault::Disk)
-        } else {
-            None
-        };
-        assert_eq!(rt; store.fault(), lasting, "{what}: for good");
-        let mut outer = TrialStore::failing(store, 0, memory);
-        let found = outer.order_known(&alpha.supplier, ORDER);
-        let first = if fault == disk { disk } else { memory };
-        assert_eq!(rt; found, Err(first), "{what}: round it");
+    let alpha = ids_of(ALPHA).ok_or("alpha")?;
+    let changes = ordered(rt.alloc(), alpha)?;
+    for (fault, calls, want) in &FAILURES {
+        let list = VecStore::new(rt.alloc());
+        let store = failing(list, *calls, *fault).ok_or("a fault")?;
+        let found = told(store, &alpha.supplier, changes.as_slice());
+        assert_eq!(rt; found, *want, "{fault:?} behind {calls} calls");
     }
     Ok(())
 }
