@@ -471,10 +471,26 @@ const BROKEN: Option<LastingFault> = Some(LastingFault::Disk);
 
 // A fault, and behind how many calls it comes; and what is answered then.
 static FAILURES: [(StoreFault, u64, Told); 4] = [
-    (MEMORY, 0, (Err(MEMORY), Ok(false), Ok(false), None, Some(Err(MEMORY)))),
-    (MEMORY, 1, (Ok(()), Err(MEMORY), Ok(true), None, Some(Err(MEMORY)))),
-    (DISK, 0, (Err(DISK), Err(DISK), Err(DISK), BROKEN, Some(Err(DISK)))),
-    (DISK, 1, (Ok(()), Err(DISK), Err(DISK), BROKEN, Some(Err(DISK)))),
+    (
+        MEMORY,
+        0,
+        (Err(MEMORY), Ok(false), Ok(false), None, Some(Err(MEMORY))),
+    ),
+    (
+        MEMORY,
+        1,
+        (Ok(()), Err(MEMORY), Ok(true), None, Some(Err(MEMORY))),
+    ),
+    (
+        DISK,
+        0,
+        (Err(DISK), Err(DISK), Err(DISK), BROKEN, Some(Err(DISK))),
+    ),
+    (
+        DISK,
+        1,
+        (Ok(()), Err(DISK), Err(DISK), BROKEN, Some(Err(DISK))),
+    ),
 ];
 
 #[test]

@@ -36,22 +36,22 @@ const FULL: u64 = 99_999_999_999_999;
 
 // Alpha's row of the register.
 fn alpha(alloc: Global) -> Result<SupplierRow, Fail> {
+    let gln = gln(ALPHA)?;
+    let prefix = Prefix::parse(b"40123455").ok_or("a prefix")?;
+    let key = Key::parse(b"alpha-key-1").ok_or("a key")?;
     let mut prefixes = Items::new(alloc);
-    prefixes.push(Prefix::parse(b"40123455").ok_or("a prefix")?)?;
-    Ok(SupplierRow {
-        gln: gln(ALPHA)?,
-        prefixes,
-        key: Key::parse(b"alpha-key-1").ok_or("a key")?,
-    })
+    prefixes.push(prefix)?;
+    Ok(SupplierRow { gln, prefixes, key })
 }
 
 // Message 7 of interchange 1001.
 fn delivery(alloc: Global) -> Result<IncomingMessage, Fail> {
+    let moment = Moment::new(1_748_942_400).ok_or("a moment")?;
     Ok(IncomingMessage {
         control: copied(alloc, b"1001")?,
         message: copied(alloc, b"7")?,
         content: copied(alloc, SAID.as_bytes())?,
-        moment: Moment::new(1_748_942_400).ok_or("a moment")?,
+        moment,
         decimal: b',',
     })
 }

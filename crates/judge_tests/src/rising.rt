@@ -38,12 +38,13 @@ pub(crate) fn facts(alloc: Global, line: Line) -> Result<LineFacts, Fail>
     if u64::from(open_qty) + u64::from(refused) + u64::from(cancelled) > u64::from(ordered) {
         return Err(Fail::new("a line that is not covered"));
     }
+    let (supplier, gtin) = (gln(ALPHA)?, gtin(ITEM)?);
     Ok(LineFacts {
         row: LineRow {
-            supplier: gln(ALPHA)?,
+            supplier,
             number: copied(alloc, order.as_bytes())?,
             line: number,
-            gtin: gtin(ITEM)?,
+            gtin,
             ordered,
             open_qty,
             refused,

@@ -138,8 +138,8 @@ fn despatch(alloc: Global, case: &DespatchCase) -> Result<Despatch, Fail>
 
 // Of the line 24 pieces are open.
 fn verdict(alloc: Global, case: &DespatchCase) -> Result<Verdict, Fail> {
-    let row = alpha(alloc)?;
     let retailer = gln(RETAILER)?;
+    let row = alpha(alloc)?;
     let despatch = despatch(alloc, case)?;
     let line = ("128576", 1, [48, 24, 24, 0, 0], Answered::Changed);
     let mut known = known(alloc, [BEFORE, line, BEHIND], case.remembered)?;

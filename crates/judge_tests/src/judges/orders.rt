@@ -108,6 +108,7 @@ line 4012345500004 128576 2 04000862141411 30 30 0 0 Waiting",
 
 // Order 128576 of two lines, of these parties.
 fn order(alloc: Global, buyer: &str, supplier: &str) -> Result<Order, Fail> {
+    let (buyer, supplier) = (gln(buyer)?, gln(supplier)?);
     let mut lines = Items::new(alloc);
     for (line, item, quantity) in [(7u32, ITEM, 48u32), (2, OTHER_ITEM, 30)] {
         lines.push(OrderLine {
@@ -118,28 +119,31 @@ fn order(alloc: Global, buyer: &str, supplier: &str) -> Result<Order, Fail> {
     }
     Ok(Order {
         number: copied(alloc, b"128576")?,
-        buyer: gln(buyer)?,
-        supplier: gln(supplier)?,
+        buyer,
+        supplier,
         lines,
     })
 }
 
+fn judged(
+    alloc: Global,
+    supplier: Option<&SupplierRow>,
+    known: &Known,
+    order: &Order,
+) -> Result<Verdict, Fail> {
+    let retailer = gln(RETAILER)?;
+    let delivery = delivery(alloc)?;
+    let body = copied(alloc, b"body")?;
+    Ok(judge_order(alloc, &retailer, supplier, known, delivery, body, order)?)
+}
+
 fn verdict(alloc: Global, case: &OrderCase) -> Result<Verdict, Fail> {
     let row = alpha(alloc)?;
-    let retailer = gln(RETAILER)?;
     let order = order(alloc, case.buyer, case.supplier)?;
     let mut known = known(alloc, [BEFORE, WAITING, BEHIND], case.remembered)?;
     known.number_known = case.is_number_known;
     known.mails = case.mails;
-    Ok(judge_order(
-        alloc,
-        &retailer,
-        registered(&row, case.is_registered),
-        &known,
-        delivery(alloc)?,
-        copied(alloc, b"body")?,
-        &order,
-    )?)
+    judged(alloc, registered(&row, case.is_registered), &known, &order)
 }
 
 #[test]

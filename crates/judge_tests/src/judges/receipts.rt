@@ -140,8 +140,9 @@ fn pallet(alloc: Global, sscc: &[u8], arrival: Option<Arrival>) -> Result<Option
     let Some(arrival) = arrival else {
         return Ok(None);
     };
+    let sscc = Sscc::parse(sscc).ok_or("an SSCC")?;
     Ok(Some(PalletRow {
-        sscc: Sscc::parse(sscc).ok_or("an SSCC")?,
+        sscc,
         supplier: gln(ALPHA)?,
         advice: copied(alloc, b"DA1")?,
         received: Column::of(arrival),
@@ -160,25 +161,37 @@ fn pallets(
     Ok(pallets)
 }
 
+// What comes of a receiving advice, where a pallet is known of each unit, or that there is none.
+fn judged(
+    alloc: Global,
+    supplier: Option<&SupplierRow>,
+    known: &Known,
+    receipt: &Receipt,
+) -> Result<Verdict, Fail>
+    requires apart { has_twice (map (λ unit. unit.sscc) receipt.now.units) ≡ false }
+    requires sums { list_all (λ unit. has_sums unit.lines) receipt.now.units ≡ true }
+{
+    if known.pallets.as_slice().len() != receipt.units.as_slice().len() {
+        return Err(Fail::new("not a pallet for each unit"));
+    }
+    let retailer = gln(RETAILER)?;
+    let delivery = delivery(alloc)?;
+    let body = copied(alloc, b"body")?;
+    Ok(judge_receipt(alloc, &retailer, supplier, known, delivery, body, receipt)?)
+}
+
 fn verdict(alloc: Global, case: &ReceiptCase) -> Result<Verdict, Fail> {
     let row = alpha(alloc)?;
-    let retailer = gln(RETAILER)?;
     let receipt = receipt(alloc, case.parties)?;
     let mut known = known(alloc, [BEFORE, WAITING, BEHIND], case.remembered)?;
     known.mails = case.mails;
     known.pallets = pallets(alloc, case.pallets)?;
-    if known.pallets.as_slice().len() != receipt.units.as_slice().len() {
-        return Err(Fail::new("not a pallet for each unit"));
-    }
-    Ok(judge_receipt(
+    judged(
         alloc,
-        &retailer,
         registered(&row, case.is_registered),
         &known,
-        delivery(alloc)?,
-        copied(alloc, b"body")?,
         &receipt,
-    )?)
+    )
 }
 
 #[test]

@@ -225,18 +225,19 @@ fn answer(alloc: Global, said: &Said) -> Result<Answer, Fail> {
 }
 
 fn response(alloc: Global, case: &ResponseCase) -> Result<Response, Fail> {
+    let (buyer, supplier) = (gln(RETAILER)?, gln(ALPHA)?);
     Ok(Response {
         number: copied(alloc, b"R1")?,
-        buyer: gln(RETAILER)?,
-        supplier: gln(ALPHA)?,
+        buyer,
+        supplier,
         order: copied(alloc, case.order.as_bytes())?,
         answer: answer(alloc, &case.said)?,
     })
 }
 
 fn verdict(alloc: Global, case: &ResponseCase) -> Result<Verdict, Fail> {
-    let row = alpha(alloc)?;
     let retailer = gln(RETAILER)?;
+    let row = alpha(alloc)?;
     let response = response(alloc, case)?;
     let known = known(alloc, *case.lines, None)?;
     let delivery = delivery(alloc)?;
