@@ -43,4 +43,4 @@ no_asker register party key right none =
 -- what is read as no GLN is none
 pub no_gln : (text : List ℕ) → gln_of text ≡ None → is_gln text ≡ false
 no_gln text none =
-    false_from_ne_true (is_gln text) (λ is. none-some (sym none ∙ ap (λ (b : Bool). cond b (Some text) None) is))
+    false_from_ne_true (is_gln text) (λ is. none-some text (sym none ∙ ap (λ (b : Bool). cond b (Some text) None) is))

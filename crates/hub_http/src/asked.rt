@@ -1,5 +1,5 @@
 //! What the head of a request asks for, and who asks.
-ghost use Rattle.std.specs.Prelude.{◌≡◌, codes, Some, option_map, List, ◌∷◌, ℕ, IfOk, IsOk, IsFalse};
+ghost use Rattle.std.specs.Prelude.{◌≡◌, codes, Some, option_map, IfOk, IsOk, IsFalse};
 ghost use Rattle.http_head.specs.Fields.{values_of};
 ghost use Rattle.http_routes.specs.Routes.{shown};
 ghost use Rattle.hub_http.specs.Asked as spec;
@@ -89,10 +89,7 @@ fn method_of(place: Place) -> &'static [u8]
 fn has_number(place: Place) -> bool
     ensures { result ≡ spec.has_number place }
 {
-    matches!(
-        place,
-        Place::MailAfter | Place::MailItem | Place::MailTaken
-    )
+    matches!(place, Place::MailAfter | Place::MailItem | Place::MailTaken)
 }
 
 // Whether the number in a path is one.
@@ -131,12 +128,12 @@ fn asker_by<'h, S: Store>(hub: &Hub<S>, party: &[u8], key: &'h [u8]) -> Option<A
 }
 
 // The party of the path, with the one key of the head.
-fn asker_of<'h, S: Store>(hub: &Hub<S>, party: &[u8], head: &'h Head) -> Option<Asker<'h>>
-    ensures { (parts : List (List ℕ)) → option_map told_asker result ≡ spec.asker_of hub.now.0 (party.now ∷ parts)
+fn asker_of<'h, S: Store>(hub: &Hub<S>, routed: Routed<'_>, head: &'h Head) -> Option<Asker<'h>>
+    ensures { option_map told_asker result ≡ spec.asker_of hub.now.0 (shown routed.entry).1
         (values_of (codes "X-Hub-Key") head.now.fields) }
 {
     match head.values(b"X-Hub-Key") {
-        Values::One(key) => asker_by(hub, party, key),
+        Values::One(key) => asker_by(hub, routed.party, key),
         _ => None,
     }
 }
@@ -214,7 +211,7 @@ fn by_party<'h, S: Store>(
     ensures { told_result result ≡ spec.by_asker routed.entry.place (shown routed.entry).1 head.now.fields
         (spec.asker_of hub.now.0 (shown routed.entry).1 (values_of (codes "X-Hub-Key") head.now.fields)) }
 {
-    match asker_of(hub, routed.party, head) {
+    match asker_of(hub, routed, head) {
         Some(asker) => by_asker(routed, head, asker.role, asker.gln, asker.key),
         None => Err(Refusal::Denied),
     }
