@@ -1,5 +1,6 @@
 mod Asking
 mod Bounds
 mod Callers
+mod Examples
 mod Judging
 mod Serving

@@ -1,4 +1,4 @@
-use Rattle.std.proofs.Common.{rules, ◌≡◌, true}
+use Rattle.std.proofs.Common.{◌≡◌, true}
 use Rattle.hub_http.specs.Answer.{Steps}
 use Rattle.hub_http.specs.Question.{with_body}
 use Rattle.hub_http.specs.Told.{told}

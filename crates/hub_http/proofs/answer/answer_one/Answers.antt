@@ -1,4 +1,4 @@
-use Rattle.std.proofs.Common.{rules, ◌≡◌, ◌+◌, ◌≤◌, Some, inl, refl, arith}
+use Rattle.std.proofs.Common.{◌≡◌, ◌+◌, inl, refl, arith}
 use Rattle.http_head.specs.Head.{longest_head}
 use Rattle.hub_http.specs.Answer.{Steps, size_asked}
 use Rattle.hub_http.specs.Asked.{asked_by, longest_body}

@@ -1,6 +1,6 @@
-use Rattle.std.proofs.Common.{rules, ◌≡◌, ◌∙◌, ap, sym, false, None}
+use Rattle.std.proofs.Common.{rules, ◌≡◌, ◌∙◌, ap, None}
 use Rattle.std.specs.Prelude.{option_map}
-use Rattle.gs1_ids.specs.Gln.{is_gln, gln_of}
+use Rattle.gs1_ids.specs.Gln.{gln_of}
 use Rattle.hub_http.specs.Told.{told_asker}
 use Rattle.hub_http.proofs.Callers.{no_asker, no_gln}
 use Rattle.hub_http.proofs.asked.asker_by.Goals as goal

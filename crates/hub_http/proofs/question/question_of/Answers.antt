@@ -1,4 +1,4 @@
-use Rattle.std.proofs.Common.{rules, ◌≡◌, ◌∙◌, ap, sym, Ok, Err}
+use Rattle.std.proofs.Common.{◌∙◌, ap, sym, Ok, Err}
 use Rattle.hub_texts.specs.Cancel.{cancel_of}
 use Rattle.hub_http.specs.Told.{told}
 use Rattle.hub_http.proofs.Asking.{asked_with}

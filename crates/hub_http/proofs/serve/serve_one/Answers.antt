@@ -1,6 +1,6 @@
-use Rattle.std.proofs.Common.{rules, ◌≡◌, refl}
+use Rattle.std.proofs.Common.{◌≡◌}
 use Rattle.hub_http.specs.Answer.{Steps}
-use Rattle.hub_http.proofs.Serving.{ended_cut, ended_whole}
+use Rattle.hub_http.proofs.Serving.{ended_whole}
 use Rattle.hub_http.proofs.serve.serve_one.Goals as goal
 
 pub returns-in-Ok-write_answer-clause-served : goal.returns-in-Ok-write_answer-clause-served
