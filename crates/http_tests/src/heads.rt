@@ -235,8 +235,8 @@ fn key_is(head: &Head, want: Key) -> bool {
     }
 }
 
-/// Whether the head is the row's, and ends where the row does.
-fn is_head_of(head: &Head, row: &Row, size: usize, taken: usize) -> bool {
+/// Whether the head is the row's, ends where the row does, and was read in no more steps than it needs.
+fn is_head_of(head: &Head, row: &Row, step: usize, size: usize, taken: usize) -> bool {
     let Some((method, target, key)) = row.5 else {
         return false;
     };
@@ -244,6 +244,7 @@ fn is_head_of(head: &Head, row: &Row, size: usize, taken: usize) -> bool {
         && head.target() == target
         && key_is(head, key)
         && taken.saturating_sub(head.rest().len()) == size
+        && head.rest().len() < step
         && BEHIND.starts_with(head.rest())
 }
 
@@ -256,7 +257,7 @@ fn heads_are_read(rt: HostRuntime) -> Result<(), Fail> {
         for step in [1, 5, 4096, 10_000] {
             let (result, taken, failed) = read(&bytes, step, 20_000);
             let is_right = match &result {
-                Ok(Some(head)) => is_head_of(head, row, size, taken),
+                Ok(Some(head)) => is_head_of(head, row, step, size, taken),
                 Ok(None) => row.5.is_none(),
                 Err(_) => false,
             };
