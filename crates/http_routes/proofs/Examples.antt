@@ -1,5 +1,5 @@
 -- What paths name, computed: the seven places, and paths that name none.
-use Rattle.std.proofs.Common.{◌≡◌, List, [], ◌∷◌, ℕ, Option, Some, None, codes, refl}
+use Rattle.std.proofs.Common.{◌≡◌, [], ◌∷◌, Some, None, codes, refl}
 use Rattle.matchit.proofs.OnLiterals.{matchit_on_literals}
 use Rattle.http_routes.specs.Routes.{seven, place_at}
 use Rattle.http_routes.specs.declared.routes.Place.TheVariants.{Interchanges, MailAfter, MailItem, MailTaken}
