@@ -1,5 +1,5 @@
 -- The values of options.
-use Rattle.std.specs.Prelude.{ℕ, ◌++◌, if◌then◌else◌, nat_le, List, [], ◌∷◌, Option, Some, None, option_map}
+use Rattle.std.specs.Prelude.{ℕ, ◌++◌, ◌&&◌, if◌then◌else◌, nat_le, List, [], ◌∷◌, Option, Some, None, option_map}
 use Rattle.std.specs.Prelude.{option_and_then}
 use Rattle.clap.specs.Words.{Row, Text, first_of}
 use Rattle.edi_envelope.specs.Moment.{last_moment}
@@ -8,6 +8,18 @@ pub use Rattle.hub_texts.specs.Number.{number_in as number_of}
 -- the moment that they write
 abbrev pub moment_of : Text → Option ℕ
 moment_of text = option_and_then (λ number. if nat_le number last_moment then Some number else None) (number_of text)
+
+-- a number within limits
+abbrev pub within : ℕ → ℕ → ℕ → Option ℕ
+within least most number = if nat_le least number && nat_le number most then Some number else None
+
+-- the port that they write, where a server may listen on it by its number
+abbrev pub port_of : Text → Option ℕ
+port_of text = option_and_then (within 1 65535) (number_of text)
+
+-- how many connections they say
+abbrev pub count_of : Text → Option ℕ
+count_of text = option_and_then (within 1 1000000) (number_of text)
 
 -- an option that may be left out
 abbrev pub if_given : {X : Type 0} → (Text → Option X) → Option Text → Option (Option X)

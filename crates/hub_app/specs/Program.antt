@@ -54,6 +54,11 @@ cancel = over_a_hub (codes "cancel") (
     wanted (codes "supplier") ∷ wanted (codes "reference") ∷ wanted (codes "order") ∷ wanted (codes "line")
     ∷ wanted (codes "quantity") ∷ [])
 
+abbrev pub serve : Shape
+serve = with_options (codes "serve") (
+    wanted (codes "register") ∷ wanted (codes "db") ∷ wanted (codes "port") ∷ wanted (codes "count")
+    ∷ offered (codes "moment") ∷ [])
+
 -- the program before its commands, of which it wants one
 abbrev pub bare : App
 bare = record {
@@ -65,7 +70,7 @@ bare = record {
 abbrev pub edihub : App
 edihub = record {
   top = record bare.top { is_leaf = false };
-  subs = check ∷ relay ∷ show ∷ import ∷ status ∷ mail ∷ cancel ∷ [];
+  subs = check ∷ relay ∷ show ∷ import ∷ status ∷ mail ∷ cancel ∷ serve ∷ [];
 }
 
 -- a command of this shape, with no subcommand and no option for all levels

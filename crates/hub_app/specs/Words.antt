@@ -6,12 +6,13 @@ use Rattle.hub_app.specs.declared.words.CancelLines.{CancelLines}
 use Rattle.hub_app.specs.declared.words.HubTask.{HubTask}
 use Rattle.hub_app.specs.declared.words.HubTask.TheVariants.{Import, Status, MailAfter, MailItem, MailTaken, Cancel}
 use Rattle.hub_app.specs.declared.words.HubWords.{HubWords}
+use Rattle.hub_app.specs.declared.words.ServeWords.{ServeWords}
 use Rattle.hub_app.specs.declared.words.Words.{Words}
-use Rattle.hub_app.specs.declared.words.Words.TheVariants.{Check, Relay, Show, Hub}
+use Rattle.hub_app.specs.declared.words.Words.TheVariants.{Check, Relay, Show, Hub, Serve}
 use Rattle.hub_app.specs.declared.words.WordsFault.{WordsFault}
 use Rattle.hub_app.specs.declared.words.WordsFault.TheVariants.{Memory}
 use Rattle.hub_app.specs.declared.relay.RelayWords.{RelayWords}
-use Rattle.hub_app.specs.Options.{number_of, moment_of, if_given, values_of, in_lines}
+use Rattle.hub_app.specs.Options.{number_of, moment_of, port_of, count_of, if_given, values_of, in_lines}
 use Rattle.hub_app.specs.Program.{edihub}
 use Rattle.hub_app.specs.Relay.{AreRelayWords, relay_words_of}
 use Rattle.hub_rules.specs.declared.cancel.Cancel.{Cancel as Cancellation}
@@ -61,6 +62,14 @@ pub record IsHub (rows : List Row) (words : HubWords) : Type 0 where
   pub key : first_of (codes "key") rows ≡ Some words.key.now
   pub moment : if_given moment_of (first_of (codes "moment") rows) ≡ Some words.moment
 
+-- the options of `serve`
+pub record IsServe (rows : List Row) (words : ServeWords) : Type 0 where
+  pub register : first_of (codes "register") rows ≡ Some words.register.now
+  pub db : first_of (codes "db") rows ≡ Some words.db.now
+  pub port : option_and_then port_of (first_of (codes "port") rows) ≡ Some words.port
+  pub count : option_and_then count_of (first_of (codes "count") rows) ≡ Some words.count
+  pub moment : if_given moment_of (first_of (codes "moment") rows) ≡ Some words.moment
+
 -- what a command with these options asks for
 abbrev pub Asks : Text → List Row → Words → Type 0
 Asks command rows (Check words) =
@@ -68,6 +77,7 @@ Asks command rows (Check words) =
 Asks command rows (Relay words) = (command ≡ codes "relay") × IsRelay rows words
 Asks command rows Show = command ≡ codes "show"
 Asks command rows (Hub words) = IsTask command rows words.task × IsHub rows words
+Asks command rows (Serve words) = (command ≡ codes "serve") × IsServe rows words
 
 -- the same of a command over a hub alone
 abbrev pub IsOverHub : Text → List Row → Words → Type 0

@@ -33,6 +33,30 @@ pub(crate) fn moment(text: &str) -> Option<Moment>
     Moment::new(number(text)?)
 }
 
+/// The port of 1 to 14 digits, 1 to 65535.
+pub(crate) fn port(text: &str) -> Option<u16>
+    ensures { result ≡ spec.port_of text.now }
+{
+    let number = number(text)?;
+    if 1 <= number && number <= 65_535 {
+        Some(number as u16)
+    } else {
+        None
+    }
+}
+
+/// The count of connections of 1 to 14 digits, 1 to 1,000,000.
+pub(crate) fn count(text: &str) -> Option<u64>
+    ensures { result ≡ spec.count_of text.now }
+{
+    let number = number(text)?;
+    if 1 <= number && number <= 1_000_000 {
+        Some(number)
+    } else {
+        None
+    }
+}
+
 /// The GLN of 13 digits, the last of them its check digit.
 pub(crate) fn gln(text: &str) -> Option<Gln>
     ensures { result ≡ gln_of text.now }

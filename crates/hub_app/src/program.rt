@@ -3,7 +3,7 @@
 ghost use Rattle.std.specs.Prelude.{◌≡◌, [], false, IfOk};
 ghost use Rattle.clap.specs.Words.{app_of, rule_of};
 ghost use Rattle.hub_app.specs.Program.{wanted, offered, over_a_hub, IsCommand, bare, check, relay, show, import};
-ghost use Rattle.hub_app.specs.Program.{status, mail, cancel, edihub};
+ghost use Rattle.hub_app.specs.Program.{status, mail, cancel, serve, edihub};
 
 use clap::{Arg, ArgAction, Command};
 use std::alloc::{AllocError, Global};
@@ -273,6 +273,57 @@ fn cancel_command<'a>(alloc: Global) -> Result<Command<'a>, AllocError>
         .arg(option(alloc, "quantity", "N", "Pieces to cancel, 1 to 999999999"))
 }
 
+const SERVE: &str = "Serves requests over HTTP on 127.0.0.1, one connection after another";
+
+const SERVE_HELP: &str = "The program listens on 127.0.0.1 alone: who asks from elsewhere comes through a reverse proxy, which has the
+name and TLS. It serves as many connections as it is told, and ends; whoever supervises it begins it anew.
+
+  edihub serve --register register.toml --db hub.db --port 8080 --count 100000
+
+prints, once it listens, and then of each connection its number and the status that was answered:
+
+  listening 8080
+  connection 1 200
+  connection 2 403
+  connection 3 fault
+
+A fault is a connection that failed: its client went away, sent or took nothing for too long, or 10 seconds
+were over. Nobody is answered then, and the next connection is served.
+
+A request to the hub as it runs, and its answer:
+
+  curl -H 'X-Hub-Key: alpha-key-1' http://127.0.0.1:8080/p/4012345500004/mail/after/0
+
+Exit status: 0 all connections were answered 200; 1 one was not, or the register has a fault; 2 usage error; 3 a connection failed or was answered 503, a file or the database failed, the port cannot be listened on, or out of memory";
+
+fn serve_command<'a>(alloc: Global) -> Result<Command<'a>, AllocError>
+    ensures { IfOk result (IsCommand serve) }
+{
+    Command::new(alloc, "serve")
+        .about(SERVE)
+        .after_help(SERVE_HELP)
+        .arg(option(alloc, "register", "FILE", "The register, a TOML file"))?
+        .arg(option(
+            alloc,
+            "db",
+            "FILE",
+            "The hub's database; a new one is made where there is none",
+        ))?
+        .arg(option(alloc, "port", "N", "Port to listen on, 1 to 65535"))?
+        .arg(option(
+            alloc,
+            "count",
+            "N",
+            "How many connections to serve, 1 to 1000000",
+        ))?
+        .arg(extra(
+            alloc,
+            "moment",
+            "SECONDS",
+            "Moment of every connection, in seconds since 1970 began at UTC, at most 4102444799 [default: when it comes]",
+        ))
+}
+
 const VERSION: &str = "1.0.0";
 
 // The program without its commands.
@@ -296,5 +347,6 @@ pub(crate) fn program<'a>(alloc: Global) -> Result<Command<'a>, AllocError>
         .subcommand(import_command(alloc)?)?
         .subcommand(status_command(alloc)?)?
         .subcommand(mail_command(alloc)?)?
-        .subcommand(cancel_command(alloc)?)
+        .subcommand(cancel_command(alloc)?)?
+        .subcommand(serve_command(alloc)?)
 }

@@ -6,10 +6,10 @@ ghost use Rattle.hub_app.specs.Options as spec;
 ghost use Rattle.hub_app.specs.Options.{Finds, if_given, moment_of, values_of};
 ghost use Rattle.hub_app.specs.Relay.{AreRelayWords};
 ghost use Rattle.hub_texts.specs.Cancel as body;
-ghost use Rattle.hub_app.specs.Words.{cancel_options, texts_of, AreWords, Asks, IsHub, IsOverHub, IsRelay, IsTask};
+ghost use Rattle.hub_app.specs.Words.{cancel_options, texts_of, AreWords, Asks, IsHub, IsOverHub, IsRelay, IsServe, IsTask};
 ghost use Rattle.hub_app.specs.Words.{Names, Refuses, Say};
 
-use crate::options::{gln, in_lines, moment, number, text};
+use crate::options::{count, gln, in_lines, moment, number, port, text};
 use crate::program::program;
 use crate::relay::RelayWords;
 use clap::error::ErrorKind;
@@ -62,6 +62,21 @@ pub struct HubWords<'a> {
     pub task: HubTask<'a>,
 }
 
+/// What `serve` is asked for.
+#[derive(Debug, Drop)]
+pub struct ServeWords<'a> {
+    /// The path of the register's file.
+    pub register: &'a str,
+    /// The path of the database's file.
+    pub db: &'a str,
+    /// The port to listen on, 1 to 65,535.
+    pub port: u16,
+    /// How many connections to serve, 1 to 1,000,000.
+    pub count: u64,
+    /// The moment of every connection; of each the one at which it comes where there is none.
+    pub moment: Option<Moment>,
+}
+
 /// What the words ask for: a command with its options.
 #[derive(Drop)]
 pub enum Words<'a> {
@@ -69,6 +84,7 @@ pub enum Words<'a> {
     Relay(RelayWords),
     Show,
     Hub(HubWords<'a>),
+    Serve(ServeWords<'a>),
 }
 
 /// Why words are not read.
@@ -247,6 +263,19 @@ fn hub_words<'a>(options: &ArgMatches<'a>, task: HubTask<'a>) -> Option<HubWords
     })
 }
 
+// The options of `serve`, where each is within its limits.
+fn serve_words<'a>(options: &ArgMatches<'a>) -> Option<ServeWords<'a>>
+    ensures { Finds (IsServe (rows_of (found_of options.now))) result }
+{
+    Some(ServeWords {
+        register: text(options, "register")?,
+        db: text(options, "db")?,
+        port: port(text(options, "port")?)?,
+        count: count(text(options, "count")?)?,
+        moment: named_moment(options)?,
+    })
+}
+
 // What a command over a hub with these options asks for.
 fn over_a_hub<'a>(
     alloc: Global,
@@ -284,6 +313,10 @@ fn command_words<'a>(
             None => Ok(None),
         },
         "show" => Ok(Some(Words::Show)),
+        "serve" => match serve_words(options) {
+            Some(words) => Ok(Some(Words::Serve(words))),
+            None => Ok(None),
+        },
         _ => over_a_hub(alloc, command, options),
     }
 }
@@ -300,12 +333,16 @@ const MAIL_LIMITS: &str =
 const CANCEL_LIMITS: &str =
     "a GLN is 13 digits with a right check digit, --moment is 0 to 4102444799, --reference is 1 to 14 and --order 1 to 35 printable ASCII characters, --line is 1 to 999999, and --quantity is 1 to 999999999";
 
+const SERVE_LIMITS: &str =
+    "--port is 1 to 65535, --count is 1 to 1000000, and --moment is 0 to 4102444799";
+
 // What is wrong with options that are against their limits.
 fn limits(command: Option<&str>) -> &'static str {
     match command {
         Some("relay") => RELAY_LIMITS,
         Some("mail") => MAIL_LIMITS,
         Some("cancel") => CANCEL_LIMITS,
+        Some("serve") => SERVE_LIMITS,
         _ => HUB_LIMITS,
     }
 }

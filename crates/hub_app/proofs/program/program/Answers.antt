@@ -10,5 +10,6 @@ returns c =
     c.in_ok-import_command.ensures c.in_ok-subcommand-4.ensures in
     let six = more_commands (more_commands four c.in_ok-status_command.ensures c.in_ok-subcommand-5.ensures)
     c.in_ok-mail_command.ensures c.in_ok-subcommand-6.ensures in
-    IfOk-weaker c.subcommand-7.result _ _ (λ new added. more_commands six c.in_ok-cancel_command.ensures added)
-    c.subcommand-7.ensures
+    let seven = more_commands six c.in_ok-cancel_command.ensures c.in_ok-subcommand-7.ensures in
+    IfOk-weaker c.subcommand-8.result _ _ (λ new added. more_commands seven c.in_ok-serve_command.ensures added)
+    c.subcommand-8.ensures

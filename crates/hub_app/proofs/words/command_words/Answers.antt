@@ -8,5 +8,6 @@ returns-in_default-clause-found c =
     let command = c.args.command.now in
     let rows = rows_of (found_of c.args.options.now) in
     IfOk-weaker c.over_a_hub.result _ _
-    (finds_asked command rows c.in_default.not-check c.in_default.not-relay c.in_default.not-show)
+    (finds_asked command rows c.in_default.not-check c.in_default.not-relay c.in_default.not-show
+    c.in_default.not-serve)
     c.over_a_hub.ensures.found
