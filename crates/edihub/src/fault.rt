@@ -13,6 +13,8 @@ pub(crate) enum BeginFault {
     Register(RegisterFault),
     /// The database file was not opened.
     Store(StoreFault),
+    /// The port cannot be listened on, or no more connections can be taken.
+    Listen,
     /// The clock does not answer, or is out of range.
     Clock,
     /// A file or folder cannot be read.
@@ -26,7 +28,11 @@ impl BeginFault {
     pub(crate) fn status(self) -> u8 {
         match self {
             BeginFault::Register(_) => 1,
-            BeginFault::Store(_) | BeginFault::Clock | BeginFault::File | BeginFault::Memory => 3,
+            BeginFault::Store(_)
+            | BeginFault::Listen
+            | BeginFault::Clock
+            | BeginFault::File
+            | BeginFault::Memory => 3,
         }
     }
 }
@@ -49,6 +55,7 @@ impl fmt::Display for BeginFault {
                 let word = word_of(*fault);
                 write!(f, "store {word}")
             }
+            BeginFault::Listen => f.write_str("listen"),
             BeginFault::Clock => f.write_str("clock"),
             BeginFault::File => f.write_str("file"),
             BeginFault::Memory => f.write_str("memory"),

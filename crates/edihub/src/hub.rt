@@ -26,14 +26,14 @@ struct Caller<'a> {
 }
 
 // The register in a file.
-fn register_at(rt: &HostRuntime, path: &str) -> Result<Register, BeginFault> {
+pub(crate) fn register_at(rt: &HostRuntime, path: &str) -> Result<Register, BeginFault> {
     let file = File::open(rt, path).map_err(|_| BeginFault::File)?;
     let text = read_register_text(rt.alloc(), &mut OfRead::new(file))?;
     Ok(Register::from_toml(rt.alloc(), text.as_str())?)
 }
 
 // What the clock tells.
-fn now(rt: &HostRuntime) -> Result<Moment, BeginFault> {
+pub(crate) fn now(rt: &HostRuntime) -> Result<Moment, BeginFault> {
     let time = Timestamp::now(rt).map_err(|_| BeginFault::Clock)?;
     let seconds = u64::try_from(time.as_second()).map_err(|_| BeginFault::Clock)?;
     Moment::new(seconds).ok_or(BeginFault::Clock)

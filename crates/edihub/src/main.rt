@@ -3,10 +3,12 @@
 
 mod fault;
 mod hub;
+mod serve;
 
 use clap::Error;
 use edi_tokens::{OfRead, OfWrite};
 use hub::over_a_hub;
+use serve::serve_a_hub;
 use hub_app::{
     FAILED, Words, WordsFault, check_run, read_register_text, read_words, relay_run, show_run,
 };
@@ -66,6 +68,7 @@ fn run(rt: &HostRuntime, words: &[String]) -> u8 {
             &mut OfWrite::new(rt.stderr()),
         ),
         Ok(Words::Hub(words)) => over_a_hub(rt, words),
+        Ok(Words::Serve(words)) => serve_a_hub(rt, &words),
         Err(WordsFault::Told(error)) => tell_words(rt, &error),
         Err(WordsFault::Memory) => tell(rt, "memory", FAILED),
     }

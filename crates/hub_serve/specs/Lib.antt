@@ -1,0 +1,4 @@
+pub mod Connections
+pub mod One
+pub mod Output
+pub mod Serve

@@ -1,0 +1,38 @@
+-- What one connection does.
+use Rattle.std.specs.Prelude.{◌≡◌, ⊤, ℕ, Option, Some, None, List, Result, Ok, Err}
+use Rattle.hub_core.specs.Steps.{Stepped}
+use Rattle.hub_law.specs.declared.reply.Reply.{Reply}
+use Rattle.hub_law.specs.declared.request.Input.{Input}
+use Rattle.hub_parties.specs.Rows.{RegisterRows}
+use Rattle.hub_rules.specs.Sound.{Sound}
+use Rattle.hub_tables.specs.Tables.{Tables}
+use Rattle.hub_serve.specs.Connections.{Coming, TakesOne}
+use Rattle.hub_serve.specs.Serve.{Asked, Connection, IsServed, input_in}
+use Rattle.hub_serve.specs.declared.line.Ending.{Ending}
+
+-- an input was asked of the hub, and this was the reply
+abbrev pub DoesTo : {S : Type 0} → (S → Tables) → (S → Type 0) → (S → Tables → Type 0) → RegisterRows × S
+    → RegisterRows × S → Input → Reply → Type 0
+DoesTo content honest left old new input reply =
+    honest new.1 → Sound old.0.suppliers (content old.1)
+    → Stepped old.0 (content old.1) (content new.1) (left old.1) (left new.1) input reply
+
+-- what was asked was done, or nothing was
+abbrev pub Did : (Input → Reply → Type 0) → Type 0 → Option Asked → Type 0
+Did Does Same None = Same
+Did Does Same (Some asked) = Does (input_in asked) asked.reply
+
+-- a connection was served and ended so
+pub record ServesOne (Does : Input → Reply → Type 0) (Same : Type 0) (register : RegisterRows) (known rest : Coming)
+    (ending : Ending) : Type 0 where
+  pub one : Connection
+  pub ends : one.ending ≡ ending
+  pub takes : TakesOne known rest one.bytes
+  pub is : IsServed register one
+  pub did : Did Does Same one.asked
+
+-- the next connection; where there is none, nothing was done
+abbrev pub ServesNext : {E : Type 0} → (Input → Reply → Type 0) → Type 0 → RegisterRows → Coming → Coming
+    → Result Ending E → Type 0
+ServesNext Does Same register known rest (Ok ending) = ServesOne Does Same register known rest ending
+ServesNext Does Same register known rest (Err none) = Same

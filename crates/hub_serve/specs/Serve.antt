@@ -1,0 +1,137 @@
+-- Connections served one after another: what became of each, what is printed, and the exit status.
+use Rattle.std.specs.Prelude.{◌≡◌, ◌⊎◌, ℕ, ◌+◌, ◌<◌, ◌≤◌, max, ◌==◌, if◌then◌else◌, Bool, true, List, [], ◌∷◌, ◌++◌}
+use Rattle.std.specs.Prelude.{length, map, flat_map, fold, codes, decimal, Option, Some, None, Result, Ok, Err, IfSome}
+use Rattle.std.specs.List.{AllByRecursion}
+use Rattle.hub_core.specs.Steps.{Stepped, input_of}
+use Rattle.hub_http.specs.Answer.{outcome_status, passes}
+use Rattle.hub_http.specs.Question.{Asks, Question}
+use Rattle.hub_http.specs.Refusal.{status_of}
+use Rattle.hub_http.specs.declared.refusal.Refusal.{Refusal}
+use Rattle.hub_law.specs.declared.reply.Reply.{Reply}
+use Rattle.hub_law.specs.declared.request.Input.{Input}
+use Rattle.hub_parties.specs.Rows.{RegisterRows}
+use Rattle.hub_serve.specs.Connections.{Coming}
+use Rattle.hub_serve.specs.Output.{Written, BrokenOff}
+use Rattle.hub_serve.specs.declared.line.Ending.{Ending}
+use Rattle.hub_serve.specs.declared.line.Ending.TheVariants.{Answered, Fault}
+
+-- what was asked of the hub in a connection, when, and the reply
+pub record Asked : Type 0 where
+  pub moment : ℕ
+  pub question : Question
+  pub reply : Reply
+
+-- A connection: what its client sent, where that is known; what was asked of the hub, if anything; and what became of
+-- it.
+pub record Connection : Type 0 where
+  pub bytes : Option (List ℕ)
+  pub asked : Option Asked
+  pub ending : Ending
+
+-- what the hub was asked, and told
+abbrev pub input_in : Asked → Input
+input_in asked = input_of asked.moment asked.question.gln asked.question.key asked.question.request
+
+abbrev pub inputs_of : Option Asked → List Input
+inputs_of None = []
+inputs_of (Some asked) = input_in asked ∷ []
+
+abbrev pub replies_of : Option Asked → List Reply
+replies_of None = []
+replies_of (Some asked) = asked.reply ∷ []
+
+abbrev pub inputs : List Connection → List Input
+inputs = flat_map (λ one. inputs_of one.asked)
+
+abbrev pub replies : List Connection → List Reply
+replies = flat_map (λ one. replies_of one.asked)
+
+-- the line of the port that is listened on
+abbrev pub port_line : ℕ → List ℕ
+port_line port = codes "listening " ++ (decimal port ++ codes "\n")
+
+-- the word of a connection in its line
+abbrev pub ending_text : Ending → List ℕ
+ending_text (Answered status) = decimal status
+ending_text Fault = codes "fault"
+
+-- its line, by its number
+abbrev pub line_of : ℕ → Ending → List ℕ
+line_of number ending =
+    codes "connection " ++ (decimal number ++ (codes " " ++ (ending_text ending ++ codes "\n")))
+
+-- the lines of connections in their order, the first of this number
+abbrev pub lines_from : ℕ → List Connection → List ℕ
+lines_from number [] = []
+lines_from number (one ∷ served) = line_of number one.ending ++ lines_from (number + 1) served
+
+-- the exit status of a connection
+abbrev pub ending_status : Ending → ℕ
+ending_status (Answered status) = if status == 200 then 0 else if status == 503 then 3 else 1
+ending_status Fault = 3
+
+-- the greatest status of all
+abbrev pub greatest : List Connection → ℕ
+greatest served = fold (λ status one. max status (ending_status one.ending)) 0 served
+
+-- What a question came to: the reply to it, or 503 where memory was refused before it was asked; and what is refused
+-- before the hub is asked has the status of its refusal.
+abbrev pub IsAnsweredBy : Bool → Result Question Refusal → Option Asked → ℕ → Type 0
+IsAnsweredBy passed (Ok question) (Some asked) status =
+    (asked.question ≡ question) × (status ≡ outcome_status asked.reply.outcome)
+IsAnsweredBy passed (Err refusal) (Some asked) status = ⊥
+IsAnsweredBy passed (Ok question) None status = (passed ≡ true) × (status ≡ 503)
+IsAnsweredBy passed (Err refusal) None status = (status ≡ status_of refusal) ⊎ ((passed ≡ true) × (status ≡ 503))
+
+-- the status is that of the response to these bytes
+pub record Answers (register : RegisterRows) (bytes : List ℕ) (asked : Option Asked) (status : ℕ) : Type 0 where
+  pub question : Result Question Refusal
+  pub asks : Asks register bytes question
+  pub is : IsAnsweredBy (passes asks.head) question asked status
+
+-- where the bytes of a connection are known and it was answered, it was answered so
+abbrev pub EndsSo : RegisterRows → Connection → Ending → Type 0
+EndsSo register one (Answered status) = IfSome one.bytes (λ bytes. Answers register bytes one.asked status)
+EndsSo register one Fault = Unit {0}
+
+abbrev pub IsServed : RegisterRows → Connection → Type 0
+IsServed register one = EndsSo register one one.ending
+
+-- these are the first of the connections that come
+abbrev pub AreFirst : Coming → List Connection → Type 0
+AreFirst known served =
+    IfSome known (λ all. (rest : List (Option (List ℕ))) × (all ≡ map (λ one. one.bytes) served ++ rest))
+
+-- as many connections were served as there were to be
+pub record Whole (count : ℕ) (old new : Option (List ℕ)) (failed after : Bool) (served : List Connection)
+    (status : ℕ) : Type 0 where
+  pub counted : length served ≡ count
+  pub written : Written old new failed after (lines_from 1 served)
+  pub status_is : status ≡ greatest served
+
+-- no more could be taken, or no moment was known
+pub record CutShort (count : ℕ) (old new : Option (List ℕ)) (failed after : Bool) (served : List Connection)
+    (status : ℕ) : Type 0 where
+  pub fewer : length served < count
+  pub written : Written old new failed after (lines_from 1 served)
+  pub status_is : status ≡ 3
+
+-- the line of the last could not be written
+pub record Lost (count : ℕ) (old new : Option (List ℕ)) (after : Bool) (served : List Connection)
+    (status : ℕ) : Type 0 where
+  pub earlier : List Connection
+  pub last : Connection
+  pub are : served ≡ earlier ++ last ∷ []
+  pub counted : length served ≤ count
+  pub broken : BrokenOff old new after (lines_from 1 earlier) (line_of (length served) last.ending)
+  pub status_is : status ≡ 3
+
+-- Connections were served in their order. What was asked of the hub in them, and the replies, are a run of it.
+pub record Serves (Runs : List Input → List Reply → Type 0) (register : RegisterRows) (known : Coming) (count : ℕ)
+    (old new : Option (List ℕ)) (failed after : Bool) (status : ℕ) : Type 0 where
+  pub served : List Connection
+  pub first : AreFirst known served
+  pub each : AllByRecursion (IsServed register) served
+  pub ran : Runs (inputs served) (replies served)
+  pub ended : Whole count old new failed after served status
+      ⊎ (CutShort count old new failed after served status ⊎ Lost count old new after served status)

@@ -1,0 +1,111 @@
+//! Connections over the network.
+use crate::connections::{Connections, NoConnection, Sides};
+use crate::timed::Timed;
+use edi_base::{OfRead, OfWrite};
+use std::io;
+use std::io::{ErrorKind, Read, Write};
+use std::net::{Ipv4Addr, Net, OpenListener, OpenStream, Shutdown, SocketAddr, SocketAddrV4, TcpListener};
+use std::time::{Clock, Duration, Instant};
+
+/// How many seconds a connection lasts at most.
+const WHOLE: u64 = 10;
+
+/// How many seconds is read on at most, once a response was written.
+const LINGER: u64 = 1;
+
+/// How many bytes are read on at most.
+const LINGER_BYTES: usize = 1_048_576;
+
+/// How many bytes are read on at once.
+const PIECE: usize = 4096;
+
+/// Connections that come over the network to a listener. Each lasts 10 seconds at most.
+#[derive(Drop)]
+pub struct Listening<'c, C, L> {
+    clock: &'c C,
+    listener: L,
+    failed: bool,
+}
+
+impl<'c, N: Net + Clock> Listening<'c, N, N::Listener> {
+    /// Listens on a port of 127.0.0.1.
+    pub fn on(net: &'c N, port: u16) -> io::Result<Self> {
+        let address = SocketAddr::V4(SocketAddrV4::new(Ipv4Addr::new(127, 0, 0, 1), port));
+        Ok(Listening {
+            clock: net,
+            listener: TcpListener::bind(net, address)?,
+            failed: false,
+        })
+    }
+}
+
+impl<'c, C, L> Listening<'c, C, L> {
+    /// Whether connections ended because no more could be taken.
+    pub fn has_failed(&self) -> bool {
+        self.failed
+    }
+}
+
+// Whether an error of `accept` speaks of the one connection alone, whose client went away before it was taken.
+fn is_gone(error: &io::Error) -> bool {
+    matches!(
+        error.kind(),
+        ErrorKind::ConnectionAborted | ErrorKind::ConnectionReset | ErrorKind::Interrupted
+    )
+}
+
+// The two sides of a connection that began now.
+fn sides_of<'c, C: Clock, T: OpenStream + Read + Write + Drop>(
+    clock: &'c C,
+    stream: T,
+) -> io::Result<Sides<OfRead<Timed<'c, C, T>>, OfWrite<Timed<'c, C, T>>>> {
+    let begun = Instant::now(clock)?;
+    let whole = Duration::from_secs(WHOLE);
+    let other = stream.try_clone()?;
+    Ok(Sides {
+        reader: OfRead::new(Timed::new(clock, stream, begun, whole)),
+        writer: OfWrite::new(Timed::new(clock, other, begun, whole)),
+    })
+}
+
+// Says that nothing more is sent, and reads on until the client ends or a limit is met.
+fn linger<C: Clock, T: OpenStream + Read + Drop>(clock: &C, stream: T) -> io::Result<()> {
+    stream.shutdown(Shutdown::Write)?;
+    let whole = Duration::from_secs(LINGER);
+    let mut timed = Timed::new(clock, stream, Instant::now(clock)?, whole);
+    let mut piece = [0u8; PIECE];
+    let mut left = LINGER_BYTES;
+    while left > 0 {
+        let count = timed.read(&mut piece)?;
+        if count == 0 {
+            return Ok(());
+        }
+        left = left.saturating_sub(count);
+    }
+    Ok(())
+}
+
+impl<'c, C: Clock, L: OpenListener> Connections for Listening<'c, C, L>
+where
+    L::Stream: OpenStream + Read + Write,
+{
+    type Reader = OfRead<Timed<'c, C, L::Stream>>;
+
+    type Writer = OfWrite<Timed<'c, C, L::Stream>>;
+
+    fn next(&mut self) -> Result<Sides<Self::Reader, Self::Writer>, NoConnection> {
+        match self.listener.accept() {
+            Ok((stream, _)) => sides_of(self.clock, stream).map_err(|_| NoConnection::Gone),
+            Err(error) if is_gone(&error) => Err(NoConnection::Gone),
+            Err(_) => {
+                self.failed = true;
+                Err(NoConnection::Over)
+            }
+        }
+    }
+
+    fn end(&mut self, sides: Sides<Self::Reader, Self::Writer>) {
+        let Sides { reader, writer: _ } = sides;
+        let _ = linger(self.clock, reader.into_inner().into_inner());
+    }
+}

@@ -1,0 +1,84 @@
+//! Connections served one after another.
+ghost use Rattle.std.specs.Prelude.{◌≡◌};
+ghost use Rattle.hub_core.specs.Steps.{Ran};
+ghost use Rattle.hub_rules.specs.Sound.{Sound};
+ghost use Rattle.hub_serve.specs.One.{ServesNext, DoesTo};
+ghost use Rattle.hub_serve.specs.Serve.{Serves};
+
+use crate::connections::{Connections, Moments, NoConnection};
+use crate::line::{DONE, Ending, FAILED, print_line};
+use edi_base::Sink;
+use hub_core::Hub;
+use hub_http::serve_one;
+use hub_store::Store;
+use std::alloc::Global;
+
+// No connection is served any more.
+struct NoMore;
+
+// Serves the next connection.
+fn serve_next<L: Connections, S: Store, M: Moments>(
+    alloc: Global,
+    connections: &mut L,
+    hub: &mut Hub<S>,
+    moments: &mut M,
+) -> Result<Ending, NoMore>
+    ensures served { ServesNext (DoesTo S.content S.honest S.left hub.old hub.new) (hub.new ≡ hub.old) hub.old.0
+        (L.coming connections.old) (L.coming connections.new) result }
+    ensures register { hub.new.0 ≡ hub.old.0 }
+    ensures was_honest { S.honest hub.new.1 → S.honest hub.old.1 }
+{
+    let mut sides = match connections.next() {
+        Ok(sides) => sides,
+        Err(NoConnection::Gone) => return Ok(Ending::Fault),
+        Err(NoConnection::Over) => return Err(NoMore),
+    };
+    let Some(moment) = moments.next() else {
+        return Err(NoMore);
+    };
+    match serve_one(alloc, hub, moment, &mut sides.reader, &mut sides.writer) {
+        Ok(served) => {
+            connections.end(sides);
+            Ok(Ending::Answered(served.status))
+        }
+        Err(_) => Ok(Ending::Fault),
+    }
+}
+
+/// Serves so many connections one after another, and prints of each, once it has ended, its number and the status that
+/// it was answered, as `connection 1 200`, or `connection 1 fault` where it failed: a read or a write of it, or its
+/// client went away before it was taken. Each comes at the moment that is next.
+///
+/// Answers the exit status: 0 where all were answered 200; 3 where one failed or was answered 503, where no more could
+/// be taken or a moment was not known, and then no more are served, and where a line could not be written; else 1.
+pub fn serve_on<L: Connections, S: Store, M: Moments, W: Sink>(
+    alloc: Global,
+    connections: &mut L,
+    hub: &mut Hub<S>,
+    moments: &mut M,
+    count: u64,
+    out: &mut W,
+) -> u8
+    ensures served { Serves
+        (λ inputs replies. S.honest hub.new.1 → Sound hub.old.0.suppliers (S.content hub.old.1) →
+        Ran hub.old.0 (S.content hub.old.1) (S.content hub.new.1) (S.left hub.old.1) (S.left hub.new.1) inputs replies)
+        hub.old.0 (L.coming connections.old) count
+        (W.contents out.old) (W.contents out.new) (W.failed out.old) (W.failed out.new) result }
+    ensures register { hub.new.0 ≡ hub.old.0 }
+    ensures was_honest { S.honest hub.new.1 → S.honest hub.old.1 }
+{
+    hub.steps_are_a_run();
+    let mut greatest = DONE;
+    let mut number: u64 = 0;
+    while number < count {
+        let Ok(ending) = serve_next(alloc, connections, hub, moments) else {
+            return FAILED;
+        };
+        number += 1;
+        if print_line(out, number, ending).is_err() {
+            return FAILED;
+        }
+        greatest = greatest.max(ending.status());
+    }
+    greatest
+}
