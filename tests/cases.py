@@ -311,6 +311,36 @@ HUB_WORDS = [
     Case("the help of mail has its three steps", ["mail", "--help"], output=lambda it: all(b"--do " + what in it for what in (b"after", b"item", b"taken"))),
 ]
 
+def serve_words(**more):
+    """Words of `serve` that are right, but for these; an option is left out by None."""
+    named = {"register": "register.toml", "db": "hub.db", "port": "8080", "count": "1", **more}
+    return ["serve", *(word for name, value in named.items() if value is not None for word in (f"--{name}", value))]
+
+
+# each option of `serve`, and the values that are against its limits
+WRONG_TO_SERVE = {
+    "port": ("0", "65536", "99999999999999", "0" * 11 + "8080", "+80", "-1", " 80", "80 ", "http", ""),
+    "count": ("0", "1000001", "99999999999999", FIFTEEN, "+5", "1.0", "all", ""),
+    "moment": WRONG["moment"],
+}
+# values at the limits, after which the register is looked for
+RIGHT_TO_SERVE = {"port": ("1", "65535", "00000000000080"), "count": ("1", "1000000", "00000001000000"), "moment": ("0", "4102444799")}
+SERVE_WORDS = [
+    wrong_words("no words for serve", ["serve"]),
+    *(wrong_words(f"serve without --{name}", serve_words(**{name: None})) for name in ("register", "db", "port", "count")),
+    *(wrong_words(f"serve with --{name} {value!r}", serve_words(**{name: value})) for name, values in WRONG_TO_SERVE.items() for value in values),
+    *(
+        Case(f"serve with --{name} {value!r}, and no register", serve_words(**{name: value}), error=b"file\n", status=3)
+        for name, values in RIGHT_TO_SERVE.items()
+        for value in values
+    ),
+    *(wrong_words(f"serve with --{name} twice", [*serve_words(), f"--{name}", "1"]) for name in ("port", "count")),
+    wrong_words("serve with a word too many", [*serve_words(), "more"]),
+    wrong_words("serve for a caller", [*serve_words(), "--as", RETAILER]),
+    Case("the help of serve", ["serve", "--help"], output=lambda it: b"Usage: edihub serve" in it and b"--port" in it and b"connection 3 fault" in it and b"Exit status: 0" in it),
+    Case("the help of the program names serve", ["--help"], output=lambda it: b"serve" in it),
+]
+
 REGISTER_CASES = [checked(name, source, f"{verdict} suppliers") if verdict.startswith("ok") else faulty(name, source, verdict) for name, source, verdict in REGISTERS]
 
 ENVELOPE_CASES = [
@@ -450,4 +480,4 @@ SHOW = [
     wrong_words("an option for show", ["show", "--hub", HUB]),
 ]
 
-CASES = RELAY + CUTS + MEMORY + EXAMPLES + CHECK + HUB_WORDS + REGISTER_CASES + ENVELOPE_CASES + TEXT_CASES + SHOW + orders.CASES + goods.CASES
+CASES = RELAY + CUTS + MEMORY + EXAMPLES + CHECK + HUB_WORDS + SERVE_WORDS + REGISTER_CASES + ENVELOPE_CASES + TEXT_CASES + SHOW + orders.CASES + goods.CASES

@@ -14,6 +14,7 @@ import files
 import hubs
 import made
 import refusals
+import serving
 import stops
 
 ROOT = os.path.dirname(os.path.dirname(os.path.abspath(__file__)))
@@ -30,7 +31,7 @@ PROGRAMS = [(built("edihub"), cases.CASES + commands.COMMANDS), (built("hub_scri
 
 # what is tried on a program many times over: each says what is wrong, if anything
 TRIALS = [
-    *((built("edihub"), *trial) for trial in commands.TRIALS),
+    *((built("edihub"), *trial) for trial in commands.TRIALS + serving.TRIALS),
     (built("hub_script"), "a file that another program holds open", files.held_open),
     (built("hub_script"), "made runs", made.made_runs),
     (built("hub_script"), "changes of files stopped in turn", stops.stops),

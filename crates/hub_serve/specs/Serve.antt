@@ -50,15 +50,14 @@ replies = flat_map (λ one. replies_of one.asked)
 abbrev pub port_line : ℕ → List ℕ
 port_line port = codes "listening " ++ (decimal port ++ codes "\n")
 
--- the word of a connection in its line
-abbrev pub ending_text : Ending → List ℕ
-ending_text (Answered status) = decimal status
-ending_text Fault = codes "fault"
+-- the end of its line
+abbrev pub end_of : Ending → List ℕ
+end_of (Answered status) = decimal status ++ codes "\n"
+end_of Fault = codes "fault\n"
 
--- its line, by its number
+-- the line of a connection, by its number
 abbrev pub line_of : ℕ → Ending → List ℕ
-line_of number ending =
-    codes "connection " ++ (decimal number ++ (codes " " ++ (ending_text ending ++ codes "\n")))
+line_of number ending = codes "connection " ++ (decimal number ++ (codes " " ++ end_of ending))
 
 -- the lines of connections in their order, the first of this number
 abbrev pub lines_from : ℕ → List Connection → List ℕ

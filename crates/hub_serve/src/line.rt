@@ -1,8 +1,8 @@
 //! What became of a connection, and the line that says so.
-ghost use Rattle.std.specs.Prelude.{◌≡◌};
+ghost use Rattle.std.specs.Prelude.{◌≡◌, ◌++◌, decimal};
 ghost use Rattle.edi_base.specs.Buffer.{Puts, Flags};
 ghost use Rattle.http_response.specs.Text.{Writes};
-ghost use Rattle.hub_serve.specs.Serve.{ending_status, ending_text, line_of, port_line};
+ghost use Rattle.hub_serve.specs.Serve.{end_of, ending_status, line_of, port_line};
 
 use edi_base::{Buffer, Sink, WriteFault};
 
@@ -37,62 +37,48 @@ impl Ending {
     }
 }
 
-// Puts the word of a connection.
-fn put_word<W: Sink>(
+// Puts a number between two texts.
+fn put_number<W: Sink>(
     out: &mut W,
     waiting: &mut Buffer,
-    ending: Ending,
-) -> Result<(), WriteFault>
-    ensures bytes { Puts result (W.contents out.old) (W.contents out.new) waiting.old waiting.new (ending_text ending) }
-    ensures flag { Flags result (W.failed out.old) (W.failed out.new) }
-{
-    match ending {
-        Ending::Answered(status) => {
-            let mut digits = itoa::Buffer::new();
-            waiting.put(out, digits.format(status).as_bytes())
-        }
-        Ending::Fault => waiting.put(out, b"fault"),
-    }
-}
-
-// Puts the line of a connection.
-fn put_line<W: Sink>(
-    out: &mut W,
-    waiting: &mut Buffer,
+    before: &[u8],
     number: u64,
-    ending: Ending,
+    after: &[u8],
 ) -> Result<(), WriteFault>
     ensures bytes { Puts result (W.contents out.old) (W.contents out.new) waiting.old waiting.new
-        (line_of number ending) }
+        (before.now ++ (decimal number ++ after.now)) }
     ensures flag { Flags result (W.failed out.old) (W.failed out.new) }
 {
     let mut digits = itoa::Buffer::new();
-    waiting.put(out, b"connection ")?;
+    waiting.put(out, before)?;
     waiting.put(out, digits.format(number).as_bytes())?;
-    waiting.put(out, b" ")?;
-    put_word(out, waiting, ending)?;
-    waiting.put(out, b"\n")
+    waiting.put(out, after)
+}
+
+// Puts the end of the line of a connection.
+fn put_end<W: Sink>(out: &mut W, waiting: &mut Buffer, ending: Ending) -> Result<(), WriteFault>
+    ensures bytes { Puts result (W.contents out.old) (W.contents out.new) waiting.old waiting.new (end_of ending) }
+    ensures flag { Flags result (W.failed out.old) (W.failed out.new) }
+{
+    match ending {
+        Ending::Answered(status) => put_number(out, waiting, b"", u64::from(status), b"\n"),
+        Ending::Fault => waiting.put(out, b"fault\n"),
+    }
 }
 
 /// Prints the line of a connection, at once.
-pub(crate) fn print_line<W: Sink>(out: &mut W, number: u64, ending: Ending) -> Result<(), WriteFault>
+pub(crate) fn print_line<W: Sink>(
+    out: &mut W,
+    number: u64,
+    ending: Ending,
+) -> Result<(), WriteFault>
     ensures bytes { Writes result (W.contents out.old) (W.contents out.new) (line_of number ending) }
     ensures flag { Flags result (W.failed out.old) (W.failed out.new) }
 {
     let mut waiting = Buffer::new();
-    put_line(out, &mut waiting, number, ending)?;
+    put_number(out, &mut waiting, b"connection ", number, b" ")?;
+    put_end(out, &mut waiting, ending)?;
     waiting.flush(out)
-}
-
-// Puts the line of a port.
-fn put_port<W: Sink>(out: &mut W, waiting: &mut Buffer, port: u16) -> Result<(), WriteFault>
-    ensures bytes { Puts result (W.contents out.old) (W.contents out.new) waiting.old waiting.new (port_line port) }
-    ensures flag { Flags result (W.failed out.old) (W.failed out.new) }
-{
-    let mut digits = itoa::Buffer::new();
-    waiting.put(out, b"listening ")?;
-    waiting.put(out, digits.format(port).as_bytes())?;
-    waiting.put(out, b"\n")
 }
 
 /// Prints that a port is listened on, as `listening 8080`, at once.
@@ -101,6 +87,6 @@ pub fn print_listening<W: Sink>(out: &mut W, port: u16) -> Result<(), WriteFault
     ensures flag { Flags result (W.failed out.old) (W.failed out.new) }
 {
     let mut waiting = Buffer::new();
-    put_port(out, &mut waiting, port)?;
+    put_number(out, &mut waiting, b"listening ", u64::from(port), b"\n")?;
     waiting.flush(out)
 }

@@ -14,6 +14,7 @@ use hub_store::Store;
 use std::alloc::Global;
 
 // No connection is served any more.
+#[derive(Clone, Copy)]
 struct NoMore;
 
 // Serves the next connection.

@@ -1,0 +1,3 @@
+mod Endings
+mod Running
+mod SoFar

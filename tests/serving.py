@@ -1,0 +1,554 @@
+"""Trials of `serve`: the built program on 127.0.0.1, and clients of its own. What is wanted is written from the profile, and
+never taken from the program."""
+import os
+import re
+import shutil
+import socket
+import struct
+import subprocess
+import tempfile
+import time
+from concurrent.futures import ThreadPoolExecutor
+
+import files
+from commands import REGISTER, told
+from files import NAME
+from http_texts import asking, head, response
+from hubs import ALPHA, BETA, DELTA, FIRST_MAIL, HUB, KEYS, MOMENT, ORDERS, RECEIPT, RESPONSE, DESPATCH, RETAILER, SECOND, SECOND_MAIL, STATUS, THIRD_MAIL, TWO_SUPPLIERS
+from hubs import OTHER_PALLET, despatch, interchange, line_status, response as answer
+from registers import of_prefixes
+
+SECONDS = 60
+
+
+def free_port():
+    with socket.socket() as one:
+        one.bind(("127.0.0.1", 0))
+        return one.getsockname()[1]
+
+
+class Server:
+    """The program, serving so many connections in a folder of its own."""
+
+    def __init__(self, program, count, moment=MOMENT, data=(), folder=None, register=REGISTER, output=None):
+        self.folder = folder or tempfile.mkdtemp()
+        for name, it in {REGISTER: TWO_SUPPLIERS.encode(), **dict(data)}.items():
+            with open(os.path.join(self.folder, name), "wb") as file:
+                file.write(it)
+        self.port = free_port()
+        words = ["serve", "--register", register, "--db", NAME, "--port", str(self.port), "--count", str(count)]
+        words += ["--moment", moment] if moment else []
+        self.child = subprocess.Popen([program, *words], cwd=self.folder, stdout=output or subprocess.PIPE, stderr=subprocess.PIPE)
+        self.lines = [] if output else [self.child.stdout.readline()]
+
+    def __enter__(self):
+        return self
+
+    def __exit__(self, *_):
+        if self.child.poll() is None:
+            self.child.kill()
+        self.child.communicate()
+        shutil.rmtree(self.folder, ignore_errors=True)
+
+    def connect(self):
+        return socket.create_connection(("127.0.0.1", self.port), SECONDS)
+
+    def ask(self, request, ends=True):
+        """What is answered to these bytes, after which the client ends, or does not."""
+        with self.connect() as one:
+            one.sendall(request)
+            if ends:
+                one.shutdown(socket.SHUT_WR)
+            return all_of(one)
+
+    def line(self):
+        self.lines.append(self.child.stdout.readline())
+        return self.lines[-1]
+
+    def end(self):
+        """The exit status, what was printed, and what on standard error."""
+        printed, error = self.child.communicate(timeout=SECONDS)
+        return self.child.returncode, b"".join(self.lines) + (printed or b""), error
+
+
+def all_of(one):
+    """All that a client is sent."""
+    found = b""
+    while True:
+        piece = one.recv(65536)
+        if not piece:
+            return found
+        found += piece
+
+
+def lines_of(port, statuses):
+    """What the program prints of these connections."""
+    lines = [f"listening {port}", *(f"connection {k} {status}" for k, status in enumerate(statuses, 1))]
+    return "".join(line + "\n" for line in lines).encode()
+
+
+def exit_of(statuses):
+    return max((0 if it == 200 else 3 if it in (503, "fault") else 1 for it in statuses), default=0)
+
+
+def unlike(what, found, wanted):
+    return None if found == wanted else f"{what}: {found!r:.400}, not {wanted!r:.400}"
+
+
+def served(program, asked, data=(), then=None, ends=True):
+    """What is wrong where a new hub is asked these one after another, if anything: each is a name, a request, a status and a
+    body."""
+    with Server(program, len(asked), data=data) as server:
+        for name, request, status, body in asked:
+            why = unlike(name, server.ask(request, ends), response(status, body))
+            if why:
+                return why
+        statuses = [status for _, _, status, _ in asked]
+        why = unlike("the program", server.end(), (exit_of(statuses), lines_of(server.port, statuses), b""))
+        return why or (then(server) if then else None)
+
+
+def upload(who, text, *lines, status=200):
+    return ("an upload", asking("POST", f"/p/{who}/interchanges", who, text), status, told(*lines))
+
+
+def accepted(who, reference, kind, text, word="accepted"):
+    return upload(who, text, f"interchange {reference} messages 1", f"1 {kind} {word}")
+
+
+ORDERED = accepted(RETAILER, "1001", "ORDERS", ORDERS)
+
+
+def get(who, rest, status, body, *fields):
+    return (f"GET {rest}", asking("GET", f"/p/{who}/{rest}", who, None, *fields), status, body)
+
+
+def post(who, rest, body, status, printed):
+    return (f"POST {rest}", asking("POST", f"/p/{who}/{rest}", who, body), status, printed)
+
+
+def listed(*entries, last="end"):
+    return told(*(f"{number:>14} {kind} {document}" for number, kind, document in entries), last)
+
+
+def cancellation(reference, quantity, supplier=ALPHA):
+    return f"{supplier}\n{reference}\n128576\n1\n{quantity}\n"
+
+
+def days(program):
+    """Orders, answers, despatches, receipts and cancellations over HTTP, and what is seen of them."""
+    cancelled = [line_status("128576", "C", 48, 14, 12, 10, 12), *STATUS[1:]]
+    return served(
+        program,
+        [
+            get(ALPHA, "status", 200, told("end")),
+            ORDERED,
+            get(ALPHA, "mail/item/1", 200, FIRST_MAIL),
+            get(ALPHA, "mail/after/0", 200, listed((1, "ORDERS", "128576"))),
+            accepted(RETAILER, "1001", "ORDERS", ORDERS, "repeated"),
+            upload(RETAILER, ORDERS.replace("QTY+21:48", "QTY+21:49"), "interchange 1001 messages 1", "1 ORDERS refused B03"),
+            accepted(RETAILER, "1002", "ORDERS", SECOND),
+            get(ALPHA, "mail/item/2", 200, SECOND_MAIL),
+            upload(RETAILER, ORDERS.replace("1001'", "1003'").replace("UNT+10+1", "UNT+9+1"), "refused E12", status=400),
+            upload(RETAILER, "", "refused E06", status=400),
+            accepted(ALPHA, "S1", "ORDRSP", RESPONSE),
+            accepted(ALPHA, "S2", "DESADV", DESPATCH),
+            accepted(ALPHA, "S6", "DESADV", interchange(ALPHA, "S6", despatch("DA4", OTHER_PALLET, 12, order="128577"))),
+            accepted(ALPHA, "S7", "ORDRSP", interchange(ALPHA, "S7", answer("R2", 27, order="128577"))),
+            accepted(RETAILER, "1005", "RECADV", RECEIPT),
+            get(ALPHA, "mail/item/3", 200, THIRD_MAIL),
+            get(ALPHA, "status", 200, told(*STATUS, "end")),
+            get(RETAILER, f"status/{ALPHA}", 200, told(*STATUS, "end")),
+            get(RETAILER, f"status/{BETA}", 200, told("end")),
+            get(BETA, "status", 200, told("end")),
+            get(RETAILER, f"status/{DELTA}", 404, "unknown\n"),
+            get(RETAILER, "status/4012345500005", 404, "unknown\n"),
+            get(RETAILER, "status/x", 404, "unknown\n"),
+            post(ALPHA, "mail/item/1/taken", "", 200, "taken\n"),
+            get(ALPHA, "mail/after/0", 200, listed((2, "ORDERS", "128577"), (3, "RECADV", "G1"))),
+            get(ALPHA, "mail/item/1", 200, FIRST_MAIL),
+            get(ALPHA, "mail/item/00000000000001", 200, FIRST_MAIL),
+            post(RETAILER, "cancellations", cancellation("C1", 10), 200, "accepted\n"),
+            post(RETAILER, "cancellations", cancellation("C1", 10), 200, "repeated\n"),
+            post(RETAILER, "cancellations", cancellation("C2", 15), 200, "refused B17\n"),
+            post(RETAILER, "cancellations", cancellation("C1", 11), 200, "refused B03\n"),
+            post(RETAILER, "cancellations", cancellation("C3", 1)[:-1], 400, "bad request\n"),
+            post(RETAILER, "cancellations", "", 400, "bad request\n"),
+            get(ALPHA, "status", 200, told(*cancelled, "end")),
+        ],
+        then=lambda server: files.is_whole(server.folder),
+    )
+
+
+def seen_by_others(program):
+    """One list to the byte, and who may not see it."""
+    key = "X-Hub-Key: alpha-key-1"
+    other = lambda method, rest, status, body, *fields: (f"{method} {rest}", head(f"{method} {rest} HTTP/1.1", key, *fields), status, body)
+    interchanges = f"/p/{ALPHA}/interchanges"
+    hundred = asking("POST", interchanges, ALPHA, "x" * 100)
+    assert len(response(200, listed((1, "ORDERS", "128576")))) == 33 + len(response(200, "")) + 1
+    return served(
+        program,
+        [
+            ORDERED,
+            ("a list", f"GET /p/{ALPHA}/mail/after/0 HTTP/1.1\r\n{key}\r\n\r\n".encode(), 200, "             1 ORDERS 128576\nend\n"),
+            other("GET", f"/p/{BETA}/status", 403, "denied\n"),
+            other("PUT", f"/p/{ALPHA}/status", 405, "method\n"),
+            other("POST", interchanges, 411, "length\n"),
+            other("POST", interchanges, 413, "too large\n", "Content-Length: 1048577"),
+            ("a body one byte short", hundred[:-1], 400, "bad request\n"),
+            post(ALPHA, "mail/item/1/taken", "", 200, "taken\n"),
+            get(ALPHA, "mail/after/0", 200, "end\n"),
+            get(ALPHA, "mail/item/1", 200, FIRST_MAIL),
+            get(ALPHA, "mail/item/2", 404, "unknown\n"),
+            get(ALPHA, "mail/item/x", 404, "unknown\n"),
+            get(ALPHA, "mail/item/0", 404, "unknown\n"),
+            get(ALPHA, "mail/item/000000000000001", 404, "unknown\n"),
+            get(ALPHA, "status?x", 404, "unknown\n"),
+            get(ALPHA, "status?", 404, "unknown\n"),
+            get(ALPHA, "Status", 404, "unknown\n"),
+            get(ALPHA, "status/", 404, "unknown\n"),
+            ("no path", head("GET / HTTP/1.1", key), 404, "unknown\n"),
+            ("no GLN", head("GET /p//status HTTP/1.1", key), 404, "unknown\n"),
+            ("two keys", head(f"GET /p/{ALPHA}/status HTTP/1.1", key, key), 400, "bad request\n"),
+            ("the field in other letters", head(f"GET /p/{ALPHA}/mail/after/0 HTTP/1.1", "x-hUB-kEY: alpha-key-1"), 200, "end\n"),
+            ("the key in other letters", head(f"GET /p/{ALPHA}/status HTTP/1.1", "X-Hub-Key: Alpha-key-1"), 403, "denied\n"),
+            ("the front of a key", head(f"GET /p/{ALPHA}/status HTTP/1.1", "X-Hub-Key: alpha-key-"), 403, "denied\n"),
+            ("a key with a byte behind it", head(f"GET /p/{ALPHA}/status HTTP/1.1", "X-Hub-Key: alpha-key-11"), 403, "denied\n"),
+            ("no key", head(f"GET /p/{ALPHA}/status HTTP/1.1"), 403, "denied\n"),
+            ("the hub asks", head(f"GET /p/{HUB}/status HTTP/1.1", "X-Hub-Key: retail-key"), 403, "denied\n"),
+            get(RETAILER, "status", 403, "denied\n"),
+            get(RETAILER, "mail/after/0", 403, "denied\n"),
+            get(ALPHA, f"status/{ALPHA}", 403, "denied\n"),
+            post(ALPHA, "cancellations", cancellation("C1", 10), 403, "denied\n"),
+            post(ALPHA, "interchanges", ORDERS, 400, "refused E08\n"),
+            get(ALPHA, "status", 200, told(line_status("128576", "W", 48, 48, 0, 0, 0), "end")),
+        ],
+    )
+
+
+class Parts:
+    """A request in parts that are made wrong."""
+
+    def __init__(self):
+        self.line = "POST /p/{} HTTP/1.1"
+        self.path = f"{RETAILER}/interchanges"
+        self.method = "POST"
+        self.keys, self.lengths, self.more = ["retail-key"], [str(len(ORDERS))], []
+        self.body, self.version, self.cut = ORDERS.encode(), " HTTP/1.1", False
+
+    def bytes(self):
+        fields = [*(f"X-Hub-Key: {it}" for it in self.keys), *(f"Content-Length: {it}" for it in self.lengths), *self.more]
+        found = head(f"{self.method} /p/{self.path}{self.version}", *fields)
+        return found[:-2] if self.cut else found + self.body
+
+
+def with_33_fields(it):
+    it.more += [f"X-{k}: x" for k in range(33 - len(it.keys + it.lengths + it.more))]
+
+
+def with_long_head(it):
+    it.more.append("X: " + "x" * 8192)
+
+
+def two_keys(it):
+    it.keys = (it.keys or ["retail-key"]) * 2
+
+
+def two_lengths(it):
+    it.lengths = (it.lengths or ["5"]) * 2
+
+
+def put(name, value):
+    return lambda it: setattr(it, name, value)
+
+
+def other_side(it):
+    it.path = f"{RETAILER}/mail/item/1/taken" if it.path.startswith(RETAILER) else it.path
+
+
+# each check of a request, in order: what is wrong, and what makes it so; then the answer
+CHECKS = [
+    [("33 fields", with_33_fields), ("a head of more than 8192 bytes", with_long_head), ("two keys", two_keys), ("two lengths", two_lengths), ("a head without its end", put("cut", True)), ("no version", put("version", ""))],
+    [("another path", put("path", f"{RETAILER}/interchange")), ("a query", put("path", f"{RETAILER}/interchanges?x")), ("a number of 15 digits", put("path", f"{RETAILER}/mail/item/000000000000001/taken")), ("no number", put("path", f"{RETAILER}/mail/item/one/taken"))],
+    [("another method", put("method", "PUT")), ("GET", put("method", "GET"))],
+    [("no key", put("keys", [])), ("another's key", put("keys", ["alpha-key-1"])), ("what the other side asks", other_side)],
+    [("no length", put("lengths", [])), ("a body in pieces", lambda it: it.more.append("Transfer-Encoding: chunked"))],
+    [("a length that is no digits", put("lengths", ["+5"])), ("an empty length", put("lengths", [""]))],
+    [("a length of one byte too much", put("lengths", ["1048577"])), ("a length of thirty digits", put("lengths", ["9" * 30]))],
+    [("a body one byte short", put("lengths", [str(len(ORDERS) + 1)]))],
+]
+ANSWERS = [(400, "bad request\n"), (404, "unknown\n"), (405, "method\n"), (403, "denied\n"), (411, "length\n"), (400, "bad request\n"), (413, "too large\n"), (400, "bad request\n")]
+
+
+def pairs():
+    """Each wrong, and each two of different checks: the earlier answers. What one undoes of the other is made first."""
+    wrongs = [(place, name, make) for place, check in enumerate(CHECKS) for name, make in check]
+    for place, name, make in wrongs:
+        one = Parts()
+        make(one)
+        yield (name, one.bytes(), *ANSWERS[place])
+        for later, other, made in wrongs:
+            if later > place:
+                one = Parts()
+                made(one)
+                make(one)
+                yield (f"{name}, and {other}", one.bytes(), *ANSWERS[place])
+
+
+def two_wrongs(program):
+    nothing = [get(ALPHA, "mail/after/0", 200, "end\n"), get(ALPHA, "status", 200, "end\n")]
+    return served(program, [*pairs(), *nothing, ORDERED])
+
+
+def cuts(program):
+    """A request cut at each of its bytes: nothing is taken of it."""
+    list_of_all = asking("GET", f"/p/{ALPHA}/mail/after/0", ALPHA)
+    order = asking("POST", f"/p/{RETAILER}/interchanges", RETAILER, ORDERS)
+    asked = [(f"the first {k} bytes", text[:k], 400, "bad request\n") for text in (list_of_all, order) for k in range(len(text))]
+    return served(program, [*asked, get(ALPHA, "mail/after/0", 200, "end\n"), ORDERED])
+
+
+def heads(program):
+    """Heads at their limits, and spellings that the grammar of heads takes."""
+
+    def long_head(length):
+        begun = head(f"GET /p/{ALPHA}/mail/after/0 HTTP/1.1", "X-Hub-Key: alpha-key-1", "X: ")
+        return begun.replace(b"X: ", b"X: " + b"x" * (length - len(begun)))
+
+    def fields(count):
+        return head(f"GET /p/{ALPHA}/mail/after/0 HTTP/1.1", "X-Hub-Key: alpha-key-1", *(f"X-{k}: x" for k in range(count - 1)))
+
+    line = f"GET /p/{ALPHA}/mail/after/0 HTTP/1.1"
+    assert len(long_head(8192)) == 8192
+    return served(
+        program,
+        [
+            ("a head of 8192 bytes", long_head(8192), 200, "end\n"),
+            ("a head of 8193 bytes", long_head(8193), 400, "bad request\n"),
+            ("8193 bytes without an end", long_head(9000)[:8193], 400, "bad request\n"),
+            ("32 fields", fields(32), 200, "end\n"),
+            ("33 fields", fields(33), 400, "bad request\n"),
+            ("LF alone", head(line, "X-Hub-Key: alpha-key-1").replace(b"\r", b""), 200, "end\n"),
+            ("HTTP/1.0", head(line[:-1] + "0", "X-Hub-Key: alpha-key-1"), 200, "end\n"),
+            ("HTTP/2.0", head(line[:-3] + "2.0", "X-Hub-Key: alpha-key-1"), 400, "bad request\n"),
+            ("empty lines first", b"\r\n\r\n" + head(line, "X-Hub-Key: alpha-key-1"), 200, "end\n"),
+            ("blanks round a value", head(line, "X-Hub-Key: \t alpha-key-1 \t"), 200, "end\n"),
+            ("a blank before the colon", head(line, "X-Hub-Key : alpha-key-1"), 400, "bad request\n"),
+            ("nothing", b"", 400, "bad request\n"),
+            ("no request", b"\x16\x03\x01\x02\x00", 400, "bad request\n"),
+        ],
+    )
+
+
+def lengths(program):
+    taken = lambda *fields: head(f"POST /p/{ALPHA}/mail/item/1/taken HTTP/1.1", "X-Hub-Key: alpha-key-1", *fields)
+    whole = ORDERS + "\n" * (1_048_576 - len(ORDERS))
+    return served(
+        program,
+        [
+            ORDERED,
+            ("5", taken("Content-Length: 5") + b"abcde", 200, "taken\n"),
+            ("0005", taken("Content-Length: 0005") + b"abcde", 200, "taken\n"),
+            ("0005, and four bytes", taken("Content-Length: 0005") + b"abcd", 400, "bad request\n"),
+            ("bytes behind the body", taken("Content-Length: 5") + b"abcdefgh", 200, "taken\n"),
+            ("empty", taken("Content-Length:") + b"abcde", 400, "bad request\n"),
+            ("+5", taken("Content-Length: +5") + b"abcde", 400, "bad request\n"),
+            ("-5", taken("Content-Length: -5") + b"abcde", 400, "bad request\n"),
+            ("5, 5", taken("Content-Length: 5, 5") + b"abcde", 400, "bad request\n"),
+            ("two", taken("Content-Length: 5", "content-length: 5") + b"abcde", 400, "bad request\n"),
+            ("thirty digits", taken("Content-Length: " + "1" * 30), 413, "too large\n"),
+            ("thirty digits that say 5", taken("Content-Length: " + "5".rjust(30, "0")) + b"abcde", 200, "taken\n"),
+            ("in pieces, beside a length", taken("Transfer-Encoding: chunked", "Content-Length: 5") + b"abcde", 411, "length\n"),
+            ("in pieces", taken("Transfer-Encoding: chunked") + b"5\r\nabcde\r\n0\r\n\r\n", 411, "length\n"),
+            accepted(RETAILER, "1001", "ORDERS", whole, "repeated"),
+            ("a GET with a body", asking("GET", f"/p/{ALPHA}/mail/after/0", ALPHA, "abcde"), 200, "end\n"),
+            ("a GET with a length that is none", asking("GET", f"/p/{ALPHA}/mail/after/0", ALPHA, None, "Content-Length: x"), 200, "end\n"),
+        ],
+    )
+
+
+def both_then_read(program):
+    """Two clients write, then both are served, then both read; neither has ended its side."""
+    with Server(program, 2) as server, server.connect() as one, server.connect() as other:
+        one.sendall(ORDERED[1])
+        other.sendall(asking("GET", f"/p/{ALPHA}/mail/after/0", ALPHA))
+        lines = [server.line(), server.line()]
+        found = [all_of(one), all_of(other)]
+        wanted = [response(200, ORDERED[3]), response(200, listed((1, "ORDERS", "128576")))]
+        return unlike("lines", lines, [b"connection 1 200\n", b"connection 2 200\n"]) or unlike("answers", found, wanted) or unlike("status", server.end()[0], 0)
+
+
+def stalled(program, drip):
+    """A client that sends nothing, or a byte now and then, holds the next one for ten seconds at most."""
+    with Server(program, 2) as server, server.connect() as slow:
+        begun = time.monotonic()
+        with server.connect() as next_one:
+            next_one.sendall(asking("GET", f"/p/{ALPHA}/status", ALPHA))
+            next_one.settimeout(0.5)
+            while time.monotonic() - begun < 20:
+                try:
+                    if drip:
+                        slow.send(b"G")
+                except OSError:
+                    pass
+                try:
+                    if next_one.recv(1, socket.MSG_PEEK):
+                        break
+                except TimeoutError:
+                    pass
+            passed = time.monotonic() - begun
+            next_one.settimeout(SECONDS)
+            found = all_of(next_one)
+        slow.close()
+        if not 9 < passed < 12:
+            return f"the next one waited {passed:.1f} seconds"
+        return unlike("the next one", found, response(200, "end\n")) or unlike("the program", server.end(), (3, lines_of(server.port, ["fault", 200]), b""))
+
+
+def big_refused(program):
+    """A client that goes on sending what is refused reads its answer."""
+    too_large = head(f"POST /p/{RETAILER}/interchanges HTTP/1.1", "X-Hub-Key: retail-key", "Content-Length: 1048577") + b"x" * 1_048_577
+    denied = head(f"POST /p/{RETAILER}/interchanges HTTP/1.1", "X-Hub-Key: another-key", "Content-Length: 1048576") + b"x" * 1_048_576
+    unknown = head(f"GET /nothing HTTP/1.1", "Content-Length: 1000000") + b"x" * 1_000_000
+    asked = [("too large", too_large, 413, "too large\n"), ("denied", denied, 403, "denied\n"), ("unknown", unknown, 404, "unknown\n")]
+    return served(program, asked, ends=False) or served(program, asked)
+
+
+def gone(program):
+    """A client that breaks its connection off, whenever it does, leaves the others be."""
+    count = 20
+    with Server(program, count + 1) as server:
+        for k in range(count):
+            with server.connect() as one:
+                one.setsockopt(socket.SOL_SOCKET, socket.SO_LINGER, struct.pack("ii", 1, 0))
+                one.sendall(ORDERED[1][: len(ORDERED[1]) if k % 2 else 40])
+        found = server.ask(asking("GET", f"/p/{BETA}/status", BETA))
+        status, printed, error = server.end()
+        wanted = "listening {}\n".format(server.port) + "".join(f"connection {k} (200|400|fault)\n" for k in range(1, count + 1)) + f"connection {count + 1} 200\n"
+        if not re.fullmatch(wanted.encode(), printed) or error:
+            return f"{printed!r:.400} {error!r:.100}"
+        return unlike("the last", found, response(200, "end\n")) or unlike("status", status in (1, 3) if b"fault" in printed or b"400" in printed else status == 0, True)
+
+
+def killed(program):
+    """What was answered is kept where the program is killed, and is repeated."""
+    folder = tempfile.mkdtemp()
+    with Server(program, 10, folder=folder) as server:
+        why = unlike("the first", server.ask(ORDERED[1]), response(200, ORDERED[3]))
+        server.child.kill()
+        server.child.wait()
+        with Server(program, 1, folder=folder) as again:
+            return why or unlike("again", again.ask(ORDERED[1]), response(200, ORDERED[3].replace("accepted", "repeated")))
+
+
+def unsound(program):
+    """A row that is none of the kinds stops what asks for it, and all that comes after it, until the program is begun anew."""
+    data = {NAME: files.file_of(files.TABLES, files.ROWS, files.SPOILED[0][1])}
+    list_of_other = get(BETA, "mail/after/0", 200, "end\n")
+    asked = [list_of_other, get(ALPHA, "status", 503, "stopped\n"), get(BETA, "mail/after/0", 503, "stopped\n"), get(ALPHA, "nothing", 404, "unknown\n")]
+    return served(program, asked, data=data) or served(program, [list_of_other], data=data)
+
+
+def begins(program):
+    """What is wrong before the first connection, in the order register, store, port: the first is told alone."""
+    wrong = of_prefixes("4012345", "40123455")
+    nine = files.file_of(files.TABLES, files.ROWS, "UPDATE schema SET number = 9")
+    for name, error, status, data, register in (
+        ("no register", b"file\n", 3, {}, "none.toml"),
+        ("prefixes that overlap", b"fault overlap 1 2\n", 1, {"wrong.toml": wrong if isinstance(wrong, bytes) else wrong.encode(), NAME: nine}, "wrong.toml"),
+        ("a schema of number 9", b"store version\n", 3, {NAME: nine}, REGISTER),
+    ):
+        with Server(program, 1, data=data, register=register) as server:
+            why = unlike(name, server.end(), (status, b"", error))
+            if why:
+                return why
+    with Server(program, 1) as server:
+        words = ["serve", "--register", REGISTER, "--db", "other.db", "--port", str(server.port), "--count", "1"]
+        ran = subprocess.run([program, *words], cwd=server.folder, capture_output=True, timeout=SECONDS)
+        why = unlike("a port that is taken", (ran.returncode, ran.stdout, ran.stderr), (3, b"", b"listen\n"))
+    with open("/dev/full", "wb") as full, Server(program, 1, output=full) as server:
+        return why or unlike("standard output is full", server.end(), (3, b"", b""))
+
+
+def by_the_clock(program):
+    """Without a moment the clock tells it, of each connection."""
+    with Server(program, 2, moment=None) as server:
+        before = time.gmtime()
+        server.ask(ORDERED[1])
+        found = server.ask(asking("GET", f"/p/{ALPHA}/mail/item/1", ALPHA))
+        dates = [time.strftime("%y%m%d:%H%M", it) for it in (before, time.gmtime())]
+        return None if any(found == response(200, FIRST_MAIL.replace("250603:0920", date)) for date in dates) else f"{found!r:.400}"
+
+
+def by_curl(program):
+    """Each path by curl, where it is there."""
+    if not shutil.which("curl"):
+        print("no curl, so nothing is tried with it")
+        return None
+    asked = [
+        (RETAILER, "interchanges", ["--data-binary", f"@{NAME}.edi"], 200, ORDERED[3]),
+        (ALPHA, "mail/after/0", [], 200, listed((1, "ORDERS", "128576"))),
+        (ALPHA, "mail/item/1", [], 200, FIRST_MAIL),
+        (ALPHA, "mail/item/1/taken", ["-X", "POST", "-d", ""], 200, "taken\n"),
+        (ALPHA, "status", [], 200, told(line_status("128576", "W", 48, 48, 0, 0, 0), "end")),
+        (RETAILER, f"status/{ALPHA}", [], 200, told(line_status("128576", "W", 48, 48, 0, 0, 0), "end")),
+        (RETAILER, "cancellations", ["--data-binary", cancellation("C1", 10)], 200, "accepted\n"),
+        (ALPHA, "mail/item/9", [], 404, "unknown\n"),
+    ]
+    with Server(program, len(asked), data={f"{NAME}.edi": ORDERS.encode()}) as server:
+        for who, rest, words, status, body in asked:
+            line = ["curl", "-s", "-i", "-H", f"X-Hub-Key: {KEYS[who]}", *words, f"http://127.0.0.1:{server.port}/p/{who}/{rest}"]
+            ran = subprocess.run(line, cwd=server.folder, capture_output=True, timeout=SECONDS)
+            why = unlike(f"curl {rest}", ran.stdout, response(status, body))
+            if why:
+                return why
+        return unlike("status", server.end()[0], 1)
+
+
+ALL = {
+    "days over HTTP": days,
+    "one list, and who may not see it": seen_by_others,
+    "two wrongs in one request": two_wrongs,
+    "requests cut at each byte": cuts,
+    "heads": heads,
+    "lengths": lengths,
+    "two clients that write before both read": both_then_read,
+    "a client that sends nothing": lambda program: stalled(program, False),
+    "a client that sends a byte now and then": lambda program: stalled(program, True),
+    "a client that sends on what is refused": big_refused,
+    "clients that break off": gone,
+    "a server that is killed": killed,
+    "a row that is none of the kinds": unsound,
+    "what is wrong before the first connection": begins,
+    "connections by the clock": by_the_clock,
+    "curl": by_curl,
+}
+
+
+def serving(program):
+    """What is wrong with `serve`, if anything. The servers run side by side."""
+
+    def tried(one):
+        try:
+            return one(program)
+        except (OSError, subprocess.TimeoutExpired) as why:
+            return f"{type(why).__name__}: {why}"
+
+    with ThreadPoolExecutor(4) as pool:
+        whys = list(pool.map(tried, ALL.values()))
+    found = "; ".join(f"{name}: {why}" for name, why in zip(ALL, whys) if why)
+    if not found:
+        print(f"serve: {len(ALL)} trials on servers of their own")
+    return found or None
+
+
+TRIALS = [("serve", serving)]
+
+if __name__ == "__main__":
+    import sys
+
+    for name, one in ALL.items():
+        if len(sys.argv) < 3 or sys.argv[2] in name:
+            begun = time.monotonic()
+            print(f"{name}: {one(os.path.abspath(sys.argv[1])) or 'as wanted'}, {time.monotonic() - begun:.1f} s", flush=True)
