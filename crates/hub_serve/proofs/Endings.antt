@@ -5,17 +5,14 @@ use Rattle.hub_http.specs.Answer as http
 use Rattle.hub_http.specs.Question.{Question}
 use Rattle.hub_http.specs.Question as asked
 use Rattle.hub_http.specs.Serve.{Ended}
-use Rattle.hub_http.specs.declared.answer.Answer.{Answer}
-use Rattle.hub_http.specs.declared.refusal.Refusal.{Refusal}
 use Rattle.hub_http.specs.declared.serve.Served.{Served}
-use Rattle.hub_http.specs.declared.serve.IoFault.{IoFault}
 use Rattle.hub_law.specs.declared.reply.Reply.{Reply}
 use Rattle.hub_law.specs.declared.request.Input.{Input}
 use Rattle.hub_core.specs.Steps.{input_of}
 use Rattle.hub_parties.specs.Rows.{RegisterRows}
 use Rattle.hub_serve.specs.Connections.{Coming, TakesOne}
 use Rattle.hub_serve.specs.One.{Did, ServesOne}
-use Rattle.hub_serve.specs.Serve.{Answers, Asked, IsServed}
+use Rattle.hub_serve.specs.Serve.{Asked, IsAsked}
 use Rattle.hub_serve.specs.declared.line.Ending.TheVariants.{Answered, Fault}
 
 module _ (Does : Input → Reply → Type 0) (Same : Type 0) (register : RegisterRows) (moment : ℕ) where
@@ -28,32 +25,21 @@ module _ (Does : Input → Reply → Type 0) (Same : Type 0) (register : Registe
   asked_once (inl same) = (None, same)
   asked_once (inr step) = (Some (record { moment = moment; question = step.0; reply = step.1 }), step.2)
 
-  -- what was asked, and how it was answered
-  by_question : (bytes : List ℕ) (answer : Answer) (status : ℕ) (question : Result Question Refusal)
-      (asks : asked.Asks register bytes question)
+  -- what was asked, by what a question came to
+  by_question : (bytes : List ℕ) (answer : _) (question : _) (asks : asked.Asks register bytes question)
       → http.Answers Asks Same (passes asks.head) question answer
-      → status ≡ answer.status
-      → (asked : Option Asked) × Answers register bytes asked status × Did Does Same asked
-  by_question bytes answer status (Ok question) asks (inl ends) told = (
+      → (asked : Option Asked) × Serves (IsAsked asked) (asked ≡ None) register bytes answer × Did Does Same asked
+  by_question bytes answer (Ok question) asks (inl ends) = (
     Some (record { moment = moment; question = question; reply = ends.0 }),
-    record { question = Ok question; asks = asks; is = (refl, told ∙ ends.2.status_is) },
+    record { question = Ok question; asks = asks; answers = inl (ends.0, (refl, refl), ends.2) },
     ends.1,
   )
-  by_question bytes answer status (Ok question) asks (inr stops) told = (
-    None,
-    record { question = Ok question; asks = asks; is = (stops.0, told ∙ stops.2.status_is) },
-    stops.1,
-  )
-  by_question bytes answer status (Err refusal) asks (inl ends) told = (
-    None,
-    record { question = Err refusal; asks = asks; is = inl (told ∙ ends.1.status_is) },
-    ends.0,
-  )
-  by_question bytes answer status (Err refusal) asks (inr stops) told = (
-    None,
-    record { question = Err refusal; asks = asks; is = inr (stops.0, told ∙ stops.2.status_is) },
-    stops.1,
-  )
+  by_question bytes answer (Ok question) asks (inr stops) =
+      (None, record { question = Ok question; asks = asks; answers = inr (stops.0, refl, stops.2) }, stops.1)
+  by_question bytes answer (Err refusal) asks (inl ends) =
+      (None, record { question = Err refusal; asks = asks; answers = inl (refl, ends.1) }, ends.0)
+  by_question bytes answer (Err refusal) asks (inr stops) =
+      (None, record { question = Err refusal; asks = asks; answers = inr (stops.0, refl, stops.2) }, stops.1)
 
   module _ (known rest : Coming) where
     -- a response was written
@@ -66,15 +52,15 @@ module _ (Does : Input → Reply → Type 0) (Same : Type 0) (register : Registe
           one = record { bytes = None; asked = once.0; ending = Answered served.status };
           ends = refl;
           takes = takes;
-          is = tt;
+          is = (was, is, tt);
           did = once.1;
         }
     answered (Some bytes) was is served takes ended step =
-        let by = by_question bytes ended.0 served.status ended.1.question ended.1.asks ended.1.answers ended.3 in record {
+        let by = by_question bytes ended.0 ended.1.question ended.1.asks ended.1.answers in record {
           one = record { bytes = Some bytes; asked = by.0; ending = Answered served.status };
           ends = refl;
           takes = takes;
-          is = by.1;
+          is = (was, is, ended.0, by.1, ended.2, ended.3);
           did = by.2;
         }
 

@@ -1,12 +1,10 @@
 -- Connections served one after another: what became of each, what is printed, and the exit status.
-use Rattle.std.specs.Prelude.{◌≡◌, ◌⊎◌, ℕ, ◌+◌, ◌<◌, ◌≤◌, max, ◌==◌, if◌then◌else◌, Bool, true, List, [], ◌∷◌, ◌++◌}
-use Rattle.std.specs.Prelude.{length, map, flat_map, fold, codes, decimal, Option, Some, None, Result, Ok, Err, IfSome}
+use Rattle.std.specs.Prelude.{◌≡◌, ◌⊎◌, ⊤, ℕ, ◌+◌, ◌<◌, ◌≤◌, max, ◌==◌, if◌then◌else◌, Bool, List, [], ◌∷◌, ◌++◌}
+use Rattle.std.specs.Prelude.{length, map, flat_map, fold, codes, decimal, Option, Some, None, Ok, IfSome}
 use Rattle.std.specs.List.{AllByRecursion}
-use Rattle.hub_core.specs.Steps.{Stepped, input_of}
-use Rattle.hub_http.specs.Answer.{outcome_status, passes}
-use Rattle.hub_http.specs.Question.{Asks, Question}
-use Rattle.hub_http.specs.Refusal.{status_of}
-use Rattle.hub_http.specs.declared.refusal.Refusal.{Refusal}
+use Rattle.hub_core.specs.Steps.{input_of}
+use Rattle.hub_http.specs.Question.{Question}
+use Rattle.hub_http.specs.Serve.{Ended}
 use Rattle.hub_law.specs.declared.reply.Reply.{Reply}
 use Rattle.hub_law.specs.declared.request.Input.{Input}
 use Rattle.hub_parties.specs.Rows.{RegisterRows}
@@ -73,25 +71,17 @@ ending_status Fault = 3
 abbrev pub greatest : List Connection → ℕ
 greatest served = fold (λ status one. max status (ending_status one.ending)) 0 served
 
--- What a question came to: the reply to it, or 503 where memory was refused before it was asked; and what is refused
--- before the hub is asked has the status of its refusal.
-abbrev pub IsAnsweredBy : Bool → Result Question Refusal → Option Asked → ℕ → Type 0
-IsAnsweredBy passed (Ok question) (Some asked) status =
-    (asked.question ≡ question) × (status ≡ outcome_status asked.reply.outcome)
-IsAnsweredBy passed (Err refusal) (Some asked) status = ⊥
-IsAnsweredBy passed (Ok question) None status = (passed ≡ true) × (status ≡ 503)
-IsAnsweredBy passed (Err refusal) None status = (status ≡ status_of refusal) ⊎ ((passed ≡ true) × (status ≡ 503))
+-- this question was asked, and this was the reply
+abbrev pub IsAsked : Option Asked → Question → Reply → Type 0
+IsAsked None question reply = ⊥
+IsAsked (Some asked) question reply = (asked.question ≡ question) × (asked.reply ≡ reply)
 
--- the status is that of the response to these bytes
-pub record Answers (register : RegisterRows) (bytes : List ℕ) (asked : Option Asked) (status : ℕ) : Type 0 where
-  pub question : Result Question Refusal
-  pub asks : Asks register bytes question
-  pub is : IsAnsweredBy (passes asks.head) question asked status
-
--- where the bytes of a connection are known and it was answered, it was answered so
+-- Where the bytes of a connection are known and it was answered, what was asked is what they ask, and the status is that
+-- of the response: of the reply, or of a refusal, and then nothing was asked.
 abbrev pub EndsSo : RegisterRows → Connection → Ending → Type 0
-EndsSo register one (Answered status) = IfSome one.bytes (λ bytes. Answers register bytes one.asked status)
-EndsSo register one Fault = Unit {0}
+EndsSo register one (Answered status) = (was is : Option (List ℕ))
+    × Ended (IsAsked one.asked) (one.asked ≡ None) register one.bytes was is (Ok (record { status = status }))
+EndsSo register one Fault = ⊤
 
 abbrev pub IsServed : RegisterRows → Connection → Type 0
 IsServed register one = EndsSo register one one.ending

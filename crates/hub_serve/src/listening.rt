@@ -89,11 +89,16 @@ impl<'c, C: Clock, L: OpenListener> Connections for Listening<'c, C, L>
 where
     L::Stream: OpenStream + Read + Write,
 {
+    ghost use Rattle.std.specs.Prelude.{⊤, None};
+    ghost use Rattle.hub_serve.specs.Connections.{Takes};
+
     type Reader = OfRead<Timed<'c, C, L::Stream>>;
 
     type Writer = OfWrite<Timed<'c, C, L::Stream>>;
 
-    fn next(&mut self) -> Result<Sides<Self::Reader, Self::Writer>, NoConnection> {
+    fn next(&mut self) -> Result<Sides<Self::Reader, Self::Writer>, NoConnection>
+        ensures { Takes (λ _. None) None None result }
+    {
         match self.listener.accept() {
             Ok((stream, _)) => sides_of(self.clock, stream).map_err(|_| NoConnection::Gone),
             Err(error) if is_gone(&error) => Err(NoConnection::Gone),
@@ -104,7 +109,9 @@ where
         }
     }
 
-    fn end(&mut self, sides: Sides<Self::Reader, Self::Writer>) {
+    fn end(&mut self, sides: Sides<Self::Reader, Self::Writer>)
+        ensures { ⊤ }
+    {
         let Sides { reader, writer: _ } = sides;
         let _ = linger(self.clock, reader.into_inner().into_inner());
     }

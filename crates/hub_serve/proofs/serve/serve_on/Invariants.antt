@@ -1,0 +1,14 @@
+use Rattle.std.proofs.Common.{◌≡◌, ◌≤◌}
+use Rattle.hub_serve.proofs.Running.{RunsTo}
+use Rattle.hub_serve.proofs.SoFar.{SoFar}
+use Rattle.hub_serve.proofs.serve.serve_on.Given as goal
+
+abbrev pub invariant-loop : goal.invariant-loop
+invariant-loop g l = record {
+  within : l.number ≤ l.count;
+  register : l.hub.0 ≡ l.fn.hub.0;
+  was_honest : g.S.Store.honest l.hub.1 → g.S.Store.honest l.fn.hub.1;
+  so_far : SoFar (RunsTo g.S.Store.content g.S.Store.honest g.S.Store.left l.fn.hub l.hub) l.fn.hub.0
+      (g.L.Connections.coming l.fn.connections) (g.L.Connections.coming l.connections)
+      (g.W.Sink.contents l.fn.out) (g.W.Sink.contents l.out) (g.W.Sink.failed l.fn.out) (g.W.Sink.failed l.out) l.number l.greatest;
+}
