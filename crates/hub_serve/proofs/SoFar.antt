@@ -103,21 +103,21 @@ so_far_none Runs register known old failed ran = record {
 }
 
 -- what was printed of a line
-pub printed : {E : Type 0} {old new : Option (List ℕ)} {failed after : Bool} {text : List ℕ} (r : Result (Unit {0}) E)
+pub printed : {E : Type 0} (old new : Option (List ℕ)) (failed after : Bool) (text : List ℕ) (r : Result (Unit {0}) E)
     → Writes r old new text
     → Flags r failed after
     → is_err r ≡ false
     → Written old new failed after text
-printed (Ok done) bytes flag e = record { bytes = bytes; flag = flag }
-printed (Err fault) bytes flag e = absurd (true≢false e)
+printed old new failed after text (Ok done) bytes flag e = record { bytes = bytes; flag = flag }
+printed old new failed after text (Err fault) bytes flag e = absurd (true≢false e)
 
-pub broken : {E : Type 0} {old new : Option (List ℕ)} {failed after : Bool} {text : List ℕ} (r : Result (Unit {0}) E)
+pub broken : {E : Type 0} (old new : Option (List ℕ)) (failed after : Bool) (text : List ℕ) (r : Result (Unit {0}) E)
     → Writes r old new text
     → Flags r failed after
     → is_err r ≡ true
     → AppendsFront old new text × IsTrue after
-broken (Ok done) bytes flag e = absurd (false≢true e)
-broken (Err fault) bytes flag e = (bytes, flag)
+broken old new failed after text (Ok done) bytes flag e = absurd (false≢true e)
+broken old new failed after text (Err fault) bytes flag e = (bytes, flag)
 
 are_first : (known rest : Coming) (served : List Connection) → Rests known rest served → AreFirst known served
 are_first None rest served rests = tt

@@ -79,8 +79,8 @@ IsAsked (Some asked) question reply = (asked.question ≡ question) × (asked.re
 -- Where the bytes of a connection are known and it was answered, what was asked is what they ask, and the status is that
 -- of the response: of the reply, or of a refusal, and then nothing was asked.
 abbrev pub EndsSo : RegisterRows → Connection → Ending → Type 0
-EndsSo register one (Answered status) = (was is : Option (List ℕ))
-    × Ended (IsAsked one.asked) (one.asked ≡ None) register one.bytes was is (Ok (record { status = status }))
+EndsSo register one (Answered status) = (left was is : Option (List ℕ))
+    × Ended (IsAsked one.asked) (one.asked ≡ None) register one.bytes left was is (Ok (record { status = status }))
 EndsSo register one Fault = ⊤
 
 abbrev pub IsServed : RegisterRows → Connection → Type 0

@@ -72,8 +72,9 @@ pub fn serve_on<L: Connections, S: Store, M: Moments, W: Sink>(
     let mut greatest = DONE;
     let mut number: u64 = 0;
     while number < count {
-        let Ok(ending) = serve_next(alloc, connections, hub, moments) else {
-            return FAILED;
+        let ending = match serve_next(alloc, connections, hub, moments) {
+            Ok(ending) => ending,
+            Err(NoMore) => return FAILED,
         };
         number += 1;
         if print_line(out, number, ending).is_err() {

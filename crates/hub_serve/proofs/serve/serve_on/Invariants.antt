@@ -1,10 +1,10 @@
-use Rattle.std.proofs.Common.{◌≡◌, ◌≤◌}
+use Rattle.std.proofs.Common.{◌≡◌, ◌≤◌, ◌-◌}
 use Rattle.hub_serve.proofs.Running.{RunsTo}
 use Rattle.hub_serve.proofs.SoFar.{SoFar}
 use Rattle.hub_serve.proofs.serve.serve_on.Given as goal
 
-abbrev pub invariant-loop : goal.invariant-loop
-invariant-loop g l = record {
+abbrev pub invariant-loop-number : goal.invariant-loop-number
+invariant-loop-number g l = record {
   within : l.number ≤ l.count;
   register : l.hub.0 ≡ l.fn.hub.0;
   was_honest : g.S.Store.honest l.hub.1 → g.S.Store.honest l.fn.hub.1;
@@ -12,3 +12,6 @@ invariant-loop g l = record {
       (g.L.Connections.coming l.fn.connections) (g.L.Connections.coming l.connections)
       (g.W.Sink.contents l.fn.out) (g.W.Sink.contents l.out) (g.W.Sink.failed l.fn.out) (g.W.Sink.failed l.out) l.number l.greatest;
 }
+
+abbrev pub decreases-loop-number : goal.decreases-loop-number
+decreases-loop-number g l = l.count - l.number
