@@ -1,7 +1,7 @@
 RELAY = relay --hub 5412345000006 --owner 4012345500004 --moment 1748942400 --number 1
 PROVED = crates/edihub/out/edihub
 
-.PHONY: run day try test wrong bench edihub clean
+.PHONY: run day serve try test wrong bench edihub clean
 
 # The main job, with the proved program: the example's ORDERS interchange becomes the supplier's mailbox interchange.
 run: edihub
@@ -10,6 +10,15 @@ run: edihub
 # Some days of one retailer with two suppliers, over a database file in a temporary folder.
 day: edihub
 	sh examples/day/day.sh ./edihub
+
+# The hub of the example register on port 8080 of 127.0.0.1, over a database file in a temporary folder, for 1,000
+# connections; ^C ends it. `make serve PORT=8081 COUNT=10` takes another port, and as many connections.
+PORT = 8080
+COUNT = 1000
+
+serve: edihub
+	folder=$$(mktemp -d) && trap 'rm -rf "$$folder"' EXIT && trap : INT && \
+		./edihub serve --register examples/register.toml --db "$$folder/hub.db" --port $(PORT) --count $(COUNT) || test $$? -le 1
 
 # Proves and builds the program. With no change since, nothing is proved again.
 edihub:
