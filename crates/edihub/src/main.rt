@@ -8,10 +8,10 @@ mod serve;
 use clap::Error;
 use edi_tokens::{OfRead, OfWrite};
 use hub::over_a_hub;
-use serve::serve_a_hub;
 use hub_app::{
     FAILED, Words, WordsFault, check_run, read_register_text, read_words, relay_run, show_run,
 };
+use serve::serve_a_hub;
 use std::fmt::Display;
 use std::fs::File;
 use std::process::ExitCode;

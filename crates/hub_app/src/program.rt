@@ -275,7 +275,8 @@ fn cancel_command<'a>(alloc: Global) -> Result<Command<'a>, AllocError>
 
 const SERVE: &str = "Serves requests over HTTP on 127.0.0.1, one connection after another";
 
-const SERVE_HELP: &str = "The program listens on 127.0.0.1 alone: who asks from elsewhere comes through a reverse proxy, which has the
+const SERVE_HELP: &str =
+    "The program listens on 127.0.0.1 alone: who asks from elsewhere comes through a reverse proxy, which has the
 name and TLS. It serves as many connections as it is told, and ends; whoever supervises it begins it anew.
 
   edihub serve --register register.toml --db hub.db --port 8080 --count 100000

@@ -92,7 +92,7 @@ thirty_digits = refl
 cut : upload (size (codes "5") ∷ []) (codes "abcd") ≡ Err BadRequest
 cut = refl
 
-whole : upload (size (codes "0005") ∷ []) (codes "abcde and more") 
+whole : upload (size (codes "0005") ∷ []) (codes "abcde and more")
     ≡ Ok (record { gln = supplier; key = codes "alpha-key-1"; request = asks.Upload (codes "abcde") })
 whole = refl
 

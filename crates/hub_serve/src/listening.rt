@@ -4,7 +4,9 @@ use crate::timed::Timed;
 use edi_base::{OfRead, OfWrite};
 use std::io;
 use std::io::{ErrorKind, Read, Write};
-use std::net::{Ipv4Addr, Net, OpenListener, OpenStream, Shutdown, SocketAddr, SocketAddrV4, TcpListener};
+use std::net::{
+    Ipv4Addr, Net, OpenListener, OpenStream, Shutdown, SocketAddr, SocketAddrV4, TcpListener,
+};
 use std::time::{Clock, Duration, Instant};
 
 /// How many seconds a connection lasts at most.
