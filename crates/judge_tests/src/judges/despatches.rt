@@ -1,5 +1,7 @@
 ghost use Rattle.std.specs.Prelude.{◌≡◌, false, map, IfOk};
 ghost use Rattle.edi_base.specs.Seen.{has_twice};
+ghost use Rattle.hub_tables.specs.Sets.{Rises};
+ghost use Rattle.hub_lines.specs.Book.{facts_cmp};
 
 use super::*;
 use edi_goods::Despatch;
@@ -136,20 +138,41 @@ fn despatch(alloc: Global, case: &DespatchCase) -> Result<Despatch, Fail>
     Ok(Despatch::read(alloc, &message)?)
 }
 
-// Of the line 24 pieces are open.
-fn verdict(alloc: Global, case: &DespatchCase) -> Result<Verdict, Fail> {
-    let retailer = gln(RETAILER)?;
-    let row = alpha(alloc)?;
-    let despatch = despatch(alloc, case)?;
+// What is known: of the line 24 pieces are open.
+fn known_of(alloc: Global, case: &DespatchCase) -> Result<Known, Fail>
+    ensures { IfOk result (λ known. Rises facts_cmp known.lines) }
+{
     let line = ("128576", 1, [48, 24, 24, 0, 0], Answered::Changed);
+    let used = Items::from_vec(Vec::from_slice(alloc, case.used)?);
     let mut known = known(alloc, [BEFORE, line, BEHIND], case.remembered)?;
-    known.used = Items::from_vec(Vec::from_slice(alloc, case.used)?);
+    known.used = used;
     known.number_known = case.is_number_known;
+    Ok(known)
+}
+
+// What comes of a despatch advice, where a flag is known of each unit.
+fn judged(
+    alloc: Global,
+    row: &SupplierRow,
+    known: Known,
+    despatch: &Despatch,
+) -> Result<Verdict, Fail>
+    requires rise { Rises facts_cmp known.lines }
+    requires apart { has_twice (map (λ unit. unit.sscc) despatch.now.units) ≡ false }
+{
     if known.used.as_slice().len() != despatch.units.as_slice().len() {
         return Err(Fail::new("not a flag for each unit"));
     }
+    let retailer = gln(RETAILER)?;
     let delivery = delivery(alloc)?;
-    Ok(judge_despatch(alloc, &retailer, Some(&row), known, delivery, &despatch)?)
+    Ok(judge_despatch(alloc, &retailer, Some(row), known, delivery, despatch)?)
+}
+
+fn verdict(alloc: Global, case: &DespatchCase) -> Result<Verdict, Fail> {
+    let row = alpha(alloc)?;
+    let despatch = despatch(alloc, case)?;
+    let known = known_of(alloc, case)?;
+    judged(alloc, &row, known, &despatch)
 }
 
 #[test]

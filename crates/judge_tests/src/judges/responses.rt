@@ -1,3 +1,7 @@
+ghost use Rattle.std.specs.List.{AllByRecursion};
+ghost use Rattle.hub_tables.specs.Sets.{Rises};
+ghost use Rattle.hub_lines.specs.Book.{facts_cmp, IsCovered};
+
 use super::*;
 use edi_orders::{Answer, AnswerLine, LineAnswer, Response};
 use hub_judges::judge_response;
@@ -235,13 +239,25 @@ fn response(alloc: Global, case: &ResponseCase) -> Result<Response, Fail> {
     })
 }
 
-fn verdict(alloc: Global, case: &ResponseCase) -> Result<Verdict, Fail> {
+fn judged(
+    alloc: Global,
+    row: &SupplierRow,
+    known: Known,
+    response: &Response,
+) -> Result<Verdict, Fail>
+    requires rise { Rises facts_cmp known.lines }
+    requires covered { AllByRecursion IsCovered known.lines }
+{
     let retailer = gln(RETAILER)?;
+    let delivery = delivery(alloc)?;
+    Ok(judge_response(alloc, &retailer, Some(row), known, delivery, response)?)
+}
+
+fn verdict(alloc: Global, case: &ResponseCase) -> Result<Verdict, Fail> {
     let row = alpha(alloc)?;
     let response = response(alloc, case)?;
     let known = known(alloc, *case.lines, None)?;
-    let delivery = delivery(alloc)?;
-    Ok(judge_response(alloc, &retailer, Some(&row), known, delivery, &response)?)
+    judged(alloc, &row, known, &response)
 }
 
 #[test]
