@@ -1,5 +1,5 @@
 -- What became of one connection.
-use Rattle.std.proofs.Common.{◌≡◌, ℕ, ◌+◌, List, Option, Some, None, Result, Ok, Err, refl, ◌∙◌, inl, inr, subst, sym}
+use Rattle.std.proofs.Common.{◌≡◌, ℕ, ◌+◌, List, Option, Some, None, Ok, Err, refl, inl, inr}
 use Rattle.edi_base.specs.Source.{TakesAtMost}
 use Rattle.http_head.specs.Head.{longest_head}
 use Rattle.hub_http.specs.Answer.{OneStep, Serves, announced_by, passes}

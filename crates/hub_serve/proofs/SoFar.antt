@@ -14,9 +14,8 @@ use Rattle.hub_law.specs.declared.reply.Reply.{Reply}
 use Rattle.hub_law.specs.declared.request.Input.{Input}
 use Rattle.hub_parties.specs.Rows.{RegisterRows}
 use Rattle.hub_serve.specs.Connections.{Coming, TakesOne}
-use Rattle.hub_serve.specs.Output.{Written, BrokenOff}
+use Rattle.hub_serve.specs.Output.{Written}
 use Rattle.hub_serve.specs.Serve.{AreFirst, Connection, IsServed, Serves, ending_status, greatest, inputs, line_of, lines_from, replies}
-use Rattle.hub_serve.specs.declared.line.Ending.{Ending}
 
 -- these are the first of the connections that come, and the others still come
 abbrev pub Rests : Coming → Coming → List Connection → Type 0

@@ -1,6 +1,4 @@
-use Rattle.std.proofs.Common.{◌≡◌, ◌+◌, ◌<◌, ◌≤◌, ℕ, List, ◌∷◌, [], ◌++◌, refl, sym, subst, ◌∙◌, arith}
-use Rattle.hub_law.specs.declared.reply.Reply.{Reply}
-use Rattle.hub_law.specs.declared.request.Input.{Input}
+use Rattle.std.proofs.Common.{◌+◌, ◌<◌, refl, sym, subst, ◌∙◌, arith}
 use Rattle.hub_parties.specs.Rows.{RegisterRows}
 use Rattle.hub_serve.specs.Serve.{IsServed, inputs, line_of, replies}
 use Rattle.hub_serve.proofs.Running.{RunsTo, runs_more}
