@@ -80,7 +80,8 @@ IsAsked (Some asked) question reply = (asked.question ≡ question) × (asked.re
 -- of the response: of the reply, or of a refusal, and then nothing was asked.
 abbrev pub EndsSo : RegisterRows → Connection → Ending → Type 0
 EndsSo register one (Answered status) = (left was is : Option (List ℕ))
-    × Ended (IsAsked one.asked) (one.asked ≡ None) register one.bytes left was is (Ok (record { status = status }))
+    × Ended (IsAsked one.asked) (one.asked ≡ None) register one.bytes left was is
+    (Ok (record { status = status }))
 EndsSo register one Fault = ⊤
 
 abbrev pub IsServed : RegisterRows → Connection → Type 0

@@ -23,7 +23,8 @@ returns-in_err-put_number-clause-bytes g c =
 pub returns-in_err-put_end-clause-bytes : goal.returns-in_err-put_end-clause-bytes
 returns-in_err-put_end-clause-bytes g c =
     let front = rw c.new-waiting.ensures at c.in_ok-put_number.ensures.bytes in
-    subst (λ (l : List ℕ). Writes c.from_residual-in_err-put_end.result (g.W.Sink.contents c.args.out.now) (g.W.Sink.contents c.put_end.new.out) l)
+    subst (λ (l : List ℕ). Writes c.from_residual-in_err-put_end.result (g.W.Sink.contents c.args.out.now)
+    (g.W.Sink.contents c.put_end.new.out) l)
     (whole c.args.number c.args.ending)
     (writes _ _ c.from_residual-in_err-put_end.result _ [] (λ i. [])
     (puts_cut c.from_residual-in_err-put_end.result [] c.from_residual-in_err-put_end.ensures.0
