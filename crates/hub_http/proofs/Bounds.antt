@@ -13,7 +13,7 @@ use Rattle.http_routes.specs.declared.routes.Place.{Place}
 use Rattle.hub_http.specs.Answer.{size_asked}
 use Rattle.hub_http.specs.Asked.{Asked, Asker, announced, asked_by, asker_of, at_place, by_asker, encoding_field, is_post}
 use Rattle.hub_http.specs.Asked.{is_right, is_single, key_field, length_field, longest_body, may_ask, method_of, place_in, posted}
-use Rattle.hub_http.specs.Asked.{size_in, size_of, with_size}
+use Rattle.hub_http.specs.Asked.{size_of, with_size}
 use Rattle.hub_http.specs.declared.refusal.Refusal.{Refusal}
 use Rattle.hub_http.specs.declared.refusal.Refusal.TheVariants.{BadRequest, Unknown, Method, Denied, Length, TooLarge}
 

@@ -1,5 +1,5 @@
 -- What connections ask, computed.
-use Rattle.std.proofs.Common.{◌≡◌, List, [], ◌∷◌, ℕ, Option, Some, None, Result, Ok, Err, codes, refl}
+use Rattle.std.proofs.Common.{◌≡◌, List, [], ◌∷◌, ℕ, Some, None, Result, Ok, Err, codes, refl}
 use Rattle.hub_law.specs.declared.request.Request.TheVariants as asks
 use Rattle.hub_parties.specs.Rows.{RegisterRows, rows_by}
 use Rattle.hub_parties.specs.declared.row.SupplierRow.{SupplierRow}

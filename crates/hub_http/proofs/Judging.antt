@@ -1,5 +1,5 @@
 -- What a head asks for, once its first check passed.
-use Rattle.std.proofs.Common.{◌≡◌, ℕ, List, Bool, true, not, Option, Result, Err, ap, sym, ◌∙◌}
+use Rattle.std.proofs.Common.{◌≡◌, ℕ, List, true, not, Option, Err, ap, sym, ◌∙◌}
 use Rattle.std.specs.Prelude.{if◌then◌else◌}
 use Rattle.hub_parties.specs.Rows.{RegisterRows}
 use Rattle.http_head.specs.Head.{Heading}
