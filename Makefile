@@ -50,6 +50,9 @@ bench: edihub
 	if rustc --edition 2021 -O -o crates/hub_script/out/plain_sql bench/sql.rs; then \
 		python3 bench/sql.py crates/hub_script/out/hub_script crates/hub_script/out/plain_sql ./edihub; \
 	else echo "no SQLite library to compare with"; fi
+	if rustc --edition 2021 -O -o crates/hub_script/out/plain_server bench/server.rs; then \
+		python3 bench/server.py crates/hub_script/out/hub_script crates/hub_script/out/plain_server ./edihub; \
+	else echo "no SQLite library to compare with"; fi
 
 clean:
 	rm -rf edihub crates/*/out

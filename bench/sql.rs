@@ -30,17 +30,23 @@ unsafe extern "C" {
 const ROW: c_int = 100;
 const DONE: c_int = 101;
 
-enum Value<'a> {
+pub enum Value<'a> {
     Bytes(&'a [u8]),
     Number(u64),
 }
-use Value::{Bytes, Number};
+pub use Value::{Bytes, Number};
 
-struct Statement(*mut c_void);
+pub struct Statement(*mut c_void);
 
 impl Statement {
+    fn of(db: *mut c_void, text: &str) -> Statement {
+        let (mut it, text) = (null_mut(), CString::new(text).unwrap());
+        assert!(unsafe { sqlite3_prepare_v2(db, text.as_ptr(), -1, &mut it, null_mut()) } == 0);
+        Statement(it)
+    }
+
     /// Runs it; `row` gets each row.
-    fn run(&self, values: &[Value], mut row: impl FnMut(&Self)) {
+    pub fn run(&self, values: &[Value], mut row: impl FnMut(&Self)) {
         for (place, value) in values.iter().enumerate() {
             let at = place as c_int + 1;
             let bound = match value {
@@ -59,11 +65,11 @@ impl Statement {
         unsafe { sqlite3_reset(self.0) };
     }
 
-    fn bytes(&self, at: c_int) -> Vec<u8> {
+    pub fn bytes(&self, at: c_int) -> Vec<u8> {
         unsafe { std::slice::from_raw_parts(sqlite3_column_blob(self.0, at), sqlite3_column_bytes(self.0, at) as usize).to_vec() }
     }
 
-    fn number(&self, at: c_int) -> u64 {
+    pub fn number(&self, at: c_int) -> u64 {
         unsafe { sqlite3_column_int64(self.0, at) as u64 }
     }
 
@@ -74,7 +80,7 @@ impl Statement {
     }
 }
 
-struct Hub {
+pub struct Hub {
     db: *mut c_void,
     suppliers: Vec<Gln>,
     begin: Statement,
@@ -98,18 +104,14 @@ struct Hub {
 const TABLES: &str = include_str!("tables.sql");
 
 impl Hub {
-    fn over(path: &str, suppliers: Vec<Gln>) -> Hub {
+    pub fn over(path: &str, suppliers: Vec<Gln>) -> Hub {
         let (mut db, path) = (null_mut(), CString::new(path).unwrap());
         assert!(unsafe { sqlite3_open(path.as_ptr(), &mut db) } == 0);
         let exec = |text: &CStr| assert!(unsafe { sqlite3_exec(db, text.as_ptr(), null_mut(), null_mut(), null_mut()) } == 0);
         exec(c"PRAGMA journal_mode = WAL");
         exec(c"PRAGMA synchronous = FULL");
         exec(&CString::new(TABLES).unwrap());
-        let of = |text: &str| {
-            let (mut it, text) = (null_mut(), CString::new(text).unwrap());
-            assert!(unsafe { sqlite3_prepare_v2(db, text.as_ptr(), -1, &mut it, null_mut()) } == 0);
-            Statement(it)
-        };
+        let of = |text: &str| Statement::of(db, text);
         Hub {
             db,
             suppliers,
@@ -130,6 +132,10 @@ impl Hub {
             last_mail: of("SELECT number FROM mail WHERE supplier = ?1 ORDER BY number DESC LIMIT 1"),
             add_mail: of("INSERT INTO mail VALUES (?1, ?2, 1748942400, 46, 79, ?3, ?4, 0)"),
         }
+    }
+
+    pub fn prepared(&self, text: &str) -> Statement {
+        Statement::of(self.db, text)
     }
 
     /// The content, where it is not remembered.
@@ -212,7 +218,7 @@ impl Hub {
         true
     }
 
-    fn upload(&self, text: &[u8]) -> Vec<u8> {
+    pub fn upload(&self, text: &[u8]) -> Vec<u8> {
         let (_, segments) = read(text).unwrap();
         let control = segments[0].component(4, 0).to_vec();
         let messages = open(segments).unwrap();
