@@ -131,19 +131,12 @@ fn an_sscc_is_under_its_prefixes(rt: HostRuntime) -> Result<(), Fail> {
     Ok(())
 }
 
-// An identifier of each kind.
-fn identifiers() -> Option<(Gln, Gtin, Sscc, Prefix)> {
-    Some((
-        Gln::parse(b"5412345000006")?,
-        Gtin::parse(b"036000291452")?,
-        Sscc::parse(b"340123455000000012")?,
-        Prefix::parse(b"40123")?,
-    ))
-}
-
 #[test]
 fn identifiers_show_their_digits(rt: HostRuntime) -> Result<(), Fail> {
-    let (gln, gtin, sscc, prefix) = identifiers().ok_or("an identifier of each kind")?;
+    let gln = Gln::parse(b"5412345000006").ok_or("a GLN")?;
+    let gtin = Gtin::parse(b"036000291452").ok_or("a GTIN-12")?;
+    let sscc = Sscc::parse(b"340123455000000012").ok_or("an SSCC")?;
+    let prefix = prefix("40123")?;
     let shown = format!(in rt.alloc(); "{gln} {:>15} {gtin} {sscc} {prefix}", gln)?;
     let digits = (gln.digits(), sscc.digits(), shown.as_str());
     let want = (
@@ -155,17 +148,10 @@ fn identifiers_show_their_digits(rt: HostRuntime) -> Result<(), Fail> {
     Ok(())
 }
 
-// A GTIN-12, and the GTIN-13 of the same number.
-fn one_number_twice() -> Option<(Gtin, Gtin)> {
-    Some((
-        Gtin::parse(b"036000291452")?,
-        Gtin::parse(b"0036000291452")?,
-    ))
-}
-
 #[test]
 fn equal_numbers_are_one_gtin(rt: HostRuntime) -> Result<(), Fail> {
-    let (short, long) = one_number_twice().ok_or("a GTIN-12 and a GTIN-13")?;
+    let short = Gtin::parse(b"036000291452").ok_or("a GTIN-12")?;
+    let long = Gtin::parse(b"0036000291452").ok_or("a GTIN-13")?;
     let found = (order_of(&short, &long), hash_of(&short) == hash_of(&long));
     assert_eq!(rt; found, ((Ordering::Equal, true), true));
     Ok(())
@@ -210,7 +196,7 @@ static OVERLAPS: [([&str; 4], Option<(usize, usize)>); 6] = [
     (["4012", "4012", "4012", "4012"], Some((0, 1))),
 ];
 
-fn overlap_of(texts: &[&str; 4]) -> Result<Option<(usize, usize)>, &'static str> {
+fn overlap_of(texts: &[&str; 4]) -> Result<Option<(usize, usize)>, Fail> {
     let [first, second, third, fourth] = texts;
     let all = [
         prefix(first)?,
