@@ -211,7 +211,7 @@ def by_the_clock():
 
 def broken_output():
     """Where standard output breaks off, what was accepted stays accepted."""
-    full = Case("", over("import", RETAILER, "--folder", "in"), output_to="/dev/full", status=3, files={"in/a.edi": ORDERS.encode()})
+    full = Case("", over("import", RETAILER, "--folder", "in"), output_to="/dev/full", error=b"file\n", status=3, files={"in/a.edi": ORDERS.encode()})
     return steps(
         "standard output is full",
         full,

@@ -468,7 +468,7 @@ def begins(program):
         ran = subprocess.run([program, *words], cwd=server.folder, capture_output=True, timeout=SECONDS)
         why = unlike("a port that is taken", (ran.returncode, ran.stdout, ran.stderr), (3, b"", b"listen\n"))
     with open("/dev/full", "wb") as full, Server(program, 1, output=full) as server:
-        return why or unlike("standard output is full", server.end(), (3, b"", b""))
+        return why or unlike("standard output is full", server.end(), (3, b"", b"file\n"))
 
 
 def by_the_clock(program):

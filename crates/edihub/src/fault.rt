@@ -1,4 +1,4 @@
-//! Why a command over a hub was not begun.
+//! Why a command over a hub was not begun, or not ended.
 use edi_base::ReadFault;
 use hub_app::TextFault;
 use hub_register::RegisterFault;
@@ -6,7 +6,7 @@ use hub_store::StoreFault;
 use std::error::Error;
 use std::fmt;
 
-/// Why a command over a hub was not begun, in the order in which it is looked for.
+/// Why a command over a hub was not begun, in the order in which it is looked for, or not ended.
 #[derive(Clone, Copy, Debug)]
 pub(crate) enum BeginFault {
     /// The register is none.
@@ -17,7 +17,7 @@ pub(crate) enum BeginFault {
     Listen,
     /// The clock does not answer, or is out of range.
     Clock,
-    /// A file or folder cannot be read.
+    /// A file or folder cannot be read, or standard output not be written.
     File,
     /// Out of memory.
     Memory,

@@ -39,6 +39,14 @@ pub(crate) fn now(rt: &HostRuntime) -> Result<Moment, BeginFault> {
     Moment::new(seconds).ok_or(BeginFault::Clock)
 }
 
+// The exit status, where all was written.
+pub(crate) fn written<W>(out: &OfWrite<W>, status: u8) -> Result<u8, BeginFault> {
+    if out.failed() {
+        return Err(BeginFault::File);
+    }
+    Ok(status)
+}
+
 // Uploads what is in a folder.
 fn import<S: Store>(
     rt: &HostRuntime,
@@ -47,15 +55,17 @@ fn import<S: Store>(
     folder: &str,
 ) -> Result<u8, BeginFault> {
     let mut files = Folder::open(rt, folder)?;
-    Ok(import_run(
+    let mut out = OfWrite::new(rt.stdout());
+    let status = import_run(
         rt.alloc(),
         hub,
         caller.moment,
         &caller.gln,
         caller.key,
         &mut files,
-        &mut OfWrite::new(rt.stdout()),
-    ))
+        &mut out,
+    );
+    written(&out, status)
 }
 
 // Asks once, and prints the reply.
@@ -66,7 +76,9 @@ fn ask<S: Store>(
     request: Request,
 ) -> Result<u8, BeginFault> {
     let reply = hub.step(caller.moment, &caller.gln, caller.key, request);
-    Ok(reply_run(&reply, &mut OfWrite::new(rt.stdout())))
+    let mut out = OfWrite::new(rt.stdout());
+    let status = reply_run(&reply, &mut out);
+    written(&out, status)
 }
 
 // Does what is asked of the hub.

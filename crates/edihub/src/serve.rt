@@ -1,6 +1,6 @@
 //! Serving a hub over the network.
 use crate::fault::BeginFault;
-use crate::hub::{now, register_at};
+use crate::hub::{now, register_at, written};
 use crate::tell;
 use edi_base::OfWrite;
 use edi_envelope::Moment;
@@ -47,7 +47,7 @@ fn serve_over<A: Alter + Drop>(
     };
     let mut out = OfWrite::new(rt.stdout());
     if print_listening(&mut out, words.port).is_err() {
-        return Ok(BeginFault::File.status());
+        return Err(BeginFault::File);
     }
     let status = serve_on(
         rt.alloc(),
@@ -63,7 +63,7 @@ fn serve_over<A: Alter + Drop>(
     if connections.has_failed() {
         return Err(BeginFault::Listen);
     }
-    Ok(status)
+    written(&out, status)
 }
 
 // Serves the hub whose tables are these. Gives them back, also where nothing was served.
