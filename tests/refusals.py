@@ -84,20 +84,20 @@ def sent_twice():
         play.say("connection", request)
         asked.append(Asked(printed(status, body), printed(status, again or body), {printed(503, text) for text in stops}))
 
-    path, after = f"/p/{ALPHA}", http_texts.asking
+    path, asking = f"/p/{ALPHA}", http_texts.asking
     head = "interchange 1011 messages 1\n"
-    upload = after("POST", f"/p/{RETAILER}/interchanges", RETAILER, interchange(RETAILER, "1011", order("128579")))
+    upload = asking("POST", f"/p/{RETAILER}/interchanges", RETAILER, interchange(RETAILER, "1011", order("128579")))
     wired(upload, head + "1 ORDERS accepted\n", head + "1 ORDERS repeated\n", stops=(b"", b"stopped\n", f"{head}stopped\n".encode()))
-    wired(after("GET", f"{path}/mail/item/1", ALPHA), FIRST_MAIL)
-    wired(after("GET", f"{path}/mail/after/3", ALPHA), "             4 ORDERS 128579\nend\n")
-    wired(after("POST", f"{path}/mail/item/4/taken", ALPHA, ""), "taken\n")
-    wired(after("GET", f"/p/{RETAILER}/status/{BETA}", RETAILER), "end\n")
+    wired(asking("GET", f"{path}/mail/item/1", ALPHA), FIRST_MAIL)
+    wired(asking("GET", f"{path}/mail/after/3", ALPHA), "             4 ORDERS 128579\nend\n")
+    wired(asking("POST", f"{path}/mail/item/4/taken", ALPHA, ""), "taken\n")
+    wired(asking("GET", f"/p/{RETAILER}/status/{BETA}", RETAILER), "end\n")
     cancel = f"{ALPHA}\nC5\n128579\n1\n7\n"
-    wired(after("POST", f"/p/{RETAILER}/cancellations", RETAILER, cancel), "accepted\n", "repeated\n")
-    wired(after("GET", f"{path}/mail/item/x", ALPHA), "unknown\n", status=404)
+    wired(asking("POST", f"/p/{RETAILER}/cancellations", RETAILER, cancel), "accepted\n", "repeated\n")
+    wired(asking("GET", f"{path}/mail/item/x", ALPHA), "unknown\n", status=404)
     # nothing asks for memory up to the first check
     wired(b"GET /\r\n\r\n", "bad request\n", status=400, stops=())
-    wired(after("GET", f"{path}/status", ALPHA, None, "X-Hub-Key: alpha-key-1"), "bad request\n", status=400, stops=())
+    wired(asking("GET", f"{path}/status", ALPHA, None, "X-Hub-Key: alpha-key-1"), "bad request\n", status=400, stops=())
     return play.script, asked
 
 

@@ -231,7 +231,6 @@ class Parts:
     """A request in parts that are made wrong."""
 
     def __init__(self):
-        self.line = "POST /p/{} HTTP/1.1"
         self.path = f"{RETAILER}/interchanges"
         self.method = "POST"
         self.keys, self.lengths, self.more = ["retail-key"], [str(len(ORDERS))], []
@@ -296,9 +295,31 @@ def pairs():
                 yield (f"{name}, and {other}", one.bytes(), *ANSWERS[place])
 
 
+def of_cancellations():
+    """No cancellation beside each check before it, and a supplier that is none beside each before that."""
+    path, body = f"/p/{RETAILER}/cancellations", f"{ALPHA}\nC1\n128576\n1\n10"
+    whole = asking("POST", path, RETAILER, body)
+    of_none = f"/p/{RETAILER}/status/3512345000006"
+    of_alpha = f"/p/{ALPHA}/status/3512345000006"
+    yield "no cancellation", whole, 400, "bad request\n"
+    yield "no cancellation, and two keys", asking("POST", path, RETAILER, body, "X-Hub-Key: retail-key"), 400, "bad request\n"
+    yield "no cancellation, and another path", asking("POST", path + "x", RETAILER, body), 404, "unknown\n"
+    yield "no cancellation, and another method", asking("PUT", path, RETAILER, body), 405, "method\n"
+    yield "no cancellation, and no key", asking("POST", path, None, body), 403, "denied\n"
+    yield "no cancellation, and the other side", asking("POST", f"/p/{ALPHA}/cancellations", ALPHA, body), 403, "denied\n"
+    yield "no cancellation, and no length", head(f"POST {path} HTTP/1.1", "X-Hub-Key: retail-key") + body.encode(), 411, "length\n"
+    yield "no cancellation, and a length too great", head(f"POST {path} HTTP/1.1", "X-Hub-Key: retail-key", "Content-Length: 1048577") + body.encode(), 413, "too large\n"
+    yield "no cancellation, and cut", whole[:-1], 400, "bad request\n"
+    yield "a supplier that is none", asking("GET", of_none, RETAILER), 404, "unknown\n"
+    yield "a supplier that is none, and two keys", asking("GET", of_none, RETAILER, None, "X-Hub-Key: retail-key"), 400, "bad request\n"
+    yield "a supplier that is none, and another method", asking("PUT", of_none, RETAILER), 405, "method\n"
+    yield "a supplier that is none, and no key", asking("GET", of_none), 403, "denied\n"
+    yield "a supplier that is none, and the other side", asking("GET", of_alpha, ALPHA), 403, "denied\n"
+
+
 def two_wrongs(program):
     nothing = [get(ALPHA, "mail/after/0", 200, "end\n"), get(ALPHA, "status", 200, "end\n")]
-    return served(program, [*pairs(), *nothing, ORDERED])
+    return served(program, [*pairs(), *of_cancellations(), *nothing, ORDERED])
 
 
 def cuts(program):
@@ -400,7 +421,15 @@ def stalled(program, drip):
             passed = time.monotonic() - begun
             next_one.settimeout(SECONDS)
             found = all_of(next_one)
+        slow.settimeout(SECONDS)
+        told_slow = b""
+        try:
+            told_slow = all_of(slow)
+        except OSError:
+            pass
         slow.close()
+        if told_slow:
+            return f"the slow one was answered {told_slow!r:.100}"
         if not 9 < passed < 12:
             return f"the next one waited {passed:.1f} seconds"
         return unlike("the next one", found, response(200, "end\n")) or unlike("the program", server.end(), (3, lines_of(server.port, ["fault", 200]), b""))
@@ -467,6 +496,11 @@ def begins(program):
         words = ["serve", "--register", REGISTER, "--db", "other.db", "--port", str(server.port), "--count", "1"]
         ran = subprocess.run([program, *words], cwd=server.folder, capture_output=True, timeout=SECONDS)
         why = unlike("a port that is taken", (ran.returncode, ran.stdout, ran.stderr), (3, b"", b"listen\n"))
+        with open(os.path.join(server.folder, "nine.db"), "wb") as file:
+            file.write(nine)
+        words[4] = "nine.db"
+        ran = subprocess.run([program, *words], cwd=server.folder, capture_output=True, timeout=SECONDS)
+        why = why or unlike("a schema of number 9 and a port that is taken", (ran.returncode, ran.stdout, ran.stderr), (3, b"", b"store version\n"))
     with open("/dev/full", "wb") as full, Server(program, 1, output=full) as server:
         return why or unlike("standard output is full", server.end(), (3, b"", b"file\n"))
 
