@@ -47,10 +47,11 @@ bench: edihub
 	cd crates/hub_script && rt run < stdin > out/printed
 	rustc --edition 2021 -O -o crates/hub_script/out/plain bench/hub.rs
 	python3 bench/hub.py crates/hub_script/out/hub_script crates/hub_script/out/plain
-	if rustc --edition 2021 -O -o crates/hub_script/out/plain_sql bench/sql.rs; then \
+	if printf 'fn main() {}' | rustc -l sqlite3 -o crates/hub_script/out/empty - 2> crates/hub_script/out/log; then \
+		set -e; \
+		rustc --edition 2021 -O -o crates/hub_script/out/plain_sql bench/sql.rs; \
 		python3 bench/sql.py crates/hub_script/out/hub_script crates/hub_script/out/plain_sql ./edihub; \
-	else echo "no SQLite library to compare with"; fi
-	if rustc --edition 2021 -O -o crates/hub_script/out/plain_server bench/server.rs; then \
+		rustc --edition 2021 -O -o crates/hub_script/out/plain_server bench/server.rs; \
 		python3 bench/server.py crates/hub_script/out/hub_script crates/hub_script/out/plain_server ./edihub; \
 	else echo "no SQLite library to compare with"; fi
 

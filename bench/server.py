@@ -1,5 +1,5 @@
 """Connections of HTTP to `edihub serve`, and to a plain Rust server over the system's SQLite (server.rs): ratios of processor
-time a connection, for a mail item, a mail list, an upload of one order, and a status of 10,000 lines. Then the memory of the
+time a connection, for a mail item, a mail list, an upload of one order, a cancellation, and a status of 10,000 lines. Then the memory of the
 server over many connections. Where a bound is passed, it says so and ends with status 1.
 
     python3 bench/server.py crates/hub_script/out/hub_script PLAIN EDIHUB"""
@@ -28,6 +28,7 @@ LOADS = {
     "a mail item": (each_the_same(asking("GET", f"/p/{ALPHA}/mail/item/7", ALPHA), 3_000), MOST),
     "a mail list of 100 entries": (each_the_same(asking("GET", f"/p/{ALPHA}/mail/after/0", ALPHA), 2_000), MOST),
     "an upload of one order": ([asking("POST", f"/p/{RETAILER}/interchanges", RETAILER, orders_text(1, 50_000 + k)) for k in range(999)], MOST),
+    "a cancellation": ([asking("POST", f"/p/{RETAILER}/cancellations", RETAILER, f"{ALPHA}\nC{k}\n{k:08}\n1\n1\n") for k in range(999)], MOST),
     f"a status of {LINES:,} lines": (each_the_same(asking("GET", f"/p/{ALPHA}/status", ALPHA), 40), MOST_OF_STATUS),
 }
 NOTHING = asking("GET", f"/p/{ALPHA}/mail/item/999999", ALPHA)

@@ -25,6 +25,10 @@ struct Server {
     item: Statement,
     take: Statement,
     lines: Statement,
+    line: Statement,
+    cancel: Statement,
+    recall: Statement,
+    remember: Statement,
 }
 
 fn quoted(text: &str) -> Vec<String> {
@@ -60,6 +64,10 @@ impl Server {
             item: of("SELECT moment, decimal, body FROM mail WHERE supplier = ?1 AND number = ?2"),
             take: of("UPDATE mail SET taken = 1 WHERE supplier = ?1 AND number = ?2"),
             lines: of("SELECT * FROM line WHERE supplier = ?1 ORDER BY number, line"),
+            line: of("SELECT open_qty FROM line WHERE supplier = ?1 AND number = ?2 AND line = ?3"),
+            cancel: of("UPDATE line SET open_qty = open_qty - ?4, cancelled = cancelled + ?4 WHERE supplier = ?1 AND number = ?2 AND line = ?3"),
+            recall: of("SELECT content FROM remembered WHERE supplier = ?1 AND side = 67 AND control = ?2 AND message = x''"),
+            remember: of("INSERT INTO remembered VALUES (?1, 67, ?2, x'', ?3)"),
             hub,
         }
     }
@@ -103,6 +111,33 @@ impl Server {
         text.into_bytes()
     }
 
+    /// A cancellation of five lines; what is refused is told without its number.
+    fn cancelled(&self, body: &[u8]) -> (u16, Vec<u8>) {
+        let text = String::from_utf8_lossy(body);
+        let [supplier, reference, order, line, quantity, ""] = text.split('\n').collect::<Vec<_>>()[..] else {
+            return (400, b"bad request\n".to_vec());
+        };
+        let (Ok(line), Ok(quantity)) = (line.parse(), quantity.parse::<u64>()) else {
+            return (400, b"bad request\n".to_vec());
+        };
+        let (supplier, reference, order) = (Bytes(supplier.as_bytes()), Bytes(reference.as_bytes()), Bytes(order.as_bytes()));
+        let mut before = None;
+        self.recall.run(&[supplier, reference], |row| before = Some(row.bytes(0)));
+        if let Some(before) = before {
+            return (200, if before == body { b"repeated\n".to_vec() } else { b"refused\n".to_vec() });
+        }
+        let mut open = 0;
+        self.line.run(&[supplier, order, Number(line)], |row| open = row.number(0));
+        if quantity == 0 || quantity > open {
+            return (200, b"refused\n".to_vec());
+        }
+        self.hub.in_one(|| {
+            self.cancel.run(&[supplier, order, Number(line), Number(quantity)], |_| ());
+            self.remember.run(&[supplier, reference, Bytes(body)], |_| ());
+        });
+        (200, b"accepted\n".to_vec())
+    }
+
     fn answer(&self, method: &str, path: &str, key: Option<&str>, body: &[u8]) -> (u16, Vec<u8>) {
         let parts: Vec<&str> = path.split('/').skip(1).collect();
         let ["p", gln, rest @ ..] = parts.as_slice() else {
@@ -123,6 +158,8 @@ impl Server {
                 (200, b"taken\n".to_vec())
             }
             ("GET", ["status"]) => (200, self.status(gln)),
+            ("GET", ["status", supplier]) => (200, self.status(supplier)),
+            ("POST", ["cancellations"]) => self.cancelled(body),
             _ => (405, b"method\n".to_vec()),
         }
     }

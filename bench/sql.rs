@@ -30,6 +30,7 @@ unsafe extern "C" {
 const ROW: c_int = 100;
 const DONE: c_int = 101;
 
+#[derive(Clone, Copy)]
 pub enum Value<'a> {
     Bytes(&'a [u8]),
     Number(u64),
@@ -132,6 +133,13 @@ impl Hub {
             last_mail: of("SELECT number FROM mail WHERE supplier = ?1 ORDER BY number DESC LIMIT 1"),
             add_mail: of("INSERT INTO mail VALUES (?1, ?2, 1748942400, 46, 79, ?3, ?4, 0)"),
         }
+    }
+
+    /// Does this in one transaction.
+    pub fn in_one(&self, act: impl FnOnce()) {
+        self.begin.run(&[], |_| ());
+        act();
+        self.commit.run(&[], |_| ());
     }
 
     pub fn prepared(&self, text: &str) -> Statement {
