@@ -1,7 +1,7 @@
 RELAY = relay --hub 5412345000006 --owner 4012345500004 --moment 1748942400 --number 1
 PROVED = crates/edihub/out/edihub
 
-.PHONY: run day serve try test wrong bench edihub clean
+.PHONY: run day serve try test wrong hostile fuzz bench edihub clean
 
 # The main job, with the proved program: the example's ORDERS interchange becomes the supplier's mailbox interchange.
 run: edihub
@@ -38,6 +38,17 @@ test:
 # The library of wrong bodies and wrong definitions, of all crates or of one: make wrong CRATE=edi_goods
 wrong:
 	python3 tests/wrong.py $(CRATE)
+
+# Kills, full disks and damaged files, for some minutes; no part of the gate.
+hostile: edihub
+	python3 tests/hostile.py crates/edihub/out/edihub
+
+# Inputs made right and then changed, through the program: make fuzz SEED=2 NUMBER=10000
+SEED = 1
+NUMBER = 100000
+
+fuzz: edihub
+	python3 tests/fuzz.py crates/edihub/out/edihub $(SEED) $(NUMBER)
 
 bench: edihub
 	rustc --edition 2021 -O -o crates/edihub/out/plain bench/plain.rs

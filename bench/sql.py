@@ -7,6 +7,7 @@ program's uploads of the same.
     python3 bench/sql.py crates/hub_script/out/hub_script PLAIN EDIHUB"""
 import os
 import shutil
+import signal
 import sqlite3
 import subprocess
 import sys
@@ -19,6 +20,9 @@ ROUNDS, MESSAGES = 3, 600
 LINES = (10, 1_000, 100_000)
 # the bounds: times of the plain program, growth from the fewest lines to the most, syncs a message
 MOST, MOST_GROWTH, MOST_SYNCS = 2, 1.3, 4
+# lines that make a file of about 10 MB and one of about 50
+OPENED = (45_000, 225_000)
+MOST_NUMBER = 99_999_999_999_999
 SHIM = os.path.join(os.path.dirname(os.path.abspath(__file__)), "..", "tests", "stop.c")
 
 
@@ -32,10 +36,10 @@ def base(lines):
 
 
 def despatches(lines):
-    play = Play()
+    play = opened()
     for k in range(MESSAGES):
         play.upload(ALPHA, interchange(ALPHA, f"S{k}", despatch(k, f"{4999 * k % (lines // 10):08}", 10)))
-    return play.script
+    return play
 
 
 def orders_text(count, first):
@@ -43,14 +47,14 @@ def orders_text(count, first):
 
 
 def orders_in_one(_):
-    return Play().upload(RETAILER, orders_text(999, 50_000)).script
+    return opened().upload(RETAILER, orders_text(999, 50_000))
 
 
 def orders_each(_):
-    play = Play()
+    play = opened()
     for k in range(999):
         play.upload(RETAILER, orders_text(1, 50_000 + k))
-    return play.script
+    return play
 
 
 # each load, and its messages
@@ -91,12 +95,42 @@ def copied(folder, top):
     return into
 
 
-def cost(program, folder, script, top):
-    """The least processor time of a script, less that of opening alone; and its output."""
-    nothing = Play().script
-    opened = min(run(program, nothing, copied(folder, top))[0] for _ in range(ROUNDS))
-    runs = [run(program, script, copied(folder, top)) for _ in range(ROUNDS)]
-    return min(time for time, _, _ in runs) - opened, runs[0][2]
+def since_first(words, folder, source=subprocess.DEVNULL):
+    """Processor seconds of one run from its first printed line on, most memory in MB before it and in all, and output."""
+    child = subprocess.Popen(words, stdin=source, stdout=subprocess.PIPE, cwd=folder)
+    first = os.read(child.stdout.fileno(), 1)
+    child.send_signal(signal.SIGSTOP)
+    with open(f"/proc/{child.pid}/schedstat", encoding="ascii") as file:
+        opened = int(file.read().split()[0]) / 1e9
+    with open(f"/proc/{child.pid}/status", encoding="ascii") as file:
+        before = next(int(line.split()[1]) for line in file if line.startswith("VmHWM")) / 1024
+    child.send_signal(signal.SIGCONT)
+    output = first + child.stdout.read()
+    _, state, used = os.wait4(child.pid, 0)
+    child.returncode = os.waitstatus_to_exitcode(state)
+    if child.returncode:
+        sys.exit(f"{words[0]} ended with {child.returncode}")
+    return used.ru_utime + used.ru_stime - opened, before, used.ru_maxrss / 1024, output
+
+
+def cost(program, folder, load, top):
+    """The least processor time of a load, from the reply on that the file is open, and its output."""
+    least, output = None, None
+    for _ in range(ROUNDS):
+        into = copied(folder, top)
+        path = os.path.join(into, "script")
+        with open(path, "wb") as file:
+            file.write(load.script)
+        with open(path, "rb") as source:
+            time, _, _, output = since_first([program, "file", "hub.db"], into, source)
+        least = time if least is None else min(least, time)
+        shutil.rmtree(into)
+    return least, output
+
+
+def opened():
+    """A script whose first reply says that the file is open."""
+    return Play().list(MOST_NUMBER)
 
 
 def syncs(program, folder, script, top, shim):
@@ -127,11 +161,9 @@ def imported(edihub, plain, folder, plain_folder, lines, top):
         for k, text in enumerate(uploads):
             with open(os.path.join(files, f"{k:03}.edi"), "w", encoding="ascii") as file:
                 file.write(text)
-        os.mkdir(os.path.join(into, "empty"))
-        opened, memory, _ = timed([edihub, "import", *words, "--folder", "empty"], into)
-        time, most, _ = timed([edihub, "import", *words, "--folder", "in"], into)
+        time, memory, most, _ = since_first([edihub, "import", *words, "--folder", "in"], into)
         plain_time, _ = cost(plain, plain_folder, load(lines), top)
-        print(f"an import of 999 orders in {name}, among {lines:,}: processor time {(time - opened) / plain_time:.2f} of the plain program's, {most:.0f} MB of memory, {memory:.0f} of them for the open file", flush=True)
+        print(f"an import of 999 orders in {name}, among {lines:,}: processor time {time / plain_time:.2f} of the plain program's, {most:.0f} MB of memory, {memory:.0f} of them for the open file", flush=True)
 
 
 def main(ours, plain, edihub):
@@ -147,16 +179,20 @@ def main(ours, plain, edihub):
                 run(program, base(lines), folders[-1])
                 close(folders[-1])
             for name, (load, count) in LOADS.items():
-                script = load(lines)
-                (time, output), (plain_time, plain_output) = (cost(program, folder, script, top) for program, folder in zip((ours, plain), folders))
+                play = load(lines)
+                (time, output), (plain_time, plain_output) = (cost(program, folder, play, top) for program, folder in zip((ours, plain), folders))
                 if output != plain_output:
                     sys.exit(f"{name}, {lines} lines: the two programs print different replies")
                 ratio, times[name, lines] = time / plain_time, time
-                each = (syncs(ours, folders[0], script, top, shim) - syncs(ours, folders[0], Play().script, top, shim)) / count
+                each = (syncs(ours, folders[0], play.script, top, shim) - syncs(ours, folders[0], opened().script, top, shim)) / count
                 print(f"{name}, among {lines:,}: processor time {ratio:.2f} of the plain program's ({1e6 * time / count:.0f} of {1e6 * plain_time / count:.0f} microseconds), {each:.1f} syncs", flush=True)
                 too_much |= ratio > MOST or each > MOST_SYNCS
-            opening(ours, folders[0], top)
             imported(edihub, plain, *folders, lines, top)
+        for lines in OPENED:
+            folder = tempfile.mkdtemp(dir=top)
+            run(ours, base(lines), folder)
+            close(folder)
+            opening(ours, folder, top)
     for name in LOADS:
         growth = times[name, LINES[-1]] / times[name, LINES[0]]
         print(f"{name}: from {LINES[0]} to {LINES[-1]:,} lines it grows by {growth:.2f}")

@@ -264,6 +264,13 @@ fn main() {
                 let suppliers = text.split("[[supplier]]").skip(1).map(|it| it.split('"').nth(1).unwrap().as_bytes().try_into().unwrap());
                 hub = Some(Hub::over(&path, suppliers.collect()));
             }
+            // the list behind all entries of the first supplier
+            "after" => {
+                let (hub, mut last) = (hub.as_ref().unwrap(), 0);
+                hub.last_mail.run(&[Bytes(&hub.suppliers[0])], |row| last = row.number(0));
+                assert!(last <= words[1].parse().unwrap());
+                out.write_all(b"done 4\nend\n").unwrap();
+            }
             "quiet" => quiet = true,
             "loud" => quiet = false,
             "upload" => {

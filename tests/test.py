@@ -12,6 +12,7 @@ import commands
 import connections
 import files
 import hubs
+import machine
 import made
 import refusals
 import serving
@@ -35,6 +36,7 @@ TRIALS = [
     (built("hub_script"), "a file that another program holds open", files.held_open),
     (built("hub_script"), "made runs", made.made_runs),
     (built("hub_script"), "changes of files stopped in turn", stops.stops),
+    (built("hub_script"), "a machine that stops", machine.machine),
     (built("hub_script"), "allocations refused in turn", refusals.refusals),
 ]
 

@@ -1,17 +1,19 @@
 //! Plays a script on a hub, and prints each reply: `hub_script < script` over lists in memory, `hub_script sql < script`
-//! over tables of SQL in memory, and `hub_script file PATH < script` over tables of SQL in a file.
+//! over tables of SQL in memory, and `hub_script file PATH < script` over tables of SQL in a file. `hub_script stop-file C`
+//! and `hub_script stop-log C` play it over a database file and its log in memory, of which the one or the other fails
+//! each call after C, as where the machine stops; what it keeps is there once it is opened anew.
 //!
 //! A script is lines of words, each parted from the next by one blank. Where a line names a number of bytes, they
 //! follow it, and then a line end.
 //!
 //! | line | does |
 //! |---|---|
-//! | `hub N`, `hub N memory C`, `hub N disk C` | makes a hub of the register whose text the N bytes are, without rows, or with those of the file; its store fails with this fault at the call after C others. Where the store is not opened, prints `store` and the fault |
+//! | `hub N`, `hub N memory C`, `hub N disk C` | makes a hub of the register whose text the N bytes are, without rows, or with those of the file, or with what a file kept that stopped while it was opened; its store fails with this fault at the call after C others. Where the store is not opened, prints `store` and the fault |
 //! | `as MOMENT GLN KEY` | says who asks from now on, and when, in seconds |
 //! | `upload N`, `after N`, `item N`, `taken N`, `status`, `status-of GLN`, `cancel N` | asks; the bytes of `upload` and `cancel` follow |
 //! | `run`, `end` | puts what is asked between them into one run |
 //! | `connection N`, then `piece P`, `reads R`, `takes T`, `writes W` where they are wanted | serves a connection of HTTP whose bytes the N are, at the moment of the last `as`. A read gives at most P bytes, and the one after R others fails; a write takes at most T bytes, and the one after W others fails. Prints `served` with the status or `fault` with its kind, the length of what went out, a line end, and that |
-//! | `mend` | opens the store anew: it keeps its rows, and no call of it fails |
+//! | `mend` | opens the store anew, with its rows, or what a crash leaves of a file that stopped; no call of it fails. Where it is not opened, prints `store` and the fault |
 //! | `counts` | prints how many look-ups and commits there were since the hub was made or its store opened anew |
 //! | `quiet`, `loud` | prints no reply from here on, or each again |
 //!
@@ -24,18 +26,20 @@ mod fault;
 mod opening;
 mod request;
 mod script;
+mod stopping;
 mod trial;
 mod wire;
 
 use crate::fault::ScriptFault;
 use crate::opening::{InFile, InMemory, Opener, Supposed};
+use crate::stopping::{Stopping, StoppingFiles};
 use crate::trial::Trial;
 use edi_base::{OfRead, OfWrite, read_to_limit};
 use hub_list::VecStore;
 use hub_sql::SqliteStore;
 use hub_store::Store;
 use sqlite::Alter;
-use sqlite_disk::Unknown;
+use sqlite_disk::{Fuse, Memory, Unknown};
 use sqlite_std_file::FileFrom;
 use sqlite_store::FileStore;
 use sqlite_trees::memory::MemStore;
@@ -72,12 +76,38 @@ fn over_file<T: Supposed>(rt: &HostRuntime, path: &str) -> Result<(), ScriptFaul
     over_tables::<FileStore<FileFrom<T>>, InFile<'_>>(rt, InFile { path })
 }
 
+fn over_stopping<D: Stopping>(
+    rt: &HostRuntime,
+    of_file: u64,
+    of_log: u64,
+) -> Result<(), ScriptFault> {
+    over_tables::<FileStore<D>, StoppingFiles<D>>(
+        rt,
+        StoppingFiles {
+            of_file,
+            of_log,
+            left: None,
+        },
+    )
+}
+
+// Plays it over files of which one stops after so many calls.
+fn over_stopped(rt: &HostRuntime, word: &str, calls: &str) -> Result<(), ScriptFault> {
+    let calls = calls.parse::<u64>().map_err(|_| ScriptFault::Line)?;
+    match word {
+        "stop-file" => over_stopping::<Fuse<Memory>>(rt, calls, u64::MAX),
+        "stop-log" => over_stopping::<Fuse<Memory>>(rt, u64::MAX, calls),
+        _ => Err(ScriptFault::Line),
+    }
+}
+
 // Plays it over the store that the words name.
 fn over_named(rt: &HostRuntime, words: &[String]) -> Result<(), ScriptFault> {
     match words {
         [] | [_] => over_lists(rt),
         [_, word] if word.as_str() == "sql" => over_sql(rt),
         [_, word, path] if word.as_str() == "file" => over_file::<Unknown>(rt, path.as_str()),
+        [_, word, calls] => over_stopped(rt, word.as_str(), calls.as_str()),
         _ => Err(ScriptFault::Line),
     }
 }

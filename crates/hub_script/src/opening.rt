@@ -10,7 +10,10 @@ use sqlite_trees::memory::MemStore;
 /// How the store of a hub is opened.
 pub trait Opener<S>: Drop {
     /// The store, anew.
-    fn open(&self, rt: &HostRuntime) -> Result<S, StoreFault>;
+    fn open(&mut self, rt: &HostRuntime) -> Result<S, StoreFault>;
+
+    /// The store that stood, opened again with what it keeps.
+    fn again(&mut self, rt: &HostRuntime, store: S) -> Result<S, StoreFault>;
 }
 
 /// In memory, without rows.
@@ -18,14 +21,26 @@ pub trait Opener<S>: Drop {
 pub struct InMemory;
 
 impl Opener<VecStore> for InMemory {
-    fn open(&self, rt: &HostRuntime) -> Result<VecStore, StoreFault> {
+    fn open(&mut self, rt: &HostRuntime) -> Result<VecStore, StoreFault> {
         Ok(VecStore::new(rt.alloc()))
+    }
+
+    fn again(&mut self, _rt: &HostRuntime, store: VecStore) -> Result<VecStore, StoreFault> {
+        Ok(store)
     }
 }
 
 impl Opener<SqliteStore<MemStore>> for InMemory {
-    fn open(&self, rt: &HostRuntime) -> Result<SqliteStore<MemStore>, StoreFault> {
+    fn open(&mut self, rt: &HostRuntime) -> Result<SqliteStore<MemStore>, StoreFault> {
         SqliteStore::in_memory(rt.alloc())
+    }
+
+    fn again(
+        &mut self,
+        _rt: &HostRuntime,
+        store: SqliteStore<MemStore>,
+    ) -> Result<SqliteStore<MemStore>, StoreFault> {
+        Ok(store)
     }
 }
 
@@ -49,7 +64,18 @@ pub struct InFile<'a> {
 }
 
 impl<'a, T: Supposed> Opener<SqliteStore<FileStore<FileFrom<T>>>> for InFile<'a> {
-    fn open(&self, rt: &HostRuntime) -> Result<SqliteStore<FileStore<FileFrom<T>>>, StoreFault> {
+    fn open(
+        &mut self,
+        rt: &HostRuntime,
+    ) -> Result<SqliteStore<FileStore<FileFrom<T>>>, StoreFault> {
         SqliteStore::at_path(rt, self.path, T::supposed())
+    }
+
+    fn again(
+        &mut self,
+        _rt: &HostRuntime,
+        store: SqliteStore<FileStore<FileFrom<T>>>,
+    ) -> Result<SqliteStore<FileStore<FileFrom<T>>>, StoreFault> {
+        Ok(store)
     }
 }

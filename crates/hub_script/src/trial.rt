@@ -122,7 +122,7 @@ impl<S: Store + Drop, O: Opener<S>> Trial<S, O> {
             }
             b"end" => self.make_run(out),
             b"connection" => self.serve(words, script, out),
-            b"mend" => self.mend(),
+            b"mend" => self.mend(rt, out),
             b"counts" => self.tell_counts(out),
             b"quiet" => {
                 self.quiet = true;
@@ -148,16 +148,20 @@ impl<S: Store + Drop, O: Opener<S>> Trial<S, O> {
         let register = Register::from_toml(self.alloc, text)?;
         // a file is opened once at a time
         self.hub = None;
-        let plain = match self.opener.open(rt) {
-            Ok(plain) => plain,
-            Err(fault) => {
-                let word = word_of_fault(fault);
-                let line = format!(in self.alloc; "store {word}\n")?;
-                return Ok(write_bytes(line.as_bytes(), out)?);
+        match self.opener.open(rt) {
+            Ok(plain) => {
+                self.hub = Some(Hub::new(self.alloc, register, store_of(plain, words)?));
+                Ok(())
             }
-        };
-        self.hub = Some(Hub::new(self.alloc, register, store_of(plain, words)?));
-        Ok(())
+            Err(fault) => self.tell_fault(fault, out),
+        }
+    }
+
+    // Prints that the store could not be opened, and why.
+    fn tell_fault<W: Sink>(&self, fault: StoreFault, out: &mut W) -> Result<(), ScriptFault> {
+        let word = word_of_fault(fault);
+        let line = format!(in self.alloc; "store {word}\n")?;
+        Ok(write_bytes(line.as_bytes(), out)?)
     }
 
     // Who asks from now on, and when.
@@ -236,13 +240,17 @@ impl<S: Store + Drop, O: Opener<S>> Trial<S, O> {
         Ok(write_bytes(bytes, out)?)
     }
 
-    // Opens the store anew, with what it holds, and no call of it fails.
-    fn mend(&mut self) -> Result<(), ScriptFault> {
+    // Opens the store anew, with what it keeps, and no call of it fails.
+    fn mend<W: Sink>(&mut self, rt: &HostRuntime, out: &mut W) -> Result<(), ScriptFault> {
         let hub = self.hub.take().ok_or(ScriptFault::Line)?;
         let (register, store) = hub.into_store();
-        let store = TrialStore::new(store.into_store());
-        self.hub = Some(Hub::new(self.alloc, register, store));
-        Ok(())
+        match self.opener.again(rt, store.into_store()) {
+            Ok(plain) => {
+                self.hub = Some(Hub::new(self.alloc, register, TrialStore::new(plain)));
+                Ok(())
+            }
+            Err(fault) => self.tell_fault(fault, out),
+        }
     }
 
     // Prints how many look-ups and commits there were since the hub was made or its store opened anew.

@@ -1,0 +1,374 @@
+"""`make fuzz SEED=1 NUMBER=100000`: inputs made right and then changed, by bytes, segments and messages, through the built program.
+
+Interchanges go in by folders (`import`), over HTTP (`serve`), and by `show` and `relay`; registers by `check`; and lists of words.
+Each answer has a form that docs/FORMATS.md names; no program ends by a signal, takes a second for a small input, or more memory
+than its bound; the rows of the file grow by what was accepted and by nothing else: the accepted inputs alone make the same file.
+What is found is left in a folder, which is named. The last line is `N tried, M found`.
+
+    python3 tests/fuzz.py crates/edihub/out/edihub [SEED [NUMBER]]"""
+import os
+import random
+import re
+import resource
+import shutil
+import sqlite3
+import subprocess
+import sys
+import tempfile
+import time
+from concurrent.futures import ThreadPoolExecutor
+
+import registers
+from commands import MOMENT, REGISTER, over
+from files import NAME
+from http_texts import PHRASES, asking, response
+from hubs import ALPHA, BETA, HUB, KEYS, ORDERS, RETAILER, SECOND, SPELLED, TWO_SUPPLIERS
+from made import upload_of
+from serving import Server
+
+BATCH = 120
+# bytes of address space: a program that asks for more is refused it
+ROOM = 256 << 20
+SECONDS = 20
+TABLES = ("order", "line", "advice", "pallet", "content", "receipt", "remembered", "mail")
+# what any of the hub's replies to an upload is
+LINE = re.compile(rb"[ -~]{1,14} [ -~]{1,6} (accepted|repeated|refused [BM]\d\d)")
+HEAD = re.compile(rb"interchange ([ -~]{1,14}) messages (\d{1,3})")
+SHOWN = re.compile(rb" *[a-z]+( .*)?", re.DOTALL)
+CHECKED = re.compile(rb"ok \d{1,4}|text|many|gln|prefix|key|twice|overlap \d{1,4} \d{1,4}")
+MARKS = "'+:?*|,!~.- \r\n"
+
+
+def changed_bytes(draw, data):
+    data = bytearray(data)
+    for _ in range(draw.choice((1, 1, 1, 2, 5))):
+        at = draw.randrange(len(data) + 1)
+        what = draw.randrange(6)
+        if what == 0:
+            data[at:at] = bytes([draw.choice((draw.randrange(256), ord(draw.choice(MARKS))))])
+        elif what == 1:
+            del data[at : at + draw.choice((1, 1, 2, 7))]
+        elif what == 2 and at < len(data):
+            data[at] = draw.choice((draw.randrange(256), ord(draw.choice(MARKS)), 48 + draw.randrange(10)))
+        elif what == 3:
+            end = at + draw.randrange(40)
+            data[at:at] = data[at:end]
+        elif what == 4:
+            digits = [place for place, byte in enumerate(data) if 48 <= byte < 58]
+            if digits:
+                data[draw.choice(digits)] = 48 + draw.randrange(10)
+        else:
+            del data[at + draw.randrange(300) :]
+    return bytes(data)
+
+
+def changed_segments(draw, text):
+    """The segments of a text in the usual characters, some dropped, doubled, exchanged, or with other elements."""
+    parts = text.split("'")
+    for _ in range(draw.choice((1, 1, 2, 3))):
+        at, other = draw.randrange(len(parts)), draw.randrange(len(parts))
+        what = draw.randrange(6)
+        if what == 0:
+            del parts[at]
+        elif what == 1:
+            parts.insert(at, parts[other])
+        elif what == 2:
+            parts[at], parts[other] = parts[other], parts[at]
+        elif what == 3:
+            elements = parts[at].split("+")
+            elements[draw.randrange(len(elements))] = draw.choice(("", "0", "1", "999999999", "1000000000", "12,000", "S", "9:9", "x" * 36, "?", ":::", "+"))
+            parts[at] = "+".join(elements)
+        elif what == 4:
+            components = parts[at].split(":")
+            components[draw.randrange(len(components))] = draw.choice(("", "203", "20250229", "202506030915", "9", "SRV", "PCE", "0001", "14"))
+            parts[at] = ":".join(components)
+        else:
+            parts[at] = draw.choice(("UNS+S", "CNT+2:1", "LIN+1++4000862141404:SRV", "QTY+21:5", "FTX+AAI+++free ?' text", "UNG+1", "", "RFF+ON:1:1", "\r\nDTM+137:20250603:102"))
+        parts = parts or [""]
+    text = "'".join(parts)
+    return counted(text) if draw.random() < 0.7 else text
+
+
+def counted(text):
+    """The counts of UNT as the segments are, so that what is behind the envelope is reached."""
+    parts, begun = text.split("'"), 0
+    for place, part in enumerate(parts):
+        if part.startswith("UNH"):
+            begun = place
+        elif part.startswith("UNT+"):
+            rest = part.split("+", 2)[2:]
+            parts[place] = "+".join(["UNT", str(place - begun + 1), *rest])
+    return "'".join(parts)
+
+
+def an_upload(draw):
+    """Who uploads, and bytes: most of them of no right interchange."""
+    who, text = upload_of(draw)
+    if draw.random() < 0.1:
+        who, text = RETAILER, draw.choice((ORDERS, SECOND, SPELLED))
+    if draw.random() < 0.1:
+        who = draw.choice((ALPHA, BETA, RETAILER))
+    one = draw.random()
+    if one < 0.3:
+        return who, text.encode("latin-1")
+    if one < 0.7:
+        return who, changed_segments(draw, text).encode("latin-1")
+    return who, changed_bytes(draw, text.encode("latin-1"))
+
+
+class Found(Exception):
+    """Something is wrong, with these bytes."""
+
+
+class Fuzz:
+    def __init__(self, program, folder):
+        self.program, self.folder = os.path.abspath(program), folder
+
+    def ran(self, words, cwd, data=b"", small=True):
+        """What a command prints: its status, and its output and error."""
+        begun = time.monotonic()
+        limits = lambda: resource.setrlimit(resource.RLIMIT_AS, (ROOM, ROOM))
+        try:
+            ran = subprocess.run([self.program, *words], input=data, capture_output=True, cwd=cwd, timeout=SECONDS, preexec_fn=limits)
+        except subprocess.TimeoutExpired as late:
+            raise Found("no end", words) from late
+        if ran.returncode not in (0, 1, 2, 3):
+            raise Found(f"ended with {ran.returncode}", words, data, ran.stderr)
+        if small and time.monotonic() - begun > SECONDS / 4:
+            raise Found("took too long", words, data)
+        return ran.returncode, ran.stdout, ran.stderr
+
+    # interchanges by folders
+
+    def replies(self, printed):
+        """The reply to each file, by its name."""
+        found, lines = {}, printed.split(b"\n")
+        if lines.pop():
+            raise Found("no line end", printed)
+        for line in lines:
+            if line.startswith(b"file "):
+                found[line[5:].decode()] = []
+            else:
+                found[list(found)[-1]].append(line)
+        return found
+
+    def judge_reply(self, lines):
+        """Whether something is refused, and how much was accepted, where a reply has one of its forms."""
+        if lines and (head := HEAD.fullmatch(lines[0])):
+            told = [LINE.fullmatch(line) for line in lines[1:]]
+            if None in told or len(told) != int(head[2]):
+                raise Found("no reply", lines)
+            words = [it[1] for it in told]
+            return any(it.startswith(b"refused") for it in words), words.count(b"accepted")
+        if len(lines) != 1 or not re.fullmatch(rb"refused E\d\d|denied", lines[0]):
+            raise Found("no reply", lines)
+        return True, 0
+
+    def rows(self, folder):
+        base = sqlite3.connect(os.path.join(folder, NAME))
+        if base.execute("PRAGMA integrity_check").fetchall() != [("ok",)]:
+            raise Found("the file is not whole", folder)
+        found = {table: sorted(base.execute(f'SELECT * FROM "{table}"').fetchall()) for table in TABLES}
+        unbalanced = base.execute(
+            'SELECT * FROM line AS l WHERE ordered != open_qty + refused + cancelled + '
+            '(SELECT COALESCE(SUM(quantity), 0) FROM content AS c JOIN pallet AS p USING (sscc) WHERE p.supplier = l.supplier AND c.number = l.number AND c.line = l.line)'
+        ).fetchall()
+        base.close()
+        if unbalanced:
+            raise Found("a line does not balance", unbalanced)
+        return found
+
+    def imported(self, folder, turns):
+        """The uploads of each turn, imported; those of which something was accepted."""
+        kept, accepted = [], 0
+        for place, (who, texts) in enumerate(turns):
+            files = os.path.join(folder, f"in{place}")
+            os.mkdir(files)
+            for name, text in texts.items():
+                with open(os.path.join(files, name), "wb") as file:
+                    file.write(text)
+            status, printed, error = self.ran(over("import", who, "--folder", files), folder, small=False)
+            replies = self.replies(printed)
+            if list(replies) != sorted(texts) or error:
+                raise Found("not each file has a reply", printed, error)
+            judged = {name: self.judge_reply(lines) for name, lines in replies.items()}
+            if status != any(refused for refused, _ in judged.values()):
+                raise Found(f"status {status}", printed)
+            accepted += sum(count for _, count in judged.values())
+            kept.append((who, {name: texts[name] for name, (_, count) in judged.items() if count}))
+        return kept, accepted
+
+    def interchanges(self, draw):
+        """Uploads in turn; and the accepted of them alone make the same rows."""
+        turns = []
+        for _ in range(6):
+            texts = {}
+            who = draw.choice((RETAILER, RETAILER, ALPHA, BETA))
+            for k in range(BATCH // 6):
+                caller, text = an_upload(draw)
+                while caller != who:
+                    caller, text = an_upload(draw)
+                texts[f"{k:03}.edi"] = text
+            turns.append((who, texts))
+        with tempfile.TemporaryDirectory() as top:
+            found = []
+            for name in ("all", "accepted"):
+                folder = os.path.join(top, name)
+                os.mkdir(folder)
+                with open(os.path.join(folder, REGISTER), "w", encoding="ascii") as file:
+                    file.write(TWO_SUPPLIERS)
+                turns, accepted = self.imported(folder, turns)
+                found.append(self.rows(folder))
+                if len(found[-1]["remembered"]) != accepted:
+                    raise Found(f"{accepted} accepted, and {len(found[-1]['remembered'])} rows", turns)
+            if found[0] != found[1]:
+                wrong = [table for table in TABLES if found[0][table] != found[1][table]]
+                raise Found(f"the accepted alone make other rows of {wrong}", turns)
+        return BATCH
+
+    # the same over HTTP
+
+    def request(self, draw):
+        who, text = an_upload(draw)
+        one = draw.random()
+        if one < 0.5:
+            data = asking("POST", f"/p/{who}/interchanges", who, text)
+        elif one < 0.7:
+            lines = [draw.choice((ALPHA, BETA, "x")), f"C{draw.randrange(4)}", str(draw.randrange(4)), "1", str(draw.randrange(12))]
+            data = asking("POST", f"/p/{RETAILER}/cancellations", RETAILER, "\n".join(lines).encode() + b"\n")
+        else:
+            path = draw.choice((f"/p/{who}/mail/after/{draw.randrange(3)}", f"/p/{who}/mail/item/{draw.randrange(3)}", f"/p/{who}/mail/item/1/taken", f"/p/{who}/status", f"/p/{RETAILER}/status/{who}"))
+            data = asking(draw.choice(("GET", "GET", "POST")), path, draw.choice((who, RETAILER)), draw.choice((None, b"")))
+        return data if draw.random() < 0.3 else changed_bytes(draw, data)
+
+    def judge_response(self, data, answer):
+        _, _, body = answer.partition(b"\r\n\r\n")
+        found = re.match(rb"HTTP/1\.1 (\d{3}) ", answer)
+        if not found or int(found[1]) not in PHRASES or answer != response(int(found[1]), body):
+            raise Found("no response", data, answer)
+        return int(found[1])
+
+    def requests(self, draw):
+        count = BATCH
+        with Server(self.program, count) as server:
+            statuses = []
+            for _ in range(count):
+                data = self.request(draw)
+                begun = time.monotonic()
+                try:
+                    answer = server.ask(data)
+                except OSError as why:
+                    raise Found(f"no answer: {why}", data) from why
+                statuses.append(self.judge_response(data, answer))
+                if time.monotonic() - begun > SECONDS / 4:
+                    raise Found("took too long", data)
+            status, printed, error = server.end()
+            lines = printed.split(b"\n")[1:-1]
+            if lines != [b"connection %d %d" % it for it in enumerate(statuses, 1)] or error:
+                raise Found("other lines than responses", printed, statuses, error)
+            self.rows(server.folder)
+        return count
+
+    # what needs no hub
+
+    def shown(self, draw):
+        """`show` and `relay` of one text."""
+        _, text = an_upload(draw)
+        status, printed, error = self.ran(["show"], self.folder, text)
+        lines = printed.split(b"\n")
+        if status > 1 or error or lines.pop() or not lines or not all(SHOWN.fullmatch(line) for line in lines):
+            raise Found(f"show ends with {status}", text, printed, error)
+        words = ["relay", "--hub", HUB, "--owner", ALPHA, "--moment", MOMENT, "--number", "1"]
+        status, printed, error = self.ran(words, self.folder, text)
+        if status == 0 and not error:
+            return 2
+        if status != 1 or printed or not re.fullmatch(rb"refused E\d\d\n", error):
+            raise Found(f"relay ends with {status}", text, printed, error)
+        return 2
+
+    def register(self, draw):
+        name, text, _ = draw.choice([it for it in registers.REGISTERS if len(it[1]) < 2000])
+        data = changed_bytes(draw, text.encode() if isinstance(text, str) else text)
+        path = os.path.join(self.folder, f"register{draw.random()}")
+        with open(path, "wb") as file:
+            file.write(data)
+        status, printed, error = self.ran(["check", "--register", path], self.folder)
+        os.remove(path)
+        told = printed[:-1].removeprefix(b"fault ")
+        if status > 1 or error or not CHECKED.fullmatch(told) or (status == 0) != printed.startswith(b"ok "):
+            raise Found(f"check ends with {status}", data, printed, error)
+        return 1
+
+    def words(self, draw):
+        """Words with one dropped, doubled, exchanged or changed: no input is there, so nothing is done."""
+        made = draw.choice((
+            ["relay", "--hub", HUB, "--owner", ALPHA, "--moment", MOMENT, "--number", "1"], ["show"], ["check", "--register", "none"],
+            over("import", RETAILER, "--folder", "none"), over("status", ALPHA), over("status", RETAILER, "--of", ALPHA), over("mail", ALPHA, "--do", "after", "--n", "0"),
+            over("cancel", RETAILER, "--supplier", ALPHA, "--reference", "C1", "--order", "1", "--line", "1", "--quantity", "1"),
+            ["serve", "--register", "none", "--db", NAME, "--port", "0", "--count", "0"],
+        ))
+        words = list(made)
+        for _ in range(draw.choice((1, 2))):
+            at = draw.randrange(len(words))
+            what = draw.randrange(4)
+            if what == 0:
+                del words[at]
+            elif what == 1:
+                words.insert(at, draw.choice(words))
+            elif what == 2:
+                words[at] = draw.choice(("", "-", "--", "--help", "-1", "0", "99999999999999999999", "1" * 13, "x", "--n", "import", "é", words[at] + "0"))
+            else:
+                other = draw.randrange(len(words))
+                words[at], words[other] = words[other], words[at]
+            words = words or ["show"]
+        status, printed, error = self.ran(words, self.folder)
+        if status in (0, 1) and "--help" not in words and "show" not in words and words[:1] != ["serve"] and words[:1] != ["relay"]:
+            raise Found(f"ends with {status}", words, printed, error)
+        if status in (2, 3) and (printed or not error):
+            raise Found(f"ends with {status}", words, printed, error)
+        return 1
+
+    def batch(self, seed):
+        """How many inputs were tried of this seed, and what was found."""
+        draw = random.Random(seed)
+        if seed % 8 < 5:
+            some = [self.interchanges]
+        elif seed % 8 == 5:
+            some = [self.requests]
+        else:
+            some = [draw.choice((self.shown, self.shown, self.register, self.words)) for _ in range(BATCH)]
+        tried, found = 0, []
+        for one in some:
+            try:
+                tried += one(draw)
+            except Found as why:
+                tried += 1
+                found.append((seed, one.__name__, why.args))
+        return tried, found
+
+
+def main(program, seed=1, number=100_000):
+    tried, found = 0, []
+    folder = tempfile.mkdtemp(prefix="fuzz-")
+    fuzz = Fuzz(program, folder)
+    with ThreadPoolExecutor(len(os.sched_getaffinity(0))) as pool:
+        at = int(seed) * 1_000_000
+        while tried < int(number):
+            for count, wrong in pool.map(fuzz.batch, range(at, at + 64)):
+                tried += count
+                found += wrong
+            at += 64
+            print(f"{tried} tried, {len(found)} found", file=sys.stderr, flush=True)
+    for place, (batch, name, what) in enumerate(found):
+        with open(os.path.join(folder, f"found{place}"), "w", encoding="utf-8") as file:
+            print(batch, name, *what, sep="\n", file=file)
+        print(f"seed {batch}, {name}: {' '.join(map(repr, what))[:400]}")
+    print(f"in {folder}" if found else "none", end=": ")
+    if not found:
+        shutil.rmtree(folder)
+    print(f"{tried} tried, {len(found)} found")
+    return 1 if found else 0
+
+
+if __name__ == "__main__":
+    sys.exit(main(*sys.argv[1:]))

@@ -1,0 +1,357 @@
+"""`make hostile`: hostile use of the built program, for minutes.
+
+- An import of 999 orders is killed at 100 moments spread over it and made again to its end: mailbox, status and every table are
+  those of one that nobody disturbed, and SQLite finds the file whole after each kill.
+- `serve` is killed at 100 moments while a client uploads: every answer that the client had read is kept.
+- The disk is full: a file may not grow past some size. Each command ends with its named fault or `stopped`, status 3, nothing is
+  done in part, and the same again with room goes through.
+- Each allocation of the program is refused in turn, command by command: it says `memory`, or stops, or makes up for it; and the same
+  command with ample memory leaves the rows that it would have left.
+- A database file is cut at each 512 bytes, has a byte changed in each page, or is replaced by other files: a named refusal, or the
+  right answers.
+
+    python3 tests/hostile.py crates/edihub/out/edihub"""
+import os
+import random
+import resource
+import shutil
+import signal
+import sqlite3
+import subprocess
+import sys
+import tempfile
+import time
+from collections import Counter
+from concurrent.futures import ThreadPoolExecutor
+
+from commands import KEPT, REGISTER, over, told
+from files import NAME, is_whole
+from http_texts import response
+from hubs import ALPHA, DESPATCH, HUB, ORDERS as ORDER, RECEIPT, RESPONSE, RETAILER, SECOND, SPELLED, TWO_SUPPLIERS, interchange, order
+from refusals import SHIM
+from registers import of_prefixes
+from serving import Server, upload
+
+ORDERS, MOMENTS = 999, 100
+TABLES = ("order", "line", "advice", "pallet", "content", "receipt", "remembered", "mail")
+STORE_FAULTS = {b"store disk\n", b"store unclean\n", b"store version\n", b"store memory\n"}
+
+
+def new_folder(top):
+    folder = tempfile.mkdtemp(dir=top)
+    with open(os.path.join(folder, REGISTER), "w", encoding="ascii") as file:
+        file.write(TWO_SUPPLIERS)
+    return folder
+
+
+def of_orders(top, count=ORDERS):
+    """A folder of so many orders in one interchange, not imported yet."""
+    folder = new_folder(top)
+    os.mkdir(os.path.join(folder, "in"))
+    with open(os.path.join(folder, "in", "a.edi"), "w", encoding="ascii") as file:
+        file.write(interchange(RETAILER, "U1", *(order(str(k), reference=k) for k in range(1, count + 1))))
+    return folder
+
+
+def rows_of(folder):
+    base = sqlite3.connect(os.path.join(folder, NAME))
+    found = {table: sorted(base.execute(f'SELECT * FROM "{table}"').fetchall()) for table in TABLES}
+    base.close()
+    return found
+
+
+def run(program, words, folder, **how):
+    ran = subprocess.run([program, *words], cwd=folder, capture_output=True, timeout=60, **how)
+    return ran.returncode, ran.stdout, ran.stderr
+
+
+IMPORT = over("import", RETAILER, "--folder", "in")
+LOOKS = [over("status", ALPHA), over("mail", ALPHA, "--do", "after", "--n", "0"), over("mail", ALPHA, "--do", "item", "--n", "7"), over("status", RETAILER, "--of", ALPHA)]
+
+
+def looks(program, folder):
+    """What the hub then shows."""
+    return [run(program, words, folder) for words in LOOKS]
+
+
+def imports_killed(program, top):
+    whole = of_orders(top)
+    begun = time.monotonic()
+    if run(program, IMPORT, whole)[0]:
+        return "the import that nobody disturbs fails"
+    length, wanted, seen = time.monotonic() - begun, rows_of(whole), looks(program, whole)
+    kept = []
+
+    def tried(place):
+        folder = of_orders(top)
+        child = subprocess.Popen([program, *IMPORT], cwd=folder, stdout=subprocess.PIPE)
+        time.sleep(length * place / MOMENTS)
+        child.kill()
+        child.communicate()
+        if os.path.exists(os.path.join(folder, NAME)) and is_whole(shutil.copytree(folder, folder + "looked")):
+            return f"killed at {place}: {is_whole(folder + 'looked')}"
+        status, printed, error = run(program, IMPORT, folder)
+        words = [line.rsplit(b" ", 1)[-1] for line in printed.split(b"\n")[2:-1]]
+        kept.append(words.count(b"repeated"))
+        if status or error or len(words) != ORDERS or words != [b"repeated"] * kept[-1] + [b"accepted"] * (ORDERS - kept[-1]):
+            return f"killed at {place}, then: {status}, {error!r}, {printed[:200]!r}"
+        return f"killed at {place}: other rows" if rows_of(folder) != wanted or looks(program, folder) != seen else is_whole(folder)
+
+    for place in range(MOMENTS):
+        why = tried(place)
+        if why:
+            return why
+    print(f"an import of {ORDERS} orders killed at {MOMENTS} moments; from {min(kept)} to {max(kept)} of them were kept, {len(set(kept))} different counts")
+    return None
+
+
+def servers_killed(program, top):
+    counts = []
+
+    def tried(place):
+        folder = new_folder(top)
+        read, asked = 0, 0
+        with Server(program, 100_000, folder=folder) as server:
+            until = time.monotonic() + 0.005 + 0.3 * place / MOMENTS
+
+            def killer():
+                time.sleep(max(0, until - time.monotonic()))
+                server.child.send_signal(signal.SIGKILL)
+
+            with ThreadPoolExecutor(1) as pool:
+                pool.submit(killer)
+                try:
+                    while True:
+                        name, request, _, body = one_order(read)
+                        asked += 1
+                        if server.ask(request) != response(200, body):
+                            break
+                        read += 1
+                except OSError:
+                    pass
+            server.child.wait()
+            if is_whole(shutil.copytree(folder, folder + "looked")):
+                return f"killed at {place}: {is_whole(folder + 'looked')}"
+            with Server(program, asked, folder=folder) as again:
+                for k in range(asked):
+                    name, request, _, body = one_order(k)
+                    found = again.ask(request)
+                    repeated = response(200, body.replace("accepted", "repeated"))
+                    if found != repeated and (k < read or found != response(200, body)):
+                        return f"killed at {place}, order {k} of {read} read: {found!r:.300}"
+        counts.append(read)
+        return None
+
+    for place in range(MOMENTS):
+        why = tried(place)
+        if why:
+            return why
+    print(f"a server killed at {MOMENTS} moments; its client had read {min(counts)} to {max(counts)} answers, all of them kept")
+    return None
+
+
+def one_order(k):
+    return upload(RETAILER, interchange(RETAILER, f"U{k}", order(str(k))), f"interchange U{k} messages 1", "1 ORDERS accepted")
+
+
+def disks_full(program, top):
+    """No file may grow past so many bytes, and a write that would is refused."""
+    whole = of_orders(top, 60)
+    run(program, IMPORT, whole)
+    wanted, most = rows_of(whole), 400_000
+    counts = {"store disk": 0, "stopped": 0, "whole": 0}
+    for limit in range(0, most, most // 120):
+        folder = of_orders(top, 60)
+
+        def little():
+            signal.signal(signal.SIGXFSZ, signal.SIG_IGN)
+            resource.setrlimit(resource.RLIMIT_FSIZE, (limit, resource.RLIM_INFINITY))
+
+        status, printed, error = run(program, IMPORT, folder, preexec_fn=little)
+        if (status, printed, error) == (3, b"", b"store disk\n"):
+            counts["store disk"] += 1
+        elif status == 3 and not error and printed.endswith(b"stopped\n"):
+            counts["stopped"] += 1
+        elif status == 0 and not error and printed.count(b" accepted\n") == 60:
+            counts["whole"] += 1
+        else:
+            return f"at {limit} bytes: {status}, {printed[-200:]!r}, {error!r}"
+        done = printed.count(b" accepted\n")
+        status, again, error = run(program, IMPORT, folder)
+        words = [line.rsplit(b" ", 1)[-1] for line in again.split(b"\n")[2:-1]]
+        kept = words.count(b"repeated")
+        if status or error or words != [b"repeated"] * kept + [b"accepted"] * (60 - kept) or not done <= kept <= done + 1:
+            return f"at {limit} bytes {done} were done, then with room: {status}, {error!r}, {again[:200]!r}"
+        if rows_of(folder) != wanted or is_whole(folder):
+            return f"at {limit} bytes, then with room: other rows"
+    if 0 in counts.values():
+        return f"not each end: {counts}"
+    print("a disk that is full: " + ", ".join(f"{count} ended {word}" for word, count in counts.items()))
+    return None
+
+
+def damaged(data):
+    """A database file in many ways of damage: what was done to it, and its bytes."""
+    for length in range(0, len(data), 512):
+        yield f"cut to {length}", data[:length]
+    draw = random.Random(7)
+    for page in range(0, len(data), 4096):
+        for _ in range(6):
+            at = page + draw.randrange(4096)
+            yield f"byte {at} changed", data[:at] + bytes([data[at] ^ (1 << draw.randrange(8))]) + data[at + 1 :]
+        for at in (page, page + 3, page + 5, page + 8):
+            yield f"byte {at} changed", data[:at] + bytes([data[at] ^ 0xFF]) + data[at + 1 :]
+    yield "text", b"no database at all\n" * 300
+    yield "zeros", bytes(len(data))
+    yield "doubled", data + data
+    yield "pages exchanged", data[4096:8192] + data[:4096] + data[8192:]
+
+
+def files_damaged(program, top):
+    with open(os.path.join(KEPT, "schema1.db"), "rb") as file:
+        data = file.read()
+    words = [over("status", ALPHA), over("mail", ALPHA, "--do", "after", "--n", "0"), over("mail", ALPHA, "--do", "item", "--n", "1")]
+    healthy = new_folder(top)
+    with open(os.path.join(healthy, NAME), "wb") as file:
+        file.write(data)
+    wanted = [run(program, it, healthy) for it in words]
+    empty = [run(program, it, new_folder(top)) for it in words]
+    counts = {"right": 0, "refused": 0, "stopped": 0, "empty": 0, "other": []}
+
+    def tried(one):
+        what, bytes_of_file = one
+        folder = new_folder(top)
+        kinds = set()
+        for it, right, none in zip(words, wanted, empty):
+            with open(os.path.join(folder, NAME), "wb") as file:
+                file.write(bytes_of_file)
+            for name in os.listdir(folder):
+                if name not in (NAME, REGISTER):
+                    os.remove(os.path.join(folder, name))
+            found = run(program, it, folder)
+            if found == right:
+                kinds.add("right")
+            elif found[0] == 3 and not found[1] and found[2] in STORE_FAULTS:
+                kinds.add("refused")
+            elif found == (3, b"stopped\n", b""):
+                kinds.add("stopped")
+            elif found == none and not bytes_of_file:
+                kinds.add("empty")
+            else:
+                return what, found
+        shutil.rmtree(folder)
+        return what, kinds
+
+    with ThreadPoolExecutor(len(os.sched_getaffinity(0))) as pool:
+        for what, kinds in pool.map(tried, damaged(data)):
+            if isinstance(kinds, tuple):
+                counts["other"].append((what, kinds))
+            else:
+                for kind in kinds:
+                    counts[kind] += 1
+    other = counts.pop("other")
+    print("a damaged file: " + ", ".join(f"{count} {word}" for word, count in counts.items()) + f", {len(other)} other answers")
+    return f"{len(other)} other answers, first {other[:3]}" if other else None
+
+
+def steps():
+    """Commands in turn over one folder: a name, the words, standard input, and what they print first and again."""
+
+    def imports(name, who, text, *lines):
+        lines = told(f"file {name}.edi", *lines).encode()
+        return name, over("import", who, "--folder", name), {f"{name}/{name}.edi": text}, lines, lines.replace(b"accepted", b"repeated")
+
+    def sends(name, who, reference, kind, text):
+        return imports(name, who, text, f"interchange {reference} messages 1", f"1 {kind} accepted")
+
+    cancel = over("cancel", RETAILER, "--supplier", ALPHA, "--reference", "C1", "--order", "128576", "--line", "1", "--quantity", "10")
+    relay = ["relay", "--hub", HUB, "--owner", ALPHA, "--moment", "1748942400", "--number", "1"]
+    both = of_prefixes("4012345", "40123455")
+    return [
+        sends("order", RETAILER, "1001", "ORDERS", ORDER),
+        imports("spelled", RETAILER, SPELLED, "interchange 1001 messages 1", "1 ORDERS repeated"),
+        sends("second", RETAILER, "1002", "ORDERS", SECOND),
+        sends("answer", ALPHA, "S1", "ORDRSP", RESPONSE),
+        sends("despatch", ALPHA, "S2", "DESADV", DESPATCH),
+        sends("receipt", RETAILER, "1005", "RECADV", RECEIPT),
+        ("cancellation", cancel, {}, b"accepted\n", b"repeated\n"),
+        ("status", over("status", ALPHA), {}, None, None),
+        ("mail", over("mail", ALPHA, "--do", "item", "--n", "2"), {}, None, None),
+        ("list", over("mail", ALPHA, "--do", "after", "--n", "0"), {}, None, None),
+        ("taken", over("mail", ALPHA, "--do", "taken", "--n", "1"), {}, b"taken\n", b"taken\n"),
+        ("fault", ["check", "--register", "fault.toml"], {"fault.toml": both if isinstance(both, str) else both.decode()}, None, None),
+        ("relay", relay, {"stdin": ORDER}, None, None),
+        ("show", ["show"], {"stdin": DESPATCH}, None, None),
+    ]
+
+
+def memory_refused(program, top):
+    shim, base = os.path.join(top, "refuse.so"), new_folder(top)
+    subprocess.run(["cc", "-O2", "-shared", "-fPIC", "-o", shim, SHIM, "-ldl"], check=True)
+    for name, words, data, first, again in steps():
+        for path, text in data.items():
+            os.makedirs(os.path.dirname(os.path.join(base, path)), exist_ok=True)
+            with open(os.path.join(base, path), "w", encoding="latin-1") as file:
+                file.write(text)
+        source = data.get("stdin", "").encode("latin-1")
+
+        def once(folder, **variables):
+            return run(program, words, folder, input=source, env=variables)
+
+        end = shutil.copytree(base, os.path.join(top, name))
+        whole = once(end, LD_PRELOAD=shim, COUNT=os.path.join(top, "count"))
+        if first not in (None, whole[1]):
+            return f"{name}: {whole}"
+        with open(os.path.join(top, "count"), encoding="ascii") as file:
+            allocations = int(file.read())
+        wanted = rows_of(end) if os.path.exists(os.path.join(end, NAME)) else None
+
+        def tried(number):
+            folder = shutil.copytree(base, os.path.join(top, f"{name}{number}"))
+            status, printed, error = once(folder, LD_PRELOAD=shim, REFUSE=str(number))
+            if (status, printed, error) == whole:
+                kind = "as ever"
+            elif (status, printed, error) == (3, b"", b"store memory\n"):
+                kind = "store memory"
+            elif status == 3 and error == b"memory\n" and whole[1].startswith(printed):
+                kind = "memory"
+            elif status == 3 and not error and (printed.endswith(b"stopped\n") or printed == whole[1].split(b"\n")[0] + b"\n"):
+                kind = "stopped"
+            else:
+                return f"{name}: allocation {number} refused: {(status, printed, error)!r:.300}"
+            later = once(folder)
+            if later != whole and later != (whole[0], again or whole[1], whole[2]):
+                return f"{name}: allocation {number} refused, {kind}, then: {later!r:.300}"
+            if wanted is not None and rows_of(folder) != wanted:
+                return f"{name}: allocation {number} refused, {kind}, then other rows"
+            shutil.rmtree(folder)
+            return (kind,)
+
+        with ThreadPoolExecutor(len(os.sched_getaffinity(0))) as pool:
+            found = list(pool.map(tried, range(1, allocations + 1)))
+        wrong = [it for it in found if isinstance(it, str)]
+        if wrong:
+            return f"{len(wrong)} of {allocations} wrong, first {wrong[0]}"
+        counts = ", ".join(f"{count} {kind}" for (kind,), count in Counter(found).most_common())
+        print(f"{name}: {allocations} allocations refused in turn: {counts}", flush=True)
+        base = end
+    return None
+
+
+TRIALS = (files_damaged, disks_full, memory_refused, imports_killed, servers_killed)
+
+
+def main(program):
+    program, failed = os.path.abspath(program), 0
+    for trial in TRIALS:
+        with tempfile.TemporaryDirectory() as top:
+            why = trial(program, top)
+        if why:
+            failed += 1
+            print(f"{trial.__name__}: {why}", flush=True)
+    print(f"{len(TRIALS) - failed} passed, {failed} failed")
+    return 1 if failed else 0
+
+
+if __name__ == "__main__":
+    sys.exit(main(*sys.argv[1:]))
