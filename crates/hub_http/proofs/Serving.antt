@@ -1,13 +1,13 @@
 -- The question of a connection, from its head.
 use Rattle.std.proofs.Common.{◌≡◌, ℕ, ◌+◌, List, Option, Some, None, Result, Ok, Err, Bool, false, refl, inl, inr}
-use Rattle.std.specs.Prelude.{IfOk, IfSome}
+use Rattle.std.specs.Prelude.{IfOk, IfSome, OnErr}
 use Rattle.std.specs.Io.KnownBytes.{Appends}
 use Rattle.edi_base.specs.Buffer.{AppendsFront}
 use Rattle.hub_law.specs.declared.reply.Reply.{Reply}
 use Rattle.hub_parties.specs.Rows.{RegisterRows}
 use Rattle.http_head.specs.Head.{Heading, Finds, before, longest_head}
 use Rattle.edi_base.specs.Source.{TakesAtMost}
-use Rattle.hub_http.specs.Answer.{Answers, OneStep, Serves, announced_by}
+use Rattle.hub_http.specs.Answer.{Answers, OneStep, ReadsWithin, Serves, announced_by}
 use Rattle.hub_http.specs.Asked.{is_single}
 use Rattle.hub_http.specs.Question.{Question, question_of}
 use Rattle.hub_http.specs.Serve.{response}
@@ -15,6 +15,28 @@ use Rattle.hub_http.proofs.Bounds.{both_taken}
 use Rattle.hub_http.specs.declared.answer.Answer.{Answer}
 use Rattle.hub_http.specs.declared.refusal.Refusal.{Refusal}
 use Rattle.hub_http.specs.declared.refusal.Refusal.TheVariants.{BadRequest}
+
+-- what holds whatever comes of a call holds where it failed
+pub on_err : {A E : Type 0} {P : Type 0} (r : Result A E) → P → OnErr r P
+on_err (Ok a) p = tt
+on_err (Err e) p = p
+
+module _ (register : RegisterRows) where
+  -- a read failed before a head was found
+  pub cut_before : (old new : Option (List ℕ)) → TakesAtMost old new longest_head
+      → IfSome old (λ known. ReadsWithin register known new)
+  cut_before None new taken = tt
+  cut_before (Some known) new taken = inl taken
+
+  -- and behind it
+  pub cut_behind : (old new after : Option (List ℕ)) (head : Heading) → Finds old new (Some head)
+      → TakesAtMost old new longest_head
+      → TakesAtMost new after (announced_by register (Some head))
+      → IfSome old (λ known. ReadsWithin register known after)
+  cut_behind None new after head found first more = tt
+  cut_behind (Some known) None after head found first more = absurd found
+  cut_behind (Some known) (Some left) after head found first more =
+      inr (before left head, found, both_taken (Some known) (Some left) after _ _ first more)
 
 module _ (Replies : Question → Reply → Type 0) (Same : Type 0) (register : RegisterRows) where
   -- where it is known what was answered, it is known what was asked
@@ -75,6 +97,7 @@ module _ (Replies : Question → Reply → Type 0) (Same : Type 0) (register : R
       → IfSome known (λ bytes. Serves Replies Same register bytes after answer)
       → Appends was is (response answer)
       → status ≡ answer.status
-      → IfSome known (λ bytes. (a : Answer) × Serves Replies Same register bytes after a × Appends was is (response a) × (status ≡ a.status))
+      → IfSome known (λ bytes. (a : Answer) × Serves Replies Same register bytes after a × Appends was is (response a)
+      × (status ≡ a.status))
   ended_whole None after was is answer status serves whole e = tt
   ended_whole (Some bytes) after was is answer status serves whole e = (answer, serves, whole, e)

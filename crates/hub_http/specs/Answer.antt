@@ -8,7 +8,7 @@ use Rattle.hub_parties.specs.Rows.{RegisterRows}
 use Rattle.hub_tables.specs.Tables.{Tables}
 use Rattle.hub_rules.specs.Sound.{Sound}
 use Rattle.hub_core.specs.Steps.{Stepped, input_of}
-use Rattle.http_head.specs.Head.{Heading, longest_head}
+use Rattle.http_head.specs.Head.{Heading, HeadIs, longest_head}
 use Rattle.hub_http.specs.Asked.{Asked, asked_by, is_single}
 use Rattle.hub_http.specs.Question.{Question, Asks}
 use Rattle.hub_http.specs.Refusal.{status_of, text_of}
@@ -83,3 +83,10 @@ pub record Serves (Replies : Question → Reply → Type 0) (Same : Type 0) (reg
   pub asks : Asks register bytes question
   pub answers : Answers Replies Same (passes asks.head) question answer
   pub taken : TakesAtMost (Some bytes) after (longest_head + announced_by register asks.head)
+
+-- How much was taken where a read failed: no more than a head has, or than the head that stands there and the body that
+-- it announced.
+abbrev pub ReadsWithin : RegisterRows → List ℕ → Option (List ℕ) → Type 0
+ReadsWithin register bytes after = TakesAtMost (Some bytes) after longest_head
+    ⊎ ((head : Heading) × HeadIs bytes (Some head)
+    × TakesAtMost (Some bytes) after (longest_head + announced_by register (Some head)))

@@ -178,6 +178,8 @@ pub(crate) fn answer_one<R: Source, S: Store>(
     ensures register { hub.new.0 ≡ hub.old.0 }
     ensures was_honest { S.honest hub.new.1 → S.honest hub.old.1 }
     ensures front { TakesAtMost (R.remaining reader.old) (R.remaining reader.new) (longest_head + longest_body) }
+    ensures cut { OnErr result (IfSome (R.remaining reader.old) (λ known.
+        spec.ReadsWithin hub.old.0 known (R.remaining reader.new))) }
     ensures failed { OnErr result (R.failed reader.new ≡ true) }
     ensures kept { OnOk result (R.failed reader.new ≡ R.failed reader.old) }
 {

@@ -45,7 +45,8 @@ fn request_by(
     body: Items<u8>,
     cancel: Option<Cancel>,
 ) -> Result<Request, Refusal>
-    ensures { (routed.entry.place ≡ Place.Cancellations → cancel ≡ cancel_of body) → result ≡ spec.request_at routed.entry.place (shown routed.entry).1 body }
+    ensures { (routed.entry.place ≡ Place.Cancellations → cancel ≡ cancel_of body)
+        → result ≡ spec.request_at routed.entry.place (shown routed.entry).1 body }
 {
     match routed.place {
         Place::Interchanges => Ok(Request::Upload(body)),

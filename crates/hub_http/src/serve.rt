@@ -1,10 +1,10 @@
 //! One connection.
-ghost use Rattle.std.specs.Prelude.{◌≡◌, ◌≢◌, ◌+◌, true, Err};
+ghost use Rattle.std.specs.Prelude.{◌≡◌, ◌≢◌, ◌+◌, true, Err, IfSome};
 ghost use Rattle.edi_base.specs.Buffer.{Flags};
 ghost use Rattle.edi_base.specs.Source.{TakesAtMost};
 ghost use Rattle.http_head.specs.Head.{longest_head};
 ghost use Rattle.http_response.specs.Text.{Writes};
-ghost use Rattle.hub_http.specs.Answer.{OneStep, Steps};
+ghost use Rattle.hub_http.specs.Answer.{OneStep, ReadsWithin, Steps};
 ghost use Rattle.hub_http.specs.Asked.{longest_body};
 ghost use Rattle.hub_http.specs.Serve as spec;
 
@@ -68,7 +68,8 @@ fn write_answer<W: Sink>(writer: &mut W, answer: &Answer) -> Result<(), WriteFau
 /// What is no request, or is refused before anything is asked of the hub, is answered 400, 403, 404, 405, 411 or 413;
 /// a reply that is done 200, one that is bad 400, denied 403, unknown 404, and stopped 503. Where memory is refused
 /// before anything is asked, the response is 503 with `stopped`; that can not be before the head is read. A head has at
-/// most 8,192 bytes and 32 fields, a body at most 1,048,576 bytes, and no more is read than these.
+/// most 8,192 bytes and 32 fields, a body at most 1,048,576 bytes, and no more is read than a head and the announced
+/// body, also where a read fails.
 pub fn serve_one<S: Store, R: Source, W: Sink>(
     alloc: Global,
     hub: &mut Hub<S>,
@@ -85,6 +86,8 @@ pub fn serve_one<S: Store, R: Source, W: Sink>(
     ensures was_honest { S.honest hub.new.1 → S.honest hub.old.1 }
 
     ensures front { TakesAtMost (R.remaining reader.old) (R.remaining reader.new) (longest_head + longest_body) }
+    ensures cut { result ≡ Err IoFault.Read → IfSome (R.remaining reader.old) (λ known.
+        ReadsWithin hub.old.0 known (R.remaining reader.new)) }
 
     // A fault comes only of the reader or of the writer, and else their flags stay.
     ensures read { result ≡ Err IoFault.Read → R.failed reader.new ≡ true }

@@ -3,7 +3,7 @@ use Rattle.http_head.specs.Head.{longest_head}
 use Rattle.hub_http.specs.Answer.{Steps, size_asked}
 use Rattle.hub_http.specs.Asked.{asked_by, longest_body}
 use Rattle.hub_http.proofs.Bounds.{asked_short, both_taken, taken_within}
-use Rattle.hub_http.proofs.Serving.{serves_none, serves_some}
+use Rattle.hub_http.proofs.Serving.{cut_behind, on_err, serves_none, serves_some}
 use Rattle.hub_http.proofs.answer.answer_one.Goals as goal
 
 pub returns-in-Some-clause-answered : goal.returns-in-Some-clause-answered
@@ -19,6 +19,13 @@ returns-in-Some-clause-front g c =
     taken_within _ _ (longest_head + size_asked (asked_by c.args.hub.now.0 c.in-Some.head)) (longest_head + longest_body)
     (omega (arith, short))
     (both_taken _ _ _ longest_head (size_asked (asked_by c.args.hub.now.0 c.in-Some.head)) c.in_ok-head.ensures.limit
+    c.answer_head.ensures.front)
+
+pub returns-in-Some-clause-cut : goal.returns-in-Some-clause-cut
+returns-in-Some-clause-cut g c =
+    let found = c.in_ok-head.ensures.head in
+    on_err c.answer_head.result
+    (cut_behind c.args.hub.now.0 _ _ _ c.in-Some.head (rw c.in-Some.is at found) c.in_ok-head.ensures.limit
     c.answer_head.ensures.front)
 
 pub returns-in-None-clause-answered : goal.returns-in-None-clause-answered
