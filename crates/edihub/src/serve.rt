@@ -23,12 +23,14 @@ struct ByTheClock<'a> {
 }
 
 impl<'a> Moments for ByTheClock<'a> {
+    ghost failed = { λ m. m.failed };
+
     fn next(&mut self) -> Option<Moment> {
         if self.named.is_some() {
             return self.named;
         }
         let moment = now(self.rt).ok();
-        self.failed = moment.is_none();
+        self.failed = self.failed || moment.is_none();
         moment
     }
 }

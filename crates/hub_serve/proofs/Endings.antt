@@ -1,5 +1,7 @@
 -- What became of one connection.
-use Rattle.std.proofs.Common.{◌≡◌, ℕ, ◌+◌, List, Option, Some, None, Ok, Err, refl, inl, inr}
+use Rattle.std.proofs.Common.{◌≡◌, ℕ, ◌+◌, Bool, true, false, List, [], ◌∷◌, Option, Some, None, Result, Ok, Err, refl, ◌∙◌}
+use Rattle.std.proofs.Common.{inl, inr}
+use Rattle.std.specs.Prelude.{◌≢◌}
 use Rattle.edi_base.specs.Source.{TakesAtMost}
 use Rattle.http_head.specs.Head.{longest_head}
 use Rattle.hub_http.specs.Answer.{OneStep, Serves, announced_by, passes}
@@ -7,15 +9,50 @@ use Rattle.hub_http.specs.Answer as http
 use Rattle.hub_http.specs.Question.{Question}
 use Rattle.hub_http.specs.Question as asked
 use Rattle.hub_http.specs.Serve.{Ended}
+use Rattle.hub_http.specs.declared.serve.IoFault.{IoFault}
+use Rattle.hub_http.specs.declared.serve.IoFault.TheVariants.{Read, Write}
 use Rattle.hub_http.specs.declared.serve.Served.{Served}
 use Rattle.hub_law.specs.declared.reply.Reply.{Reply}
 use Rattle.hub_law.specs.declared.request.Input.{Input}
 use Rattle.hub_core.specs.Steps.{input_of}
 use Rattle.hub_parties.specs.Rows.{RegisterRows}
-use Rattle.hub_serve.specs.Connections.{Coming, TakesOne}
+use Rattle.hub_serve.specs.Connections.{Adds, Closed, IsNew, Known, TakesFirst}
+use Rattle.hub_serve.specs.Line.{ending_of}
 use Rattle.hub_serve.specs.One.{Did, ServesOne}
-use Rattle.hub_serve.specs.Serve.{Asked, IsAsked}
-use Rattle.hub_serve.specs.declared.line.Ending.TheVariants.{Answered, Fault}
+use Rattle.hub_serve.specs.Serve.{Asked, AskedAt, Connection, FailedSo, IsAsked, IsServed, IsTaken}
+use Rattle.hub_serve.specs.declared.line.Ending.TheVariants.{Gone}
+use Rattle.hub_serve.proofs.Passing.{adds_none, takes_none}
+
+-- a fault is told exactly where its flag went up
+pub failed_so : (served : Result Served IoFault) (closed : Closed) (read write : Bool) → read ≡ false → write ≡ false
+    → (served ≡ Err Read → closed.read_failed ≡ true)
+    → (served ≢ Err Read → closed.read_failed ≡ read)
+    → (served ≡ Err Write → closed.write_failed ≡ true)
+    → (served ≢ Err Write → closed.write_failed ≡ write)
+    → FailedSo served closed
+failed_so (Ok served) closed read write r w raised kept cut same =
+    (kept (λ e. cc) ∙ r, same (λ e. cc) ∙ w)
+failed_so (Err Read) closed read write r w raised kept cut same = (raised refl, same (λ e. cc) ∙ w)
+failed_so (Err Write) closed read write r w raised kept cut same = (kept (λ e. cc) ∙ r, cut refl)
+
+-- a client that went away before it was taken
+pub gone : (Does : Input → Reply → Type 0) (Same : Type 0) (register : RegisterRows) (old new : Known)
+    → TakesFirst old.coming new.coming (None ∷ [])
+    → new.closed ≡ old.closed
+    → new.moments ≡ old.moments
+    → Same
+    → ServesOne Does Same register old new Gone
+gone Does Same register old new clients closed moments same = record {
+  one = record { bytes = None; moment = None; asked = None; closed = None; ending = Gone };
+  ends = refl;
+  passes = record {
+    clients = clients;
+    moments = takes_none old.moments new.moments moments;
+    closed = adds_none old.closed new.closed closed;
+  };
+  is = record { moment = refl; asked = refl; closed = refl };
+  did = same;
+}
 
 module _ (Does : Input → Reply → Type 0) (Same : Type 0) (register : RegisterRows) (moment : ℕ) where
   -- a question that was asked at this moment
@@ -23,58 +60,90 @@ module _ (Does : Input → Reply → Type 0) (Same : Type 0) (register : Registe
   Asks question reply = Does (input_of moment question.gln question.key question.request) reply
 
   -- what was asked, where no more is known
-  asked_once : OneStep Asks Same → (asked : Option Asked) × Did Does Same asked
-  asked_once (inl same) = (None, same)
-  asked_once (inr step) = (Some (record { moment = moment; question = step.0; reply = step.1 }), step.2)
+  asked_once : OneStep Asks Same → (asked : Option Asked) × AskedAt moment asked × Did Does Same asked
+  asked_once (inl same) = (None, tt, same)
+  asked_once (inr step) = (Some (record { moment = moment; question = step.0; reply = step.1 }), refl, step.2)
 
   -- what was asked, by what a question came to
   by_question : (bytes : List ℕ) (left : Option (List ℕ)) (answer : _) (question : _) (asks : asked.Asks register bytes question)
       → http.Answers Asks Same (passes asks.head) question answer
       → TakesAtMost (Some bytes) left (longest_head + announced_by register asks.head)
-      → (asked : Option Asked) × Serves (IsAsked asked) (asked ≡ None) register bytes left answer × Did Does Same asked
+      → (asked : Option Asked) × AskedAt moment asked × Serves (IsAsked asked) (asked ≡ None) register bytes left answer
+      × Did Does Same asked
   by_question bytes left answer (Ok question) asks (inl ends) taken = (
     Some (record { moment = moment; question = question; reply = ends.0 }),
+    refl,
     record { question = Ok question; asks = asks; answers = inl (ends.0, (refl, refl), ends.2); taken = taken },
     ends.1,
   )
   by_question bytes left answer (Ok question) asks (inr stops) taken =
-      (None, record { question = Ok question; asks = asks; answers = inr (stops.0, (refl, stops.1.1)); taken = taken }, stops.1.0)
+      (None, tt, record { question = Ok question; asks = asks; answers = inr (stops.0, (refl, stops.1.1)); taken = taken }, stops.1.0)
   by_question bytes left answer (Err refusal) asks (inl ends) taken =
-      (None, record { question = Err refusal; asks = asks; answers = inl (refl, ends.1); taken = taken }, ends.0)
+      (None, tt, record { question = Err refusal; asks = asks; answers = inl (refl, ends.1); taken = taken }, ends.0)
   by_question bytes left answer (Err refusal) asks (inr stops) taken =
-      (None, record { question = Err refusal; asks = asks; answers = inr (stops.0, (refl, stops.1.1)); taken = taken }, stops.1.0)
+      (None, tt, record { question = Err refusal; asks = asks; answers = inr (stops.0, (refl, stops.1.1)); taken = taken }, stops.1.0)
 
-  module _ (known rest : Coming) where
-    -- a response was written
-    pub answered : (bytes left was is : Option (List ℕ)) (served : Served) → TakesOne known rest bytes
-        → Ended Asks Same register bytes left was is (Ok served)
-        → OneStep Asks Same
-        → ServesOne Does Same register known rest (Answered served.status)
-    answered None left was is served takes ended step =
-        let once = asked_once step in record {
-          one = record { bytes = None; asked = once.0; ending = Answered served.status };
-          ends = refl;
-          takes = takes;
-          is = (left, was, is, tt);
-          did = once.1;
-        }
-    answered (Some bytes) left was is served takes ended step =
-        let by = by_question bytes left ended.0 ended.1.question ended.1.asks ended.1.answers ended.1.taken in record {
-          one = record { bytes = Some bytes; asked = by.0; ending = Answered served.status };
-          ends = refl;
-          takes = takes;
-          is = (left, was, is, (ended.0, by.1, ended.2, ended.3));
-          did = by.2;
-        }
+  -- what was asked in a connection that was served so
+  asked_so : (bytes left was is : Option (List ℕ)) (served : Result Served IoFault)
+      → Ended Asks Same register bytes left was is served
+      → OneStep Asks Same
+      → (asked : Option Asked) × AskedAt moment asked
+      × Ended (IsAsked asked) (asked ≡ None) register bytes left was is served
+      × Did Does Same asked
+  asked_so None left was is (Ok served) ended step = let once = asked_once step in (once.0, once.1, tt, once.2)
+  asked_so (Some bytes) left was is (Ok served) ended step =
+      let by = by_question bytes left ended.0 ended.1.question ended.1.asks ended.1.answers ended.1.taken in
+      (by.0, by.1, (ended.0, by.2, ended.2, ended.3), by.3)
+  asked_so bytes left was is (Err Read) ended step = (None, tt, (refl, ended.1), ended.0)
+  asked_so None left was is (Err Write) ended step = let once = asked_once step in (once.0, once.1, tt, once.2)
+  asked_so (Some bytes) left was is (Err Write) ended step =
+      let by = by_question bytes left ended.0 ended.1.question ended.1.asks ended.1.answers ended.1.taken in
+      (by.0, by.1, (ended.0, by.2, ended.2), by.3)
 
-    -- it failed
-    pub failed : (bytes : Option (List ℕ)) → TakesOne known rest bytes → OneStep Asks Same
-        → ServesOne Does Same register known rest Fault
-    failed bytes takes step =
-        let once = asked_once step in record {
-          one = record { bytes = bytes; asked = once.0; ending = Fault };
-          ends = refl;
-          takes = takes;
-          is = tt;
-          did = once.1;
-        }
+  abbrev so_ended : Option (List ℕ) → Option Asked → Closed → Result Served IoFault → Connection
+  so_ended bytes asked closed served = record {
+    bytes = bytes;
+    moment = Some moment;
+    asked = asked;
+    closed = Some closed;
+    ending = ending_of served;
+  }
+
+  is_served : (bytes : Option (List ℕ)) (asked : Option Asked) (closed : Closed) (served : Result Served IoFault)
+      → IsTaken register (so_ended bytes asked closed served) served
+      → IsServed register (so_ended bytes asked closed served)
+  is_served bytes asked closed (Ok served) taken = taken
+  is_served bytes asked closed (Err Read) taken = taken
+  is_served bytes asked closed (Err Write) taken = taken
+
+  -- a connection that was taken
+  pub taken : (old new : Known) (bytes left was : Option (List ℕ)) (read write : Bool) (closed : Closed)
+      (served : Result Served IoFault)
+      → TakesFirst old.coming new.coming (bytes ∷ [])
+      → TakesFirst old.moments new.moments (moment ∷ [])
+      → Adds old.closed new.closed (closed ∷ [])
+      → IsNew was read write
+      → FailedSo served closed
+      → Ended Asks Same register bytes left was closed.sent served
+      → OneStep Asks Same
+      → ServesOne Does Same register old new (ending_of served)
+  taken old new bytes left was read write closed served clients moments adds begun failed ended step =
+      let by = asked_so bytes left was closed.sent served ended step in record {
+        one = so_ended bytes by.0 closed served;
+        ends = refl;
+        passes = record { clients = clients; moments = moments; closed = adds };
+        is =
+            is_served bytes by.0 closed served (record {
+              moment = moment;
+              moment_is = refl;
+              asked_then = by.1;
+              closed = closed;
+              closed_is = refl;
+              failed_so = failed;
+              left = left;
+              begun = was;
+              nothing_sent = begun.nothing_sent;
+              ended = by.2;
+            });
+        did = by.3;
+      }

@@ -1,3 +1,4 @@
 mod Endings
+mod Passing
 mod Running
 mod SoFar

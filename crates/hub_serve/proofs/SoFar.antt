@@ -1,9 +1,8 @@
 -- Connections that were served up to some moment.
-use Rattle.std.proofs.Common.{◌≡◌, ℕ, Bool, ◌+◌, ◌≤◌, suc, true, List, [], ◌∷◌, ◌++◌, length, map, Option, Some, None, refl, sym}
+use Rattle.std.proofs.Common.{◌≡◌, ℕ, Bool, ◌+◌, ◌≤◌, suc, true, List, [], ◌∷◌, ◌++◌, length, Option, refl, sym}
 use Rattle.std.proofs.Common.{ap, ◌∙◌, subst, inl, inr, append_assoc, arith, Result, Ok, Err}
-use Rattle.std.specs.Prelude.{IfSome, max, fold, is_err, IsTrue, ◌<◌, false}
+use Rattle.std.specs.Prelude.{max, fold, is_err, IsTrue, ◌<◌, false}
 use Rattle.std.specs.List.{AllByRecursion}
-use Rattle.std.specs.Option.{unwrap_or}
 use Rattle.std.specs.Io.KnownBytes.{Appends}
 use Rattle.std.proofs.KnownBytes.{Appends-nil, Appends-trans}
 use Rattle.std.proofs.lemmas.Bool.{true≢false, false≢true}
@@ -13,20 +12,17 @@ use Rattle.http_response.specs.Text.{Writes}
 use Rattle.hub_law.specs.declared.reply.Reply.{Reply}
 use Rattle.hub_law.specs.declared.request.Input.{Input}
 use Rattle.hub_parties.specs.Rows.{RegisterRows}
-use Rattle.hub_serve.specs.Connections.{Coming, TakesOne}
+use Rattle.hub_serve.specs.Connections.{Closed, Known}
+use Rattle.hub_serve.specs.Line.{ending_status, line_of}
+use Rattle.hub_serve.specs.One.{Passes}
 use Rattle.hub_serve.specs.Output.{Written}
-use Rattle.hub_serve.specs.Serve.{AreFirst, Connection, IsServed, Serves, ending_status, greatest, inputs, line_of, lines_from, replies}
+use Rattle.hub_serve.specs.Serve.{Connection, IsServed, Serves, ends_in, greatest, inputs, lines_from, moments_in, replies, sent_in}
+use Rattle.hub_serve.proofs.Passing.{adds_still, are_first, passes_more, passes_none}
 
--- these are the first of the connections that come, and the others still come
-abbrev pub Rests : Coming → Coming → List Connection → Type 0
-Rests known rest served =
-    IfSome known (λ all. (others : List (Option (List ℕ))) × (all ≡ map (λ one. one.bytes) served ++ others)
-    × (rest ≡ Some others))
-
-pub record SoFar (Runs : List Input → List Reply → Type 0) (register : RegisterRows) (known rest : Coming)
+pub record SoFar (Runs : List Input → List Reply → Type 0) (register : RegisterRows) (known rest : Known)
     (old new : Option (List ℕ)) (failed after : Bool) (number status : ℕ) : Type 0 where
   pub served : List Connection
-  pub first : Rests known rest served
+  pub passed : Passes known rest served
   pub each : AllByRecursion (IsServed register) served
   pub ran : Runs (inputs served) (replies served)
   pub counted : length served ≡ number
@@ -34,27 +30,6 @@ pub record SoFar (Runs : List Input → List Reply → Type 0) (register : Regis
   pub status_is : status ≡ greatest served
 
 -- one connection more
-bytes_more : (served : List Connection) (one : Connection) (others : List (Option (List ℕ)))
-    → map (λ (c : Connection). c.bytes) served ++ one.bytes ∷ others
-    ≡ map (λ (c : Connection). c.bytes) (served ++ one ∷ []) ++ others
-bytes_more [] one others = refl
-bytes_more (first ∷ served) one others = ap (λ (l : List (Option (List ℕ))). first.bytes ∷ l) (bytes_more served one others)
-
-some_is : {x y : List (Option (List ℕ))} → Some x ≡ Some y → x ≡ y
-some_is {x} {y} e = ap (λ (o : Coming). unwrap_or o x) e
-
-rests_more : (known rest later : Coming) (served : List Connection) (one : Connection) → Rests known rest served
-    → TakesOne rest later one.bytes
-    → Rests known later (served ++ one ∷ [])
-rests_more None rest later served one rests takes = tt
-rests_more (Some all) None later served one rests takes = absurd cc
-rests_more (Some all) (Some rest) later served one rests takes = (
-  takes.0,
-  rests.1 ∙ ap (λ (l : List (Option (List ℕ))). map (λ (c : Connection). c.bytes) served ++ l)
-      (some_is (sym rests.2) ∙ takes.1) ∙ bytes_more served one takes.0,
-  takes.2,
-)
-
 all_more : (P : Connection → Type 0) (served : List Connection) (one : Connection) → AllByRecursion P served → P one
     → AllByRecursion P (served ++ one ∷ [])
 all_more P [] one all is = (is, tt)
@@ -82,18 +57,14 @@ greatest_more : (status : ℕ) (served : List Connection) (one : Connection)
 greatest_more status [] one = refl
 greatest_more status (first ∷ served) one = greatest_more (max status (ending_status first.ending)) served one
 
-begun : (known : Coming) → Rests known known []
-begun None = tt
-begun (Some all) = (all, refl, refl)
-
 -- no connection was served
-pub so_far_none : (Runs : List Input → List Reply → Type 0) (register : RegisterRows) (known : Coming) (old : Option (List ℕ))
+pub so_far_none : (Runs : List Input → List Reply → Type 0) (register : RegisterRows) (known : Known) (old : Option (List ℕ))
     (failed : Bool)
     → Runs [] []
     → SoFar Runs register known known old old failed failed 0 0
 so_far_none Runs register known old failed ran = record {
   served = [];
-  first = begun known;
+  passed = passes_none known;
   each = tt;
   ran = ran;
   counted = refl;
@@ -118,38 +89,44 @@ pub broken : {E : Type 0} (old new : Option (List ℕ)) (failed after : Bool) (t
 broken old new failed after text (Ok done) bytes flag e = absurd (false≢true e)
 broken old new failed after text (Err fault) bytes flag e = (bytes, flag)
 
-are_first : (known rest : Coming) (served : List Connection) → Rests known rest served → AreFirst known served
-are_first None rest served rests = tt
-are_first (Some all) rest served rests = (rests.0, rests.1)
-
-module _ (register : RegisterRows) (known : Coming) (count : ℕ) (old : Option (List ℕ)) (failed : Bool) where
+module _ (register : RegisterRows) (known : Known) (Going Stopped : Type 0) (count : ℕ) (old : Option (List ℕ))
+    (failed : Bool) where
   -- all were served
-  pub whole : (Runs : List Input → List Reply → Type 0) (rest : Coming) (new : Option (List ℕ)) (after : Bool)
+  pub whole : (Runs : List Input → List Reply → Type 0) (rest : Known) (new : Option (List ℕ)) (after : Bool)
       (number status : ℕ)
       → SoFar Runs register known rest old new failed after number status
+      → Going
       → number ≡ count
-      → Serves Runs register known count old new failed after status
-  whole Runs rest new after number status s all = record {
+      → Serves Runs register known rest.closed Going Stopped count old new failed after status
+  whole Runs rest new after number status s going all = record {
     served = s.served;
-    first = are_first known rest s.served s.first;
+    first = are_first known.coming rest.coming (sent_in s.served) s.passed.clients;
+    timed = are_first known.moments rest.moments (moments_in s.served) s.passed.moments;
+    ended_so = s.passed.closed;
     each = s.each;
     ran = s.ran;
-    ended = inl (record { counted = s.counted ∙ all; written = s.written; status_is = s.status_is });
+    ended = inl (record { going = going; counted = s.counted ∙ all; written = s.written; status_is = s.status_is });
   }
 
   -- no more can be
-  pub cut_short : (Runs After : List Input → List Reply → Type 0) (rest : Coming) (new : Option (List ℕ)) (after : Bool)
+  pub cut_short : (Runs After : List Input → List Reply → Type 0) (rest : Known) (closed : Option (List Closed))
+      (new : Option (List ℕ)) (after : Bool)
       (number status : ℕ) (s : SoFar Runs register known rest old new failed after number status)
+      → closed ≡ rest.closed
+      → Stopped
       → number < count
       → After (inputs s.served) (replies s.served)
-      → Serves After register known count old new failed after 3
-  cut_short Runs After rest new after number status s fewer ran = record {
+      → Serves After register known closed Going Stopped count old new failed after 3
+  cut_short Runs After rest closed new after number status s still stopped fewer ran = record {
     served = s.served;
-    first = are_first known rest s.served s.first;
+    first = are_first known.coming rest.coming (sent_in s.served) s.passed.clients;
+    timed = are_first known.moments rest.moments (moments_in s.served) s.passed.moments;
+    ended_so = adds_still known.closed rest.closed closed (ends_in s.served) s.passed.closed still;
     each = s.each;
     ran = ran;
     ended =
         inr (inl (record {
+          stopped = stopped;
           fewer = subst (λ (n : ℕ). n < count) (sym s.counted) fewer;
           written = s.written;
           status_is = refl;
@@ -157,9 +134,9 @@ module _ (register : RegisterRows) (known : Coming) (count : ℕ) (old : Option 
   }
 
   -- and then one connection more, over a sink and with a status
-  module _ (Runs After : List Input → List Reply → Type 0) (rest later : Coming) (between new : Option (List ℕ))
+  module _ (Runs After : List Input → List Reply → Type 0) (rest later : Known) (between new : Option (List ℕ))
       (middle after : Bool) (number status : ℕ) (s : SoFar Runs register known rest old between failed middle number status)
-      (one : Connection) (takes : TakesOne rest later one.bytes) (is : IsServed register one)
+      (one : Connection) (passes : Passes rest later (one ∷ [])) (is : IsServed register one)
       (ran : After (inputs (s.served ++ one ∷ [])) (replies (s.served ++ one ∷ []))) (next : ℕ) (next_is : next ≡ number + 1) where
     at : 1 + length s.served ≡ next
     at = let counted = s.counted in omega (arith, counted, next_is)
@@ -170,7 +147,7 @@ module _ (register : RegisterRows) (known : Coming) (count : ℕ) (old : Option 
         → SoFar After register known later old new failed after next greater
     so_far_more written greater given greater_is given_is = record {
       served = s.served ++ one ∷ [];
-      first = rests_more known rest later s.served one s.first takes;
+      passed = passes_more known rest later s.served one s.passed passes;
       each = all_more (IsServed register) s.served one s.each is;
       ran = ran;
       counted = let counted = s.counted in length_more s.served one ∙ ap (λ (n : ℕ). n + 1) counted ∙ sym next_is;
@@ -188,19 +165,23 @@ module _ (register : RegisterRows) (known : Coming) (count : ℕ) (old : Option 
           ∙ greatest_more 0 s.served one;
     }
 
-    pub lost : number < count → AppendsFront between new (line_of next one.ending) × IsTrue after
-        → Serves After register known count old new failed after 3
-    lost fewer cut =
+    pub lost : Going → number < count → AppendsFront between new (line_of next one.ending) × IsTrue after
+        → Serves After register known later.closed Going Stopped count old new failed after 3
+    lost going fewer cut =
         let counted = s.counted in
         let more = length_more s.served one in
         let last : next ≡ length (s.served ++ one ∷ []) = omega (arith, counted, more, next_is) in
-        let within : length (s.served ++ one ∷ []) ≤ count = omega (arith, counted, more, fewer) in record {
+        let within : length (s.served ++ one ∷ []) ≤ count = omega (arith, counted, more, fewer) in
+        let passed = passes_more known rest later s.served one s.passed passes in record {
           served = s.served ++ one ∷ [];
-          first = are_first known later (s.served ++ one ∷ []) (rests_more known rest later s.served one s.first takes);
+          first = are_first known.coming later.coming (sent_in (s.served ++ one ∷ [])) passed.clients;
+          timed = are_first known.moments later.moments (moments_in (s.served ++ one ∷ [])) passed.moments;
+          ended_so = passed.closed;
           each = all_more (IsServed register) s.served one s.each is;
           ran = ran;
           ended =
               inr (inr (record {
+                going = going;
                 earlier = s.served;
                 last = one;
                 are = refl;

@@ -1,5 +1,6 @@
--- Connections that come one after another.
-use Rattle.std.specs.Prelude.{◌≡◌, ⊤, ℕ, List, ◌∷◌, Option, Some, None, Result, Ok, Err, IfSome}
+-- Connections that come one after another, and the moments at which they come.
+use Rattle.std.specs.Prelude.{◌≡◌, ⊤, ℕ, Bool, true, false, List, [], ◌∷◌, ◌++◌, Option, Some, None, Result, Ok, Err}
+use Rattle.std.specs.Prelude.{IfSome, IsFalse}
 use Rattle.hub_serve.specs.declared.connections.NoConnection.{NoConnection}
 use Rattle.hub_serve.specs.declared.connections.NoConnection.TheVariants.{Gone, Over}
 use Rattle.hub_serve.specs.declared.connections.Sides.{Sides}
@@ -8,13 +9,52 @@ use Rattle.hub_serve.specs.declared.connections.Sides.{Sides}
 abbrev pub Coming : Type 0
 Coming = Option (List (Option (List ℕ)))
 
--- the first of those that come, whose client sends these bytes, where they are known
-abbrev pub TakesOne : Coming → Coming → Option (List ℕ) → Type 0
-TakesOne known rest bytes =
-    IfSome known (λ all. (others : List (Option (List ℕ))) × (all ≡ bytes ∷ others) × (rest ≡ Some others))
+-- where it is known what comes, these come first, and then the rest
+abbrev pub TakesFirst : {A : Type 0} → Option (List A) → Option (List A) → List A → Type 0
+TakesFirst {A} known rest first =
+    IfSome known (λ all. (others : List A) × (all ≡ first ++ others) × (rest ≡ Some others))
 
 -- The next connection: its reader gives what its client sends. Of one that is gone nothing is known.
 abbrev pub Takes : {R W : Type 0} → (R → Option (List ℕ)) → Coming → Coming → Result (Sides R W) NoConnection → Type 0
-Takes remaining known rest (Ok sides) = TakesOne known rest (remaining sides.reader)
-Takes remaining known rest (Err Gone) = TakesOne known rest None
+Takes remaining known rest (Ok sides) = TakesFirst known rest (remaining sides.reader ∷ [])
+Takes remaining known rest (Err Gone) = TakesFirst known rest (None ∷ [])
 Takes remaining known rest (Err Over) = ⊤
+
+-- the next moment
+abbrev pub TakesMoment : Option (List ℕ) → Option (List ℕ) → Option ℕ → Type 0
+TakesMoment known rest (Some moment) = TakesFirst known rest (moment ∷ [])
+TakesMoment known rest None = ⊤
+
+-- no more connections can be taken
+abbrev pub is_over : {R : Type 0} → Result R NoConnection → Bool
+is_over (Ok sides) = false
+is_over (Err Gone) = false
+is_over (Err Over) = true
+
+-- a connection at its begin: nothing was sent to its client, and no read and no write has failed
+pub record IsNew (sent : Option (List ℕ)) (read_failed write_failed : Bool) : Type 0 where
+  pub nothing_sent : IfSome sent (λ bytes. bytes ≡ [])
+  pub read : IsFalse read_failed
+  pub write : IsFalse write_failed
+
+-- a connection at its end: what its client was sent, where that is known, and whether a read and a write have failed
+pub record Closed : Type 0 where
+  pub sent : Option (List ℕ)
+  pub read_failed : Bool
+  pub write_failed : Bool
+
+abbrev pub closed : Option (List ℕ) → Bool → Bool → Closed
+closed sent read_failed write_failed = record { sent = sent; read_failed = read_failed; write_failed = write_failed }
+
+-- where it is known how connections ended, these did after the others
+abbrev pub Adds : Option (List Closed) → Option (List Closed) → List Closed → Type 0
+Adds old new last = IfSome old (λ all. new ≡ Some (all ++ last))
+
+-- what is known of connections: which still come, how those that were ended did, and the moments of those that come
+pub record Known : Type 0 where
+  pub coming : Coming
+  pub closed : Option (List Closed)
+  pub moments : Option (List ℕ)
+
+abbrev pub known : Coming → Option (List Closed) → Option (List ℕ) → Known
+known coming closed moments = record { coming = coming; closed = closed; moments = moments }

@@ -1,4 +1,5 @@
 pub mod Connections
+pub mod Line
 pub mod One
 pub mod Output
 pub mod Serve

@@ -1,17 +1,21 @@
 -- Connections served one after another: what became of each, what is printed, and the exit status.
-use Rattle.std.specs.Prelude.{◌≡◌, ◌⊎◌, ⊤, ℕ, ◌+◌, ◌<◌, ◌≤◌, max, ◌==◌, if◌then◌else◌, Bool, List, [], ◌∷◌, ◌++◌}
-use Rattle.std.specs.Prelude.{length, map, flat_map, fold, codes, decimal, Option, Some, None, Ok, IfSome}
+use Rattle.std.specs.Prelude.{◌≡◌, ◌⊎◌, ⊤, ℕ, ◌+◌, ◌<◌, ◌≤◌, max, Bool, List, [], ◌∷◌, ◌++◌, length, map, flat_map, fold}
+use Rattle.std.specs.Prelude.{Option, Some, None, Result, Ok, Err, IfSome, IsTrue, IsFalse}
 use Rattle.std.specs.List.{AllByRecursion}
 use Rattle.hub_core.specs.Steps.{input_of}
 use Rattle.hub_http.specs.Question.{Question}
 use Rattle.hub_http.specs.Serve.{Ended}
+use Rattle.hub_http.specs.declared.serve.IoFault.{IoFault}
+use Rattle.hub_http.specs.declared.serve.IoFault.TheVariants.{Read, Write}
+use Rattle.hub_http.specs.declared.serve.Served.{Served}
 use Rattle.hub_law.specs.declared.reply.Reply.{Reply}
 use Rattle.hub_law.specs.declared.request.Input.{Input}
 use Rattle.hub_parties.specs.Rows.{RegisterRows}
-use Rattle.hub_serve.specs.Connections.{Coming}
+use Rattle.hub_serve.specs.Connections.{Adds, Closed, Known}
+use Rattle.hub_serve.specs.Line.{ending_status, line_of}
 use Rattle.hub_serve.specs.Output.{Written, BrokenOff}
 use Rattle.hub_serve.specs.declared.line.Ending.{Ending}
-use Rattle.hub_serve.specs.declared.line.Ending.TheVariants.{Answered, Fault}
+use Rattle.hub_serve.specs.declared.line.Ending.TheVariants.{Answered, Gone, ReadFailed, WriteFailed}
 
 -- what was asked of the hub in a connection, when, and the reply
 pub record Asked : Type 0 where
@@ -19,12 +23,30 @@ pub record Asked : Type 0 where
   pub question : Question
   pub reply : Reply
 
--- A connection: what its client sent, where that is known; what was asked of the hub, if anything; and what became of
--- it.
+-- A connection: what its client sent, where that is known; the moment at which it came, and how it stood at its end,
+-- unless its client went away before; what was asked of the hub, if anything; and what became of it.
 pub record Connection : Type 0 where
   pub bytes : Option (List ℕ)
+  pub moment : Option ℕ
   pub asked : Option Asked
+  pub closed : Option Closed
   pub ending : Ending
+
+abbrev pub listed : {A : Type 0} → Option A → List A
+listed None = []
+listed (Some it) = it ∷ []
+
+-- what the clients sent
+abbrev pub sent_in : List Connection → List (Option (List ℕ))
+sent_in = map (λ one. one.bytes)
+
+-- the moments at which they came
+abbrev pub moments_in : List Connection → List ℕ
+moments_in = flat_map (λ one. listed one.moment)
+
+-- how they stood at their ends
+abbrev pub ends_in : List Connection → List Closed
+ends_in = flat_map (λ one. listed one.closed)
 
 -- what the hub was asked, and told
 abbrev pub input_in : Asked → Input
@@ -44,28 +66,10 @@ inputs = flat_map (λ one. inputs_of one.asked)
 abbrev pub replies : List Connection → List Reply
 replies = flat_map (λ one. replies_of one.asked)
 
--- the line of the port that is listened on
-abbrev pub port_line : ℕ → List ℕ
-port_line port = codes "listening " ++ (decimal port ++ codes "\n")
-
--- the end of its line
-abbrev pub end_of : Ending → List ℕ
-end_of (Answered status) = decimal status ++ codes "\n"
-end_of Fault = codes "fault\n"
-
--- the line of a connection, by its number
-abbrev pub line_of : ℕ → Ending → List ℕ
-line_of number ending = codes "connection " ++ (decimal number ++ (codes " " ++ end_of ending))
-
 -- the lines of connections in their order, the first of this number
 abbrev pub lines_from : ℕ → List Connection → List ℕ
 lines_from number [] = []
 lines_from number (one ∷ served) = line_of number one.ending ++ lines_from (number + 1) served
-
--- the exit status of a connection
-abbrev pub ending_status : Ending → ℕ
-ending_status (Answered status) = if status == 200 then 0 else if status == 503 then 3 else 1
-ending_status Fault = 3
 
 -- the greatest status of all
 abbrev pub greatest : List Connection → ℕ
@@ -76,39 +80,72 @@ abbrev pub IsAsked : Option Asked → Question → Reply → Type 0
 IsAsked None question reply = ⊥
 IsAsked (Some asked) question reply = (asked.question ≡ question) × (asked.reply ≡ reply)
 
--- Where the bytes of a connection are known and it was answered, what was asked is what they ask, and the status is that
--- of the response: of the reply, or of a refusal, and then nothing was asked.
+-- what was asked was asked at this moment
+abbrev pub AskedAt : ℕ → Option Asked → Type 0
+AskedAt moment None = ⊤
+AskedAt moment (Some asked) = asked.moment ≡ moment
+
+-- a read has failed, or a write, exactly where this says so
+abbrev pub FailedSo : Result Served IoFault → Closed → Type 0
+FailedSo (Ok served) closed = IsFalse closed.read_failed × IsFalse closed.write_failed
+FailedSo (Err Read) closed = IsTrue closed.read_failed × IsFalse closed.write_failed
+FailedSo (Err Write) closed = IsFalse closed.read_failed × IsTrue closed.write_failed
+
+-- A connection was taken at a moment, and served so. Where its bytes are known, what was asked is what they ask, and its
+-- client was sent the response to that: all of it, or a front where a write failed. Where a read failed, nothing was
+-- asked, and nothing sent.
+pub record IsTaken (register : RegisterRows) (one : Connection) (served : Result Served IoFault) : Type 0 where
+  pub moment : ℕ
+  pub moment_is : one.moment ≡ Some moment
+  pub asked_then : AskedAt moment one.asked
+  pub closed : Closed
+  pub closed_is : one.closed ≡ Some closed
+  pub failed_so : FailedSo served closed
+  pub left : Option (List ℕ)
+  pub begun : Option (List ℕ)
+  pub nothing_sent : IfSome begun (λ bytes. bytes ≡ [])
+  pub ended : Ended (IsAsked one.asked) (one.asked ≡ None) register one.bytes left begun closed.sent served
+
+-- the client of a connection went away before it was taken: nothing was asked, and nothing sent
+pub record IsGone (one : Connection) : Type 0 where
+  pub moment : one.moment ≡ None
+  pub asked : one.asked ≡ None
+  pub closed : one.closed ≡ None
+
+-- what an ending says
 abbrev pub EndsSo : RegisterRows → Connection → Ending → Type 0
-EndsSo register one (Answered status) = (left was is : Option (List ℕ))
-    × Ended (IsAsked one.asked) (one.asked ≡ None) register one.bytes left was is
-    (Ok (record { status = status }))
-EndsSo register one Fault = ⊤
+EndsSo register one (Answered status) = IsTaken register one (Ok (record { status = status }))
+EndsSo register one Gone = IsGone one
+EndsSo register one ReadFailed = IsTaken register one (Err Read)
+EndsSo register one WriteFailed = IsTaken register one (Err Write)
 
 abbrev pub IsServed : RegisterRows → Connection → Type 0
 IsServed register one = EndsSo register one one.ending
 
--- these are the first of the connections that come
-abbrev pub AreFirst : Coming → List Connection → Type 0
-AreFirst known served =
-    IfSome known (λ all. (rest : List (Option (List ℕ))) × (all ≡ map (λ one. one.bytes) served ++ rest))
+-- where it is known what comes, these are the first of it
+abbrev pub AreFirst : {A : Type 0} → Option (List A) → List A → Type 0
+AreFirst {A} known first = IfSome known (λ all. (rest : List A) × (all ≡ first ++ rest))
 
 -- as many connections were served as there were to be
-pub record Whole (count : ℕ) (old new : Option (List ℕ)) (failed after : Bool) (served : List Connection)
-    (status : ℕ) : Type 0 where
+pub record Whole (Going : Type 0) (count : ℕ) (old new : Option (List ℕ)) (failed after : Bool)
+    (served : List Connection) (status : ℕ) : Type 0 where
+  pub going : Going
   pub counted : length served ≡ count
   pub written : Written old new failed after (lines_from 1 served)
   pub status_is : status ≡ greatest served
 
 -- no more could be taken, or no moment was known
-pub record CutShort (count : ℕ) (old new : Option (List ℕ)) (failed after : Bool) (served : List Connection)
-    (status : ℕ) : Type 0 where
+pub record CutShort (Stopped : Type 0) (count : ℕ) (old new : Option (List ℕ)) (failed after : Bool)
+    (served : List Connection) (status : ℕ) : Type 0 where
+  pub stopped : Stopped
   pub fewer : length served < count
   pub written : Written old new failed after (lines_from 1 served)
   pub status_is : status ≡ 3
 
 -- the line of the last could not be written
-pub record Lost (count : ℕ) (old new : Option (List ℕ)) (after : Bool) (served : List Connection)
+pub record Lost (Going : Type 0) (count : ℕ) (old new : Option (List ℕ)) (after : Bool) (served : List Connection)
     (status : ℕ) : Type 0 where
+  pub going : Going
   pub earlier : List Connection
   pub last : Connection
   pub are : served ≡ earlier ++ last ∷ []
@@ -116,12 +153,16 @@ pub record Lost (count : ℕ) (old new : Option (List ℕ)) (after : Bool) (serv
   pub broken : BrokenOff old new after (lines_from 1 earlier) (line_of (length served) last.ending)
   pub status_is : status ≡ 3
 
--- Connections were served in their order. What was asked of the hub in them, and the replies, are a run of it.
-pub record Serves (Runs : List Input → List Reply → Type 0) (register : RegisterRows) (known : Coming) (count : ℕ)
-    (old new : Option (List ℕ)) (failed after : Bool) (status : ℕ) : Type 0 where
+-- Connections were served in their order, which are the first of those that come, at the moments that come, and these
+-- were ended. What was asked of the hub in them, and the replies, are a run of it.
+pub record Serves (Runs : List Input → List Reply → Type 0) (register : RegisterRows) (known : Known)
+    (closed : Option (List Closed)) (Going Stopped : Type 0) (count : ℕ) (old new : Option (List ℕ))
+    (failed after : Bool) (status : ℕ) : Type 0 where
   pub served : List Connection
-  pub first : AreFirst known served
+  pub first : AreFirst known.coming (sent_in served)
+  pub timed : AreFirst known.moments (moments_in served)
+  pub ended_so : Adds known.closed closed (ends_in served)
   pub each : AllByRecursion (IsServed register) served
   pub ran : Runs (inputs served) (replies served)
-  pub ended : Whole count old new failed after served status
-      ⊎ (CutShort count old new failed after served status ⊎ Lost count old new after served status)
+  pub ended : Whole Going count old new failed after served status
+      ⊎ (CutShort Stopped count old new failed after served status ⊎ Lost Going count old new after served status)

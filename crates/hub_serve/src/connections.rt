@@ -1,4 +1,5 @@
 //! Connections, and the moments at which they come.
+use crate::line::Ending;
 use edi_base::{Sink, Source};
 use edi_envelope::Moment;
 
@@ -22,8 +23,8 @@ pub enum NoConnection {
 
 /// Connections that come one after another.
 pub trait Connections {
-    ghost use Rattle.std.specs.Prelude.{◌≡◌, ℕ, List, Option, None};
-    ghost use Rattle.hub_serve.specs.Connections.{Takes};
+    ghost use Rattle.std.specs.Prelude.{◌≡◌, ◌||◌, ℕ, Bool, List, [], ◌∷◌, Option, None, IfOk};
+    ghost use Rattle.hub_serve.specs.Connections as spec;
 
     type Reader: Source + Drop;
 
@@ -33,18 +34,44 @@ pub trait Connections {
     // where they are known.
     ghost coming: { Self → Option (List (Option (List ℕ))) } = { λ _. None };
 
-    /// The next connection. It waits until one comes.
-    fn next(&mut self) -> Result<Sides<Self::Reader, Self::Writer>, NoConnection>
-        ensures { Takes Self.Reader.remaining (coming self.old) (coming self.new) result };
+    // Of the connections that were ended, in their order, where it is known: what the client of each was sent, and
+    // whether a read or a write of it has failed.
+    ghost closed: { Self → Option (List spec.Closed) } = { λ _. None };
 
-    /// Ends a connection whose response was written. What its client still sends is passed over, within limits, so that
-    /// it reads the response and not that the connection was broken off.
-    fn end(&mut self, sides: Sides<Self::Reader, Self::Writer>)
-        ensures { coming self.new ≡ coming self.old };
+    // Whether no more can be taken.
+    ghost failed: { Self → Bool };
+
+    /// The next connection, of which nothing was read yet, and to which nothing was written. It waits until one comes.
+    fn next(&mut self) -> Result<Sides<Self::Reader, Self::Writer>, NoConnection>
+        ensures takes { spec.Takes Self.Reader.remaining (coming self.old) (coming self.new) result }
+        ensures is_new { IfOk result (λ sides. spec.IsNew (Self.Writer.contents sides.writer)
+            (Self.Reader.failed sides.reader) (Self.Writer.failed sides.writer)) }
+        ensures closed { closed self.new ≡ closed self.old }
+        ensures flag { failed self.new ≡ (failed self.old || spec.is_over result) };
+
+    /// Ends a connection, of which this became. Where it was answered, what its client still sends is passed over,
+    /// within limits, so that it reads the response and not that the connection was broken off.
+    fn end(&mut self, sides: Sides<Self::Reader, Self::Writer>, ending: Ending)
+        ensures coming { coming self.new ≡ coming self.old }
+        ensures closed { spec.Adds (closed self.old) (closed self.new)
+            (spec.closed (Self.Writer.contents sides.writer) (Self.Reader.failed sides.reader)
+            (Self.Writer.failed sides.writer) ∷ []) }
+        ensures flag { failed self.new ≡ failed self.old };
 }
 
 /// The moments at which connections come.
 pub trait Moments {
+    ghost use Rattle.std.specs.Prelude.{◌≡◌, ◌||◌, ℕ, Bool, List, Option, None, is_none};
+    ghost use Rattle.hub_serve.specs.Connections.{TakesMoment};
+
+    // The moments of the connections that still come, where they are known.
+    ghost coming: { Self → Option (List ℕ) } = { λ _. None };
+
+    // Whether a moment was not known.
+    ghost failed: { Self → Bool };
+
     /// The moment of the connection that came last, or none where it is not known.
-    fn next(&mut self) -> Option<Moment>;
+    fn next(&mut self) -> Option<Moment>
+        ensures takes { TakesMoment (coming self.old) (coming self.new) result }
+        ensures flag { failed self.new ≡ (failed self.old || is_none result) };
 }

@@ -2,9 +2,11 @@
 ghost use Rattle.std.specs.Prelude.{◌≡◌, ◌++◌, decimal};
 ghost use Rattle.edi_base.specs.Buffer.{Puts, Flags};
 ghost use Rattle.http_response.specs.Text.{Writes};
-ghost use Rattle.hub_serve.specs.Serve.{end_of, ending_status, line_of, port_line};
+ghost use Rattle.hub_serve.specs.Line as spec;
+ghost use Rattle.hub_serve.specs.Line.{end_of, ending_status, line_of, port_line};
 
 use edi_base::{Buffer, Sink, WriteFault};
+use hub_http::{IoFault, Served};
 
 /// All connections were answered 200.
 pub(crate) const DONE: u8 = 0;
@@ -20,8 +22,23 @@ pub(crate) const FAILED: u8 = 3;
 pub enum Ending {
     /// A response of this status was written.
     Answered(u16),
-    /// It failed.
-    Fault,
+    /// Its client went away before it was taken.
+    Gone,
+    /// A read failed. Nothing was asked of the hub, and nothing written.
+    ReadFailed,
+    /// A write failed. What was asked of the hub was done.
+    WriteFailed,
+}
+
+/// What became of a connection that was served so.
+pub(crate) fn ending_of(served: Result<Served, IoFault>) -> Ending
+    ensures { result ≡ spec.ending_of served }
+{
+    match served {
+        Ok(served) => Ending::Answered(served.status),
+        Err(IoFault::Read) => Ending::ReadFailed,
+        Err(IoFault::Write) => Ending::WriteFailed,
+    }
 }
 
 impl Ending {
@@ -31,8 +48,9 @@ impl Ending {
     {
         match self {
             Ending::Answered(200) => DONE,
-            Ending::Answered(503) | Ending::Fault => FAILED,
+            Ending::Answered(503) => FAILED,
             Ending::Answered(_) => REFUSED,
+            Ending::Gone | Ending::ReadFailed | Ending::WriteFailed => FAILED,
         }
     }
 }
@@ -62,7 +80,7 @@ fn put_end<W: Sink>(out: &mut W, waiting: &mut Buffer, ending: Ending) -> Result
 {
     match ending {
         Ending::Answered(status) => put_number(out, waiting, b"", u64::from(status), b"\n"),
-        Ending::Fault => waiting.put(out, b"fault\n"),
+        Ending::Gone | Ending::ReadFailed | Ending::WriteFailed => waiting.put(out, b"fault\n"),
     }
 }
 

@@ -1,5 +1,8 @@
 //! Connections over the network.
+ghost use Rattle.std.specs.Prelude.{◌≡◌, false, IfOk};
+
 use crate::connections::{Connections, NoConnection, Sides};
+use crate::line::Ending;
 use crate::timed::Timed;
 use edi_base::{OfRead, OfWrite};
 use std::io;
@@ -43,7 +46,9 @@ impl<'c, N: Net + Clock> Listening<'c, N, N::Listener> {
 
 impl<'c, C, L> Listening<'c, C, L> {
     /// Whether connections ended because no more could be taken.
-    pub fn has_failed(&self) -> bool {
+    pub fn has_failed(&self) -> bool
+        ensures { result ≡ self.now.failed }
+    {
         self.failed
     }
 }
@@ -52,7 +57,7 @@ impl<'c, C, L> Listening<'c, C, L> {
 fn is_gone(error: &io::Error) -> bool {
     matches!(
         error.kind(),
-        ErrorKind::ConnectionAborted | ErrorKind::ConnectionReset | ErrorKind::Interrupted
+        ErrorKind::ConnectionAborted | ErrorKind::ConnectionReset
     )
 }
 
@@ -60,7 +65,9 @@ fn is_gone(error: &io::Error) -> bool {
 fn sides_of<'c, C: Clock, T: OpenStream + Read + Write + Drop>(
     clock: &'c C,
     stream: T,
-) -> io::Result<Sides<OfRead<Timed<'c, C, T>>, OfWrite<Timed<'c, C, T>>>> {
+) -> io::Result<Sides<OfRead<Timed<'c, C, T>>, OfWrite<Timed<'c, C, T>>>>
+    ensures { IfOk result (λ sides. (sides.reader.1 ≡ false) × (sides.writer.1 ≡ false)) }
+{
     let begun = Instant::now(clock)?;
     let whole = Duration::from_secs(WHOLE);
     let other = stream.try_clone()?;
@@ -91,15 +98,19 @@ impl<'c, C: Clock, L: OpenListener> Connections for Listening<'c, C, L>
 where
     L::Stream: OpenStream + Read + Write,
 {
-    ghost use Rattle.std.specs.Prelude.{⊤, None};
-    ghost use Rattle.hub_serve.specs.Connections.{Takes};
+    ghost use Rattle.std.specs.Prelude.{◌≡◌, ◌||◌, None, IfOk};
+    ghost use Rattle.hub_serve.specs.Connections.{IsNew, Takes, is_over};
+
+    ghost failed = { λ l. l.failed };
 
     type Reader = OfRead<Timed<'c, C, L::Stream>>;
 
     type Writer = OfWrite<Timed<'c, C, L::Stream>>;
 
     fn next(&mut self) -> Result<Sides<Self::Reader, Self::Writer>, NoConnection>
-        ensures { Takes (λ _. None) None None result }
+        ensures takes { Takes (λ _. None) None None result }
+        ensures is_new { IfOk result (λ sides. IsNew None sides.reader.1 sides.writer.1) }
+        ensures flag { self.new.failed ≡ (self.old.failed || is_over result) }
     {
         match self.listener.accept() {
             Ok((stream, _)) => sides_of(self.clock, stream).map_err(|_| NoConnection::Gone),
@@ -111,10 +122,12 @@ where
         }
     }
 
-    fn end(&mut self, sides: Sides<Self::Reader, Self::Writer>)
-        ensures { ⊤ }
+    fn end(&mut self, sides: Sides<Self::Reader, Self::Writer>, ending: Ending)
+        ensures flag { self.new.failed ≡ self.old.failed }
     {
         let Sides { reader, writer: _ } = sides;
-        let _ = linger(self.clock, reader.into_inner().into_inner());
+        if let Ending::Answered(_) = ending {
+            let _ = linger(self.clock, reader.into_inner().into_inner());
+        }
     }
 }

@@ -1,12 +1,13 @@
 //! Connections served one after another.
-ghost use Rattle.std.specs.Prelude.{◌≡◌};
+ghost use Rattle.std.specs.Prelude.{◌≡◌, ◌⊎◌, IsTrue, OnErr, OnOk};
 ghost use Rattle.hub_core.specs.Steps.{Ran};
 ghost use Rattle.hub_rules.specs.Sound.{Sound};
+ghost use Rattle.hub_serve.specs.Connections.{known};
 ghost use Rattle.hub_serve.specs.One.{ServesNext, DoesTo};
 ghost use Rattle.hub_serve.specs.Serve.{Serves};
 
 use crate::connections::{Connections, Moments, NoConnection};
-use crate::line::{DONE, Ending, FAILED, print_line};
+use crate::line::{DONE, Ending, FAILED, ending_of, print_line};
 use edi_base::Sink;
 use hub_core::Hub;
 use hub_http::serve_one;
@@ -25,25 +26,27 @@ fn serve_next<L: Connections, S: Store, M: Moments>(
     moments: &mut M,
 ) -> Result<Ending, NoMore>
     ensures served { ServesNext (DoesTo S.content S.honest S.left hub.old hub.new) (hub.new ≡ hub.old) hub.old.0
-        (L.coming connections.old) (L.coming connections.new) result }
+        (known (L.coming connections.old) (L.closed connections.old) (M.coming moments.old))
+        (known (L.coming connections.new) (L.closed connections.new) (M.coming moments.new)) result }
+
+    // No connection is served any more only where none could be taken, or no moment was known.
+    ensures stopped { OnErr result (IsTrue (L.failed connections.new) ⊎ IsTrue (M.failed moments.new)) }
+    ensures going { OnOk result ((L.failed connections.new ≡ L.failed connections.old)
+        × (M.failed moments.new ≡ M.failed moments.old)) }
     ensures register { hub.new.0 ≡ hub.old.0 }
     ensures was_honest { S.honest hub.new.1 → S.honest hub.old.1 }
 {
     let mut sides = match connections.next() {
         Ok(sides) => sides,
-        Err(NoConnection::Gone) => return Ok(Ending::Fault),
+        Err(NoConnection::Gone) => return Ok(Ending::Gone),
         Err(NoConnection::Over) => return Err(NoMore),
     };
     let Some(moment) = moments.next() else {
         return Err(NoMore);
     };
-    match serve_one(alloc, hub, moment, &mut sides.reader, &mut sides.writer) {
-        Ok(served) => {
-            connections.end(sides);
-            Ok(Ending::Answered(served.status))
-        }
-        Err(_) => Ok(Ending::Fault),
-    }
+    let ending = ending_of(serve_one(alloc, hub, moment, &mut sides.reader, &mut sides.writer));
+    connections.end(sides, ending);
+    Ok(ending)
 }
 
 /// Serves so many connections one after another, and prints of each, once it has ended, its number and the status that
@@ -63,7 +66,10 @@ pub fn serve_on<L: Connections, S: Store, M: Moments, W: Sink>(
     ensures served { Serves
         (λ inputs replies. S.honest hub.new.1 → Sound hub.old.0.suppliers (S.content hub.old.1) →
         Ran hub.old.0 (S.content hub.old.1) (S.content hub.new.1) (S.left hub.old.1) (S.left hub.new.1) inputs replies)
-        hub.old.0 (L.coming connections.old) count
+        hub.old.0 (known (L.coming connections.old) (L.closed connections.old) (M.coming moments.old))
+        (L.closed connections.new)
+        ((L.failed connections.new ≡ L.failed connections.old) × (M.failed moments.new ≡ M.failed moments.old))
+        (IsTrue (L.failed connections.new) ⊎ IsTrue (M.failed moments.new)) count
         (W.contents out.old) (W.contents out.new) (W.failed out.old) (W.failed out.new) result }
     ensures register { hub.new.0 ≡ hub.old.0 }
     ensures was_honest { S.honest hub.new.1 → S.honest hub.old.1 }

@@ -2,7 +2,7 @@ use Rattle.std.proofs.Common.{ℕ, List, [], subst}
 use Rattle.std.proofs.lemmas.List.{append-nil}
 use Rattle.http_response.proofs.Chain.{puts_then, writes}
 use Rattle.http_response.specs.Text.{Writes}
-use Rattle.hub_serve.specs.Serve.{port_line}
+use Rattle.hub_serve.specs.Line.{port_line}
 use Rattle.hub_serve.proofs.line.print_listening.Goals as goal
 
 pub returns-clause-bytes : goal.returns-clause-bytes

@@ -1,0 +1,70 @@
+-- Connections that pass: what of those that come is taken, and what is added to those that were ended.
+use Rattle.std.proofs.Common.{◌≡◌, List, [], ◌∷◌, ◌++◌, Option, Some, None, refl, sym, ap, ◌∙◌, append_assoc}
+use Rattle.std.specs.Option.{unwrap_or}
+use Rattle.std.proofs.lemmas.Grind.{flat_map-append}
+use Rattle.std.proofs.lemmas.List.{append-nil, map-append}
+use Rattle.hub_serve.specs.Connections.{Adds, Closed, Known, TakesFirst}
+use Rattle.hub_serve.specs.One.{Passes}
+use Rattle.hub_serve.specs.Serve.{AreFirst, Connection, ends_in, listed, moments_in, sent_in}
+
+some_is : {A : Type 0} {x y : List A} → Some x ≡ Some y → x ≡ y
+some_is {A} {x} {y} e = ap (λ (o : Option (List A)). unwrap_or o x) e
+
+pub takes_none : {A : Type 0} (known rest : Option (List A)) → rest ≡ known → TakesFirst known rest []
+takes_none None rest e = tt
+takes_none (Some all) rest e = (all, refl, e)
+
+-- first these, and then those
+takes_both : {A : Type 0} (known rest later : Option (List A)) (xs ys : List A) → TakesFirst known rest xs
+    → TakesFirst rest later ys
+    → TakesFirst known later (xs ++ ys)
+takes_both None rest later xs ys first second = tt
+takes_both (Some all) None later xs ys first second = absurd cc
+takes_both {A} (Some all) (Some rest) later xs ys first second = (
+  second.0,
+  first.1 ∙ ap (λ (l : List A). xs ++ l) (some_is (sym first.2) ∙ second.1) ∙ sym (append_assoc xs ys second.0),
+  second.2,
+)
+
+pub are_first : {A : Type 0} (known rest : Option (List A)) (xs : List A) → TakesFirst known rest xs → AreFirst known xs
+are_first None rest xs takes = tt
+are_first (Some all) rest xs takes = (takes.0, takes.1)
+
+pub adds_none : (old new : Option (List Closed)) → new ≡ old → Adds old new []
+adds_none None new e = tt
+adds_none (Some all) new e = e ∙ ap (λ (l : List Closed). Some l) (sym (append-nil all))
+
+adds_both : (old between new : Option (List Closed)) (xs ys : List Closed) → Adds old between xs → Adds between new ys
+    → Adds old new (xs ++ ys)
+adds_both None between new xs ys first second = tt
+adds_both (Some all) None new xs ys first second = absurd cc
+adds_both (Some all) (Some more) new xs ys first second =
+    second ∙ ap (λ (l : List Closed). Some (l ++ ys)) (some_is first) ∙ ap (λ (l : List Closed). Some l) (append_assoc all xs ys)
+
+-- those that were ended stay
+pub adds_still : (old between new : Option (List Closed)) (xs : List Closed) → Adds old between xs → new ≡ between → Adds old new xs
+adds_still None between new xs adds e = tt
+adds_still (Some all) between new xs adds e = e ∙ adds
+
+pub passes_none : (known : Known) → Passes known known []
+passes_none known = record {
+  clients = takes_none known.coming known.coming refl;
+  moments = takes_none known.moments known.moments refl;
+  closed = adds_none known.closed known.closed refl;
+}
+
+-- one connection more
+pub passes_more : (old between new : Known) (served : List Connection) (one : Connection) → Passes old between served
+    → Passes between new (one ∷ [])
+    → Passes old new (served ++ one ∷ [])
+passes_more old between new served one first second = record {
+  clients =
+      rw (map-append (λ (c : Connection). c.bytes) served (one ∷ []))
+      (takes_both old.coming between.coming new.coming (sent_in served) (sent_in (one ∷ [])) first.clients second.clients);
+  moments =
+      rw (flat_map-append (λ (c : Connection). listed c.moment) served (one ∷ []))
+      (takes_both old.moments between.moments new.moments (moments_in served) (moments_in (one ∷ [])) first.moments second.moments);
+  closed =
+      rw (flat_map-append (λ (c : Connection). listed c.closed) served (one ∷ []))
+      (adds_both old.closed between.closed new.closed (ends_in served) (ends_in (one ∷ [])) first.closed second.closed);
+}
