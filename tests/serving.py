@@ -15,7 +15,7 @@ from commands import REGISTER, told
 from files import NAME
 from http_texts import asking, head, response
 from hubs import ALPHA, BETA, DELTA, FIRST_MAIL, HUB, KEYS, MOMENT, ORDERS, RECEIPT, RESPONSE, DESPATCH, RETAILER, SECOND, SECOND_MAIL, STATUS, THIRD_MAIL, TWO_SUPPLIERS
-from hubs import OTHER_PALLET, despatch, interchange, line_status, response as answer
+from hubs import OTHER_PALLET, despatch, interchange, line_status, message, parties, response as answer
 from registers import of_prefixes
 
 SECONDS = 60
@@ -435,6 +435,37 @@ def stalled(program, drip):
         return unlike("the next one", found, response(200, "end\n")) or unlike("the program", server.end(), (3, lines_of(server.port, ["fault", 200]), b""))
 
 
+def order_of_lines(number, lines):
+    """An interchange of one order of so many lines."""
+    each = [it for k in range(1, lines + 1) for it in (f"LIN+{k}++4000862141404:SRV", "QTY+21:48")]
+    begun = (f"BGM+220+{number}+9", "DTM+137:20250603:102", *parties(ALPHA))
+    return interchange(RETAILER, str(number), message("ORDERS:D:01B:UN:EAN010", 1, *begun, *each, "UNS+S", f"CNT+2:{lines}"))
+
+
+def takes_nothing(program):
+    """A client that takes nothing of an answer that is longer than what the system keeps for it holds the next one for ten
+    seconds at most."""
+    uploads, lines = 3, 15_000
+    with Server(program, uploads + 2) as server:
+        for number in range(1001, 1001 + uploads):
+            found = server.ask(asking("POST", f"/p/{RETAILER}/interchanges", RETAILER, order_of_lines(number, lines)))
+            why = unlike(f"order {number}", found, response(200, told(f"interchange {number} messages 1", "1 ORDERS accepted")))
+            if why:
+                return why
+        with socket.socket() as slow:
+            slow.setsockopt(socket.SOL_SOCKET, socket.SO_RCVBUF, 4096)
+            slow.settimeout(SECONDS)
+            slow.connect(("127.0.0.1", server.port))
+            slow.sendall(asking("GET", f"/p/{ALPHA}/status", ALPHA))
+            begun = time.monotonic()
+            found = server.ask(asking("GET", f"/p/{BETA}/status", BETA))
+            passed = time.monotonic() - begun
+        if not 9 < passed < 13:
+            return f"the next one waited {passed:.1f} seconds"
+        printed = lines_of(server.port, [200] * uploads + ["fault", 200])
+        return unlike("the next one", found, response(200, "end\n")) or unlike("the program", server.end(), (3, printed, b""))
+
+
 def big_refused(program):
     """A client that goes on sending what is refused reads its answer."""
     too_large = head(f"POST /p/{RETAILER}/interchanges HTTP/1.1", "X-Hub-Key: retail-key", "Content-Length: 1048577") + b"x" * 1_048_577
@@ -550,6 +581,7 @@ ALL = {
     "two clients that write before both read": both_then_read,
     "a client that sends nothing": lambda program: stalled(program, False),
     "a client that sends a byte now and then": lambda program: stalled(program, True),
+    "a client that takes nothing": takes_nothing,
     "a client that sends on what is refused": big_refused,
     "clients that break off": gone,
     "a server that is killed": killed,
