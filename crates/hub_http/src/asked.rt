@@ -1,5 +1,5 @@
 //! What the head of a request asks for, and who asks.
-ghost use Rattle.std.specs.Prelude.{◌≡◌, codes, Some, option_map, IfOk, IsOk, IsFalse};
+ghost use Rattle.std.specs.Prelude.{◌≡◌, Some, option_map, IfOk, IsOk, IsFalse};
 ghost use Rattle.http_head.specs.Fields.{values_of};
 ghost use Rattle.http_routes.specs.Routes.{shown};
 ghost use Rattle.hub_http.specs.Asked as spec;
@@ -130,7 +130,7 @@ fn asker_by<'h, S: Store>(hub: &Hub<S>, party: &[u8], key: &'h [u8]) -> Option<A
 // The party of the path, with the one key of the head.
 fn asker_of<'h, S: Store>(hub: &Hub<S>, routed: Routed<'_>, head: &'h Head) -> Option<Asker<'h>>
     ensures { option_map told_asker result ≡ spec.asker_of hub.now.0 (shown routed.entry).1
-        (values_of (codes "X-Hub-Key") head.now.fields) }
+        (values_of spec.key_field head.now.fields) }
 {
     match head.values(b"X-Hub-Key") {
         Values::One(key) => asker_by(hub, routed.party, key),
@@ -153,7 +153,7 @@ fn size_in(value: &[u8]) -> Result<usize, Refusal>
 
 // By the one length in a head.
 fn announced(head: &Head) -> Result<usize, Refusal>
-    ensures { result ≡ spec.announced (values_of (codes "Content-Length") head.now.fields) }
+    ensures { result ≡ spec.announced (values_of spec.length_field head.now.fields) }
 {
     match head.values(b"Content-Length") {
         Values::Absent => Err(Refusal::Length),
@@ -209,7 +209,7 @@ fn by_party<'h, S: Store>(
     head: &'h Head,
 ) -> Result<Asking<'h>, Refusal>
     ensures { told_result result ≡ spec.by_asker routed.entry.place (shown routed.entry).1 head.now.fields
-        (spec.asker_of hub.now.0 (shown routed.entry).1 (values_of (codes "X-Hub-Key") head.now.fields)) }
+        (spec.asker_of hub.now.0 (shown routed.entry).1 (values_of spec.key_field head.now.fields)) }
 {
     match asker_of(hub, routed, head) {
         Some(asker) => by_asker(routed, head, asker.role, asker.gln, asker.key),
