@@ -1,6 +1,6 @@
 -- Connections served one after another: what became of each, what is printed, and the exit status.
-use Rattle.std.specs.Prelude.{◌≡◌, ◌⊎◌, ⊤, ℕ, ◌+◌, ◌<◌, ◌≤◌, max, Bool, List, [], ◌∷◌, ◌++◌, length, map, flat_map, fold}
-use Rattle.std.specs.Prelude.{Option, Some, None, Result, Ok, Err, IfSome, IsTrue, IsFalse}
+use Rattle.std.specs.Prelude.{◌≡◌, ◌⊎◌, ⊤, ℕ, ◌+◌, ◌<◌, ◌≤◌, max, Bool, List, [], ◌∷◌, ◌++◌, length, map, flat_map}
+use Rattle.std.specs.Prelude.{fold, Option, Some, None, Result, Ok, Err, IfSome, IsTrue, IsFalse}
 use Rattle.std.specs.List.{AllByRecursion}
 use Rattle.hub_core.specs.Steps.{input_of}
 use Rattle.hub_http.specs.Question.{Question}
@@ -91,9 +91,9 @@ FailedSo (Ok served) closed = IsFalse closed.read_failed × IsFalse closed.write
 FailedSo (Err Read) closed = IsTrue closed.read_failed × IsFalse closed.write_failed
 FailedSo (Err Write) closed = IsFalse closed.read_failed × IsTrue closed.write_failed
 
--- A connection was taken at a moment, and served so. Where its bytes are known, what was asked is what they ask, and its
--- client was sent the response to that: all of it, or a front where a write failed. Where a read failed, nothing was
--- asked, and nothing sent.
+-- A connection was taken at a moment, and served so. Where its bytes are known, what was asked is what they ask, and
+-- its client was sent the response to that: all of it, or a front where a write failed. Where a read failed, nothing
+-- was asked, and nothing sent.
 pub record IsTaken (register : RegisterRows) (one : Connection) (served : Result Served IoFault) : Type 0 where
   pub moment : ℕ
   pub moment_is : one.moment ≡ Some moment

@@ -17,7 +17,8 @@ loop-number-init g c =
       was_honest = λ honest. honest;
       so_far =
           so_far_none (RunsTo g.S.Store.content g.S.Store.honest g.S.Store.left hub hub) hub.0
-          (known (g.L.Connections.coming c.args.connections.now) (g.L.Connections.closed c.args.connections.now) (g.M.Moments.coming c.args.moments.now))
+          (known (g.L.Connections.coming c.args.connections.now) (g.L.Connections.closed c.args.connections.now)
+          (g.M.Moments.coming c.args.moments.now))
           (g.W.Sink.contents c.args.out.now) (g.W.Sink.failed c.args.out.now)
           (λ honest sound. c.steps_are_a_run.ensures.none hub.1 sound);
     }
@@ -29,14 +30,16 @@ returns-in-Err-clause-served g c =
     let new = c.serve_next.new.hub in
     let s = c.loop-number.invariant.so_far in
     let fewer : c.loop-number.number < c.args.count = c.loop-number-test.true in
-    cut_short hub.0 (known (g.L.Connections.coming c.args.connections.now) (g.L.Connections.closed c.args.connections.now) (g.M.Moments.coming c.args.moments.now))
+    cut_short hub.0 (known (g.L.Connections.coming c.args.connections.now) (g.L.Connections.closed c.args.connections.now)
+    (g.M.Moments.coming c.args.moments.now))
     ((g.L.Connections.failed c.serve_next.new.connections ≡ g.L.Connections.failed c.args.connections.now)
     × (g.M.Moments.failed c.serve_next.new.moments ≡ g.M.Moments.failed c.args.moments.now))
     (IsTrue (g.L.Connections.failed c.serve_next.new.connections) ⊎ IsTrue (g.M.Moments.failed c.serve_next.new.moments))
     c.args.count (g.W.Sink.contents c.args.out.now) (g.W.Sink.failed c.args.out.now)
     (RunsTo g.S.Store.content g.S.Store.honest g.S.Store.left hub between)
     (RunsTo g.S.Store.content g.S.Store.honest g.S.Store.left hub new)
-    (known (g.L.Connections.coming c.loop-number.connections) (g.L.Connections.closed c.loop-number.connections) (g.M.Moments.coming c.loop-number.moments))
+    (known (g.L.Connections.coming c.loop-number.connections) (g.L.Connections.closed c.loop-number.connections)
+    (g.M.Moments.coming c.loop-number.moments))
     (g.L.Connections.closed c.serve_next.new.connections)
     (g.W.Sink.contents c.loop-number.out) (g.W.Sink.failed c.loop-number.out) c.loop-number.number c.loop-number.greatest s
     c.in-Err.ensures.served.1 c.in-Err.ensures.stopped fewer
@@ -59,15 +62,18 @@ returns-then-is_err-clause-served g c =
     let ran = runs_more g.S.Store.content g.S.Store.honest g.S.Store.left hub.0 c.steps_are_a_run.ensures.more hub.1 between new
     s.served one.one register c.serve_next.ensures.was_honest s.ran one.did in
     let bytes = rw (sym one.ends) at c.print_line.ensures.bytes in
-    lost hub.0 (known (g.L.Connections.coming c.args.connections.now) (g.L.Connections.closed c.args.connections.now) (g.M.Moments.coming c.args.moments.now))
+    lost hub.0 (known (g.L.Connections.coming c.args.connections.now) (g.L.Connections.closed c.args.connections.now)
+    (g.M.Moments.coming c.args.moments.now))
     ((g.L.Connections.failed c.serve_next.new.connections ≡ g.L.Connections.failed c.args.connections.now)
     × (g.M.Moments.failed c.serve_next.new.moments ≡ g.M.Moments.failed c.args.moments.now))
     (IsTrue (g.L.Connections.failed c.serve_next.new.connections) ⊎ IsTrue (g.M.Moments.failed c.serve_next.new.moments))
     c.args.count (g.W.Sink.contents c.args.out.now) (g.W.Sink.failed c.args.out.now)
     (RunsTo g.S.Store.content g.S.Store.honest g.S.Store.left hub between)
     (RunsTo g.S.Store.content g.S.Store.honest g.S.Store.left hub new)
-    (known (g.L.Connections.coming c.loop-number.connections) (g.L.Connections.closed c.loop-number.connections) (g.M.Moments.coming c.loop-number.moments))
-    (known (g.L.Connections.coming c.serve_next.new.connections) (g.L.Connections.closed c.serve_next.new.connections) (g.M.Moments.coming c.serve_next.new.moments))
+    (known (g.L.Connections.coming c.loop-number.connections) (g.L.Connections.closed c.loop-number.connections)
+    (g.M.Moments.coming c.loop-number.moments))
+    (known (g.L.Connections.coming c.serve_next.new.connections) (g.L.Connections.closed c.serve_next.new.connections)
+    (g.M.Moments.coming c.serve_next.new.moments))
     (g.W.Sink.contents c.loop-number.out) (g.W.Sink.contents c.print_line.new.out) (g.W.Sink.failed c.loop-number.out)
     (g.W.Sink.failed c.print_line.new.out) c.loop-number.number c.loop-number.greatest s one.one one.passes
     (subst (λ (r : RegisterRows). IsServed r one.one) register one.is) ran (c.loop-number.number + 1) refl going fewer
@@ -95,15 +101,18 @@ loop-number-preserved g c =
       register = c.serve_next.ensures.register ∙ register;
       was_honest = λ honest. c.loop-number.invariant.was_honest (c.serve_next.ensures.was_honest honest);
       so_far =
-          so_far_more hub.0 (known (g.L.Connections.coming c.args.connections.now) (g.L.Connections.closed c.args.connections.now) (g.M.Moments.coming c.args.moments.now))
+          so_far_more hub.0 (known (g.L.Connections.coming c.args.connections.now) (g.L.Connections.closed c.args.connections.now)
+          (g.M.Moments.coming c.args.moments.now))
           ((g.L.Connections.failed c.serve_next.new.connections ≡ g.L.Connections.failed c.args.connections.now)
           × (g.M.Moments.failed c.serve_next.new.moments ≡ g.M.Moments.failed c.args.moments.now))
           (IsTrue (g.L.Connections.failed c.serve_next.new.connections) ⊎ IsTrue (g.M.Moments.failed c.serve_next.new.moments))
           c.args.count (g.W.Sink.contents c.args.out.now) (g.W.Sink.failed c.args.out.now)
           (RunsTo g.S.Store.content g.S.Store.honest g.S.Store.left hub between)
           (RunsTo g.S.Store.content g.S.Store.honest g.S.Store.left hub new)
-          (known (g.L.Connections.coming c.loop-number.connections) (g.L.Connections.closed c.loop-number.connections) (g.M.Moments.coming c.loop-number.moments))
-          (known (g.L.Connections.coming c.serve_next.new.connections) (g.L.Connections.closed c.serve_next.new.connections) (g.M.Moments.coming c.serve_next.new.moments))
+          (known (g.L.Connections.coming c.loop-number.connections) (g.L.Connections.closed c.loop-number.connections)
+          (g.M.Moments.coming c.loop-number.moments))
+          (known (g.L.Connections.coming c.serve_next.new.connections) (g.L.Connections.closed c.serve_next.new.connections)
+          (g.M.Moments.coming c.serve_next.new.moments))
           (g.W.Sink.contents c.loop-number.out) (g.W.Sink.contents c.print_line.new.out) (g.W.Sink.failed c.loop-number.out)
           (g.W.Sink.failed c.print_line.new.out) c.loop-number.number c.loop-number.greatest s one.one one.passes
           (subst (λ (r : RegisterRows). IsServed r one.one) register one.is) ran (c.loop-number.number + 1) refl
