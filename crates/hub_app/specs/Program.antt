@@ -1,5 +1,5 @@
 -- The commands of the program, as `clap` parses them.
-use Rattle.std.specs.Prelude.{◌≡◌, Bool, true, false, List, [], ◌∷◌, Some, codes}
+use Rattle.std.specs.Prelude.{◌≡◌, Bool, true, false, List, [], ◌∷◌, ◌++◌, Some, codes}
 use Rattle.clap.specs.Words.{App, Rule, Shape, Text, app_of, new_app, new_rule}
 use Rattle.clap.specs.declared.builder.action.ArgAction.TheVariants.{Set}
 use Rattle.clap.specs.declared.builder.command.Command.{Command}
@@ -23,6 +23,10 @@ offered = option false
 -- a command with these options
 abbrev pub with_options : Text → List Rule → Shape
 with_options name rules = record (new_app name).top { rules = rules }
+
+-- one option more
+abbrev pub with_option : Shape → Rule → Shape
+with_option shape rule = record shape { rules = shape.rules ++ rule ∷ [] }
 
 -- the options of every command over a hub, and more
 abbrev pub over_a_hub : Text → List Rule → Shape

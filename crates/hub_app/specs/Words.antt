@@ -2,6 +2,7 @@
 use Rattle.std.specs.Prelude.{◌≡◌, ◌⊎◌, ℕ, true, List, [], ◌∷◌, Option, Some, None, option_and_then, codes}
 use Rattle.clap.specs.Words.{Row, Text, first_of, subcommand_of, takes}
 use Rattle.gs1_ids.specs.Gln.{gln_of}
+use Rattle.hub_app.specs.declared.words.Asker.{Asker}
 use Rattle.hub_app.specs.declared.words.CancelLines.{CancelLines}
 use Rattle.hub_app.specs.declared.words.HubTask.{HubTask}
 use Rattle.hub_app.specs.declared.words.HubTask.TheVariants.{Import, Status, MailAfter, MailItem, MailTaken, Cancel}
@@ -55,12 +56,21 @@ IsTask command rows (MailTaken number) = (command ≡ codes "mail") × IsMail (c
 IsTask command rows (Cancel cancellation) = (command ≡ codes "cancel") × (cancel_in rows ≡ Some cancellation)
 
 -- the options of every command over a hub
-pub record IsHub (rows : List Row) (words : HubWords) : Type 0 where
-  pub register : first_of (codes "register") rows ≡ Some words.register.now
-  pub db : first_of (codes "db") rows ≡ Some words.db.now
-  pub caller : option_and_then gln_of (first_of (codes "as") rows) ≡ Some words.caller
-  pub key : first_of (codes "key") rows ≡ Some words.key.now
-  pub moment : if_given moment_of (first_of (codes "moment") rows) ≡ Some words.moment
+pub record IsAsker (rows : List Row) (asker : Asker) : Type 0 where
+  pub register : first_of (codes "register") rows ≡ Some asker.register.now
+  pub db : first_of (codes "db") rows ≡ Some asker.db.now
+  pub caller : option_and_then gln_of (first_of (codes "as") rows) ≡ Some asker.caller
+  pub key : first_of (codes "key") rows ≡ Some asker.key.now
+  pub moment : if_given moment_of (first_of (codes "moment") rows) ≡ Some asker.moment
+
+abbrev pub IsHub : List Row → HubWords → Type 0
+IsHub rows words = IsAsker rows (record {
+  register = words.register;
+  db = words.db;
+  caller = words.caller;
+  key = words.key;
+  moment = words.moment;
+})
 
 -- the options of `serve`
 pub record IsServe (rows : List Row) (words : ServeWords) : Type 0 where

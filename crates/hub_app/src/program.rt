@@ -1,9 +1,9 @@
 //! The commands of the program, with their options and help texts.
 
 ghost use Rattle.std.specs.Prelude.{◌≡◌, [], false, IfOk};
-ghost use Rattle.clap.specs.Words.{app_of, rule_of};
-ghost use Rattle.hub_app.specs.Program.{wanted, offered, over_a_hub, IsCommand, bare, check, relay, show, import};
-ghost use Rattle.hub_app.specs.Program.{status, mail, cancel, serve, edihub};
+ghost use Rattle.clap.specs.Words.{App, Shape, app_of, rule_of, with_subcommand};
+ghost use Rattle.hub_app.specs.Program.{wanted, offered, with_option, with_options, over_a_hub, IsCommand};
+ghost use Rattle.hub_app.specs.Program.{bare, check, relay, show, import, status, mail, cancel, serve, edihub};
 
 use clap::{Arg, ArgAction, Command};
 use std::alloc::{AllocError, Global};
@@ -29,6 +29,48 @@ fn extra<'a>(alloc: Global, name: &'a str, value: &'a str, help: &'a str) -> Arg
     option(alloc, name, value, help).required(false)
 }
 
+// A command that has no options yet.
+fn named<'a>(
+    alloc: Global,
+    name: &'a str,
+    about: &'a str,
+    help: &'a str,
+) -> Result<Command<'a>, AllocError>
+    ensures { IfOk result (IsCommand (with_options name.now [])) }
+{
+    Ok(Command::new(alloc, name).about(about).after_help(help))
+}
+
+// What is built so far is handed on as a result: an exit after each option of a command costs its proof far more.
+
+// A command with one option more, that has to be given.
+fn wanting<'a>(
+    command: Result<Command<'a>, AllocError>,
+    alloc: Global,
+    name: &'a str,
+    value: &'a str,
+    help: &'a str,
+) -> Result<Command<'a>, AllocError>
+    ensures { (shape : Shape) → IfOk command.entry (IsCommand shape)
+        → IfOk result (IsCommand (with_option shape (wanted name.now))) }
+{
+    command?.arg(option(alloc, name, value, help))
+}
+
+// The same, where it may be left out.
+fn offering<'a>(
+    command: Result<Command<'a>, AllocError>,
+    alloc: Global,
+    name: &'a str,
+    value: &'a str,
+    help: &'a str,
+) -> Result<Command<'a>, AllocError>
+    ensures { (shape : Shape) → IfOk command.entry (IsCommand shape)
+        → IfOk result (IsCommand (with_option shape (offered name.now))) }
+{
+    command?.arg(extra(alloc, name, value, help))
+}
+
 const RELAY: &str =
     "Reads an ORDERS interchange on standard input, prints the supplier's mail texts";
 
@@ -38,23 +80,29 @@ const STATUS: &str =
 fn relay_command<'a>(alloc: Global) -> Result<Command<'a>, AllocError>
     ensures { IfOk result (IsCommand relay) }
 {
-    Command::new(alloc, "relay")
-        .about(RELAY)
-        .after_help(STATUS)
-        .arg(option(alloc, "hub", "GLN", "GLN of the hub, 13 digits"))?
-        .arg(option(alloc, "owner", "GLN", "GLN of the supplier, 13 digits"))?
-        .arg(option(
-            alloc,
-            "moment",
-            "SECONDS",
-            "Moment of the mail, in seconds since 1970 began at UTC, at most 4102444799",
-        ))?
-        .arg(option(
-            alloc,
-            "number",
-            "N",
-            "Number of the first mail text, 1 to 99999999999001",
-        ))
+    let command = named(alloc, "relay", RELAY, STATUS);
+    let command = wanting(command, alloc, "hub", "GLN", "GLN of the hub, 13 digits");
+    let command = wanting(
+        command,
+        alloc,
+        "owner",
+        "GLN",
+        "GLN of the supplier, 13 digits",
+    );
+    let command = wanting(
+        command,
+        alloc,
+        "moment",
+        "SECONDS",
+        "Moment of the mail, in seconds since 1970 began at UTC, at most 4102444799",
+    );
+    wanting(
+        command,
+        alloc,
+        "number",
+        "N",
+        "Number of the first mail text, 1 to 99999999999001",
+    )
 }
 
 const CHECK: &str =
@@ -87,10 +135,14 @@ Exit status: 0 a register; 1 a fault; 2 usage error; 3 the file cannot be read, 
 fn check_command<'a>(alloc: Global) -> Result<Command<'a>, AllocError>
     ensures { IfOk result (IsCommand check) }
 {
-    Command::new(alloc, "check")
-        .about(CHECK)
-        .after_help(CHECK_HELP)
-        .arg(option(alloc, "register", "FILE", "The register, a TOML file"))
+    let command = named(alloc, "check", CHECK, CHECK_HELP);
+    wanting(
+        command,
+        alloc,
+        "register",
+        "FILE",
+        "The register, a TOML file",
+    )
 }
 
 const SHOW: &str = "Reads an interchange on standard input, and prints in lines what it says";
@@ -115,12 +167,10 @@ is refused, one line is all, as 'refused E12 count of segments'.
 
 Exit status: 0 nothing is refused; 1 the text, the interchange or a message is refused; 2 usage error; 3 a failed read or write, or out of memory";
 
-fn show_command<'a>(alloc: Global) -> Command<'a>
-    ensures { IsCommand show result }
+fn show_command<'a>(alloc: Global) -> Result<Command<'a>, AllocError>
+    ensures { IfOk result (IsCommand show) }
 {
-    Command::new(alloc, "show")
-        .about(SHOW)
-        .after_help(SHOW_HELP)
+    named(alloc, "show", SHOW, SHOW_HELP)
 }
 
 // A command over the hub that is kept in a database.
@@ -132,29 +182,42 @@ fn hub_command<'a>(
 ) -> Result<Command<'a>, AllocError>
     ensures { IfOk result (λ command. IsCommand (over_a_hub name.now []) command) }
 {
-    Command::new(alloc, name)
-        .about(about)
-        .after_help(help)
-        .arg(option(alloc, "register", "FILE", "The register, a TOML file"))?
-        .arg(option(
-            alloc,
-            "db",
-            "FILE",
-            "The hub's database; a new one is made where there is none",
-        ))?
-        .arg(option(
-            alloc,
-            "as",
-            "GLN",
-            "GLN of the retailer or supplier who asks, 13 digits",
-        ))?
-        .arg(option(alloc, "key", "KEY", "Its key, as the register has it"))?
-        .arg(extra(
-            alloc,
-            "moment",
-            "SECONDS",
-            "Moment of the call, in seconds since 1970 began at UTC, at most 4102444799 [default: now]",
-        ))
+    let command = named(alloc, name, about, help);
+    let command = wanting(
+        command,
+        alloc,
+        "register",
+        "FILE",
+        "The register, a TOML file",
+    );
+    let command = wanting(
+        command,
+        alloc,
+        "db",
+        "FILE",
+        "The hub's database; a new one is made where there is none",
+    );
+    let command = wanting(
+        command,
+        alloc,
+        "as",
+        "GLN",
+        "GLN of the retailer or supplier who asks, 13 digits",
+    );
+    let command = wanting(
+        command,
+        alloc,
+        "key",
+        "KEY",
+        "Its key, as the register has it",
+    );
+    offering(
+        command,
+        alloc,
+        "moment",
+        "SECONDS",
+        "Moment of the call, in seconds since 1970 began at UTC, at most 4102444799 [default: now]",
+    )
 }
 
 const IMPORT: &str = "Uploads the interchanges in a folder, and prints what becomes of each";
@@ -179,12 +242,14 @@ Exit status: 0 all is accepted or repeated; 1 something is refused or denied, or
 fn import_command<'a>(alloc: Global) -> Result<Command<'a>, AllocError>
     ensures { IfOk result (IsCommand import) }
 {
-    hub_command(alloc, "import", IMPORT, IMPORT_HELP)?.arg(option(
+    let command = hub_command(alloc, "import", IMPORT, IMPORT_HELP);
+    wanting(
+        command,
         alloc,
         "folder",
         "FOLDER",
         "The folder with the interchanges",
-    ))
+    )
 }
 
 const REPORT: &str = "Prints the order lines and pallets of a supplier";
@@ -206,12 +271,14 @@ Exit status: 0 done; 1 denied or unknown, or the register has a fault; 2 usage e
 fn status_command<'a>(alloc: Global) -> Result<Command<'a>, AllocError>
     ensures { IfOk result (IsCommand status) }
 {
-    hub_command(alloc, "status", REPORT, REPORT_HELP)?.arg(extra(
+    let command = hub_command(alloc, "status", REPORT, REPORT_HELP);
+    offering(
+        command,
         alloc,
         "of",
         "GLN",
         "GLN of the supplier that the retailer asks about, 13 digits",
-    ))
+    )
 }
 
 const MAIL: &str = "Lists a supplier's mailbox, prints an entry of it, or marks one as taken";
@@ -235,9 +302,21 @@ Exit status: 0 done; 1 denied or unknown, or the register has a fault; 2 usage e
 fn mail_command<'a>(alloc: Global) -> Result<Command<'a>, AllocError>
     ensures { IfOk result (IsCommand mail) }
 {
-    hub_command(alloc, "mail", MAIL, MAIL_HELP)?
-        .arg(option(alloc, "do", "WHAT", "What to do: after, item or taken"))?
-        .arg(option(alloc, "n", "N", "Number of an entry, 1 to 14 digits"))
+    let command = hub_command(alloc, "mail", MAIL, MAIL_HELP);
+    let command = wanting(
+        command,
+        alloc,
+        "do",
+        "WHAT",
+        "What to do: after, item or taken",
+    );
+    wanting(
+        command,
+        alloc,
+        "n",
+        "N",
+        "Number of an entry, 1 to 14 digits",
+    )
 }
 
 const CANCEL: &str = "Cancels a quantity of an order line that is still open";
@@ -255,22 +334,36 @@ Exit status: 0 accepted or repeated; 1 refused or denied, or the register has a 
 fn cancel_command<'a>(alloc: Global) -> Result<Command<'a>, AllocError>
     ensures { IfOk result (IsCommand cancel) }
 {
-    hub_command(alloc, "cancel", CANCEL, CANCEL_HELP)?
-        .arg(option(alloc, "supplier", "GLN", "GLN of the supplier, 13 digits"))?
-        .arg(option(
-            alloc,
-            "reference",
-            "TEXT",
-            "The cancellation's own reference, 1 to 14 printable ASCII characters",
-        ))?
-        .arg(option(
-            alloc,
-            "order",
-            "TEXT",
-            "Order number, 1 to 35 printable ASCII characters",
-        ))?
-        .arg(option(alloc, "line", "N", "Line number, 1 to 999999"))?
-        .arg(option(alloc, "quantity", "N", "Pieces to cancel, 1 to 999999999"))
+    let command = hub_command(alloc, "cancel", CANCEL, CANCEL_HELP);
+    let command = wanting(
+        command,
+        alloc,
+        "supplier",
+        "GLN",
+        "GLN of the supplier, 13 digits",
+    );
+    let command = wanting(
+        command,
+        alloc,
+        "reference",
+        "TEXT",
+        "The cancellation's own reference, 1 to 14 printable ASCII characters",
+    );
+    let command = wanting(
+        command,
+        alloc,
+        "order",
+        "TEXT",
+        "Order number, 1 to 35 printable ASCII characters",
+    );
+    let command = wanting(command, alloc, "line", "N", "Line number, 1 to 999999");
+    wanting(
+        command,
+        alloc,
+        "quantity",
+        "N",
+        "Pieces to cancel, 1 to 999999999",
+    )
 }
 
 const SERVE: &str = "Serves requests over HTTP on 127.0.0.1, one connection after another";
@@ -300,29 +393,36 @@ Exit status: 0 all connections were answered 200; 1 one was not, or the register
 fn serve_command<'a>(alloc: Global) -> Result<Command<'a>, AllocError>
     ensures { IfOk result (IsCommand serve) }
 {
-    Command::new(alloc, "serve")
-        .about(SERVE)
-        .after_help(SERVE_HELP)
-        .arg(option(alloc, "register", "FILE", "The register, a TOML file"))?
-        .arg(option(
-            alloc,
-            "db",
-            "FILE",
-            "The hub's database; a new one is made where there is none",
-        ))?
-        .arg(option(alloc, "port", "N", "Port to listen on, 1 to 65535"))?
-        .arg(option(
-            alloc,
-            "count",
-            "N",
-            "How many connections to serve, 1 to 1000000",
-        ))?
-        .arg(extra(
-            alloc,
-            "moment",
-            "SECONDS",
-            "Moment of every connection, in seconds since 1970 began at UTC, at most 4102444799 [default: when it comes]",
-        ))
+    let command = named(alloc, "serve", SERVE, SERVE_HELP);
+    let command = wanting(
+        command,
+        alloc,
+        "register",
+        "FILE",
+        "The register, a TOML file",
+    );
+    let command = wanting(
+        command,
+        alloc,
+        "db",
+        "FILE",
+        "The hub's database; a new one is made where there is none",
+    );
+    let command = wanting(command, alloc, "port", "N", "Port to listen on, 1 to 65535");
+    let command = wanting(
+        command,
+        alloc,
+        "count",
+        "N",
+        "How many connections to serve, 1 to 1000000",
+    );
+    offering(
+        command,
+        alloc,
+        "moment",
+        "SECONDS",
+        "Moment of every connection, in seconds since 1970 began at UTC, at most 4102444799 [default: when it comes]",
+    )
 }
 
 const VERSION: &str = "1.0.0";
@@ -337,17 +437,29 @@ fn bare_program<'a>(alloc: Global) -> Command<'a>
         .subcommand_required(true)
 }
 
+// A program with one command more.
+fn commanding<'a>(
+    program: Result<Command<'a>, AllocError>,
+    command: Result<Command<'a>, AllocError>,
+) -> Result<Command<'a>, AllocError>
+    ensures { (app : App) (shape : Shape) → IfOk program.entry (λ program. app_of program ≡ app)
+        → IfOk command.entry (IsCommand shape)
+        → IfOk result (λ program. app_of program ≡ with_subcommand app shape) }
+{
+    program?.subcommand(command?)
+}
+
 /// The program with its commands.
 pub(crate) fn program<'a>(alloc: Global) -> Result<Command<'a>, AllocError>
     ensures { IfOk result (λ command. app_of command ≡ edihub) }
 {
-    bare_program(alloc)
-        .subcommand(check_command(alloc)?)?
-        .subcommand(relay_command(alloc)?)?
-        .subcommand(show_command(alloc))?
-        .subcommand(import_command(alloc)?)?
-        .subcommand(status_command(alloc)?)?
-        .subcommand(mail_command(alloc)?)?
-        .subcommand(cancel_command(alloc)?)?
-        .subcommand(serve_command(alloc)?)
+    let program = Ok(bare_program(alloc));
+    let program = commanding(program, check_command(alloc));
+    let program = commanding(program, relay_command(alloc));
+    let program = commanding(program, show_command(alloc));
+    let program = commanding(program, import_command(alloc));
+    let program = commanding(program, status_command(alloc));
+    let program = commanding(program, mail_command(alloc));
+    let program = commanding(program, cancel_command(alloc));
+    commanding(program, serve_command(alloc))
 }

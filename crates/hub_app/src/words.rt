@@ -1,19 +1,20 @@
 //! The words of the command line.
 
 ghost use Rattle.std.specs.Prelude.{◌≡◌, map, option_map, codes, IfOk, IfErr, IfSome};
-ghost use Rattle.clap.specs.Words.{first_of, found_of, rows_of, subcommand_rows_of};
+ghost use Rattle.clap.specs.Words.{app_of, first_of, found_of, rows_of, subcommand_rows_of};
 ghost use Rattle.hub_app.specs.Options as spec;
 ghost use Rattle.hub_app.specs.Options.{Finds, if_given, moment_of, values_of};
 ghost use Rattle.hub_app.specs.Relay.{AreRelayWords};
 ghost use Rattle.hub_texts.specs.Cancel as body;
-ghost use Rattle.hub_app.specs.Words.{cancel_options, texts_of, AreWords, Asks, IsHub, IsOverHub, IsRelay, IsServe, IsTask};
-ghost use Rattle.hub_app.specs.Words.{Names, Refuses, Say};
+ghost use Rattle.hub_app.specs.Words.{cancel_options, texts_of, AreWords, Asks, IsAsker, IsHub, IsOverHub};
+ghost use Rattle.hub_app.specs.Words.{IsRelay, IsServe, IsTask, Names, Refuses, Say};
+ghost use Rattle.hub_app.specs.Program.{edihub};
 
 use crate::options::{count, gln, in_lines, moment, number, port, text};
 use crate::program::program;
 use crate::relay::RelayWords;
 use clap::error::ErrorKind;
-use clap::{ArgMatches, Error};
+use clap::{ArgMatches, Command, Error};
 use edi_envelope::Moment;
 use gs1_ids::Gln;
 use hub_rules::Cancel;
@@ -248,17 +249,42 @@ fn named_moment(options: &ArgMatches<'_>) -> Option<Option<Moment>>
     }
 }
 
-// The words of a command over a hub that asks this.
-fn hub_words<'a>(options: &ArgMatches<'a>, task: HubTask<'a>) -> Option<HubWords<'a>>
-    ensures found { Finds (IsHub (rows_of (found_of options.now))) result }
-    ensures task { IfSome result (λ words. words.task ≡ task.entry) }
+// With what a hub is asked, whatever is asked.
+#[derive(Clone, Copy)]
+struct Asker<'a> {
+    register: &'a str,
+    db: &'a str,
+    caller: Gln,
+    key: &'a str,
+    moment: Option<Moment>,
+}
+
+fn asker_in<'a>(options: &ArgMatches<'a>) -> Option<Asker<'a>>
+    ensures { Finds (IsAsker (rows_of (found_of options.now))) result }
 {
-    Some(HubWords {
+    Some(Asker {
         register: text(options, "register")?,
         db: text(options, "db")?,
         caller: gln(text(options, "as")?)?,
         key: text(options, "key")?,
         moment: named_moment(options)?,
+    })
+}
+
+// The words of a command over a hub that asks this.
+fn hub_words<'a>(options: &ArgMatches<'a>, task: HubTask<'a>) -> Option<HubWords<'a>>
+    ensures found { Finds (IsHub (rows_of (found_of options.now))) result }
+    ensures task { IfSome result (λ words. words.task ≡ task.entry) }
+{
+    let Some(asker) = asker_in(options) else {
+        return None;
+    };
+    Some(HubWords {
+        register: asker.register,
+        db: asker.db,
+        caller: asker.caller,
+        key: asker.key,
+        moment: asker.moment,
         task,
     })
 }
@@ -361,6 +387,33 @@ fn matched_words<'a>(
     }
 }
 
+// Why words are refused that `clap` takes, and of which an option is against its limits.
+fn beyond_limits(program: &mut Command<'_>, command: Option<&str>) -> WordsFault {
+    match program.error(ErrorKind::ValueValidation, limits(command)) {
+        Ok(error) => WordsFault::Told(error),
+        Err(_) => WordsFault::Memory,
+    }
+}
+
+// What the words say, by the program with its commands.
+fn words_by<'a, S: AsStr>(
+    alloc: Global,
+    program: &mut Command<'a>,
+    words: &'a [S],
+) -> Result<Words<'a>, WordsFault>
+    requires { app_of program.old ≡ edihub }
+    ensures read { IfOk result (Say (map S.text words.entry.now)) }
+    ensures limits { IfOk result AreWords }
+    ensures refused { IfErr result (Refuses (map S.text words.entry.now)) }
+{
+    let matches = program.try_get_matches_from_mut(words)?;
+    let found = matched_words(alloc, &matches)?;
+    match found {
+        Some(read) => Ok(read),
+        None => Err(beyond_limits(program, matches.subcommand_name())),
+    }
+}
+
 /// Reads the words of the command line, the program's name first. Words that `clap` takes are refused only where an
 /// option is against its limits.
 pub fn read_words<'a, S: AsStr>(alloc: Global, words: &'a [S]) -> Result<Words<'a>, WordsFault>
@@ -369,14 +422,5 @@ pub fn read_words<'a, S: AsStr>(alloc: Global, words: &'a [S]) -> Result<Words<'
     ensures refused { IfErr result (Refuses (map S.text words.entry.now)) }
 {
     let mut program = program(alloc)?;
-    let matches = program.try_get_matches_from_mut(words)?;
-    let found = matched_words(alloc, &matches)?;
-    match found {
-        Some(read) => Ok(read),
-        None => {
-            let limits = limits(matches.subcommand_name());
-            let error = program.error(ErrorKind::ValueValidation, limits)?;
-            Err(WordsFault::Told(error))
-        }
-    }
+    words_by(alloc, &mut program, words)
 }

@@ -1,15 +1,12 @@
-use Rattle.std.proofs.lemmas.Result.{IfOk-weaker}
-use Rattle.hub_app.proofs.Commands.{more_commands}
 use Rattle.hub_app.proofs.program.program.Goals as goal
 
 pub returns : goal.returns
 returns c =
-    let two = more_commands (more_commands c.bare_program.ensures c.in_ok-check_command.ensures c.in_ok-subcommand.ensures)
-    c.in_ok-relay_command.ensures c.in_ok-subcommand-2.ensures in
-    let four = more_commands (more_commands two c.show_command.ensures c.in_ok-subcommand-3.ensures)
-    c.in_ok-import_command.ensures c.in_ok-subcommand-4.ensures in
-    let six = more_commands (more_commands four c.in_ok-status_command.ensures c.in_ok-subcommand-5.ensures)
-    c.in_ok-mail_command.ensures c.in_ok-subcommand-6.ensures in
-    let seven = more_commands six c.in_ok-cancel_command.ensures c.in_ok-subcommand-7.ensures in
-    IfOk-weaker c.subcommand-8.result _ _ (λ new added. more_commands seven c.in_ok-serve_command.ensures added)
-    c.subcommand-8.ensures
+    let one = c.commanding-program.ensures _ _ c.bare_program.ensures c.check_command.ensures in
+    let two = c.commanding-program-2.ensures _ _ one c.relay_command.ensures in
+    let three = c.commanding-program-3.ensures _ _ two c.show_command.ensures in
+    let four = c.commanding-program-4.ensures _ _ three c.import_command.ensures in
+    let five = c.commanding-program-5.ensures _ _ four c.status_command.ensures in
+    let six = c.commanding-program-6.ensures _ _ five c.mail_command.ensures in
+    let seven = c.commanding-program-7.ensures _ _ six c.cancel_command.ensures in
+    c.commanding.ensures _ _ seven c.serve_command.ensures
