@@ -35,7 +35,7 @@ TABLES = ("order", "line", "advice", "pallet", "content", "receipt", "remembered
 LINE = re.compile(rb"[ -~]{1,14} [ -~]{1,6} (accepted|repeated|refused [BM]\d\d)")
 HEAD = re.compile(rb"interchange ([ -~]{1,14}) messages (\d{1,3})")
 SHOWN = re.compile(rb" *[a-z]+( .*)?", re.DOTALL)
-CHECKED = re.compile(rb"ok \d{1,4}|text|many|gln|prefix|key|twice|overlap \d{1,4} \d{1,4}")
+CHECKED = re.compile(rb"ok \d{1,4} suppliers|text|many|gln|prefix|key|twice|overlap \d{1,4} \d{1,4}")
 MARKS = "'+:?*|,!~.- \r\n"
 
 
@@ -114,6 +114,14 @@ def an_upload(draw):
     if one < 0.7:
         return who, changed_segments(draw, text).encode("latin-1")
     return who, changed_bytes(draw, text.encode("latin-1"))
+
+
+def is_utf8(data):
+    try:
+        data.decode()
+    except UnicodeDecodeError:
+        return False
+    return True
 
 
 class Found(Exception):
@@ -294,6 +302,10 @@ class Fuzz:
             file.write(data)
         status, printed, error = self.ran(["check", "--register", path], self.folder)
         os.remove(path)
+        if not is_utf8(data):
+            if (status, printed, error) != (3, b"", b"file\n"):
+                raise Found(f"check ends with {status}", data, printed, error)
+            return 1
         told = printed[:-1].removeprefix(b"fault ")
         if status > 1 or error or not CHECKED.fullmatch(told) or (status == 0) != printed.startswith(b"ok "):
             raise Found(f"check ends with {status}", data, printed, error)

@@ -44,6 +44,14 @@ fn crashed<D: Stopping>(files: Files<D>) -> Files<D>
     Files { log, db }
 }
 
+// The files of what came back with a fault.
+fn returned<D: Stopping>(back: Returned<FileStore<D>>) -> Files<D> {
+    match back {
+        Returned::Connection(conn) => conn.into_store().close(),
+        Returned::Store(store) => store.close(),
+    }
+}
+
 // The store of these files.
 fn opened<D: Stopping>(
     alloc: Global,
@@ -58,8 +66,7 @@ fn opened<D: Stopping>(
     };
     match SqliteStore::adopt(alloc, conn) {
         Ok(store) => Ok(store),
-        Err((Returned::Connection(conn), fault)) => Err((conn.into_store().close(), fault)),
-        Err((Returned::Store(store), fault)) => Err((store.close(), fault)),
+        Err((back, fault)) => Err((returned(back), fault)),
     }
 }
 
