@@ -12,3 +12,9 @@ returns-in_err-gln g c =
     ap (option_map told_asker) none
     ∙ no_asker c.args.hub.now.0 c.args.party.now c.args.key.now c.has_a_right_register.ensures
     (no_gln c.args.party.now read)
+
+pub returns-in_err-role : goal.returns-in_err-role
+returns-in_err-role g c = search rules
+
+pub returns : goal.returns
+returns g c = search rules
