@@ -33,6 +33,8 @@ from registers import of_prefixes
 from serving import Server, upload
 
 ORDERS, MOMENTS = 999, 100
+# how many allocations of a command are all refused, and of those before them one in so many
+OF_COMMAND, EACH = 700, 25
 TABLES = ("order", "line", "advice", "pallet", "content", "receipt", "remembered", "mail")
 STORE_FAULTS = {b"store disk\n", b"store unclean\n", b"store version\n", b"store memory\n"}
 
@@ -158,7 +160,7 @@ def disks_full(program, top):
     """No file may grow past so many bytes, and a write that would is refused."""
     whole = of_orders(top, 60)
     run(program, IMPORT, whole)
-    wanted, most = rows_of(whole), 400_000
+    wanted, most = rows_of(whole), 2_400_000
     counts = {"store disk": 0, "stopped": 0, "whole": 0}
     for limit in range(0, most, most // 120):
         folder = of_orders(top, 60)
@@ -304,6 +306,8 @@ def memory_refused(program, top):
             return f"{name}: {whole}"
         with open(os.path.join(top, "count"), encoding="ascii") as file:
             allocations = int(file.read())
+        # most of them are those of opening the file, and of these one in so many is enough behind the first command
+        numbers = [k for k in range(1, allocations + 1) if name == "order" or k > allocations - OF_COMMAND or k % EACH == 0]
         wanted = rows_of(end) if os.path.exists(os.path.join(end, NAME)) else None
 
         def tried(number):
@@ -328,12 +332,12 @@ def memory_refused(program, top):
             return (kind,)
 
         with ThreadPoolExecutor(len(os.sched_getaffinity(0))) as pool:
-            found = list(pool.map(tried, range(1, allocations + 1)))
+            found = list(pool.map(tried, numbers))
         wrong = [it for it in found if isinstance(it, str)]
         if wrong:
             return f"{len(wrong)} of {allocations} wrong, first {wrong[0]}"
         counts = ", ".join(f"{count} {kind}" for (kind,), count in Counter(found).most_common())
-        print(f"{name}: {allocations} allocations refused in turn: {counts}", flush=True)
+        print(f"{name}: {len(numbers)} of {allocations} allocations refused in turn: {counts}", flush=True)
         base = end
     return None
 

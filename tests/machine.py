@@ -13,7 +13,7 @@ from hubs import ALPHA, BETA, Play
 from stops import inputs, script
 
 FILES = ("stop-file", "stop-log")
-# how many calls of a file there are at least, and at most that are tried
+# how many calls of a file are stopped at least behind the making of the tables, and how many are tried at most
 FEWEST, MOST = 20, 2000
 
 
@@ -102,7 +102,7 @@ class Machine:
                     if not isinstance(found, int):
                         return found
                     if found == self.count:
-                        return counts if sum(counts) >= FEWEST else f"{which}: {counts} calls, too few"
+                        return counts if counts[0] >= FEWEST else f"{which}: {counts} calls, too few"
                     counts[found < 0] += 1
                 number += 64
         return f"{which}: no run without a stop in {MOST} calls"

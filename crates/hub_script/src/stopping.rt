@@ -52,6 +52,13 @@ fn returned<D: Stopping>(back: Returned<FileStore<D>>) -> Files<D> {
     }
 }
 
+// The log is copied into the file often, so that both are written while the script runs.
+fn options() -> Options {
+    let mut options = Options::new(0);
+    options.checkpoint_frames = 16;
+    options
+}
+
 // The store of these files.
 fn opened<D: Stopping>(
     alloc: Global,
@@ -60,7 +67,7 @@ fn opened<D: Stopping>(
     requires log { IsTrue (D.Disk.is_usable files.log) }
     requires db { IsTrue (D.Disk.is_usable files.db) }
 {
-    let conn = match Connection::open_files(alloc, files, Options::new(0)) {
+    let conn = match Connection::open_files(alloc, files, options()) {
         Ok(conn) => conn,
         Err((_, left)) => return Err((left.into_files(), StoreFault::Disk)),
     };
