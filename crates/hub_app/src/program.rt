@@ -381,8 +381,8 @@ prints, once it listens, and then of each connection its number and the status t
   connection 2 403
   connection 3 fault
 
-A fault is a connection that failed: its client went away, sent or took nothing for too long, or 10 seconds
-were over. Nobody is answered then, and the next connection is served.
+A fault is a connection that failed: its client went away, or its 10 seconds were over before all of the answer
+was taken. The next connection is served.
 
 A request to the hub as it runs, and its answer:
 
