@@ -9,4 +9,6 @@ pub mod SpelledAgain
 pub mod Differs
 pub mod EmptyEnd
 pub mod Runs
+pub mod Pieces
 pub mod Canonical
+pub mod Flat

@@ -9,3 +9,6 @@ pub mod Plain
 pub mod Fault
 pub mod Text
 pub mod Code
+pub mod Flat
+pub mod FlatSegment
+pub mod Machine

@@ -3,7 +3,9 @@
 
 mod characters;
 mod fault;
+mod flat_segment;
 mod laws;
+mod machine;
 mod open_segment;
 mod reader;
 mod reading;
