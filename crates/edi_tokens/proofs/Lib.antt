@@ -10,5 +10,8 @@ pub mod Differs
 pub mod EmptyEnd
 pub mod Runs
 pub mod Pieces
+pub mod Pieced
+pub mod Lent
+pub mod Feeding
 pub mod Canonical
 pub mod Flat

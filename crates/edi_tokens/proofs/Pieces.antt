@@ -28,7 +28,7 @@ stops_here r next bytes at fault lt so_far stops =
     ∙ ap (run next) (drop_more bytes at 0 lt)
     ∙ ap (λ (s : Result Reading TokenFault). s >>= λ n. run n (drop (at + 1) bytes)) stops
 
-take_sum : (n m : ℕ) (xs : List ℕ) → take (n + m) xs ≡ take n xs ++ take m (drop n xs)
+pub take_sum : (n m : ℕ) (xs : List ℕ) → take (n + m) xs ≡ take n xs ++ take m (drop n xs)
 take_sum zero m xs = let e : zero + m ≡ m = omega arith in ap (λ (k : ℕ). take k xs) e
 take_sum (suc n) m [] = take_all (suc n + m) [] (omega arith) ∙ sym (take_all m [] (omega arith))
 take_sum (suc n) m (x ∷ xs) =

@@ -12,3 +12,5 @@ pub mod Code
 pub mod Flat
 pub mod FlatSegment
 pub mod Machine
+pub mod Piece
+pub mod Feeder

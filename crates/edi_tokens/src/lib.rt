@@ -3,13 +3,16 @@
 
 mod characters;
 mod fault;
+mod feeder;
 mod flat_segment;
 mod laws;
 mod machine;
 mod open_segment;
+mod piece;
 mod reader;
 mod reading;
 mod segment;
+mod segment_ref;
 mod service;
 mod text;
 
@@ -18,10 +21,12 @@ pub use edi_base::{
     write_bytes,
 };
 pub use fault::TokenFault;
+pub use feeder::{Feeder, Refused};
 pub use laws::{
     canonical_text_spells_again, reading_is_the_grammar, text_spells_one_list,
     text_spells_or_shows_a_fault,
 };
 pub use reading::{TEXT_LIMIT, read_all};
 pub use segment::{Elements, Segment, Service, Tokens};
+pub use segment_ref::SegmentRef;
 pub use text::{append_text, body_text, service_string, write_text};

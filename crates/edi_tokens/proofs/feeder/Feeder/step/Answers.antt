@@ -1,0 +1,83 @@
+use Rattle.std.proofs.Common.{◌≡◌, [], Bool, true, false, Ok, sym, ap, subst, ◌∙◌, arith}
+use Rattle.std.proofs.lemmas.Result.{err_from_is_err_and}
+use Rattle.edi_tokens.specs.Machine.{reading_of}
+use Rattle.edi_tokens.specs.Feeder.{Fed, Took, Filled, TakesWithin}
+use Rattle.edi_tokens.proofs.Feeding.{takes_then, has_cause, finish_text}
+use Rattle.edi_tokens.proofs.feeder.Feeder.step.Given as given
+use Rattle.edi_tokens.proofs.feeder.Feeder.step.Goals as goal
+use Rattle.edi_tokens.proofs.feeder.Feeder.step.Goals.{After-refill, In_ok-refill}
+
+-- all that was read is taken, and then bytes were read
+taken_all : (g : given.Over) (c : After-refill g) (all : _) (lent : _)
+    → Fed g.R.Source.remaining all lent c.args.self.now → Fed g.R.Source.remaining all lent c.take_piece.new.self
+taken_all g c all lent fed =
+    subst (λ (b : Bool). Took g.R.Source.remaining all lent (Ok b) c.take_piece.new.self) c.if-branch.false
+    (c.in_ok-take_piece.ensures.told all lent (c.loop-self.invariant.told all lent fed))
+
+bound : (g : given.Over) (c : After-refill g)
+    → TakesWithin (g.R.Source.remaining c.args.self.now.reader) (g.R.Source.remaining c.refill.new.self.reader) c.args.self.now.room c.refill.new.self.room
+bound g c =
+    takes_then _ _ _ _ _ _ c.loop-self.invariant.bound
+    (rw (c.in_ok-take_piece.ensures.reader, c.in_ok-take_piece.ensures.room) at c.refill.ensures.bound)
+
+flag : (g : given.Over) (c : In_ok-refill g) → g.R.Source.failed c.refill.new.self.reader ≡ g.R.Source.failed c.args.self.now.reader
+flag g c =
+    c.in_ok-refill.ensures.flag ∙ ap g.R.Source.failed c.in_ok-take_piece.ensures.reader ∙ c.loop-self.invariant.flag
+
+-- the text ends here
+ended : (g : given.Over) (c : In_ok-refill g) (all : _) (lent : _) → c.in_ok-refill.field-0 ≡ false
+    → Fed g.R.Source.remaining all lent c.args.self.now → Filled g.R.Source.remaining all lent (Ok false) c.refill.new.self
+ended g c all lent none fed =
+    subst (λ (b : Bool). Filled g.R.Source.remaining all lent (Ok b) c.refill.new.self) none
+    (c.in_ok-refill.ensures.told all lent
+    (subst (λ (b : Bool). Took g.R.Source.remaining all lent (Ok b) c.take_piece.new.self) c.if-branch.false
+    (c.in_ok-take_piece.ensures.told all lent (c.loop-self.invariant.told all lent fed))))
+
+pub returns-in_err-take_piece-clause-told : goal.returns-in_err-take_piece-clause-told
+returns-in_err-take_piece-clause-told g c = λ all lent fed.
+    let p = err_from_is_err_and c.from_residual.result c.from_residual.ensures.1 in
+    rw (p.1, p.2) (λ _. c.in_err-take_piece.ensures.told all lent (c.loop-self.invariant.told all lent fed))
+
+pub returns-in_err-refill-clause-told : goal.returns-in_err-refill-clause-told
+returns-in_err-refill-clause-told g c = λ all lent fed.
+    let p = err_from_is_err_and c.from_residual-in_err-refill.result c.from_residual-in_err-refill.ensures.1 in
+    rw (p.1, p.2) (c.in_err-refill.ensures.told all lent
+    (taken_all g (goal.at.returns-in_err-refill-clause-told g c).After-refill all lent fed))
+
+pub returns-in_err-refill-clause-bound : goal.returns-in_err-refill-clause-bound
+returns-in_err-refill-clause-bound g c = bound g (goal.at.returns-in_err-refill-clause-bound g c).After-refill
+
+pub returns-in_err-finish-clause-told : goal.returns-in_err-finish-clause-told
+returns-in_err-finish-clause-told g c = λ all lent fed.
+    let p = err_from_is_err_and c.from_residual-in_err-finish.result c.from_residual-in_err-finish.ensures.1 in
+    rw (p.1, p.2) (λ _.
+    (ended g (goal.at.returns-in_err-finish-clause-told g c).In_ok-refill all lent c.if-not-branch.true fed).1 ∙ c.in_err-finish.ensures lent)
+
+pub returns-in_err-finish-clause-flag : goal.returns-in_err-finish-clause-flag
+returns-in_err-finish-clause-flag g c =
+    let p = err_from_is_err_and c.from_residual-in_err-finish.result c.from_residual-in_err-finish.ensures.1 in
+    rw (p.1, p.2)
+    (has_cause c.in_err-finish.field-0.0 _ _
+    (finish_text (reading_of [] c.refill.new.self.machine) c.in_err-finish.field-0.0 (c.in_err-finish.ensures []))
+    (flag g (goal.at.returns-in_err-finish-clause-flag g c).In_ok-refill))
+
+pub returns-in_err-finish-clause-bound : goal.returns-in_err-finish-clause-bound
+returns-in_err-finish-clause-bound g c = bound g (goal.at.returns-in_err-finish-clause-bound g c).After-refill
+
+pub returns-then-not-branch-clause-told : goal.returns-then-not-branch-clause-told
+returns-then-not-branch-clause-told g c = λ all lent fed.
+    let end = ended g (goal.at.returns-then-not-branch-clause-told g c).In_ok-refill all lent c.if-not-branch.true fed in
+    (end.0, end.1 ∙ c.in_ok-finish.ensures lent)
+
+pub returns-then-not-branch-clause-bound : goal.returns-then-not-branch-clause-bound
+returns-then-not-branch-clause-bound g c = bound g (goal.at.returns-then-not-branch-clause-bound g c).After-refill
+
+pub loop-self-preserved : goal.loop-self-preserved
+loop-self-preserved g c = record {
+  told = λ all lent fed.
+      subst (λ (b : Bool). Filled g.R.Source.remaining all lent (Ok b) c.refill.new.self) c.if-not-branch.false
+      (c.in_ok-refill.ensures.told all lent (taken_all g (goal.at.loop-self-preserved g c).After-refill all lent fed));
+  flag = flag g (goal.at.loop-self-preserved g c).In_ok-refill;
+  bound = bound g (goal.at.loop-self-preserved g c).After-refill;
+  going = c.in_ok-refill.ensures.going;
+}

@@ -1,0 +1,101 @@
+//! The bytes that were read last, and how far they are taken.
+
+ghost use Rattle.std.specs.Prelude.{◌≡◌, ◌≤◌, ◌<◌, ◌||◌, ◌-◌, ℕ, Bool, List, [], length, take, drop, IfOk, OnErr, is_err};
+ghost use Rattle.std.specs.Io.KnownBytes.{Consumes, Keeps, IsAtEnd};
+ghost use Rattle.edi_tokens.specs.Piece.{Fills, Reads};
+
+use edi_base::{MemoryFault, Source};
+use std::alloc::Global;
+use std::marker::Model;
+
+/// How many bytes are asked for at once.
+const PIECE: usize = 8192;
+
+/// Bytes that were read and are not taken. Contracts see them as a list.
+#[derive(Drop)]
+pub(crate) struct Piece {
+    bytes: Vec<u8>,
+    from: usize,
+    end: usize,
+}
+
+/// A reader answered an error.
+#[derive(Clone, Copy)]
+pub(crate) struct ReadFailed;
+
+/// Reads once into the front, and at most so many bytes.
+fn read_front<R: Source>(reader: &mut R, bytes: &mut [u8], room: usize) -> Result<usize, ReadFailed>
+    ensures bytes { Reads (R.remaining reader.old) (R.remaining reader.new) result bytes.new room }
+    ensures flag { R.failed reader.new ≡ (R.failed reader.old || is_err result) }
+{
+    let most = room.min(bytes.len());
+    let Ok(count) = reader.read(&mut bytes[..most]) else {
+        return Err(ReadFailed);
+    };
+    Ok(count)
+}
+
+impl Model for Piece {
+    ghost use Rattle.std.specs.Prelude.{ℕ, List, ◌≡◌, ◌≤◌, vec_len, slice_range};
+
+    ghost Value = { List ℕ };
+
+    ghost view = { λ p. slice_range p.bytes.items p.from p.end };
+
+    ghost invariant = { λ p. (p.from ≤ p.end) × (p.end ≤ 8192) × (vec_len p.bytes ≡ 8192) };
+}
+
+impl Piece {
+    /// No bytes, and room for 8,192.
+    pub(crate) fn new(alloc: Global) -> Result<Self, MemoryFault>
+        ensures { IfOk result (λ piece. piece ≡ []) }
+    {
+        Ok(Piece {
+            bytes: Vec::from_elem(alloc, 0u8, PIECE)?,
+            from: 0,
+            end: 0,
+        })
+    }
+
+    pub(crate) fn as_slice(&self) -> &[u8]
+        ensures { result.now ≡ self.now }
+    {
+        &self.bytes[self.from..self.end]
+    }
+
+    /// Takes bytes from the front.
+    pub(crate) fn skip(&mut self, count: usize)
+        requires { count ≤ length self.old }
+        ensures { self.new ≡ drop count self.old }
+    {
+        self.from += count;
+    }
+
+    /// Takes all bytes.
+    pub(crate) fn clear(&mut self)
+        ensures { self.new ≡ [] }
+    {
+        self.from = 0;
+        self.end = 0;
+    }
+
+    /// Takes the last byte.
+    pub(crate) fn drop_last(&mut self)
+        requires { 0 < length self.old }
+        ensures { self.new ≡ take (length self.old - 1) self.old }
+    {
+        self.end -= 1;
+    }
+
+    /// Reads once, and at most so many bytes, in place of those before.
+    pub(crate) fn fill<R: Source>(&mut self, reader: &mut R, room: usize) -> Result<usize, ReadFailed>
+        ensures bytes { Fills (R.remaining reader.old) (R.remaining reader.new) result self.new room }
+        ensures flag { R.failed reader.new ≡ (R.failed reader.old || is_err result) }
+    {
+        self.from = 0;
+        self.end = 0;
+        let count = read_front(reader, self.bytes.as_mut_slice(), room)?;
+        self.end = count;
+        Ok(count)
+    }
+}
