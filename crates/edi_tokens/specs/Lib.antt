@@ -14,3 +14,4 @@ pub mod FlatSegment
 pub mod Machine
 pub mod Piece
 pub mod Feeder
+pub mod SegmentRef

@@ -49,9 +49,12 @@ impl<R: Source> Feeder<R> {
     ghost use Rattle.std.specs.Prelude.{◌≢◌, OnOk, false, true};
     ghost use Rattle.std.specs.Borrow.{sem};
     ghost use Rattle.edi_tokens.specs.contracts.feeder.Feeder.{the_row};
-    ghost use Rattle.std.specs.Io.BufRead.{Rests};
+    ghost use Rattle.std.specs.Borrow.{follows_so};
+    ghost use mathlib.Core.Option.{none};
+    ghost use Rattle.std.specs.Prelude.{⊤};
     ghost use Rattle.edi_tokens.specs.Feeder.{Fed, Took, Filled, Told, Feeds, Flags, TakesWithin, stopped, answered, room_of, lent_by, known_service};
     ghost use Rattle.edi_tokens.specs.Feeder.{IsOfText};
+    ghost use Rattle.edi_tokens.specs.SegmentRef.{segment_in, segment_told};
 
     /// Nothing is read yet. Where memory is refused, the reader is given back.
     pub fn new(alloc: Global, reader: R) -> Result<Self, Refused<R>>
@@ -167,12 +170,19 @@ impl<R: Source> Feeder<R> {
     /// Reads to the end of the next segment and lends it; None at the end of the text. After a fault it answers the same
     /// fault for good, and reads nothing more. It takes no memory.
     pub fn next_segment(&mut self) -> Result<Option<SegmentRef<'_>>, TokenFault>
-        ensures* { sem 𝓛 (Rests (the_row R.row) self.entry (λ new. Feeds R.remaining R.failed self.old result new)) }
+        ensures* { sem 𝓛 (follows_so (the_row R.row) (the_row R.row) self.entry.ghost_name none (λ _ _. ⊤) (λ new. Feeds R.remaining R.failed self.old (segment_told result) new)) }
     {
         if !self.advance()? {
             return Ok(None);
         }
-        Ok(Some(SegmentRef::new(&self.machine.open)))
+        Ok(Some(self.lent()))
+    }
+
+    /// The segment that ended last.
+    fn lent(&self) -> SegmentRef<'_>
+        ensures { segment_in result ≡ lent_by self.now }
+    {
+        SegmentRef::new(&self.machine.open)
     }
 
     /// The service characters, known from the first segment on.

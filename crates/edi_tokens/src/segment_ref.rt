@@ -7,61 +7,53 @@ use crate::flat_segment::FlatSegment;
 use crate::segment::Segment;
 use edi_base::{Items, MemoryFault, copied};
 use std::alloc::Global;
-use std::marker::Model;
 
-/// A segment that is lent until its lender goes on. Contracts see it as the segment. Only `to_segment` takes memory.
+/// A segment that is lent until its lender goes on. Only `to_segment` takes memory.
+#[derive(Clone, Copy)]
 pub struct SegmentRef<'a> {
     segment: &'a FlatSegment,
 }
 
-impl<'a> Model for SegmentRef<'a> {
-    ghost use Rattle.edi_tokens.specs.declared.segment.Segment.{Segment};
-    ghost use Rattle.edi_tokens.specs.Machine.{segment_of};
-
-    ghost Value = { Segment };
-
-    ghost view = { λ s. segment_of s.segment.now };
-}
-
 impl<'a> SegmentRef<'a> {
+    ghost use Rattle.edi_tokens.specs.SegmentRef.{segment_in};
     ghost use Rattle.edi_tokens.specs.Machine.{segment_of};
 
     pub(crate) fn new(segment: &'a FlatSegment) -> Self
-        ensures { result ≡ segment_of segment.now }
+        ensures { segment_in result ≡ segment_of segment.now }
     {
         SegmentRef { segment }
     }
 
     /// The three bytes of the tag.
     pub fn tag(&self) -> [u8; 3]
-        ensures { result ≡ self.now.tag }
+        ensures { result ≡ (segment_in self.now).tag }
     {
         self.segment.tag()
     }
 
     /// How many elements there are.
     pub fn elements(&self) -> usize
-        ensures { result ≡ length self.now.elements }
+        ensures { result ≡ length (segment_in self.now).elements }
     {
         self.segment.elements()
     }
 
     /// How many components an element has, counted from 0; none where the element is absent.
     pub fn components(&self, element: usize) -> usize
-        ensures { result ≡ length (element_at self.now.elements element) }
+        ensures { result ≡ length (element_at (segment_in self.now).elements element) }
     {
         self.segment.components(element)
     }
 
     /// The bytes of a component, element and place counted from 0; empty where it is absent.
     pub fn component(&self, element: usize, place: usize) -> &[u8]
-        ensures { result.now ≡ component_at self.now.elements element place }
+        ensures { result.now ≡ component_at (segment_in self.now).elements element place }
     {
         self.segment.component(element, place)
     }
 
     fn copied_element(&self, alloc: Global, element: usize) -> Result<Items<Items<u8>>, MemoryFault>
-        ensures { IfOk result (λ copy. copy ≡ element_at self.now.elements element) }
+        ensures { IfOk result (λ copy. copy ≡ element_at (segment_in self.now).elements element) }
     {
         let mut components = Vec::with_capacity(alloc, self.components(element))?;
         for place in 0..self.components(element) {
@@ -72,7 +64,7 @@ impl<'a> SegmentRef<'a> {
 
     /// A copy that can be kept.
     pub fn to_segment(&self, alloc: Global) -> Result<Segment, MemoryFault>
-        ensures { IfOk result (λ copy. copy ≡ self.now) }
+        ensures { IfOk result (λ copy. copy ≡ segment_in self.now) }
     {
         let mut elements = Vec::with_capacity(alloc, self.elements())?;
         for element in 0..self.elements() {

@@ -1,0 +1,18 @@
+-- The segment that is lent.
+use Rattle.std.specs.Prelude.{Option, Some, None, Result, Ok, Err}
+use Rattle.edi_tokens.specs.declared.segment_ref.SegmentRef.{SegmentRef}
+use Rattle.edi_tokens.specs.declared.segment.Segment.{Segment}
+use Rattle.edi_tokens.specs.declared.fault.TokenFault.{TokenFault}
+use Rattle.edi_tokens.specs.Machine.{segment_of}
+
+abbrev pub segment_in : SegmentRef → Segment
+segment_in s = segment_of s.segment.now
+
+abbrev pub lent_in : Option SegmentRef → Option Segment
+lent_in None = None
+lent_in (Some s) = Some (segment_in s)
+
+-- what was answered, with the segment that is lent
+abbrev pub segment_told : Result (Option SegmentRef) TokenFault → Result (Option Segment) TokenFault
+segment_told (Ok lent) = Ok (lent_in lent)
+segment_told (Err fault) = Err fault
