@@ -13,5 +13,6 @@ pub mod Pieces
 pub mod Pieced
 pub mod Lent
 pub mod Feeding
+pub mod Spelled
 pub mod Canonical
 pub mod Flat

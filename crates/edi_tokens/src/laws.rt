@@ -5,11 +5,15 @@ ghost use Rattle.std.specs.List.{AllByRecursion};
 ghost use Rattle.edi_tokens.specs.declared.segment.Service.{Service};
 ghost use Rattle.edi_tokens.specs.declared.segment.Segment.{Segment};
 ghost use Rattle.edi_tokens.specs.declared.fault.TokenFault.{TokenFault};
-ghost use Rattle.edi_tokens.specs.Spelling.{Spells, text_limit, segment_limit};
+ghost use Rattle.edi_tokens.specs.Spelling.{Spells, SpellsWhole, text_limit, segment_limit};
 ghost use Rattle.edi_tokens.specs.Fault.{Shows, ByteShows, EndShows};
 ghost use Rattle.edi_tokens.specs.Reading.{tokens_of};
 ghost use Rattle.edi_tokens.specs.Service.{with_decimal};
+ghost use Rattle.edi_tokens.specs.declared.feeder.Feeder.{Feeder};
+ghost use Rattle.edi_tokens.specs.Feeder.{Fed};
 ghost use Rattle.edi_tokens.specs.Text.{text, una, segment_text};
+
+use edi_base::Source;
 
 /// A text spells at most one list of segments, with one set of service characters.
 pub fn text_spells_one_list()
@@ -48,4 +52,11 @@ pub fn canonical_text_spells_again()
         AllByRecursion (λ x. length (segment_text x) ≤ segment_limit) xs →
         length (una decimal ++ text xs) ≤ text_limit →
         Spells (una decimal ++ text xs) (with_decimal decimal) xs }
+{}
+
+/// What a feeder has lent is what a front of the text spells: the bytes to the end of the last segment that was lent, with
+/// the service characters as far as they are known.
+pub fn lent_segments_are_spelled<R: Source>()
+    ensures { (all : List ℕ) (lent : List Segment) (f : Feeder R) → Fed R.remaining all lent f → (front rest : List ℕ) ×
+        (all ≡ front ++ rest) × SpellsWhole front f.machine.service lent }
 {}

@@ -1,4 +1,4 @@
-use Rattle.std.proofs.Common.{[], ◌++◌, length, Result, Ok, sym, ap, arith}
+use Rattle.std.proofs.Common.{[], ◌++◌, length, sym, ap, arith}
 use Rattle.edi_tokens.specs.Reading.{Reading}
 use Rattle.edi_tokens.proofs.Lent.{came}
 use Rattle.edi_tokens.proofs.feeder.Feeder.new.Goals as goal

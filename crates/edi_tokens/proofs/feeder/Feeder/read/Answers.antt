@@ -1,5 +1,5 @@
 use Rattle.std.proofs.Common.{◌<◌, arith}
-use Rattle.edi_tokens.proofs.Feeding.{filled_more, filled_end, filled_long}
+use Rattle.edi_tokens.proofs.Feeding.{filled_end, filled_long}
 use Rattle.edi_tokens.proofs.feeder.Feeder.read.Goals as goal
 
 pub returns-then-count-eq0-clause-told : goal.returns-then-count-eq0-clause-told

@@ -1,4 +1,4 @@
-use Rattle.std.proofs.Common.{◌≡◌, [], Bool, true, false, Ok, sym, ap, subst, ◌∙◌, arith}
+use Rattle.std.proofs.Common.{◌≡◌, [], Bool, false, Ok, ap, subst, ◌∙◌}
 use Rattle.std.proofs.lemmas.Result.{err_from_is_err_and}
 use Rattle.edi_tokens.specs.Machine.{reading_of}
 use Rattle.edi_tokens.specs.Feeder.{Fed, Took, Filled, TakesWithin}

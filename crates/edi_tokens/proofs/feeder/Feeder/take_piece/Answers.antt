@@ -1,6 +1,6 @@
 use Rattle.std.proofs.lemmas.Result.{err_from_is_err_and}
 use Rattle.edi_tokens.specs.Machine.{reading_of}
-use Rattle.std.proofs.Common.{[], ◌∙◌}
+use Rattle.std.proofs.Common.{[]}
 use Rattle.edi_tokens.proofs.Lent.{run_text}
 use Rattle.edi_tokens.proofs.Feeding.{took, took_fault}
 use Rattle.edi_tokens.proofs.feeder.Feeder.take_piece.Goals as goal

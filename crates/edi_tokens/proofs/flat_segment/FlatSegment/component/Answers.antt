@@ -1,7 +1,7 @@
-use Rattle.std.proofs.Common.{◌≡◌, ℕ, ◌+◌, ◌<◌, ◌≤◌, ◌∷◌, length, take, get_or, sym, ap, subst, ◌∙◌, arith}
+use Rattle.std.proofs.Common.{◌≡◌, ◌+◌, ◌≤◌, ◌∷◌, length, take, get_or, sym, ap, ◌∙◌, arith}
 use Rattle.std.proofs.lemmas.List.{length-take}
 use Rattle.edi_tokens.specs.Spelling.{without_empty_end}
-use Rattle.edi_tokens.specs.Segment.{element_at, component_at}
+use Rattle.edi_tokens.specs.Segment.{component_at}
 use Rattle.edi_tokens.specs.Reading.{Open}
 use Rattle.edi_tokens.proofs.Flat.{component_there, place_there, element_there, shown_within, same_bytes}
 use Rattle.edi_tokens.proofs.flat_segment.FlatSegment.component.Goals as goal

@@ -1,4 +1,4 @@
-use Rattle.std.proofs.Common.{◌≡◌, ℕ, ◌+◌, ◌<◌, ◌≤◌, length, ap, ◌∙◌, arith}
+use Rattle.std.proofs.Common.{◌≡◌, ◌<◌, ◌≤◌, length, ap, ◌∙◌, arith}
 use Rattle.edi_tokens.specs.Reading.{Open, with_element}
 use Rattle.edi_tokens.proofs.Flat.{flat-ended, open-ended}
 use Rattle.edi_tokens.proofs.flat_segment.FlatSegment.end_element.Goals as goal

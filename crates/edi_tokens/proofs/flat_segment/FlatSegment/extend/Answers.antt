@@ -1,4 +1,4 @@
-use Rattle.std.proofs.Common.{◌≡◌, ℕ, ◌+◌, ◌-◌, ◌≤◌, length, take, refl, ap, ◌∙◌, arith}
+use Rattle.std.proofs.Common.{◌≡◌, ◌+◌, ◌-◌, ◌≤◌, length, take, refl, ap, ◌∙◌, arith}
 use Rattle.edi_tokens.specs.Reading.{Open}
 use Rattle.edi_tokens.specs.OpenSegment.{with_bytes}
 use Rattle.edi_tokens.proofs.Flat.{flat-longer, open-longer, bytes_more}

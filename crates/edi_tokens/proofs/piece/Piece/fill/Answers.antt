@@ -1,4 +1,4 @@
-use Rattle.std.proofs.Common.{◌≡◌, length, sym, ◌∙◌, arith}
+use Rattle.std.proofs.Common.{◌≡◌, length, arith}
 use Rattle.edi_tokens.proofs.Pieced.{filled}
 use Rattle.edi_tokens.proofs.piece.Piece.fill.Goals as goal
 
