@@ -13,6 +13,7 @@ pub mod Pieces
 pub mod Pieced
 pub mod Lent
 pub mod Feeding
+pub mod Segments
 pub mod Spelled
 pub mod Canonical
 pub mod Flat

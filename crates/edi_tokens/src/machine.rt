@@ -1,7 +1,7 @@
 //! One machine over the bytes of a text, in whatever pieces they come. It keeps the segment that has begun, or the one
 //! that ended last, and no other.
 
-ghost use Rattle.std.specs.Prelude.{◌≡◌, ◌≤◌, List, [], length, take, IfOk, IfErr, false, Ok, Err};
+ghost use Rattle.std.specs.Prelude.{◌≡◌, ◌≤◌, List, [], length, take, IfOk, IfErr, false, true, ◌<◌, Ok, Err};
 ghost use Rattle.edi_tokens.specs.Reading.{step, run, start, finish, is_una};
 ghost use Rattle.edi_tokens.specs.Machine.{Gives};
 
@@ -214,6 +214,7 @@ impl Machine {
     pub(crate) fn push_all(&mut self, bytes: &[u8]) -> Result<(usize, bool), TokenFault>
         ensures within { IfOk result (λ taken. taken.0 ≤ length bytes.now) }
         ensures whole { IfOk result (λ taken. taken.1 ≡ false → taken.0 ≡ length bytes.now) }
+        ensures some { IfOk result (λ taken. taken.1 ≡ true → 0 < taken.0) }
         ensures ok { IfOk result (λ taken. run (reading_of [] self.old) (take taken.0 bytes.now) ≡ Ok (after [] taken.1 self.new)) }
         ensures err { IfErr result (λ fault. run (reading_of [] self.old) bytes.now ≡ Err fault) }
     {

@@ -5,25 +5,55 @@ ghost use Rattle.edi_tokens.specs.declared.segment.Service.{Service};
 ghost use Rattle.edi_tokens.specs.declared.segment.Segment.{Segment};
 ghost use Rattle.edi_tokens.specs.Spelling.{Spells};
 ghost use Rattle.edi_tokens.specs.Fault.{Shows};
-ghost use Rattle.edi_tokens.specs.Reading.{Answers, tokens_of};
+ghost use Rattle.edi_tokens.specs.Reading.{Answers, run, tokens_of};
+ghost use Rattle.edi_tokens.specs.Machine.{reading_of};
 
 use crate::fault::TokenFault;
-use crate::reader::Reader;
-use crate::segment::Tokens;
+use crate::machine::Machine;
+use crate::segment::{Segment, Tokens};
+use crate::segment_ref::SegmentRef;
+use edi_base::Items;
 use std::alloc::Global;
 
 /// The longest text in bytes.
 pub const TEXT_LIMIT: usize = 1_048_576;
 
+/// Takes bytes, and puts each segment that ends after those before.
+fn push_segments(
+    alloc: Global,
+    machine: &mut Machine,
+    bytes: &[u8],
+    segments: &mut Vec<Segment>,
+) -> Result<(), TokenFault>
+    ensures { Answers (λ _. reading_of segments.new.items machine.new) result
+        (run (reading_of segments.old.items machine.old) bytes.now) }
+{
+    let mut rest = bytes;
+    loop {
+        let (count, ended) = machine.push_all(rest)?;
+        if !ended {
+            return Ok(());
+        }
+        segments.push(SegmentRef::new(&machine.open).to_segment(alloc)?)?;
+        rest = &rest[count..];
+    }
+}
+
 fn read(alloc: Global, text: &[u8]) -> Result<Tokens, TokenFault>
     ensures { Answers (λ tokens. tokens) result (tokens_of text.now) }
 {
-    let mut reader = Reader::new(alloc);
-    reader.push_all(&text[..text.len().min(TEXT_LIMIT)])?;
+    let mut machine = Machine::new(alloc)?;
+    let mut segments = Vec::new(alloc);
+    let front = &text[..text.len().min(TEXT_LIMIT)];
+    push_segments(alloc, &mut machine, front, &mut segments)?;
     if text.len() > TEXT_LIMIT {
         return Err(TokenFault::TooLong);
     }
-    reader.finish()
+    machine.finish()?;
+    Ok(Tokens {
+        service: machine.service,
+        segments: Items::from_vec(segments),
+    })
 }
 
 /// The service characters and the segments of a text (ISO 9735, syntax version 3), or the fault that its
