@@ -1,5 +1,5 @@
 -- What a feeder has read and lent, one step after another.
-use Rattle.std.proofs.Common.{◌≡◌, ℕ, ◌+◌, ◌-◌, ◌<◌, ◌≤◌, Bool, true, false, List, [], ◌∷◌, ◌++◌, length, take, drop, Option, Some, None}
+use Rattle.std.proofs.Common.{◌≡◌, ℕ, ◌+◌, ◌-◌, ◌<◌, ◌≤◌, Bool, true, false, List, [], ◌++◌, length, take, drop, Option, Some, None}
 use Rattle.std.proofs.Common.{Result, Ok, Err, refl, sym, ap, subst, ◌∙◌, append_assoc, arith}
 use Rattle.std.specs.Prelude.{nat_lt, if◌then◌else◌}
 use Rattle.std.proofs.lemmas.List.{append-nil, take-append-drop, take_all, take_at, drop_at, length-append, length-drop, length-take, nil_from_length}
@@ -16,7 +16,7 @@ use Rattle.edi_tokens.specs.Spelling.{text_limit}
 use Rattle.edi_tokens.specs.Reading.{Reading, Place, Outside, InService, InTag, InData, Released, start, run, finish, finish_at, tokens_of, ◌>>=◌}
 use Rattle.edi_tokens.specs.Machine.{reading_of, after}
 use Rattle.edi_tokens.specs.Piece.{FillsWith}
-use Rattle.edi_tokens.specs.Feeder.{GoesOn, Fed, Took, Filled, lent_by, TakesWithin, IsOfText, HasCause}
+use Rattle.edi_tokens.specs.Feeder.{GoesOn, Fed, Took, Filled, TakesWithin, IsOfText, HasCause}
 use Rattle.edi_tokens.specs.declared.segment.Tokens.{Tokens}
 use Rattle.std.proofs.KnownBytes.{Consumes-nil, Consumes-trans}
 use Rattle.edi_tokens.proofs.Runs.{run-append}

@@ -1,7 +1,7 @@
 -- Lists that stand one after another in one list, with the place where each ends.
 use Rattle.std.proofs.Common.{◌≡◌, ◌<◌, ◌≤◌, ◌-◌, ◌+◌, ℕ, zero, suc, List, [], ◌∷◌, ◌++◌, length, take, drop, get_or, set, refl, sym, ap}
 use Rattle.std.proofs.Common.{subst, ◌∙◌, arith, inl, inr}
-use Rattle.std.proofs.lemmas.List.{append-nil, take_all, take-append-le, drop-append-le, drop-drop, length-drop, length-take, length-append}
+use Rattle.std.proofs.lemmas.List.{take_all, take-append-le, drop-append-le, drop-drop, length-drop, length-take, length-append}
 use Rattle.std.proofs.lemmas.List.{take-append-drop, drop_all, take-take, drop-take, nil_from_length, length-take-le, take_more_set}
 use Rattle.std.proofs.lemmas.List.{get_or-take, get_or-drop, get_or_past}
 use Rattle.std.proofs.lemmas.Bool.{cases_order}

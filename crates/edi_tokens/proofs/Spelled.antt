@@ -1,13 +1,12 @@
 -- What was lent is what a front of the text spells.
-use Rattle.std.proofs.Common.{◌≡◌, ℕ, List, [], ◌∷◌, ◌++◌, Option, None, Result, Ok, refl, sym, ap, subst, ◌∙◌, append_assoc}
+use Rattle.std.proofs.Common.{◌≡◌, ℕ, List, [], ◌∷◌, ◌++◌, Option, None, refl, sym, ap, subst, ◌∙◌, append_assoc}
 use Rattle.std.proofs.lemmas.List.{append-nil}
 use Rattle.edi_tokens.specs.declared.segment.Service.{Service}
 use Rattle.edi_tokens.specs.declared.segment.Segment.{Segment}
 use Rattle.edi_tokens.specs.declared.feeder.Feeder.{Feeder}
-use Rattle.edi_tokens.specs.declared.fault.TokenFault.{TokenFault}
 use Rattle.edi_tokens.specs.Service.{usual, una_tag}
 use Rattle.edi_tokens.specs.Spelling.{SpellsWhole, LineEnds}
-use Rattle.edi_tokens.specs.Reading.{Place, Outside, InService, InTag, InData, Released, Reading, start, run}
+use Rattle.edi_tokens.specs.Reading.{Place, Outside, InService, InTag, InData, Released, start}
 use Rattle.edi_tokens.specs.Fault.{Ends, EndsAt}
 use Rattle.edi_tokens.specs.Machine.{reading_of, place_of}
 use Rattle.edi_tokens.specs.Feeder.{Fed}

@@ -4,7 +4,6 @@ pub mod Service
 pub mod Spelling
 pub mod Reading
 pub mod OpenSegment
-pub mod Reader
 pub mod Plain
 pub mod Fault
 pub mod Text

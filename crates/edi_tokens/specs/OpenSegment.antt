@@ -1,16 +1,6 @@
--- The open segment, as a reader keeps it.
-use Rattle.std.specs.Prelude.{◌≡◌, ℕ, ◌+◌, List, [], ◌++◌, length}
-use Rattle.edi_tokens.specs.declared.open_segment.OpenSegment.{OpenSegment}
+-- The open segment, with a run of data.
+use Rattle.std.specs.Prelude.{ℕ, ◌+◌, List, ◌++◌, length}
 use Rattle.edi_tokens.specs.Reading.{Open}
-
-abbrev pub open_of : OpenSegment → Open
-open_of o = record {
-  tag = o.tag;
-  elements = o.elements.items;
-  element = o.element.items;
-  component = o.component.items;
-  length = o.size;
-}
 
 -- the open segment with data bytes that no release character stands before
 abbrev pub with_bytes : Open → List ℕ → Open
@@ -22,11 +12,3 @@ with_bytes o bytes =
       component = o.component ++ bytes;
       length = o.length + length bytes;
     }
-
--- the tag, the closed elements and the length stay, and nothing of the next element has come
-pub record IsBegun (old new : OpenSegment) : Type 0 where
-  pub tag : new.tag ≡ old.tag
-  pub elements : new.elements.items ≡ old.elements.items
-  pub element : new.element.items ≡ []
-  pub component : new.component.items ≡ []
-  pub size : new.size ≡ old.size
