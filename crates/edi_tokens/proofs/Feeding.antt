@@ -85,10 +85,10 @@ module _ {R : Type 0} (remaining : R → Option (List ℕ)) (all : List ℕ) (le
       × (length (fed.taken ++ take count f.piece) + length p ≡ length fed.taken + length f.piece)
   read_more m p count ended le rest runs = (
     fed.all_is
-    ∙ ap (λ l. fed.taken ++ (l ++ fed.left)) (sym (take-append-drop count f.piece))
-    ∙ ap (λ l. fed.taken ++ l) (append_assoc (take count f.piece) (drop count f.piece) fed.left)
-    ∙ ap (λ l. fed.taken ++ (take count f.piece ++ (l ++ fed.left))) (sym rest)
-    ∙ sym (append_assoc fed.taken (take count f.piece) (p ++ fed.left)),
+        ∙ ap (λ l. fed.taken ++ (l ++ fed.left)) (sym (take-append-drop count f.piece))
+        ∙ ap (λ l. fed.taken ++ l) (append_assoc (take count f.piece) (drop count f.piece) fed.left)
+        ∙ ap (λ l. fed.taken ++ (take count f.piece ++ (l ++ fed.left))) (sym rest)
+        ∙ sym (append_assoc fed.taken (take count f.piece) (p ++ fed.left)),
     run_on start (reading_of lent f.machine) fed.taken (take count f.piece) fed.read_as ∙ run_lent lent f.machine m ended (take count f.piece) runs,
     omega (arith, length-append fed.taken (take count f.piece), length-take count f.piece, ap length rest, length-drop count f.piece),
   )

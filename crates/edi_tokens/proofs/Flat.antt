@@ -176,8 +176,8 @@ module _ (bytes ends element_ends : List ℕ) (from element_from kept elements_k
       let front : take left (ends ++ end ∷ []) ≡ take kept ends =
       ap (λ (n : ℕ). take n (ends ++ end ∷ [])) same ∙ take-append-le kept ends (end ∷ []) f.kept_within in (
         subst (λ pieces. IsKept (left - element_from) pieces) (sym element-push)
-        (kept_empty (left - element_from) (drop element_from (cut ends bytes)) (drop from bytes)
-        (subst (λ (n : ℕ). IsKept (n - element_from) (drop element_from (cut ends bytes))) (sym same) f.components_left) empty),
+            (kept_empty (left - element_from) (drop element_from (cut ends bytes)) (drop from bytes)
+            (subst (λ (n : ℕ). IsKept (n - element_from) (drop element_from (cut ends bytes))) (sym same) f.components_left) empty),
         subst (λ l. Rise 0 l end) (sym front) (subst (λ (n : ℕ). Rise 0 (take kept ends) n) (sym stays) f.kept_rise),
         omega (arith, f.element_within),
         omega (arith, f.kept_within),
@@ -191,7 +191,7 @@ module _ (bytes ends element_ends : List ℕ) (from element_from kept elements_k
       let rest : left - element_from ≡ length (drop element_from (cut ends bytes)) + 1 =
       omega (arith, length-drop element_from (cut ends bytes), counted_all, f.element_within, f.kept_within) in (
         subst (λ pieces. IsKept (left - element_from) pieces) (sym element-push)
-        (kept_full (left - element_from) (drop element_from (cut ends bytes)) (drop from bytes) rest full),
+            (kept_full (left - element_from) (drop element_from (cut ends bytes)) (drop from bytes) rest full),
         subst (λ l. Rise 0 l end) (sym all) (rise_push 0 ends from end f.components_rise (omega arith)),
         omega (arith, f.element_within, f.kept_within),
         omega arith,
@@ -350,9 +350,9 @@ module _ (bytes ends element_ends : List ℕ) (filled components elements from e
       elements_kept closed elements_left
       (subst (λ (n : ℕ). IsLeft elements_kept n element_from left elements_left) (sym all) elements_is) in (
         subst (λ l. IsFlat (take filled bytes) l (take (elements + 1) (set element_ends elements left)) filled left left elements_left)
-        (sym ends_are)
-        (subst (λ l. IsFlat (take filled bytes) (take left (take components ends ++ filled ∷ [])) l filled left left elements_left)
-        (sym element_ends_are) flat),
+            (sym ends_are)
+            (subst (λ l. IsFlat (take filled bytes) (take left (take components ends ++ filled ∷ [])) l filled left left elements_left)
+            (sym element_ends_are) flat),
         left_within,
       )
 
@@ -387,8 +387,12 @@ bytes_more items held copied bytes len filled room whole same is fits =
     let held_long : length held ≡ length items = ap length same in
     let written : List ℕ = put_mid filled room held copied in
     let enough : filled + length bytes ≤ length written =
-    omega (arith, length-append (take filled held) (copied ++ post_of filled room held), length-append copied (post_of filled room held),
-    length-take-le filled held (omega arith)) in
+    omega (
+      arith,
+      length-append (take filled held) (copied ++ post_of filled room held),
+      length-append copied (post_of filled room held),
+      length-take-le filled held (omega arith),
+    ) in
     take-take (filled + length bytes) len (written ++ drop (length written) items) fits
     ∙ take-append-le (filled + length bytes) written (drop (length written) items) enough
     ∙ take-put_mid filled room held copied (filled + length bytes) (omega arith) (omega arith)

@@ -22,21 +22,30 @@ no_segments before ends =
 
 whole_at : (text : List ℕ) (s : Service) (segments : List Segment) (place : Place) → EndsAt text s segments place → HasWhole text s segments
 whole_at text s segments (Outside fresh) e = (text, [], sym (append-nil text), e.whole)
-whole_at text s segments (InService six) e =
-    (e.before, una_tag ++ six, e.text_is,
-    subst (λ (l : List Segment). SpellsWhole e.before s l) (sym e.none_yet)
-    (subst (λ (t : Service). SpellsWhole e.before t []) (sym e.service_is) (no_segments e.before e.before_is)))
+whole_at text s segments (InService six) e = (
+  e.before,
+  una_tag ++ six,
+  e.text_is,
+  subst (λ (l : List Segment). SpellsWhole e.before s l) (sym e.none_yet)
+      (subst (λ (t : Service). SpellsWhole e.before t []) (sym e.service_is) (no_segments e.before e.before_is)),
+)
 whole_at text s segments (InTag fresh tag) e = (e.before, tag, e.text_is, e.before_ends.whole)
 whole_at text s segments (InData o) e = (e.before, e.segment, e.text_is, e.whole)
 whole_at text s segments (Released o) e =
-    let f = e.front_ends in
-    (f.before, f.segment ++ e.release ∷ [],
-    e.text_is ∙ ap (λ l. l ++ e.release ∷ []) f.text_is ∙ append_assoc f.before f.segment (e.release ∷ []), f.whole)
+    let f = e.front_ends in (
+      f.before,
+      f.segment ++ e.release ∷ [],
+      e.text_is ∙ ap (λ l. l ++ e.release ∷ []) f.text_is ∙ append_assoc f.before f.segment (e.release ∷ []),
+      f.whole,
+    )
 
 pub lent_spelled : {R : Type 0} (remaining : R → Option (List ℕ)) (all : List ℕ) (lent : List Segment) (f : Feeder R)
     → Fed remaining all lent f → HasWhole all f.machine.service lent
 lent_spelled remaining all lent f fed =
     let ends : Ends fed.taken (reading_of lent f.machine) = subst (Runs fed.taken) fed.read_as (run_leads [] fed.taken start start_ends) in
-    let whole = whole_at fed.taken f.machine.service lent (place_of f.machine.place f.machine) ends in
-    (whole.0, whole.1 ++ (f.piece ++ fed.left),
-    fed.all_is ∙ ap (λ l. l ++ (f.piece ++ fed.left)) whole.2 ∙ append_assoc whole.0 whole.1 (f.piece ++ fed.left), whole.3)
+    let whole = whole_at fed.taken f.machine.service lent (place_of f.machine.place f.machine) ends in (
+      whole.0,
+      whole.1 ++ (f.piece ++ fed.left),
+      fed.all_is ∙ ap (λ l. l ++ (f.piece ++ fed.left)) whole.2 ∙ append_assoc whole.0 whole.1 (f.piece ++ fed.left),
+      whole.3,
+    )

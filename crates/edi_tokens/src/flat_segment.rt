@@ -161,7 +161,12 @@ impl FlatSegment {
     {
         let count = self.components + 1;
         self.component_ends[self.components] = self.filled;
-        self.components_kept = left(self.components_kept, count, self.component_from, self.filled);
+        self.components_kept = left(
+            self.components_kept,
+            count,
+            self.component_from,
+            self.filled,
+        );
         self.component_from = self.filled;
         self.components = count;
         self.size += 1;
@@ -174,7 +179,12 @@ impl FlatSegment {
     {
         let count = self.components + 1;
         self.component_ends[self.components] = self.filled;
-        let components = left(self.components_kept, count, self.component_from, self.filled);
+        let components = left(
+            self.components_kept,
+            count,
+            self.component_from,
+            self.filled,
+        );
         self.component_from = self.filled;
         self.components = components;
         self.components_kept = components;

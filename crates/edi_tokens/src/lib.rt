@@ -21,8 +21,8 @@ pub use edi_base::{
 pub use fault::TokenFault;
 pub use feeder::{Feeder, Refused};
 pub use laws::{
-    canonical_text_spells_again, lent_segments_are_spelled, reading_is_the_grammar, text_spells_one_list,
-    text_spells_or_shows_a_fault,
+    canonical_text_spells_again, lent_segments_are_spelled, reading_is_the_grammar,
+    text_spells_one_list, text_spells_or_shows_a_fault,
 };
 pub use reading::{TEXT_LIMIT, read_all};
 pub use segment::{Elements, Segment, Service, Tokens};

@@ -88,7 +88,11 @@ impl Piece {
     }
 
     /// Reads once, and at most so many bytes, in place of those before.
-    pub(crate) fn fill<R: Source>(&mut self, reader: &mut R, room: usize) -> Result<usize, ReadFailed>
+    pub(crate) fn fill<R: Source>(
+        &mut self,
+        reader: &mut R,
+        room: usize,
+    ) -> Result<usize, ReadFailed>
         ensures bytes { Fills (R.remaining reader.old) (R.remaining reader.new) result self.new room }
         ensures flag { R.failed reader.new ≡ (R.failed reader.old || is_err result) }
     {
