@@ -52,7 +52,8 @@ fuzz: edihub
 
 bench: edihub
 	rustc --edition 2021 -O -o crates/edihub/out/plain bench/plain.rs
-	python3 bench/run.py ./edihub crates/edihub/out/plain
+	rustc --edition 2021 -O -o crates/edihub/out/flat bench/flat.rs
+	python3 bench/run.py ./edihub crates/edihub/out/plain crates/edihub/out/flat
 	python3 bench/store.py
 	mkdir -p crates/hub_script/out
 	cd crates/hub_script && rt run < stdin > out/printed

@@ -4,18 +4,18 @@
 use std::collections::HashSet;
 use std::io::{Read, Write};
 
-const TEXT_LIMIT: usize = 1_048_576;
-const SEGMENT_LIMIT: usize = 8_192;
+pub const TEXT_LIMIT: usize = 1_048_576;
+pub const SEGMENT_LIMIT: usize = 8_192;
 
 pub type Fault = &'static str;
 
 #[derive(Clone, Copy)]
 pub struct Service {
-    component: u8,
-    element: u8,
+    pub component: u8,
+    pub element: u8,
     pub decimal: u8,
-    release: Option<u8>,
-    terminator: u8,
+    pub release: Option<u8>,
+    pub terminator: u8,
 }
 
 pub struct Segment {
@@ -23,13 +23,13 @@ pub struct Segment {
     pub elements: Vec<Vec<Vec<u8>>>,
 }
 
-const USUAL: Service = Service { component: b':', element: b'+', decimal: b'.', release: Some(b'?'), terminator: b'\'' };
+pub const USUAL: Service = Service { component: b':', element: b'+', decimal: b'.', release: Some(b'?'), terminator: b'\'' };
 
 fn is_mark(b: u8) -> bool {
     (0x21..=0x7E).contains(&b) && !b.is_ascii_alphanumeric()
 }
 
-fn service_of(six: &[u8]) -> Option<Service> {
+pub fn service_of(six: &[u8]) -> Option<Service> {
     let [component, element, decimal, release, reserved, terminator] = *six else { return None };
     let release = (release != b' ').then_some(release);
     let marks = [Some(component), Some(element), release, Some(terminator)];
@@ -44,7 +44,7 @@ fn service_of(six: &[u8]) -> Option<Service> {
 }
 
 #[derive(Clone, Copy, PartialEq)]
-enum Class {
+pub enum Class {
     Data,
     Component,
     Element,
@@ -53,7 +53,7 @@ enum Class {
     Bad,
 }
 
-fn classes(s: &Service) -> [Class; 256] {
+pub fn classes(s: &Service) -> [Class; 256] {
     let mut table = [Class::Bad; 256];
     for b in (0x20..=0x7E).chain(0xA0..=0xFF) {
         table[b] = Class::Data;
@@ -67,7 +67,7 @@ fn classes(s: &Service) -> [Class; 256] {
     table
 }
 
-fn is_tag_byte(b: u8) -> bool {
+pub fn is_tag_byte(b: u8) -> bool {
     b.is_ascii_uppercase() || b.is_ascii_digit()
 }
 
@@ -195,15 +195,15 @@ impl Segment {
     }
 }
 
-fn is_reference(b: &[u8]) -> bool {
+pub fn is_reference(b: &[u8]) -> bool {
     (1..=14).contains(&b.len()) && b.iter().all(|b| (0x20..=0x7E).contains(b))
 }
 
-fn count_of(b: &[u8]) -> Option<usize> {
+pub fn count_of(b: &[u8]) -> Option<usize> {
     ((1..=6).contains(&b.len()) && b.iter().all(u8::is_ascii_digit)).then(|| b.iter().fold(0, |n, d| 10 * n + (d - b'0') as usize))
 }
 
-fn is_part(b: &[u8], low: usize, high: usize) -> bool {
+pub fn is_part(b: &[u8], low: usize, high: usize) -> bool {
     (low..=high).contains(&b.len()) && b.iter().all(|&b| b <= 0x7E)
 }
 
@@ -317,7 +317,7 @@ pub fn open(segments: Vec<Segment>) -> Result<Vec<Message>, Fault> {
     if lowest < 99 { Err(NAMES[lowest as usize - 11]) } else { Ok(messages) }
 }
 
-fn clock(moment: u64) -> (String, String) {
+pub fn clock(moment: u64) -> (String, String) {
     let (mut days, seconds) = (moment / 86_400, moment % 86_400);
     let leap = |y: u64| y % 4 == 0 && (y % 100 != 0 || y % 400 == 0);
     let mut year = 1970;
@@ -365,7 +365,7 @@ fn wrap(hub: &[u8], owner: &[u8], moment: u64, number: u64, message: &Message) -
     segments
 }
 
-fn write_component(out: &mut Vec<u8>, component: &[u8]) {
+pub fn write_component(out: &mut Vec<u8>, component: &[u8]) {
     let mut rest = component;
     while let Some(at) = rest.iter().position(|b| matches!(b, b':' | b'+' | b'\'' | b'?')) {
         out.extend_from_slice(&rest[..at]);

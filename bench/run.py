@@ -1,6 +1,6 @@
-"""Relays the loads of loads.py with the proved program and with plain.rs, one after the other, and prints
-ratios of instructions (where valgrind is there), of time and of peak memory, and the growth from 1/16 of the
-size to the whole. Then checks a register of 1,000 suppliers beside one of one. A peak below this script's own,
+"""Relays the loads of loads.py with the proved program, with plain.rs, which keeps all segments, and with flat.rs, which
+keeps one, one after the other, and prints ratios of instructions (where valgrind is there), of time and of peak memory, and
+the growth from 1/16 of the size to the whole. Then checks a register of 1,000 suppliers beside one of one. A peak below this script's own,
 from which each run is forked, shows as the script's. Where a bound is passed, it says so and ends with status 1."""
 import os
 import re
@@ -59,20 +59,20 @@ def measure(programs, text):
             times[program].append(seconds)
             memory[program] = max(peak, memory.get(program, 0))
     if len({*outputs.values()}) > 1:
-        sys.exit("the two programs print different texts")
+        sys.exit("the programs print different texts")
     return {it: (min(times[it]), memory[it], instructions(it, text)) for it in programs}
 
 
-def size(ours, plain, name, text, data):
+def size(ours, plain, flat, name, text, data):
     """Prints the ratios of one load in one size. Gives our instructions, and the bounds passed."""
     with open(text, "wb") as it:
         it.write(data)
-    found = measure([ours, plain], text)
-    (seconds, memory, count), (plain_seconds, plain_memory, plain_count) = found[ours], found[plain]
-    line = f"{name}, {len(data):>9,} bytes: time {seconds / plain_seconds:.2f}, memory {memory / 1024:.1f} MiB of {plain_memory / 1024:.1f}"
+    found = measure([ours, plain, flat], text)
+    (seconds, memory, count), (plain_seconds, plain_memory, plain_count), (flat_seconds, flat_memory, flat_count) = (found[it] for it in (ours, plain, flat))
+    line = f"{name}, {len(data):>9,} bytes: time {seconds / plain_seconds:.2f} of the plain program's and {seconds / flat_seconds:.2f} of the flat one's, memory {memory / 1024:.1f} MiB of {plain_memory / 1024:.1f} and {flat_memory / 1024:.1f}"
     passed = []
-    if count and plain_count:
-        line += f", instructions {count / plain_count:.2f} ({count / len(data):.0f} a byte, {plain_count / len(data):.0f} in the plain program)"
+    if count and plain_count and flat_count:
+        line += f", instructions {count / plain_count:.2f} and {count / flat_count:.2f} ({count / len(data):.0f} a byte, {plain_count / len(data):.0f} in the plain program, {flat_count / len(data):.0f} in the flat one)"
         if count > MOST_INSTRUCTIONS * plain_count:
             passed.append(f"{name}: more than {MOST_INSTRUCTIONS} times the instructions of the plain program")
     if name == next(iter(loads.LOADS)) and memory * 1024 > MOST_MEMORY * 10**6:
@@ -112,13 +112,13 @@ def check(ours, folder):
     return passed
 
 
-def main(ours, plain):
+def main(ours, plain, flat):
     passed = []
     with tempfile.TemporaryDirectory() as room:
         text = os.path.join(room, "load.edi")
         for name, make in loads.LOADS.items():
-            small, few = size(ours, plain, name, text, make(loads.LIMIT // 16))
-            whole, more = size(ours, plain, name, text, make(loads.LIMIT))
+            small, few = size(ours, plain, flat, name, text, make(loads.LIMIT // 16))
+            whole, more = size(ours, plain, flat, name, text, make(loads.LIMIT))
             passed += few + more
             if small and whole:
                 print(f"{name}: 16 times the size, {whole / small:.1f} times the instructions", flush=True)
@@ -131,4 +131,4 @@ def main(ours, plain):
 
 
 if __name__ == "__main__":
-    sys.exit(main(*sys.argv[1:3]))
+    sys.exit(main(*sys.argv[1:4]))

@@ -22,6 +22,8 @@ LINES = (10, 1_000, 100_000)
 MOST, MOST_GROWTH, MOST_SYNCS = 2, 1.3, 4
 # lines that make a file of about 10 MB and one of about 50
 OPENED = (45_000, 225_000)
+# pages of the program's own code and of the file that come into memory as they are first used, in MB
+PAGES = 2
 MOST_NUMBER = 99_999_999_999_999
 SHIM = os.path.join(os.path.dirname(os.path.abspath(__file__)), "..", "tests", "stop.c")
 
@@ -148,22 +150,44 @@ def opening(program, folder, top):
     print(f"opening a file of {size / 1e6:.0f} MB: {1000 * time:.0f} ms of processor time, {memory:.0f} MB of memory", flush=True)
 
 
-def imported(edihub, plain, folder, plain_folder, lines, top):
-    """An import of 999 orders, in one file and in as many, beside the plain program's uploads of the same."""
-    words = ["--register", "register.toml", "--db", "hub.db", "--as", RETAILER, "--key", "retail-key"]
+def importing(edihub, folder, uploads, top):
+    """A copy of the folder with these uploads as files to import, and the words that import them."""
+    into = copied(folder, top)
+    os.mkdir(os.path.join(into, "in"))
+    with open(os.path.join(into, "register.toml"), "w", encoding="ascii") as file:
+        file.write(TWO_SUPPLIERS)
+    for k, text in enumerate(uploads):
+        with open(os.path.join(into, "in", f"{k:03}.edi"), "w", encoding="ascii") as file:
+            file.write(text)
+    words = ["--register", "register.toml", "--db", "hub.db", "--as", RETAILER, "--key", "retail-key", "--folder", "in"]
+    return into, [edihub, "import", *words]
+
+
+def import_syncs(edihub, folder, uploads, top, shim):
+    into, words = importing(edihub, folder, uploads, top)
+    count = os.path.join(into, "count")
+    timed(words, into, LD_PRELOAD=shim, STOP_FILE=os.path.join(into, "hub.db"), COUNT=count)
+    with open(count, encoding="ascii") as file:
+        return int(file.read().split()[1])
+
+
+def imported(edihub, plain, folder, plain_folder, lines, top, shim):
+    """An import of 999 orders, in one file and in as many, beside the plain program's uploads of the same. Whether it is too much."""
+    too_much = False
     for name, load in (("one file", orders_in_one), ("999 files", orders_each)):
-        into = copied(folder, top)
-        files = os.path.join(into, "in")
-        os.mkdir(files)
-        with open(os.path.join(into, "register.toml"), "w", encoding="ascii") as file:
-            file.write(TWO_SUPPLIERS)
         uploads = [orders_text(999, 50_000)] if load is orders_in_one else [orders_text(1, 50_000 + k) for k in range(999)]
-        for k, text in enumerate(uploads):
-            with open(os.path.join(files, f"{k:03}.edi"), "w", encoding="ascii") as file:
-                file.write(text)
-        time, memory, most, _ = since_first([edihub, "import", *words, "--folder", "in"], into)
-        plain_time, _ = cost(plain, plain_folder, load(lines), top)
-        print(f"an import of 999 orders in {name}, among {lines:,}: processor time {time / plain_time:.2f} of the plain program's, {most:.0f} MB of memory, {memory:.0f} of them for the open file", flush=True)
+        runs = []
+        for _ in range(ROUNDS):
+            into, words = importing(edihub, folder, uploads, top)
+            runs.append(since_first(words, into)[:3])
+            shutil.rmtree(into)
+        time, before, most = min(runs)
+        ratio = time / cost(plain, plain_folder, load(lines), top)[0]
+        each = (import_syncs(edihub, folder, uploads, top, shim) - import_syncs(edihub, folder, [], top, shim)) / 999
+        largest = max(map(len, uploads)) / 1e6
+        print(f"an import of 999 orders in {name}, among {lines:,}: processor time {ratio:.2f} of the plain program's, {each:.1f} syncs an order, {most:.1f} MB of memory, {before:.1f} of them for the open file, the largest file read {largest:.2f} MB", flush=True)
+        too_much |= ratio > MOST or each > MOST_SYNCS or most - before > 2 * largest + PAGES
+    return too_much
 
 
 def main(ours, plain, edihub):
@@ -187,7 +211,7 @@ def main(ours, plain, edihub):
                 each = (syncs(ours, folders[0], play.script, top, shim) - syncs(ours, folders[0], opened().script, top, shim)) / count
                 print(f"{name}, among {lines:,}: processor time {ratio:.2f} of the plain program's ({1e6 * time / count:.0f} of {1e6 * plain_time / count:.0f} microseconds), {each:.1f} syncs", flush=True)
                 too_much |= ratio > MOST or each > MOST_SYNCS
-            imported(edihub, plain, *folders, lines, top)
+            too_much |= imported(edihub, plain, *folders, lines, top, shim)
         for lines in OPENED:
             folder = tempfile.mkdtemp(dir=top)
             run(ours, base(lines), folder)

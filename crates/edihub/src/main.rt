@@ -9,7 +9,7 @@ use clap::Error;
 use edi_tokens::{OfRead, OfWrite};
 use hub::over_a_hub;
 use hub_app::{
-    FAILED, Words, WordsFault, check_run, read_register_text, read_words, relay_run, show_run,
+    FAILED, Words, WordsFault, check_run, read_register_text, relay_run, show_run, words,
 };
 use serve::serve_a_hub;
 use std::fmt::Display;
@@ -51,8 +51,8 @@ fn check(rt: &HostRuntime, path: &str) -> u8 {
 }
 
 // Runs the command that the words name.
-fn run(rt: &HostRuntime, words: &[String]) -> u8 {
-    match read_words(rt.alloc(), words) {
+fn run(rt: &HostRuntime, given: &[String]) -> u8 {
+    match words(rt.alloc(), given) {
         Ok(Words::Check(words)) => check(rt, words.register),
         Ok(Words::Relay(relay)) => relay_run(
             rt.alloc(),
