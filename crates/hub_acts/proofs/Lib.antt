@@ -6,5 +6,3 @@ pub mod LookUps
 pub mod Named
 pub mod Reading
 pub mod Reports
-pub mod Rise
-pub mod Unclean

@@ -8,11 +8,11 @@ use Rattle.hub_tables.specs.State.{lines_of, last_mail}
 use Rattle.hub_tables.specs.Tables.{Tables}
 use Rattle.hub_tables.specs.declared.rows.MailRow.{MailRow}
 use Rattle.hub_tables.proofs.Lists.{decide, all_filter}
+use Rattle.hub_lines.specs.Book.{facts_of, rows}
+use Rattle.hub_lines.specs.KnownLines.{AddsUp}
 use Rattle.hub_lines.specs.declared.facts.LineFacts.{LineFacts}
 use Rattle.hub_rules.specs.Sound.{Balanced, Kept, Numbered}
-use Rattle.hub_judges.specs.Known.{rows, TellsLines, TellsDespatched}
-use Rattle.hub_lines.specs.Book.{facts_of, IsCovered}
-use Rattle.hub_acts.specs.Facts.{AddsUp}
+use Rattle.hub_judges.specs.Known.{TellsLines, TellsDespatched}
 
 -- The number of the last entry is how many there are.
 abbrev number_of : Option MailRow → ℕ
@@ -71,8 +71,3 @@ pub despatched_known : (state : Tables) (order : List ℕ) (facts : List LineFac
 despatched_known state order facts kept e adds =
     all_despatched state facts adds (subst (AllByRecursion (Balanced state)) (sym e)
     (all_filter (Balanced state) (λ line. same line.number order) state.lines kept.balanced))
-
--- What adds up is covered.
-pub covered_if_adds : (facts : List LineFacts) → AllByRecursion AddsUp facts → AllByRecursion IsCovered facts
-covered_if_adds [] adds = tt
-covered_if_adds (line ∷ lines) adds = (omega (arith, adds.0), covered_if_adds lines adds.1)

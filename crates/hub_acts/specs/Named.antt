@@ -9,8 +9,8 @@ use Rattle.hub_tables.specs.Keys.{bytes_cmp}
 use Rattle.hub_tables.specs.Sets.{Rises}
 use Rattle.hub_tables.specs.State.{lines_of}
 use Rattle.hub_tables.specs.Tables.{Tables}
+use Rattle.hub_lines.specs.KnownLines.{AreUnclean}
 use Rattle.hub_judges.specs.Known.{names_order}
-use Rattle.hub_acts.specs.Facts.{AreUnclean}
 
 -- by the bytes of their numbers
 abbrev pub by_number : Bor (List ℕ) → Bor (List ℕ) → Ordering

@@ -5,8 +5,8 @@ use Rattle.hub_tables.specs.State.{contents_of, receipts_of}
 use Rattle.hub_tables.specs.Tables.{Tables}
 use Rattle.hub_tables.specs.declared.rows.LineRow.{LineRow}
 use Rattle.hub_tables.specs.declared.rows.PalletRow.{PalletRow}
+use Rattle.hub_lines.specs.KnownLines.{steps_up}
 use Rattle.hub_texts.specs.Totals.{IsUnclean}
-use Rattle.hub_acts.specs.Facts.{steps_up}
 
 -- a content of one of the pallets names no line, or a sum of its pieces is past 64 bits
 pub record PalletUnclean (state : Tables) (lines : List LineRow) (pallets : List PalletRow) : Type 0 where

@@ -2,17 +2,15 @@
 ghost use Rattle.std.specs.Prelude.{◌≡◌, ◌≢◌, true, None, Err, ◌∷◌, ◌++◌, [], List, map, filter, length, if◌then◌else◌, IfOk, OnOk};
 ghost use Rattle.std.specs.List.{flat_map};
 ghost use Rattle.hub_tables.specs.State.{knows_order, lines_of};
-ghost use Rattle.hub_tables.specs.Sets.{Rises};
 ghost use Rattle.hub_tables.specs.Tables.{view, has_pallet};
 ghost use Rattle.hub_store.specs.Clean.{are_clean};
 ghost use Rattle.hub_store.specs.declared.fault.StoreFault.TheVariants.{Unclean};
-ghost use Rattle.hub_lines.specs.Book.{facts_cmp};
 ghost use Rattle.hub_rules.specs.Sound.{Kept};
 ghost use Rattle.hub_judges.specs.Known.{TellsForDespatch};
 ghost use Rattle.hub_acts.specs.Acts.{Stays};
 ghost use Rattle.hub_acts.specs.Named.{NamedUnclean};
 
-use crate::facts::facts_of;
+use crate::knowing::lines_of_rows;
 use crate::naming::orders_named;
 use edi_base::{Items, MemoryFault, copied};
 use edi_goods::{Despatch, Unit};
@@ -118,7 +116,6 @@ pub(crate) fn known_for_despatch<S: Store>(
     ensures told { S.honest store.new → Kept (view supplier.now (S.content store.old)) →
         IfOk result (λ known. TellsForDespatch known (has_pallet (S.content store.old)) incoming.now despatch.now
         (view supplier.now (S.content store.old))) }
-    ensures rise { IfOk result (λ known. Rises facts_cmp known.lines) }
     ensures each { IfOk result (λ known. length known.used ≡ length despatch.now.units) }
     ensures unclean { S.honest store.new → S.broken store.old ≡ None → are_clean (S.content store.old) ≡ true →
         result ≡ Err Unclean → NamedUnclean despatch.now.units (view supplier.now (S.content store.old)) }
@@ -133,13 +130,13 @@ pub(crate) fn known_for_despatch<S: Store>(
     let used = used_of(alloc, store, units)?;
     let named = orders_named(alloc, units)?;
     let mut orders = Items::new(alloc);
-    let mut lines = Items::new(alloc);
-    put_known(alloc, store, supplier, &named, &mut orders, &mut lines)?;
-    let facts = facts_of(alloc, lines)?;
+    let mut rows = Items::new(alloc);
+    put_known(alloc, store, supplier, &named, &mut orders, &mut rows)?;
+    let lines = lines_of_rows(alloc, rows)?;
     Ok(Known {
         remembered,
         orders,
-        lines: facts,
+        lines,
         number_known,
         mails: 0,
         used,

@@ -3,25 +3,24 @@ ghost use Rattle.std.specs.Prelude.{◌≡◌, ◌≢◌, [], ◌∷◌, ◌++�
 ghost use Rattle.std.specs.List.{AllByRecursion};
 ghost use Rattle.edi_base.specs.Seen.{is_among};
 ghost use Rattle.hub_tables.specs.State.{lines_of, pallet_of};
-ghost use Rattle.hub_tables.specs.Sets.{Rises};
 ghost use Rattle.hub_tables.specs.Tables.{view};
 ghost use Rattle.hub_store.specs.Clean.{are_clean};
 ghost use Rattle.hub_store.specs.declared.fault.StoreFault.TheVariants.{Unclean};
-ghost use Rattle.hub_lines.specs.Book.{facts_cmp, IsCovered};
+ghost use Rattle.hub_lines.specs.Book.{rows};
+ghost use Rattle.hub_lines.specs.KnownLines.{AddsUp, AreUnclean};
 ghost use Rattle.hub_rules.specs.Sound.{Kept};
 ghost use Rattle.hub_judges.specs.Known.{TellsDespatched, TellsForCancel, TellsForOrder, TellsForReceipt, TellsForResponse, TellsLines};
 ghost use Rattle.hub_judges.specs.Known.{TellsOrder};
 ghost use Rattle.hub_acts.specs.Acts.{Stays};
-ghost use Rattle.hub_acts.specs.Facts.{AreUnclean};
 
-use crate::facts::facts_of;
 use edi_base::{Items, MemoryFault, copied};
 use edi_goods::{Receipt, ReceiptUnit};
 use edi_orders::{Order, Response};
 use gs1_ids::Gln;
 use hub_judges::{Cancel, IncomingMessage, Known};
+use hub_lines::KnownLines;
 use hub_store::{Store, StoreFault};
-use hub_tables::{PalletRow, Side};
+use hub_tables::{LineRow, PalletRow, Side};
 use std::alloc::Global;
 
 /// What is known for an ORDERS, by three look-ups.
@@ -47,7 +46,7 @@ pub(crate) fn known_for_order<S: Store>(
     Ok(Known {
         remembered,
         orders: Items::new(alloc),
-        lines: Items::new(alloc),
+        lines: KnownLines::new(alloc),
         number_known,
         mails,
         used: Items::new(alloc),
@@ -70,6 +69,18 @@ fn order_if_there(
     Ok(orders)
 }
 
+/// The lines of which these are the rows. Where the rows do not pass there are none: `Unclean`.
+pub(crate) fn lines_of_rows(alloc: Global, given: Items<LineRow>) -> Result<KnownLines, StoreFault>
+    ensures rows { IfOk result (λ lines. rows lines ≡ given) }
+    ensures adds_up { IfOk result (AllByRecursion AddsUp) }
+    ensures unclean { result ≡ Err Unclean → AreUnclean given }
+{
+    match KnownLines::of_rows(alloc, given)? {
+        Some(lines) => Ok(lines),
+        None => Err(StoreFault::Unclean),
+    }
+}
+
 // What is known of an order and its lines, by two look-ups, beside what is remembered. Where lines do not rise by line
 // number, or more of one is open, refused and cancelled than is ordered, it is unknown: `Unclean`.
 fn known_of_order<S: Store>(
@@ -85,20 +96,18 @@ fn known_of_order<S: Store>(
         × (Kept (view supplier.now (S.content store.old)) →
         TellsDespatched (view supplier.now (S.content store.old)) known.lines)) }
     ensures remembered { IfOk result (λ known. known.remembered ≡ remembered) }
-    ensures rise { IfOk result (λ known. Rises facts_cmp known.lines) }
     ensures unclean { S.honest store.new → S.broken store.old ≡ None → are_clean (S.content store.old) ≡ true →
         result ≡ Err Unclean → AreUnclean (lines_of (view supplier.now (S.content store.old)) order.now) }
-    ensures covered { IfOk result (λ known. AllByRecursion IsCovered known.lines) }
     ensures stays { Stays S.content S.honest S.left store.old store.new }
 {
     let is_there = store.order_known(supplier, order)?;
-    let lines = store.lines_of(supplier, order)?;
+    let rows = store.lines_of(supplier, order)?;
     let orders = order_if_there(alloc, order, is_there)?;
-    let facts = facts_of(alloc, lines)?;
+    let lines = lines_of_rows(alloc, rows)?;
     Ok(Known {
         remembered,
         orders,
-        lines: facts,
+        lines,
         number_known: false,
         mails: 0,
         used: Items::new(alloc),
@@ -118,10 +127,8 @@ pub(crate) fn known_for_response<S: Store>(
     ensures told { S.honest store.new → Kept (view supplier.now (S.content store.old)) →
         IfOk result (λ known. TellsForResponse known incoming.now response.now
         (view supplier.now (S.content store.old))) }
-    ensures rise { IfOk result (λ known. Rises facts_cmp known.lines) }
     ensures unclean { S.honest store.new → S.broken store.old ≡ None → are_clean (S.content store.old) ≡ true →
         result ≡ Err Unclean → AreUnclean (lines_of (view supplier.now (S.content store.old)) response.now.order) }
-    ensures covered { IfOk result (λ known. AllByRecursion IsCovered known.lines) }
     ensures stays { Stays S.content S.honest S.left store.old store.new }
 {
     let order = response.order.as_slice();
@@ -140,7 +147,6 @@ pub(crate) fn known_for_cancel<S: Store>(
 ) -> Result<Known, StoreFault>
     ensures told { S.honest store.new →
         IfOk result (λ known. TellsForCancel known cancel.now (view cancel.now.supplier (S.content store.old))) }
-    ensures covered { IfOk result (λ known. AllByRecursion IsCovered known.lines) }
     ensures unclean { S.honest store.new → S.broken store.old ≡ None → are_clean (S.content store.old) ≡ true →
         result ≡ Err Unclean →
         AreUnclean (lines_of (view cancel.now.supplier (S.content store.old)) cancel.now.order) }
@@ -212,7 +218,7 @@ pub(crate) fn known_for_receipt<S: Store>(
     Ok(Known {
         remembered,
         orders: Items::new(alloc),
-        lines: Items::new(alloc),
+        lines: KnownLines::new(alloc),
         number_known: false,
         mails,
         used: Items::new(alloc),

@@ -5,7 +5,6 @@
 mod cancel;
 mod carrying;
 mod despatches;
-mod facts;
 mod incoming;
 mod judged;
 mod knowing;

@@ -7,18 +7,18 @@ ghost use Rattle.hub_tables.specs.Tables.{Tables, view};
 ghost use Rattle.hub_store.specs.Clean.{are_clean};
 ghost use Rattle.hub_store.specs.declared.fault.StoreFault.TheVariants.{Unclean};
 ghost use Rattle.hub_rules.specs.Sound.{Kept};
+ghost use Rattle.hub_lines.specs.Book.{place_cmp};
 ghost use Rattle.hub_law.specs.Replies.{done};
 ghost use Rattle.hub_law.specs.StatusText.{pallet_text, status_text};
-ghost use Rattle.hub_texts.specs.Articles.{place_cmp};
 ghost use Rattle.hub_texts.specs.Totals.{IsUnclean};
 ghost use Rattle.hub_acts.specs.Acts.{Stays};
 ghost use Rattle.hub_acts.specs.Status.{PalletUnclean, StatusUnclean};
 
-use crate::facts::rise;
 use crate::mailbox::done_reply;
 use edi_base::Items;
 use gs1_ids::Gln;
 use hub_law::Reply;
+use hub_lines::rise;
 use hub_store::{Store, StoreFault};
 use hub_tables::{ContentRow, LineRow, PalletRow, ReceiptRow};
 use hub_texts::{TextFault, put_lines, put_pallet};
@@ -75,7 +75,6 @@ fn put_pallets<S: Store>(
 
 /// The status report of a supplier: its lines, then its pallets, by two look-ups and two for each pallet. Where rows do
 /// not rise by order number and line number, or a content names no line, there is none: `Unclean`.
-#[tactic(auto, using(crate::proofs::Rise::rise_if_steps))]
 pub fn status_report<S: Store>(
     alloc: Global,
     store: &mut S,

@@ -16,7 +16,7 @@ use Rattle.hub_tables.specs.Tables.{Tables}
 use Rattle.hub_tables.specs.declared.change.Change.{Change}
 use Rattle.hub_tables.specs.declared.change.Change.TheVariants.{SetLine}
 use Rattle.hub_tables.specs.declared.rows.LineRow.{LineRow}
-use Rattle.hub_lines.specs.Book.{facts_of, facts_among, with_row, answered_row, IsCovered}
+use Rattle.hub_lines.specs.Book.{facts_of, facts_among, rows, with_row, answered_row, IsCovered}
 use Rattle.hub_lines.specs.declared.facts.LineFacts.{LineFacts}
 use Rattle.hub_rules.specs.Judging.{refuse_if, given, joined, goes_on, in_order}
 use Rattle.hub_rules.specs.ResponseRules.{answered, is_out_of_range, is_empty, judge_answer, judge_all, judge_answers, judge_new_response}
@@ -24,7 +24,7 @@ use Rattle.hub_rules.specs.declared.code.Code.TheVariants.{NoOrder, NoLine, NotW
 use Rattle.hub_rules.specs.declared.verdict.Verdict.{Verdict}
 use Rattle.hub_rules.specs.declared.verdict.Verdict.TheVariants.{Accept, Refuse}
 use Rattle.hub_judges.specs.FromFacts.{answer_checks, after_answer, answers_from, all_from, said_from, response_from}
-use Rattle.hub_judges.specs.Known.{rows, TellsLines, TellsDespatched, TellsOrder}
+use Rattle.hub_judges.specs.Known.{TellsLines, TellsDespatched, TellsOrder}
 use Rattle.hub_judges.specs.declared.known.Known.{Known}
 use Rattle.hub_judges.proofs.Facts.{line_told, looked_up, lines_told_after, despatched_told_after}
 

@@ -1,9 +1,10 @@
 -- The lines that a supplier sees of sound tables are what judges ask for.
-use Rattle.std.proofs.Common.{◌≡◌, ℕ, Bool, List, [], ◌∷◌, filter, sym, ◌∙◌, ap, arith}
-use Rattle.std.specs.List.{AllByRecursion}
+use Rattle.std.proofs.Common.{◌≡◌, ℕ, ◌+◌, Bool, true, ◌&&◌, List, [], ◌∷◌, filter, Some, None, refl, sym, ◌∙◌, ap, ap₂, arith}
+use Rattle.std.specs.List.{AllByRecursion, list_all}
 use Rattle.std.specs.declared.cmp.Ordering.{Ordering}
 use Rattle.std.specs.declared.cmp.Ordering.TheVariants.{Less, Equal}
-use Rattle.std.specs.Ordering.{nat_cmp, ordering_then}
+use Rattle.std.specs.Ordering.{nat_cmp, ordering_then, is_lt}
+use Rattle.std.proofs.lemmas.Bool.{le-leb}
 use Rattle.std.proofs.lemmas.Cmp.{tied_itself, nat_list_cmp_total}
 use Rattle.hub_parties.specs.declared.row.SupplierRow.{SupplierRow}
 use Rattle.hub_tables.specs.Keys.{bytes_cmp}
@@ -13,6 +14,7 @@ use Rattle.hub_tables.specs.Tables.{Tables, view}
 use Rattle.hub_tables.specs.declared.rows.LineRow.{LineRow}
 use Rattle.hub_tables.proofs.Lists.{all_filter}
 use Rattle.hub_lines.specs.Book.{facts_cmp, IsCovered}
+use Rattle.hub_lines.specs.KnownLines.{is_covered, steps_up}
 use Rattle.hub_rules.specs.Sound.{Balanced, Sound}
 use Rattle.hub_rules.proofs.OwnChanges.{good_view}
 use Rattle.hub_rules.proofs.Rising.{rises_filter, view_rises}
@@ -42,6 +44,22 @@ module _ (state : Tables) where
   facts_rise gln [] owns rises = tt
   facts_rise gln (row ∷ rows) owns rises = (all_below gln row rows owns.0 owns.1 rises.0, facts_rise gln rows owns.1 rises.1)
 
+  -- their rows pass
+  step_up_after : (row : LineRow) (rows : List LineRow)
+      → Rises facts_cmp (facts_in state (row ∷ rows))
+      → steps_up (Some row) rows ≡ true
+  step_up_after row [] rises = refl
+  step_up_after row (later ∷ rows) rises = ap₂ (λ o v. is_lt o && v) rises.0.0 (step_up_after later rows rises.1)
+
+  step_up : (rows : List LineRow) → Rises facts_cmp (facts_in state rows) → steps_up None rows ≡ true
+  step_up [] rises = refl
+  step_up (row ∷ rows) rises = step_up_after row rows rises
+
+  rows_covered : (rows : List LineRow) → AllByRecursion IsCovered (facts_in state rows) → list_all is_covered rows ≡ true
+  rows_covered [] all = refl
+  rows_covered (row ∷ rows) all =
+      ap₂ (λ a b. a && b) (le-leb (row.open_qty + row.refused + row.cancelled) row.ordered all.0) (rows_covered rows all.1)
+
   facts_covered : (rows : List LineRow) → AllByRecursion (Balanced state) rows → AllByRecursion IsCovered (facts_in state rows)
   facts_covered [] all = tt
   facts_covered (row ∷ rows) all = (omega (arith, all.0), facts_covered rows all.1)
@@ -59,3 +77,9 @@ module _ (suppliers : List SupplierRow) (gln : List ℕ) (t : Tables) (test : Li
   seen_covered =
       facts_covered (view gln t) (filter test (view gln t).lines)
       (all_filter (Balanced (view gln t)) test (view gln t).lines (sound.kept gln).balanced)
+
+  pub seen_step_up : steps_up None (filter test (view gln t).lines) ≡ true
+  seen_step_up = step_up (view gln t) (filter test (view gln t).lines) seen_rise
+
+  pub seen_rows_covered : list_all is_covered (filter test (view gln t).lines) ≡ true
+  seen_rows_covered = rows_covered (view gln t) (filter test (view gln t).lines) seen_covered

@@ -1,8 +1,6 @@
 //! The rules of cancellations.
 ghost use Rattle.std.specs.Prelude.{◌≡◌, IfOk, option_copied};
-ghost use Rattle.std.specs.List.{AllByRecursion};
 ghost use Rattle.hub_tables.specs.Tables.{Tables};
-ghost use Rattle.hub_lines.specs.Book.{IsCovered};
 ghost use Rattle.hub_rules.specs.Rules as rules;
 ghost use Rattle.hub_judges.specs.FromFacts.{of_line, cancelled_from};
 ghost use Rattle.hub_judges.specs.Known.{TellsForCancel};
@@ -23,7 +21,6 @@ fn cancelled_line(
     known: &Known,
     cancel: &Cancel,
 ) -> Result<Result<LineRow, Code>, MemoryFault>
-    requires { AllByRecursion IsCovered known.now.lines }
     ensures { IfOk result (λ line. of_line line ≡ cancelled_from cancel.now known.now) }
 {
     let order = cancel.order.as_slice();
@@ -43,8 +40,7 @@ fn cancelled_line(
     Ok(Ok(after))
 }
 
-/// What comes of a cancellation: B02, B03, B05, B06 and B17 are asked in this order. Asks that of each line no more is open,
-/// refused and cancelled than is ordered. `MemoryFault` where memory ran out.
+/// What comes of a cancellation: B02, B03, B05, B06 and B17 are asked in this order. `MemoryFault` where memory ran out.
 #[tactic(auto, using(crate::proofs::Cancelled::cancel_alike))]
 pub fn judge_cancel(
     alloc: Global,
@@ -53,7 +49,6 @@ pub fn judge_cancel(
     content: Items<u8>,
     cancel: &Cancel,
 ) -> Result<Verdict, MemoryFault>
-    requires { AllByRecursion IsCovered known.now.lines }
     ensures { IfOk result (λ verdict. (state : Tables) → TellsForCancel known.now cancel.now state →
         verdict ≡ rules.judge_cancel (option_copied supplier.entry) content cancel.now state) }
 {

@@ -3,11 +3,9 @@ ghost use Rattle.std.specs.Prelude.{◌≡◌, ◌≤◌, ℕ, Bool, List, [], �
 ghost use Rattle.std.specs.Option.{IfSome, IfNone};
 ghost use Rattle.edi_base.specs.Seen.{has_twice};
 ghost use Rattle.gs1_ids.specs.Sscc.{under_some};
-ghost use Rattle.hub_tables.specs.Sets.{Rises};
 ghost use Rattle.hub_tables.specs.Tables.{Tables};
 ghost use Rattle.hub_tables.specs.declared.cases.Side.TheVariants.{Supplier};
 ghost use Rattle.hub_tables.specs.declared.change.Change.TheVariants.{Remember};
-ghost use Rattle.hub_lines.specs.Book.{facts_cmp};
 ghost use Rattle.hub_lines.specs.declared.facts.LineFacts.{LineFacts};
 ghost use Rattle.hub_rules.specs.Judging.{joined};
 ghost use Rattle.hub_rules.specs.RepeatRules.{remembered};
@@ -177,7 +175,6 @@ fn judge_new(
     despatch: &Despatch,
 ) -> Result<Verdict, MemoryFault>
     requires each_unit { length known.used ≡ length despatch.now.units }
-    requires rise { Rises facts_cmp known.lines }
     requires apart { has_twice (map (λ unit. unit.sscc) despatch.now.units) ≡ false }
     requires new { known.number_known ≡ false }
     ensures { IfOk result (λ verdict.
@@ -206,9 +203,8 @@ fn judge_new(
 }
 
 /// What comes of a DESADV: B01, B02, B03 and B13 are asked in this order; then of each unit B11 and B12, and of each of its
-/// lines B05, B06, B09 and B10, on what the earlier lines left. Asks that it is known of each unit whether its SSCC is used, that
-/// the lines that are known rise by order number and line number, and that no SSCC stands in two units. `MemoryFault` where
-/// memory ran out.
+/// lines B05, B06, B09 and B10, on what the earlier lines left. Asks that it is known of each unit whether its SSCC is used, and
+/// that no SSCC stands in two units. `MemoryFault` where memory ran out.
 pub fn judge_despatch(
     alloc: Global,
     retailer: &Gln,
@@ -218,7 +214,6 @@ pub fn judge_despatch(
     despatch: &Despatch,
 ) -> Result<Verdict, MemoryFault>
     requires each_unit { length known.used ≡ length despatch.now.units }
-    requires rise { Rises facts_cmp known.lines }
     requires apart { has_twice (map (λ unit. unit.sscc) despatch.now.units) ≡ false }
     ensures { IfOk result (λ verdict. (used : List ℕ → Bool) (state : Tables) →
         TellsForDespatch known used incoming despatch.now state →

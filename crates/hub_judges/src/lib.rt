@@ -16,7 +16,7 @@ mod totals;
 
 pub use cancel::judge_cancel;
 pub use despatch::judge_despatch;
-pub use hub_lines::LineFacts;
+pub use hub_lines::{KnownLines, LineFacts};
 pub use hub_rules::{Cancel, Code, IncomingMessage, Verdict};
 pub use hub_tables::{
     AdviceRow, Answered, Arrival, Case, Change, Column, ContentRow, LineRow, MailKind, MailRow,

@@ -3,8 +3,7 @@ ghost use Rattle.std.specs.Prelude.{◌≡◌, ℕ, false, IfOk, option_copied};
 ghost use Rattle.std.specs.List.{AllByRecursion};
 ghost use Rattle.hub_tables.specs.Tables.{Tables};
 ghost use Rattle.hub_tables.specs.declared.rows.LineRow.{LineRow};
-ghost use Rattle.hub_tables.specs.Sets.{Rises};
-ghost use Rattle.hub_lines.specs.Book.{facts_cmp, IsCovered};
+ghost use Rattle.hub_lines.specs.Book.{IsCovered};
 ghost use Rattle.hub_rules.specs.Judging.{joined};
 ghost use Rattle.hub_rules.specs.ResponseRules.{is_out_of_range};
 ghost use Rattle.hub_rules.specs.Rules as rules;
@@ -51,8 +50,6 @@ fn respond(
     response: &Response,
     changes: Items<Change>,
 ) -> Result<Verdict, MemoryFault>
-    requires rise { Rises facts_cmp known.lines }
-    requires covered { AllByRecursion IsCovered known.lines }
     ensures { IfOk result (λ verdict. verdict ≡ joined changes (response_from response.now known)) }
 {
     let order = response.order.as_slice();
@@ -82,8 +79,7 @@ fn respond(
 }
 
 /// What comes of an ORDRSP: B01, B02, B03 and B05 are asked in this order; then for 27 and 29 B07, and else of each line B06,
-/// B07, B08 and B09, on what the earlier lines left. Asks that the lines that are known rise by order number and line
-/// number, and that of each no more is open, refused and cancelled than is ordered. `MemoryFault` where memory ran out.
+/// B07, B08 and B09, on what the earlier lines left. `MemoryFault` where memory ran out.
 pub fn judge_response(
     alloc: Global,
     retailer: &Gln,
@@ -92,8 +88,6 @@ pub fn judge_response(
     incoming: IncomingMessage,
     response: &Response,
 ) -> Result<Verdict, MemoryFault>
-    requires rise { Rises facts_cmp known.lines }
-    requires covered { AllByRecursion IsCovered known.lines }
     ensures { IfOk result (λ verdict. (state : Tables) → TellsForResponse known incoming response.now state →
         verdict ≡ rules.judge_response retailer.now (option_copied supplier.entry) incoming response.now state) }
 {

@@ -4,4 +4,6 @@ pub mod FirstLine
 pub mod InOrder
 pub mod IndexArticles
 pub mod ArticleLines
+pub mod Passing
+pub mod StepsUp
 pub mod SetLine

@@ -8,9 +8,17 @@ use Rattle.hub_tables.specs.State.{the_only}
 use Rattle.hub_tables.specs.declared.rows.LineRow.{LineRow}
 use Rattle.hub_lines.specs.declared.facts.LineFacts.{LineFacts}
 
+-- rows of lines by order number and line number
+abbrev pub place_cmp : LineRow → LineRow → Ordering
+place_cmp a b = ordering_then (bytes_cmp a.number b.number) (nat_cmp a.line b.line)
+
 -- lines by order number and line number
 abbrev pub facts_cmp : LineFacts → LineFacts → Ordering
-facts_cmp a b = ordering_then (bytes_cmp a.row.number b.row.number) (nat_cmp a.row.line b.row.line)
+facts_cmp a b = place_cmp a.row b.row
+
+-- the rows of lines
+abbrev pub rows : List LineFacts → List LineRow
+rows lines = map (λ line. line.row) lines
 
 -- the lines of an order
 abbrev pub facts_of : List LineFacts → List ℕ → List LineFacts

@@ -1,3 +1,4 @@
 pub mod Book
 pub mod ArticleIndex
 pub mod Key
+pub mod KnownLines

@@ -1,15 +1,16 @@
 //! The lines of the orders that a message names, while it is judged.
 ghost use Rattle.std.specs.Prelude.{◌≡◌, ◌<◌, length, slice_get, IfOk, Some, None};
+ghost use Rattle.std.specs.List.{AllByRecursion};
 ghost use Rattle.std.specs.Option.{IfSome, IfNone};
 ghost use Rattle.hub_tables.specs.Cases.{answer_letter};
-ghost use Rattle.hub_tables.specs.Sets.{Rises};
-ghost use Rattle.hub_lines.specs.Book.{facts_cmp, facts_of, facts_among, with_row, answered_row};
+ghost use Rattle.hub_lines.specs.Book.{facts_of, facts_among, with_row, answered_row, IsCovered};
 ghost use Rattle.hub_lines.specs.declared.facts.LineFacts.{LineFacts};
 
 use crate::by_article::{ArticleIndex, index_articles, place_by_article};
 use crate::by_number::place_by_number;
 use crate::facts::LineFacts;
-use edi_base::{Items, MemoryFault};
+use crate::known_lines::KnownLines;
+use edi_base::MemoryFault;
 use gs1_ids::Gtin;
 use hub_tables::{Answered, Column};
 use std::alloc::Global;
@@ -35,12 +36,12 @@ impl Model for Book {
 }
 
 impl Book {
-    /// The book of lines.
-    pub fn new(alloc: Global, lines: Items<LineFacts>) -> Result<Book, MemoryFault>
-        requires { Rises facts_cmp lines }
-        ensures { IfOk result (λ book. book ≡ lines) }
+    /// The book of lines. Of each no more is open, refused and cancelled than is ordered.
+    pub fn new(alloc: Global, lines: KnownLines) -> Result<Book, MemoryFault>
+        ensures value { IfOk result (λ book. book ≡ lines) }
+        ensures covered { IfOk result (AllByRecursion IsCovered) }
     {
-        let lines = lines.into_vec();
+        let lines = lines.into_items().into_vec();
         let articles = index_articles(alloc, lines.as_slice())?;
         Ok(Book { lines, articles })
     }

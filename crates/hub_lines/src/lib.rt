@@ -6,10 +6,14 @@ mod book;
 mod by_article;
 mod by_number;
 mod facts;
+mod known_lines;
 mod lines;
 mod order_numbers;
+mod rising;
 
 pub use book::Book;
 pub use facts::LineFacts;
+pub use known_lines::KnownLines;
 pub use lines::{copied_row, is_known, line_numbered};
 pub use order_numbers::OrderNumbers;
+pub use rising::rise;

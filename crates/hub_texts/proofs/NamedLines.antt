@@ -14,9 +14,10 @@ use Rattle.hub_tables.specs.Sets.{Rises}
 use Rattle.hub_tables.specs.declared.rows.ContentRow.{ContentRow}
 use Rattle.hub_tables.specs.declared.rows.LineRow.{LineRow}
 use Rattle.hub_tables.proofs.Lists.{all_weaker}
+use Rattle.hub_lines.specs.Book.{place_cmp}
 use Rattle.hub_lines.proofs.ByNumber.{is_eq-nat_cmp, find-filter}
 use Rattle.hub_lines.proofs.InOrder.{first_at, prefix_len-map}
-use Rattle.hub_texts.specs.Articles.{place_cmp, precedes_named, line_named}
+use Rattle.hub_texts.specs.Articles.{precedes_named, line_named}
 
 -- an order number and a line number
 abbrev pub Place : Type 0

@@ -1,17 +1,12 @@
 -- The article that a content of a pallet has: that of the line which it names.
 use Rattle.std.specs.Prelude.{ℕ, Bool, List, [], filter, Option, Some, option_map}
 use Rattle.std.specs.Option.{unwrap_or}
-use Rattle.std.specs.declared.cmp.Ordering.{Ordering}
 use Rattle.std.specs.Ordering.{nat_cmp, ordering_then, is_lt}
 use Rattle.hub_tables.specs.Keys.{bytes_cmp}
 use Rattle.hub_tables.specs.Rows.{same}
 use Rattle.hub_tables.specs.State.{line_among}
 use Rattle.hub_tables.specs.declared.rows.ContentRow.{ContentRow}
 use Rattle.hub_tables.specs.declared.rows.LineRow.{LineRow}
-
--- lines by order number and line number
-abbrev pub place_cmp : LineRow → LineRow → Ordering
-place_cmp a b = ordering_then (bytes_cmp a.number b.number) (nat_cmp a.line b.line)
 
 -- the line stands before the one that a content names
 abbrev pub precedes_named : ContentRow → LineRow → Bool

@@ -3,6 +3,7 @@ ghost use Rattle.std.specs.Prelude.{◌≡◌, ◌==◌, ◌&&◌};
 ghost use Rattle.std.specs.List.{prefix_len};
 ghost use Rattle.hub_tables.specs.Rows.{same};
 ghost use Rattle.hub_tables.specs.Sets.{Rises};
+ghost use Rattle.hub_lines.specs.Book.{place_cmp};
 ghost use Rattle.hub_texts.specs.Articles as spec;
 
 use gs1_ids::Gtin;
@@ -21,7 +22,7 @@ fn precedes_named(row: &LineRow, content: &ContentRow) -> bool
 
 // How many lines stand before the one that a content names.
 fn count_before(lines: &[LineRow], content: &ContentRow) -> usize
-    requires { Rises spec.place_cmp lines.now }
+    requires { Rises place_cmp lines.now }
     ensures { result ≡ prefix_len (spec.precedes_named content.now) lines.now }
 {
     lines.partition_point(|row| precedes_named(row, content))
@@ -36,7 +37,7 @@ fn is_named(row: &LineRow, content: &ContentRow) -> bool
 
 /// The article of the line that a content names.
 pub(crate) fn article_of(lines: &[LineRow], content: &ContentRow) -> Option<Gtin>
-    requires { Rises spec.place_cmp lines.now }
+    requires { Rises place_cmp lines.now }
     ensures { result ≡ spec.article_among lines.now content.now }
 {
     match lines.get(count_before(lines, content)) {

@@ -5,12 +5,12 @@ ghost use Rattle.std.specs.List.{AllByRecursion};
 ghost use Rattle.hub_parties.specs.declared.row.SupplierRow.{SupplierRow};
 ghost use Rattle.hub_tables.specs.Sets.{Rises};
 ghost use Rattle.hub_tables.specs.Tables.{Tables, view};
+ghost use Rattle.hub_lines.specs.Book.{place_cmp};
 ghost use Rattle.hub_rules.specs.Sound.{Balanced, Sound};
 ghost use Rattle.hub_law.specs.CancelText.{cancel_text};
 ghost use Rattle.hub_rules.specs.declared.cancel.Cancel.{Cancel};
 ghost use Rattle.hub_texts.specs.Cancel.{cancel_of};
 ghost use Rattle.hub_texts.specs.CancelLaw.{Says};
-ghost use Rattle.hub_texts.specs.Articles.{place_cmp};
 
 /// A body says a cancellation exactly where it is five lines within their limits that give the cancellation's fields,
 /// the numbers perhaps with leading zeros.

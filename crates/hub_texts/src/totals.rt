@@ -4,7 +4,7 @@ ghost use Rattle.std.specs.BTreeMap.{insert_entry};
 ghost use Rattle.hub_tables.specs.Keys.{bytes_cmp};
 ghost use Rattle.hub_tables.specs.Sets.{Rises};
 ghost use Rattle.hub_tables.specs.declared.rows.LineRow.{LineRow};
-ghost use Rattle.hub_texts.specs.Articles.{place_cmp};
+ghost use Rattle.hub_lines.specs.Book.{place_cmp};
 ghost use Rattle.hub_texts.specs.Totals as spec;
 ghost use Rattle.hub_texts.specs.declared.fault.TextFault.TheVariants.{Memory, Unclean};
 

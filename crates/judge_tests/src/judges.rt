@@ -1,8 +1,3 @@
-ghost use Rattle.std.specs.Prelude.{IfOk};
-ghost use Rattle.std.specs.List.{AllByRecursion};
-ghost use Rattle.hub_tables.specs.Sets.{Rises};
-ghost use Rattle.hub_lines.specs.Book.{facts_cmp, IsCovered};
-
 mod cancellations;
 mod despatches;
 mod orders;
@@ -57,11 +52,11 @@ fn delivery(alloc: Global) -> Result<IncomingMessage, Fail> {
 }
 
 // Lines of three orders that wait.
-const BEFORE: Line = ("128575", 1, [48, 36, 0, 0, 12], Answered::Waiting);
+const BEFORE: Line = ("128575", 1, [48, 36, 0, 0], Answered::Waiting);
 
-const WAITING: Line = ("128576", 1, [48, 36, 0, 0, 12], Answered::Waiting);
+const WAITING: Line = ("128576", 1, [48, 36, 0, 0], Answered::Waiting);
 
-const BEHIND: Line = ("128577", 1, [48, 36, 0, 0, 12], Answered::Waiting);
+const BEHIND: Line = ("128577", 1, [48, 36, 0, 0], Answered::Waiting);
 
 fn orders_of(alloc: Global, lines: [Line; 3]) -> Result<Items<Items<u8>>, Fail> {
     let mut orders = Items::new(alloc);
@@ -79,10 +74,7 @@ fn content_of(alloc: Global, remembered: Option<&str>) -> Result<Option<Items<u8
 }
 
 // What is known: these lines and their orders, and what is remembered.
-fn known(alloc: Global, lines: [Line; 3], remembered: Option<&str>) -> Result<Known, Fail>
-    ensures rise { IfOk result (λ known. Rises facts_cmp known.lines) }
-    ensures covered { IfOk result (λ known. AllByRecursion IsCovered known.lines) }
-{
+fn known(alloc: Global, lines: [Line; 3], remembered: Option<&str>) -> Result<Known, Fail> {
     Ok(Known {
         remembered: content_of(alloc, remembered)?,
         orders: orders_of(alloc, lines)?,

@@ -1,4 +1,4 @@
-use crate::rising::{ITEM, Line, OTHER_ITEM, facts, gtin, rising};
+use crate::rising::{ITEM, Line, OTHER_ITEM, gtin, rising, row};
 use edi_base::{Items, copied};
 use hub_lines::{Book, OrderNumbers, copied_row};
 use hub_tables::Answered;
@@ -7,9 +7,9 @@ use std::test::Fail;
 
 // Three lines of one item: the only one of order 128575, and two of order 128576.
 const LINES: [Line; 3] = [
-    ("128575", 1, [48, 30, 4, 2, 12], Answered::Changed),
-    ("128576", 1, [48, 30, 4, 2, 12], Answered::Changed),
-    ("128576", 2, [48, 30, 4, 2, 12], Answered::Changed),
+    ("128575", 1, [48, 30, 4, 2], Answered::Changed),
+    ("128576", 1, [48, 30, 4, 2], Answered::Changed),
+    ("128576", 2, [48, 30, 4, 2], Answered::Changed),
 ];
 
 fn book(alloc: Global) -> Result<Book, Fail> {
@@ -76,8 +76,8 @@ fn orders_are_asked_for_by_number(rt: HostRuntime) -> Result<(), Fail> {
 
 #[test]
 fn a_copied_row_says_the_same(rt: HostRuntime) -> Result<(), Fail> {
-    let line = ("128576", 7, [48, 30, 4, 2, 12], Answered::Changed);
-    let row = facts(rt.alloc(), line)?.row;
+    let line = ("128576", 7, [48, 30, 4, 2], Answered::Changed);
+    let row = row(rt.alloc(), line)?;
     let copy = copied_row(rt.alloc(), &row)?;
     let shown = format!(in rt.alloc(); "{row:?}")?;
     let copied = format!(in rt.alloc(); "{copy:?}")?;

@@ -94,7 +94,7 @@ fn cancel(alloc: Global, case: &CancelCase) -> Result<Cancel, Fail> {
 fn verdict(alloc: Global, case: &CancelCase) -> Result<Verdict, Fail> {
     let row = alpha(alloc)?;
     let supplier = registered(&row, case.is_registered);
-    let line = ("128576", 1, [48, 24, 12, 0, 12], Answered::Changed);
+    let line = ("128576", 1, [48, 24, 12, 0], Answered::Changed);
     let known = known(alloc, [BEFORE, line, BEHIND], case.remembered)?;
     let content = copied(alloc, SAID.as_bytes())?;
     let cancel = cancel(alloc, case)?;

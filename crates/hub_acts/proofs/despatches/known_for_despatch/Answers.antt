@@ -4,8 +4,8 @@ use Rattle.edi_base.specs.Seen.{is_among}
 use Rattle.hub_tables.specs.Rows.{same}
 use Rattle.hub_tables.specs.State.{knows_order, lines_of}
 use Rattle.hub_tables.specs.Tables.{view, has_pallet}
+use Rattle.hub_lines.specs.KnownLines.{AreUnclean}
 use Rattle.hub_judges.specs.Known.{names_order}
-use Rattle.hub_acts.specs.Facts.{AreUnclean}
 use Rattle.hub_acts.proofs.LookUps.{same_rows}
 use Rattle.hub_acts.proofs.Named.{known_among, lines_of_named, numbers_rise, seen_is_there}
 use Rattle.hub_acts.proofs.despatches.known_for_despatch.Goals as goal
@@ -28,7 +28,7 @@ returns-clause-told g c = λ honest kept.
     let orders = c.in_ok-put_known.ensures.orders honest
     ∙ ap₂ (λ so_far s. so_far ++ filter (knows_order s) numbers) c.new-orders.ensures same_state in
     let found = c.in_ok-put_known.ensures.rows honest
-    ∙ ap₂ (λ so_far s. so_far ++ flat_map (lines_of s) numbers) c.new-lines.ensures same_state in
+    ∙ ap₂ (λ so_far s. so_far ++ flat_map (lines_of s) numbers) c.new-rows.ensures same_state in
     let is_named : (order : List ℕ) → names_order c.args.despatch.now.units order ≡ true → is_among order numbers ≡ true =
     λ order names.
     c.in_ok-named.ensures.orders order ∙ ap (λ units. names_order units order) c.as_slice-units.ensures ∙ names in
@@ -42,12 +42,12 @@ returns-clause-told g c = λ honest kept.
       used_there = λ sscc h. seen_is_there supplier t sscc h;
       orders = λ order names. known_among (knows_order state) order numbers (is_named order names) ∙ ap (is_among order) (sym orders);
       lines = λ order names.
-          sym (same_rows order c.in_ok-facts.facts ∙ ap (filter (λ row. same row.number order)) (c.in_ok-facts.ensures.rows ∙ found)
+          sym (same_rows order c.in_ok-lines.lines ∙ ap (filter (λ row. same row.number order)) (c.in_ok-lines.ensures.rows ∙ found)
           ∙ lines_of_named state order c.in_ok-named.named.keys c.in_ok-named.ensures.ordered (is_named order names));
     }
 
-pub returns-in_err-facts-clause-unclean : goal.returns-in_err-facts-clause-unclean
-returns-in_err-facts-clause-unclean g c = λ honest going clean unclean.
+pub returns-in_err-lines-clause-unclean : goal.returns-in_err-lines-clause-unclean
+returns-in_err-lines-clause-unclean g c = λ honest going clean unclean.
     let supplier = c.args.supplier.now in
     let third = c.in_ok-put_known.ensures.stays.was_honest honest in
     let second = c.in_ok-used.ensures.stays.was_honest third in
@@ -58,12 +58,12 @@ returns-in_err-facts-clause-unclean g c = λ honest going clean unclean.
     let keys = c.in_ok-named.named.keys in
     let numbers = map (λ number. number.now) keys in
     let found = c.in_ok-put_known.ensures.rows honest
-    ∙ ap₂ (λ so_far s. so_far ++ flat_map (lines_of s) numbers) c.new-lines.ensures
+    ∙ ap₂ (λ so_far s. so_far ++ flat_map (lines_of s) numbers) c.new-rows.ensures
     (ap (view supplier) (three ∙ two ∙ one)) in
-    let given = c.from_residual-in_err-facts.ensures in
+    let given = c.from_residual-in_err-lines.ensures in
     record {
       orders = numbers;
       named = λ order. c.in_ok-named.ensures.orders order ∙ ap (λ units. names_order units order) c.as_slice-units.ensures;
       rise = numbers_rise keys c.in_ok-named.ensures.ordered;
-      lines = subst AreUnclean found (c.in_err-facts.ensures.unclean search rules);
+      lines = subst AreUnclean found (c.in_err-lines.ensures.unclean search rules);
     }

@@ -1,7 +1,7 @@
 use Rattle.std.proofs.Common.{◌≡◌, ap, ◌∙◌}
 use Rattle.hub_tables.specs.State.{lines_of}
 use Rattle.hub_tables.specs.Tables.{view}
-use Rattle.hub_judges.specs.Known.{rows}
+use Rattle.hub_lines.specs.Book.{rows}
 use Rattle.hub_acts.proofs.LookUps.{lines_known, despatched_known}
 use Rattle.hub_acts.proofs.knowing.known_of_order.Goals as goal
 
@@ -14,8 +14,8 @@ returns-clause-told g c = λ honest.
     let stays = ap (λ t. lines_of (view supplier t) order) (c.order_known.ensures.looks.content_stays first) in
     let there = c.in_ok-is_there.ensures.looks.answers first in
     let known = c.in_ok-orders.ensures in
-    let found = c.in_ok-lines.ensures.looks.answers honest in
-    let facts = c.in_ok-facts.facts in
-    let told : rows facts ≡ lines_of state order = c.in_ok-facts.ensures.rows ∙ found ∙ stays in
-    let adds_up = c.in_ok-facts.ensures.adds_up in
-    (cc, lines_known state order facts told, λ kept. despatched_known state order facts kept told adds_up)
+    let found = c.in_ok-rows.ensures.looks.answers honest in
+    let lines = c.in_ok-lines.lines in
+    let told : rows lines ≡ lines_of state order = c.in_ok-lines.ensures.rows ∙ found ∙ stays in
+    let adds_up = c.in_ok-lines.ensures.adds_up in
+    (cc, lines_known state order lines told, λ kept. despatched_known state order lines kept told adds_up)

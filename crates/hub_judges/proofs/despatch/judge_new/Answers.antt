@@ -25,7 +25,7 @@ returns c =
     let of_code = units_by_orders c.in_ok-numbers.numbers known.orders same_orders s despatch.number despatch.units
     c.as_slice-used.result.now c.in_ok-book.book
     ∙ ap₂ (λ flags lines. units_from s despatch.number known.orders despatch.units flags lines) c.as_slice-used.ensures
-    c.in_ok-book.ensures in
+    c.in_ok-book.ensures.value in
     let changes = c.in_ok-push-2.ensures.ok
     ∙ ap₂ (λ changes number. changes ++ advice number ∷ [])
     (c.in_ok-push.ensures.ok ∙ ap₂

@@ -1,8 +1,8 @@
 use Rattle.std.proofs.Common.{◌≡◌, ◌++◌}
 use Rattle.std.specs.List.{AllByRecursion}
-use Rattle.hub_judges.specs.Known.{rows}
-use Rattle.hub_acts.specs.Facts.{AddsUp}
-use Rattle.hub_acts.proofs.facts.facts_of_each.Given as goal
+use Rattle.hub_lines.specs.Book.{rows}
+use Rattle.hub_lines.specs.KnownLines.{AddsUp}
+use Rattle.hub_lines.proofs.known_lines.facts_of_each.Given as goal
 
 abbrev pub invariant-loop-row : goal.invariant-loop-row
 invariant-loop-row l = record {

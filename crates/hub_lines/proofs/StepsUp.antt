@@ -10,11 +10,9 @@ use Rattle.std.proofs.lemmas.Cmp.{on_total, then_total, nat_cmp_total, nat_list_
 use Rattle.hub_tables.proofs.Lists.{all_weaker}
 use Rattle.hub_tables.specs.Sets.{Rises}
 use Rattle.hub_tables.specs.declared.rows.LineRow.{LineRow}
-use Rattle.hub_lines.specs.Book.{facts_cmp}
+use Rattle.hub_lines.specs.Book.{facts_cmp, place_cmp, rows}
+use Rattle.hub_lines.specs.KnownLines.{steps_up}
 use Rattle.hub_lines.specs.declared.facts.LineFacts.{LineFacts}
-use Rattle.hub_judges.specs.Known.{rows}
-use Rattle.hub_texts.specs.Articles.{place_cmp}
-use Rattle.hub_acts.specs.Facts.{steps_up}
 
 place_total : IsTotalOrder place_cmp
 place_total = then_total (on_total (λ line. line.number) nat_list_cmp_total) (on_total (λ line. line.line) nat_cmp_total)

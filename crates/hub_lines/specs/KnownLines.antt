@@ -1,14 +1,20 @@
--- What is known of lines, from their rows alone.
+-- Rows of lines that pass, of which lines are known by their rows alone.
 use Rattle.std.specs.Prelude.{◌≡◌, ◌⊎◌, ◌+◌, nat_le, Bool, true, false, ◌&&◌, List, [], ◌∷◌, Option, Some, None}
-use Rattle.std.specs.List.{list_all}
+use Rattle.std.specs.List.{AllByRecursion, list_all}
 use Rattle.std.specs.Ordering.{is_lt}
-use Rattle.hub_lines.specs.declared.facts.LineFacts.{LineFacts}
+use Rattle.hub_tables.specs.Sets.{Rises}
 use Rattle.hub_tables.specs.declared.rows.LineRow.{LineRow}
-use Rattle.hub_texts.specs.Articles.{place_cmp}
+use Rattle.hub_lines.specs.Book.{facts_cmp, place_cmp}
+use Rattle.hub_lines.specs.declared.facts.LineFacts.{LineFacts}
 
 -- what is despatched is what ordered leaves beside open, refused and cancelled
 abbrev pub AddsUp : LineFacts → Type 0
 AddsUp line = line.row.ordered ≡ line.row.open_qty + line.row.refused + line.row.cancelled + line.despatched
+
+-- lines that rise by order number and line number, each of which adds up
+pub record AreKnown (lines : List LineFacts) : Type 0 where
+  pub rise : Rises facts_cmp lines
+  pub adds_up : AllByRecursion AddsUp lines
 
 -- no more is open, refused and cancelled than is ordered
 abbrev pub is_covered : LineRow → Bool
