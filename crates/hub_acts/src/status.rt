@@ -1,5 +1,5 @@
 //! The status report of a supplier.
-ghost use Rattle.std.specs.Prelude.{◌≡◌, ◌++◌, true, None, Err, IfOk, OnOk};
+ghost use Rattle.std.specs.Prelude.{◌≡◌, ◌++◌, true, None, Err, IfOk};
 ghost use Rattle.std.specs.List.{flat_map};
 ghost use Rattle.hub_tables.specs.Sets.{Rises};
 ghost use Rattle.hub_tables.specs.State.{contents_of, receipts_of};
@@ -21,56 +21,57 @@ use hub_law::Reply;
 use hub_lines::rise;
 use hub_store::{Store, StoreFault};
 use hub_tables::{ContentRow, LineRow, PalletRow, ReceiptRow};
-use hub_texts::{TextFault, put_lines, put_pallet};
+use hub_texts::{TextFault, with_lines, with_pallet};
 use std::alloc::Global;
 
-// Appends the lines of a pallet.
-fn put_text(
+// A text with the lines of a pallet behind it.
+fn with_text(
     alloc: Global,
     lines: &[LineRow],
     pallet: &PalletRow,
     contents: &[ContentRow],
     receipts: &[ReceiptRow],
-    out: &mut Vec<u8>,
-) -> Result<(), StoreFault>
+    text: Vec<u8>,
+) -> Result<Vec<u8>, StoreFault>
     requires { Rises place_cmp lines.now }
     ensures text { (state : Tables) → state.lines ≡ lines.now →
         contents_of state pallet.now.sscc ≡ contents.now → receipts_of state pallet.now.sscc ≡ receipts.now →
-        OnOk result (out.new.items ≡ out.old.items ++ pallet_text state pallet.now) }
+        IfOk result (λ whole. whole.items ≡ text.items ++ pallet_text state pallet.now) }
     ensures unclean { result ≡ Err Unclean → IsUnclean lines.now contents.now receipts.now }
 {
-    match put_pallet(alloc, lines, pallet, contents, receipts, out) {
-        Ok(()) => Ok(()),
+    match with_pallet(alloc, lines, pallet, contents, receipts, text) {
+        Ok(whole) => Ok(whole),
         Err(TextFault::Memory) => Err(StoreFault::Memory),
         Err(TextFault::Unclean) => Err(StoreFault::Unclean),
     }
 }
 
-// Appends the lines of pallets, with what is looked up of each.
-fn put_pallets<S: Store>(
+// A text with the lines of pallets behind it, with what is looked up of each.
+fn with_pallets<S: Store>(
     alloc: Global,
     store: &mut S,
     supplier: &Gln,
     lines: &[LineRow],
     pallets: &[PalletRow],
-    out: &mut Vec<u8>,
-) -> Result<(), StoreFault>
+    text: Vec<u8>,
+) -> Result<Vec<u8>, StoreFault>
     requires { Rises place_cmp lines.now }
     ensures text { S.honest store.new → (view supplier.now (S.content store.old)).lines ≡ lines.now →
-        OnOk result (out.new.items ≡ out.old.items
+        IfOk result (λ whole. whole.items ≡ text.items
         ++ flat_map (pallet_text (view supplier.now (S.content store.old))) pallets.now) }
     ensures unclean { S.honest store.new → S.broken store.old ≡ None → are_clean (S.content store.old) ≡ true →
         result ≡ Err Unclean → PalletUnclean (view supplier.now (S.content store.old)) lines.now pallets.now }
     ensures stays { Stays S.content S.honest S.left store.old store.new }
 {
+    let mut whole = text;
     for pallet in pallets {
         let announced = store.contents_of(supplier, &pallet.sscc)?;
         let received = store.receipts_of(supplier, &pallet.sscc)?;
         let contents = announced.as_slice();
         let receipts = received.as_slice();
-        put_text(alloc, lines, pallet, contents, receipts, out)?;
+        whole = with_text(alloc, lines, pallet, contents, receipts, whole)?;
     }
-    Ok(())
+    Ok(whole)
 }
 
 /// The status report of a supplier: its lines, then its pallets, by two look-ups and two for each pallet. Where rows do
@@ -93,9 +94,8 @@ pub fn status_report<S: Store>(
     }
     let despatched = store.all_pallets(supplier)?;
     let pallets = despatched.as_slice();
-    let mut text = Vec::new(alloc);
-    put_lines(lines, &mut text)?;
-    put_pallets(alloc, store, supplier, lines, pallets, &mut text)?;
+    let of_lines = with_lines(lines, Vec::new(alloc))?;
+    let mut text = with_pallets(alloc, store, supplier, lines, pallets, of_lines)?;
     text.extend_from_slice(b"end\n")?;
     let body = Items::from_vec(text);
     Ok(done_reply(body))

@@ -27,7 +27,7 @@ pub fn cancel_is_written_back()
         (cancel_text c ≡ cancel_text d) ↔ (c ≡ d) }
 {}
 
-/// What `put_lines` and `put_pallet` ask of lines is there: of sound tables, the lines that a supplier sees rise by
+/// What `with_lines` and `with_pallet` ask of lines is there: of sound tables, the lines that a supplier sees rise by
 /// order number and line number, and each is balanced.
 pub fn status_is_given_what_it_asks()
     ensures rise { (suppliers : List SupplierRow) (gln : List ℕ) (t : Tables) →

@@ -1,5 +1,5 @@
 //! The lines of orders in the status report.
-ghost use Rattle.std.specs.Prelude.{◌≡◌, ◌-◌, ◌++◌, ◌∷◌, [], OnOk};
+ghost use Rattle.std.specs.Prelude.{◌≡◌, ◌-◌, ◌++◌, ◌∷◌, [], IfOk, OnOk};
 ghost use Rattle.std.specs.List.{AllByRecursion, flat_map};
 ghost use Rattle.hub_tables.specs.Cases as cases;
 ghost use Rattle.hub_tables.specs.Tables.{Tables};
@@ -77,11 +77,13 @@ fn put_rows(out: &mut Vec<u8>, rows: &[LineRow]) -> Result<(), MemoryFault>
     Ok(())
 }
 
-/// Appends the lines of the status report for lines of orders, each of which is balanced: what of a line is despatched
-/// is what is neither open nor refused nor cancelled.
-pub fn put_lines(lines: &[LineRow], out: &mut Vec<u8>) -> Result<(), MemoryFault>
+/// A text with the lines of the status report behind it for lines of orders, each of which is balanced: what of a line is
+/// despatched is what is neither open nor refused nor cancelled. Where memory runs out the text is gone.
+pub fn with_lines(lines: &[LineRow], text: Vec<u8>) -> Result<Vec<u8>, MemoryFault>
     ensures { (state : Tables) → AllByRecursion (Balanced state) lines.now →
-        OnOk result (out.new.items ≡ out.old.items ++ flat_map (line_text state) lines.now) }
+        IfOk result (λ whole. whole.items ≡ text.items ++ flat_map (line_text state) lines.now) }
 {
-    put_rows(out, lines)
+    let mut whole = text;
+    put_rows(&mut whole, lines)?;
+    Ok(whole)
 }

@@ -1,5 +1,5 @@
 //! The pallets in the status report.
-ghost use Rattle.std.specs.Prelude.{◌≡◌, ◌+◌, ◌++◌, ◌∷◌, Err, OnOk};
+ghost use Rattle.std.specs.Prelude.{◌≡◌, ◌+◌, ◌++◌, ◌∷◌, Err, IfOk, OnOk};
 ghost use Rattle.std.specs.Fmt.{decimal};
 ghost use Rattle.std.specs.List.{flat_map};
 ghost use Rattle.hub_tables.specs.Sets.{Rises};
@@ -126,23 +126,25 @@ fn put_articles(
     Ok(())
 }
 
-/// Appends the lines of the status report for a pallet with its contents and receipts, among all lines of its supplier.
-/// `Unclean` where a content names none of the lines, or a sum of pieces is past 64 bits.
-pub fn put_pallet(
+/// A text with the lines of the status report behind it for a pallet with its contents and receipts, among all lines of
+/// its supplier. `Unclean` where a content names none of the lines, or a sum of pieces is past 64 bits. At a fault the text
+/// is gone.
+pub fn with_pallet(
     alloc: Global,
     lines: &[LineRow],
     pallet: &PalletRow,
     contents: &[ContentRow],
     receipts: &[ReceiptRow],
-    out: &mut Vec<u8>,
-) -> Result<(), TextFault>
+    text: Vec<u8>,
+) -> Result<Vec<u8>, TextFault>
     requires { Rises place_cmp lines.now }
     ensures text { (state : Tables) → state.lines ≡ lines.now →
         contents_of state pallet.now.sscc ≡ contents.now → receipts_of state pallet.now.sscc ≡ receipts.now →
-        OnOk result (out.new.items ≡ out.old.items ++ law.pallet_text state pallet.now) }
+        IfOk result (λ whole. whole.items ≡ text.items ++ law.pallet_text state pallet.now) }
     ensures unclean { result ≡ Err Unclean → IsUnclean lines.now contents.now receipts.now }
 {
     let articles = article_totals(alloc, lines, contents, receipts)?;
-    put_articles(out, pallet, &articles)?;
-    Ok(())
+    let mut whole = text;
+    put_articles(&mut whole, pallet, &articles)?;
+    Ok(whole)
 }
