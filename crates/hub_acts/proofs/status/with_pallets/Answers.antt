@@ -31,14 +31,14 @@ loop-pallet-preserved g c =
           let receipts = sym (c.as_slice-receipts.ensures
           ∙ c.in_ok-received.ensures.looks.answers honest
           ∙ ap (λ t. receipts_of (view supplier t) pallet.sscc) then) in
-          ap (λ xs. xs ++ flat_map (pallet_text state) rest) (c.in_ok-with_text.ensures.text state same contents receipts)
+          ap (λ xs. xs ++ flat_map (pallet_text state) rest) (c.in_ok-whole.ensures.text state same contents receipts)
           ∙ append_assoc c.loop-pallet.whole.items (pallet_text state pallet) (flat_map (pallet_text state) rest)
           ∙ ap (λ xs. c.loop-pallet.whole.items ++ flat_map (pallet_text state) xs) (sym next)
           ∙ before.text first same;
     }
 
-pub returns-in_err-with_text-clause-unclean : goal.returns-in_err-with_text-clause-unclean
-returns-in_err-with_text-clause-unclean g c = λ honest going clean unclean.
+pub returns-in_err-whole-clause-unclean : goal.returns-in_err-whole-clause-unclean
+returns-in_err-whole-clause-unclean g c = λ honest going clean unclean.
     let supplier = c.args.supplier.now in
     let state = view supplier (g.S.Store.content c.args.store.now) in
     let lines = c.args.lines.now in
@@ -62,5 +62,5 @@ returns-in_err-with_text-clause-unclean g c = λ honest going clean unclean.
       there = has_at pallets i pallet rest next;
       unclean =
           subst (λ rows. IsUnclean lines (contents_of state pallet.sscc) rows) receipts
-          (subst (λ rows. IsUnclean lines rows c.as_slice-receipts.result.now) contents (c.in_err-with_text.ensures.unclean search rules));
+          (subst (λ rows. IsUnclean lines rows c.as_slice-receipts.result.now) contents (c.in_err-whole.ensures.unclean search rules));
     }
