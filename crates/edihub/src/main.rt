@@ -2,16 +2,16 @@
 #![tactic(auto)]
 
 mod fault;
+mod file;
 mod hub;
 mod serve;
 
 use clap::Error;
 use edi_tokens::{OfRead, OfWrite};
-use hub::over_a_hub;
+use file::{Work, over_a_hub};
 use hub_app::{
     FAILED, Words, WordsFault, check_run, read_register_text, relay_run, show_run, words,
 };
-use serve::serve_a_hub;
 use std::fmt::Display;
 use std::fs::File;
 use std::process::ExitCode;
@@ -67,8 +67,8 @@ fn run(rt: &HostRuntime, given: &[String]) -> u8 {
             &mut OfWrite::new(rt.stdout()),
             &mut OfWrite::new(rt.stderr()),
         ),
-        Ok(Words::Hub(words)) => over_a_hub(rt, words),
-        Ok(Words::Serve(words)) => serve_a_hub(rt, &words),
+        Ok(Words::Hub(words)) => over_a_hub(rt, Work::Command(words)),
+        Ok(Words::Serve(words)) => over_a_hub(rt, Work::Serve(words)),
         Err(WordsFault::Told(error)) => tell_words(rt, &error),
         Err(WordsFault::Memory) => tell(rt, "memory", FAILED),
     }

@@ -1,0 +1,74 @@
+//! The hub whose tables are in a file.
+use crate::fault::BeginFault;
+use crate::hub::obey_words;
+use crate::serve::serve_over;
+use crate::tell;
+use edi_base::OfRead;
+use hub_app::{HubWords, ServeWords, read_register_text};
+use hub_core::Hub;
+use hub_register::Register;
+use hub_sql::SqliteStore;
+use sqlite::Alter;
+use sqlite_disk::{Start, Unknown};
+use sqlite_std_file::FileFrom;
+use sqlite_store::FileStore;
+use std::fs::File;
+
+/// What is to be done with the hub.
+#[derive(Drop)]
+pub(crate) enum Work<'a> {
+    /// One command.
+    Command(HubWords<'a>),
+    /// Serving it over the network.
+    Serve(ServeWords<'a>),
+}
+
+// The paths of the register and of the database file.
+fn paths_of<'a>(work: &Work<'a>) -> (&'a str, &'a str) {
+    match work {
+        Work::Command(words) => (words.register, words.db),
+        Work::Serve(words) => (words.register, words.db),
+    }
+}
+
+// The register in a file.
+fn register_at(rt: &HostRuntime, path: &str) -> Result<Register, BeginFault> {
+    let file = File::open(rt, path).map_err(|_| BeginFault::File)?;
+    let text = read_register_text(rt.alloc(), &mut OfRead::new(file))?;
+    Ok(Register::from_toml(rt.alloc(), text.as_str())?)
+}
+
+// Does the work over these tables, and gives them back, also where nothing was done.
+fn over_tables<A: Alter + Drop>(
+    rt: &HostRuntime,
+    register: Register,
+    tables: SqliteStore<A>,
+    work: Work<'_>,
+) -> (Result<u8, BeginFault>, SqliteStore<A>) {
+    let mut hub = Hub::new(rt.alloc(), register, tables);
+    let status = match work {
+        Work::Command(words) => obey_words(rt, &mut hub, words),
+        Work::Serve(words) => serve_over(rt, &mut hub, &words),
+    };
+    let (_register, tables) = hub.into_store();
+    (status, tables)
+}
+
+// Does the work over the tables in a file, and closes it, with all that stands in the log beside it. What was accepted is
+// kept where that fails too.
+fn over_file<S: Start>(rt: &HostRuntime, work: Work<'_>, start: S) -> Result<u8, BeginFault> {
+    let (register, db) = paths_of(&work);
+    let register = register_at(rt, register)?;
+    let tables = SqliteStore::at_path(rt, db, start)?;
+    let (status, tables) = over_tables::<FileStore<FileFrom<S>>>(rt, register, tables, work);
+    let _ = tables.into_connection().close();
+    status
+}
+
+/// Does the work over the register and the database file that its words name, and answers the exit status.
+pub(crate) fn over_a_hub(rt: &HostRuntime, work: Work<'_>) -> u8 {
+    match over_file(rt, work, Unknown) {
+        Ok(status) => status,
+        Err(fault) => tell(rt, fault, fault.status()),
+    }
+}
