@@ -29,11 +29,15 @@ supplier_in table =
     string_at (codes "prefix") table >>= (λ prefix.
     option_map (row_with gln prefix) (string_at (codes "key") table)))
 
+-- the same from what stands for it in their array
+abbrev pub supplier_of : Data → Option SupplierRow
+supplier_of value = as_table value >>= supplier_in
+
 -- the rows of suppliers, from their tables in their order
 abbrev pub suppliers_in : Items → Option (List SupplierRow)
 suppliers_in no_items = Some []
 suppliers_in (item value values) =
-    as_table value >>= supplier_in >>= (λ row. option_map (λ rows. row ∷ rows) (suppliers_in values))
+    supplier_of value >>= (λ row. option_map (λ rows. row ∷ rows) (suppliers_in values))
 
 -- the tables of the suppliers; where no key `supplier` stands there are none
 abbrev pub tables_in : Option Data → Option Items

@@ -1,6 +1,6 @@
 //! The columns of a document's rows, each judged as a whole.
 
-ghost use Rattle.std.specs.Prelude.{◌≡◌, ◌≢◌, true, false, [], IfOk, IfErr, map};
+ghost use Rattle.std.specs.Prelude.{◌≡◌, ◌≢◌, true, false, [], IfOk, IfErr, OnOk, map};
 ghost use Rattle.std.specs.BTreeMap.{keys, values};
 ghost use Rattle.std.specs.List.{list_all, flat_map};
 ghost use Rattle.edi_base.specs.Seen as twice;
@@ -10,7 +10,7 @@ ghost use Rattle.hub_parties.specs.Key.{is_party_key};
 ghost use Rattle.hub_parties.specs.Rows as spec;
 ghost use Rattle.hub_register.specs.Entries.{row_in, rows_from};
 ghost use Rattle.hub_register.specs.Document.{row_with};
-ghost use Rattle.hub_register.specs.InOrder.{put_all};
+ghost use Rattle.hub_register.specs.InOrder.{put, put_all};
 
 use crate::document::{Document, Entry};
 use crate::fault::RegisterFault;
@@ -96,6 +96,29 @@ fn row_by(alloc: Global, gln: Gln, prefix: Prefix, key: Key) -> Result<SupplierR
     Ok(SupplierRow { gln, prefixes, key })
 }
 
+// Puts the row of a supplier at its GLN, where its key is one.
+fn put_supplier(
+    alloc: Global,
+    gln: Gln,
+    prefix: Prefix,
+    key: &str,
+    suppliers: &mut BTreeMap<Gln, SupplierRow>,
+) -> Result<(), RegisterFault>
+    requires { keys suppliers.old ≡ map (λ row. row.gln) (values suppliers.old) }
+    ensures rows { OnOk result (values suppliers.new ≡ put (row_with gln prefix key.now) (values suppliers.old)) }
+    ensures at_gln { OnOk result (keys suppliers.new ≡ map (λ row. row.gln) (values suppliers.new)) }
+    ensures key { OnOk result (is_party_key key.now ≡ true) }
+    ensures err { IfErr result (λ fault. fault ≢ RegisterFault.Memory →
+        (fault ≡ RegisterFault.Key) × (is_party_key key.now ≡ false)) }
+{
+    let Some(key) = Key::parse(key.as_bytes()) else {
+        return Err(RegisterFault::Key);
+    };
+    let row = row_by(alloc, gln, prefix, key)?;
+    suppliers.insert(gln, row)?;
+    Ok(())
+}
+
 /// The rows of the suppliers, each with its key judged, by their GLNs.
 pub(crate) fn suppliers(
     alloc: Global,
@@ -115,9 +138,7 @@ pub(crate) fn suppliers(
     for (place, entry) in entries.iter().enumerate() {
         let gln = glns[place];
         let prefix = prefixes[place];
-        let key = key_of(entry.key)?;
-        let row = row_by(alloc, gln, prefix, key)?;
-        suppliers.insert(gln, row)?;
+        put_supplier(alloc, gln, prefix, entry.key, &mut suppliers)?;
     }
     Ok(suppliers)
 }

@@ -2,7 +2,7 @@
 
 ghost use Rattle.toml.specs.Data.{get_member};
 ghost use Rattle.toml.specs.View.{table_view, items_view, view};
-ghost use Rattle.std.specs.Prelude.{◌≡◌, ◌≢◌, Some, None, IfOk, IfErr, map, option_map, codes};
+ghost use Rattle.std.specs.Prelude.{◌≡◌, ◌≢◌, ◌∷◌, ◌++◌, [], Some, None, IfOk, IfErr, OnOk, map, option_map, codes};
 ghost use Rattle.hub_register.specs.Document as spec;
 ghost use Rattle.hub_register.specs.Entries.{row_in, rows_from};
 
@@ -58,6 +58,23 @@ fn entry_in<'a>(table: &'a Table) -> Option<Entry<'a>>
     Some(Entry { gln, prefix, key })
 }
 
+// Puts the strings of a supplier's table after others.
+fn put_entry<'a>(value: &'a Value, entries: &mut Vec<Entry<'a>>) -> Result<(), RegisterFault>
+    ensures ok { OnOk result (option_map (λ row. map row_in entries.old.items ++ row ∷ [])
+        (spec.supplier_of (view value.now)) ≡ Some (map row_in entries.new.items)) }
+    ensures err { IfErr result (λ fault. fault ≢ RegisterFault.Memory →
+        (fault ≡ RegisterFault.Text) × (spec.supplier_of (view value.now) ≡ None)) }
+{
+    let Some(table) = value.as_table() else {
+        return Err(RegisterFault::Text);
+    };
+    let Some(entry) = entry_in(table) else {
+        return Err(RegisterFault::Text);
+    };
+    entries.push(entry)?;
+    Ok(())
+}
+
 // The strings of the suppliers' tables.
 fn entries_in<'a>(alloc: Global, values: &'a [Value]) -> Result<Vec<Entry<'a>>, RegisterFault>
     ensures ok { IfOk result (λ entries. spec.suppliers_in (items_view values.now) ≡ Some (map row_in entries.items)) }
@@ -66,13 +83,7 @@ fn entries_in<'a>(alloc: Global, values: &'a [Value]) -> Result<Vec<Entry<'a>>, 
 {
     let mut entries = Vec::new(alloc);
     for value in values {
-        let Some(table) = value.as_table() else {
-            return Err(RegisterFault::Text);
-        };
-        let Some(entry) = entry_in(table) else {
-            return Err(RegisterFault::Text);
-        };
-        entries.push(entry)?;
+        put_entry(value, &mut entries)?;
     }
     Ok(entries)
 }

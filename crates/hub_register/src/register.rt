@@ -1,15 +1,23 @@
 ghost use Rattle.toml.specs.Parse.{parse_document};
 ghost use Rattle.toml.specs.View.{table_view};
-ghost use Rattle.std.specs.Prelude.{◌≡◌, ◌≢◌, IfOk, IfErr, Ok, Err, Some, None, length, map, option_copied};
+ghost use Rattle.std.specs.Prelude.{◌≡◌, ◌≢◌, ◌+◌, ◌∷◌, [], true, false, nat_lt, IfOk, IfErr, Ok, Err, Some, None, length, map, option_map, option_copied};
 ghost use Rattle.std.specs.BTreeMap.{keys, values};
+ghost use Rattle.std.specs.List.{list_all};
+ghost use Rattle.std.specs.Option.{IfNone};
+ghost use Rattle.std.specs.Str.{bytes_eq};
+ghost use Rattle.gs1_ids.specs.Gln.{is_gln};
+ghost use Rattle.gs1_ids.specs.Overlap.{first_overlap_of, PrefixFree};
+ghost use Rattle.hub_parties.specs.Rows as spec;
 ghost use Rattle.hub_parties.specs.Rows.{IsRegister, rows_by, row_of, role_of};
 ghost use Rattle.hub_register.specs.Entries.{rows_from};
+ghost use Rattle.hub_register.specs.Fault.{fault_of};
+ghost use Rattle.hub_register.specs.declared.fault.RegisterFault.TheVariants.{Overlap};
 ghost use Rattle.hub_register.specs.Register.{register_of, register_of_rows, RegisterHasItsRows, RegisterIsPrefixFree};
 
 use crate::columns;
 use crate::document::Document;
 use crate::fault::RegisterFault;
-use gs1_ids::{Gln, first_overlap};
+use gs1_ids::{Gln, Prefix, first_overlap};
 use hub_parties::{Key, Role, SupplierRow};
 use std::alloc::Global;
 use std::collections::BTreeMap;
@@ -60,6 +68,31 @@ fn assembled(
     }
 }
 
+// Every GLN of what a text says, the hub's and the retailer's first, where there are no more suppliers than may be.
+fn glns_of(alloc: Global, document: &Document<'_>) -> Result<Vec<Gln>, RegisterFault>
+    ensures few { IfOk result (λ glns. nat_lt 1000 (length (rows_from document.now).suppliers) ≡ false) }
+    ensures ok { IfOk result (λ glns. (glns.items ≡ spec.glns (rows_from document.now))
+        × (list_all is_gln (spec.glns (rows_from document.now)) ≡ true)) }
+    ensures err { IfErr result (λ fault. fault ≢ RegisterFault.Memory → fault_of (rows_from document.now) ≡ Some fault) }
+{
+    if document.suppliers.len() > MOST_SUPPLIERS {
+        return Err(RegisterFault::Many);
+    }
+    let glns = columns::glns(alloc, document)?;
+    Ok(glns)
+}
+
+// The fault of prefixes of which one begins another. Its places count from 1.
+fn overlap_in(prefixes: &[Prefix]) -> Option<RegisterFault>
+    ensures value { result ≡ option_map (λ places. Overlap (places.0 + 1) (places.1 + 1)) (first_overlap_of prefixes.now) }
+    ensures free { IfNone result (PrefixFree (map (λ prefix. prefix ∷ []) prefixes.now)) }
+{
+    match first_overlap(prefixes) {
+        Some((first, second)) => Some(RegisterFault::Overlap(first + 1, second + 1)),
+        None => None,
+    }
+}
+
 // The register of what a text says.
 fn judge(alloc: Global, document: &Document<'_>) -> Result<Register, RegisterFault>
     ensures ok { IfOk result (λ register. register_of_rows (Some (rows_from document.now)) ≡ Ok register) }
@@ -67,18 +100,15 @@ fn judge(alloc: Global, document: &Document<'_>) -> Result<Register, RegisterFau
     ensures register { IfOk result IsRegister }
 {
     let entries = document.suppliers.as_slice();
-    if entries.len() > MOST_SUPPLIERS {
-        return Err(RegisterFault::Many);
-    }
-    let glns = columns::glns(alloc, document)?;
+    let glns = glns_of(alloc, document)?;
     if columns::has_twice(alloc, glns.as_slice())? {
         return Err(RegisterFault::Twice);
     }
     let prefixes = columns::prefixes(alloc, entries)?;
     let retailer_key = columns::key_of(document.retailer_key)?;
     let suppliers = columns::suppliers(alloc, entries, &glns[2..], prefixes.as_slice())?;
-    if let Some((first, second)) = first_overlap(prefixes.as_slice()) {
-        return Err(RegisterFault::Overlap(first + 1, second + 1));
+    if let Some(fault) = overlap_in(prefixes.as_slice()) {
+        return Err(fault);
     }
     Ok(assembled(glns[0], glns[1], retailer_key, suppliers))
 }
@@ -98,6 +128,13 @@ fn table_of(alloc: Global, text: &str) -> Result<Table, RegisterFault>
             }
         }
     }
+}
+
+// Whether these bytes are a party's key.
+fn is_key(key: &Key, bytes: &[u8]) -> bool
+    ensures { result ≡ bytes_eq key.now bytes.now }
+{
+    key.bytes() == bytes
 }
 
 impl Register {
@@ -153,12 +190,12 @@ impl Register {
         ensures register { IsRegister self.now }
     {
         if let Some(row) = self.supplier(gln) {
-            if row.key.bytes() == key {
+            if is_key(&row.key, key) {
                 return Some(Role::Supplier);
             }
             return None;
         }
-        if self.retailer == *gln && self.retailer_key.bytes() == key {
+        if self.retailer == *gln && is_key(&self.retailer_key, key) {
             return Some(Role::Retailer);
         }
         None

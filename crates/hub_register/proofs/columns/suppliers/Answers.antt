@@ -1,12 +1,11 @@
-use Rattle.std.proofs.Common.{◌≡◌, ◌+◌, drop, get_or, [], map, sym, ap, ◌∙◌, length, arith}
+use Rattle.std.proofs.Common.{◌≡◌, ◌+◌, drop, get_or, [], map, refl, sym, ap, ◌∙◌, length, arith}
 use Rattle.std.proofs.lemmas.List.{length-map}
-use Rattle.std.specs.BTreeMap.{insert_entry, values}
+use Rattle.std.specs.BTreeMap.{values}
 use Rattle.hub_parties.specs.declared.row.SupplierRow.{SupplierRow}
 use Rattle.hub_register.specs.Document.{row_with}
 use Rattle.hub_register.specs.Entries.{row_in}
 use Rattle.hub_register.specs.InOrder.{put, put_all}
 use Rattle.hub_register.specs.declared.document.Entry.{Entry}
-use Rattle.hub_register.proofs.Inserted.{AtGln, by_gln, put-insert, at-insert}
 use Rattle.hub_register.proofs.Rest.{same_row, prefixes_are, at_place, prefix_at_place, rows_next, keys_next}
 use Rattle.hub_register.proofs.columns.suppliers.Goals as goal
 
@@ -33,20 +32,16 @@ loop-place-preserved c =
     let entries = c.args.entries.now in
     let i = c.loop-place.place in
     let within = c.loop-place-test.true in
-    let row : SupplierRow = row_with c.index-glns-place.result c.index-prefixes-place.result c.in_ok-key.key in
-    let is : row_in (get_or entries i nothing) ≡ row =
-    same_row _ _ _ (get_or entries i nothing)
-    (at_place entries i nothing within (λ r. r.gln) _ _ c.requires.glns c.index-glns-place.is)
-    (prefix_at_place entries i nothing within _ _ c.requires.prefixes c.index-prefixes-place.is)
-    c.in_ok-key.ensures.ok.0 in
-    let entered = c.in_ok-insert.ensures.entries
-    ∙ ap (λ r. insert_entry by_gln c.loop-place.suppliers.entries row.gln r) c.in_ok-row.ensures.ok in
-    let before : AtGln c.loop-place.suppliers.entries = c.loop-place.invariant.at_gln in
+    let before = values c.loop-place.suppliers in
+    let entry : Entry = get_or entries i nothing in
+    let row : SupplierRow = row_with c.index-glns-place.result c.index-prefixes-place.result entry.key.now in
+    let is : row_in entry ≡ row =
+    same_row _ _ _ entry (at_place entries i nothing within (λ r. r.gln) _ _ c.requires.glns c.index-glns-place.is)
+    (prefix_at_place entries i nothing within _ _ c.requires.prefixes c.index-prefixes-place.is) refl in
     record {
-      rows = c.loop-place.invariant.rows ∙ rows_next entries i nothing within (values c.loop-place.suppliers)
-          ∙ ap (λ r. put_all (map row_in (drop (i + 1) entries)) (put r (values c.loop-place.suppliers))) is
-          ∙ ap (put_all (map row_in (drop (i + 1) entries))) (sym (put-insert c.loop-place.suppliers.entries row before))
-          ∙ ap (λ es. put_all (map row_in (drop (i + 1) entries)) (map (λ e. e.1) es)) (sym entered);
-      at_gln = rw entered (at-insert c.loop-place.suppliers.entries row before);
-      right = c.loop-place.invariant.right ∙ keys_next entries i nothing within c.in_ok-key.ensures.ok.1;
+      rows = c.loop-place.invariant.rows ∙ rows_next entries i nothing within before
+          ∙ ap (λ r. put_all (map row_in (drop (i + 1) entries)) (put r before)) is
+          ∙ ap (put_all (map row_in (drop (i + 1) entries))) (sym c.in_ok-put_supplier.ensures.rows);
+      at_gln = c.in_ok-put_supplier.ensures.at_gln;
+      right = c.loop-place.invariant.right ∙ keys_next entries i nothing within c.in_ok-put_supplier.ensures.key;
     }

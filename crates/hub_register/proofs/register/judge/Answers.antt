@@ -1,7 +1,6 @@
 use Rattle.std.proofs.lemmas.Grind.{common_steps}
-use Rattle.std.proofs.Common.{◌≡◌, ◌≤◌, ◌&&◌, true, false, length, get_or, map, [], ◌∷◌, refl, sym, subst, ap, ap₂, ◌∙◌, arith}
+use Rattle.std.proofs.Common.{◌≡◌, ◌≤◌, ◌&&◌, true, false, nat_lt, length, get_or, map, [], ◌∷◌, sym, subst, ap, ap₂, ◌∙◌, arith}
 use Rattle.std.specs.List.{list_all}
-use Rattle.std.proofs.lemmas.List.{length-map}
 use Rattle.edi_base.specs.Seen.{has_twice}
 use Rattle.gs1_ids.specs.Overlap.{PrefixFree}
 use Rattle.gs1_ids.specs.Prefix.{is_prefix}
@@ -19,7 +18,8 @@ assembled-requires-clause-right c =
     let items = c.args.document.now.suppliers.items in
     let entries = c.as_slice-entries.result.now in
     let same : entries ≡ items = c.as_slice-entries.ensures.value in
-    let few : length rows.suppliers ≤ 1000 = omega (arith, length-map items row_in, ap length same, c.if-entries-gt-MOST_SUPPLIERS.false) in
+    let counted : nat_lt 1000 (length rows.suppliers) ≡ false = c.in_ok-glns.ensures.few in
+    let few : length rows.suppliers ≤ 1000 = grind (arith, counted) in
     let read = c.in_ok-glns.ensures.ok in
     let once : has_twice (glns rows) ≡ false =
     sym (ap has_twice read.0)
@@ -32,15 +32,12 @@ assembled-requires-clause-right c =
     let free : PrefixFree (company_prefixes rows.suppliers) =
     subst PrefixFree (ap (map (λ p. p ∷ [])) (c.as_slice-3.ensures.value ∙ c.in_ok-prefixes.ensures.ok.0)
     ∙ one_each entries
-    ∙ ap (λ es. company_prefixes (map row_in es)) same) (c.in_default.ensures.free.0 refl) in
+    ∙ ap (λ es. company_prefixes (map row_in es)) same) c.in_default.ensures.free in
     subst IsRegister
     (same_rows _ _ _ _ rows (c.index.ensures ∙ ap (λ xs. get_or xs 0 c.index.result.now) read.0)
     (c.index-2.ensures ∙ ap (λ xs. get_or xs 1 c.index-2.result.now) read.0) c.in_ok-retailer_key.ensures.ok.0
     (c.in_ok-suppliers.ensures.rows ∙ ap (λ es. put_all (map row_in es) []) same))
     (register_right rows few read.1 once prefix key free)
-
-pub returns-then-entries-gt-MOST_SUPPLIERS-clause-err : goal.returns-then-entries-gt-MOST_SUPPLIERS-clause-err
-returns-then-entries-gt-MOST_SUPPLIERS-clause-err c = grind (arith, common_steps)
 
 pub returns-in_err-prefixes-clause-err : goal.returns-in_err-prefixes-clause-err
 returns-in_err-prefixes-clause-err c = grind (arith, common_steps)
