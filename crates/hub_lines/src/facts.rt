@@ -6,6 +6,6 @@ use hub_tables::LineRow;
 pub struct LineFacts {
     /// The row of the line.
     pub row: LineRow,
-    /// What of the line is despatched, in pieces: the sum of the contents that name it.
+    /// What of the line is despatched, in pieces. In sound tables it is the sum of the contents that name it.
     pub despatched: u32,
 }
