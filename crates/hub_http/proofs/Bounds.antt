@@ -12,11 +12,12 @@ use Rattle.http_head.specs.Fields.{values_of}
 use Rattle.http_head.specs.Head.{Heading}
 use Rattle.http_routes.specs.declared.routes.Place.{Place}
 use Rattle.hub_http.specs.Answer.{size_asked}
-use Rattle.hub_http.specs.Asked.{Asked, Asker, announced, asked_by, asker_of, at_place, by_asker, encoding_field, is_post}
-use Rattle.hub_http.specs.Asked.{is_right, is_single, key_field, length_field, longest_body, may_ask, method_of, place_in, posted}
-use Rattle.hub_http.specs.Asked.{size_of, with_size}
+use Rattle.hub_http.specs.Asked.{Asked, Asker, announced, asked_by, asker_of, at_place, by_asker, by_method, by_party}
+use Rattle.hub_http.specs.Asked.{encoding_field, is_single, key_field, length_field, longest_body, place_in, posted, size_of, with_size}
+use Rattle.hub_http.specs.Sought.{is_post, may_ask, method_of, sought_at}
 use Rattle.hub_http.specs.declared.refusal.Refusal.{Refusal}
-use Rattle.hub_http.specs.declared.refusal.Refusal.TheVariants.{BadRequest, Unknown, Method, Denied, Length, TooLarge}
+use Rattle.hub_http.specs.declared.refusal.Refusal.TheVariants.{BadRequest, Method, Denied, Length, TooLarge}
+use Rattle.hub_http.specs.declared.sought.Sought.{Sought}
 
 -- first so many bytes at most, and then so many more
 pub both_taken : (a b c : Option (List ℕ)) (first more : ℕ) → TakesAtMost a b first → TakesAtMost b c more
@@ -50,39 +51,41 @@ short_if : (test : Bool) (r s : Result ℕ Refusal) → Short r → Short s → 
 short_if true r s first second = first
 short_if false r s first second = second
 
-size_short : (place : Place) (fields : List (List ℕ × List ℕ)) → Short (size_of place fields)
-size_short place fields =
-    short_if (is_post place) (posted fields) (Ok 0)
+size_short : (sought : Sought) (fields : List (List ℕ × List ℕ)) → Short (size_of sought fields)
+size_short sought fields =
+    short_if (is_post sought) (posted fields) (Ok 0)
     (short_if (length (values_of encoding_field fields) == 0) (announced (values_of length_field fields)) (Err Length)
     (announced_short (values_of length_field fields)) tt)
     (omega arith)
 
-with_short : (place : Place) (parts : List (List ℕ)) (who : Asker) (size : Result ℕ Refusal) → Short size
-    → size_asked (with_size place parts who size) ≤ longest_body
-with_short place parts who (Ok size) short = short
-with_short place parts who (Err refusal) short = omega arith
+with_short : (sought : Sought) (who : Asker) (size : Result ℕ Refusal) → Short size
+    → size_asked (with_size sought who size) ≤ longest_body
+with_short sought who (Ok size) short = short
+with_short sought who (Err refusal) short = omega arith
 
 few_if : (test : Bool) (r s : Result Asked Refusal) → size_asked r ≤ longest_body → size_asked s ≤ longest_body
     → size_asked (if test then r else s) ≤ longest_body
 few_if true r s first second = first
 few_if false r s first second = second
 
-by_short : (place : Place) (parts : List (List ℕ)) (fields : List (List ℕ × List ℕ)) (who : Option Asker)
-    → size_asked (by_asker place parts fields who) ≤ longest_body
-by_short place parts fields None = omega arith
-by_short place parts fields (Some who) =
-    few_if (may_ask who.role place) (with_size place parts who (size_of place fields)) (Err Denied)
-    (with_short place parts who (size_of place fields) (size_short place fields)) (omega arith)
+by_short : (sought : Sought) (fields : List (List ℕ × List ℕ)) (who : Option Asker)
+    → size_asked (by_asker sought fields who) ≤ longest_body
+by_short sought fields None = omega arith
+by_short sought fields (Some who) =
+    few_if (may_ask who.role sought) (with_size sought who (size_of sought fields)) (Err Denied)
+    (with_short sought who (size_of sought fields) (size_short sought fields)) (omega arith)
+
+method_short : (register : RegisterRows) (head : Heading) (parts : List (List ℕ)) (sought : Option Sought)
+    → size_asked (by_method register head parts sought) ≤ longest_body
+method_short register head parts None = omega arith
+method_short register head parts (Some sought) =
+    few_if (not (bytes_eq head.method (method_of sought))) (Err Method) (by_party register head parts sought) (omega arith)
+    (by_short sought head.fields (asker_of register parts (values_of key_field head.fields)))
 
 at_short : (register : RegisterRows) (head : Heading) (place : Option (Place × List (List ℕ)))
     → size_asked (at_place register head place) ≤ longest_body
 at_short register head None = omega arith
-at_short register head (Some (place, parts)) =
-    let asked = by_asker place parts head.fields (asker_of register parts (values_of key_field head.fields)) in
-    few_if (not (is_right place parts)) (Err Unknown)
-    (if not (bytes_eq head.method (method_of place)) then Err Method else asked) (omega arith)
-    (few_if (not (bytes_eq head.method (method_of place))) (Err Method) asked (omega arith)
-    (by_short place parts head.fields (asker_of register parts (values_of key_field head.fields))))
+at_short register head (Some (place, parts)) = method_short register head parts (sought_at place parts)
 
 -- no longer body is asked for
 pub asked_short : (register : RegisterRows) (head : Heading) → size_asked (asked_by register head) ≤ longest_body

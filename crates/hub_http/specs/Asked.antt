@@ -1,21 +1,20 @@
 -- What the head of a request asks for, and who asks; or why it is refused. The checks come in this order: a key or a
 -- length that stands twice, the path, the method, who asks, the length of the body.
-use Rattle.std.specs.Prelude.{ℕ, Bool, true, false, ◌&&◌, ◌==◌, not, nat_lt, if◌then◌else◌, List, [], ◌∷◌, length}
+use Rattle.std.specs.Prelude.{ℕ, Bool, ◌&&◌, ◌==◌, not, nat_lt, if◌then◌else◌, List, [], ◌∷◌, length}
 use Rattle.std.specs.Prelude.{codes, Option, Some, None, option_map, Result, Ok, Err}
 use Rattle.std.specs.List.{list_any}
 use Rattle.std.specs.Str.{bytes_eq}
 use Rattle.edi_base.specs.Limits.{are_digits, number_of}
 use Rattle.hub_parties.specs.Rows.{RegisterRows, role_of}
 use Rattle.hub_parties.specs.declared.role.Role.{Role}
-use Rattle.hub_parties.specs.declared.role.Role.TheVariants.{Retailer, Supplier}
 use Rattle.http_head.specs.Fields.{values_of}
 use Rattle.http_head.specs.Head.{Heading}
 use Rattle.http_routes.specs.Routes.{place_at}
 use Rattle.http_routes.specs.declared.routes.Place.{Place}
-use Rattle.http_routes.specs.declared.routes.Place.TheVariants.{Interchanges, MailAfter, MailItem, MailTaken}
-use Rattle.http_routes.specs.declared.routes.Place.TheVariants.{Status, StatusOf, Cancellations}
+use Rattle.hub_http.specs.Sought.{is_post, may_ask, method_of, sought_at}
 use Rattle.hub_http.specs.declared.refusal.Refusal.{Refusal}
 use Rattle.hub_http.specs.declared.refusal.Refusal.TheVariants.{BadRequest, Unknown, Method, Denied, Length, TooLarge}
+use Rattle.hub_http.specs.declared.sought.Sought.{Sought}
 
 -- the names of the fields that are looked at
 abbrev pub key_field : List ℕ
@@ -42,53 +41,6 @@ has_query target = list_any (λ byte. byte == 0x3F) target
 -- the place that a target names, and the parts of its path
 abbrev pub place_in : List ℕ → Option (Place × List (List ℕ))
 place_in target = if has_query target then None else place_at target
-
-abbrev pub is_post : Place → Bool
-is_post Interchanges = true
-is_post MailAfter = false
-is_post MailItem = false
-is_post MailTaken = true
-is_post Status = false
-is_post StatusOf = false
-is_post Cancellations = true
-
-abbrev pub method_of : Place → List ℕ
-method_of place = if is_post place then codes "POST" else codes "GET"
-
--- the second part of the path is the number of a mailbox entry
-abbrev pub has_number : Place → Bool
-has_number Interchanges = false
-has_number MailAfter = true
-has_number MailItem = true
-has_number MailTaken = true
-has_number Status = false
-has_number StatusOf = false
-has_number Cancellations = false
-
-abbrev pub is_number : List (List ℕ) → Bool
-is_number [] = false
-is_number (party ∷ []) = false
-is_number (party ∷ number ∷ parts) = are_digits 1 14 number
-
-abbrev pub is_right : Place → List (List ℕ) → Bool
-is_right place parts = if has_number place then is_number parts else true
-
--- mail and the own status are for suppliers, the status of a supplier and cancellations for the retailer
-abbrev pub may_ask : Role → Place → Bool
-may_ask Retailer Interchanges = true
-may_ask Retailer MailAfter = false
-may_ask Retailer MailItem = false
-may_ask Retailer MailTaken = false
-may_ask Retailer Status = false
-may_ask Retailer StatusOf = true
-may_ask Retailer Cancellations = true
-may_ask Supplier Interchanges = true
-may_ask Supplier MailAfter = true
-may_ask Supplier MailItem = true
-may_ask Supplier MailTaken = true
-may_ask Supplier Status = true
-may_ask Supplier StatusOf = false
-may_ask Supplier Cancellations = false
 
 -- who asks: its side, its GLN and its key
 pub record Asker : Type 0 where
@@ -132,33 +84,38 @@ posted fields =
     if length (values_of encoding_field fields) == 0 then announced (values_of length_field fields) else Err Length
 
 -- no other body is looked at
-abbrev pub size_of : Place → List (List ℕ × List ℕ) → Result ℕ Refusal
-size_of place fields = if is_post place then posted fields else Ok 0
+abbrev pub size_of : Sought → List (List ℕ × List ℕ) → Result ℕ Refusal
+size_of sought fields = if is_post sought then posted fields else Ok 0
 
--- a place, the parts of its path, who asks with which key, and how long the body is
+-- what is asked for, who asks with which key, and how long the body is
 pub record Asked : Type 0 where
-  pub place : Place
-  pub parts : List (List ℕ)
+  pub sought : Sought
   pub gln : List ℕ
   pub key : List ℕ
   pub size : ℕ
 
-abbrev pub with_size : Place → List (List ℕ) → Asker → Result ℕ Refusal → Result Asked Refusal
-with_size place parts who (Ok size) =
-    Ok (record { place = place; parts = parts; gln = who.gln; key = who.key; size = size })
-with_size place parts who (Err refusal) = Err refusal
+abbrev pub with_size : Sought → Asker → Result ℕ Refusal → Result Asked Refusal
+with_size sought who (Ok size) = Ok (record { sought = sought; gln = who.gln; key = who.key; size = size })
+with_size sought who (Err refusal) = Err refusal
 
-abbrev pub by_asker : Place → List (List ℕ) → List (List ℕ × List ℕ) → Option Asker → Result Asked Refusal
-by_asker place parts fields None = Err Denied
-by_asker place parts fields (Some who) =
-    if may_ask who.role place then with_size place parts who (size_of place fields) else Err Denied
+abbrev pub by_asker : Sought → List (List ℕ × List ℕ) → Option Asker → Result Asked Refusal
+by_asker sought fields None = Err Denied
+by_asker sought fields (Some who) =
+    if may_ask who.role sought then with_size sought who (size_of sought fields) else Err Denied
+
+-- by the party that the path names
+abbrev pub by_party : RegisterRows → Heading → List (List ℕ) → Sought → Result Asked Refusal
+by_party register head parts sought =
+    by_asker sought head.fields (asker_of register parts (values_of key_field head.fields))
+
+abbrev pub by_method : RegisterRows → Heading → List (List ℕ) → Option Sought → Result Asked Refusal
+by_method register head parts None = Err Unknown
+by_method register head parts (Some sought) =
+    if not (bytes_eq head.method (method_of sought)) then Err Method else by_party register head parts sought
 
 abbrev pub at_place : RegisterRows → Heading → Option (Place × List (List ℕ)) → Result Asked Refusal
 at_place register head None = Err Unknown
-at_place register head (Some (place, parts)) =
-    if not (is_right place parts) then Err Unknown
-    else if not (bytes_eq head.method (method_of place)) then Err Method
-    else by_asker place parts head.fields (asker_of register parts (values_of key_field head.fields))
+at_place register head (Some (place, parts)) = by_method register head parts (sought_at place parts)
 
 -- what a head asks for
 abbrev pub asked_by : RegisterRows → Heading → Result Asked Refusal

@@ -3,4 +3,5 @@ pub mod Asked
 pub mod Question
 pub mod Refusal
 pub mod Serve
+pub mod Sought
 pub mod Told

@@ -1,6 +1,5 @@
 -- What calls answer, in the words of the definitions.
 use Rattle.std.specs.Prelude.{Result, Ok, Err}
-use Rattle.http_routes.specs.Routes.{shown}
 use Rattle.hub_http.specs.Asked.{Asked, Asker}
 use Rattle.hub_http.specs.Question.{Question}
 use Rattle.hub_http.specs.declared.asked.Asker.{Asker as AskerHere}
@@ -13,8 +12,7 @@ told_asker asker = record { role = asker.role; gln = asker.gln; key = asker.key.
 
 abbrev pub told : Asking → Asked
 told asking = record {
-  place = asking.routed.place;
-  parts = (shown asking.routed).1;
+  sought = asking.sought;
   gln = asking.gln;
   key = asking.key.now;
   size = asking.size;

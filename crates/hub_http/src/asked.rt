@@ -6,10 +6,11 @@ ghost use Rattle.hub_http.specs.Asked as spec;
 ghost use Rattle.hub_http.specs.Told.{told_asker, told, told_result};
 
 use crate::refusal::Refusal;
+use crate::sought::{Sought, sought_at};
 use edi_base::{are_digits, value_of};
 use gs1_ids::Gln;
 use http_head::{Head, Values};
-use http_routes::{Place, Routed, place_of};
+use http_routes::{Routed, place_of};
 use hub_core::{Hub, Role};
 use hub_store::Store;
 use std::alloc::{AllocError, Global};
@@ -31,7 +32,7 @@ pub(crate) struct Asker<'h> {
 /// What is asked for, and by whom.
 #[derive(Clone, Copy)]
 pub(crate) struct Asking<'h> {
-    pub routed: Routed<'h>,
+    pub sought: Sought,
     pub gln: Gln,
     pub key: &'h [u8],
     /// How many bytes the body has.
@@ -69,52 +70,6 @@ fn place_in(alloc: Global, target: &str) -> Result<Option<Routed<'_>>, AllocErro
         return Ok(None);
     }
     place_of(alloc, target)
-}
-
-fn is_post(place: Place) -> bool
-    ensures { result ≡ spec.is_post place }
-{
-    matches!(
-        place,
-        Place::Interchanges | Place::MailTaken | Place::Cancellations
-    )
-}
-
-fn method_of(place: Place) -> &'static [u8]
-    ensures { result.now ≡ spec.method_of place }
-{
-    if is_post(place) { b"POST" } else { b"GET" }
-}
-
-fn has_number(place: Place) -> bool
-    ensures { result ≡ spec.has_number place }
-{
-    matches!(place, Place::MailAfter | Place::MailItem | Place::MailTaken)
-}
-
-// Whether the number in a path is one.
-fn is_right(routed: Routed<'_>) -> bool
-    ensures { result ≡ spec.is_right routed.entry.place (shown routed.entry).1 }
-{
-    if !has_number(routed.place) {
-        return true;
-    }
-    match routed.part {
-        Some(part) => are_digits(1, 14, part),
-        None => false,
-    }
-}
-
-fn may_ask(role: Role, place: Place) -> bool
-    ensures { result ≡ spec.may_ask role place }
-{
-    match role {
-        Role::Retailer => matches!(
-            place,
-            Place::Interchanges | Place::StatusOf | Place::Cancellations
-        ),
-        Role::Supplier => !matches!(place, Place::StatusOf | Place::Cancellations),
-    }
 }
 
 // Who asks with this GLN and this key.
@@ -173,29 +128,32 @@ fn posted(head: &Head) -> Result<usize, Refusal>
 }
 
 // No other body is looked at.
-fn size_of(place: Place, head: &Head) -> Result<usize, Refusal>
-    ensures { result ≡ spec.size_of place head.now.fields }
+fn size_of(sought: &Sought, head: &Head) -> Result<usize, Refusal>
+    ensures { result ≡ spec.size_of sought.now head.now.fields }
 {
-    if is_post(place) { posted(head) } else { Ok(0) }
+    if sought.is_post() {
+        posted(head)
+    } else {
+        Ok(0)
+    }
 }
 
 // What is asked for by somebody who is known.
 fn by_asker<'h>(
-    routed: Routed<'h>,
+    sought: Sought,
     head: &Head,
     role: Role,
     gln: Gln,
     key: &'h [u8],
 ) -> Result<Asking<'h>, Refusal>
-    ensures { told_result result ≡ spec.by_asker routed.entry.place (shown routed.entry).1 head.now.fields
-        (Some (spec.asker role gln key.now)) }
+    ensures { told_result result ≡ spec.by_asker sought head.now.fields (Some (spec.asker role gln key.now)) }
 {
-    if !may_ask(role, routed.place) {
+    if !sought.is_for(role) {
         return Err(Refusal::Denied);
     }
-    let size = size_of(routed.place, head)?;
+    let size = size_of(&sought, head)?;
     Ok(Asking {
-        routed,
+        sought,
         gln,
         key,
         size,
@@ -205,14 +163,14 @@ fn by_asker<'h>(
 // What is asked for by the party of the path.
 fn by_party<'h, S: Store>(
     hub: &Hub<S>,
-    routed: Routed<'h>,
+    routed: Routed<'_>,
+    sought: Sought,
     head: &'h Head,
 ) -> Result<Asking<'h>, Refusal>
-    ensures { told_result result ≡ spec.by_asker routed.entry.place (shown routed.entry).1 head.now.fields
-        (spec.asker_of hub.now.0 (shown routed.entry).1 (values_of spec.key_field head.now.fields)) }
+    ensures { told_result result ≡ spec.by_party hub.now.0 head.now (shown routed.entry).1 sought }
 {
     match asker_of(hub, routed, head) {
-        Some(asker) => by_asker(routed, head, asker.role, asker.gln, asker.key),
+        Some(asker) => by_asker(sought, head, asker.role, asker.gln, asker.key),
         None => Err(Refusal::Denied),
     }
 }
@@ -220,18 +178,18 @@ fn by_party<'h, S: Store>(
 // What is asked for at the place of a path.
 fn at_place<'h, S: Store>(
     hub: &Hub<S>,
-    routed: Routed<'h>,
+    routed: Routed<'_>,
     head: &'h Head,
 ) -> Result<Asking<'h>, Refusal>
     ensures { told_result result ≡ spec.at_place hub.now.0 head.now (Some (shown routed.entry)) }
 {
-    if !is_right(routed) {
+    let Some(sought) = sought_at(routed) else {
         return Err(Refusal::Unknown);
-    }
-    if head.method() != method_of(routed.place) {
+    };
+    if head.method() != sought.method() {
         return Err(Refusal::Method);
     }
-    by_party(hub, routed, head)
+    by_party(hub, routed, sought, head)
 }
 
 /// What a head asks for, and who asks; or why it is refused. Takes no memory where a key or a length stands twice.

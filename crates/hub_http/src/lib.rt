@@ -6,5 +6,6 @@ mod asked;
 mod question;
 mod refusal;
 mod serve;
+mod sought;
 
 pub use serve::{IoFault, Served, serve_one};
