@@ -1,5 +1,6 @@
 pub mod Connections
 pub mod Line
+pub mod Listening
 pub mod One
 pub mod Output
 pub mod Serve

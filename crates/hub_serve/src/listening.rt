@@ -1,5 +1,7 @@
 //! Connections over the network.
-ghost use Rattle.std.specs.Prelude.{◌≡◌, false, IfOk};
+ghost use Rattle.std.specs.Prelude.{◌≡◌, ◌⊎◌, ◌↔◌, false, IfOk, IsTrue};
+ghost use Rattle.std.specs.IoError.{error_kind};
+ghost use Rattle.hub_serve.specs.Listening.{AtBegin};
 
 use crate::connections::{Connections, NoConnection, Sides};
 use crate::line::Ending;
@@ -7,6 +9,7 @@ use crate::timed::Timed;
 use edi_base::{OfRead, OfWrite};
 use std::io;
 use std::io::{ErrorKind, Read, Write};
+use std::marker::Model;
 use std::net::{
     Ipv4Addr, Net, OpenListener, OpenStream, Shutdown, SocketAddr, SocketAddrV4, TcpListener,
 };
@@ -32,9 +35,19 @@ pub struct Listening<'c, C, L> {
     failed: bool,
 }
 
+impl<'c, C, L> Model for Listening<'c, C, L> {
+    ghost use Rattle.std.specs.Prelude.{Bool};
+
+    ghost Value = { L × Bool };
+
+    ghost view = { λ l. (l.listener, l.failed) };
+}
+
 impl<'c, N: Net + Clock> Listening<'c, N, N::Listener> {
     /// Listens on a port of 127.0.0.1.
-    pub fn on(net: &'c N, port: u16) -> io::Result<Self> {
+    pub fn on(net: &'c N, port: u16) -> io::Result<Self>
+        ensures { IfOk result (λ listening. listening.1 ≡ false) }
+    {
         let address = SocketAddr::V4(SocketAddrV4::new(Ipv4Addr::new(127, 0, 0, 1), port));
         Ok(Listening {
             clock: net,
@@ -47,14 +60,17 @@ impl<'c, N: Net + Clock> Listening<'c, N, N::Listener> {
 impl<'c, C, L> Listening<'c, C, L> {
     /// Whether connections ended because no more could be taken.
     pub fn has_failed(&self) -> bool
-        ensures { result ≡ self.now.failed }
+        ensures { result ≡ self.now.1 }
     {
         self.failed
     }
 }
 
 // Whether an error of `accept` speaks of the one connection alone, whose client went away before it was taken.
-fn is_gone(error: &io::Error) -> bool {
+fn is_gone(error: &io::Error) -> bool
+    ensures { IsTrue result ↔ ((error_kind error.now ≡ ErrorKind.ConnectionAborted)
+        ⊎ (error_kind error.now ≡ ErrorKind.ConnectionReset)) }
+{
     matches!(
         error.kind(),
         ErrorKind::ConnectionAborted | ErrorKind::ConnectionReset
@@ -66,7 +82,7 @@ fn sides_of<'c, C: Clock, T: OpenStream + Read + Write + Drop>(
     clock: &'c C,
     stream: T,
 ) -> io::Result<Sides<OfRead<Timed<'c, C, T>>, OfWrite<Timed<'c, C, T>>>>
-    ensures { IfOk result (λ sides. (sides.reader.1 ≡ false) × (sides.writer.1 ≡ false)) }
+    ensures { IfOk result (λ sides. AtBegin 10_000_000_000 sides.reader sides.writer) }
 {
     let begun = Instant::now(clock)?;
     let whole = Duration::from_secs(WHOLE);
@@ -100,17 +116,20 @@ where
 {
     ghost use Rattle.std.specs.Prelude.{◌≡◌, ◌||◌, None, IfOk};
     ghost use Rattle.hub_serve.specs.Connections.{IsNew, Takes, is_over};
+    ghost use Rattle.hub_serve.specs.Listening.{AtBegin};
 
-    ghost failed = { λ l. l.failed };
+    ghost failed = { λ l. l.1 };
 
     type Reader = OfRead<Timed<'c, C, L::Stream>>;
 
     type Writer = OfWrite<Timed<'c, C, L::Stream>>;
 
     fn next(&mut self) -> Result<Sides<Self::Reader, Self::Writer>, NoConnection>
-        ensures takes { Takes (λ _. None) None None result }
+        ensures takes { Takes (λ reader. L.Stream.remaining reader.0.0) None None result }
         ensures is_new { IfOk result (λ sides. IsNew None sides.reader.1 sides.writer.1) }
-        ensures flag { self.new.failed ≡ (self.old.failed || is_over result) }
+        ensures begins { IfOk result (λ sides. AtBegin 10_000_000_000 sides.reader sides.writer) }
+        ensures listener { self.new.0 ≡ self.old.0 }
+        ensures flag { self.new.1 ≡ (self.old.1 || is_over result) }
     {
         match self.listener.accept() {
             Ok((stream, _)) => sides_of(self.clock, stream).map_err(|_| NoConnection::Gone),
@@ -123,7 +142,7 @@ where
     }
 
     fn end(&mut self, sides: Sides<Self::Reader, Self::Writer>, ending: Ending)
-        ensures flag { self.new.failed ≡ self.old.failed }
+        ensures same { self.new ≡ self.old }
     {
         let Sides { reader, writer: _ } = sides;
         if let Ending::Answered(_) = ending {

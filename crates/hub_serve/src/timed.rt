@@ -1,6 +1,10 @@
 //! A connection that takes so long as a whole, and no longer.
+ghost use Rattle.std.specs.Prelude.{◌≡◌, ◌<◌, ◌≤◌, IfOk};
+ghost use Rattle.std.specs.Duration.{as_nanos};
+
 use std::io;
 use std::io::{Error, ErrorKind, Read, Write};
+use std::marker::Model;
 use std::net::OpenStream;
 use std::time::{Clock, Duration, Instant};
 
@@ -14,9 +18,20 @@ pub struct Timed<'c, C, T> {
     whole: Duration,
 }
 
+impl<'c, C, T> Model for Timed<'c, C, T> {
+    ghost use Rattle.std.specs.declared.time.Duration.{Duration};
+    ghost use Rattle.std.specs.declared.time.Instant.{Instant};
+
+    ghost Value = { T × (Instant × Duration) };
+
+    ghost view = { λ t. (t.stream, (t.begun, t.whole)) };
+}
+
 impl<'c, C: Clock, T> Timed<'c, C, T> {
-    /// A side of this stream.
-    pub fn new(clock: &'c C, stream: T, begun: Instant, whole: Duration) -> Self {
+    /// A side of this stream, which began at a moment of this clock, and lasts so long.
+    pub fn new(clock: &'c C, stream: T, begun: Instant, whole: Duration) -> Self
+        ensures { result ≡ (stream, (begun, whole)) }
+    {
         Timed {
             clock,
             stream,
@@ -26,12 +41,17 @@ impl<'c, C: Clock, T> Timed<'c, C, T> {
     }
 
     /// The stream.
-    pub fn into_inner(self) -> T {
+    pub fn into_inner(self) -> T
+        ensures { result ≡ self.entry.0 }
+    {
         self.stream
     }
 
     // What is left of the time. None is an error, as a socket takes a timeout of none for a wait without end.
-    fn left(&self) -> io::Result<Duration> {
+    fn left(&self) -> io::Result<Duration>
+        ensures some { IfOk result (λ left. 0 < as_nanos left) }
+        ensures within { IfOk result (λ left. as_nanos left ≤ as_nanos self.now.1.1) }
+    {
         let passed = self.begun.elapsed(self.clock)?;
         match self.whole.checked_sub(passed) {
             Some(left) if !left.is_zero() => Ok(left),
@@ -41,7 +61,18 @@ impl<'c, C: Clock, T> Timed<'c, C, T> {
 }
 
 impl<'c, C: Clock, T: OpenStream + Read> Read for Timed<'c, C, T> {
-    fn read(&mut self, buffer: &mut [u8]) -> io::Result<usize> {
+    ghost use Rattle.std.specs.Prelude.{◌≡◌};
+    ghost use Rattle.std.specs.Io.{ReadsAtMost};
+    ghost use Rattle.std.specs.Io.KnownBytes.{ReadConsumes};
+
+    ghost remaining = { λ t. T.Read.remaining t.0 };
+
+    // Gives what the stream gives. The time goes on.
+    fn read(&mut self, buffer: &mut [u8]) -> io::Result<usize>
+        ensures bound { ReadsAtMost result buffer.new }
+        ensures bytes { ReadConsumes (T.Read.remaining self.old.0) (T.Read.remaining self.new.0) result buffer.new }
+        ensures time { self.new.1 ≡ self.old.1 }
+    {
         let left = self.left()?;
         self.stream.set_read_timeout(Some(left))?;
         self.stream.read(buffer)
@@ -49,13 +80,26 @@ impl<'c, C: Clock, T: OpenStream + Read> Read for Timed<'c, C, T> {
 }
 
 impl<'c, C: Clock, T: OpenStream + Write> Write for Timed<'c, C, T> {
-    fn write(&mut self, bytes: &[u8]) -> io::Result<usize> {
+    ghost use Rattle.std.specs.Prelude.{◌≡◌, None};
+    ghost use Rattle.std.specs.Io.{WritesAtMost};
+    ghost use Rattle.std.specs.Io.KnownBytes.{Keeps, WriteAppends};
+
+    // Hands these bytes to the stream. The time goes on.
+    fn write(&mut self, bytes: &[u8]) -> io::Result<usize>
+        ensures bound { WritesAtMost result bytes.now }
+        ensures bytes { WriteAppends None None result bytes.now }
+        ensures handed { WriteAppends (T.Write.contents self.old.0) (T.Write.contents self.new.0) result bytes.now }
+        ensures time { self.new.1 ≡ self.old.1 }
+    {
         let left = self.left()?;
         self.stream.set_write_timeout(Some(left))?;
         self.stream.write(bytes)
     }
 
-    fn flush(&mut self) -> io::Result<()> {
+    fn flush(&mut self) -> io::Result<()>
+        ensures bytes { Keeps None None }
+        ensures same { self.new ≡ self.old }
+    {
         Ok(())
     }
 }
