@@ -124,10 +124,11 @@ module _ (Does : Input → Reply → Type 0) (Same : Type 0) (register : Registe
       → Adds old.closed new.closed (closed ∷ [])
       → IsNew was read write
       → FailedSo served closed
+      → closed.ending ≡ ending_of served
       → Ended Asks Same register bytes left was closed.sent served
       → OneStep Asks Same
       → ServesOne Does Same register old new (ending_of served)
-  taken old new bytes left was read write closed served clients moments adds begun failed ended step =
+  taken old new bytes left was read write closed served clients moments adds begun failed told ended step =
       let by = asked_so bytes left was closed.sent served ended step in record {
         one = so_ended bytes by.0 closed served;
         ends = refl;
@@ -140,6 +141,7 @@ module _ (Does : Input → Reply → Type 0) (Same : Type 0) (register : Registe
               closed = closed;
               closed_is = refl;
               failed_so = failed;
+              told_so = told;
               left = left;
               begun = was;
               nothing_sent = begun.nothing_sent;

@@ -4,6 +4,7 @@ use Rattle.std.specs.Prelude.{IfSome, IsFalse}
 use Rattle.hub_serve.specs.declared.connections.NoConnection.{NoConnection}
 use Rattle.hub_serve.specs.declared.connections.NoConnection.TheVariants.{Gone, Over}
 use Rattle.hub_serve.specs.declared.connections.Sides.{Sides}
+use Rattle.hub_serve.specs.declared.line.Ending.{Ending}
 
 -- what the clients of connections will send, where it is known which come
 abbrev pub Coming : Type 0
@@ -37,14 +38,17 @@ pub record IsNew (sent : Option (List ℕ)) (read_failed write_failed : Bool) : 
   pub read : IsFalse read_failed
   pub write : IsFalse write_failed
 
--- a connection at its end: what its client was sent, where that is known, and whether a read and a write have failed
+-- a connection at its end: what its client was sent, where that is known, whether a read and a write have failed, and
+-- what it was said to have become
 pub record Closed : Type 0 where
   pub sent : Option (List ℕ)
   pub read_failed : Bool
   pub write_failed : Bool
+  pub ending : Ending
 
-abbrev pub closed : Option (List ℕ) → Bool → Bool → Closed
-closed sent read_failed write_failed = record { sent = sent; read_failed = read_failed; write_failed = write_failed }
+abbrev pub closed : Option (List ℕ) → Bool → Bool → Ending → Closed
+closed sent read_failed write_failed ending =
+    record { sent = sent; read_failed = read_failed; write_failed = write_failed; ending = ending }
 
 -- where it is known how connections ended, these did after the others
 abbrev pub Adds : Option (List Closed) → Option (List Closed) → List Closed → Type 0

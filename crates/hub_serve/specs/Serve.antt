@@ -12,7 +12,7 @@ use Rattle.hub_law.specs.declared.reply.Reply.{Reply}
 use Rattle.hub_law.specs.declared.request.Input.{Input}
 use Rattle.hub_parties.specs.Rows.{RegisterRows}
 use Rattle.hub_serve.specs.Connections.{Adds, Closed, Known}
-use Rattle.hub_serve.specs.Line.{ending_status, line_of}
+use Rattle.hub_serve.specs.Line.{ending_of, ending_status, line_of}
 use Rattle.hub_serve.specs.Output.{Written, BrokenOff}
 use Rattle.hub_serve.specs.declared.line.Ending.{Ending}
 use Rattle.hub_serve.specs.declared.line.Ending.TheVariants.{Answered, Gone, ReadFailed, WriteFailed}
@@ -91,9 +91,9 @@ FailedSo (Ok served) closed = IsFalse closed.read_failed × IsFalse closed.write
 FailedSo (Err Read) closed = IsTrue closed.read_failed × IsFalse closed.write_failed
 FailedSo (Err Write) closed = IsFalse closed.read_failed × IsTrue closed.write_failed
 
--- A connection was taken at a moment, and served so. Where its bytes are known, what was asked is what they ask, and
--- its client was sent the response to that: all of it, or a front where a write failed. Where a read failed, nothing
--- was asked, and nothing sent.
+-- A connection was taken at a moment, served so, and ended as what it became. Where its bytes are known, what was asked
+-- is what they ask, and its client was sent the response to that: all of it, or a front where a write failed. Where a
+-- read failed, nothing was asked, and nothing sent.
 pub record IsTaken (register : RegisterRows) (one : Connection) (served : Result Served IoFault) : Type 0 where
   pub moment : ℕ
   pub moment_is : one.moment ≡ Some moment
@@ -101,6 +101,7 @@ pub record IsTaken (register : RegisterRows) (one : Connection) (served : Result
   pub closed : Closed
   pub closed_is : one.closed ≡ Some closed
   pub failed_so : FailedSo served closed
+  pub told_so : closed.ending ≡ ending_of served
   pub left : Option (List ℕ)
   pub begun : Option (List ℕ)
   pub nothing_sent : IfSome begun (λ bytes. bytes ≡ [])

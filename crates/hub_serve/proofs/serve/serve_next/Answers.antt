@@ -25,7 +25,7 @@ returns-clause-served g c =
     known (g.L.Connections.coming c.end.new.self) (g.L.Connections.closed c.end.new.self) (g.M.Moments.coming c.next-2.new.self) in
     let at_its_end =
     closed (g.L.Writer.Sink.contents c.serve_one.new.writer) (g.L.Reader.Source.failed c.serve_one.new.reader)
-    (g.L.Writer.Sink.failed c.serve_one.new.writer) in
+    (g.L.Writer.Sink.failed c.serve_one.new.writer) c.ending_of-ending.result in
     subst (λ (ending : Ending). ServesOne (DoesTo g.S.Store.content g.S.Store.honest g.S.Store.left hub new) (new ≡ hub) hub.0
     before after ending) (sym c.ending_of-ending.ensures)
     (taken (DoesTo g.S.Store.content g.S.Store.honest g.S.Store.left hub new) (new ≡ hub) hub.0 c.in-Some.moment before after
@@ -41,4 +41,4 @@ returns-clause-served g c =
     (failed_so c.serve_one.result at_its_end (g.L.Reader.Source.failed c.in-Ok.sides.reader)
     (g.L.Writer.Sink.failed c.in-Ok.sides.writer) c.in-Ok.ensures.is_new.read c.in-Ok.ensures.is_new.write
     c.serve_one.ensures.read c.serve_one.ensures.read_kept c.serve_one.ensures.write c.serve_one.ensures.write_kept)
-    c.serve_one.ensures.served c.serve_one.ensures.stepped)
+    c.ending_of-ending.ensures c.serve_one.ensures.served c.serve_one.ensures.stepped)
