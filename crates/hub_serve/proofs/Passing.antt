@@ -4,8 +4,7 @@ use Rattle.std.specs.Option.{unwrap_or}
 use Rattle.std.proofs.lemmas.Grind.{flat_map-append}
 use Rattle.std.proofs.lemmas.List.{append-nil, map-append}
 use Rattle.hub_serve.specs.Connections.{Adds, Closed, Known, TakesFirst}
-use Rattle.hub_serve.specs.One.{Passes}
-use Rattle.hub_serve.specs.Serve.{AreFirst, Connection, ends_in, listed, moments_in, sent_in}
+use Rattle.hub_serve.specs.Serve.{AreFirst, Connection, Passes, ends_in, listed, moments_in, sent_in}
 
 some_is : {A : Type 0} {x y : List A} → Some x ≡ Some y → x ≡ y
 some_is {A} {x} {y} e = ap (λ (o : Option (List A)). unwrap_or o x) e
@@ -15,7 +14,7 @@ takes_none None rest e = tt
 takes_none (Some all) rest e = (all, refl, e)
 
 -- first these, and then those
-takes_both : {A : Type 0} (known rest later : Option (List A)) (xs ys : List A) → TakesFirst known rest xs
+pub takes_both : {A : Type 0} (known rest later : Option (List A)) (xs ys : List A) → TakesFirst known rest xs
     → TakesFirst rest later ys
     → TakesFirst known later (xs ++ ys)
 takes_both None rest later xs ys first second = tt

@@ -12,12 +12,12 @@ use Rattle.http_response.specs.Text.{Writes}
 use Rattle.hub_law.specs.declared.reply.Reply.{Reply}
 use Rattle.hub_law.specs.declared.request.Input.{Input}
 use Rattle.hub_parties.specs.Rows.{RegisterRows}
-use Rattle.hub_serve.specs.Connections.{Closed, Known}
+use Rattle.hub_serve.specs.Connections.{Coming, Known, TakesFirst}
 use Rattle.hub_serve.specs.Line.{ending_status, line_of}
-use Rattle.hub_serve.specs.One.{Passes}
 use Rattle.hub_serve.specs.Output.{Written}
-use Rattle.hub_serve.specs.Serve.{Connection, IsServed, Serves, ends_in, greatest, inputs, lines_from, moments_in, replies, sent_in}
-use Rattle.hub_serve.proofs.Passing.{adds_still, are_first, passes_more, passes_none}
+use Rattle.hub_serve.specs.Serve.{Connection, IsServed, Passes, Serves, Stops, ends_in, greatest, inputs, lines_from}
+use Rattle.hub_serve.specs.Serve.{moments_in, replies, sent_in}
+use Rattle.hub_serve.proofs.Passing.{adds_still, are_first, passes_more, passes_none, takes_both}
 
 pub record SoFar (Runs : List Input → List Reply → Type 0) (register : RegisterRows) (known rest : Known)
     (old new : Option (List ℕ)) (failed after : Bool) (number status : ℕ) : Type 0 where
@@ -89,7 +89,16 @@ pub broken : {E : Type 0} (old new : Option (List ℕ)) (failed after : Bool) (t
 broken old new failed after text (Ok done) bytes flag e = absurd (false≢true e)
 broken old new failed after text (Err fault) bytes flag e = (bytes, flag)
 
-module _ (register : RegisterRows) (known : Known) (Going Stopped : Type 0) (count : ℕ) (old : Option (List ℕ))
+-- no more were served behind those that were
+stops_behind : (Over Unknown : Type 0) (coming between rest : Coming) (sent : List (Option (List ℕ)))
+    → TakesFirst coming between sent
+    → Stops Over Unknown between rest []
+    → Stops Over Unknown coming rest sent
+stops_behind Over Unknown coming between rest sent first (inl over) = inl over
+stops_behind Over Unknown coming between rest sent first (inr one) =
+    inr (one.0, (one.1.0, takes_both coming between rest sent (one.1.0 ∷ []) first one.1.1))
+
+module _ (register : RegisterRows) (known : Known) (Going Over Unknown : Type 0) (count : ℕ) (old : Option (List ℕ))
     (failed : Bool) where
   -- all were served
   pub whole : (Runs : List Input → List Reply → Type 0) (rest : Known) (new : Option (List ℕ)) (after : Bool)
@@ -97,7 +106,7 @@ module _ (register : RegisterRows) (known : Known) (Going Stopped : Type 0) (cou
       → SoFar Runs register known rest old new failed after number status
       → Going
       → number ≡ count
-      → Serves Runs register known rest.closed Going Stopped count old new failed after status
+      → Serves Runs register known rest Going Over Unknown count old new failed after status
   whole Runs rest new after number status s going all = record {
     served = s.served;
     first = are_first known.coming rest.coming (sent_in s.served) s.passed.clients;
@@ -105,28 +114,34 @@ module _ (register : RegisterRows) (known : Known) (Going Stopped : Type 0) (cou
     ended_so = s.passed.closed;
     each = s.each;
     ran = s.ran;
-    ended = inl (record { going = going; counted = s.counted ∙ all; written = s.written; status_is = s.status_is });
+    ended =
+        inl (record {
+          passed = s.passed;
+          going = going;
+          counted = s.counted ∙ all;
+          written = s.written;
+          status_is = s.status_is;
+        });
   }
 
   -- no more can be
-  pub cut_short : (Runs After : List Input → List Reply → Type 0) (rest : Known) (closed : Option (List Closed))
-      (new : Option (List ℕ)) (after : Bool)
+  pub cut_short : (Runs After : List Input → List Reply → Type 0) (rest later : Known) (new : Option (List ℕ)) (after : Bool)
       (number status : ℕ) (s : SoFar Runs register known rest old new failed after number status)
-      → closed ≡ rest.closed
-      → Stopped
+      → later.closed ≡ rest.closed
+      → Stops Over Unknown rest.coming later.coming []
       → number < count
       → After (inputs s.served) (replies s.served)
-      → Serves After register known closed Going Stopped count old new failed after 3
-  cut_short Runs After rest closed new after number status s still stopped fewer ran = record {
+      → Serves After register known later Going Over Unknown count old new failed after 3
+  cut_short Runs After rest later new after number status s still stopped fewer ran = record {
     served = s.served;
     first = are_first known.coming rest.coming (sent_in s.served) s.passed.clients;
     timed = are_first known.moments rest.moments (moments_in s.served) s.passed.moments;
-    ended_so = adds_still known.closed rest.closed closed (ends_in s.served) s.passed.closed still;
+    ended_so = adds_still known.closed rest.closed later.closed (ends_in s.served) s.passed.closed still;
     each = s.each;
     ran = ran;
     ended =
         inr (inl (record {
-          stopped = stopped;
+          stopped = stops_behind Over Unknown known.coming rest.coming later.coming (sent_in s.served) s.passed.clients stopped;
           fewer = subst (λ (n : ℕ). n < count) (sym s.counted) fewer;
           written = s.written;
           status_is = refl;
@@ -166,7 +181,7 @@ module _ (register : RegisterRows) (known : Known) (Going Stopped : Type 0) (cou
     }
 
     pub lost : Going → number < count → AppendsFront between new (line_of next one.ending) × IsTrue after
-        → Serves After register known later.closed Going Stopped count old new failed after 3
+        → Serves After register known later Going Over Unknown count old new failed after 3
     lost going fewer cut =
         let counted = s.counted in
         let more = length_more s.served one in
@@ -181,6 +196,7 @@ module _ (register : RegisterRows) (known : Known) (Going Stopped : Type 0) (cou
           ran = ran;
           ended =
               inr (inr (record {
+                passed = passed;
                 going = going;
                 earlier = s.served;
                 last = one;

@@ -1,13 +1,13 @@
 -- What one connection does.
-use Rattle.std.specs.Prelude.{◌≡◌, List, [], ◌∷◌, Option, Some, None, Result, Ok, Err}
+use Rattle.std.specs.Prelude.{◌≡◌, [], ◌∷◌, Option, Some, None, Result, Ok, Err}
 use Rattle.hub_core.specs.Steps.{Stepped}
 use Rattle.hub_law.specs.declared.reply.Reply.{Reply}
 use Rattle.hub_law.specs.declared.request.Input.{Input}
 use Rattle.hub_parties.specs.Rows.{RegisterRows}
 use Rattle.hub_rules.specs.Sound.{Sound}
 use Rattle.hub_tables.specs.Tables.{Tables}
-use Rattle.hub_serve.specs.Connections.{Adds, Known, TakesFirst}
-use Rattle.hub_serve.specs.Serve.{Asked, Connection, IsServed, ends_in, input_in, moments_in, sent_in}
+use Rattle.hub_serve.specs.Connections.{Known}
+use Rattle.hub_serve.specs.Serve.{Asked, Connection, IsServed, Passes, input_in}
 use Rattle.hub_serve.specs.declared.line.Ending.{Ending}
 
 -- an input was asked of the hub, and this was the reply
@@ -21,12 +21,6 @@ DoesTo content honest left old new input reply =
 abbrev pub Did : (Input → Reply → Type 0) → Type 0 → Option Asked → Type 0
 Did Does Same None = Same
 Did Does Same (Some asked) = Does (input_in asked) asked.reply
-
--- these connections came first, at the moments that came first, and were ended
-pub record Passes (old new : Known) (served : List Connection) : Type 0 where
-  pub clients : TakesFirst old.coming new.coming (sent_in served)
-  pub moments : TakesFirst old.moments new.moments (moments_in served)
-  pub closed : Adds old.closed new.closed (ends_in served)
 
 -- a connection was served and ended so
 pub record ServesOne (Does : Input → Reply → Type 0) (Same : Type 0) (register : RegisterRows) (old new : Known)

@@ -11,7 +11,7 @@ use Rattle.hub_http.specs.declared.serve.Served.{Served}
 use Rattle.hub_law.specs.declared.reply.Reply.{Reply}
 use Rattle.hub_law.specs.declared.request.Input.{Input}
 use Rattle.hub_parties.specs.Rows.{RegisterRows}
-use Rattle.hub_serve.specs.Connections.{Adds, Closed, Known}
+use Rattle.hub_serve.specs.Connections.{Adds, Closed, Coming, Known, TakesFirst}
 use Rattle.hub_serve.specs.Line.{ending_of, ending_status, line_of}
 use Rattle.hub_serve.specs.Output.{Written, BrokenOff}
 use Rattle.hub_serve.specs.declared.line.Ending.{Ending}
@@ -127,15 +127,27 @@ IsServed register one = EndsSo register one one.ending
 abbrev pub AreFirst : {A : Type 0} → Option (List A) → List A → Type 0
 AreFirst {A} known first = IfSome known (λ all. (rest : List A) × (all ≡ first ++ rest))
 
--- as many connections were served as there were to be
-pub record Whole (Going : Type 0) (count : ℕ) (old new : Option (List ℕ)) (failed after : Bool)
+-- these connections came first, at the moments that came first, and were ended
+pub record Passes (old new : Known) (served : List Connection) : Type 0 where
+  pub clients : TakesFirst old.coming new.coming (sent_in served)
+  pub moments : TakesFirst old.moments new.moments (moments_in served)
+  pub closed : Adds old.closed new.closed (ends_in served)
+
+-- why no more were served: no more could be taken, or one more was taken, and its moment is not known
+abbrev pub Stops : Type 0 → Type 0 → Coming → Coming → List (Option (List ℕ)) → Type 0
+Stops Over Unknown coming rest sent =
+    Over ⊎ (Unknown × ((bytes : Option (List ℕ)) × TakesFirst coming rest (sent ++ bytes ∷ [])))
+
+-- as many connections were served as there were to be, and those behind them still come
+pub record Whole (known rest : Known) (Going : Type 0) (count : ℕ) (old new : Option (List ℕ)) (failed after : Bool)
     (served : List Connection) (status : ℕ) : Type 0 where
+  pub passed : Passes known rest served
   pub going : Going
   pub counted : length served ≡ count
   pub written : Written old new failed after (lines_from 1 served)
   pub status_is : status ≡ greatest served
 
--- no more could be taken, or no moment was known
+-- fewer were served, for a reason
 pub record CutShort (Stopped : Type 0) (count : ℕ) (old new : Option (List ℕ)) (failed after : Bool)
     (served : List Connection) (status : ℕ) : Type 0 where
   pub stopped : Stopped
@@ -143,9 +155,10 @@ pub record CutShort (Stopped : Type 0) (count : ℕ) (old new : Option (List ℕ
   pub written : Written old new failed after (lines_from 1 served)
   pub status_is : status ≡ 3
 
--- the line of the last could not be written
-pub record Lost (Going : Type 0) (count : ℕ) (old new : Option (List ℕ)) (after : Bool) (served : List Connection)
-    (status : ℕ) : Type 0 where
+-- the line of the last could not be written; those behind it still come
+pub record Lost (known rest : Known) (Going : Type 0) (count : ℕ) (old new : Option (List ℕ)) (after : Bool)
+    (served : List Connection) (status : ℕ) : Type 0 where
+  pub passed : Passes known rest served
   pub going : Going
   pub earlier : List Connection
   pub last : Connection
@@ -156,14 +169,14 @@ pub record Lost (Going : Type 0) (count : ℕ) (old new : Option (List ℕ)) (af
 
 -- Connections were served in their order, which are the first of those that come, at the moments that come, and these
 -- were ended. What was asked of the hub in them, and the replies, are a run of it.
-pub record Serves (Runs : List Input → List Reply → Type 0) (register : RegisterRows) (known : Known)
-    (closed : Option (List Closed)) (Going Stopped : Type 0) (count : ℕ) (old new : Option (List ℕ))
-    (failed after : Bool) (status : ℕ) : Type 0 where
+pub record Serves (Runs : List Input → List Reply → Type 0) (register : RegisterRows) (known rest : Known)
+    (Going Over Unknown : Type 0) (count : ℕ) (old new : Option (List ℕ)) (failed after : Bool) (status : ℕ) : Type 0 where
   pub served : List Connection
   pub first : AreFirst known.coming (sent_in served)
   pub timed : AreFirst known.moments (moments_in served)
-  pub ended_so : Adds known.closed closed (ends_in served)
+  pub ended_so : Adds known.closed rest.closed (ends_in served)
   pub each : AllByRecursion (IsServed register) served
   pub ran : Runs (inputs served) (replies served)
-  pub ended : Whole Going count old new failed after served status
-      ⊎ (CutShort Stopped count old new failed after served status ⊎ Lost Going count old new after served status)
+  pub ended : Whole known rest Going count old new failed after served status
+      ⊎ (CutShort (Stops Over Unknown known.coming rest.coming (sent_in served)) count old new failed after served status
+      ⊎ Lost known rest Going count old new after served status)

@@ -1,10 +1,10 @@
 //! Connections served one after another.
-ghost use Rattle.std.specs.Prelude.{◌≡◌, ◌⊎◌, IsTrue, OnErr, OnOk};
+ghost use Rattle.std.specs.Prelude.{◌≡◌, IsTrue, List, [], OnErr, OnOk};
 ghost use Rattle.hub_core.specs.Steps.{Ran};
 ghost use Rattle.hub_rules.specs.Sound.{Sound};
 ghost use Rattle.hub_serve.specs.Connections.{known};
 ghost use Rattle.hub_serve.specs.One.{ServesNext, DoesTo};
-ghost use Rattle.hub_serve.specs.Serve.{Serves};
+ghost use Rattle.hub_serve.specs.Serve.{Serves, Stops};
 
 use crate::connections::{Connections, Moments, NoConnection};
 use crate::line::{DONE, Ending, FAILED, ending_of, print_line};
@@ -29,8 +29,9 @@ fn serve_next<L: Connections, S: Store, M: Moments>(
         (known (L.coming connections.old) (L.closed connections.old) (M.coming moments.old))
         (known (L.coming connections.new) (L.closed connections.new) (M.coming moments.new)) result }
 
-    // No connection is served any more only where none could be taken, or no moment was known.
-    ensures stopped { OnErr result (IsTrue (L.failed connections.new) ⊎ IsTrue (M.failed moments.new)) }
+    // No connection is served any more only where none could be taken, or the moment of the one that was is not known.
+    ensures stopped { OnErr result (Stops (IsTrue (L.failed connections.new)) (IsTrue (M.failed moments.new))
+        (L.coming connections.old) (L.coming connections.new) []) }
     ensures going { OnOk result ((L.failed connections.new ≡ L.failed connections.old)
         × (M.failed moments.new ≡ M.failed moments.old)) }
     ensures register { hub.new.0 ≡ hub.old.0 }
@@ -67,9 +68,9 @@ pub fn serve_on<L: Connections, S: Store, M: Moments, W: Sink>(
         (λ inputs replies. S.honest hub.new.1 → Sound hub.old.0.suppliers (S.content hub.old.1) →
         Ran hub.old.0 (S.content hub.old.1) (S.content hub.new.1) (S.left hub.old.1) (S.left hub.new.1) inputs replies)
         hub.old.0 (known (L.coming connections.old) (L.closed connections.old) (M.coming moments.old))
-        (L.closed connections.new)
+        (known (L.coming connections.new) (L.closed connections.new) (M.coming moments.new))
         ((L.failed connections.new ≡ L.failed connections.old) × (M.failed moments.new ≡ M.failed moments.old))
-        (IsTrue (L.failed connections.new) ⊎ IsTrue (M.failed moments.new)) count
+        (IsTrue (L.failed connections.new)) (IsTrue (M.failed moments.new)) count
         (W.contents out.old) (W.contents out.new) (W.failed out.old) (W.failed out.new) result }
     ensures register { hub.new.0 ≡ hub.old.0 }
     ensures was_honest { S.honest hub.new.1 → S.honest hub.old.1 }

@@ -1,4 +1,4 @@
-use Rattle.std.proofs.Common.{◌≡◌, ◌+◌, ◌<◌, ◌⊎◌, refl, sym, subst, ◌∙◌, arith}
+use Rattle.std.proofs.Common.{◌≡◌, ◌+◌, ◌<◌, refl, sym, subst, ◌∙◌, arith}
 use Rattle.std.specs.Prelude.{IsTrue}
 use Rattle.hub_parties.specs.Rows.{RegisterRows}
 use Rattle.hub_serve.specs.Connections.{known}
@@ -34,13 +34,14 @@ returns-in-Err-clause-served g c =
     (g.M.Moments.coming c.args.moments.now))
     ((g.L.Connections.failed c.serve_next.new.connections ≡ g.L.Connections.failed c.args.connections.now)
     × (g.M.Moments.failed c.serve_next.new.moments ≡ g.M.Moments.failed c.args.moments.now))
-    (IsTrue (g.L.Connections.failed c.serve_next.new.connections) ⊎ IsTrue (g.M.Moments.failed c.serve_next.new.moments))
+    (IsTrue (g.L.Connections.failed c.serve_next.new.connections)) (IsTrue (g.M.Moments.failed c.serve_next.new.moments))
     c.args.count (g.W.Sink.contents c.args.out.now) (g.W.Sink.failed c.args.out.now)
     (RunsTo g.S.Store.content g.S.Store.honest g.S.Store.left hub between)
     (RunsTo g.S.Store.content g.S.Store.honest g.S.Store.left hub new)
     (known (g.L.Connections.coming c.loop-number.connections) (g.L.Connections.closed c.loop-number.connections)
     (g.M.Moments.coming c.loop-number.moments))
-    (g.L.Connections.closed c.serve_next.new.connections)
+    (known (g.L.Connections.coming c.serve_next.new.connections) (g.L.Connections.closed c.serve_next.new.connections)
+    (g.M.Moments.coming c.serve_next.new.moments))
     (g.W.Sink.contents c.loop-number.out) (g.W.Sink.failed c.loop-number.out) c.loop-number.number c.loop-number.greatest s
     c.in-Err.ensures.served.1 c.in-Err.ensures.stopped fewer
     (subst (λ h. RunsTo g.S.Store.content g.S.Store.honest g.S.Store.left hub h (inputs s.served) (replies s.served))
@@ -66,7 +67,7 @@ returns-then-is_err-clause-served g c =
     (g.M.Moments.coming c.args.moments.now))
     ((g.L.Connections.failed c.serve_next.new.connections ≡ g.L.Connections.failed c.args.connections.now)
     × (g.M.Moments.failed c.serve_next.new.moments ≡ g.M.Moments.failed c.args.moments.now))
-    (IsTrue (g.L.Connections.failed c.serve_next.new.connections) ⊎ IsTrue (g.M.Moments.failed c.serve_next.new.moments))
+    (IsTrue (g.L.Connections.failed c.serve_next.new.connections)) (IsTrue (g.M.Moments.failed c.serve_next.new.moments))
     c.args.count (g.W.Sink.contents c.args.out.now) (g.W.Sink.failed c.args.out.now)
     (RunsTo g.S.Store.content g.S.Store.honest g.S.Store.left hub between)
     (RunsTo g.S.Store.content g.S.Store.honest g.S.Store.left hub new)
@@ -105,7 +106,7 @@ loop-number-preserved g c =
           (g.M.Moments.coming c.args.moments.now))
           ((g.L.Connections.failed c.serve_next.new.connections ≡ g.L.Connections.failed c.args.connections.now)
           × (g.M.Moments.failed c.serve_next.new.moments ≡ g.M.Moments.failed c.args.moments.now))
-          (IsTrue (g.L.Connections.failed c.serve_next.new.connections) ⊎ IsTrue (g.M.Moments.failed c.serve_next.new.moments))
+          (IsTrue (g.L.Connections.failed c.serve_next.new.connections)) (IsTrue (g.M.Moments.failed c.serve_next.new.moments))
           c.args.count (g.W.Sink.contents c.args.out.now) (g.W.Sink.failed c.args.out.now)
           (RunsTo g.S.Store.content g.S.Store.honest g.S.Store.left hub between)
           (RunsTo g.S.Store.content g.S.Store.honest g.S.Store.left hub new)
