@@ -51,6 +51,10 @@ lent_by f = segment_of f.machine.«open»
 abbrev pub known_service : {R : Type 0} → Feeder R → Option Service
 known_service f = if f.machine.fresh then None else Some f.machine.service
 
+-- the decimal mark of the service characters, as far as they are known
+abbrev pub decimal_of : {R : Type 0} → Feeder R → ℕ
+decimal_of f = f.machine.service.decimal
+
 -- what a call tells of a text: one more segment, its end, or its fault
 abbrev pub Told : {R : Type 0} → (R → Option (List ℕ)) → List ℕ → List Segment → Result (Option Segment) TokenFault → Feeder R → Type 0
 Told remaining all lent (Ok (Some segment)) f = Fed remaining all (lent ++ segment ∷ []) f

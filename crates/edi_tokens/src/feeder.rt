@@ -52,7 +52,7 @@ impl<R: Source> Feeder<R> {
     ghost use Rattle.std.specs.Borrow.{follows_so};
     ghost use mathlib.Core.Option.{none};
     ghost use Rattle.std.specs.Prelude.{⊤};
-    ghost use Rattle.edi_tokens.specs.Feeder.{Fed, Took, Filled, Told, Feeds, Flags, TakesWithin, stopped, answered, room_of, lent_by, known_service};
+    ghost use Rattle.edi_tokens.specs.Feeder.{Fed, Took, Filled, Told, Feeds, Flags, TakesWithin, stopped, answered, room_of, lent_by, known_service, decimal_of};
     ghost use Rattle.edi_tokens.specs.Feeder.{IsOfText};
     ghost use Rattle.edi_tokens.specs.SegmentRef.{segment_in, segment_told};
 
@@ -193,6 +193,13 @@ impl<R: Source> Feeder<R> {
             return None;
         }
         Some(self.machine.service)
+    }
+
+    /// The decimal mark: a full stop, until a service string has said another.
+    pub fn decimal(&self) -> u8
+        ensures { result ≡ decimal_of self.now }
+    {
+        self.machine.service.decimal
     }
 
     /// The reader, as far as it was read.

@@ -8,10 +8,17 @@ use crate::segment::Segment;
 use edi_base::{Items, MemoryFault, copied};
 use std::alloc::Global;
 
+/// How a segment that is lent is kept.
+#[derive(Clone, Copy)]
+enum Form<'a> {
+    Flat(&'a FlatSegment),
+    Kept(&'a Segment),
+}
+
 /// A segment that is lent until its lender goes on. Only `to_segment` takes memory.
 #[derive(Clone, Copy)]
 pub struct SegmentRef<'a> {
-    segment: &'a FlatSegment,
+    form: Form<'a>,
 }
 
 impl<'a> SegmentRef<'a> {
@@ -21,35 +28,58 @@ impl<'a> SegmentRef<'a> {
     pub(crate) fn new(segment: &'a FlatSegment) -> Self
         ensures { segment_in result ≡ segment_of segment.now }
     {
-        SegmentRef { segment }
+        SegmentRef {
+            form: Form::Flat(segment),
+        }
+    }
+
+    /// A segment that is kept, lent.
+    pub fn of(segment: &'a Segment) -> Self
+        ensures { segment_in result ≡ segment.now }
+    {
+        SegmentRef {
+            form: Form::Kept(segment),
+        }
     }
 
     /// The three bytes of the tag.
     pub fn tag(&self) -> [u8; 3]
         ensures { result ≡ (segment_in self.now).tag }
     {
-        self.segment.tag()
+        match self.form {
+            Form::Flat(segment) => segment.tag(),
+            Form::Kept(segment) => segment.tag,
+        }
     }
 
     /// How many elements there are.
     pub fn elements(&self) -> usize
         ensures { result ≡ length (segment_in self.now).elements }
     {
-        self.segment.elements()
+        match self.form {
+            Form::Flat(segment) => segment.elements(),
+            Form::Kept(segment) => segment.elements.len(),
+        }
     }
 
     /// How many components an element has, counted from 0; none where the element is absent.
     pub fn components(&self, element: usize) -> usize
         ensures { result ≡ length (element_at (segment_in self.now).elements element) }
     {
-        self.segment.components(element)
+        match self.form {
+            Form::Flat(segment) => segment.components(element),
+            Form::Kept(segment) => segment.element(element).len(),
+        }
     }
 
     /// The bytes of a component, element and place counted from 0; empty where it is absent.
     pub fn component(&self, element: usize, place: usize) -> &[u8]
         ensures { result.now ≡ component_at (segment_in self.now).elements element place }
     {
-        self.segment.component(element, place)
+        match self.form {
+            Form::Flat(segment) => segment.component(element, place),
+            Form::Kept(segment) => segment.component(element, place),
+        }
     }
 
     fn copied_element(&self, alloc: Global, element: usize) -> Result<Items<Items<u8>>, MemoryFault>
