@@ -5,5 +5,4 @@ pub mod JoinLemmas
 pub mod LawLemmas
 pub mod LimitLemmas
 pub mod MailLemmas
-pub mod OpenLemmas
 pub mod MomentLemmas

@@ -5,7 +5,10 @@ pub mod Blocks
 pub mod Message
 pub mod Fault
 pub mod Interchange
-pub mod Parts
+pub mod Reference
+pub mod Judge
+pub mod Gathered
+pub mod Opened
 pub mod Law
 pub mod Moment
 pub mod Mail

@@ -1,5 +1,6 @@
 ghost use Rattle.std.specs.Prelude.{◌≡◌};
 
+use edi_tokens::TokenFault;
 use std::alloc::{AllocError, AllocFailed};
 use std::error::Error;
 use std::fmt;
@@ -92,5 +93,75 @@ impl<T: Drop> From<AllocFailed<T>> for EnvelopeFault {
 
     fn from(_error: AllocFailed<T>) -> EnvelopeFault {
         EnvelopeFault::Memory
+    }
+}
+
+/// Why a text is no interchange.
+#[derive(Clone, Copy, Debug, PartialEq, Eq)]
+pub enum OpenFault {
+    /// The text spells no segments, or the reader failed.
+    Token(TokenFault),
+    /// The segments are no interchange, or memory ran out.
+    Envelope(EnvelopeFault),
+}
+
+impl OpenFault {
+    ghost use Rattle.edi_envelope.specs.Opened.{code_text};
+
+    /// The code that is printed, as `E12`; `read` for a reader that failed and `memory` for out of memory.
+    pub fn code(self) -> &'static str
+        ensures { result.now ≡ code_text self }
+    {
+        match self {
+            OpenFault::Token(fault) => fault.code(),
+            OpenFault::Envelope(fault) => fault.code(),
+        }
+    }
+}
+
+impl fmt::Display for OpenFault {
+    ghost use Rattle.edi_envelope.specs.Opened.{code_text};
+    ghost use Rattle.std.specs.Prelude.{Some};
+
+    ghost output = { λ fault. Some (code_text fault) };
+
+    fn fmt<W: fmt::Write>(&self, f: &mut fmt::Formatter<W>) -> fmt::Result {
+        f.write_str(self.code())
+    }
+}
+
+impl Error for OpenFault {}
+
+impl From<TokenFault> for OpenFault {
+    ghost use Rattle.std.specs.Prelude.{◌≡◌};
+    ghost use Rattle.edi_envelope.specs.declared.fault.OpenFault.TheVariants.{Token};
+
+    ghost from_gives = { λ fault open. open ≡ Token fault };
+
+    fn from(fault: TokenFault) -> OpenFault {
+        OpenFault::Token(fault)
+    }
+}
+
+impl From<EnvelopeFault> for OpenFault {
+    ghost use Rattle.std.specs.Prelude.{◌≡◌};
+    ghost use Rattle.edi_envelope.specs.declared.fault.OpenFault.TheVariants.{Envelope};
+
+    ghost from_gives = { λ fault open. open ≡ Envelope fault };
+
+    fn from(fault: EnvelopeFault) -> OpenFault {
+        OpenFault::Envelope(fault)
+    }
+}
+
+impl From<AllocError> for OpenFault {
+    ghost use Rattle.std.specs.Prelude.{◌≡◌};
+    ghost use Rattle.edi_envelope.specs.declared.fault.OpenFault.TheVariants.{Envelope};
+    ghost use Rattle.edi_envelope.specs.declared.fault.EnvelopeFault.TheVariants.{Memory};
+
+    ghost from_gives = { λ _ open. open ≡ Envelope Memory };
+
+    fn from(_error: AllocError) -> OpenFault {
+        OpenFault::Envelope(EnvelopeFault::Memory)
     }
 }

@@ -1,52 +1,55 @@
 ghost use Rattle.std.specs.Prelude.{◌≡◌, ◌<◌, length, remove, IsTrue};
 ghost use Rattle.edi_tokens.specs.Segment.{component_at};
+ghost use Rattle.edi_tokens.specs.SegmentRef.{segment_in};
 ghost use Rattle.edi_envelope.specs.Header as spec;
+ghost use Rattle.edi_envelope.specs.Judge.{marks_of};
 
 use crate::interchange::Head;
 use crate::limits::is_reference;
+use crate::reference::kept;
 use edi_base::{are_digits, has_length};
-use edi_tokens::{Items, Segment};
+use edi_tokens::{Items, Segment, SegmentRef};
 
-/// Whether UNB names a character set of seven bits, UNOA or UNOB.
-pub(crate) fn is_seven_bit_set(unb: &Segment) -> bool
-    ensures { result ≡ spec.is_seven_bit_set unb.now }
+// Whether UNB names a character set of seven bits, UNOA or UNOB.
+fn is_seven_bit_set(unb: &SegmentRef<'_>) -> bool
+    ensures { result ≡ spec.is_seven_bit_set (segment_in unb.now) }
 {
     let identifier = unb.component(0, 0);
     identifier == b"UNOA".as_slice() || identifier == b"UNOB".as_slice()
 }
 
 // Whether the syntax is UNOA, UNOB or UNOC in version 3.
-fn has_syntax(unb: &Segment) -> bool
-    ensures { result ≡ spec.has_syntax unb.now }
+fn has_syntax(unb: &SegmentRef<'_>) -> bool
+    ensures { result ≡ spec.has_syntax (segment_in unb.now) }
 {
     (is_seven_bit_set(unb) || unb.component(0, 0) == b"UNOC".as_slice())
         && unb.component(0, 1) == b"3".as_slice()
 }
 
 // Whether an element names a partner by 1 to 35 bytes with the qualifier 14.
-fn has_partner(unb: &Segment, element: usize) -> bool
-    ensures { result ≡ spec.has_partner unb.now element }
+fn has_partner(unb: &SegmentRef<'_>, element: usize) -> bool
+    ensures { result ≡ spec.has_partner (segment_in unb.now) element }
 {
     has_length(1, 35, unb.component(element, 0)) && unb.component(element, 1) == b"14".as_slice()
 }
 
 // Whether date and time have six digits and four.
-fn has_date_and_time(unb: &Segment) -> bool
-    ensures { result ≡ spec.has_date_and_time unb.now }
+fn has_date_and_time(unb: &SegmentRef<'_>) -> bool
+    ensures { result ≡ spec.has_date_and_time (segment_in unb.now) }
 {
     are_digits(6, 6, unb.component(3, 0)) && are_digits(4, 4, unb.component(3, 1))
 }
 
-/// Whether the test indicator is `1`.
-pub(crate) fn is_test(unb: &Segment) -> bool
-    ensures { result ≡ spec.is_test unb.now }
+// Whether the test indicator is `1`.
+fn is_test(unb: &SegmentRef<'_>) -> bool
+    ensures { result ≡ spec.is_test (segment_in unb.now) }
 {
     unb.component(10, 0) == b"1".as_slice()
 }
 
-/// Whether UNB is as it is taken.
-pub(crate) fn is_header(unb: &Segment) -> bool
-    ensures { result ≡ spec.is_header unb.now }
+// Whether UNB is as it is taken.
+fn is_header(unb: &SegmentRef<'_>) -> bool
+    ensures { result ≡ spec.is_header (segment_in unb.now) }
 {
     has_syntax(unb)
         && has_partner(unb, 1)
@@ -54,6 +57,43 @@ pub(crate) fn is_header(unb: &Segment) -> bool
         && has_date_and_time(unb)
         && is_reference(unb.component(4, 0))
         && (unb.component(10, 0).is_empty() || is_test(unb))
+}
+
+/// What UNB says of the interchange's fault.
+#[derive(Clone, Copy, Debug)]
+pub(crate) struct HeaderMarks {
+    /// It is as it is taken.
+    pub taken: bool,
+    /// The test indicator is `1`.
+    pub test: bool,
+    /// The character set has seven bits.
+    pub seven_bit: bool,
+    /// The control reference, as it is kept.
+    pub reference: [u8; 14],
+}
+
+impl HeaderMarks {
+    /// Before any UNB.
+    pub(crate) fn none() -> Self {
+        HeaderMarks {
+            taken: false,
+            test: false,
+            seven_bit: false,
+            reference: [0; 14],
+        }
+    }
+
+    /// Of a UNB.
+    pub(crate) fn of(unb: &SegmentRef<'_>) -> Self
+        ensures { result ≡ marks_of (segment_in unb.now) }
+    {
+        HeaderMarks {
+            taken: is_header(unb),
+            test: is_test(unb),
+            seven_bit: is_seven_bit_set(unb),
+            reference: kept(unb.component(4, 0)),
+        }
+    }
 }
 
 // The bytes as an array.

@@ -1,20 +1,24 @@
 //! The envelope of an interchange, UNB to UNZ, and of each message in it, UNH to UNT (ISO 9735, syntax version 3).
 #![tactic(auto)]
 
-mod blocks;
 mod fault;
+mod gathering;
 mod header;
 mod interchange;
+mod judge;
 mod law;
 mod limits;
 mod mail;
 mod message;
 mod moment;
 mod opening;
+mod reference;
+mod tally;
 
-pub use fault::EnvelopeFault;
+pub use fault::{EnvelopeFault, OpenFault};
 pub use interchange::{Head, Interchange, RawMessage};
+pub use judge::{Judge, Place};
 pub use law::lowest_condition;
 pub use mail::{LAST_MAIL_NUMBER, mail_message_text, wrap};
 pub use moment::{Moment, date_digits, time_digits};
-pub use opening::open;
+pub use opening::{open, open_feed};

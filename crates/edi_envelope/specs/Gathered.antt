@@ -1,0 +1,85 @@
+-- What is kept of the segments that have come of an interchange.
+use Rattle.std.specs.Prelude.{◌≡◌, ◌≢◌, ℕ, Bool, false, true, List, [], ◌∷◌, ◌++◌, map, drop, Option, Some, None}
+use Rattle.std.specs.Prelude.{Result, Ok, Err}
+use Rattle.std.specs.List.{list_any}
+use Rattle.edi_tokens.specs.declared.segment.Segment.{Segment}
+use Rattle.edi_tokens.specs.declared.feeder.Feeder.{Feeder}
+use Rattle.edi_tokens.specs.declared.fault.TokenFault.TheVariants as token
+use Rattle.edi_tokens.specs.Reading.{tokens_of}
+use Rattle.edi_tokens.specs.Machine.{tokens_at}
+use Rattle.edi_tokens.specs.Feeder.{Fed, HasCause}
+use Rattle.edi_envelope.specs.declared.fault.EnvelopeFault.{EnvelopeFault}
+use Rattle.edi_envelope.specs.declared.fault.EnvelopeFault.TheVariants as envelope
+use Rattle.edi_envelope.specs.declared.fault.OpenFault.{OpenFault}
+use Rattle.edi_envelope.specs.declared.fault.OpenFault.TheVariants.{Token, Envelope}
+use Rattle.edi_envelope.specs.declared.interchange.Head.{Head}
+use Rattle.edi_envelope.specs.declared.interchange.Interchange.{Interchange}
+use Rattle.edi_envelope.specs.declared.opening.Opening.{Opening}
+use Rattle.edi_envelope.specs.Interchange.{messages_in}
+use Rattle.edi_envelope.specs.Judge.{Judged, is_fine}
+use Rattle.edi_envelope.specs.declared.gathering.Gathered.{Gathered}
+use Rattle.edi_envelope.specs.Segments.{is_unh, is_unz, last_segment}
+use Rattle.edi_envelope.specs.Header.{head_of}
+use Rattle.edi_envelope.specs.Blocks.{blocks}
+use Rattle.edi_envelope.specs.Message.{message_of}
+
+-- what the first of them says, where there is one
+abbrev pub head_in : List Segment → Option Head
+head_in [] = None
+head_in (unb ∷ rest) = Some (head_of unb)
+
+-- UNH and what stands behind it; nothing, where no UNH has come
+abbrev pub IsLast : List Segment → List Segment → Type 0
+IsLast before [] = before ≡ []
+IsLast before (unh ∷ rest) = (is_unh unh ≡ true) × (list_any is_unh rest ≡ false)
+
+-- the head, the messages before the last UNH, and the segments from it on
+pub record Keeps (lent : List Segment) (gathered : Gathered) : Type 0 where
+  pub head : gathered.head ≡ head_in lent
+  pub before : List Segment
+  pub split : drop 1 lent ≡ before ++ gathered.last.items
+  pub last : IsLast before gathered.last.items
+  pub messages : gathered.messages.items ≡ map message_of (blocks before)
+
+-- the head and all messages
+pub record Whole (lent : List Segment) (gathered : Gathered) : Type 0 where
+  pub head : gathered.head ≡ head_in lent
+  pub messages : gathered.messages.items ≡ map message_of (blocks (drop 1 lent))
+
+-- the same, where UNZ is the last segment
+pub record Ends (lent : List Segment) (gathered : Gathered) : Type 0 where
+  pub head : gathered.head ≡ head_in lent
+  pub messages : gathered.messages.items ≡ map message_of (messages_in lent)
+
+-- what is kept of segments, of which at most the last is UNZ
+pub record Gathers (lent : List Segment) (gathered : Gathered) : Type 0 where
+  pub going : is_unz (last_segment lent) ≡ false → Keeps lent gathered
+  pub ended : is_unz (last_segment lent) ≡ true → Ends lent gathered
+
+-- the interchange of what is kept
+pub record IsOf (gathered : Gathered) (decimal : ℕ) (interchange : Interchange) : Type 0 where
+  pub decimal_is : interchange.decimal ≡ decimal
+  pub head : gathered.head ≡ Some interchange.head
+  pub messages : interchange.messages ≡ gathered.messages.items
+
+-- the judge of segments, and what is kept of them as long as no fault is sure
+pub record Stands (lent : List Segment) (opening : Opening) : Type 0 where
+  pub judged : Judged lent opening.judge
+  pub kept : is_fine opening.judge ≡ true → Gathers lent opening.gathered
+
+-- what was answered is this
+abbrev pub IsJudged : Result Interchange EnvelopeFault → Result Interchange EnvelopeFault → Type 0
+IsJudged (Ok interchange) given = given ≡ Ok interchange
+IsJudged (Err fault) given = given ≡ Err fault
+
+-- of a text all segments are opened, or its token fault is told, or a read failed, or memory ran out
+abbrev pub Reads : {R : Type 0} → (R → Option (List ℕ)) → Feeder R → Result Opening OpenFault → Feeder R → Type 0
+Reads remaining old (Ok opening) new =
+    (lent : List Segment) × Stands lent opening × ((all : List ℕ) → Fed remaining all [] old → tokens_of all ≡ Ok (tokens_at lent new.machine))
+Reads remaining old (Err (Token fault)) new = (all : List ℕ) → Fed remaining all [] old → fault ≢ token.Read → tokens_of all ≡ Err fault
+Reads remaining old (Err (Envelope fault)) new = fault ≡ envelope.Memory
+
+abbrev pub Flagged : {X : Type 0} → Result X OpenFault → Bool → Bool → Type 0
+Flagged (Ok x) old new = new ≡ old
+Flagged (Err (Token fault)) old new = HasCause fault old new
+Flagged (Err (Envelope fault)) old new = new ≡ old

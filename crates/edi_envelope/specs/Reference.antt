@@ -1,0 +1,7 @@
+-- References of one length, as they are kept and compared.
+use Rattle.std.specs.Prelude.{ℕ, ◌-◌, List, ◌++◌, length, replicate, if◌then◌else◌}
+use Rattle.edi_envelope.specs.Limits.{is_reference}
+
+-- a reference, filled up to 14 bytes with zeros, which no reference has; zeros for what is no reference
+abbrev pub kept : List ℕ → List ℕ
+kept text = if is_reference text then text ++ replicate (14 - length text) 0 else replicate 14 0

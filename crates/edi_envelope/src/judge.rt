@@ -1,0 +1,364 @@
+//! The judge of an interchange: it takes the segments one after another, and knows at the end which fault they have.
+
+ghost use Rattle.std.specs.Prelude.{◌≡◌, ◌↔◌, ◌∷◌, ◌++◌, ◌&&◌, ◌||◌, true, false, List, [], None, IsTrue, IfOk, OnOk};
+ghost use Rattle.std.specs.List.{list_any};
+ghost use Rattle.edi_tokens.specs.declared.segment.Segment.{Segment};
+ghost use Rattle.edi_tokens.specs.Segment.{element_at};
+ghost use Rattle.edi_tokens.specs.SegmentRef.{segment_in};
+ghost use Rattle.edi_envelope.specs.Header.{is_header};
+ghost use Rattle.edi_envelope.specs.Interchange.{fault_of, has_high, has_high_data};
+ghost use Rattle.edi_envelope.specs.Judge.{Judged, Placed, Steps, is_sound, is_fine, marks_at, lowest_of, lost_fault};
+
+use crate::fault::EnvelopeFault;
+use crate::header::HeaderMarks;
+use crate::message::is_frame;
+use crate::reference::kept;
+use crate::tally::{Begun, Headers, Trailers, one_more};
+use edi_base::is_count_of;
+use edi_tokens::{MemoryFault, SegmentRef};
+use std::alloc::Global;
+
+/// The messages of an interchange are at most so many.
+const MOST_MESSAGES: usize = 999;
+
+/// Where a segment stands in an interchange.
+#[derive(Clone, Copy, Debug, PartialEq, Eq)]
+pub enum Place {
+    /// The interchange header UNB.
+    Header,
+    /// A message header UNH.
+    MessageHeader,
+    /// A segment between UNH and UNT.
+    Inside,
+    /// A message trailer UNT.
+    MessageTrailer,
+    /// The interchange trailer UNZ.
+    Trailer,
+    /// A fault is sure: there is no interchange, whatever follows.
+    Refused,
+}
+
+/// What comes next.
+#[derive(Clone, Copy, Debug)]
+pub(crate) enum Stage {
+    /// UNB.
+    Start,
+    /// A message or UNZ.
+    Between,
+    /// More of a message.
+    Message(Begun),
+    /// UNZ at some time; what stands before it is no row of messages.
+    Lost,
+    /// Nothing; the interchange has this fault.
+    Ended(Option<EnvelopeFault>),
+    /// The frame is broken.
+    Broken,
+}
+
+/// Which conditions hold where UNB, messages and UNZ stand in their order.
+#[derive(Clone, Copy, Debug)]
+pub(crate) struct Marks {
+    /// E07.
+    header: bool,
+    /// E11.
+    limits: bool,
+    /// E12.
+    counts: bool,
+    /// E13.
+    references: bool,
+    /// E14.
+    messages: bool,
+    /// E15.
+    control: bool,
+    /// E16.
+    twice: bool,
+    /// E17.
+    test: bool,
+    /// E18.
+    many: bool,
+    /// E19.
+    outside: bool,
+}
+
+/// What of an interchange has come, as far as its fault hangs on it.
+#[derive(Drop)]
+pub struct Judge {
+    stage: Stage,
+    header: HeaderMarks,
+    /// A byte from 0xA0 on stands in data under UNOA or UNOB.
+    outside: bool,
+    headers: Headers,
+    trailers: Trailers,
+}
+
+// Whether a byte from 0xA0 on is among the bytes.
+fn has_high(bytes: &[u8]) -> bool
+    ensures { result ≡ has_high bytes.now }
+{
+    bytes.iter().any(|b| *b >= 0xa0)
+}
+
+// Whether an element has a byte from 0xA0 on.
+fn has_high_element(segment: &SegmentRef<'_>, element: usize) -> bool
+    ensures { result ≡ list_any has_high (element_at (segment_in segment.now).elements element) }
+{
+    for place in 0..segment.components(element) {
+        if has_high(segment.component(element, place)) {
+            return true;
+        }
+    }
+    false
+}
+
+// Whether a segment has a byte from 0xA0 on in its data.
+fn has_high_data(segment: &SegmentRef<'_>) -> bool
+    ensures { result ≡ has_high_data (segment_in segment.now) }
+{
+    for element in 0..segment.elements() {
+        if has_high_element(segment, element) {
+            return true;
+        }
+    }
+    false
+}
+
+// The fault with the lowest number, of those that are marked.
+fn lowest(marks: Marks) -> Option<EnvelopeFault>
+    ensures { result ≡ lowest_of marks }
+{
+    if marks.header {
+        Some(EnvelopeFault::InterchangeHeader)
+    } else if marks.limits {
+        Some(EnvelopeFault::MessageHeader)
+    } else if marks.counts {
+        Some(EnvelopeFault::SegmentCount)
+    } else if marks.references {
+        Some(EnvelopeFault::MessageReference)
+    } else if marks.messages {
+        Some(EnvelopeFault::MessageCount)
+    } else if marks.control {
+        Some(EnvelopeFault::ControlReference)
+    } else if marks.twice {
+        Some(EnvelopeFault::RepeatedReference)
+    } else if marks.test {
+        Some(EnvelopeFault::TestIndicator)
+    } else if marks.many {
+        Some(EnvelopeFault::TooManyMessages)
+    } else if marks.outside {
+        Some(EnvelopeFault::CharacterSet)
+    } else {
+        None
+    }
+}
+
+impl Judge {
+    /// Nothing has come. Takes no memory.
+    pub fn new(alloc: Global) -> Self
+        ensures { Judged [] result }
+    {
+        Judge {
+            stage: Stage::Start,
+            header: HeaderMarks::none(),
+            outside: false,
+            headers: Headers::new(alloc),
+            trailers: Trailers::new(),
+        }
+    }
+
+    // Whether a byte is outside of the character set, of this segment or of one before.
+    fn is_outside(&self, segment: &SegmentRef<'_>) -> bool
+        ensures { result ≡ (self.now.outside || (self.now.header.seven_bit && has_high_data (segment_in segment.now))) }
+    {
+        self.outside || (self.header.seven_bit && has_high_data(segment))
+    }
+
+    // The first segment.
+    fn begin(&mut self, segment: &SegmentRef<'_>) -> Place
+        requires { self.old.stage ≡ Stage.Start }
+        ensures { Steps self.old result (segment_in segment.now) self.new }
+    {
+        if segment.tag() != *b"UNB" {
+            self.stage = Stage::Broken;
+            return Place::Refused;
+        }
+        self.header = HeaderMarks::of(segment);
+        self.outside = self.is_outside(segment);
+        self.stage = Stage::Between;
+        Place::Header
+    }
+
+    // Which conditions hold where UNZ comes between messages.
+    fn marks(&self, unz: &SegmentRef<'_>) -> Marks
+        ensures { result ≡ marks_at self.now (segment_in unz.now) }
+    {
+        Marks {
+            header: !self.header.taken,
+            limits: !(self.headers.is_identified() && self.trailers.within),
+            counts: !self.trailers.counted,
+            references: !self.trailers.closed,
+            messages: !is_count_of(unz.component(0, 0), self.headers.messages),
+            control: kept(unz.component(1, 0)) != self.header.reference,
+            twice: self.headers.has_twice(),
+            test: self.header.test,
+            many: self.headers.messages > MOST_MESSAGES,
+            outside: self.is_outside(unz),
+        }
+    }
+
+    // A segment where a message or UNZ may stand.
+    fn at_rest(&mut self, segment: &SegmentRef<'_>) -> Result<Place, MemoryFault>
+        requires { self.old.stage ≡ Stage.Between }
+        ensures { IfOk result (λ place. Steps self.old place (segment_in segment.now) self.new) }
+    {
+        let tag = segment.tag();
+        if tag == *b"UNB" {
+            self.stage = Stage::Broken;
+            return Ok(Place::Refused);
+        }
+        if tag == *b"UNZ" {
+            self.stage = Stage::Ended(lowest(self.marks(segment)));
+            return Ok(Place::Trailer);
+        }
+        if tag != *b"UNH" {
+            self.stage = Stage::Lost;
+            return Ok(Place::Refused);
+        }
+        self.outside = self.is_outside(segment);
+        self.headers.take(segment)?;
+        self.stage = Stage::Message(Begun {
+            reference: kept(segment.component(0, 0)),
+            count: 1,
+        });
+        Ok(Place::MessageHeader)
+    }
+
+    // The fault of an interchange that is no row of messages.
+    fn lost(&self) -> EnvelopeFault
+        ensures { result ≡ lost_fault self.now.header }
+    {
+        if self.header.taken {
+            EnvelopeFault::MessageFrame
+        } else {
+            EnvelopeFault::InterchangeHeader
+        }
+    }
+
+    // A segment where a message is begun.
+    fn in_message(&mut self, begun: Begun, segment: &SegmentRef<'_>) -> Result<Place, MemoryFault>
+        requires { self.old.stage ≡ Stage.Message begun }
+        ensures { IfOk result (λ place. Steps self.old place (segment_in segment.now) self.new) }
+    {
+        let tag = segment.tag();
+        if tag == *b"UNB" {
+            self.stage = Stage::Broken;
+            return Ok(Place::Refused);
+        }
+        if tag == *b"UNZ" {
+            self.stage = Stage::Ended(Some(self.lost()));
+            return Ok(Place::Refused);
+        }
+        self.outside = self.is_outside(segment);
+        if tag == *b"UNT" {
+            self.trailers.take(begun, segment)?;
+            self.stage = Stage::Between;
+            return Ok(Place::MessageTrailer);
+        }
+        if is_frame(segment) {
+            self.stage = Stage::Lost;
+            return Ok(Place::Refused);
+        }
+        self.stage = Stage::Message(Begun {
+            reference: begun.reference,
+            count: one_more(begun.count)?,
+        });
+        Ok(Place::Inside)
+    }
+
+    // A segment after what is no row of messages.
+    fn out_of_row(&mut self, segment: &SegmentRef<'_>)
+        requires { self.old.stage ≡ Stage.Lost }
+        ensures { Steps self.old Place.Refused (segment_in segment.now) self.new }
+    {
+        let tag = segment.tag();
+        if tag == *b"UNB" {
+            self.stage = Stage::Broken;
+        } else if tag == *b"UNZ" {
+            self.stage = Stage::Ended(Some(self.lost()));
+        }
+    }
+
+    // The next segment, and where it stands as far as no fault is sure.
+    fn step(&mut self, segment: &SegmentRef<'_>) -> Result<Place, MemoryFault>
+        ensures { IfOk result (λ place. Steps self.old place (segment_in segment.now) self.new) }
+    {
+        match self.stage {
+            Stage::Start => Ok(self.begin(segment)),
+            Stage::Between => self.at_rest(segment),
+            Stage::Message(begun) => self.in_message(begun, segment),
+            Stage::Lost => {
+                self.out_of_row(segment);
+                Ok(Place::Refused)
+            }
+            Stage::Ended(_) | Stage::Broken => {
+                self.stage = Stage::Broken;
+                Ok(Place::Refused)
+            }
+        }
+    }
+
+    // Whether no fault is sure of the headers, the trailers and the bytes so far.
+    fn is_sound(&self) -> bool
+        ensures { result ≡ is_sound self.now }
+    {
+        self.header.taken
+            && !self.header.test
+            && !self.outside
+            && self.headers.is_identified()
+            && !self.headers.has_twice()
+            && self.headers.messages <= MOST_MESSAGES
+            && self.trailers.within
+            && self.trailers.counted
+            && self.trailers.closed
+    }
+
+    // Whether no fault is sure.
+    fn is_fine(&self) -> bool
+        ensures { result ≡ is_fine self.now }
+    {
+        match self.stage {
+            Stage::Start => true,
+            Stage::Between | Stage::Message(_) => self.is_sound(),
+            Stage::Ended(fault) => fault.is_none(),
+            Stage::Lost | Stage::Broken => false,
+        }
+    }
+
+    /// Takes the next segment, and says where it stands. Once a fault is sure, each segment is refused, and only `fault`
+    /// says at the end which one it is.
+    pub fn next(&mut self, segment: &SegmentRef<'_>) -> Result<Place, MemoryFault>
+        ensures judged { (lent : List Segment) → Judged lent self.old →
+            OnOk result (Judged (lent ++ segment_in segment.now ∷ []) self.new) }
+        ensures placed { (lent : List Segment) → Judged lent self.old →
+            IfOk result (λ place. Placed place lent (segment_in segment.now)) }
+        ensures taken { IfOk result (λ place. place ≡ Place.Header → IsTrue (is_header (segment_in segment.now))) }
+        ensures refused { IfOk result (λ place. (place ≡ Place.Refused) ↔ (is_fine self.new ≡ false)) }
+        ensures for_good { OnOk result (is_fine self.new ≡ true → is_fine self.old ≡ true) }
+    {
+        let place = self.step(segment)?;
+        if !self.is_fine() {
+            return Ok(Place::Refused);
+        }
+        Ok(place)
+    }
+
+    /// The fault of the segments that have come, where no more follow.
+    pub fn fault(&self) -> Option<EnvelopeFault>
+        ensures fault { (lent : List Segment) → Judged lent self.now → fault_of lent ≡ result }
+        ensures fine { result ≡ None → is_fine self.now ≡ true }
+    {
+        match self.stage {
+            Stage::Ended(fault) => fault,
+            _ => Some(EnvelopeFault::InterchangeFrame),
+        }
+    }
+}
