@@ -70,10 +70,10 @@ IsInterchange-contents tokens h =
       messages = all_messages (messages_in xs) row.1;
     }
 
-last_of : (u : Segment) (mid : List Segment) (z : Segment) → last_segment (u ∷ mid ++ z ∷ []) ≡ z
+pub last_of : (u : Segment) (mid : List Segment) (z : Segment) → last_segment (u ∷ mid ++ z ∷ []) ≡ z
 last_of u mid z = get_or_at (u ∷ mid) z [] no_segment (length (u ∷ mid ++ z ∷ []) - 1) (omega (arith, length-append mid (z ∷ [])))
 
-between_of : (u : Segment) (mid : List Segment) (z : Segment) → between (u ∷ mid ++ z ∷ []) ≡ mid
+pub between_of : (u : Segment) (mid : List Segment) (z : Segment) → between (u ∷ mid ++ z ∷ []) ≡ mid
 between_of u mid z = ap (drop 1) (take_at (u ∷ mid) (z ∷ []) (length (u ∷ mid ++ z ∷ []) - 1) (omega (arith, length-append mid (z ∷ []))))
 
 -- without UNH

@@ -6,3 +6,5 @@ pub mod LawLemmas
 pub mod LimitLemmas
 pub mod MailLemmas
 pub mod MomentLemmas
+pub mod ReferenceLemmas
+pub mod RowLemmas

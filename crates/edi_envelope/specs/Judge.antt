@@ -1,5 +1,5 @@
 -- What is kept of the segments that have come of an interchange, so that its fault is known at its end.
-use Rattle.std.specs.Prelude.{◌≡◌, ◌<◌, Bool, true, false, not, ◌&&◌, ◌||◌, nat_le, nat_lt, List, [], ◌∷◌, ◌++◌, length, map, drop}
+use Rattle.std.specs.Prelude.{◌≡◌, ℕ, ◌<◌, Bool, true, false, not, ◌&&◌, ◌||◌, nat_le, nat_lt, List, [], ◌∷◌, ◌++◌, length, map, drop}
 use Rattle.std.specs.Prelude.{if◌then◌else◌, Option, Some, None}
 use Rattle.std.specs.List.{list_any, list_all}
 use Rattle.edi_tokens.specs.declared.segment.Segment.{Segment}
@@ -153,6 +153,15 @@ abbrev pub is_sound : Judge → Bool
 is_sound judge =
     judge.header.taken && not judge.header.test && not judge.outside && are_heads_sound judge.headers
     && are_trails_sound judge.trailers
+
+abbrev pub is_fine_at : Stage → Judge → Bool
+is_fine_at Start judge = true
+is_fine_at Between judge = is_sound judge
+is_fine_at (Message begun) judge = is_sound judge
+is_fine_at Lost judge = false
+is_fine_at (Ended None) judge = true
+is_fine_at (Ended (Some fault)) judge = false
+is_fine_at Broken judge = false
 
 -- no fault is sure
 abbrev pub is_fine : Judge → Bool

@@ -57,7 +57,7 @@ impl Headers {
         ensures falls { OnOk result (are_heads_sound self.new ≡ true → are_heads_sound self.old ≡ true) }
     {
         self.messages = one_more(self.messages)?;
-        self.identified = self.identified && has_identity(unh);
+        self.identified &= has_identity(unh);
         if !self.identified || self.twice {
             return Ok(());
         }
@@ -121,9 +121,9 @@ impl Trailers {
     {
         let count = one_more(begun.count)?;
         let written = unt.component(0, 0);
-        self.within = self.within && are_digits(1, 6, written);
-        self.counted = self.counted && is_count_of(written, count);
-        self.closed = self.closed && kept(unt.component(1, 0)) == begun.reference;
+        self.within &= are_digits(1, 6, written);
+        self.counted &= is_count_of(written, count);
+        self.closed &= kept(unt.component(1, 0)) == begun.reference;
         Ok(())
     }
 }
