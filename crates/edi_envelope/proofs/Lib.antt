@@ -8,3 +8,4 @@ pub mod MailLemmas
 pub mod MomentLemmas
 pub mod ReferenceLemmas
 pub mod RowLemmas
+pub mod TallyLemmas
