@@ -9,3 +9,5 @@ pub mod MomentLemmas
 pub mod ReferenceLemmas
 pub mod RowLemmas
 pub mod TallyLemmas
+pub mod EndLemmas
+pub mod JudgeLemmas

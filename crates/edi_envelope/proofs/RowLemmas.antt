@@ -15,7 +15,7 @@ use Rattle.edi_envelope.proofs.FrameLemmas.{other_tag}
 use Rattle.edi_envelope.proofs.JoinLemmas.{last_of, between_of}
 
 -- a list that is not empty has a last one
-split_last : (x : Segment) (xs : List Segment) → (front : List Segment) × (last : Segment) × (x ∷ xs ≡ front ++ last ∷ [])
+pub split_last : (x : Segment) (xs : List Segment) → (front : List Segment) × (last : Segment) × (x ∷ xs ≡ front ++ last ∷ [])
 split_last x [] = ([], x, refl)
 split_last x (y ∷ ys) =
     let rest = split_last y ys in (x ∷ rest.0, rest.1, ap (λ l. x ∷ l) rest.2)
