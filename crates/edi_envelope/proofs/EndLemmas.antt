@@ -10,6 +10,7 @@ use Rattle.edi_base.specs.Limits.{is_count_of}
 use Rattle.edi_base.specs.Seen.{has_twice}
 use Rattle.edi_tokens.specs.declared.segment.Segment.{Segment}
 use Rattle.edi_envelope.specs.declared.fault.EnvelopeFault.{EnvelopeFault}
+use Rattle.edi_envelope.specs.declared.fault.EnvelopeFault.TheVariants.{InterchangeFrame}
 use Rattle.edi_envelope.specs.declared.header.HeaderMarks.{HeaderMarks}
 use Rattle.edi_envelope.specs.declared.judge.Judge.{Judge}
 use Rattle.edi_envelope.specs.declared.judge.Marks.{Marks}
@@ -61,6 +62,10 @@ exact xs = record {
   many = nat_lt 999 (length (messages_in xs));
   outside = is_outside_set xs;
 }
+
+pub fault_of-frame : (xs : List Segment) → is_framed xs ≡ false → fault_of xs ≡ Some InterchangeFrame
+unfolding fault_of
+fault_of-frame xs h = rw h refl
 
 fault_of-row : (xs : List Segment) → is_framed xs ≡ true → is_row_of_messages xs ≡ true → fault_of xs ≡ lowest_of (exact xs)
 unfolding fault_of

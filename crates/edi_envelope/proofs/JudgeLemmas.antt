@@ -10,6 +10,7 @@ use Rattle.edi_base.specs.Seen.{is_among, has_twice}
 use Rattle.edi_tokens.specs.declared.segment.Segment.{Segment}
 use Rattle.std.specs.Prelude.{if◌then◌else◌}
 use Rattle.edi_envelope.specs.declared.fault.EnvelopeFault.{EnvelopeFault}
+use Rattle.edi_envelope.specs.declared.fault.EnvelopeFault.TheVariants.{InterchangeFrame}
 use Rattle.edi_envelope.specs.declared.header.HeaderMarks.{HeaderMarks}
 use Rattle.edi_envelope.specs.declared.tally.Headers.{Headers}
 use Rattle.edi_envelope.specs.declared.tally.Trailers.{Trailers}
@@ -24,7 +25,7 @@ use Rattle.edi_envelope.specs.Header.{is_header}
 use Rattle.edi_envelope.specs.Blocks.{blocks}
 use Rattle.edi_envelope.specs.Message.{is_frame, reference_of}
 use Rattle.edi_envelope.specs.Reference.{kept}
-use Rattle.edi_envelope.specs.Interchange.{is_framed, is_outside_set, has_high_data}
+use Rattle.edi_envelope.specs.Interchange.{is_framed, is_outside_set, has_high_data, fault_of}
 use Rattle.edi_envelope.specs.Judge.{is_outer, has_identity, follows, marks_of, Heads, Trails, Fronted, AtRest, InMessage, OutOfRow, Fresh}
 use Rattle.edi_envelope.specs.Judge.{Closed, Unframed, StandsAt, Judged, is_sound, is_fine, is_fine_at, are_heads_sound, are_trails_sound}
 use Rattle.edi_envelope.specs.Judge.{IsGoingOn, IsBegun, Placed, Steps, marks_at, lowest_of, lost_fault}
@@ -32,9 +33,9 @@ use Rattle.edi_envelope.proofs.BlockLemmas.{blocks-at}
 use Rattle.edi_envelope.proofs.FrameLemmas.{other_tag}
 use Rattle.edi_envelope.proofs.JoinLemmas.{last_of}
 use Rattle.edi_envelope.proofs.RowLemmas.{never_framed, framed_once, not_begun, not_ended, last_fails, weaker, frame_tags, outer_tags}
-use Rattle.edi_envelope.proofs.RowLemmas.{plain_more, split_last}
+use Rattle.edi_envelope.proofs.RowLemmas.{plain_more, split_last, unended}
 use Rattle.edi_envelope.proofs.TallyLemmas.{all_more}
-use Rattle.edi_envelope.proofs.EndLemmas.{ends_in_row, ends_lost, lowest_none, outside_more}
+use Rattle.edi_envelope.proofs.EndLemmas.{fault_of-frame, ends_in_row, ends_lost, lowest_none, outside_more}
 
 -- messages and their segments stand at no end of the interchange
 inner : (tag : List ℕ) (s : Segment) → bytes_eq tag (codes "UNB") ≡ false → bytes_eq tag (codes "UNZ") ≡ false → has_tag tag s ≡ true → is_outer s ≡ false
@@ -80,7 +81,7 @@ row_more lent h s state f row more =
 
 -- ---- the last message
 
-last_at : (front : List Segment) (l : Segment) → last_segment (front ++ l ∷ []) ≡ l
+pub last_at : (front : List Segment) (l : Segment) → last_segment (front ++ l ∷ []) ≡ l
 last_at [] l = refl
 last_at (x ∷ front) l = last_of x front l
 
@@ -189,6 +190,7 @@ refuses old s new bad judged = record {
   judged = judged;
   placed = λ lent before fine. tt;
   taken = λ e fine. absurd cc;
+  refuses = λ e. bad;
   falls = λ fine. absurd (true≢false (sym fine ∙ bad));
 }
 
@@ -219,6 +221,7 @@ module _ (j : Judge) (s : Segment) where
           trails = fresh.trails;
         });
     placed = λ lent judged fine. ((at_stage j Start lent is judged).none, b, header_of (record { stage = Between; header = h; outside = outside; headers = j.headers; trailers = j.trailers }) s fine marks);
+    refuses = λ e. absurd cc;
     taken = λ e fine. header_of (record { stage = Between; header = h; outside = outside; headers = j.headers; trailers = j.trailers }) s fine marks;
     falls = λ fine. fine_at j Start is refl;
   }
@@ -258,6 +261,7 @@ module _ (j : Judge) (s : Segment) where
         subst (λ (f : Option EnvelopeFault). Closed (lent ++ s ∷ []) f) (sym marks)
         (ends_in_row lent s j (at_stage j Between lent is judged) z);
     placed = λ lent judged fine. (going lent j.header (at_stage j Between lent is judged).fronted, z);
+    refuses = λ e. absurd cc;
     taken = λ e fine. absurd cc;
     falls = λ fine. fine_at j Between is (lowest_none j s (sym marks ∙ none_at fault (at (Ended fault)) fine));
   }
@@ -351,6 +355,7 @@ module _ (j : Judge) (s : Segment) where
         reference = reference;
       };
       placed = λ lent judged fine. (going lent j.header (at_stage j Between lent is judged).fronted, h);
+      refuses = λ e. absurd cc;
       taken = λ e fine. absurd cc;
       falls = λ fine. fine_at j Between is (sound_before headers j.trailers sound (λ t. t) fine);
     }
@@ -382,6 +387,7 @@ module _ (j : Judge) (s : Segment) where
           };
       placed = λ lent judged fine.
           let r = at_stage j (Message begun) lent is judged in (going lent j.header r.fronted, begun_so lent j begun r, t);
+      refuses = λ e. absurd cc;
       taken = λ e fine. absurd cc;
       falls = λ fine. fine_at j (Message begun) is (sound_before j.headers trailers (λ h. h) sound fine);
     }
@@ -417,6 +423,27 @@ module _ (j : Judge) (s : Segment) where
       placed = λ lent judged fine.
           let r = at_stage j (Message begun) lent is judged in
           (going lent j.header r.fronted, begun_so lent j begun r, frameless, (outer_tags s plain).1);
+      refuses = λ e. absurd cc;
       taken = λ e fine. absurd cc;
       falls = λ fine. fine_at j (Message begun) is (sound_before j.headers j.trailers (λ h. h) (λ t. t) fine);
     }
+
+abbrev pub at_stage_of : Judge → Stage → Judge
+at_stage_of j stage = record { stage = stage; header = j.header; outside = j.outside; headers = j.headers; trailers = j.trailers }
+
+pub ended_with : (j : Judge) (s : Segment) (fault : EnvelopeFault) → fault ≡ lost_fault j.header
+    → Steps j place.Refused s (at_stage_of j (Ended (Some (lost_fault j.header))))
+    → Steps j place.Refused s (at_stage_of j (Ended (Some fault)))
+ended_with j s fault is steps =
+    subst (λ (f : EnvelopeFault). Steps j place.Refused s (at_stage_of j (Ended (Some f)))) (sym is) steps
+
+-- where UNZ has not ended the interchange, its frame is not whole
+pub frame_fault : (stage : Stage) → ((fault : Option EnvelopeFault) → stage ≡ Ended fault → ⊥) → (j : Judge) (lent : List Segment)
+    → StandsAt stage lent j
+    → fault_of lent ≡ Some InterchangeFrame
+frame_fault Start open_still j lent h = fault_of-frame lent (unended lent (ap (λ l. is_unz (last_segment l)) h.none))
+frame_fault Between open_still j lent h = fault_of-frame lent (unended lent (going lent j.header h.fronted).1)
+frame_fault (Message begun) open_still j lent h = fault_of-frame lent (unended lent (going lent j.header h.fronted).1)
+frame_fault Lost open_still j lent h = fault_of-frame lent (unended lent (going lent j.header h.fronted).1)
+frame_fault (Ended fault) open_still j lent h = absurd (open_still fault refl)
+frame_fault Broken open_still j lent h = fault_of-frame lent (ap is_framed (sym (append-nil lent)) ∙ h [])

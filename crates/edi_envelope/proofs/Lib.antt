@@ -11,3 +11,4 @@ pub mod RowLemmas
 pub mod TallyLemmas
 pub mod EndLemmas
 pub mod JudgeLemmas
+pub mod GatherLemmas

@@ -44,6 +44,7 @@ pub record Keeps (lent : List Segment) (gathered : Gathered) : Type 0 where
 -- the head and all messages
 pub record Whole (lent : List Segment) (gathered : Gathered) : Type 0 where
   pub head : gathered.head ≡ head_in lent
+  pub last : gathered.last.items ≡ []
   pub messages : gathered.messages.items ≡ map message_of (blocks (drop 1 lent))
 
 -- the same, where UNZ is the last segment

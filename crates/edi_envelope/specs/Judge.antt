@@ -189,6 +189,7 @@ pub record Steps (old : Judge) (stands : Place) (segment : Segment) (new : Judge
   pub judged : (lent : List Segment) → Judged lent old → Judged (lent ++ segment ∷ []) new
   pub placed : (lent : List Segment) → Judged lent old → is_fine new ≡ true → Placed stands lent segment
   pub taken : stands ≡ place.Header → is_fine new ≡ true → is_header segment ≡ true
+  pub refuses : stands ≡ place.Refused → is_fine new ≡ false
   pub falls : is_fine new ≡ true → is_fine old ≡ true
 
 -- which conditions hold where UNZ comes between messages

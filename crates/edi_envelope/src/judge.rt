@@ -5,6 +5,7 @@ ghost use Rattle.std.specs.List.{list_any};
 ghost use Rattle.edi_tokens.specs.declared.segment.Segment.{Segment};
 ghost use Rattle.edi_tokens.specs.Segment.{element_at};
 ghost use Rattle.edi_tokens.specs.SegmentRef.{segment_in};
+ghost use Rattle.edi_envelope.specs.Segments.{has_tag};
 ghost use Rattle.edi_envelope.specs.Header.{is_header};
 ghost use Rattle.edi_envelope.specs.Interchange.{fault_of, has_high, has_high_data};
 ghost use Rattle.edi_envelope.specs.Judge.{Judged, Placed, Steps, is_sound, is_fine, marks_at, lowest_of, lost_fault};
@@ -122,6 +123,13 @@ fn has_high_data(segment: &SegmentRef<'_>) -> bool
     false
 }
 
+// Whether a segment has this tag.
+fn has_tag(segment: &SegmentRef<'_>, tag: &[u8; 3]) -> bool
+    ensures { result ≡ has_tag tag.now (segment_in segment.now) }
+{
+    segment.tag() == *tag
+}
+
 // The fault with the lowest number, of those that are marked.
 fn lowest(marks: Marks) -> Option<EnvelopeFault>
     ensures { result ≡ lowest_of marks }
@@ -177,7 +185,8 @@ impl Judge {
         requires { self.old.stage ≡ Stage.Start }
         ensures { Steps self.old result (segment_in segment.now) self.new }
     {
-        if segment.tag() != *b"UNB" {
+        let unb = has_tag(segment, b"UNB");
+        if !unb {
             self.stage = Stage::Broken;
             return Place::Refused;
         }
@@ -210,16 +219,18 @@ impl Judge {
         requires { self.old.stage ≡ Stage.Between }
         ensures { IfOk result (λ place. Steps self.old place (segment_in segment.now) self.new) }
     {
-        let tag = segment.tag();
-        if tag == *b"UNB" {
+        let unb = has_tag(segment, b"UNB");
+        if unb {
             self.stage = Stage::Broken;
             return Ok(Place::Refused);
         }
-        if tag == *b"UNZ" {
+        let unz = has_tag(segment, b"UNZ");
+        if unz {
             self.stage = Stage::Ended(lowest(self.marks(segment)));
             return Ok(Place::Trailer);
         }
-        if tag != *b"UNH" {
+        let unh = has_tag(segment, b"UNH");
+        if !unh {
             self.stage = Stage::Lost;
             return Ok(Place::Refused);
         }
@@ -248,29 +259,31 @@ impl Judge {
         requires { self.old.stage ≡ Stage.Message begun }
         ensures { IfOk result (λ place. Steps self.old place (segment_in segment.now) self.new) }
     {
-        let tag = segment.tag();
-        if tag == *b"UNB" {
+        let unb = has_tag(segment, b"UNB");
+        if unb {
             self.stage = Stage::Broken;
             return Ok(Place::Refused);
         }
-        if tag == *b"UNZ" {
+        let unz = has_tag(segment, b"UNZ");
+        if unz {
             self.stage = Stage::Ended(Some(self.lost()));
             return Ok(Place::Refused);
         }
         self.outside = self.is_outside(segment);
-        if tag == *b"UNT" {
+        let unt = has_tag(segment, b"UNT");
+        if unt {
             self.trailers.take(begun, segment)?;
             self.stage = Stage::Between;
             return Ok(Place::MessageTrailer);
         }
-        if is_frame(segment) {
+        let frame = is_frame(segment);
+        if frame {
             self.stage = Stage::Lost;
             return Ok(Place::Refused);
         }
-        self.stage = Stage::Message(Begun {
-            reference: begun.reference,
-            count: one_more(begun.count)?,
-        });
+        let Begun { reference, count } = begun;
+        let count = one_more(count)?;
+        self.stage = Stage::Message(Begun { reference, count });
         Ok(Place::Inside)
     }
 
@@ -279,10 +292,13 @@ impl Judge {
         requires { self.old.stage ≡ Stage.Lost }
         ensures { Steps self.old Place.Refused (segment_in segment.now) self.new }
     {
-        let tag = segment.tag();
-        if tag == *b"UNB" {
+        let unb = has_tag(segment, b"UNB");
+        if unb {
             self.stage = Stage::Broken;
-        } else if tag == *b"UNZ" {
+            return;
+        }
+        let unz = has_tag(segment, b"UNZ");
+        if unz {
             self.stage = Stage::Ended(Some(self.lost()));
         }
     }

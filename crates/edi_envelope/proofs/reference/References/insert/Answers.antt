@@ -3,7 +3,6 @@ use Rattle.std.specs.Str.{bytes_eq}
 use Rattle.std.specs.BTreeMap.{is_at}
 use Rattle.edi_base.specs.Seen.{is_among}
 use Rattle.edi_envelope.proofs.ReferenceLemmas.{reference-insert, contains-reference}
-use Rattle.edi_envelope.proofs.JudgeLemmas.{goes_on}
 use Rattle.edi_envelope.proofs.reference.References.insert.Goals as goal
 
 pub returns-clause-new : goal.returns-clause-new
