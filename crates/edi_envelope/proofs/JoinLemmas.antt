@@ -139,7 +139,7 @@ same_messages : (ms : List RawMessage) → AllByRecursion IsMessage ms → ms �
 same_messages [] h = refl
 same_messages (m ∷ ms) h = ap (λ first. first ∷ ms) h.0.fields ∙ ap (λ rest. message_of m.segments ∷ rest) (same_messages ms h.1)
 
-same_interchange : (i j : Interchange) → i.decimal ≡ j.decimal → i.head ≡ j.head → i.messages ≡ j.messages → i ≡ j
+pub same_interchange : (i j : Interchange) → i.decimal ≡ j.decimal → i.head ≡ j.head → i.messages ≡ j.messages → i ≡ j
 same_interchange i j d h m = λ k. record { decimal = d k; head = h k; messages = m k }
 
 -- an interchange of the segments is what their contents are

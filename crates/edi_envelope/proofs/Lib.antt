@@ -12,3 +12,4 @@ pub mod TallyLemmas
 pub mod EndLemmas
 pub mod JudgeLemmas
 pub mod GatherLemmas
+pub mod OpenLemmas

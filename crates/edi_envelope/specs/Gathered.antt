@@ -7,7 +7,7 @@ use Rattle.edi_tokens.specs.declared.feeder.Feeder.{Feeder}
 use Rattle.edi_tokens.specs.declared.fault.TokenFault.TheVariants as token
 use Rattle.edi_tokens.specs.Reading.{tokens_of}
 use Rattle.edi_tokens.specs.Machine.{tokens_at}
-use Rattle.edi_tokens.specs.Feeder.{Fed, HasCause}
+use Rattle.edi_tokens.specs.Feeder.{Fed, HasCause, TakesWithin, stopped}
 use Rattle.edi_envelope.specs.declared.fault.EnvelopeFault.{EnvelopeFault}
 use Rattle.edi_envelope.specs.declared.fault.EnvelopeFault.TheVariants as envelope
 use Rattle.edi_envelope.specs.declared.fault.OpenFault.{OpenFault}
@@ -80,7 +80,18 @@ Reads remaining old (Ok opening) new =
 Reads remaining old (Err (Token fault)) new = (all : List ℕ) → Fed remaining all [] old → fault ≢ token.Read → tokens_of all ≡ Err fault
 Reads remaining old (Err (Envelope fault)) new = fault ≡ envelope.Memory
 
+-- a failed read is told where the reader's flag is up, and else the flag stays; no token fault is out of memory
 abbrev pub Flagged : {X : Type 0} → Result X OpenFault → Bool → Bool → Type 0
 Flagged (Ok x) old new = new ≡ old
 Flagged (Err (Token fault)) old new = HasCause fault old new
 Flagged (Err (Envelope fault)) old new = new ≡ old
+
+-- how far a text has been read, and its segments are opened
+pub record HasRead {R : Type 0} (remaining : R → Option (List ℕ)) (failed : R → Bool) (old : Feeder R) (opening : Opening) (new : Feeder R)
+    : Type 0 where
+  pub lent : List Segment
+  pub stands : Stands lent opening
+  pub fed : (all : List ℕ) → Fed remaining all [] old → Fed remaining all lent new
+  pub flag : stopped old ≡ None → failed new.reader ≡ failed old.reader
+  pub going : stopped old ≡ None → stopped new ≡ None
+  pub bound : TakesWithin (remaining old.reader) (remaining new.reader) old.room new.room

@@ -136,7 +136,7 @@ impl From<TokenFault> for OpenFault {
     ghost use Rattle.std.specs.Prelude.{◌≡◌};
     ghost use Rattle.edi_envelope.specs.declared.fault.OpenFault.TheVariants.{Token};
 
-    ghost from_gives = { λ fault open. open ≡ Token fault };
+    ghost from_gives = { λ fault told. told ≡ Token fault };
 
     fn from(fault: TokenFault) -> OpenFault {
         OpenFault::Token(fault)
@@ -147,7 +147,7 @@ impl From<EnvelopeFault> for OpenFault {
     ghost use Rattle.std.specs.Prelude.{◌≡◌};
     ghost use Rattle.edi_envelope.specs.declared.fault.OpenFault.TheVariants.{Envelope};
 
-    ghost from_gives = { λ fault open. open ≡ Envelope fault };
+    ghost from_gives = { λ fault told. told ≡ Envelope fault };
 
     fn from(fault: EnvelopeFault) -> OpenFault {
         OpenFault::Envelope(fault)
@@ -159,7 +159,7 @@ impl From<AllocError> for OpenFault {
     ghost use Rattle.edi_envelope.specs.declared.fault.OpenFault.TheVariants.{Envelope};
     ghost use Rattle.edi_envelope.specs.declared.fault.EnvelopeFault.TheVariants.{Memory};
 
-    ghost from_gives = { λ _ open. open ≡ Envelope Memory };
+    ghost from_gives = { λ _ told. told ≡ Envelope Memory };
 
     fn from(_error: AllocError) -> OpenFault {
         OpenFault::Envelope(EnvelopeFault::Memory)
