@@ -13,3 +13,4 @@ pub mod EndLemmas
 pub mod JudgeLemmas
 pub mod GatherLemmas
 pub mod OpenLemmas
+pub mod ReadLemmas

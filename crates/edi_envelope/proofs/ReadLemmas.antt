@@ -1,0 +1,111 @@
+-- Reading on: what a feeder told, with what was opened before.
+use Rattle.std.proofs.Common.{◌≡◌, ◌≢◌, ℕ, Bool, List, [], ◌∷◌, ◌++◌, Option, Some, None, Result, Ok, Err, refl, sym, ap, subst, ◌∙◌}
+use Rattle.std.specs.Prelude.{OnOk}
+use Rattle.std.proofs.lemmas.Bool.{false≢true}
+use Rattle.edi_tokens.specs.declared.feeder.Feeder.{Feeder}
+use Rattle.edi_tokens.specs.declared.segment.Segment.{Segment}
+use Rattle.edi_tokens.specs.declared.segment_ref.SegmentRef.{SegmentRef}
+use Rattle.edi_tokens.specs.declared.fault.TokenFault.{TokenFault}
+use Rattle.edi_tokens.specs.declared.fault.TokenFault.TheVariants as token
+use Rattle.edi_tokens.specs.Reading.{tokens_of}
+use Rattle.edi_tokens.specs.Machine.{tokens_at}
+use Rattle.edi_tokens.specs.Feeder.{Fed, Told, Feeds, Flags, TakesWithin, stopped}
+use Rattle.edi_tokens.specs.SegmentRef.{segment_in, segment_told}
+use Rattle.edi_tokens.proofs.Feeding.{takes_none, takes_then}
+use Rattle.edi_envelope.specs.declared.opening.Opening.{Opening}
+use Rattle.edi_tokens.specs.declared.fault.TokenFault.TheVariants.{TooLong, ServiceString, Byte, Cut, Tag, LongSegment, Read, Memory}
+use Rattle.edi_tokens.specs.declared.segment.Tokens.{Tokens}
+use Rattle.edi_envelope.specs.declared.fault.EnvelopeFault.{EnvelopeFault}
+use Rattle.edi_envelope.specs.declared.fault.EnvelopeFault.TheVariants as envelope
+use Rattle.edi_envelope.specs.declared.fault.OpenFault.{OpenFault}
+use Rattle.edi_envelope.specs.declared.fault.OpenFault.TheVariants.{Token, Envelope}
+use Rattle.edi_envelope.specs.declared.interchange.Interchange.{Interchange}
+use Rattle.edi_envelope.specs.Interchange.{interchange_of}
+use Rattle.edi_envelope.specs.Gathered.{Stands, HasRead, Reads}
+use Rattle.edi_envelope.specs.Opened.{judged_as, read_as, opened, Opens}
+
+module _ {R : Type 0} (remaining : R → Option (List ℕ)) (failed : R → Bool) (old : Feeder R) where
+  pub nothing_read : (opening : Opening) → Stands [] opening → HasRead remaining failed old opening old
+  nothing_read opening stands = record {
+    lent = [];
+    stands = stands;
+    fed = λ all fed. fed;
+    flag = λ e. refl;
+    going = λ e. e;
+    bound = takes_none (remaining old.reader) old.room;
+  }
+
+  module _ (now new : Feeder R) (opening : Opening) (result : Result (Option SegmentRef) TokenFault)
+      (read : HasRead remaining failed old opening now) (feeds : Feeds remaining failed now (segment_told result) new) where
+    told_as : (given : Result (Option SegmentRef) TokenFault) → result ≡ given
+        → (all : List ℕ) → Fed remaining all [] old → Told remaining all read.lent (segment_told given) new
+    told_as given is all fed =
+        subst (λ (r : Result (Option SegmentRef) TokenFault). Told remaining all read.lent (segment_told r) new) is
+        (feeds.told all read.lent (read.fed all fed))
+
+    pub bound_then : TakesWithin (remaining old.reader) (remaining new.reader) old.room new.room
+    bound_then = takes_then _ _ _ _ _ _ read.bound feeds.bound
+
+    pub fault_told : (fault : TokenFault) → result ≡ Err fault
+        → (all : List ℕ) → Fed remaining all [] old → fault ≢ token.Read → tokens_of all ≡ Err fault
+    fault_told fault is all fed = told_as (Err fault) is all fed
+
+    pub end_told : result ≡ Ok None
+        → (lent : List Segment) × Stands lent opening × ((all : List ℕ) → Fed remaining all [] old → tokens_of all ≡ Ok (tokens_at lent new.machine))
+    end_told is = (read.lent, read.stands, λ all fed. (told_as (Ok None) is all fed).1)
+
+    pub more_read : (segment : SegmentRef) (next : Opening) → result ≡ Ok (Some segment)
+        → Stands (read.lent ++ segment_in segment ∷ []) next
+        → HasRead remaining failed old next new
+    more_read segment next is stands = record {
+      lent = read.lent ++ segment_in segment ∷ [];
+      stands = stands;
+      fed = λ all fed. told_as (Ok (Some segment)) is all fed;
+      flag = λ e.
+          subst (λ (r : Result (Option SegmentRef) TokenFault). Flags (segment_told r) (failed now.reader) (failed new.reader)) is
+          (feeds.flag (read.going e))
+          ∙ read.flag e;
+      going = λ e. subst (λ (r : Result (Option SegmentRef) TokenFault). OnOk (segment_told r) (stopped new ≡ None)) is feeds.goes_on;
+      bound = bound_then;
+    }
+
+-- ---- what was read is what the text is opened as
+
+opens_token : (fault : TokenFault) (all : List ℕ) → (fault ≢ Read → tokens_of all ≡ Err fault) → Opens (Err (Token fault)) (opened all)
+opens_token TooLong all h = ap read_as (h (λ e. false≢true cc))
+opens_token ServiceString all h = ap read_as (h (λ e. false≢true cc))
+opens_token Byte all h = ap read_as (h (λ e. false≢true cc))
+opens_token Cut all h = ap read_as (h (λ e. false≢true cc))
+opens_token Tag all h = ap read_as (h (λ e. false≢true cc))
+opens_token LongSegment all h = ap read_as (h (λ e. false≢true cc))
+opens_token Read all h = tt
+opens_token Memory all h = ap read_as (h (λ e. false≢true cc))
+
+opens_envelope : (fault : EnvelopeFault) (given : Result Interchange OpenFault) → given ≡ Err (Envelope fault) → Opens (Err (Envelope fault)) given
+opens_envelope envelope.InterchangeFrame given h = h
+opens_envelope envelope.InterchangeHeader given h = h
+opens_envelope envelope.MessageFrame given h = h
+opens_envelope envelope.MessageHeader given h = h
+opens_envelope envelope.SegmentCount given h = h
+opens_envelope envelope.MessageReference given h = h
+opens_envelope envelope.MessageCount given h = h
+opens_envelope envelope.ControlReference given h = h
+opens_envelope envelope.RepeatedReference given h = h
+opens_envelope envelope.TestIndicator given h = h
+opens_envelope envelope.TooManyMessages given h = h
+opens_envelope envelope.CharacterSet given h = h
+opens_envelope envelope.Memory given h = tt
+
+pub fault_opens : {R : Type 0} (remaining : R → Option (List ℕ)) (old new : Feeder R) (fault : OpenFault) → Reads remaining old (Err fault) new
+    → (all : List ℕ) → Fed remaining all [] old → Opens (Err fault) (opened all)
+fault_opens remaining old new (Token fault) h all fed = opens_token fault all (h all fed)
+fault_opens remaining old new (Envelope fault) h all fed =
+    subst (λ (e : EnvelopeFault). Opens (Err (Envelope e)) (opened all)) (sym h) tt
+
+pub envelope_opens : (all : List ℕ) (tokens : Tokens) (fault : EnvelopeFault) → tokens_of all ≡ Ok tokens → interchange_of tokens ≡ Err fault
+    → Opens (Err (Envelope fault)) (opened all)
+envelope_opens all tokens fault read judged = opens_envelope fault (opened all) (ap read_as read ∙ ap judged_as judged)
+
+pub interchange_opens : (all : List ℕ) (tokens : Tokens) (i : Interchange) → tokens_of all ≡ Ok tokens → interchange_of tokens ≡ Ok i
+    → opened all ≡ Ok i
+interchange_opens all tokens i read judged = ap read_as read ∙ ap judged_as judged
