@@ -4,7 +4,7 @@ use Rattle.std.proofs.Common.{append_assoc, append-nil, Option, Some, None, inl,
 use Rattle.std.specs.Prelude.{nat_lt, nat_le}
 use Rattle.std.specs.List.{list_any, list_all}
 use Rattle.std.specs.Str.{bytes_eq}
-use Rattle.std.proofs.lemmas.Bool.{and_parts, or_parts, cases_Bool, ltb-false, le-leb, not-true, not-false, true≢false, false≢true}
+use Rattle.std.proofs.lemmas.Bool.{and_parts, or_parts, cases_Bool, ltb-false, le-leb, not-false, false≢true}
 use Rattle.std.proofs.lemmas.List.Folds.{list_any-append}
 use Rattle.edi_base.specs.Limits.{is_count_of}
 use Rattle.edi_base.specs.Seen.{has_twice}
@@ -98,7 +98,7 @@ lowest_same a b header limits counts references messages control twice test many
       | inr down ↦ elim (cases_Bool a.limits) [
         | inl up ↦ rw (down, sym header ∙ down, up, sym limits ∙ up) refl
         | inr low ↦
-          rw (down, sym header ∙ down, low, sym limits ∙ low, counts, references low, messages, control down, twice low, test, many, outside) refl
+            rw (down, sym header ∙ down, low, sym limits ∙ low, counts, references low, messages, control down, twice low, test, many, outside) refl
       ]
     ]
 

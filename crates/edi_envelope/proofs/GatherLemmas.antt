@@ -1,6 +1,6 @@
 -- What is kept of the segments, one more at a time.
-use Rattle.std.proofs.Common.{◌≡◌, ◌≢◌, ◌<◌, Bool, true, false, ◌⊎◌, inl, inr, List, [], ◌∷◌, ◌++◌, length, map, drop, Option, Some}
-use Rattle.std.proofs.Common.{refl, sym, ap, subst, ◌∙◌, arith, append_assoc, append-nil, codes, Vec}
+use Rattle.std.proofs.Common.{◌≡◌, ◌≢◌, ◌<◌, true, false, ◌⊎◌, inl, inr, List, [], ◌∷◌, ◌++◌, length, map, drop, Some}
+use Rattle.std.proofs.Common.{refl, sym, ap, subst, ◌∙◌, arith, append_assoc, append-nil, codes}
 use Rattle.std.specs.List.{list_any}
 use Rattle.std.proofs.lemmas.Bool.{or_from, true≢false, false≢true}
 use Rattle.std.proofs.lemmas.List.{map_push}
@@ -10,7 +10,7 @@ use Rattle.edi_envelope.specs.declared.gathering.Gathered.{Gathered}
 use Rattle.edi_envelope.specs.declared.interchange.RawMessage.{RawMessage}
 use Rattle.edi_envelope.specs.declared.judge.Place.{Place}
 use Rattle.edi_envelope.specs.declared.judge.Place.TheVariants as place
-use Rattle.edi_envelope.specs.Segments.{is_unb, is_unz, is_unh, is_unt, last_segment}
+use Rattle.edi_envelope.specs.Segments.{is_unz, is_unh, last_segment}
 use Rattle.edi_envelope.specs.Header.{head_of}
 use Rattle.edi_envelope.specs.Blocks.{blocks}
 use Rattle.edi_envelope.specs.Message.{message_of}

@@ -1,9 +1,9 @@
 -- One more segment, wherever the judge stands.
-use Rattle.std.proofs.Common.{◌≡◌, ℕ, ◌+◌, ◌<◌, Bool, true, false, not, ◌&&◌, ◌||◌, ◌⊎◌, inl, inr, List, [], ◌∷◌, ◌++◌, length, map, drop}
+use Rattle.std.proofs.Common.{◌≡◌, ℕ, ◌+◌, Bool, true, false, not, ◌&&◌, ◌||◌, List, [], ◌∷◌, ◌++◌, length, map, drop}
 use Rattle.std.proofs.Common.{refl, sym, ap, subst, ◌∙◌, arith, append_assoc, append-nil, length-append, codes, Option, Some, None}
 use Rattle.std.specs.List.{list_any, list_all}
 use Rattle.std.specs.Str.{bytes_eq}
-use Rattle.std.proofs.lemmas.Bool.{and_parts, and_from, and_left, or_parts, or_left, or_right, or_from, cases_Bool, not-true, not-false, true≢false, false≢true}
+use Rattle.std.proofs.lemmas.Bool.{and_parts, and_from, and_left, or_parts, or_left, or_right, or_from, not-true, true≢false, false≢true}
 use Rattle.std.proofs.lemmas.List.{map_push}
 use Rattle.std.proofs.lemmas.List.Folds.{list_any-append}
 use Rattle.edi_base.specs.Seen.{is_among, has_twice}
@@ -18,7 +18,6 @@ use Rattle.edi_envelope.specs.declared.tally.Begun.{Begun}
 use Rattle.edi_envelope.specs.declared.judge.Judge.{Judge}
 use Rattle.edi_envelope.specs.declared.judge.Stage.{Stage}
 use Rattle.edi_envelope.specs.declared.judge.Stage.TheVariants.{Start, Between, Message, Lost, Ended, Broken}
-use Rattle.edi_envelope.specs.declared.judge.Place.{Place}
 use Rattle.edi_envelope.specs.declared.judge.Place.TheVariants as place
 use Rattle.edi_envelope.specs.Segments.{is_unb, is_unz, is_unh, is_unt, component, first_segment, last_segment, has_tag}
 use Rattle.edi_envelope.specs.Header.{is_header}
@@ -26,13 +25,13 @@ use Rattle.edi_envelope.specs.Blocks.{blocks}
 use Rattle.edi_envelope.specs.Message.{is_frame, reference_of}
 use Rattle.edi_envelope.specs.Reference.{kept}
 use Rattle.edi_envelope.specs.Interchange.{is_framed, is_outside_set, has_high_data, fault_of}
-use Rattle.edi_envelope.specs.Judge.{is_outer, has_identity, follows, marks_of, Heads, Trails, Fronted, AtRest, InMessage, OutOfRow, Fresh}
+use Rattle.edi_envelope.specs.Judge.{is_outer, has_identity, follows, marks_of, Heads, Trails, Fronted, AtRest, InMessage}
 use Rattle.edi_envelope.specs.Judge.{Closed, Unframed, StandsAt, Judged, is_sound, is_fine, is_fine_at, are_heads_sound, are_trails_sound}
-use Rattle.edi_envelope.specs.Judge.{IsGoingOn, IsBegun, Placed, Steps, marks_at, lowest_of, lost_fault}
+use Rattle.edi_envelope.specs.Judge.{IsGoingOn, IsBegun, Steps, marks_at, lowest_of, lost_fault}
 use Rattle.edi_envelope.proofs.BlockLemmas.{blocks-at}
 use Rattle.edi_envelope.proofs.FrameLemmas.{other_tag}
 use Rattle.edi_envelope.proofs.JoinLemmas.{last_of}
-use Rattle.edi_envelope.proofs.RowLemmas.{never_framed, framed_once, not_begun, not_ended, last_fails, weaker, frame_tags, outer_tags}
+use Rattle.edi_envelope.proofs.RowLemmas.{never_framed, not_begun, not_ended, last_fails, weaker, frame_tags, outer_tags}
 use Rattle.edi_envelope.proofs.RowLemmas.{plain_more, split_last, unended}
 use Rattle.edi_envelope.proofs.TallyLemmas.{all_more}
 use Rattle.edi_envelope.proofs.EndLemmas.{fault_of-frame, ends_in_row, ends_lost, lowest_none, outside_more}
@@ -363,8 +362,8 @@ module _ (j : Judge) (s : Segment) where
     -- UNT in a message
     pub shuts : (begun : Begun) (trailers : Trailers) → j.stage ≡ Message begun → is_unt s ≡ true
         → ((messages : List (List Segment)) (unh : Segment) (body : List Segment) → Trails messages j.trailers
-            → begun.count ≡ length (unh ∷ body) → begun.reference ≡ kept (component unh 0 0)
-            → Trails (messages ++ (unh ∷ body ++ s ∷ []) ∷ []) trailers)
+        → begun.count ≡ length (unh ∷ body) → begun.reference ≡ kept (component unh 0 0)
+        → Trails (messages ++ (unh ∷ body ++ s ∷ []) ∷ []) trailers)
         → (are_trails_sound trailers ≡ true → are_trails_sound j.trailers ≡ true)
         → Steps j place.MessageTrailer s (put Between j.headers trailers)
     shuts begun trailers is t trails sound = record {

@@ -1,14 +1,12 @@
 -- The judge and what is kept, one more segment at a time, and the interchange at the end.
-use Rattle.std.proofs.Common.{◌≡◌, ◌≢◌, ℕ, ◌≤◌, Bool, true, false, List, [], ◌∷◌, ◌++◌, length, map, Option, Some, None, Result, Ok, Err}
+use Rattle.std.proofs.Common.{◌≡◌, ◌≢◌, ℕ, ◌≤◌, true, false, List, [], ◌∷◌, ◌++◌, length, Some, None, Result, Ok, Err}
 use Rattle.std.proofs.Common.{refl, sym, ap, subst, ◌∙◌}
 use Rattle.std.specs.Prelude.{OnOk, IfOk}
 use Rattle.std.proofs.lemmas.Bool.{true≢false, false≢true, not-false}
 use Rattle.edi_tokens.specs.declared.segment.Segment.{Segment}
 use Rattle.edi_tokens.specs.declared.segment.Tokens.{Tokens}
-use Rattle.edi_tokens.specs.declared.segment.Service.{Service}
 use Rattle.edi_envelope.specs.declared.fault.EnvelopeFault.{EnvelopeFault}
 use Rattle.edi_envelope.specs.declared.fault.EnvelopeFault.TheVariants.{InterchangeFrame}
-use Rattle.edi_envelope.specs.declared.interchange.Head.{Head}
 use Rattle.edi_envelope.specs.declared.interchange.Interchange.{Interchange}
 use Rattle.edi_envelope.specs.declared.judge.Judge.{Judge}
 use Rattle.edi_envelope.specs.declared.judge.Place.{Place}
@@ -17,8 +15,7 @@ use Rattle.edi_envelope.specs.declared.gathering.Gathered.{Gathered}
 use Rattle.edi_envelope.specs.declared.opening.Opening.{Opening}
 use Rattle.edi_envelope.specs.Segments.{is_unb, first_segment}
 use Rattle.edi_envelope.specs.Header.{head_of}
-use Rattle.edi_envelope.specs.Message.{message_of}
-use Rattle.edi_envelope.specs.Interchange.{is_framed, messages_in, fault_of, contents_of, interchange_of, judged}
+use Rattle.edi_envelope.specs.Interchange.{is_framed, fault_of, contents_of, interchange_of, judged}
 use Rattle.edi_envelope.specs.Judge.{Judged, Placed, is_fine}
 use Rattle.edi_envelope.specs.Gathered.{head_in, Gathers, Ends, IsOf, Stands, IsJudged}
 use Rattle.edi_envelope.proofs.FrameLemmas.{framed_unb, framed_unz}

@@ -1,5 +1,5 @@
 -- References of one length are the same where the references are.
-use Rattle.std.proofs.Common.{◌≡◌, ℕ, zero, suc, ◌-◌, ◌≤◌, Bool, true, false, List, [], ◌∷◌, ◌++◌, length, drop, replicate, refl, sym, ap, ◌∙◌}
+use Rattle.std.proofs.Common.{◌≡◌, ℕ, zero, suc, ◌-◌, ◌≤◌, true, false, List, [], ◌∷◌, ◌++◌, length, replicate, refl, sym, ap, ◌∙◌}
 use Rattle.std.proofs.Common.{arith, inl, inr, map, map-id, Ordering, ◌||◌}
 use Rattle.std.specs.List.{list_all, list_any}
 use Rattle.std.specs.Ordering.{nat_cmp}
@@ -17,7 +17,6 @@ use Rattle.std.proofs.lemmas.Slice.Eq.{bytes_eq-Decides}
 use Rattle.edi_base.specs.Limits.{is_printable}
 use Rattle.edi_envelope.specs.Limits.{is_reference}
 use Rattle.edi_envelope.specs.Reference.{kept}
-use Rattle.edi_envelope.proofs.LimitLemmas.{has_length_bounds}
 
 -- a printable byte is not zero
 printable_least : (b : ℕ) → is_printable b ≡ true → 32 ≤ b
@@ -62,8 +61,8 @@ pub kept_again : (other text : List ℕ) → is_reference text ≡ true → kept
 kept_again other text is e =
     elim (cases_Bool (is_reference other)) [
       | inl too ↦
-        same_filled other text (14 - length other) (14 - length text) (and_parts _ _ too).1 (and_parts _ _ is).1
-        (sym (kept-reference other too) ∙ e ∙ kept-reference text is)
+          same_filled other text (14 - length other) (14 - length text) (and_parts _ _ too).1 (and_parts _ _ is).1
+          (sym (kept-reference other too) ∙ e ∙ kept-reference text is)
       | inr not_one ↦ absurd (none_differs other text not_one is e)
     ]
 

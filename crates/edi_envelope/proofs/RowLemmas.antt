@@ -1,9 +1,9 @@
 -- The frame and the row of messages, segment by segment.
-use Rattle.std.proofs.Common.{◌≡◌, suc, ◌-◌, Bool, true, false, ◌&&◌, ◌||◌, ◌⊎◌, inl, inr, List, [], ◌∷◌, ◌++◌, length, take, drop, refl}
-use Rattle.std.proofs.Common.{sym, ap, ◌∙◌, arith, append_assoc, append-nil, codes, not, ◌<◌}
+use Rattle.std.proofs.Common.{◌≡◌, suc, ◌-◌, Bool, true, false, ◌&&◌, ◌||◌, ◌⊎◌, inl, inr, List, [], ◌∷◌, ◌++◌, length, refl}
+use Rattle.std.proofs.Common.{sym, ap, ◌∙◌, arith, append_assoc, append-nil, codes, not}
 use Rattle.std.specs.List.{list_any, list_all}
-use Rattle.std.specs.Prelude.{◌==◌, if◌then◌else◌}
-use Rattle.std.proofs.lemmas.Bool.{and_parts, or_parts, or_left, or_right, or_from, cases_Bool, and_left, ne_eqb, not-true, true≢false, false≢true}
+use Rattle.std.specs.Prelude.{◌==◌}
+use Rattle.std.proofs.lemmas.Bool.{or_parts, or_left, or_right, or_from, cases_Bool, and_left, ne_eqb, true≢false, false≢true}
 use Rattle.std.proofs.lemmas.List.Folds.{list_any-append}
 use Rattle.edi_tokens.specs.declared.segment.Segment.{Segment}
 use Rattle.edi_envelope.specs.Segments.{is_unb, is_unz, is_unh, is_unt, is_ung, is_une, first_segment, last_segment, between}
@@ -179,19 +179,19 @@ begun_more : (s : Segment) (xs : List Segment) → Begun xs → Done xs → Begu
 begun_more s xs more done u body is none =
     elim (cases_Bool (is_unh s)) [
       | inl unh ↦
-        let not_t = other_tag s.tag (codes "UNH") (codes "UNT") refl unh in
-        rw (unh, not_t, append-nil body, no_unt u body is none) refl
+          let not_t = other_tag s.tag (codes "UNH") (codes "UNT") refl unh in
+          rw (unh, not_t, append-nil body, no_unt u body is none) refl
       | inr not_h ↦ elim (cases_Bool (is_unt s)) [
         | inl unt ↦ rw (not_h, unt) (done u body s is none unt)
         | inr not_t ↦ elim (cases_Bool (is_frame s)) [
           | inl frame ↦
-            let group : (is_ung s || is_une s) ≡ true = rw (not_h, not_t) at frame in
-            rw (not_h, not_t, group, bad_frame u body s (before_message xs) frame not_t) refl
+              let group : (is_ung s || is_une s) ≡ true = rw (not_h, not_t) at frame in
+              rw (not_h, not_t, group, bad_frame u body s (before_message xs) frame not_t) refl
           | inr plain ↦
-            let no_group : (is_ung s || is_une s) ≡ false = rw (not_h, not_t) at plain in
-            let joined : (body ++ s ∷ []) ++ before_message xs ≡ body ++ s ∷ before_message xs = append_assoc body (s ∷ []) (before_message xs) in
-            rw (not_h, not_t, no_group) (ap (λ l. is_block (u ∷ l) && list_all is_block (blocks xs)) (sym joined)
-            ∙ more u (body ++ s ∷ []) is (plain_more body s none plain))
+              let no_group : (is_ung s || is_une s) ≡ false = rw (not_h, not_t) at plain in
+              let joined : (body ++ s ∷ []) ++ before_message xs ≡ body ++ s ∷ before_message xs = append_assoc body (s ∷ []) (before_message xs) in
+              rw (not_h, not_t, no_group) (ap (λ l. is_block (u ∷ l) && list_all is_block (blocks xs)) (sym joined)
+              ∙ more u (body ++ s ∷ []) is (plain_more body s none plain))
         ]
       ]
     ]
@@ -213,6 +213,6 @@ row_follows (s ∷ xs) =
     elim (cases_Bool (is_unh s)) [
       | inl unh ↦ rw unh ((rows xs).0 s [] unh refl)
       | inr not_h ↦
-        let some : (length (s ∷ before_message xs) == 0) ≡ false = ne_eqb _ _ (λ e. omega arith) in
-        rw (not_h, some) refl
+          let some : (length (s ∷ before_message xs) == 0) ≡ false = ne_eqb _ _ (λ e. omega arith) in
+          rw (not_h, some) refl
     ]

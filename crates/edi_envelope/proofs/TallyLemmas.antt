@@ -1,9 +1,9 @@
 -- One more message, in what the headers and the trailers say.
 use Rattle.std.proofs.Common.{◌≡◌, ℕ, ◌+◌, Bool, true, false, not, ◌&&◌, ◌||◌, ◌⊎◌, inl, inr, List, [], ◌∷◌, ◌++◌, length, map, refl}
-use Rattle.std.proofs.Common.{sym, ap, ◌∙◌, arith, length-append}
+use Rattle.std.proofs.Common.{sym, ap, ◌∙◌, length-append}
 use Rattle.std.specs.List.{list_all}
 use Rattle.std.specs.Str.{bytes_eq}
-use Rattle.std.proofs.lemmas.Bool.{and_parts, or_parts, not-true, true≢false, false≢true, cases_Bool}
+use Rattle.std.proofs.lemmas.Bool.{and_parts, true≢false}
 use Rattle.std.proofs.lemmas.List.{map_push}
 use Rattle.std.proofs.lemmas.List.Folds.{list_all-append, list_any-append}
 use Rattle.edi_base.specs.Limits.{is_count, is_count_of}
@@ -89,9 +89,9 @@ module _ (messages : List (List Segment)) (h : Headers) (unh : Segment) (heads :
     twice = λ e. elim sure [
       | inl not_so ↦ absurd (true≢false (sym e ∙ not_so))
       | inr twice ↦
-        let before = sym (heads.twice (known (sym is ∙ e)).0) ∙ twice in
-        twice ∙ sym (ap has_twice references ∙ twice_more (map reference_of messages) text
-        ∙ ap (λ b. b || is_among text (map reference_of messages)) before)
+          let before = sym (heads.twice (known (sym is ∙ e)).0) ∙ twice in
+          twice ∙ sym (ap has_twice references ∙ twice_more (map reference_of messages) text
+          ∙ ap (λ b. b || is_among text (map reference_of messages)) before)
     ];
     seen = λ e once. elim sure [
       | inl not_so ↦ absurd (true≢false (sym e ∙ not_so))

@@ -60,7 +60,7 @@ fn is_header(unb: &SegmentRef<'_>) -> bool
 }
 
 /// What UNB says of the interchange's fault.
-#[derive(Clone, Copy, Debug)]
+#[derive(Clone, Copy)]
 pub(crate) struct HeaderMarks {
     /// It is as it is taken.
     pub taken: bool,

@@ -40,7 +40,7 @@ pub enum Place {
 }
 
 /// What comes next.
-#[derive(Clone, Copy, Debug)]
+#[derive(Clone, Copy)]
 pub(crate) enum Stage {
     /// UNB.
     Start,
@@ -56,28 +56,18 @@ pub(crate) enum Stage {
     Broken,
 }
 
-/// Which conditions hold where UNB, messages and UNZ stand in their order.
-#[derive(Clone, Copy, Debug)]
+/// Which conditions hold where UNB, messages and UNZ stand in their order: E07 and E11 to E19.
+#[derive(Clone, Copy)]
 pub(crate) struct Marks {
-    /// E07.
     header: bool,
-    /// E11.
     limits: bool,
-    /// E12.
     counts: bool,
-    /// E13.
     references: bool,
-    /// E14.
     messages: bool,
-    /// E15.
     control: bool,
-    /// E16.
     twice: bool,
-    /// E17.
     test: bool,
-    /// E18.
     many: bool,
-    /// E19.
     outside: bool,
 }
 
@@ -202,12 +192,12 @@ impl Judge {
     {
         Marks {
             header: !self.header.taken,
-            limits: !(self.headers.is_identified() && self.trailers.within),
+            limits: !(self.headers.identified && self.trailers.within),
             counts: !self.trailers.counted,
             references: !self.trailers.closed,
             messages: !is_count_of(unz.component(0, 0), self.headers.messages),
             control: kept(unz.component(1, 0)) != self.header.reference,
-            twice: self.headers.has_twice(),
+            twice: self.headers.twice,
             test: self.header.test,
             many: self.headers.messages > MOST_MESSAGES,
             outside: self.is_outside(unz),
@@ -329,8 +319,8 @@ impl Judge {
         self.header.taken
             && !self.header.test
             && !self.outside
-            && self.headers.is_identified()
-            && !self.headers.has_twice()
+            && self.headers.identified
+            && !self.headers.twice
             && self.headers.messages <= MOST_MESSAGES
             && self.trailers.within
             && self.trailers.counted

@@ -29,11 +29,11 @@ pub(crate) fn one_more(count: usize) -> Result<usize, MemoryFault>
 #[derive(Drop)]
 pub(crate) struct Headers {
     /// The reference and the message identifier of each are within their limits.
-    identified: bool,
+    pub identified: bool,
     /// How many there are.
     pub messages: usize,
     /// Two have one reference.
-    twice: bool,
+    pub twice: bool,
     /// The references, as long as these are within their limits and none comes twice.
     seen: References,
 }
@@ -65,24 +65,10 @@ impl Headers {
         self.twice = !new;
         Ok(())
     }
-
-    /// The references and the message identifiers are within their limits.
-    pub(crate) fn is_identified(&self) -> bool
-        ensures { result ≡ self.now.identified }
-    {
-        self.identified
-    }
-
-    /// Two messages have one reference.
-    pub(crate) fn has_twice(&self) -> bool
-        ensures { result ≡ self.now.twice }
-    {
-        self.twice
-    }
 }
 
 /// A message that is begun.
-#[derive(Clone, Copy, Debug)]
+#[derive(Clone, Copy)]
 pub(crate) struct Begun {
     /// Its reference, as it is kept.
     pub reference: [u8; 14],
@@ -91,7 +77,7 @@ pub(crate) struct Begun {
 }
 
 /// What the trailers UNT say.
-#[derive(Clone, Copy, Debug)]
+#[derive(Clone, Copy)]
 pub(crate) struct Trailers {
     /// The count of each is within its limits.
     pub within: bool,

@@ -1,4 +1,4 @@
-use Rattle.std.proofs.Common.{refl, inl, inr, ap}
+use Rattle.std.proofs.Common.{refl, inl, inr}
 use Rattle.edi_envelope.proofs.GatherLemmas.{unh_kept, goes_at, inside_kept, keeps_at, trailer_kept}
 use Rattle.edi_envelope.proofs.gathering.Gathered.keep.Goals as goal
 

@@ -1,4 +1,4 @@
-use Rattle.std.proofs.Common.{◌≡◌, None, sym, ◌∙◌}
+use Rattle.std.proofs.Common.{◌∙◌}
 use Rattle.edi_envelope.proofs.OpenLemmas.{interchange_of-fault, opened_as, has_head}
 use Rattle.edi_envelope.proofs.opening.Opening.finish.Goals as goal
 

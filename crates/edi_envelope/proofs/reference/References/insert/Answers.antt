@@ -1,6 +1,5 @@
-use Rattle.std.proofs.Common.{◌≡◌, ℕ, List, ◌||◌, Ordering, not, refl, ap, ◌∙◌}
+use Rattle.std.proofs.Common.{◌||◌, not, ap, ◌∙◌}
 use Rattle.std.specs.Str.{bytes_eq}
-use Rattle.std.specs.BTreeMap.{is_at}
 use Rattle.edi_base.specs.Seen.{is_among}
 use Rattle.edi_envelope.proofs.ReferenceLemmas.{reference-insert, contains-reference}
 use Rattle.edi_envelope.proofs.reference.References.insert.Goals as goal

@@ -1,4 +1,4 @@
-use Rattle.std.proofs.Common.{◌≡◌, ℕ, List, true, false, not, ap, ◌∙◌, sym, ◌&&◌, ◌||◌, inl, inr}
+use Rattle.std.proofs.Common.{ℕ, List, not, ap, ◌∙◌, ◌&&◌, ◌||◌, inl, inr}
 use Rattle.std.specs.Str.{bytes_eq}
 use Rattle.edi_base.specs.Seen.{is_among}
 use Rattle.edi_tokens.specs.SegmentRef.{segment_in}
