@@ -117,7 +117,7 @@ module _ (Does : Input → Reply → Type 0) (Same : Type 0) (register : Registe
   is_served bytes asked closed (Err Write) taken = taken
 
   -- a connection that was taken
-  pub taken : (old new : Known) (bytes left was : Option (List ℕ)) (read write : Bool) (closed : Closed)
+  pub taken : (old new : Known) (bytes was : Option (List ℕ)) (read write : Bool) (closed : Closed)
       (served : Result Served IoFault)
       → TakesFirst old.coming new.coming (bytes ∷ [])
       → TakesFirst old.moments new.moments (moment ∷ [])
@@ -125,11 +125,11 @@ module _ (Does : Input → Reply → Type 0) (Same : Type 0) (register : Registe
       → IsNew was read write
       → FailedSo served closed
       → closed.ending ≡ ending_of served
-      → Ended Asks Same register bytes left was closed.sent served
+      → Ended Asks Same register bytes closed.left was closed.sent served
       → OneStep Asks Same
       → ServesOne Does Same register old new (ending_of served)
-  taken old new bytes left was read write closed served clients moments adds begun failed told ended step =
-      let by = asked_so bytes left was closed.sent served ended step in record {
+  taken old new bytes was read write closed served clients moments adds begun failed told ended step =
+      let by = asked_so bytes closed.left was closed.sent served ended step in record {
         one = so_ended bytes by.0 closed served;
         ends = refl;
         passes = record { clients = clients; moments = moments; closed = adds };
@@ -142,7 +142,6 @@ module _ (Does : Input → Reply → Type 0) (Same : Type 0) (register : Registe
               closed_is = refl;
               failed_so = failed;
               told_so = told;
-              left = left;
               begun = was;
               nothing_sent = begun.nothing_sent;
               ended = by.2;

@@ -38,17 +38,18 @@ pub record IsNew (sent : Option (List ℕ)) (read_failed write_failed : Bool) : 
   pub read : IsFalse read_failed
   pub write : IsFalse write_failed
 
--- a connection at its end: what its client was sent, where that is known, whether a read and a write have failed, and
--- what it was said to have become
+-- a connection at its end: what was left of what its client sent, and what it was sent, where these are known; whether a
+-- read and a write have failed; and what it was said to have become
 pub record Closed : Type 0 where
+  pub left : Option (List ℕ)
   pub sent : Option (List ℕ)
   pub read_failed : Bool
   pub write_failed : Bool
   pub ending : Ending
 
-abbrev pub closed : Option (List ℕ) → Bool → Bool → Ending → Closed
-closed sent read_failed write_failed ending =
-    record { sent = sent; read_failed = read_failed; write_failed = write_failed; ending = ending }
+abbrev pub closed : Option (List ℕ) → Option (List ℕ) → Bool → Bool → Ending → Closed
+closed left sent read_failed write_failed ending =
+    record { left = left; sent = sent; read_failed = read_failed; write_failed = write_failed; ending = ending }
 
 -- where it is known how connections ended, these did after the others
 abbrev pub Adds : Option (List Closed) → Option (List Closed) → List Closed → Type 0

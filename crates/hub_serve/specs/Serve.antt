@@ -102,10 +102,9 @@ pub record IsTaken (register : RegisterRows) (one : Connection) (served : Result
   pub closed_is : one.closed ≡ Some closed
   pub failed_so : FailedSo served closed
   pub told_so : closed.ending ≡ ending_of served
-  pub left : Option (List ℕ)
   pub begun : Option (List ℕ)
   pub nothing_sent : IfSome begun (λ bytes. bytes ≡ [])
-  pub ended : Ended (IsAsked one.asked) (one.asked ≡ None) register one.bytes left begun closed.sent served
+  pub ended : Ended (IsAsked one.asked) (one.asked ≡ None) register one.bytes closed.left begun closed.sent served
 
 -- the client of a connection went away before it was taken: nothing was asked, and nothing sent
 pub record IsGone (one : Connection) : Type 0 where

@@ -34,8 +34,8 @@ pub trait Connections {
     // where they are known.
     ghost coming: { Self → Option (List (Option (List ℕ))) } = { λ _. None };
 
-    // Of the connections that were ended, in their order, where it is known: what the client of each was sent, whether
-    // a read or a write of it has failed, and what it was said to have become.
+    // Of the connections that were ended, in their order, where it is known: what was left of what the client of each
+    // sent, what it was sent, whether a read or a write of it has failed, and what it was said to have become.
     ghost closed: { Self → Option (List spec.Closed) } = { λ _. None };
 
     // Whether no more can be taken.
@@ -54,8 +54,8 @@ pub trait Connections {
     fn end(&mut self, sides: Sides<Self::Reader, Self::Writer>, ending: Ending)
         ensures coming { coming self.new ≡ coming self.old }
         ensures closed { spec.Adds (closed self.old) (closed self.new)
-            (spec.closed (Self.Writer.contents sides.writer) (Self.Reader.failed sides.reader)
-            (Self.Writer.failed sides.writer) ending ∷ []) }
+            (spec.closed (Self.Reader.remaining sides.reader) (Self.Writer.contents sides.writer)
+            (Self.Reader.failed sides.reader) (Self.Writer.failed sides.writer) ending ∷ []) }
         ensures flag { failed self.new ≡ failed self.old };
 }
 

@@ -1,5 +1,5 @@
 //! Connections served one after another.
-ghost use Rattle.std.specs.Prelude.{◌≡◌, IsTrue, List, [], OnErr, OnOk};
+ghost use Rattle.std.specs.Prelude.{◌≡◌, IsTrue, [], OnErr, OnOk};
 ghost use Rattle.hub_core.specs.Steps.{Ran};
 ghost use Rattle.hub_rules.specs.Sound.{Sound};
 ghost use Rattle.hub_serve.specs.Connections.{known};

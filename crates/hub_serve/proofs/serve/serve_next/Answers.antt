@@ -24,12 +24,12 @@ returns-clause-served g c =
     let after =
     known (g.L.Connections.coming c.end.new.self) (g.L.Connections.closed c.end.new.self) (g.M.Moments.coming c.next-2.new.self) in
     let at_its_end =
-    closed (g.L.Writer.Sink.contents c.serve_one.new.writer) (g.L.Reader.Source.failed c.serve_one.new.reader)
-    (g.L.Writer.Sink.failed c.serve_one.new.writer) c.ending_of-ending.result in
+    closed (g.L.Reader.Source.remaining c.serve_one.new.reader) (g.L.Writer.Sink.contents c.serve_one.new.writer)
+    (g.L.Reader.Source.failed c.serve_one.new.reader) (g.L.Writer.Sink.failed c.serve_one.new.writer) c.ending_of-ending.result in
     subst (λ (ending : Ending). ServesOne (DoesTo g.S.Store.content g.S.Store.honest g.S.Store.left hub new) (new ≡ hub) hub.0
     before after ending) (sym c.ending_of-ending.ensures)
     (taken (DoesTo g.S.Store.content g.S.Store.honest g.S.Store.left hub new) (new ≡ hub) hub.0 c.in-Some.moment before after
-    (g.L.Reader.Source.remaining c.in-Ok.sides.reader) (g.L.Reader.Source.remaining c.serve_one.new.reader)
+    (g.L.Reader.Source.remaining c.in-Ok.sides.reader)
     (g.L.Writer.Sink.contents c.in-Ok.sides.writer) (g.L.Reader.Source.failed c.in-Ok.sides.reader)
     (g.L.Writer.Sink.failed c.in-Ok.sides.writer) at_its_end c.serve_one.result
     (subst (λ (rest : Coming). TakesFirst (g.L.Connections.coming c.args.connections.now) rest
