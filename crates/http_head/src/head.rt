@@ -1,8 +1,8 @@
 //! The head of a request.
 
-ghost use Rattle.std.specs.Prelude.{◌≡◌, ◌≤◌, ◌+◌, ◌-◌, ◌<◌, true, IfOk, OnOk, OnErr, length, take, List, ℕ, drop};
+ghost use Rattle.std.specs.Prelude.{◌≡◌, true, IfOk, OnOk, OnErr};
 ghost use Rattle.http_head.specs.Head.{Heading, Finds, longest_head};
-ghost use Rattle.edi_base.specs.Source.{TakesPiece, TakesAtMost};
+ghost use Rattle.edi_base.specs.Source.{TakesAtMost};
 ghost use Rattle.http_head.specs.Fields.{AreValues, values_of};
 
 use crate::fields::{Values, values_in};

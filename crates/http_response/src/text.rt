@@ -1,6 +1,6 @@
 //! The text of a response.
 
-ghost use Rattle.std.specs.Prelude.{◌≡◌, [], ◌++◌, map, length};
+ghost use Rattle.std.specs.Prelude.{◌≡◌};
 ghost use Rattle.std.specs.List.{flat_map};
 ghost use Rattle.edi_base.specs.Buffer.{Puts, Flags};
 ghost use Rattle.http_response.specs.Text.{http_text, head_text, phrase_of, Writes};

@@ -3,7 +3,7 @@ ghost use Rattle.std.specs.Prelude.{◌≡◌, Some, option_map, IfOk, IsOk, IsF
 ghost use Rattle.http_head.specs.Fields.{values_of};
 ghost use Rattle.http_routes.specs.Routes.{shown};
 ghost use Rattle.hub_http.specs.Asked as spec;
-ghost use Rattle.hub_http.specs.Told.{told_asker, told, told_result};
+ghost use Rattle.hub_http.specs.Told.{told_asker, told_result};
 
 use crate::refusal::Refusal;
 use crate::sought::{Sought, sought_at};
