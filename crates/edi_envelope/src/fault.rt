@@ -126,7 +126,8 @@ impl fmt::Display for OpenFault {
     ghost output = { λ fault. Some (code_text fault) };
 
     fn fmt<W: fmt::Write>(&self, f: &mut fmt::Formatter<W>) -> fmt::Result {
-        f.write_str(self.code())
+        let code = self.code();
+        f.write_str(code)
     }
 }
 

@@ -8,6 +8,8 @@ mod doubles;
 #[cfg(test)]
 mod envelope;
 #[cfg(test)]
+mod feeding;
+#[cfg(test)]
 mod goods;
 #[cfg(test)]
 mod identifiers;
