@@ -10,7 +10,7 @@ use clap::Error;
 use edi_tokens::{OfRead, OfWrite};
 use file::{Work, over_a_hub};
 use hub_app::{
-    FAILED, Words, WordsFault, check_run, read_register_text, relay_run, show_run, words,
+    FAILED, Words, WordsFault, check_run, read_register_text, read_words, relay_run, show_run,
 };
 use std::fmt::Display;
 use std::fs::File;
@@ -52,7 +52,7 @@ fn check(rt: &HostRuntime, path: &str) -> u8 {
 
 // Runs the command that the words name.
 fn run(rt: &HostRuntime, given: &[String]) -> u8 {
-    match words(rt.alloc(), given) {
+    match read_words(rt.alloc(), given) {
         Ok(Words::Check(words)) => check(rt, words.register),
         Ok(Words::Relay(relay)) => relay_run(
             rt.alloc(),

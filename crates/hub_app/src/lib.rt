@@ -15,4 +15,4 @@ pub use exit::FAILED;
 pub use relay::{RelayFault, RelayWords, relay_text};
 pub use run::relay_run;
 pub use show::show_run;
-pub use words::{CheckWords, HubTask, HubWords, ServeWords, Words, WordsFault, words};
+pub use words::{CheckWords, HubTask, HubWords, ServeWords, Words, WordsFault, read_words};

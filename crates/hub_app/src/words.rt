@@ -416,7 +416,7 @@ fn words_by<'a, S: AsStr>(
 
 /// Reads the words of the command line, the program's name first. Words that `clap` takes are refused only where an
 /// option is against its limits.
-pub fn words<'a, S: AsStr>(alloc: Global, words: &'a [S]) -> Result<Words<'a>, WordsFault>
+pub fn read_words<'a, S: AsStr>(alloc: Global, words: &'a [S]) -> Result<Words<'a>, WordsFault>
     ensures read { IfOk result (Say (map S.text words.entry.now)) }
     ensures limits { IfOk result AreWords }
     ensures refused { IfErr result (Refuses (map S.text words.entry.now)) }
