@@ -38,8 +38,8 @@ pub record IsNew (sent : Option (List ℕ)) (read_failed write_failed : Bool) : 
   pub read : IsFalse read_failed
   pub write : IsFalse write_failed
 
--- a connection at its end: what was left of what its client sent, and what it was sent, where these are known; whether a
--- read and a write have failed; and what it was said to have become
+-- a connection at its end: what was left of what its client sent, and what it was sent, where these are known; whether
+-- a read and a write have failed; and what it was said to have become
 pub record Closed : Type 0 where
   pub left : Option (List ℕ)
   pub sent : Option (List ℕ)

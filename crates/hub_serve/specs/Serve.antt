@@ -169,7 +169,8 @@ pub record Lost (known rest : Known) (Going : Type 0) (count : ℕ) (old new : O
 -- Connections were served in their order, which are the first of those that come, at the moments that come, and these
 -- were ended. What was asked of the hub in them, and the replies, are a run of it.
 pub record Serves (Runs : List Input → List Reply → Type 0) (register : RegisterRows) (known rest : Known)
-    (Going Over Unknown : Type 0) (count : ℕ) (old new : Option (List ℕ)) (failed after : Bool) (status : ℕ) : Type 0 where
+    (Going Over Unknown : Type 0) (count : ℕ) (old new : Option (List ℕ)) (failed after : Bool) (status : ℕ)
+    : Type 0 where
   pub served : List Connection
   pub first : AreFirst known.coming (sent_in served)
   pub timed : AreFirst known.moments (moments_in served)
@@ -177,5 +178,6 @@ pub record Serves (Runs : List Input → List Reply → Type 0) (register : Regi
   pub each : AllByRecursion (IsServed register) served
   pub ran : Runs (inputs served) (replies served)
   pub ended : Whole known rest Going count old new failed after served status
-      ⊎ (CutShort (Stops Over Unknown known.coming rest.coming (sent_in served)) count old new failed after served status
+      ⊎ (CutShort (Stops Over Unknown known.coming rest.coming (sent_in served)) count old new failed after served
+      status
       ⊎ Lost known rest Going count old new after served status)
