@@ -1,9 +1,8 @@
 //! The segments of a text, one after another, as its bytes are read.
 
-ghost use Rattle.std.specs.Prelude.{◌≡◌, ◌<◌, ℕ, List, [], IfOk, IfErr, Option, Some, None, Ok, Err, ◌+◌};
+ghost use Rattle.std.specs.Prelude.{◌≡◌, ◌<◌, ℕ, List, [], IfOk, IfErr, Some, None, Ok, ◌+◌};
 ghost use Rattle.edi_tokens.specs.declared.segment.Segment.{Segment};
 ghost use Rattle.edi_tokens.specs.Spelling.{text_limit};
-ghost use Rattle.edi_tokens.specs.Reading.{tokens_of};
 
 use crate::fault::TokenFault;
 use crate::machine::Machine;
@@ -46,7 +45,7 @@ pub struct Refused<R> {
 }
 
 impl<R: Source> Feeder<R> {
-    ghost use Rattle.std.specs.Prelude.{◌≢◌, OnOk, false, true};
+    ghost use Rattle.std.specs.Prelude.{OnOk, false, true};
     ghost use Rattle.std.specs.Borrow.{sem};
     ghost use Rattle.edi_tokens.specs.contracts.feeder.Feeder.{the_row};
     ghost use Rattle.std.specs.Borrow.{follows_so};

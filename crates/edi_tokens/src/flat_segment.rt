@@ -1,7 +1,7 @@
 //! A segment whose data has begun, kept flat: its bytes in one buffer, and the places where components and elements
 //! end. Its buffers are made once, so that no later call takes memory.
 
-ghost use Rattle.std.specs.Prelude.{◌≡◌, ◌+◌, ◌≤◌, ◌<◌, [], ◌∷◌, ◌++◌, length, slice_index, slice_range, IfOk};
+ghost use Rattle.std.specs.Prelude.{◌≡◌, ◌+◌, ◌≤◌, ◌<◌, [], ◌∷◌, length, slice_index, slice_range, IfOk};
 ghost use Rattle.edi_tokens.specs.Spelling.{segment_limit, without_empty_end};
 ghost use Rattle.edi_tokens.specs.Flat.{IsLeft};
 
@@ -77,7 +77,7 @@ impl Model for FlatSegment {
 impl FlatSegment {
     ghost use Rattle.edi_tokens.specs.OpenSegment.{with_bytes};
     ghost use Rattle.edi_tokens.specs.Segment.{element_at, component_at};
-    ghost use Rattle.edi_tokens.specs.Reading.{with_tag, with_byte, with_component, with_element, with_release, closed_elements};
+    ghost use Rattle.edi_tokens.specs.Reading.{with_tag, with_byte, with_component, with_element, with_release};
 
     /// Room for a segment of 8,192 bytes.
     pub(crate) fn new(alloc: Global) -> Result<Self, MemoryFault>

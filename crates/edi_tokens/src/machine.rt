@@ -49,7 +49,6 @@ fn is_una(tag: &[u8]) -> bool
 }
 
 impl Machine {
-    ghost use Rattle.std.specs.Prelude.{Bool};
     ghost use Rattle.edi_tokens.specs.declared.segment.Segment.{Segment};
     ghost use Rattle.edi_tokens.specs.Machine.{reading_of, after, tokens_at};
 

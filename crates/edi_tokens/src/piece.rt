@@ -1,7 +1,6 @@
 //! The bytes that were read last, and how far they are taken.
 
-ghost use Rattle.std.specs.Prelude.{◌≡◌, ◌≤◌, ◌<◌, ◌||◌, ◌-◌, ℕ, Bool, List, [], length, take, drop, IfOk, OnErr, is_err};
-ghost use Rattle.std.specs.Io.KnownBytes.{Consumes, Keeps, IsAtEnd};
+ghost use Rattle.std.specs.Prelude.{◌≡◌, ◌≤◌, ◌<◌, ◌||◌, ◌-◌, ℕ, List, [], length, take, drop, IfOk, is_err};
 ghost use Rattle.edi_tokens.specs.Piece.{Fills, Reads};
 
 use edi_base::{MemoryFault, Source};

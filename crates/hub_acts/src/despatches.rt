@@ -1,5 +1,5 @@
 //! What is known of a supplier's rows when a despatch advice is judged.
-ghost use Rattle.std.specs.Prelude.{◌≡◌, ◌≢◌, true, None, Err, ◌∷◌, ◌++◌, [], List, map, filter, length, if◌then◌else◌, IfOk, OnOk};
+ghost use Rattle.std.specs.Prelude.{◌≡◌, ◌≢◌, true, None, Err, ◌∷◌, ◌++◌, [], map, filter, length, if◌then◌else◌, IfOk, OnOk};
 ghost use Rattle.std.specs.List.{flat_map};
 ghost use Rattle.hub_tables.specs.State.{knows_order, lines_of};
 ghost use Rattle.hub_tables.specs.Tables.{view, has_pallet};

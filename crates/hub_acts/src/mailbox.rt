@@ -1,5 +1,5 @@
 //! A supplier's mailbox.
-ghost use Rattle.std.specs.Prelude.{◌≡◌, [], ◌∷◌, IfOk, Some};
+ghost use Rattle.std.specs.Prelude.{◌≡◌, [], ◌∷◌, IfOk};
 ghost use Rattle.hub_tables.specs.State.{entry_at, untaken_after};
 ghost use Rattle.hub_tables.specs.Tables.{view};
 ghost use Rattle.hub_parties.specs.Rows.{RegisterRows};

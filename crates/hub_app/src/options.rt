@@ -1,6 +1,6 @@
 //! The values of options.
 
-ghost use Rattle.std.specs.Prelude.{◌≡◌, map, option_map, option_and_then, IfOk};
+ghost use Rattle.std.specs.Prelude.{◌≡◌, map, option_map, IfOk};
 ghost use Rattle.clap.specs.Words.{first_of, found_of, rows_of};
 ghost use Rattle.gs1_ids.specs.Gln.{gln_of};
 ghost use Rattle.hub_texts.specs.Number.{number_in};

@@ -1,5 +1,5 @@
 //! The plain files of a folder.
-ghost use Rattle.std.specs.Prelude.{◌≡◌, IfOk, IsSorted, string_cmp};
+ghost use Rattle.std.specs.Prelude.{IfOk, IsSorted, string_cmp};
 
 use crate::files::{Files, LONGEST_FILE, NamedFile, NextFile};
 use edi_base::{Items, MemoryFault, OfRead, ReadFault, read_to_limit};

@@ -1,5 +1,5 @@
 //! One reply.
-ghost use Rattle.std.specs.Prelude.{◌≡◌, OnOk};
+ghost use Rattle.std.specs.Prelude.{◌≡◌};
 ghost use Rattle.hub_commands.specs.Output.{Prints};
 ghost use Rattle.hub_commands.specs.Replies as spec;
 

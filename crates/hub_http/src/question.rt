@@ -1,5 +1,5 @@
 //! What is asked of the hub.
-ghost use Rattle.std.specs.Prelude.{◌≡◌, IfOk, Some};
+ghost use Rattle.std.specs.Prelude.{◌≡◌, IfOk};
 ghost use Rattle.hub_http.specs.Question as spec;
 ghost use Rattle.hub_http.specs.Told.{told, told_questions};
 ghost use Rattle.hub_texts.specs.Cancel.{cancel_of};

@@ -1,5 +1,5 @@
 //! Lines by order number and article.
-ghost use Rattle.std.specs.Prelude.{◌≡◌, ◌<◌, Some, None, filter, length, slice_get, IfOk};
+ghost use Rattle.std.specs.Prelude.{◌≡◌, ◌<◌, None, filter, length, slice_get, IfOk};
 ghost use Rattle.std.specs.BTreeMap.{get};
 ghost use Rattle.std.specs.Option.{IfSome, IfNone};
 ghost use Rattle.hub_tables.specs.Rows.{same};

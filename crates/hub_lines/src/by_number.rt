@@ -1,5 +1,5 @@
 //! Lines by order number and line number.
-ghost use Rattle.std.specs.Prelude.{◌≡◌, ◌<◌, ◌==◌, ◌&&◌, Some, None, length, slice_get, find};
+ghost use Rattle.std.specs.Prelude.{◌≡◌, ◌<◌, ◌==◌, ◌&&◌, None, length, slice_get, find};
 ghost use Rattle.std.specs.Option.{IfSome, IfNone};
 ghost use Rattle.hub_tables.specs.Rows.{same};
 ghost use Rattle.hub_tables.specs.Sets.{Rises};

@@ -1,5 +1,5 @@
 //! Look-ups of what is on a pallet.
-ghost use Rattle.std.specs.Prelude.{◌≡◌, filter, IsTrue, IfOk};
+ghost use Rattle.std.specs.Prelude.{filter, IsTrue, IfOk};
 ghost use Rattle.std.specs.List.{list_all};
 ghost use Rattle.sqlite.specs.Held.{state};
 ghost use Rattle.hub_store.specs.Clean.{clean_content, clean_receipt};

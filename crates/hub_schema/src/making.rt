@@ -1,5 +1,5 @@
 //! The making of the tables.
-ghost use Rattle.std.specs.Prelude.{◌≡◌, OnOk, IsTrue, false, List, [], ◌∷◌};
+ghost use Rattle.std.specs.Prelude.{◌≡◌, OnOk, IsTrue, false, [], ◌∷◌};
 ghost use Rattle.sqlite.specs.Tree.{Trees};
 ghost use Rattle.sqlite.specs.State.{HasCleanDisk, Survives, KeepsCommit};
 ghost use Rattle.sqlite.specs.Schema.{Schema};

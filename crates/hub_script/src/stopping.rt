@@ -1,5 +1,5 @@
 //! Files in memory that fail from some call on, as where the machine stops, and come back from that.
-ghost use Rattle.std.specs.Prelude.{IsTrue, IfErr};
+ghost use Rattle.std.specs.Prelude.{IsTrue};
 
 use crate::opening::Opener;
 use hub_sql::{Returned, SqliteStore};

@@ -1,11 +1,9 @@
 //! A store over a connection of SQL.
-ghost use Rattle.std.specs.Prelude.{◌≡◌, ◌≢◌, ◌∷◌, [], true, false, Option, Result, None, Some, Ok, Err, OnOk, IfErr, IfOk};
-ghost use Rattle.std.specs.Option.{IfSome};
+ghost use Rattle.std.specs.Prelude.{◌≡◌, ◌∷◌, [], true, false, None};
 ghost use Rattle.sqlite.specs.Held.{state};
 ghost use Rattle.sqlite.specs.State.{HasCleanDisk};
 ghost use Rattle.hub_schema.specs.State.{IsHub};
-ghost use Rattle.hub_schema.specs.Schema.{hub_schema};
-ghost use Rattle.hub_store.specs.Calls.{fault_of, broken_after};
+ghost use Rattle.hub_store.specs.Calls.{fault_of};
 ghost use Rattle.hub_sql.specs.Settling.{Settles};
 
 use http_server::Log;

@@ -1,5 +1,5 @@
 //! The lines of orders in the status report.
-ghost use Rattle.std.specs.Prelude.{◌≡◌, ◌-◌, ◌++◌, ◌∷◌, [], IfOk, OnOk};
+ghost use Rattle.std.specs.Prelude.{◌≡◌, ◌++◌, IfOk, OnOk};
 ghost use Rattle.std.specs.List.{AllByRecursion, flat_map};
 ghost use Rattle.hub_tables.specs.Cases as cases;
 ghost use Rattle.hub_tables.specs.Tables.{Tables};

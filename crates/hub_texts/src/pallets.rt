@@ -11,7 +11,6 @@ ghost use Rattle.hub_law.specs.Widths.{right};
 ghost use Rattle.hub_texts.specs.Pallets as spec;
 ghost use Rattle.hub_texts.specs.Totals.{article_line, IsUnclean};
 ghost use Rattle.hub_texts.specs.declared.fault.TextFault.TheVariants.{Unclean};
-ghost use Rattle.hub_texts.specs.declared.totals.Totals.{Totals};
 
 use crate::fault::TextFault;
 use crate::fields::{put_blanks, put_end, put_next, put_number};

@@ -1,9 +1,8 @@
 //! Entries of mailboxes.
-ghost use Rattle.std.specs.Prelude.{◌≡◌, ◌∷◌, [], true, ◌<◌, ◌^◌};
+ghost use Rattle.std.specs.Prelude.{◌≡◌, ◌∷◌, []};
 ghost use Rattle.sqlite.specs.Held.{state};
 ghost use Rattle.hub_tables.specs.declared.change.Change.TheVariants.{AddMail, SetMail};
-ghost use Rattle.hub_tables.specs.declared.rows.MailRow.{MailRow};
-ghost use Rattle.hub_writes.specs.Acts.{Acts, great_entry};
+ghost use Rattle.hub_writes.specs.Acts.{Acts};
 
 use crate::faults::{insert_ended, update_ended};
 use crate::values::{
