@@ -1,17 +1,15 @@
--- Reading on: what a feeder told, with what was opened before.
-use Rattle.std.proofs.Common.{◌≡◌, ◌≢◌, ℕ, Bool, List, [], ◌∷◌, ◌++◌, Option, Some, None, Result, Ok, Err, refl, sym, ap, subst, ◌∙◌}
+-- Reading on: what a lender told, with what was opened before.
+use Rattle.std.proofs.Common.{◌≡◌, ◌≢◌, ℕ, Bool, true, false, List, [], ◌∷◌, ◌++◌, Option, Some, None, Result, Ok, Err, refl, sym, ap, subst, ◌∙◌}
 use Rattle.std.specs.Prelude.{OnOk}
 use Rattle.std.proofs.lemmas.Bool.{false≢true}
-use Rattle.edi_tokens.specs.declared.feeder.Feeder.{Feeder}
+use Rattle.edi_tokens.specs.declared.lender.Lender.{Lender}
 use Rattle.edi_tokens.specs.declared.segment.Segment.{Segment}
-use Rattle.edi_tokens.specs.declared.segment_ref.SegmentRef.{SegmentRef}
 use Rattle.edi_tokens.specs.declared.fault.TokenFault.{TokenFault}
 use Rattle.edi_tokens.specs.declared.fault.TokenFault.TheVariants as token
 use Rattle.edi_tokens.specs.Reading.{tokens_of}
 use Rattle.edi_tokens.specs.Machine.{tokens_at}
-use Rattle.edi_tokens.specs.Feeder.{Fed, Told, Feeds, Flags, TakesWithin, stopped}
-use Rattle.edi_tokens.specs.SegmentRef.{segment_in, segment_told}
-use Rattle.edi_tokens.proofs.Feeding.{takes_none, takes_then}
+use Rattle.edi_tokens.specs.Lender.{AtEnd, Fed, Told, Feeds, Flags, TakesOf, answered, lent_by, room_of, stopped}
+use Rattle.edi_tokens.proofs.Lending.{takes_none, takes_then}
 use Rattle.edi_envelope.specs.declared.opening.Opening.{Opening}
 use Rattle.edi_tokens.specs.declared.fault.TokenFault.TheVariants.{TooLong, ServiceString, Byte, Cut, Tag, LongSegment, Read, Memory}
 use Rattle.edi_tokens.specs.declared.segment.Tokens.{Tokens}
@@ -24,49 +22,52 @@ use Rattle.edi_envelope.specs.Interchange.{interchange_of}
 use Rattle.edi_envelope.specs.Gathered.{Stands, HasRead, Reads}
 use Rattle.edi_envelope.specs.Opened.{judged_as, read_as, opened, Opens}
 
-module _ {R : Type 0} (remaining : R → Option (List ℕ)) (failed : R → Bool) (old : Feeder R) where
-  pub nothing_read : (opening : Opening) → Stands [] opening → HasRead remaining failed old opening old
+module _ (before : Option (List ℕ)) (was : Bool) (old : Lender) where
+  pub nothing_read : (opening : Opening) → Stands [] opening → HasRead before before was was old opening old
   nothing_read opening stands = record {
     lent = [];
     stands = stands;
     fed = λ all fed. fed;
     flag = λ e. refl;
     going = λ e. e;
-    bound = takes_none (remaining old.reader) old.room;
+    bound = takes_none before (room_of old);
+    ends = λ e. e;
   }
 
-  module _ (now new : Feeder R) (opening : Opening) (result : Result (Option SegmentRef) TokenFault)
-      (read : HasRead remaining failed old opening now) (feeds : Feeds remaining failed now (segment_told result) new) where
-    told_as : (given : Result (Option SegmentRef) TokenFault) → result ≡ given
-        → (all : List ℕ) → Fed remaining all [] old → Told remaining all read.lent (segment_told given) new
+  module _ (between after : Option (List ℕ)) (flag failed : Bool) (now new : Lender) (opening : Opening)
+      (result : Result Bool TokenFault) (read : HasRead before between was flag old opening now)
+      (feeds : Feeds between after flag failed now (answered result new) new) where
+    told_as : (given : Result Bool TokenFault) → result ≡ given
+        → (all : List ℕ) → Fed before all [] old → Told after all read.lent (answered given new) new
     told_as given is all fed =
-        subst (λ (r : Result (Option SegmentRef) TokenFault). Told remaining all read.lent (segment_told r) new) is
+        subst (λ (r : Result Bool TokenFault). Told after all read.lent (answered r new) new) is
         (feeds.told all read.lent (read.fed all fed))
 
-    pub bound_then : TakesWithin (remaining old.reader) (remaining new.reader) old.room new.room
+    pub bound_then : TakesOf before after (room_of old) (room_of new)
     bound_then = takes_then _ _ _ _ _ _ read.bound feeds.bound
 
+    pub ends_then : AtEnd before old → AtEnd after new
+    ends_then end = feeds.ends (read.ends end)
+
     pub fault_told : (fault : TokenFault) → result ≡ Err fault
-        → (all : List ℕ) → Fed remaining all [] old → fault ≢ token.Read → tokens_of all ≡ Err fault
+        → (all : List ℕ) → Fed before all [] old → fault ≢ token.Read → tokens_of all ≡ Err fault
     fault_told fault is all fed = told_as (Err fault) is all fed
 
-    pub end_told : result ≡ Ok None
-        → (lent : List Segment) × Stands lent opening × ((all : List ℕ) → Fed remaining all [] old → tokens_of all ≡ Ok (tokens_at lent new.machine))
-    end_told is = (read.lent, read.stands, λ all fed. (told_as (Ok None) is all fed).1)
+    pub end_told : result ≡ Ok false
+        → (lent : List Segment) × Stands lent opening × ((all : List ℕ) → Fed before all [] old → tokens_of all ≡ Ok (tokens_at lent new.machine))
+    end_told is = (read.lent, read.stands, λ all fed. (told_as (Ok false) is all fed).1)
 
-    pub more_read : (segment : SegmentRef) (next : Opening) → result ≡ Ok (Some segment)
-        → Stands (read.lent ++ segment_in segment ∷ []) next
-        → HasRead remaining failed old next new
-    more_read segment next is stands = record {
-      lent = read.lent ++ segment_in segment ∷ [];
+    pub more_read : (next : Opening) → result ≡ Ok true → Stands (read.lent ++ lent_by new ∷ []) next
+        → HasRead before after was failed old next new
+    more_read next is stands = record {
+      lent = read.lent ++ lent_by new ∷ [];
       stands = stands;
-      fed = λ all fed. told_as (Ok (Some segment)) is all fed;
+      fed = λ all fed. told_as (Ok true) is all fed;
       flag = λ e.
-          subst (λ (r : Result (Option SegmentRef) TokenFault). Flags (segment_told r) (failed now.reader) (failed new.reader)) is
-          (feeds.flag (read.going e))
-          ∙ read.flag e;
-      going = λ e. subst (λ (r : Result (Option SegmentRef) TokenFault). OnOk (segment_told r) (stopped new ≡ None)) is feeds.goes_on;
+          subst (λ (r : Result Bool TokenFault). Flags (answered r new) flag failed) is (feeds.flag (read.going e)) ∙ read.flag e;
+      going = λ e. subst (λ (r : Result Bool TokenFault). OnOk (answered r new) (stopped new ≡ None)) is feeds.goes_on;
       bound = bound_then;
+      ends = ends_then;
     }
 
 -- ---- what was read is what the text is opened as
@@ -96,10 +97,10 @@ opens_envelope envelope.TooManyMessages given h = h
 opens_envelope envelope.CharacterSet given h = h
 opens_envelope envelope.Memory given h = tt
 
-pub fault_opens : {R : Type 0} (remaining : R → Option (List ℕ)) (old new : Feeder R) (fault : OpenFault) → Reads remaining old (Err fault) new
-    → (all : List ℕ) → Fed remaining all [] old → Opens (Err fault) (opened all)
-fault_opens remaining old new (Token fault) h all fed = opens_token fault all (h all fed)
-fault_opens remaining old new (Envelope fault) h all fed =
+pub fault_opens : (known : Option (List ℕ)) (old new : Lender) (fault : OpenFault) → Reads known old (Err fault) new
+    → (all : List ℕ) → Fed known all [] old → Opens (Err fault) (opened all)
+fault_opens known old new (Token fault) h all fed = opens_token fault all (h all fed)
+fault_opens known old new (Envelope fault) h all fed =
     subst (λ (e : EnvelopeFault). Opens (Err (Envelope e)) (opened all)) (sym h) tt
 
 pub envelope_opens : (all : List ℕ) (tokens : Tokens) (fault : EnvelopeFault) → tokens_of all ≡ Ok tokens → interchange_of tokens ≡ Err fault

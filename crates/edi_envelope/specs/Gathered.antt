@@ -3,11 +3,11 @@ use Rattle.std.specs.Prelude.{◌≡◌, ◌≢◌, ℕ, Bool, false, true, List
 use Rattle.std.specs.Prelude.{Result, Ok, Err}
 use Rattle.std.specs.List.{list_any}
 use Rattle.edi_tokens.specs.declared.segment.Segment.{Segment}
-use Rattle.edi_tokens.specs.declared.feeder.Feeder.{Feeder}
+use Rattle.edi_tokens.specs.declared.lender.Lender.{Lender}
 use Rattle.edi_tokens.specs.declared.fault.TokenFault.TheVariants as token
 use Rattle.edi_tokens.specs.Reading.{tokens_of}
 use Rattle.edi_tokens.specs.Machine.{tokens_at}
-use Rattle.edi_tokens.specs.Feeder.{Fed, HasCause, TakesWithin, stopped}
+use Rattle.edi_tokens.specs.Lender.{AtEnd, Fed, HasCause, TakesOf, room_of, stopped}
 use Rattle.edi_envelope.specs.declared.fault.EnvelopeFault.{EnvelopeFault}
 use Rattle.edi_envelope.specs.declared.fault.EnvelopeFault.TheVariants as envelope
 use Rattle.edi_envelope.specs.declared.fault.OpenFault.{OpenFault}
@@ -74,11 +74,11 @@ IsJudged (Ok interchange) given = given ≡ Ok interchange
 IsJudged (Err fault) given = given ≡ Err fault
 
 -- of a text all segments are opened, or its token fault is told, or a read failed, or memory ran out
-abbrev pub Reads : {R : Type 0} → (R → Option (List ℕ)) → Feeder R → Result Opening OpenFault → Feeder R → Type 0
-Reads remaining old (Ok opening) new =
-    (lent : List Segment) × Stands lent opening × ((all : List ℕ) → Fed remaining all [] old → tokens_of all ≡ Ok (tokens_at lent new.machine))
-Reads remaining old (Err (Token fault)) new = (all : List ℕ) → Fed remaining all [] old → fault ≢ token.Read → tokens_of all ≡ Err fault
-Reads remaining old (Err (Envelope fault)) new = fault ≡ envelope.Memory
+abbrev pub Reads : Option (List ℕ) → Lender → Result Opening OpenFault → Lender → Type 0
+Reads known old (Ok opening) new =
+    (lent : List Segment) × Stands lent opening × ((all : List ℕ) → Fed known all [] old → tokens_of all ≡ Ok (tokens_at lent new.machine))
+Reads known old (Err (Token fault)) new = (all : List ℕ) → Fed known all [] old → fault ≢ token.Read → tokens_of all ≡ Err fault
+Reads known old (Err (Envelope fault)) new = fault ≡ envelope.Memory
 
 -- a failed read is told where the reader's flag is up, and else the flag stays; no token fault is out of memory
 abbrev pub Flagged : {X : Type 0} → Result X OpenFault → Bool → Bool → Type 0
@@ -87,11 +87,11 @@ Flagged (Err (Token fault)) old new = HasCause fault old new
 Flagged (Err (Envelope fault)) old new = new ≡ old
 
 -- how far a text has been read, and its segments are opened
-pub record HasRead {R : Type 0} (remaining : R → Option (List ℕ)) (failed : R → Bool) (old : Feeder R) (opening : Opening) (new : Feeder R)
-    : Type 0 where
+pub record HasRead (before after : Option (List ℕ)) (was failed : Bool) (old : Lender) (opening : Opening) (new : Lender) : Type 0 where
   pub lent : List Segment
   pub stands : Stands lent opening
-  pub fed : (all : List ℕ) → Fed remaining all [] old → Fed remaining all lent new
-  pub flag : stopped old ≡ None → failed new.reader ≡ failed old.reader
+  pub fed : (all : List ℕ) → Fed before all [] old → Fed after all lent new
+  pub flag : stopped old ≡ None → failed ≡ was
   pub going : stopped old ≡ None → stopped new ≡ None
-  pub bound : TakesWithin (remaining old.reader) (remaining new.reader) old.room new.room
+  pub bound : TakesOf before after (room_of old) (room_of new)
+  pub ends : AtEnd before old → AtEnd after new

@@ -21,4 +21,4 @@ pub use judge::{Judge, Place};
 pub use law::lowest_condition;
 pub use mail::{LAST_MAIL_NUMBER, mail_message_text, wrap};
 pub use moment::{Moment, date_digits, time_digits};
-pub use opening::{open, open_feed};
+pub use opening::{open, open_feed, open_lent};

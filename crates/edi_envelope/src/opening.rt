@@ -4,7 +4,7 @@ ghost use Rattle.std.specs.Prelude.{◌≡◌, ◌≢◌, ◌≤◌, ◌∷◌, 
 ghost use Rattle.edi_tokens.specs.declared.segment.Segment.{Segment};
 ghost use Rattle.edi_tokens.specs.declared.segment.Tokens.{Tokens};
 ghost use Rattle.edi_tokens.specs.SegmentRef.{segment_in};
-ghost use Rattle.edi_tokens.specs.Feeder.{Fed, TakesWithin, stopped, room_of};
+ghost use Rattle.edi_tokens.specs.Lender.{AtEnd, Fed, TakesOf, room_of, stopped};
 ghost use Rattle.edi_envelope.specs.Interchange as spec;
 ghost use Rattle.edi_envelope.specs.Gathered.{Stands, IsJudged, Reads, Flagged};
 ghost use Rattle.edi_envelope.specs.Opened.{opened, Opens};
@@ -13,7 +13,7 @@ use crate::fault::{EnvelopeFault, OpenFault};
 use crate::gathering::Gathered;
 use crate::interchange::Interchange;
 use crate::judge::{Judge, Place};
-use edi_tokens::{Feeder, MemoryFault, Segment, SegmentRef, Source, Tokens};
+use edi_tokens::{Feeder, Lender, MemoryFault, Segment, SegmentRef, Source, Tokens};
 use std::alloc::Global;
 
 /// The judge of the segments that have come, and what is kept of them.
@@ -88,33 +88,46 @@ pub fn open(alloc: Global, tokens: Tokens) -> Result<Interchange, EnvelopeFault>
 }
 
 // Reads to the end of the text.
-fn read<R: Source>(alloc: Global, feeder: &mut Feeder<R>) -> Result<Opening, OpenFault>
-    ensures told { Reads R.remaining feeder.old result feeder.new }
-    ensures flag { stopped feeder.old ≡ None → Flagged result (R.failed feeder.old.reader) (R.failed feeder.new.reader) }
-    ensures bound { TakesWithin (R.remaining feeder.old.reader) (R.remaining feeder.new.reader) (room_of feeder.old) (room_of feeder.new) }
+fn read<R: Source>(alloc: Global, lender: &mut Lender, reader: &mut R) -> Result<Opening, OpenFault>
+    ensures told { Reads (R.remaining reader.old) lender.old result lender.new }
+    ensures flag { stopped lender.old ≡ None → Flagged result (R.failed reader.old) (R.failed reader.new) }
+    ensures bound { TakesOf (R.remaining reader.old) (R.remaining reader.new) (room_of lender.old) (room_of lender.new) }
+    ensures ends { AtEnd (R.remaining reader.old) lender.old → AtEnd (R.remaining reader.new) lender.new }
 {
     let mut opening = Opening::new(alloc);
-    // No text has so many segments.
-    for _ in 0..u64::MAX {
-        let Some(segment) = feeder.next_segment()? else {
-            return Ok(opening);
-        };
-        opening.copy(alloc, &segment)?;
+    while lender.advance(reader)? {
+        opening.copy(alloc, &lender.lent())?;
     }
-    Err(OpenFault::Envelope(EnvelopeFault::Memory))
+    Ok(opening)
 }
 
-/// The interchange of a text whose segments are lent one after another (ISO 9735, structures), or its fault. It reads to
-/// the end, so that a token fault goes before an envelope fault. Once a fault is sure nothing is kept.
-pub fn open_feed<R: Source>(alloc: Global, feeder: &mut Feeder<R>) -> Result<Interchange, OpenFault>
+/// The interchange of a text whose segments are lent one after another as a reader is read (ISO 9735, structures), or its
+/// fault. It reads to the end, so that a token fault goes before an envelope fault. Once a fault is sure nothing is kept.
+pub fn open_lent<R: Source>(
+    alloc: Global,
+    lender: &mut Lender,
+    reader: &mut R,
+) -> Result<Interchange, OpenFault>
     // Of a text of which nothing was lent.
-    ensures interchange { (all : List ℕ) → Fed R.remaining all [] feeder.old → Opens result (opened all) }
+    ensures interchange { (all : List ℕ) → Fed (R.remaining reader.old) all [] lender.old → Opens result (opened all) }
     ensures few { IfOk result (λ interchange. length interchange.messages ≤ 999) }
     // A failed read is told where the reader answered an error, and else its flag stays.
-    ensures flag { stopped feeder.old ≡ None → Flagged result (R.failed feeder.old.reader) (R.failed feeder.new.reader) }
-    ensures bound { TakesWithin (R.remaining feeder.old.reader) (R.remaining feeder.new.reader) (room_of feeder.old) (room_of feeder.new) }
+    ensures flag { stopped lender.old ≡ None → Flagged result (R.failed reader.old) (R.failed reader.new) }
+    ensures bound { TakesOf (R.remaining reader.old) (R.remaining reader.new) (room_of lender.old) (room_of lender.new) }
+    ensures ends { AtEnd (R.remaining reader.old) lender.old → AtEnd (R.remaining reader.new) lender.new }
 {
-    let opening = read(alloc, feeder)?;
-    let interchange = opening.finish(feeder.decimal())?;
+    let opening = read(alloc, lender, reader)?;
+    let interchange = opening.finish(lender.decimal())?;
     Ok(interchange)
+}
+
+/// The same of a feeder's text.
+pub fn open_feed<R: Source>(alloc: Global, feeder: &mut Feeder<R>) -> Result<Interchange, OpenFault>
+    ensures interchange { (all : List ℕ) → Fed (R.remaining feeder.old.reader) all [] feeder.old.lender → Opens result (opened all) }
+    ensures few { IfOk result (λ interchange. length interchange.messages ≤ 999) }
+    ensures flag { stopped feeder.old.lender ≡ None → Flagged result (R.failed feeder.old.reader) (R.failed feeder.new.reader) }
+    ensures bound { TakesOf (R.remaining feeder.old.reader) (R.remaining feeder.new.reader) (room_of feeder.old.lender) (room_of feeder.new.lender) }
+    ensures ends { AtEnd (R.remaining feeder.old.reader) feeder.old.lender → AtEnd (R.remaining feeder.new.reader) feeder.new.lender }
+{
+    open_lent(alloc, &mut feeder.lender, &mut feeder.reader)
 }

@@ -13,7 +13,7 @@ use Rattle.edi_tokens.specs.Spelling.{segment_limit}
 use Rattle.edi_tokens.specs.Reading.{Reading, Place, Outside, InService, InTag, InData, Released, Open, adopt, step, step_at, step_data, step_released}
 use Rattle.edi_tokens.specs.Reading.{run, ◌>>=◌}
 use Rattle.edi_tokens.specs.Machine.{reading_of, after, place_of}
-use Rattle.edi_tokens.specs.Feeder.{IsOfText}
+use Rattle.edi_tokens.specs.Lender.{IsOfText}
 
 -- the same, behind segments
 abbrev pub behind : List Segment → Reading → Reading

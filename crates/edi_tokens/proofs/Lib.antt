@@ -12,7 +12,8 @@ pub mod Runs
 pub mod Pieces
 pub mod Pieced
 pub mod Lent
-pub mod Feeding
+pub mod Lending
+pub mod Settled
 pub mod Segments
 pub mod Spelled
 pub mod Canonical

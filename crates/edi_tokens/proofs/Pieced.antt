@@ -1,5 +1,5 @@
 -- Parts of a piece.
-use Rattle.std.proofs.Common.{◌≡◌, ℕ, ◌+◌, ◌-◌, ◌≤◌, List, ◌++◌, take, drop, length, Option, sym, ap, subst, ◌∙◌, arith}
+use Rattle.std.proofs.Common.{◌≡◌, ℕ, ◌+◌, ◌-◌, ◌<◌, ◌≤◌, List, ◌++◌, take, drop, length, Option, sym, ap, subst, ◌∙◌, arith}
 use Rattle.std.proofs.lemmas.List.{drop-take, drop-drop, take_at, length-take-le}
 use Rattle.std.specs.Io.KnownBytes.{Consumes}
 use Rattle.edi_tokens.specs.Piece.{ReadsFront, FillsWith}
@@ -16,10 +16,10 @@ skipped items from end count le =
 
 -- what was read into the front of a buffer is the piece
 pub filled : (old new : Option (List ℕ)) (buffer items : List ℕ) (len room count : ℕ) → ReadsFront old new buffer room count
-    → length buffer ≡ 8192 → len ≡ 8192
+    → length buffer ≡ len → 0 < len
     → FillsWith old new (take (count - 0) (drop 0 (take len (buffer ++ drop (length buffer) items)))) room count
-filled old new buffer items len room count r long whole =
-    let front : take len (buffer ++ drop (length buffer) items) ≡ buffer = take_at buffer (drop (length buffer) items) len (omega arith) in
+filled old new buffer items len room count r same_length not_empty =
+    let front : take len (buffer ++ drop (length buffer) items) ≡ buffer = take_at buffer (drop (length buffer) items) len same_length in
     let n : count - 0 ≡ count = omega arith in
     let same : take (count - 0) (drop 0 (take len (buffer ++ drop (length buffer) items))) ≡ take count buffer =
     ap (λ (k : ℕ). take k (take len (buffer ++ drop (length buffer) items))) n ∙ ap (take count) front in

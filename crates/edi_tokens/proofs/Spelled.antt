@@ -3,13 +3,13 @@ use Rattle.std.proofs.Common.{◌≡◌, ℕ, List, [], ◌∷◌, ◌++◌, Opt
 use Rattle.std.proofs.lemmas.List.{append-nil}
 use Rattle.edi_tokens.specs.declared.segment.Service.{Service}
 use Rattle.edi_tokens.specs.declared.segment.Segment.{Segment}
-use Rattle.edi_tokens.specs.declared.feeder.Feeder.{Feeder}
+use Rattle.edi_tokens.specs.declared.lender.Lender.{Lender}
 use Rattle.edi_tokens.specs.Service.{usual, una_tag}
 use Rattle.edi_tokens.specs.Spelling.{SpellsWhole, LineEnds}
 use Rattle.edi_tokens.specs.Reading.{Place, Outside, InService, InTag, InData, Released, start}
 use Rattle.edi_tokens.specs.Fault.{Ends, EndsAt}
 use Rattle.edi_tokens.specs.Machine.{reading_of, place_of}
-use Rattle.edi_tokens.specs.Feeder.{Fed}
+use Rattle.edi_tokens.specs.Lender.{Fed}
 use Rattle.edi_tokens.proofs.Steps.{Runs, run_leads}
 use Rattle.edi_tokens.proofs.Sound.{start_ends}
 
@@ -39,9 +39,9 @@ whole_at text s segments (Released o) e =
       f.whole,
     )
 
-pub lent_spelled : {R : Type 0} (remaining : R → Option (List ℕ)) (all : List ℕ) (lent : List Segment) (f : Feeder R)
-    → Fed remaining all lent f → HasWhole all f.machine.service lent
-lent_spelled remaining all lent f fed =
+pub lent_spelled : (known : Option (List ℕ)) (all : List ℕ) (lent : List Segment) (f : Lender) → Fed known all lent f
+    → HasWhole all f.machine.service lent
+lent_spelled known all lent f fed =
     let ends : Ends fed.taken (reading_of lent f.machine) = subst (Runs fed.taken) fed.read_as (run_leads [] fed.taken start start_ends) in
     let whole = whole_at fed.taken f.machine.service lent (place_of f.machine.place f.machine) ends in (
       whole.0,

@@ -12,5 +12,6 @@ pub mod Flat
 pub mod FlatSegment
 pub mod Machine
 pub mod Piece
+pub mod Lender
 pub mod Feeder
 pub mod SegmentRef

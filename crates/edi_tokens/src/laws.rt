@@ -1,19 +1,18 @@
 //! The laws of the token grammar. Each is the contract of a function without a body.
 
-ghost use Rattle.std.specs.Prelude.{◌≡◌, ◌⊎◌, ◌↔◌, ◌≤◌, ℕ, List, ◌++◌, length};
+ghost use Rattle.std.specs.Prelude.{◌≡◌, ◌⊎◌, ◌↔◌, ◌≤◌, ◌≢◌, ℕ, List, [], ◌++◌, length, Option, Ok};
 ghost use Rattle.std.specs.List.{AllByRecursion};
 ghost use Rattle.edi_tokens.specs.declared.segment.Service.{Service};
 ghost use Rattle.edi_tokens.specs.declared.segment.Segment.{Segment};
+ghost use Rattle.edi_tokens.specs.declared.segment.Tokens.{Tokens};
 ghost use Rattle.edi_tokens.specs.declared.fault.TokenFault.{TokenFault};
 ghost use Rattle.edi_tokens.specs.Spelling.{Spells, SpellsWhole, text_limit, segment_limit};
 ghost use Rattle.edi_tokens.specs.Fault.{Shows, ByteShows, EndShows};
 ghost use Rattle.edi_tokens.specs.Reading.{tokens_of};
 ghost use Rattle.edi_tokens.specs.Service.{with_decimal};
-ghost use Rattle.edi_tokens.specs.declared.feeder.Feeder.{Feeder};
-ghost use Rattle.edi_tokens.specs.Feeder.{Fed};
+ghost use Rattle.edi_tokens.specs.declared.lender.Lender.{Lender};
+ghost use Rattle.edi_tokens.specs.Lender.{Fed};
 ghost use Rattle.edi_tokens.specs.Text.{text, una, segment_text};
-
-use edi_base::Source;
 
 /// A text spells at most one list of segments, with one set of service characters.
 pub fn text_spells_one_list()
@@ -54,9 +53,15 @@ pub fn canonical_text_spells_again()
         Spells (una decimal ++ text xs) (with_decimal decimal) xs }
 {}
 
-/// What a feeder has lent is what a front of the text spells: the bytes to the end of the last segment that was lent, with
+/// What has been lent is what a front of the text spells: the bytes to the end of the last segment that was lent, with
 /// the service characters as far as they are known.
-pub fn lent_segments_are_spelled<R: Source>()
-    ensures { (all : List ℕ) (lent : List Segment) (f : Feeder R) → Fed R.remaining all lent f → (front rest : List ℕ) ×
-        (all ≡ front ++ rest) × SpellsWhole front f.machine.service lent }
+pub fn lent_segments_are_spelled()
+    ensures { (known : Option (List ℕ)) (all : List ℕ) (lent : List Segment) (l : Lender) → Fed known all lent l →
+        (front rest : List ℕ) × (all ≡ front ++ rest) × SpellsWhole front l.machine.service lent }
+{}
+
+/// Where a segment of a text was lent, the service characters are those of the whole text.
+pub fn service_is_settled()
+    ensures { (known : Option (List ℕ)) (all : List ℕ) (lent : List Segment) (l : Lender) (tokens : Tokens) →
+        Fed known all lent l → lent ≢ [] → tokens_of all ≡ Ok tokens → tokens.service ≡ l.machine.service }
 {}

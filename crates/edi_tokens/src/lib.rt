@@ -6,6 +6,7 @@ mod fault;
 mod feeder;
 mod flat_segment;
 mod laws;
+mod lender;
 mod machine;
 mod piece;
 mod reading;
@@ -22,8 +23,10 @@ pub use fault::TokenFault;
 pub use feeder::{Feeder, Refused};
 pub use laws::{
     canonical_text_spells_again, lent_segments_are_spelled, reading_is_the_grammar,
-    text_spells_one_list, text_spells_or_shows_a_fault,
+    service_is_settled, text_spells_one_list, text_spells_or_shows_a_fault,
 };
+pub use lender::Lender;
+pub use piece::ReadFailed;
 pub use reading::{TEXT_LIMIT, read_all};
 pub use segment::{Elements, Segment, Service, Tokens};
 pub use segment_ref::SegmentRef;

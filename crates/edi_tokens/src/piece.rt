@@ -1,6 +1,6 @@
 //! The bytes that were read last, and how far they are taken.
 
-ghost use Rattle.std.specs.Prelude.{◌≡◌, ◌≤◌, ◌<◌, ◌||◌, ◌-◌, ℕ, List, [], length, take, drop, IfOk, is_err};
+ghost use Rattle.std.specs.Prelude.{◌≡◌, ◌≤◌, ◌<◌, ◌||◌, ◌-◌, ℕ, List, [], length, take, drop, IfOk, is_err, vec_len};
 ghost use Rattle.edi_tokens.specs.Piece.{Fills, Reads};
 
 use edi_base::{MemoryFault, Source};
@@ -19,8 +19,8 @@ pub(crate) struct Piece {
 }
 
 /// A reader answered an error.
-#[derive(Clone, Copy)]
-pub(crate) struct ReadFailed;
+#[derive(Clone, Copy, Debug, PartialEq, Eq)]
+pub struct ReadFailed;
 
 /// Reads once into the front, and at most so many bytes.
 fn read_front<R: Source>(reader: &mut R, bytes: &mut [u8], room: usize) -> Result<usize, ReadFailed>
@@ -34,25 +34,38 @@ fn read_front<R: Source>(reader: &mut R, bytes: &mut [u8], room: usize) -> Resul
     Ok(count)
 }
 
+/// A buffer for 8,192 bytes at least that begins with these.
+fn buffer_with(alloc: Global, front: &[u8]) -> Result<Vec<u8>, MemoryFault>
+    ensures some { IfOk result (λ bytes. 0 < vec_len bytes) }
+    ensures long { IfOk result (λ bytes. length front.now ≤ vec_len bytes) }
+    ensures front { IfOk result (λ bytes. take (length front.now) bytes.items ≡ front.now) }
+{
+    let size = PIECE.max(front.len());
+    let mut bytes = Vec::with_capacity(alloc, size)?;
+    bytes.extend_from_slice(front)?;
+    bytes.resize(size, 0)?;
+    Ok(bytes)
+}
+
 impl Model for Piece {
-    ghost use Rattle.std.specs.Prelude.{ℕ, List, ◌≡◌, ◌≤◌, vec_len, slice_range};
+    ghost use Rattle.std.specs.Prelude.{ℕ, List, ◌<◌, ◌≤◌, vec_len, slice_range};
 
     ghost Value = { List ℕ };
 
     ghost view = { λ p. slice_range p.bytes.items p.from p.end };
 
-    ghost invariant = { λ p. (p.from ≤ p.end) × (p.end ≤ 8192) × (vec_len p.bytes ≡ 8192) };
+    ghost invariant = { λ p. (p.from ≤ p.end) × (p.end ≤ vec_len p.bytes) × (0 < vec_len p.bytes) };
 }
 
 impl Piece {
-    /// No bytes, and room for 8,192.
-    pub(crate) fn new(alloc: Global) -> Result<Self, MemoryFault>
-        ensures { IfOk result (λ piece. piece ≡ []) }
+    /// These bytes.
+    pub(crate) fn of(alloc: Global, front: &[u8]) -> Result<Self, MemoryFault>
+        ensures { IfOk result (λ piece. piece ≡ front.now) }
     {
         Ok(Piece {
-            bytes: Vec::from_elem(alloc, 0u8, PIECE)?,
+            bytes: buffer_with(alloc, front)?,
             from: 0,
-            end: 0,
+            end: front.len(),
         })
     }
 

@@ -1,5 +1,11 @@
+use Rattle.edi_tokens.specs.Lender.{unread}
 use Rattle.edi_envelope.specs.Gathered.{HasRead}
 use Rattle.edi_envelope.proofs.opening.read.Given as goal
 
-abbrev pub invariant-loop : goal.invariant-loop
-invariant-loop g l = HasRead g.R.Source.remaining g.R.Source.failed l.fn.feeder l.opening l.feeder
+abbrev pub invariant-loop-opening : goal.invariant-loop-opening
+invariant-loop-opening g l =
+    HasRead (g.R.Source.remaining l.fn.reader) (g.R.Source.remaining l.reader) (g.R.Source.failed l.fn.reader)
+    (g.R.Source.failed l.reader) l.fn.lender l.opening l.lender
+
+abbrev pub decreases-loop-opening : goal.decreases-loop-opening
+decreases-loop-opening g l = unread l.lender

@@ -1,42 +1,47 @@
-use Rattle.std.proofs.Common.{◌≡◌, [], Bool, false, Ok, ap, subst, ◌∙◌}
+use Rattle.std.proofs.Common.{◌≡◌, ◌⊎◌, ℕ, [], length, Bool, false, Result, Ok, sym, ap, subst, ◌∙◌, arith}
+use Rattle.edi_tokens.specs.declared.fault.TokenFault.{TokenFault}
+use Rattle.std.specs.Io.KnownBytes.{IsAtEnd}
 use Rattle.std.proofs.lemmas.Result.{err_from_is_err_and}
 use Rattle.edi_tokens.specs.Machine.{reading_of}
-use Rattle.edi_tokens.specs.Feeder.{Fed, Took, Filled, TakesWithin}
-use Rattle.edi_tokens.proofs.Feeding.{takes_then, has_cause, finish_text}
-use Rattle.edi_tokens.proofs.feeder.Feeder.step.Given as given
-use Rattle.edi_tokens.proofs.feeder.Feeder.step.Goals as goal
-use Rattle.edi_tokens.proofs.feeder.Feeder.step.Goals.{After-refill, In_ok-refill}
+use Rattle.edi_tokens.specs.Lender.{Fed, Took, Filled, TakesOf}
+use Rattle.edi_tokens.proofs.Lending.{takes_then, has_cause, finish_text}
+use Rattle.edi_tokens.proofs.lender.Lender.step.Given as given
+use Rattle.edi_tokens.proofs.lender.Lender.step.Goals as goal
+use Rattle.edi_tokens.proofs.lender.Lender.step.Goals.{After-refill, In_ok-refill}
+
+abbrev said : Bool → Result Bool TokenFault
+said b = Ok b
 
 -- all that was read is taken, and then bytes were read
 taken_all : (g : given.Over) (c : After-refill g) (all : _) (lent : _)
-    → Fed g.R.Source.remaining all lent c.args.self.now → Fed g.R.Source.remaining all lent c.take_piece.new.self
+    → Fed (g.R.Source.remaining c.args.reader.now) all lent c.args.self.now
+    → Fed (g.R.Source.remaining c.loop-self.reader) all lent c.take_piece.new.self
 taken_all g c all lent fed =
-    subst (λ (b : Bool). Took g.R.Source.remaining all lent (Ok b) c.take_piece.new.self) c.if-branch.false
-    (c.in_ok-take_piece.ensures.told all lent (c.loop-self.invariant.told all lent fed))
+    subst (λ (b : Bool). Took (g.R.Source.remaining c.loop-self.reader) all lent (Ok b) c.take_piece.new.self) c.if-branch.false
+    (c.in_ok-take_piece.ensures.told _ all lent (c.loop-self.invariant.told all lent fed))
 
 bound : (g : given.Over) (c : After-refill g)
-    → TakesWithin (g.R.Source.remaining c.args.self.now.reader) (g.R.Source.remaining c.refill.new.self.reader) c.args.self.now.room c.refill.new.self.room
+    → TakesOf (g.R.Source.remaining c.args.reader.now) (g.R.Source.remaining c.refill.new.reader) c.args.self.now.room c.refill.new.self.room
 bound g c =
-    takes_then _ _ _ _ _ _ c.loop-self.invariant.bound
-    (rw (c.in_ok-take_piece.ensures.reader, c.in_ok-take_piece.ensures.room) at c.refill.ensures.bound)
+    takes_then _ _ _ _ _ _ c.loop-self.invariant.bound (rw c.in_ok-take_piece.ensures.room at c.refill.ensures.bound)
 
-flag : (g : given.Over) (c : In_ok-refill g) → g.R.Source.failed c.refill.new.self.reader ≡ g.R.Source.failed c.args.self.now.reader
-flag g c =
-    c.in_ok-refill.ensures.flag ∙ ap g.R.Source.failed c.in_ok-take_piece.ensures.reader ∙ c.loop-self.invariant.flag
+flag : (g : given.Over) (c : In_ok-refill g) → g.R.Source.failed c.refill.new.reader ≡ g.R.Source.failed c.args.reader.now
+flag g c = c.in_ok-refill.ensures.flag ∙ c.loop-self.invariant.flag
 
 -- the text ends here
 ended : (g : given.Over) (c : In_ok-refill g) (all : _) (lent : _) → c.in_ok-refill.field-0 ≡ false
-    → Fed g.R.Source.remaining all lent c.args.self.now → Filled g.R.Source.remaining all lent (Ok false) c.refill.new.self
+    → Fed (g.R.Source.remaining c.args.reader.now) all lent c.args.self.now
+    → Filled (g.R.Source.remaining c.refill.new.reader) all lent (Ok false) c.refill.new.self
 ended g c all lent none fed =
-    subst (λ (b : Bool). Filled g.R.Source.remaining all lent (Ok b) c.refill.new.self) none
+    subst (λ (b : Bool). Filled (g.R.Source.remaining c.refill.new.reader) all lent (Ok b) c.refill.new.self) none
     (c.in_ok-refill.ensures.told all lent
-    (subst (λ (b : Bool). Took g.R.Source.remaining all lent (Ok b) c.take_piece.new.self) c.if-branch.false
-    (c.in_ok-take_piece.ensures.told all lent (c.loop-self.invariant.told all lent fed))))
+    (subst (λ (b : Bool). Took (g.R.Source.remaining c.loop-self.reader) all lent (Ok b) c.take_piece.new.self) c.if-branch.false
+    (c.in_ok-take_piece.ensures.told _ all lent (c.loop-self.invariant.told all lent fed))))
 
 pub returns-in_err-take_piece-clause-told : goal.returns-in_err-take_piece-clause-told
 returns-in_err-take_piece-clause-told g c = λ all lent fed.
     let p = err_from_is_err_and c.from_residual.result c.from_residual.ensures.1 in
-    rw (p.1, p.2) (λ _. c.in_err-take_piece.ensures.told all lent (c.loop-self.invariant.told all lent fed))
+    rw (p.1, p.2) (λ _. c.in_err-take_piece.ensures.told _ all lent (c.loop-self.invariant.told all lent fed))
 
 pub returns-in_err-refill-clause-told : goal.returns-in_err-refill-clause-told
 returns-in_err-refill-clause-told g c = λ all lent fed.
@@ -75,9 +80,19 @@ returns-then-not-branch-clause-bound g c = bound g (goal.at.returns-then-not-bra
 pub loop-self-preserved : goal.loop-self-preserved
 loop-self-preserved g c = record {
   told = λ all lent fed.
-      subst (λ (b : Bool). Filled g.R.Source.remaining all lent (Ok b) c.refill.new.self) c.if-not-branch.false
+      subst (λ (b : Bool). Filled (g.R.Source.remaining c.refill.new.reader) all lent (Ok b) c.refill.new.self) c.if-not-branch.false
       (c.in_ok-refill.ensures.told all lent (taken_all g (goal.at.loop-self-preserved g c).After-refill all lent fed));
   flag = flag g (goal.at.loop-self-preserved g c).In_ok-refill;
   bound = bound g (goal.at.loop-self-preserved g c).After-refill;
+  ends = λ old. c.refill.ensures.ends (λ is.
+  subst (λ (room : ℕ). IsAtEnd (g.R.Source.remaining c.loop-self.reader) ⊎ (room ≡ 0)) (sym c.in_ok-take_piece.ensures.room)
+  (c.loop-self.invariant.ends old (sym c.in_ok-take_piece.ensures.ended ∙ is)));
+  unread = omega (
+    arith,
+    c.in_ok-refill.ensures.unread (ap said c.if-not-branch.false),
+    ap length (c.in_ok-take_piece.ensures.empty (ap said c.if-branch.false)),
+    c.in_ok-take_piece.ensures.room,
+    c.loop-self.invariant.unread,
+  );
   going = c.in_ok-refill.ensures.going;
 }

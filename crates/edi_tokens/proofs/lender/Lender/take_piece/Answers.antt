@@ -1,24 +1,22 @@
 use Rattle.std.proofs.lemmas.Result.{err_from_is_err_and}
-use Rattle.edi_tokens.specs.Machine.{reading_of}
 use Rattle.std.proofs.Common.{[]}
+use Rattle.edi_tokens.specs.Machine.{reading_of}
 use Rattle.edi_tokens.proofs.Lent.{run_text}
-use Rattle.edi_tokens.proofs.Feeding.{took, took_fault}
-use Rattle.edi_tokens.proofs.feeder.Feeder.take_piece.Goals as goal
+use Rattle.edi_tokens.proofs.Lending.{took, took_fault}
+use Rattle.edi_tokens.proofs.lender.Lender.take_piece.Goals as goal
 
 pub returns-in_err-count-clause-told : goal.returns-in_err-count-clause-told
-returns-in_err-count-clause-told g c = λ all lent fed.
+returns-in_err-count-clause-told c = λ known all lent fed.
     let p = err_from_is_err_and c.from_residual.result c.from_residual.ensures.1 in
-    rw (p.1, p.2)
-    (took_fault g.R.Source.remaining all lent c.args.self.now fed c.in_err-count.field-0.0
-    (rw c.as_slice.ensures at c.in_err-count.ensures.err))
+    rw (p.1, p.2) (took_fault known all lent c.args.self.now fed c.in_err-count.field-0.0 (rw c.as_slice.ensures at c.in_err-count.ensures.err))
 
 pub returns-in_err-count-clause-text : goal.returns-in_err-count-clause-text
-returns-in_err-count-clause-text g c =
+returns-in_err-count-clause-text c =
     let p = err_from_is_err_and c.from_residual.result c.from_residual.ensures.1 in
     rw (p.1, p.2)
     (run_text (reading_of [] c.args.self.now.machine) c.as_slice.result.now c.in_err-count.field-0.0 c.in_err-count.ensures.err)
 
 pub returns-clause-told : goal.returns-clause-told
-returns-clause-told g c = λ all lent fed.
-    took g.R.Source.remaining all lent c.args.self.now fed c.push_all.new.self c.skip.new.self c.in_ok-count.count c.in_ok-count.ended
+returns-clause-told c = λ known all lent fed.
+    took known all lent c.args.self.now fed c.push_all.new.self c.skip.new.self c.in_ok-count.count c.in_ok-count.ended
     (rw c.as_slice.ensures at c.in_ok-count.ensures.within) c.skip.ensures (rw c.as_slice.ensures at c.in_ok-count.ensures.ok)

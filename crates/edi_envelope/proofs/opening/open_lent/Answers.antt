@@ -3,12 +3,13 @@ use Rattle.std.proofs.lemmas.Result.{err_from_is_err_and}
 use Rattle.edi_tokens.specs.declared.segment.Tokens.{Tokens}
 use Rattle.edi_envelope.proofs.LawLemmas.{few_messages}
 use Rattle.edi_envelope.proofs.ReadLemmas.{fault_opens, envelope_opens, interchange_opens}
-use Rattle.edi_envelope.proofs.opening.open_feed.Goals as goal
+use Rattle.edi_envelope.proofs.opening.open_lent.Goals as goal
 
 pub returns-in_err-opening-clause-interchange : goal.returns-in_err-opening-clause-interchange
 returns-in_err-opening-clause-interchange g c = λ all fed.
     let p = err_from_is_err_and c.from_residual.result c.from_residual.ensures.1 in
-    rw (p.1, p.2) (fault_opens g.R.Source.remaining c.args.feeder.now c.read.new.feeder _ c.in_err-opening.ensures.told all fed)
+    rw (p.1, p.2)
+    (fault_opens (g.R.Source.remaining c.args.reader.now) c.args.lender.now c.read.new.lender _ c.in_err-opening.ensures.told all fed)
 
 pub returns-in_err-interchange-clause-interchange : goal.returns-in_err-interchange-clause-interchange
 returns-in_err-interchange-clause-interchange g c = λ all fed.

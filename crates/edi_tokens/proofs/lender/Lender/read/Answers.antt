@@ -1,0 +1,15 @@
+use Rattle.std.proofs.Common.{◌<◌, arith}
+use Rattle.edi_tokens.proofs.Lending.{filled_end, filled_long}
+use Rattle.edi_tokens.proofs.lender.Lender.read.Goals as goal
+
+pub returns-then-count-eq0-clause-told : goal.returns-then-count-eq0-clause-told
+returns-then-count-eq0-clause-told g c = λ all lent fed.
+    filled_end (g.R.Source.remaining c.args.reader.now) all lent c.args.self.now fed c.requires.piece c.requires.tail
+    (g.R.Source.remaining c.fill.new.reader) c.fill.new.self c.in-Ok.count c.in-Ok.ensures.bytes c.if-count-eq0.true
+
+pub returns-then-self-eq0-clause-told : goal.returns-then-self-eq0-clause-told
+returns-then-self-eq0-clause-told g c = λ all lent fed.
+    let some : 0 < c.in-Ok.count = omega (arith, c.if-count-eq0.false) in
+    filled_long (g.R.Source.remaining c.args.reader.now) all lent c.args.self.now fed c.requires.piece c.requires.tail
+    (g.R.Source.remaining c.fill.new.reader) c.fill.new.self c.in-Ok.count c.in-Ok.ensures.bytes c.drop_last.new.self
+    c.drop_last.ensures some c.if-self-eq0.true

@@ -1,0 +1,10 @@
+use Rattle.edi_tokens.proofs.Lending.{at_end, too_long}
+use Rattle.edi_tokens.proofs.lender.Lender.refill.Goals as goal
+
+pub returns-in-End-clause-told : goal.returns-in-End-clause-told
+returns-in-End-clause-told g c = λ all lent fed.
+    (fed, at_end (g.R.Source.remaining c.args.reader.now) all lent c.args.self.now fed c.requires.piece c.in-End.is)
+
+pub returns-in-Long-clause-told : goal.returns-in-Long-clause-told
+returns-in-Long-clause-told g c = λ all lent fed. λ _.
+    too_long (g.R.Source.remaining c.args.reader.now) all lent c.args.self.now fed c.requires.piece c.in-Long.is
