@@ -8,7 +8,7 @@ use Rattle.edi_tokens.specs.declared.fault.TokenFault.{TokenFault}
 use Rattle.edi_tokens.specs.declared.fault.TokenFault.TheVariants as token
 use Rattle.edi_tokens.specs.Reading.{tokens_of}
 use Rattle.edi_tokens.specs.Machine.{tokens_at}
-use Rattle.edi_tokens.specs.Lender.{AtEnd, Fed, Told, Feeds, Flags, TakesOf, answered, lent_by, room_of, stopped}
+use Rattle.edi_tokens.specs.Lender.{AtEnd, Came, Fed, TellsSome, Told, Feeds, Flags, TakesOf, answered, lent_by, room_of, stopped}
 use Rattle.edi_tokens.proofs.Lending.{takes_none, takes_then}
 use Rattle.edi_envelope.specs.declared.opening.Opening.{Opening}
 use Rattle.edi_tokens.specs.declared.fault.TokenFault.TheVariants.{TooLong, ServiceString, Byte, Cut, Tag, LongSegment, Read, Memory}
@@ -19,7 +19,7 @@ use Rattle.edi_envelope.specs.declared.fault.OpenFault.{OpenFault}
 use Rattle.edi_envelope.specs.declared.fault.OpenFault.TheVariants.{Token, Envelope}
 use Rattle.edi_envelope.specs.declared.interchange.Interchange.{Interchange}
 use Rattle.edi_envelope.specs.Interchange.{interchange_of}
-use Rattle.edi_envelope.specs.Gathered.{Stands, HasRead, Reads}
+use Rattle.edi_envelope.specs.Gathered.{Stands, HasRead, Reads, ReadsSome}
 use Rattle.edi_envelope.specs.Opened.{judged_as, read_as, opened, Opens}
 
 module _ (before : Option (List ℕ)) (was : Bool) (old : Lender) where
@@ -28,6 +28,7 @@ module _ (before : Option (List ℕ)) (was : Bool) (old : Lender) where
     lent = [];
     stands = stands;
     fed = λ all fed. fed;
+    some = λ came. came;
     flag = λ e. refl;
     going = λ e. e;
     bound = takes_none before (room_of old);
@@ -43,6 +44,10 @@ module _ (before : Option (List ℕ)) (was : Bool) (old : Lender) where
         subst (λ (r : Result Bool TokenFault). Told after all read.lent (answered r new) new) is
         (feeds.told all read.lent (read.fed all fed))
 
+    some_as : (given : Result Bool TokenFault) → result ≡ given → Came [] old → TellsSome read.lent (answered given new) new
+    some_as given is came =
+        subst (λ (r : Result Bool TokenFault). TellsSome read.lent (answered r new) new) is (feeds.some read.lent (read.some came))
+
     pub bound_then : TakesOf before after (room_of old) (room_of new)
     bound_then = takes_then _ _ _ _ _ _ read.bound feeds.bound
 
@@ -52,6 +57,14 @@ module _ (before : Option (List ℕ)) (was : Bool) (old : Lender) where
     pub fault_told : (fault : TokenFault) → result ≡ Err fault
         → (all : List ℕ) → Fed before all [] old → fault ≢ token.Read → tokens_of all ≡ Err fault
     fault_told fault is all fed = told_as (Err fault) is all fed
+
+    pub fault_of_some : (fault : TokenFault) → result ≡ Err fault → Came [] old → fault ≢ token.Read
+        → (all : List ℕ) × (tokens_of all ≡ Err fault)
+    fault_of_some fault is came = some_as (Err fault) is came
+
+    pub end_of_some : result ≡ Ok false → Came [] old
+        → (lent : List Segment) × Stands lent opening × ((all : List ℕ) × (tokens_of all ≡ Ok (tokens_at lent new.machine)))
+    end_of_some is came = (read.lent, read.stands, (some_as (Ok false) is came).1)
 
     pub end_told : result ≡ Ok false
         → (lent : List Segment) × Stands lent opening × ((all : List ℕ) → Fed before all [] old → tokens_of all ≡ Ok (tokens_at lent new.machine))
@@ -63,6 +76,7 @@ module _ (before : Option (List ℕ)) (was : Bool) (old : Lender) where
       lent = read.lent ++ lent_by new ∷ [];
       stands = stands;
       fed = λ all fed. told_as (Ok true) is all fed;
+      some = λ came. some_as (Ok true) is came;
       flag = λ e.
           subst (λ (r : Result Bool TokenFault). Flags (answered r new) flag failed) is (feeds.flag (read.going e)) ∙ read.flag e;
       going = λ e. subst (λ (r : Result Bool TokenFault). OnOk (answered r new) (stopped new ≡ None)) is feeds.goes_on;
@@ -102,6 +116,18 @@ pub fault_opens : (known : Option (List ℕ)) (old new : Lender) (fault : OpenFa
 fault_opens known old new (Token fault) h all fed = opens_token fault all (h all fed)
 fault_opens known old new (Envelope fault) h all fed =
     subst (λ (e : EnvelopeFault). Opens (Err (Envelope e)) (opened all)) (sym h) tt
+
+pub fault_opens_some : (old new : Lender) (fault : OpenFault) → ReadsSome old (Err fault) new → Came [] old
+    → (all : List ℕ) × Opens (Err fault) (opened all)
+fault_opens_some old new (Token Read) h came = ([], tt)
+fault_opens_some old new (Token TooLong) h came = let some = h came (λ e. false≢true cc) in (some.0, ap read_as some.1)
+fault_opens_some old new (Token ServiceString) h came = let some = h came (λ e. false≢true cc) in (some.0, ap read_as some.1)
+fault_opens_some old new (Token Byte) h came = let some = h came (λ e. false≢true cc) in (some.0, ap read_as some.1)
+fault_opens_some old new (Token Cut) h came = let some = h came (λ e. false≢true cc) in (some.0, ap read_as some.1)
+fault_opens_some old new (Token Tag) h came = let some = h came (λ e. false≢true cc) in (some.0, ap read_as some.1)
+fault_opens_some old new (Token LongSegment) h came = let some = h came (λ e. false≢true cc) in (some.0, ap read_as some.1)
+fault_opens_some old new (Token Memory) h came = let some = h came (λ e. false≢true cc) in (some.0, ap read_as some.1)
+fault_opens_some old new (Envelope fault) h came = ([], subst (λ (e : EnvelopeFault). Opens (Err (Envelope e)) (opened [])) (sym h) tt)
 
 pub envelope_opens : (all : List ℕ) (tokens : Tokens) (fault : EnvelopeFault) → tokens_of all ≡ Ok tokens → interchange_of tokens ≡ Err fault
     → Opens (Err (Envelope fault)) (opened all)

@@ -7,7 +7,7 @@ use Rattle.edi_tokens.specs.declared.lender.Lender.{Lender}
 use Rattle.edi_tokens.specs.declared.fault.TokenFault.TheVariants as token
 use Rattle.edi_tokens.specs.Reading.{tokens_of}
 use Rattle.edi_tokens.specs.Machine.{tokens_at}
-use Rattle.edi_tokens.specs.Lender.{AtEnd, Fed, HasCause, TakesOf, room_of, stopped}
+use Rattle.edi_tokens.specs.Lender.{AtEnd, Came, Fed, HasCause, TakesOf, room_of, stopped}
 use Rattle.edi_envelope.specs.declared.fault.EnvelopeFault.{EnvelopeFault}
 use Rattle.edi_envelope.specs.declared.fault.EnvelopeFault.TheVariants as envelope
 use Rattle.edi_envelope.specs.declared.fault.OpenFault.{OpenFault}
@@ -80,6 +80,13 @@ Reads known old (Ok opening) new =
 Reads known old (Err (Token fault)) new = (all : List ℕ) → Fed known all [] old → fault ≢ token.Read → tokens_of all ≡ Err fault
 Reads known old (Err (Envelope fault)) new = fault ≡ envelope.Memory
 
+-- the same of some text, where no bytes of the reader are known
+abbrev pub ReadsSome : Lender → Result Opening OpenFault → Lender → Type 0
+ReadsSome old (Ok opening) new =
+    Came [] old → (lent : List Segment) × Stands lent opening × ((all : List ℕ) × (tokens_of all ≡ Ok (tokens_at lent new.machine)))
+ReadsSome old (Err (Token fault)) new = Came [] old → fault ≢ token.Read → (all : List ℕ) × (tokens_of all ≡ Err fault)
+ReadsSome old (Err (Envelope fault)) new = fault ≡ envelope.Memory
+
 -- a failed read is told where the reader's flag is up, and else the flag stays; no token fault is out of memory
 abbrev pub Flagged : {X : Type 0} → Result X OpenFault → Bool → Bool → Type 0
 Flagged (Ok x) old new = new ≡ old
@@ -91,6 +98,7 @@ pub record HasRead (before after : Option (List ℕ)) (was failed : Bool) (old :
   pub lent : List Segment
   pub stands : Stands lent opening
   pub fed : (all : List ℕ) → Fed before all [] old → Fed after all lent new
+  pub some : Came [] old → Came lent new
   pub flag : stopped old ≡ None → failed ≡ was
   pub going : stopped old ≡ None → stopped new ≡ None
   pub bound : TakesOf before after (room_of old) (room_of new)

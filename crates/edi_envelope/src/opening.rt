@@ -4,9 +4,9 @@ ghost use Rattle.std.specs.Prelude.{◌≡◌, ◌≢◌, ◌≤◌, ◌∷◌, 
 ghost use Rattle.edi_tokens.specs.declared.segment.Segment.{Segment};
 ghost use Rattle.edi_tokens.specs.declared.segment.Tokens.{Tokens};
 ghost use Rattle.edi_tokens.specs.SegmentRef.{segment_in};
-ghost use Rattle.edi_tokens.specs.Lender.{AtEnd, Fed, TakesOf, room_of, stopped};
+ghost use Rattle.edi_tokens.specs.Lender.{AtEnd, Came, Fed, TakesOf, room_of, stopped};
 ghost use Rattle.edi_envelope.specs.Interchange as spec;
-ghost use Rattle.edi_envelope.specs.Gathered.{Stands, IsJudged, Reads, Flagged};
+ghost use Rattle.edi_envelope.specs.Gathered.{Stands, IsJudged, Reads, ReadsSome, Flagged};
 ghost use Rattle.edi_envelope.specs.Opened.{opened, Opens};
 
 use crate::fault::{EnvelopeFault, OpenFault};
@@ -90,6 +90,7 @@ pub fn open(alloc: Global, tokens: Tokens) -> Result<Interchange, EnvelopeFault>
 // Reads to the end of the text.
 fn read<R: Source>(alloc: Global, lender: &mut Lender, reader: &mut R) -> Result<Opening, OpenFault>
     ensures told { Reads (R.remaining reader.old) lender.old result lender.new }
+    ensures some { ReadsSome lender.old result lender.new }
     ensures flag { stopped lender.old ≡ None → Flagged result (R.failed reader.old) (R.failed reader.new) }
     ensures bound { TakesOf (R.remaining reader.old) (R.remaining reader.new) (room_of lender.old) (room_of lender.new) }
     ensures ends { AtEnd (R.remaining reader.old) lender.old → AtEnd (R.remaining reader.new) lender.new }
@@ -110,6 +111,8 @@ pub fn open_lent<R: Source>(
 ) -> Result<Interchange, OpenFault>
     // Of a text of which nothing was lent.
     ensures interchange { (all : List ℕ) → Fed (R.remaining reader.old) all [] lender.old → Opens result (opened all) }
+    // Whatever is known of the reader, of some text.
+    ensures some { Came [] lender.old → (all : List ℕ) × Opens result (opened all) }
     ensures few { IfOk result (λ interchange. length interchange.messages ≤ 999) }
     // A failed read is told where the reader answered an error, and else its flag stays.
     ensures flag { stopped lender.old ≡ None → Flagged result (R.failed reader.old) (R.failed reader.new) }
@@ -124,6 +127,7 @@ pub fn open_lent<R: Source>(
 /// The same of a feeder's text.
 pub fn open_feed<R: Source>(alloc: Global, feeder: &mut Feeder<R>) -> Result<Interchange, OpenFault>
     ensures interchange { (all : List ℕ) → Fed (R.remaining feeder.old.reader) all [] feeder.old.lender → Opens result (opened all) }
+    ensures some { Came [] feeder.old.lender → (all : List ℕ) × Opens result (opened all) }
     ensures few { IfOk result (λ interchange. length interchange.messages ≤ 999) }
     ensures flag { stopped feeder.old.lender ≡ None → Flagged result (R.failed feeder.old.reader) (R.failed feeder.new.reader) }
     ensures bound { TakesOf (R.remaining feeder.old.reader) (R.remaining feeder.new.reader) (room_of feeder.old.lender) (room_of feeder.new.lender) }

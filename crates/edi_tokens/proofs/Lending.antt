@@ -16,7 +16,7 @@ use Rattle.edi_tokens.specs.Spelling.{text_limit}
 use Rattle.edi_tokens.specs.Reading.{Reading, Place, Outside, InService, InTag, InData, Released, start, run, finish, finish_at, tokens_of, ◌>>=◌}
 use Rattle.edi_tokens.specs.Machine.{reading_of, after}
 use Rattle.edi_tokens.specs.Piece.{FillsWith}
-use Rattle.edi_tokens.specs.Lender.{Begins, GoesOn, Fed, Took, Filled, TakesOf, IsOfText, HasCause}
+use Rattle.edi_tokens.specs.Lender.{Begins, Came, GoesOn, Fed, FitsSome, Took, Filled, FillsSome, TakesOf, IsOfText, HasCause}
 use Rattle.edi_tokens.specs.declared.segment.Tokens.{Tokens}
 use Rattle.std.proofs.KnownBytes.{Consumes-nil, Consumes-trans}
 use Rattle.edi_tokens.proofs.Runs.{run-append}
@@ -260,6 +260,111 @@ module _ (known : Option (List ℕ)) (all : List ℕ) (lent : List Segment) (f :
           },
           ap tokens_of same ∙ read_through fed.taken (reading_of lent f.machine) (omega (arith, fits)) fed.read_as,
         )
+
+-- ---- whatever is known of the reader: the bytes that were read are taken for the last ones that it has
+
+last_of : (before after : Option (List ℕ)) (piece : List ℕ) (room count : ℕ) → FillsWith before after piece room count
+    → FillsWith (Some (piece ++ [])) (Some []) piece room count
+last_of before after piece room count fills =
+    record { consumed = refl; count_is = fills.count_is; within = fills.within; ends = λ none some. refl }
+
+module _ (lent : List Segment) (f : Lender) (came : Came lent f) where
+  pub took_some : (result : Result Bool TokenFault) (l : Lender)
+      → ((known : Option (List ℕ)) (all : List ℕ) (lent : List Segment) → Fed known all lent f → Took known all lent result l)
+      → FitsSome lent result l
+  took_some (Ok true) l told = record { known = came.known; all = came.all; fed = told came.known came.all lent came.fed }
+  took_some (Ok false) l told = record { known = came.known; all = came.all; fed = told came.known came.all lent came.fed }
+  took_some (Err fault) l told = λ _. (came.all, told came.known came.all lent came.fed)
+
+  pub some_at_end : f.piece ≡ [] → f.tail ≡ End → FillsSome lent (Ok false) f
+  some_at_end none tail = (came, (came.all, at_end came.known came.all lent f came.fed none tail))
+
+  pub some_too_long : f.piece ≡ [] → f.tail ≡ Long → FillsSome lent (Err TooLong) f
+  some_too_long none tail = λ _. (came.all, too_long came.known came.all lent f came.fed none tail)
+
+  module _ (none : f.piece ≡ []) (before after : Option (List ℕ)) (piece : List ℕ) (count : ℕ)
+      (fills : FillsWith before after piece f.room count) where
+    abbrev all_more : List ℕ
+    all_more = came.fed.taken ++ (f.piece ++ (piece ++ []))
+
+    abbrev all_within : List ℕ
+    all_within = came.fed.taken ++ (f.piece ++ take f.room (piece ++ []))
+
+    fed_more : f.tail ≡ More → Fed (Some (piece ++ [])) all_more lent f
+    fed_more tail =
+        let goes = subst (λ (t : Tail). GoesOn t came.known came.fed.left f.room (length came.fed.taken + length f.piece)) tail came.fed.goes_on in
+        record {
+          taken = came.fed.taken;
+          left = piece ++ [];
+          all_is = refl;
+          read_as = came.fed.read_as;
+          goes_on =
+              subst (λ (t : Tail). GoesOn t (Some (piece ++ [])) (piece ++ []) f.room (length came.fed.taken + length f.piece)) (sym tail)
+              (refl, goes.1, goes.2);
+        }
+
+    fed_within : f.tail ≡ Within → Fed (Some (piece ++ [])) all_within lent f
+    fed_within tail =
+        let goes = subst (λ (t : Tail). GoesOn t came.known came.fed.left f.room (length came.fed.taken + length f.piece)) tail came.fed.goes_on in
+        record {
+          taken = came.fed.taken;
+          left = take f.room (piece ++ []);
+          all_is = refl;
+          read_as = came.fed.read_as;
+          goes_on =
+              subst (λ (t : Tail). GoesOn t (Some (piece ++ [])) (take f.room (piece ++ [])) f.room (length came.fed.taken + length f.piece))
+              (sym tail) (record { bytes = piece ++ []; known_is = refl; left_is = refl }, goes.1, goes.2);
+        }
+
+    pub some_more : (tail : f.tail ≡ More) → 0 < f.room - count
+        → Came lent (record { machine = f.machine; piece = piece; tail = f.tail; room = f.room - count; ended = false })
+    some_more tail room = record {
+      known = Some [];
+      all = all_more;
+      fed = filled_more (Some (piece ++ [])) all_more lent f (fed_more tail) none tail (Some []) piece count
+          (last_of before after piece f.room count fills) room;
+    }
+
+    pub some_end : (tail : f.tail ≡ More) → count ≡ 0
+        → FillsSome lent (Ok false) (record { machine = f.machine; piece = piece; tail = End; room = f.room - count; ended = true })
+    some_end tail is =
+        let filled = filled_end (Some (piece ++ [])) all_more lent f (fed_more tail) none tail (Some []) piece count
+        (last_of before after piece f.room count fills) is in
+        (record { known = Some []; all = all_more; fed = filled.0 }, (all_more, filled.1))
+
+    pub some_long : (tail : f.tail ≡ More) (p : List ℕ) → p ≡ take (length piece - 1) piece → 0 < count → f.room - count ≡ 0
+        → Came lent (record { machine = f.machine; piece = p; tail = Long; room = f.room - count; ended = false })
+    some_long tail p front some no_room = record {
+      known = Some [];
+      all = all_more;
+      fed = filled_long (Some (piece ++ [])) all_more lent f (fed_more tail) none tail (Some []) piece count
+          (last_of before after piece f.room count fills) p front some no_room;
+    }
+
+    pub some_within_more : (tail : f.tail ≡ Within) → 0 < f.room - count
+        → Came lent (record { machine = f.machine; piece = piece; tail = f.tail; room = f.room - count; ended = false })
+    some_within_more tail room = record {
+      known = Some [];
+      all = all_within;
+      fed = within_more (Some (piece ++ [])) all_within lent f (fed_within tail) none tail (Some []) piece count
+          (last_of before after piece f.room count fills) room;
+    }
+
+    pub some_within_last : (tail : f.tail ≡ Within) → f.room - count ≡ 0
+        → Came lent (record { machine = f.machine; piece = piece; tail = End; room = f.room - count; ended = false })
+    some_within_last tail no_room = record {
+      known = Some [];
+      all = all_within;
+      fed = within_last (Some (piece ++ [])) all_within lent f (fed_within tail) none tail (Some []) piece count
+          (last_of before after piece f.room count fills) no_room;
+    }
+
+    pub some_within_end : (tail : f.tail ≡ Within) → count ≡ 0
+        → FillsSome lent (Ok false) (record { machine = f.machine; piece = piece; tail = End; room = f.room - count; ended = true })
+    some_within_end tail is =
+        let filled = within_end (Some (piece ++ [])) all_within lent f (fed_within tail) none tail (Some []) piece count
+        (last_of before after piece f.room count fills) is in
+        (record { known = Some []; all = all_within; fed = filled.0 }, (all_within, filled.1))
 
 -- ---- a text of a size, whose front was read before
 

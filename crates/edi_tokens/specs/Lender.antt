@@ -95,6 +95,30 @@ Filled known all lent (Ok true) l = Fed known all lent l
 Filled known all lent (Ok false) l = Fed known all lent l × (tokens_of all ≡ finish (reading_of lent l.machine))
 Filled known all lent (Err fault) l = fault ≢ Read → tokens_of all ≡ Err fault
 
+-- Some bytes have come, whatever is known of the reader: of some text, of which these segments were lent.
+pub record Came (lent : List Segment) (l : Lender) : Type 0 where
+  pub known : Option (List ℕ)
+  pub all : List ℕ
+  pub fed : Fed known all lent l
+
+-- what a call tells of some text: one more segment, its end, or its fault
+abbrev pub TellsSome : List Segment → Result (Option Segment) TokenFault → Lender → Type 0
+TellsSome lent (Ok (Some segment)) l = Came (lent ++ segment ∷ []) l
+TellsSome lent (Ok None) l = Came lent l × ((all : List ℕ) × (tokens_of all ≡ Ok (tokens_at lent l.machine)))
+TellsSome lent (Err fault) l = fault ≢ Read → (all : List ℕ) × (tokens_of all ≡ Err fault)
+
+-- of some text what was read is taken: to the end of a segment, to its last byte, or to a fault
+abbrev pub FitsSome : List Segment → Result Bool TokenFault → Lender → Type 0
+FitsSome lent (Ok true) l = Came (lent ++ lent_by l ∷ []) l
+FitsSome lent (Ok false) l = Came lent l
+FitsSome lent (Err fault) l = fault ≢ Read → (all : List ℕ) × (tokens_of all ≡ Err fault)
+
+-- of some text bytes were read, or it ends there, or its fault shows
+abbrev pub FillsSome : List Segment → Result Bool TokenFault → Lender → Type 0
+FillsSome lent (Ok true) l = Came lent l
+FillsSome lent (Ok false) l = Came lent l × ((all : List ℕ) × (tokens_of all ≡ finish (reading_of lent l.machine)))
+FillsSome lent (Err fault) l = fault ≢ Read → (all : List ℕ) × (tokens_of all ≡ Err fault)
+
 -- bytes of a reader were taken, and there is room for as many fewer
 pub record TakesOf (old new : Option (List ℕ)) (room left : ℕ) : Type 0 where
   pub front : List ℕ
@@ -129,10 +153,11 @@ Flags (Ok x) old new = new ≡ old
 Flags (Err fault) old new = HasCause fault old new
 
 -- What a call answers, of the bytes that are known of its reader before and after it, and of the reader's flag: to whoever
--- has not been told a fault, and to whoever has.
+-- has not been told a fault, and to whoever has. Where no bytes are known, they are those of some text.
 pub record Feeds (before after : Option (List ℕ)) (was failed : Bool) (old : Lender)
     (result : Result (Option Segment) TokenFault) (new : Lender) : Type 0 where
   pub told : (all : List ℕ) (lent : List Segment) → Fed before all lent old → Told after all lent result new
+  pub some : (lent : List Segment) → Came lent old → TellsSome lent result new
   pub flag : stopped old ≡ None → Flags result was failed
   pub bound : TakesOf before after (room_of old) (room_of new)
   pub ends : AtEnd before old → AtEnd after new

@@ -6,7 +6,8 @@ ghost use Rattle.std.specs.Io.KnownBytes.{IsAtEnd};
 ghost use Rattle.edi_tokens.specs.declared.segment.Segment.{Segment};
 ghost use Rattle.edi_tokens.specs.Spelling.{text_limit};
 ghost use Rattle.edi_tokens.specs.SegmentRef.{segment_in};
-ghost use Rattle.edi_tokens.specs.Lender.{AtEnd, Fed, Feeds, Filled, Flags, IsBegun, IsOfText, ReadsAway, TakesOf, Told, Took};
+ghost use Rattle.edi_tokens.specs.Lender.{AtEnd, Came, Fed, Feeds, Filled, FillsSome, FitsSome, Flags, IsBegun, IsOfText, ReadsAway};
+ghost use Rattle.edi_tokens.specs.Lender.{TakesOf, TellsSome, Told, Took};
 ghost use Rattle.edi_tokens.specs.Lender.{answered, decimal_of, known_service, lent_by, stopped, unread};
 
 use crate::fault::TokenFault;
@@ -108,6 +109,7 @@ impl Lender {
     fn take_piece(&mut self) -> Result<bool, TokenFault>
         ensures told { (known : Option (List ℕ)) (all : List ℕ) (lent : List Segment) → Fed known all lent self.old →
             Took known all lent result self.new }
+        ensures some { (lent : List Segment) → Came lent self.old → FitsSome lent result self.new }
         ensures text { IfErr result IsOfText }
         ensures empty { result ≡ Ok false → self.new.piece ≡ [] }
         ensures fewer { result ≡ Ok true → length self.new.piece < length self.old.piece }
@@ -126,6 +128,7 @@ impl Lender {
         requires piece { self.old.piece ≡ [] }
         ensures told { (all : List ℕ) (lent : List Segment) → Fed (R.remaining reader.old) all lent self.old →
             Filled (R.remaining reader.new) all lent result self.new }
+        ensures some { (lent : List Segment) → Came lent self.old → FillsSome lent result self.new }
         ensures flag { Flags result (R.failed reader.old) (R.failed reader.new) }
         ensures bound { TakesOf (R.remaining reader.old) (R.remaining reader.new) self.old.room self.new.room }
         ensures ends { AtEnd (R.remaining reader.new) self.new }
@@ -156,6 +159,7 @@ impl Lender {
         requires piece { self.old.piece ≡ [] }
         ensures told { (all : List ℕ) (lent : List Segment) → Fed (R.remaining reader.old) all lent self.old →
             Filled (R.remaining reader.new) all lent result self.new }
+        ensures some { (lent : List Segment) → Came lent self.old → FillsSome lent result self.new }
         ensures flag { Flags result (R.failed reader.old) (R.failed reader.new) }
         ensures bound { TakesOf (R.remaining reader.old) (R.remaining reader.new) self.old.room self.new.room }
         ensures ends { AtEnd (R.remaining reader.new) self.new }
@@ -185,6 +189,7 @@ impl Lender {
         requires going { stopped self.old ≡ None }
         ensures told { (all : List ℕ) (lent : List Segment) → Fed (R.remaining reader.old) all lent self.old →
             Filled (R.remaining reader.new) all lent result self.new }
+        ensures some { (lent : List Segment) → Came lent self.old → FillsSome lent result self.new }
         ensures flag { Flags result (R.failed reader.old) (R.failed reader.new) }
         ensures bound { TakesOf (R.remaining reader.old) (R.remaining reader.new) self.old.room self.new.room }
         ensures ends { AtEnd (R.remaining reader.old) self.old → AtEnd (R.remaining reader.new) self.new }
@@ -206,6 +211,7 @@ impl Lender {
         requires going { stopped self.old ≡ None }
         ensures told { (all : List ℕ) (lent : List Segment) → Fed (R.remaining reader.old) all lent self.old →
             Told (R.remaining reader.new) all lent (answered result self.new) self.new }
+        ensures some { (lent : List Segment) → Came lent self.old → TellsSome lent (answered result self.new) self.new }
         ensures fewer { result ≡ Ok true → unread self.new < unread self.old }
         ensures flag { Flags result (R.failed reader.old) (R.failed reader.new) }
         ensures bound { TakesOf (R.remaining reader.old) (R.remaining reader.new) self.old.room self.new.room }

@@ -1,7 +1,7 @@
 use Rattle.std.proofs.Common.{Bool, Result, Ok, ap, ◌∙◌}
 use Rattle.std.proofs.lemmas.Result.{err_from_is_err_and}
 use Rattle.edi_tokens.specs.declared.fault.TokenFault.{TokenFault}
-use Rattle.edi_envelope.proofs.ReadLemmas.{bound_then, fault_told, end_told, more_read}
+use Rattle.edi_envelope.proofs.ReadLemmas.{bound_then, fault_told, fault_of_some, end_told, end_of_some, more_read}
 use Rattle.edi_envelope.proofs.opening.read.Goals as goal
 
 abbrev said : Bool → Result Bool TokenFault
@@ -41,3 +41,16 @@ loop-opening-preserved g c =
     c.loop-opening.lender _ c.loop-opening.opening c.advance.result c.loop-opening.invariant c.advance.ensures.feeds _
     (c.in_ok-advance.was ∙ ap said c.if-branch.true)
     (rw c.lent.ensures at (c.in_ok-copy.ensures c.loop-opening.invariant.lent c.loop-opening.invariant.stands))
+
+pub returns-in_err-advance-clause-some : goal.returns-in_err-advance-clause-some
+returns-in_err-advance-clause-some g c =
+    let p = err_from_is_err_and c.from_residual.result c.from_residual.ensures.1 in
+    rw (p.1, p.2)
+    (fault_of_some (g.R.Source.remaining c.args.reader.now) (g.R.Source.failed c.args.reader.now) c.args.lender.now _ _ _ _
+    c.loop-opening.lender _ c.loop-opening.opening c.advance.result c.loop-opening.invariant c.advance.ensures.feeds _ c.in_err-advance.was)
+
+pub returns-clause-some : goal.returns-clause-some
+returns-clause-some g c =
+    end_of_some (g.R.Source.remaining c.args.reader.now) (g.R.Source.failed c.args.reader.now) c.args.lender.now _ _ _ _
+    c.loop-opening.lender _ c.loop-opening.opening c.advance.result c.loop-opening.invariant c.advance.ensures.feeds
+    (c.in_ok-advance.was ∙ ap said c.if-branch.false)

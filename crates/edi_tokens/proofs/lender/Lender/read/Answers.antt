@@ -1,5 +1,5 @@
-use Rattle.std.proofs.Common.{◌<◌, arith}
-use Rattle.edi_tokens.proofs.Lending.{filled_end, filled_long}
+use Rattle.std.proofs.Common.{◌<◌, ◌-◌, arith}
+use Rattle.edi_tokens.proofs.Lending.{filled_end, filled_long, some_end, some_long, some_more}
 use Rattle.edi_tokens.proofs.lender.Lender.read.Goals as goal
 
 pub returns-then-count-eq0-clause-told : goal.returns-then-count-eq0-clause-told
@@ -13,3 +13,19 @@ returns-then-self-eq0-clause-told g c = λ all lent fed.
     filled_long (g.R.Source.remaining c.args.reader.now) all lent c.args.self.now fed c.requires.piece c.requires.tail
     (g.R.Source.remaining c.fill.new.reader) c.fill.new.self c.in-Ok.count c.in-Ok.ensures.bytes c.drop_last.new.self
     c.drop_last.ensures some c.if-self-eq0.true
+
+pub returns-then-count-eq0-clause-some : goal.returns-then-count-eq0-clause-some
+returns-then-count-eq0-clause-some g c = λ lent came.
+    some_end lent c.args.self.now came c.requires.piece _ _ c.fill.new.self c.in-Ok.count c.in-Ok.ensures.bytes c.requires.tail
+    c.if-count-eq0.true
+
+pub returns-then-self-eq0-clause-some : goal.returns-then-self-eq0-clause-some
+returns-then-self-eq0-clause-some g c = λ lent came.
+    let some : 0 < c.in-Ok.count = omega (arith, c.if-count-eq0.false) in
+    some_long lent c.args.self.now came c.requires.piece _ _ c.fill.new.self c.in-Ok.count c.in-Ok.ensures.bytes c.requires.tail
+    c.drop_last.new.self c.drop_last.ensures some c.if-self-eq0.true
+
+pub returns-else-self-eq0-clause-some : goal.returns-else-self-eq0-clause-some
+returns-else-self-eq0-clause-some g c = λ lent came.
+    let room : 0 < c.args.self.now.room - c.in-Ok.count = omega (arith, c.if-self-eq0.false) in
+    some_more lent c.args.self.now came c.requires.piece _ _ c.fill.new.self c.in-Ok.count c.in-Ok.ensures.bytes c.requires.tail room

@@ -3,7 +3,7 @@ use Rattle.edi_tokens.specs.declared.fault.TokenFault.{TokenFault}
 use Rattle.std.specs.Io.KnownBytes.{IsAtEnd}
 use Rattle.std.proofs.lemmas.Result.{err_from_is_err_and}
 use Rattle.edi_tokens.specs.Machine.{reading_of}
-use Rattle.edi_tokens.specs.Lender.{Fed, Took, Filled, TakesOf}
+use Rattle.edi_tokens.specs.Lender.{Came, Fed, Took, FitsSome, Filled, FillsSome, TakesOf}
 use Rattle.edi_tokens.proofs.Lending.{takes_then, has_cause, finish_text}
 use Rattle.edi_tokens.proofs.lender.Lender.step.Given as given
 use Rattle.edi_tokens.proofs.lender.Lender.step.Goals as goal
@@ -82,11 +82,16 @@ loop-self-preserved g c = record {
   told = λ all lent fed.
       subst (λ (b : Bool). Filled (g.R.Source.remaining c.refill.new.reader) all lent (Ok b) c.refill.new.self) c.if-not-branch.false
       (c.in_ok-refill.ensures.told all lent (taken_all g (goal.at.loop-self-preserved g c).After-refill all lent fed));
+  some = λ lent came.
+      subst (λ (b : Bool). FillsSome lent (Ok b) c.refill.new.self) c.if-not-branch.false
+      (c.in_ok-refill.ensures.some lent
+      (subst (λ (b : Bool). FitsSome lent (Ok b) c.take_piece.new.self) c.if-branch.false
+      (c.in_ok-take_piece.ensures.some lent (c.loop-self.invariant.some lent came))));
   flag = flag g (goal.at.loop-self-preserved g c).In_ok-refill;
   bound = bound g (goal.at.loop-self-preserved g c).After-refill;
   ends = λ old. c.refill.ensures.ends (λ is.
-  subst (λ (room : ℕ). IsAtEnd (g.R.Source.remaining c.loop-self.reader) ⊎ (room ≡ 0)) (sym c.in_ok-take_piece.ensures.room)
-  (c.loop-self.invariant.ends old (sym c.in_ok-take_piece.ensures.ended ∙ is)));
+      subst (λ (room : ℕ). IsAtEnd (g.R.Source.remaining c.loop-self.reader) ⊎ (room ≡ 0)) (sym c.in_ok-take_piece.ensures.room)
+      (c.loop-self.invariant.ends old (sym c.in_ok-take_piece.ensures.ended ∙ is)));
   unread = omega (
     arith,
     c.in_ok-refill.ensures.unread (ap said c.if-not-branch.false),
@@ -96,3 +101,39 @@ loop-self-preserved g c = record {
   );
   going = c.in_ok-refill.ensures.going;
 }
+
+pub returns-in_err-take_piece-clause-some : goal.returns-in_err-take_piece-clause-some
+returns-in_err-take_piece-clause-some g c = λ lent came.
+    let p = err_from_is_err_and c.from_residual.result c.from_residual.ensures.1 in
+    rw (p.1, p.2) (c.in_err-take_piece.ensures.some lent (c.loop-self.invariant.some lent came))
+
+-- all that was read of some text is taken
+some_taken : (g : given.Over) (c : After-refill g) (lent : _) → Came lent c.args.self.now → Came lent c.take_piece.new.self
+some_taken g c lent came =
+    subst (λ (b : Bool). FitsSome lent (Ok b) c.take_piece.new.self) c.if-branch.false
+    (c.in_ok-take_piece.ensures.some lent (c.loop-self.invariant.some lent came))
+
+some_ended : (g : given.Over) (c : In_ok-refill g) (lent : _) → c.in_ok-refill.field-0 ≡ false → Came lent c.args.self.now
+    → FillsSome lent (Ok false) c.refill.new.self
+some_ended g c lent none came =
+    subst (λ (b : Bool). FillsSome lent (Ok b) c.refill.new.self) none
+    (c.in_ok-refill.ensures.some lent
+    (subst (λ (b : Bool). FitsSome lent (Ok b) c.take_piece.new.self) c.if-branch.false
+    (c.in_ok-take_piece.ensures.some lent (c.loop-self.invariant.some lent came))))
+
+pub returns-in_err-refill-clause-some : goal.returns-in_err-refill-clause-some
+returns-in_err-refill-clause-some g c = λ lent came.
+    let p = err_from_is_err_and c.from_residual-in_err-refill.result c.from_residual-in_err-refill.ensures.1 in
+    rw (p.1, p.2) (c.in_err-refill.ensures.some lent
+    (some_taken g (goal.at.returns-in_err-refill-clause-some g c).After-refill lent came))
+
+pub returns-in_err-finish-clause-some : goal.returns-in_err-finish-clause-some
+returns-in_err-finish-clause-some g c = λ lent came.
+    let p = err_from_is_err_and c.from_residual-in_err-finish.result c.from_residual-in_err-finish.ensures.1 in
+    let end = some_ended g (goal.at.returns-in_err-finish-clause-some g c).In_ok-refill lent c.if-not-branch.true came in
+    rw (p.1, p.2) (λ _. (end.1.0, end.1.1 ∙ c.in_err-finish.ensures lent))
+
+pub returns-then-not-branch-clause-some : goal.returns-then-not-branch-clause-some
+returns-then-not-branch-clause-some g c = λ lent came.
+    let end = some_ended g (goal.at.returns-then-not-branch-clause-some g c).In_ok-refill lent c.if-not-branch.true came in
+    (end.0, (end.1.0, end.1.1 ∙ c.in_ok-finish.ensures lent))
