@@ -1,11 +1,13 @@
 """Plays loads on the proved hub over a store of lists (`hub_script`) and on a plain Rust one with ordered maps (hub.rs), and
-prints ratios of processor time and of instructions (where valgrind is there). What stands before the measured part is played
-alone too, and taken off. Where a bound is passed, it says so and ends with status 1.
+prints ratios of processor time and of instructions (where valgrind is there). Time is taken within one run, from the reply that
+stands before the measured part; for instructions what stands before is played alone too, and taken off. Where a bound is
+passed, it says so and ends with status 1.
 
     python3 bench/hub.py crates/hub_script/out/hub_script PLAIN"""
 import os
 import re
 import shutil
+import signal
 import subprocess
 import sys
 import tempfile
@@ -16,6 +18,7 @@ from hubs import ALPHA, RETAILER, Play, interchange, message, parties
 ROUNDS = 5
 # the bound: times of the plain program
 MOST = 2
+MOST_NUMBER = 99_999_999_999_999
 
 
 def gtin(number):
@@ -45,10 +48,16 @@ def sent(play, count, first, lines):
     play.upload(RETAILER, interchange(RETAILER, f"U{first}", *(order(k + 1, f"{first + k:08}", lines) for k in range(count))))
 
 
+def begun(play):
+    """The reply from which on time is taken."""
+    return play.list(MOST_NUMBER)
+
+
 def orders(measured):
-    play = Play()
-    if measured:
-        sent(play, 999, 0, 1)
+    """An upload of 999 orders, 20 times."""
+    play = begun(Play())
+    for k in range(20 if measured else 0):
+        sent(play, 999, 999 * k, 1)
     return play.script
 
 
@@ -58,7 +67,7 @@ def despatches(measured):
     for k in range(10):
         sent(play, 999, 999 * k, 10)
     sent(play, 10, 9990, 10)
-    play.say("loud")
+    begun(play.say("loud"))
     for k in range(2000 if measured else 0):
         # 4,999 has no factor in common with 10,000, so no order comes twice
         play.upload(ALPHA, interchange(ALPHA, f"S{k}", despatch(k, f"{4999 * k % 10_000:08}", 10)))
@@ -66,29 +75,42 @@ def despatches(measured):
 
 
 def status(measured):
-    """The status of 10,000 lines, 20 times."""
+    """The status of 10,000 lines, 200 times."""
     play = Play().say("quiet")
     sent(play, 999, 0, 10)
     sent(play, 1, 999, 10)
-    play.say("loud")
-    for _ in range(20 if measured else 0):
+    begun(play.say("loud"))
+    for _ in range(200 if measured else 0):
         play.status()
     return play.script
 
 
-LOADS = {"an upload of 999 orders": orders, "2,000 despatches of 10 lines among 100,000": despatches, "20 statuses of 10,000 lines": status}
+LOADS = {"20 uploads of 999 orders": orders, "2,000 despatches of 10 lines among 100,000": despatches, "200 statuses of 10,000 lines": status}
+
+
+def since_first(words, folder, source=subprocess.DEVNULL):
+    """Processor seconds of one run from its first printed line on, most memory in MB before it and in all, and output."""
+    child = subprocess.Popen(words, stdin=source, stdout=subprocess.PIPE, cwd=folder)
+    first = os.read(child.stdout.fileno(), 1)
+    child.send_signal(signal.SIGSTOP)
+    with open(f"/proc/{child.pid}/schedstat", encoding="ascii") as file:
+        opened = int(file.read().split()[0]) / 1e9
+    with open(f"/proc/{child.pid}/status", encoding="ascii") as file:
+        before = next(int(line.split()[1]) for line in file if line.startswith("VmHWM")) / 1024
+    child.send_signal(signal.SIGCONT)
+    output = first + child.stdout.read()
+    _, state, used = os.wait4(child.pid, 0)
+    child.returncode = os.waitstatus_to_exitcode(state)
+    if child.returncode:
+        sys.exit(f"{words[0]} ended with {child.returncode}")
+    return used.ru_utime + used.ru_stime - opened, before, used.ru_maxrss / 1024, output
 
 
 def seconds(program, text):
-    """Processor time and output of one run."""
-    with open(text, "rb") as source, tempfile.TemporaryFile() as target:
-        child = subprocess.Popen([program], stdin=source, stdout=target)
-        _, state, used = os.wait4(child.pid, 0)
-        child.returncode = os.waitstatus_to_exitcode(state)
-        target.seek(0)
-        if child.returncode:
-            sys.exit(f"{program} ended with {child.returncode}")
-        return used.ru_utime + used.ru_stime, target.read()
+    """Processor time from the first reply on, and output, of one run."""
+    with open(text, "rb") as source:
+        time, _, _, output = since_first([program], os.path.dirname(text), source)
+    return time, output
 
 
 def instructions(program, text):
@@ -102,13 +124,14 @@ def instructions(program, text):
 
 
 def cost(program, texts):
-    """The least processor time of the whole, and its instructions, less what stands before; and the output."""
-    least = [min(seconds(program, text)[0] for _ in range(ROUNDS)) for text in texts]
+    """The least processor time behind what stands before, and the instructions without it; and the output."""
+    least, output = min(seconds(program, texts[1]) for _ in range(ROUNDS))
     counts = [instructions(program, text) for text in texts]
-    return least[1] - least[0], counts[1] - counts[0], seconds(program, texts[1])[1]
+    return least, counts[1] - counts[0], output
 
 
 def main(ours, plain):
+    ours, plain = os.path.abspath(ours), os.path.abspath(plain)
     too_slow = False
     with tempfile.TemporaryDirectory() as folder:
         texts = [os.path.join(folder, name) for name in ("before", "whole")]

@@ -257,6 +257,8 @@ fn main() {
                 continue;
             }
             "upload" => hub.upload(payload()),
+            // behind the greatest number a mailbox has no entry
+            "after" => b"end\n".to_vec(),
             _ => hub.status(caller),
         };
         if !quiet {

@@ -7,13 +7,12 @@ program's uploads of the same.
     python3 bench/sql.py crates/hub_script/out/hub_script PLAIN EDIHUB"""
 import os
 import shutil
-import signal
 import sqlite3
 import subprocess
 import sys
 import tempfile
 
-from hub import ALPHA, RETAILER, Play, despatch, interchange, order, sent
+from hub import ALPHA, RETAILER, Play, begun, despatch, interchange, order, sent, since_first
 from hubs import TWO_SUPPLIERS
 
 ROUNDS, MESSAGES = 3, 600
@@ -24,7 +23,6 @@ MOST, MOST_GROWTH, MOST_SYNCS = 2, 1.3, 4
 OPENED = (45_000, 225_000)
 # MB by which two runs may differ in what they take
 ROOM = 0.5
-MOST_NUMBER = 99_999_999_999_999
 SHIM = os.path.join(os.path.dirname(os.path.abspath(__file__)), "..", "tests", "stop.c")
 
 
@@ -97,24 +95,6 @@ def copied(folder, top):
     return into
 
 
-def since_first(words, folder, source=subprocess.DEVNULL):
-    """Processor seconds of one run from its first printed line on, most memory in MB before it and in all, and output."""
-    child = subprocess.Popen(words, stdin=source, stdout=subprocess.PIPE, cwd=folder)
-    first = os.read(child.stdout.fileno(), 1)
-    child.send_signal(signal.SIGSTOP)
-    with open(f"/proc/{child.pid}/schedstat", encoding="ascii") as file:
-        opened = int(file.read().split()[0]) / 1e9
-    with open(f"/proc/{child.pid}/status", encoding="ascii") as file:
-        before = next(int(line.split()[1]) for line in file if line.startswith("VmHWM")) / 1024
-    child.send_signal(signal.SIGCONT)
-    output = first + child.stdout.read()
-    _, state, used = os.wait4(child.pid, 0)
-    child.returncode = os.waitstatus_to_exitcode(state)
-    if child.returncode:
-        sys.exit(f"{words[0]} ended with {child.returncode}")
-    return used.ru_utime + used.ru_stime - opened, before, used.ru_maxrss / 1024, output
-
-
 def cost(program, folder, load, top):
     """The least processor time of a load, from the reply on that the file is open, and its output."""
     least, output = None, None
@@ -132,7 +112,7 @@ def cost(program, folder, load, top):
 
 def opened():
     """A script whose first reply says that the file is open."""
-    return Play().list(MOST_NUMBER)
+    return begun(Play())
 
 
 def syncs(program, folder, script, top, shim):

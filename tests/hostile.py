@@ -5,8 +5,8 @@
 - `serve` is killed at 100 moments while a client uploads: every answer that the client had read is kept.
 - The disk is full: a file may not grow past some size. Each command ends with its named fault or `stopped`, status 3, nothing is
   done in part, and the same again with room goes through.
-- Each allocation of the program is refused in turn, command by command: it says `memory`, or stops, or makes up for it; and the same
-  command with ample memory leaves the rows that it would have left.
+- Each allocation of the program is refused in turn, command by command, `serve` with an upload among them: it says `memory`, or
+  stops, or makes up for it; and the same command with ample memory leaves the rows that it would have left.
 - A database file is cut at each 512 bytes, has a byte changed in each page, or is replaced by other files: a named refusal, or the
   right answers.
 
@@ -16,6 +16,7 @@ import random
 import resource
 import shutil
 import signal
+import socket
 import sqlite3
 import subprocess
 import sys
@@ -27,10 +28,10 @@ from concurrent.futures import ThreadPoolExecutor
 from commands import KEPT, REGISTER, over, told
 from files import NAME, is_whole
 from http_texts import response
-from hubs import ALPHA, DESPATCH, HUB, ORDERS as ORDER, RECEIPT, RESPONSE, RETAILER, SECOND, SPELLED, TWO_SUPPLIERS, interchange, order
+from hubs import ALPHA, DESPATCH, HUB, MOMENT, ORDERS as ORDER, RECEIPT, RESPONSE, RETAILER, SECOND, SPELLED, TWO_SUPPLIERS, interchange, order
 from refusals import SHIM
 from registers import of_prefixes
-from serving import Server, upload
+from serving import Server, all_of, free_port, upload
 
 ORDERS, MOMENTS = 999, 100
 # how many allocations of a command are all refused, and of those before them one in so many
@@ -342,7 +343,66 @@ def memory_refused(program, top):
     return None
 
 
-TRIALS = (files_damaged, disks_full, memory_refused, imports_killed, servers_killed)
+def served_once(program, folder, request, variables):
+    """What comes of `serve` for one connection: its status, lines and standard error, and what the client was sent."""
+    port = free_port()
+    words = ["serve", "--register", REGISTER, "--db", NAME, "--port", str(port), "--count", "1", "--moment", MOMENT]
+    how = {"stdout": subprocess.PIPE, "stderr": subprocess.PIPE, "env": {**os.environ, **variables}}
+    child, found = subprocess.Popen([program, *words], cwd=folder, **how), b""
+    first = child.stdout.readline()
+    if first:
+        with socket.create_connection(("127.0.0.1", port), 60) as one:
+            one.sendall(request)
+            one.shutdown(socket.SHUT_WR)
+            found = all_of(one)
+    printed, error = child.communicate(timeout=60)
+    return child.returncode, (first + printed).replace(str(port).encode(), b"PORT"), error, found
+
+
+def serving_refused(program, top):
+    shim, count = os.path.join(top, "refuse.so"), os.path.join(top, "count")
+    subprocess.run(["cc", "-O2", "-shared", "-fPIC", "-o", shim, SHIM, "-ldl"], check=True)
+    head = "interchange 1001 messages 1"
+    _, request, _, body = upload(RETAILER, ORDER, head, "1 ORDERS accepted")
+    lines = b"listening PORT\nconnection 1 %d\n"
+    whole = (0, lines % 200, b"", response(200, body))
+    again = (0, lines % 200, b"", response(200, told(head, "1 ORDERS repeated")))
+    stops = [(3, lines % 503, b"", response(503, text)) for text in (b"", b"stopped\n", told(head, "stopped"))]
+    end = new_folder(top)
+    if served_once(program, end, request, {"LD_PRELOAD": shim, "COUNT": count}) != whole:
+        return "an upload that is served with ample memory"
+    wanted = rows_of(end)
+    with open(count, encoding="ascii") as file:
+        allocations = int(file.read())
+
+    def tried(number):
+        folder = new_folder(top)
+        found = served_once(program, folder, request, {"LD_PRELOAD": shim, "REFUSE": str(number)})
+        if found == whole:
+            kind = "as ever"
+        elif found in stops:
+            kind = "503"
+        elif found[0] == 3 and found[1:] in ((b"", b"store memory\n", b""), (b"", b"memory\n", b"")):
+            kind = found[2].decode().strip()
+        else:
+            return f"allocation {number} refused: {found!r:.300}"
+        later = served_once(program, folder, request, {})
+        if later not in (whole, again) or rows_of(folder) != wanted:
+            return f"allocation {number} refused, {kind}, then: {later!r:.300}"
+        shutil.rmtree(folder)
+        return (kind,)
+
+    with ThreadPoolExecutor(len(os.sched_getaffinity(0))) as pool:
+        found = list(pool.map(tried, range(1, allocations + 1)))
+    wrong = [it for it in found if isinstance(it, str)]
+    if wrong:
+        return f"{len(wrong)} of {allocations} wrong, first {wrong[0]}"
+    counts = ", ".join(f"{count} {kind}" for (kind,), count in Counter(found).most_common())
+    print(f"serve: {allocations} of {allocations} allocations refused in turn: {counts}", flush=True)
+    return None
+
+
+TRIALS = (files_damaged, disks_full, memory_refused, serving_refused, imports_killed, servers_killed)
 
 
 def main(program):
