@@ -1,5 +1,5 @@
 -- Who asks, and what it may.
-use Rattle.std.proofs.Common.{◌≡◌, Some, Result, Ok, Err, sym, ap, subst, ◌∙◌}
+use Rattle.std.proofs.Common.{◌≡◌, ℕ, List, Some, Result, Ok, Err, sym, ap, subst, ◌∙◌}
 use Rattle.hub_parties.specs.Rows.{RegisterRows, row_of}
 use Rattle.hub_parties.specs.declared.role.Role.TheVariants as roles
 use Rattle.hub_rules.proofs.Prefixes.{gln_found}
@@ -8,11 +8,14 @@ use Rattle.hub_tables.specs.Tables.{Tables}
 use Rattle.hub_store.specs.declared.fault.StoreFault.{StoreFault}
 use Rattle.hub_law.specs.Machine.{shared_step, step_as}
 use Rattle.hub_law.specs.Mark.{Mark}
-use Rattle.hub_law.specs.Stops.{upload_of, upload_by}
+use Rattle.hub_law.specs.Opening.{Opened, interchange_in}
+use Rattle.hub_law.specs.Requests.{uploaded}
+use Rattle.hub_law.specs.Stops.{upload_of, upload_by, opened_for}
 use Rattle.hub_law.specs.declared.reply.Reply.{Reply}
 use Rattle.hub_law.specs.declared.request.Input.{Input}
+use Rattle.hub_law.specs.declared.request.Request.TheVariants.{Upload}
 use Rattle.hub_acts.specs.Acts.{Carried, Unharmed}
-use Rattle.hub_core.specs.Callers.{MayDeliver, IsCaller, acts_by, request_of}
+use Rattle.hub_core.specs.Callers.{delivered, addressed_by, MayDeliver, IsCaller, acts_by, request_of}
 use Rattle.hub_core.specs.Steps.{Does, Asked, acts_of}
 use Rattle.hub_core.specs.declared.caller.Caller.{Caller}
 use Rattle.hub_core.specs.declared.caller.Caller.TheVariants.{Retailer, Supplier}
@@ -29,6 +32,25 @@ holds_after holds content honest left old new act seen (Ok x) carried unharmed h
     subst holds (ap (λ r. r.1) (carried.done h)) after
 holds_after holds content honest left old new act seen (Err fault) carried unharmed h before after =
     subst holds (sym (unharmed.same h)) before
+
+-- an upload of bytes, by what they are
+pub opened_asked : {S : Type 0} (content : S → Tables) (honest : S → Type 0) (left : S → Tables → Type 0) (old new : S)
+    (register : RegisterRows) (caller : Caller) (moment : ℕ) (bytes : List ℕ) (upload : Opened) (result : Result Reply StoreFault)
+    → interchange_in bytes ≡ upload
+    → (MayDeliver register caller (content old)
+    → Asked content honest left old new (acts_of (opened_for (delivered register caller) (addressed_by register caller upload)))
+    (λ mark t. uploaded (delivered register caller) moment mark (addressed_by register caller upload) t) result)
+    → MayDeliver register caller (content old)
+    → Asked content honest left old new (acts_by register caller (Upload bytes)) (request_of register caller moment (Upload bytes)) result
+opened_asked content honest left old new register Retailer moment bytes upload result is asked may =
+    subst (λ (opened : Opened). Asked content honest left old new
+    (acts_of (opened_for (delivered register Retailer) (addressed_by register Retailer opened)))
+    (λ mark t. uploaded (delivered register Retailer) moment mark (addressed_by register Retailer opened) t) result) (sym is) (asked may)
+opened_asked content honest left old new register (Supplier s) moment bytes upload result is asked may =
+    subst (λ (opened : Opened). Asked content honest left old new
+    (acts_of (opened_for (delivered register (Supplier s)) (addressed_by register (Supplier s) opened)))
+    (λ mark t. uploaded (delivered register (Supplier s)) moment mark (addressed_by register (Supplier s) opened) t) result) (sym is)
+    (asked may)
 
 module _ (register : RegisterRows) (input : Input) where
   abbrev pub Known : Caller → Type 0

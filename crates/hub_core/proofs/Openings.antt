@@ -1,48 +1,114 @@
 -- What an upload is.
-use Rattle.std.proofs.Common.{◌≡◌, ◌≢◌, ℕ, true, false, not, cond, codes, List, Result, Ok, Err, refl, ap, ◌∙◌}
+use Rattle.std.proofs.Common.{◌≡◌, ◌≢◌, inl, inr, ℕ, true, false, not, cond, codes, List, Result, Ok, Err, refl, ap, ◌∙◌}
 use Rattle.std.specs.List.{list_any}
-use Rattle.edi_tokens.specs.Code as token_faults
 use Rattle.edi_tokens.specs.Reading.{tokens_of, Fails}
 use Rattle.edi_tokens.specs.declared.fault.TokenFault.{TokenFault}
-use Rattle.edi_tokens.specs.declared.fault.TokenFault.TheVariants.{TooLong, ServiceString, Byte, Cut, Tag, LongSegment, Read, Memory}
+use Rattle.edi_tokens.specs.declared.fault.TokenFault.TheVariants as token
 use Rattle.edi_tokens.specs.declared.segment.Tokens.{Tokens}
-use Rattle.edi_envelope.specs.Fault as envelope_faults
 use Rattle.edi_envelope.specs.Interchange.{interchange_of}
+use Rattle.edi_envelope.specs.Opened.{judged_as, read_as, opened, Opens}
 use Rattle.edi_envelope.specs.declared.fault.EnvelopeFault.{EnvelopeFault}
+use Rattle.edi_envelope.specs.declared.fault.EnvelopeFault.TheVariants as envelope
+use Rattle.edi_envelope.specs.declared.fault.OpenFault.{OpenFault}
+use Rattle.edi_envelope.specs.declared.fault.OpenFault.TheVariants.{Token, Envelope}
 use Rattle.edi_envelope.specs.declared.interchange.Interchange.{Interchange}
 use Rattle.hub_tables.specs.Rows.{same}
 use Rattle.hub_law.specs.Opening.{framed, enveloped, interchange_in, addressed}
+use Rattle.hub_core.specs.Opened.{told_as, HasCode, Sufficed, RanOut}
 
-fails_is : (fault : TokenFault) (given : Result Tokens TokenFault) → fault ≢ Memory → Fails fault given → given ≡ Err fault
-fails_is TooLong given not_memory fails = fails
-fails_is ServiceString given not_memory fails = fails
-fails_is Byte given not_memory fails = fails
-fails_is Cut given not_memory fails = fails
-fails_is Tag given not_memory fails = fails
-fails_is LongSegment given not_memory fails = fails
-fails_is Read given not_memory fails = fails
-fails_is Memory given not_memory fails = absurd (not_memory refl)
+fails_is : (fault : TokenFault) (given : Result Tokens TokenFault) → (fault ≢ token.Memory) → Fails fault given → given ≡ Err fault
+fails_is token.TooLong given not_memory fails = fails
+fails_is token.ServiceString given not_memory fails = fails
+fails_is token.Byte given not_memory fails = fails
+fails_is token.Cut given not_memory fails = fails
+fails_is token.Tag given not_memory fails = fails
+fails_is token.LongSegment given not_memory fails = fails
+fails_is token.Read given not_memory fails = fails
+fails_is token.Memory given not_memory fails = absurd (not_memory refl)
 
-pub token_fault : (bytes : List ℕ) (fault : TokenFault)
-    → fault ≢ Memory
-    → Fails fault (tokens_of bytes)
-    → interchange_in bytes ≡ Err (token_faults.code_text fault)
+-- the bytes of an upload, as they were opened
+pub token_fault : (bytes : List ℕ) (fault : TokenFault) → HasCode (Token fault) → Fails fault (tokens_of bytes)
+    → interchange_in bytes ≡ told_as (Err (Token fault))
 unfolding interchange_in
-token_fault bytes fault not_memory fails = ap enveloped (fails_is fault (tokens_of bytes) not_memory fails)
+token_fault bytes fault has fails =
+    ap enveloped (fails_is fault (tokens_of bytes) (λ e. has (inl (ap (λ fault. Token fault) e))) fails)
 
 pub envelope_fault : (bytes : List ℕ) (tokens : Tokens) (fault : EnvelopeFault)
     → tokens_of bytes ≡ Ok tokens
-    → interchange_of tokens ≡ Err fault
-    → interchange_in bytes ≡ Err (envelope_faults.code_text fault)
+    → HasCode (Envelope fault)
+    → (fault ≢ envelope.Memory → interchange_of tokens ≡ Err fault)
+    → interchange_in bytes ≡ told_as (Err (Envelope fault))
 unfolding interchange_in
-envelope_fault bytes tokens fault e f = ap enveloped e ∙ ap framed f
+envelope_fault bytes tokens fault e has fails =
+    ap enveloped e ∙ ap framed (fails (λ e. has (inr (ap (λ fault. Envelope fault) e))))
 
 pub opened_well : (bytes : List ℕ) (tokens : Tokens) (interchange : Interchange)
     → tokens_of bytes ≡ Ok tokens
     → interchange_of tokens ≡ Ok interchange
-    → interchange_in bytes ≡ Ok interchange
+    → interchange_in bytes ≡ told_as (Ok interchange)
 unfolding interchange_in
 opened_well bytes tokens interchange e f = ap enveloped e ∙ ap framed f
+
+-- an upload that was opened before, of some bytes
+opens_text : (fault : TokenFault) (given : Result Interchange OpenFault)
+    → fault ≢ token.Read
+    → HasCode (Token fault)
+    → Opens (Err (Token fault)) given
+    → given ≡ Err (Token fault)
+opens_text token.TooLong given read has opens = opens
+opens_text token.ServiceString given read has opens = opens
+opens_text token.Byte given read has opens = opens
+opens_text token.Cut given read has opens = opens
+opens_text token.Tag given read has opens = opens
+opens_text token.LongSegment given read has opens = opens
+opens_text token.Read given read has opens = absurd (read refl)
+opens_text token.Memory given read has opens = absurd (has (inl refl))
+
+opens_segments : (fault : EnvelopeFault) (given : Result Interchange OpenFault)
+    → HasCode (Envelope fault)
+    → Opens (Err (Envelope fault)) given
+    → given ≡ Err (Envelope fault)
+opens_segments envelope.InterchangeFrame given has opens = opens
+opens_segments envelope.InterchangeHeader given has opens = opens
+opens_segments envelope.MessageFrame given has opens = opens
+opens_segments envelope.MessageHeader given has opens = opens
+opens_segments envelope.SegmentCount given has opens = opens
+opens_segments envelope.MessageReference given has opens = opens
+opens_segments envelope.MessageCount given has opens = opens
+opens_segments envelope.ControlReference given has opens = opens
+opens_segments envelope.RepeatedReference given has opens = opens
+opens_segments envelope.TestIndicator given has opens = opens
+opens_segments envelope.TooManyMessages given has opens = opens
+opens_segments envelope.CharacterSet given has opens = opens
+opens_segments envelope.Memory given has opens = absurd (has (inr refl))
+
+opens_as : (upload given : Result Interchange OpenFault) → upload ≢ Err (Token token.Read) → Sufficed upload → Opens upload given
+    → given ≡ upload
+opens_as (Ok interchange) given read has opens = opens
+opens_as (Err (Token fault)) given read has opens =
+    opens_text fault given (λ e. read (ap (λ fault. Err (Token fault)) e)) has opens
+opens_as (Err (Envelope fault)) given read has opens = opens_segments fault given has opens
+
+judged_is : (given : Result Interchange EnvelopeFault) → framed given ≡ told_as (judged_as given)
+judged_is (Ok interchange) = refl
+judged_is (Err fault) = refl
+
+read_is : (given : Result Tokens TokenFault) → enveloped given ≡ told_as (read_as given)
+read_is (Ok tokens) = judged_is (interchange_of tokens)
+read_is (Err fault) = refl
+
+pub opened_before : (bytes : List ℕ) (upload : Result Interchange OpenFault)
+    → upload ≢ Err (Token token.Read)
+    → Sufficed upload
+    → Opens upload (opened bytes)
+    → interchange_in bytes ≡ told_as upload
+unfolding interchange_in
+opened_before bytes upload read has opens =
+    read_is (tokens_of bytes) ∙ ap told_as (opens_as upload (opened bytes) read has opens)
+
+pub ran_out : (upload : Result Interchange OpenFault) → RanOut upload → Sufficed upload → ⊥
+ran_out (Ok interchange) out has = out
+ran_out (Err fault) out has = has out
 
 -- an interchange of another sender, or for another recipient
 pub other_recipient : (sender : List ℕ) (recipients : List (List ℕ)) (interchange : Interchange)

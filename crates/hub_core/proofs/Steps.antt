@@ -1,24 +1,26 @@
 -- What a step and a run did is what the laws say of the machine.
-use Rattle.std.proofs.Common.{◌≡◌, ◌≢◌, ◌↔◌, inl, inr, List, [], ◌∷◌, ◌++◌, length, map, Option, Some, refl, sym, ap, subst}
+use Rattle.std.proofs.Common.{◌≡◌, ◌≢◌, ◌↔◌, inl, inr, ℕ, List, [], ◌∷◌, ◌++◌, length, map, Option, Some, refl, sym, ap, subst}
 use Rattle.std.proofs.Common.{◌∙◌, append_assoc}
-use Rattle.std.specs.Prelude.{slice_get}
+use Rattle.std.specs.Prelude.{slice_get, Result, Ok, Err, IfOk, OnErr, IsErr}
+use Rattle.std.proofs.lemmas.Bool.{false≢true}
 use Rattle.std.specs.Option.{unwrap_or}
 use Rattle.hub_parties.specs.Rows.{RegisterRows, supplier_row}
 use Rattle.hub_parties.specs.declared.row.SupplierRow.{SupplierRow}
 use Rattle.hub_tables.specs.Tables.{Tables, view}
+use Rattle.hub_store.specs.declared.fault.StoreFault.{StoreFault}
 use Rattle.hub_rules.specs.Laws.{SoundHub, Registered}
 use Rattle.hub_rules.specs.Sound.{Sound}
 use Rattle.hub_law.specs.Alone.{items}
 use Rattle.hub_law.specs.Laws.{StepIsOwn, RunIsOwn, AsksStatus, alone, reply_between}
 use Rattle.hub_law.specs.Machine.{Inputs, shared_step, shared_run, replies_to}
-use Rattle.hub_law.specs.Mark.{Mark, Whole}
-use Rattle.hub_law.specs.Replies.{done}
+use Rattle.hub_law.specs.Mark.{Mark, Whole, StoppedEmpty, StoppedBare}
+use Rattle.hub_law.specs.Replies.{done, reply, stopped, stopped_line}
 use Rattle.hub_law.specs.StatusText.{status_text}
 use Rattle.hub_law.specs.Stops.{upload_of}
 use Rattle.hub_law.specs.declared.reply.Outcome.TheVariants.{Stopped}
 use Rattle.hub_law.specs.declared.reply.Reply.{Reply}
 use Rattle.hub_law.specs.declared.request.Input.{Input}
-use Rattle.hub_core.specs.Steps.{OneMore, LeavesOf, Answered, Stepped, RunAlone, StoppedSince, RunLeaves, StopsTold}
+use Rattle.hub_core.specs.Steps.{OneMore, LeavesOf, Answered, Asked, Stepped, RunAlone, StoppedSince, RunLeaves, StopsTold}
 use Rattle.hub_core.specs.Steps.{LinesBalance, Ran, acts_of}
 
 module _ (register : RegisterRows)
@@ -71,6 +73,48 @@ module _ (register : RegisterRows)
         kept = a.kept;
         kept_sound = λ were u l. kept_sound t (content new) (left old) (left new) input a.mark hub sound were u (a.kept u l);
       }
+
+  -- the reply to what was asked: that it was stopped, where memory or the store gave out
+  pub replied : {S : Type 0} (content : S → Tables) (honest : S → Type 0) (left : S → Tables → Type 0) (old new : S)
+      (input : Input) (answered : Result Reply StoreFault) (body : List ℕ) (given : Reply)
+      → ((t : Tables) → shared_step register t input StoppedBare ≡ (stopped, t))
+      → body ≡ stopped_line
+      → IfOk answered (λ reply. given ≡ reply)
+      → OnErr answered (given ≡ reply Stopped body)
+      → honest new
+      → SoundHub register.suppliers (content old)
+      → Asked content honest left old new (acts_of (upload_of register input)) (λ mark t. shared_step register t input mark) answered
+      → Stepped register (content old) (content new) (left old) (left new) input given
+  replied content honest left old new input (Ok answer) body given bare says ok err h hub asked =
+      subst (λ (given : Reply). Stepped register (content old) (content new) (left old) (left new) input given) (sym ok)
+      (stepped content left old new input answer hub (asked.answered h))
+  replied content honest left old new input (Err fault) body given bare says ok err h hub asked =
+      let undone = asked.undone h in
+      stepped content left old new input given hub (record {
+        mark = StoppedBare;
+        is = bare (content old) ∙ (λ i. (sym (err ∙ ap (λ body. reply Stopped body) says) i, sym undone.same i));
+        kept = λ u l. elim (undone.kept u l) [
+          | inl e ↦ inr (inl (undone.same, e))
+          | inr e ↦ inr (inr e)
+        ];
+      })
+
+  -- the empty reply, where there is no memory to say so
+  pub unanswered : {S : Type 0} (content : S → Tables) (left : S → Tables → Type 0) (store : S) (input : Input) (given : Reply)
+      → ((t : Tables) → shared_step register t input StoppedEmpty ≡ (reply Stopped [], t))
+      → given ≡ reply Stopped []
+      → SoundHub register.suppliers (content store)
+      → Stepped register (content store) (content store) (left store) (left store) input given
+  unanswered content left store input given empty is hub = stepped content left store store input given hub (record {
+    mark = StoppedEmpty;
+    is = empty (content store) ∙ ap (λ (reply : Reply). (reply, content store)) (sym is);
+    kept = λ u l. inr (inl (refl, l));
+  })
+
+-- a fact where a call failed
+pub where_err : {X E P : Type 0} (r : Result X E) → IsErr r → OnErr r P → P
+where_err (Ok x) e p = absurd (false≢true e)
+where_err (Err fault) e p = p
 
 -- a run, and one input more
 run_more : (register : RegisterRows) (t : Tables) (inputs : Inputs) (input : Input) (mark : Mark)

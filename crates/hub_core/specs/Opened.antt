@@ -1,9 +1,36 @@
--- What an upload is, with the code of its fault as the code has it.
+-- What an upload is, as the code has it: with the code of its fault, or as it was opened.
 use Rattle.std.specs.Borrow.{Bor}
-use Rattle.std.specs.Prelude.{ℕ, List, Result, Ok, Err}
+use Rattle.std.specs.Prelude.{◌≡◌, ◌⊎◌, ⊤, ℕ, List, Result, Ok, Err}
+use Rattle.edi_tokens.specs.declared.fault.TokenFault.TheVariants as token
+use Rattle.edi_envelope.specs.Opened.{code_text}
+use Rattle.edi_envelope.specs.declared.fault.EnvelopeFault.TheVariants as envelope
+use Rattle.edi_envelope.specs.declared.fault.OpenFault.{OpenFault}
+use Rattle.edi_envelope.specs.declared.fault.OpenFault.TheVariants.{Token, Envelope}
 use Rattle.edi_envelope.specs.declared.interchange.Interchange.{Interchange}
 use Rattle.hub_law.specs.Opening.{Opened}
 
 abbrev pub opened : Result Interchange (Bor (List ℕ)) → Opened
 opened (Ok interchange) = Ok interchange
 opened (Err code) = Err code.now
+
+-- the same of one that was opened, whatever its fault
+abbrev pub told_as : Result Interchange OpenFault → Opened
+told_as (Ok interchange) = Ok interchange
+told_as (Err fault) = Err (code_text fault)
+
+-- memory ran out, of the text or of the envelope
+abbrev pub OfMemory : OpenFault → Type 0
+OfMemory fault = (fault ≡ Token token.Memory) ⊎ (fault ≡ Envelope envelope.Memory)
+
+abbrev pub HasCode : OpenFault → Type 0
+HasCode fault = OfMemory fault → ⊥
+
+-- it was opened, or has a fault other than want of memory
+abbrev pub Sufficed : Result Interchange OpenFault → Type 0
+Sufficed (Ok interchange) = ⊤
+Sufficed (Err fault) = HasCode fault
+
+-- memory ran out while it was opened
+abbrev pub RanOut : Result Interchange OpenFault → Type 0
+RanOut (Ok interchange) = ⊥
+RanOut (Err fault) = OfMemory fault

@@ -1,14 +1,19 @@
 //! A hub.
-ghost use Rattle.std.specs.Prelude.{◌≡◌, List, [], ◌∷◌, ◌++◌, IfOk, OnErr};
+ghost use Rattle.std.specs.Prelude.{◌≡◌, ◌≢◌, ℕ, List, [], ◌∷◌, ◌++◌, IfOk, OnErr, Err};
+ghost use Rattle.edi_envelope.specs.Opened.{opened, Opens};
 ghost use Rattle.hub_parties.specs.Rows.{IsRegister, role_of};
 ghost use Rattle.hub_rules.specs.Sound.{Sound};
+ghost use Rattle.hub_law.specs.declared.reply.Outcome.TheVariants.{Stopped};
 ghost use Rattle.hub_law.specs.declared.reply.Reply.{Reply};
 ghost use Rattle.hub_law.specs.declared.request.Input.{Input};
+ghost use Rattle.hub_law.specs.declared.request.Request.TheVariants.{Upload};
+ghost use Rattle.hub_core.specs.Opened.{RanOut};
 ghost use Rattle.hub_core.specs.Steps.{Stepped, Ran, input_of};
 
 use crate::step;
 use edi_base::{Items, MemoryFault};
-use edi_envelope::Moment;
+use edi_envelope::{Interchange, Moment, OpenFault};
+use edi_tokens::TokenFault;
 use gs1_ids::Gln;
 use hub_law::{Input, Reply, Request, each_line_balances, run_is_own};
 use hub_parties::Role;
@@ -94,6 +99,37 @@ impl<S: Store> Hub<S> {
             caller,
             key,
             &request,
+        )
+    }
+
+    /// Answers an upload whose bytes were opened before, as `step` answers its bytes.
+    ///
+    /// Where memory ran out while it was opened, nothing is done, and the reply is `stopped`, whoever asks. Of an upload
+    /// that could not be read nothing is known, and it is not asked.
+    pub fn step_opened(
+        &mut self,
+        moment: Moment,
+        caller: &Gln,
+        key: &[u8],
+        upload: Result<Interchange, OpenFault>,
+    ) -> Reply
+        requires read { upload ≢ Err (OpenFault.Token TokenFault.Read) }
+        ensures stepped { (bytes : List ℕ) → Opens upload (opened bytes) →
+            S.honest self.new.1 → Sound self.old.0.suppliers (S.content self.old.1) →
+            Stepped self.old.0 (S.content self.old.1) (S.content self.new.1) (S.left self.old.1) (S.left self.new.1)
+            (input_of moment caller.now key.now (Upload bytes)) result }
+        ensures register { self.new.0 ≡ self.old.0 }
+        ensures was_honest { S.honest self.new.1 → S.honest self.old.1 }
+        ensures ran_out { RanOut upload → (result.outcome ≡ Stopped) × (self.new ≡ self.old) }
+    {
+        step::step_opened(
+            self.alloc,
+            &self.register,
+            &mut self.store,
+            moment,
+            caller,
+            key,
+            upload,
         )
     }
 

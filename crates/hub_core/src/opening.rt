@@ -1,63 +1,62 @@
 //! An upload is opened.
-ghost use Rattle.std.specs.Prelude.{◌≡◌, ◌≢◌, IfOk, Ok, Err};
+ghost use Rattle.std.specs.Prelude.{◌≡◌, IfOk, Ok, Err};
 ghost use Rattle.std.specs.List.{list_any};
 ghost use Rattle.std.specs.Option.{IfSome, IfNone};
 ghost use Rattle.hub_tables.specs.Rows.{same};
-ghost use Rattle.edi_tokens.specs.Code as token_faults;
-ghost use Rattle.edi_tokens.specs.declared.fault.TokenFault.{TokenFault};
-ghost use Rattle.edi_envelope.specs.Fault as envelope_faults;
-ghost use Rattle.edi_envelope.specs.declared.fault.EnvelopeFault.{EnvelopeFault};
+ghost use Rattle.edi_envelope.specs.Opened.{code_text};
 ghost use Rattle.hub_law.specs.Opening.{interchange_in, addressed};
 ghost use Rattle.hub_core.specs.Opened as spec;
+ghost use Rattle.hub_core.specs.Opened.{told_as, HasCode, Sufficed};
 
 use edi_base::MemoryFault;
-use edi_envelope::{EnvelopeFault, Interchange, open};
-use edi_tokens::{TokenFault, Tokens, read_all};
+use edi_envelope::{EnvelopeFault, Interchange, OpenFault, open};
+use edi_tokens::{TokenFault, read_all};
 use gs1_ids::Gln;
 use std::alloc::{AllocError, Global};
 
-// The code of a fault of the text; there is none for want of memory.
-fn token_code(fault: TokenFault) -> Option<&'static str>
-    ensures some { IfSome result (λ code. (code.now ≡ token_faults.code_text fault) × (fault ≢ TokenFault.Memory)) }
+// The code of a fault; there is none for want of memory.
+fn refusal_code(fault: OpenFault) -> Option<&'static str>
+    ensures some { IfSome result (λ code. (code.now ≡ code_text fault) × HasCode fault) }
 {
-    if fault == TokenFault::Memory {
-        return None;
+    match fault {
+        OpenFault::Token(TokenFault::Memory) | OpenFault::Envelope(EnvelopeFault::Memory) => None,
+        _ => Some(fault.code()),
     }
-    Some(fault.code())
 }
 
-// The code of a fault of the envelope; there is none for want of memory.
-fn envelope_code(fault: EnvelopeFault) -> Option<&'static str>
-    ensures some { IfSome result (λ code. (code.now ≡ envelope_faults.code_text fault) × (fault ≢ EnvelopeFault.Memory)) }
+/// An upload that was opened, with the code of the fault that it has, where memory sufficed.
+pub(crate) fn judged(
+    upload: Result<Interchange, OpenFault>,
+) -> Result<Result<Interchange, &'static str>, MemoryFault>
+    ensures told { IfOk result (λ judged. spec.opened judged ≡ told_as upload) }
+    ensures sufficed { IfOk result (λ _. Sufficed upload) }
 {
-    if fault == EnvelopeFault::Memory {
-        return None;
+    match upload {
+        Ok(interchange) => Ok(Ok(interchange)),
+        Err(fault) => {
+            let code = refusal_code(fault).ok_or(AllocError)?;
+            Ok(Err(code))
+        }
     }
-    Some(fault.code())
 }
 
-/// The interchange that the bytes of an upload are, or the code of the first fault of their text, or else of their
-/// envelope.
+// The interchange that bytes are, or the first fault of their text, or else of their envelope.
+fn open_bytes(alloc: Global, bytes: &[u8]) -> Result<Interchange, OpenFault>
+    ensures { Sufficed result → interchange_in bytes.now ≡ told_as result }
+{
+    let tokens = read_all(alloc, bytes)?;
+    let interchange = open(alloc, tokens)?;
+    Ok(interchange)
+}
+
+/// The interchange that the bytes of an upload are, or the code of their fault.
 pub(crate) fn opened(
     alloc: Global,
     upload: &[u8],
 ) -> Result<Result<Interchange, &'static str>, MemoryFault>
     ensures { IfOk result (λ opened. interchange_in upload.now ≡ spec.opened opened) }
 {
-    let tokens = match read_all(alloc, upload) {
-        Ok(tokens) => tokens,
-        Err(fault) => {
-            let code = token_code(fault).ok_or(AllocError)?;
-            return Ok(Err(code));
-        }
-    };
-    match open(alloc, tokens) {
-        Ok(interchange) => Ok(Ok(interchange)),
-        Err(fault) => {
-            let code = envelope_code(fault).ok_or(AllocError)?;
-            Ok(Err(code))
-        }
-    }
+    judged(open_bytes(alloc, upload))
 }
 
 // Whether an identification is that of one of the recipients.

@@ -3,6 +3,7 @@ ghost use Rattle.std.specs.Prelude.{◌≡◌, Ok, Err};
 ghost use Rattle.std.specs.Option.{IfSome, IfNone};
 ghost use Rattle.hub_law.specs.Requests.{uploaded};
 ghost use Rattle.hub_law.specs.Stops.{opened_for};
+ghost use Rattle.hub_core.specs.Opened as spec;
 ghost use Rattle.hub_core.specs.Callers.{delivered, addressed_by, opening_of, acts_by, request_of, MayDeliver};
 ghost use Rattle.hub_core.specs.Steps.{Asked, acts_of};
 ghost use Rattle.hub_core.specs.declared.caller.Caller.TheVariants.{Retailer, Supplier};
@@ -40,23 +41,23 @@ fn address_fault_for(
     }
 }
 
-// Takes the messages of an upload.
-fn upload<S: Store>(
+/// Takes the messages of an upload that was opened, or tells the code of its fault.
+pub(crate) fn take_opened<S: Store>(
     alloc: Global,
     register: &Register,
     caller: Caller<'_>,
     store: &mut S,
     moment: Moment,
-    bytes: &[u8],
+    upload: Result<Interchange, &'static str>,
 ) -> Result<Reply, StoreFault>
     ensures asked { MayDeliver register.now caller.entry (S.content store.old) →
         Asked S.content S.honest S.left store.old store.new
-        (acts_of (opened_for (delivered register.now caller.entry) (opening_of register.now caller.entry bytes.now)))
+        (acts_of (opened_for (delivered register.now caller.entry) (addressed_by register.now caller.entry (spec.opened upload.entry))))
         (λ mark t. uploaded (delivered register.now caller.entry) moment mark
-        (opening_of register.now caller.entry bytes.now) t) result }
+        (addressed_by register.now caller.entry (spec.opened upload.entry)) t) result }
     ensures was_honest { S.honest store.new → S.honest store.old }
 {
-    let interchange = match opened(alloc, bytes)? {
+    let interchange = match upload {
         Ok(interchange) => interchange,
         Err(code) => return Ok(refused_upload(alloc, code)?),
     };
@@ -72,6 +73,26 @@ fn upload<S: Store>(
         interchange: &interchange,
     };
     Ok(take_messages(alloc, &upload, store, reply))
+}
+
+// Opens the bytes of an upload, and takes its messages.
+fn upload<S: Store>(
+    alloc: Global,
+    register: &Register,
+    caller: Caller<'_>,
+    store: &mut S,
+    moment: Moment,
+    bytes: &[u8],
+) -> Result<Reply, StoreFault>
+    ensures asked { MayDeliver register.now caller.entry (S.content store.old) →
+        Asked S.content S.honest S.left store.old store.new
+        (acts_of (opened_for (delivered register.now caller.entry) (opening_of register.now caller.entry bytes.now)))
+        (λ mark t. uploaded (delivered register.now caller.entry) moment mark
+        (opening_of register.now caller.entry bytes.now) t) result }
+    ensures was_honest { S.honest store.new → S.honest store.old }
+{
+    let interchange = opened(alloc, bytes)?;
+    take_opened(alloc, register, caller, store, moment, interchange)
 }
 
 // What a supplier asks.

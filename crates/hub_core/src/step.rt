@@ -1,20 +1,27 @@
 //! One request, and a run of them.
-ghost use Rattle.std.specs.Prelude.{◌≡◌, IfOk, OnErr, None};
+ghost use Rattle.std.specs.Prelude.{◌≡◌, ◌≢◌, ℕ, List, IfOk, OnErr, IsErr, None, Err};
 ghost use Rattle.std.specs.Option.{IfSome, IfNone};
+ghost use Rattle.edi_envelope.specs.Opened.{opened, Opens};
 ghost use Rattle.gs1_ids.specs.Overlap.{PrefixFree};
 ghost use Rattle.hub_parties.specs.Rows.{company_prefixes, role_of};
 ghost use Rattle.hub_rules.specs.Laws.{SoundHub};
 ghost use Rattle.hub_rules.specs.Sound.{Sound};
 ghost use Rattle.hub_law.specs.Machine.{shared_step};
+ghost use Rattle.hub_law.specs.Replies.{reply};
 ghost use Rattle.hub_law.specs.Stops.{upload_of};
+ghost use Rattle.hub_law.specs.declared.reply.Outcome.TheVariants.{Stopped};
+ghost use Rattle.hub_law.specs.declared.request.Request.TheVariants.{Upload};
 ghost use Rattle.hub_core.specs.Callers.{IsCaller};
+ghost use Rattle.hub_core.specs.Opened.{RanOut};
 ghost use Rattle.hub_core.specs.Steps.{Asked, Stepped, Ran, acts_of, input_of};
 
 use crate::caller::Caller;
+use crate::opening::judged;
 use crate::replies::denied_reply;
-use crate::requests::asked;
+use crate::requests::{asked, take_opened};
 use edi_base::{Items, MemoryFault, copied};
-use edi_envelope::Moment;
+use edi_envelope::{Interchange, Moment, OpenFault};
+use edi_tokens::TokenFault;
 use gs1_ids::Gln;
 use hub_law::{
     Input, Outcome, Reply, Request, each_line_balances, hub_stays_sound, run_is_own, step_is_own,
@@ -65,6 +72,54 @@ fn answer<S: Store>(
     }
 }
 
+// Answers an upload that was opened before, where memory and the store suffice.
+fn answer_opened<S: Store>(
+    alloc: Global,
+    register: &Register,
+    store: &mut S,
+    moment: Moment,
+    caller: &Gln,
+    key: &[u8],
+    upload: Result<Interchange, OpenFault>,
+) -> Result<Reply, StoreFault>
+    requires read { upload ≢ Err (OpenFault.Token TokenFault.Read) }
+    ensures asked { (bytes : List ℕ) → Opens upload (opened bytes) →
+        SoundHub register.now.suppliers (S.content store.old) →
+        Asked S.content S.honest S.left store.old store.new
+        (acts_of (upload_of register.now (input_of moment caller.now key.now (Upload bytes)))) (λ mark t.
+        shared_step register.now t (input_of moment caller.now key.now (Upload bytes)) mark) result }
+    ensures was_honest { S.honest store.new → S.honest store.old }
+    ensures ran_out { RanOut upload → IsErr result × (store.new ≡ store.old) }
+{
+    let upload = judged(upload)?;
+    match caller_of(register, caller, key) {
+        Some(caller) => take_opened(alloc, register, caller, store, moment, upload),
+        None => Ok(denied_reply(alloc)?),
+    }
+}
+
+// The reply to what was stopped before anything was done.
+fn stopped_with(body: Items<u8>) -> Reply
+    ensures { result ≡ reply Stopped body }
+{
+    Reply {
+        outcome: Outcome::Stopped,
+        refused: false,
+        body,
+    }
+}
+
+// The reply of what was answered; that it was stopped, where memory or the store gave out.
+fn replied(answered: Result<Reply, StoreFault>, stopped: Items<u8>) -> Reply
+    ensures ok { IfOk answered (λ reply. result ≡ reply) }
+    ensures err { OnErr answered (result ≡ reply Stopped stopped) }
+{
+    match answered {
+        Ok(reply) => reply,
+        Err(_) => stopped_with(stopped),
+    }
+}
+
 /// Answers a request over a store.
 pub(crate) fn step<S: Store>(
     alloc: Global,
@@ -87,20 +142,41 @@ pub(crate) fn step<S: Store>(
     each_line_balances();
     prefixes_are_free(register);
     let Ok(stopped) = copied(alloc, b"stopped\n") else {
-        return Reply {
-            outcome: Outcome::Stopped,
-            refused: false,
-            body: Items::new(alloc),
-        };
+        return stopped_with(Items::new(alloc));
     };
-    match answer(alloc, register, store, moment, caller, key, request) {
-        Ok(reply) => reply,
-        Err(_) => Reply {
-            outcome: Outcome::Stopped,
-            refused: false,
-            body: stopped,
-        },
-    }
+    let answered = answer(alloc, register, store, moment, caller, key, request);
+    replied(answered, stopped)
+}
+
+/// Answers an upload that was opened before, over a store.
+pub(crate) fn step_opened<S: Store>(
+    alloc: Global,
+    register: &Register,
+    store: &mut S,
+    moment: Moment,
+    caller: &Gln,
+    key: &[u8],
+    upload: Result<Interchange, OpenFault>,
+) -> Reply
+    requires read { upload ≢ Err (OpenFault.Token TokenFault.Read) }
+    ensures stepped { (bytes : List ℕ) → Opens upload (opened bytes) → S.honest store.new →
+        Sound register.now.suppliers (S.content store.old) →
+        Stepped register.now (S.content store.old) (S.content store.new) (S.left store.old) (S.left store.new)
+        (input_of moment caller.now key.now (Upload bytes)) result }
+    ensures was_honest { S.honest store.new → S.honest store.old }
+    ensures ran_out { RanOut upload → (result.outcome ≡ Stopped) × (store.new ≡ store.old) }
+{
+    step_is_own();
+    run_is_own();
+    hub_stays_sound();
+    stops_are_told();
+    each_line_balances();
+    prefixes_are_free(register);
+    let Ok(stopped) = copied(alloc, b"stopped\n") else {
+        return stopped_with(Items::new(alloc));
+    };
+    let answered = answer_opened(alloc, register, store, moment, caller, key, upload);
+    replied(answered, stopped)
 }
 
 /// Answers requests over a store, one after another.

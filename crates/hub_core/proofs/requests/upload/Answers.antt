@@ -1,23 +1,16 @@
-use Rattle.std.proofs.Common.{ap, ◌∙◌}
-use Rattle.hub_core.specs.Callers.{delivered, addressed_by, opening_of}
-use Rattle.hub_core.specs.Opened as spec
-use Rattle.hub_core.proofs.Asking.{upload_refused, upload_taken}
+use Rattle.std.proofs.Common.{sym, subst}
+use Rattle.hub_law.specs.Opening.{Opened}
+use Rattle.hub_law.specs.Requests.{uploaded}
+use Rattle.hub_law.specs.Stops.{opened_for}
+use Rattle.hub_core.specs.Callers.{delivered, addressed_by}
+use Rattle.hub_core.specs.Steps.{Asked, acts_of}
 use Rattle.hub_core.proofs.requests.upload.Goals as goal
-
-pub returns-in-Some-clause-asked : goal.returns-in-Some-clause-asked
-returns-in-Some-clause-asked g c may =
-    let register = c.args.register.now in
-    let opening = addressed_by register c.args.caller in
-    let is = ap opening (c.in_ok-interchange.ensures ∙ ap spec.opened c.in-Ok.is) ∙ c.in-Some.ensures.some in
-    upload_refused g.S.Store.content g.S.Store.honest g.S.Store.left (delivered register c.args.caller) c.args.moment
-    c.args.store.now (opening_of register c.args.caller c.args.bytes.now)
-    c.in-Some.code.now c.in_ok-refused_upload.field-0 is c.in_ok-refused_upload.ensures
 
 pub returns-clause-asked : goal.returns-clause-asked
 returns-clause-asked g c may =
     let register = c.args.register.now in
-    let opening = addressed_by register c.args.caller in
-    let is = ap opening (c.in_ok-interchange.ensures ∙ ap spec.opened c.in-Ok.is) ∙ c.in_default.ensures.none in
-    upload_taken g.S.Store.content g.S.Store.honest g.S.Store.left (delivered register c.args.caller) c.args.moment
-    c.args.store.now c.take_messages.new.store (opening_of register c.args.caller c.args.bytes.now)
-    c.in-Ok.interchange c.take_messages.result is (λ honest. c.take_messages.ensures.answered honest may)
+    let deliver = delivered register c.args.caller in
+    subst (λ (opened : Opened). Asked g.S.Store.content g.S.Store.honest g.S.Store.left c.args.store.now c.take_opened.new.store
+    (acts_of (opened_for deliver (addressed_by register c.args.caller opened)))
+    (λ mark t. uploaded deliver c.args.moment mark (addressed_by register c.args.caller opened) t) c.take_opened.result)
+    (sym c.in_ok-interchange.ensures) (c.take_opened.ensures.asked may)

@@ -1,0 +1,17 @@
+use Rattle.std.proofs.Common.{sym, ◌∙◌}
+use Rattle.hub_law.specs.declared.request.Request.TheVariants.{Upload}
+use Rattle.hub_core.specs.Opened as spec
+use Rattle.hub_core.specs.Steps.{input_of}
+use Rattle.hub_core.proofs.Callers.{asked_as, opened_asked}
+use Rattle.hub_core.proofs.Openings.{opened_before}
+use Rattle.hub_core.proofs.step.answer_opened.Goals as goal
+
+pub returns-in-Some-clause-asked : goal.returns-in-Some-clause-asked
+returns-in-Some-clause-asked g c bytes opens =
+    let register = c.args.register.now in
+    let is = opened_before bytes c.args.upload c.requires.read c.in_ok-upload.ensures.sufficed opens ∙ sym c.in_ok-upload.ensures.told in
+    asked_as register (input_of c.args.moment c.args.caller.now c.args.key.now (Upload bytes))
+    g.S.Store.content g.S.Store.honest g.S.Store.left c.args.store.now c.take_opened.new.store
+    c.in-Some.caller c.take_opened.result c.in-Some.ensures.some
+    (opened_asked g.S.Store.content g.S.Store.honest g.S.Store.left c.args.store.now c.take_opened.new.store register c.in-Some.caller
+    c.args.moment bytes (spec.opened c.in_ok-upload.upload) c.take_opened.result is c.take_opened.ensures.asked)
