@@ -22,7 +22,6 @@ use Rattle.std.proofs.KnownBytes.{Consumes-nil, Consumes-trans}
 use Rattle.edi_tokens.proofs.Runs.{run-append}
 use Rattle.edi_tokens.proofs.Pieces.{run_on, take_sum}
 use Rattle.edi_tokens.proofs.Lent.{came, run_lent, run_lent_fails}
-use Rattle.std.proofs.lemmas.Grind.{common_steps}
 
 within_limit : (tail : Tail) (known : Option (List ℕ)) (left : List ℕ) (room count : ℕ) → GoesOn tail known left room count
     → count ≤ text_limit

@@ -18,3 +18,4 @@ pub mod Segments
 pub mod Spelled
 pub mod Canonical
 pub mod Flat
+pub mod Appended

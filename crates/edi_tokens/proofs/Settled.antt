@@ -11,7 +11,7 @@ use Rattle.edi_tokens.specs.declared.fault.TokenFault.TheVariants.{TooLong}
 use Rattle.edi_tokens.specs.Characters.{is_line_end, is_capital, is_digit, is_data, is_special}
 use Rattle.edi_tokens.specs.Service.{service_of}
 use Rattle.edi_tokens.specs.Spelling.{segment_limit, text_limit}
-use Rattle.edi_tokens.specs.Reading.{Reading, Place, Outside, InService, InTag, InData, Released, Open, adopt, start, step, step_at, step_data, step_released}
+use Rattle.edi_tokens.specs.Reading.{Reading, Place, Outside, InService, InTag, InData, Released, Open, adopt, start, step, step_at, step_data}
 use Rattle.edi_tokens.specs.Reading.{run, finish, finish_at, tokens_of, ◌>>=◌}
 use Rattle.edi_tokens.specs.Machine.{reading_of}
 use Rattle.edi_tokens.specs.Lender.{Fed}

@@ -15,3 +15,4 @@ pub mod Piece
 pub mod Lender
 pub mod Feeder
 pub mod SegmentRef
+pub mod Appending

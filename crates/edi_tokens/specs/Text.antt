@@ -1,6 +1,6 @@
 -- The canonical text of segments (ISO 9735, character sets and structures): the usual service characters `:` `+` `?`
 -- `'`, a release character before each of them in data and nowhere else, no line ends.
-use Rattle.std.specs.Prelude.{ℕ, Bool, ◌==◌, ◌||◌, List, [], ◌∷◌, ◌++◌, if◌then◌else◌}
+use Rattle.std.specs.Prelude.{ℕ, Bool, ◌==◌, ◌||◌, List, [], ◌∷◌, ◌++◌, drop, if◌then◌else◌}
 use Rattle.std.specs.List.{flat_map}
 use Rattle.edi_tokens.specs.declared.segment.Segment.{Segment}
 use Rattle.edi_tokens.specs.Service.{usual_component, usual_element, usual_release, usual_terminator, una_tag}
@@ -20,6 +20,10 @@ abbrev pub components_text : List (List ℕ) → List ℕ
 components_text [] = []
 components_text (first ∷ others) =
     component_text first ++ flat_map (λ component. usual_component ∷ component_text component) others
+
+-- the components after the first, a `:` before each
+abbrev pub others_text : List (List ℕ) → List ℕ
+others_text components = flat_map (λ component. usual_component ∷ component_text component) (drop 1 components)
 
 -- `+`, and the components
 abbrev pub element_text : List (List ℕ) → List ℕ

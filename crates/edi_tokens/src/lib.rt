@@ -1,6 +1,7 @@
 //! Segments from the text of an interchange, and the text of segments (ISO 9735, syntax version 3).
 #![tactic(auto)]
 
+mod appending;
 mod characters;
 mod fault;
 mod feeder;
@@ -15,6 +16,7 @@ mod segment_ref;
 mod service;
 mod text;
 
+pub use appending::{append_segment, append_segment_with};
 pub use edi_base::{
     Items, MemoryFault, OfRead, OfWrite, ReadFault, Sink, Source, WriteFault, read_to_limit,
     write_bytes,

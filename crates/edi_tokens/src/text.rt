@@ -19,7 +19,7 @@ fn is_usual(byte: u8) -> bool
 }
 
 /// How many bytes at the front stand for themselves.
-fn plain_len(bytes: &[u8]) -> usize
+pub(crate) fn plain_len(bytes: &[u8]) -> usize
     ensures within { result ≤ length bytes.now }
     ensures plain { component_text (take result bytes.now) ≡ take result bytes.now }
     ensures stop { result < length bytes.now → is_usual (slice_index bytes.now result) ≡ true }

@@ -1,0 +1,108 @@
+//! The text of a segment that is lent, appended to what was written (ISO 9735, character sets and structures).
+
+ghost use Rattle.std.specs.Prelude.{◌≡◌, ◌∷◌, ◌++◌, OnOk};
+ghost use Rattle.edi_tokens.specs.Segment.{element_at};
+ghost use Rattle.edi_tokens.specs.SegmentRef.{segment_in};
+ghost use Rattle.edi_tokens.specs.Text.{component_text, element_text, others_text, segment_text};
+ghost use Rattle.edi_tokens.specs.Appending.{with_first, with_component};
+
+use crate::segment_ref::SegmentRef;
+use crate::service::{COMPONENT, ELEMENT, RELEASE, TERMINATOR};
+use crate::text::plain_len;
+use edi_base::MemoryFault;
+
+fn append_component(out: &mut Vec<u8>, component: &[u8]) -> Result<(), MemoryFault>
+    ensures { OnOk result (out.new.items ≡ out.old.items ++ component_text component.now) }
+{
+    let mut rest = component;
+    loop {
+        let (plain, after) = rest.split_at(plain_len(rest));
+        out.extend_from_slice(plain)?;
+        let Some((byte, after)) = after.split_first() else {
+            return Ok(());
+        };
+        out.push(RELEASE)?;
+        out.push(*byte)?;
+        rest = after;
+    }
+}
+
+/// Appends the components of an element after the first.
+fn append_others(
+    out: &mut Vec<u8>,
+    segment: &SegmentRef<'_>,
+    element: usize,
+) -> Result<(), MemoryFault>
+    ensures { OnOk result (out.new.items ≡ out.old.items ++ others_text (element_at (segment_in segment.now).elements element)) }
+{
+    for place in 1..segment.components(element) {
+        out.push(COMPONENT)?;
+        append_component(out, segment.component(element, place))?;
+    }
+    Ok(())
+}
+
+fn append_element(
+    out: &mut Vec<u8>,
+    segment: &SegmentRef<'_>,
+    element: usize,
+) -> Result<(), MemoryFault>
+    ensures { OnOk result (out.new.items ≡ out.old.items ++ element_text (element_at (segment_in segment.now).elements element)) }
+{
+    out.push(ELEMENT)?;
+    append_component(out, segment.component(element, 0))?;
+    append_others(out, segment, element)
+}
+
+/// Appends an element with another first component, where it has one.
+fn append_element_with(
+    out: &mut Vec<u8>,
+    segment: &SegmentRef<'_>,
+    element: usize,
+    first: &[u8],
+) -> Result<(), MemoryFault>
+    ensures { OnOk result (out.new.items ≡ out.old.items
+        ++ element_text (with_first (element_at (segment_in segment.now).elements element) first.now)) }
+{
+    out.push(ELEMENT)?;
+    if segment.components(element) == 0 {
+        return Ok(());
+    }
+    append_component(out, first)?;
+    append_others(out, segment, element)
+}
+
+/// Appends the canonical text of a segment.
+pub fn append_segment(out: &mut Vec<u8>, segment: &SegmentRef<'_>) -> Result<(), MemoryFault>
+    ensures { OnOk result (out.new.items ≡ out.old.items ++ segment_text (segment_in segment.now)) }
+{
+    out.extend_from_slice(&segment.tag())?;
+    for element in 0..segment.elements() {
+        append_element(out, segment, element)?;
+    }
+    out.push(TERMINATOR)?;
+    Ok(())
+}
+
+/// Appends the canonical text of a segment, with another first component of the element with this number, counted from 0.
+/// Where there is no such component, it stays as it is.
+pub fn append_segment_with(
+    out: &mut Vec<u8>,
+    segment: &SegmentRef<'_>,
+    place: usize,
+    first: &[u8],
+) -> Result<(), MemoryFault>
+    ensures { OnOk result (out.new.items ≡ out.old.items
+        ++ segment_text (with_component (segment_in segment.now) place first.now)) }
+{
+    out.extend_from_slice(&segment.tag())?;
+    for element in 0..segment.elements() {
+        if element == place {
+            append_element_with(out, segment, element, first)?;
+        } else {
+            append_element(out, segment, element)?;
+        }
+    }
+    out.push(TERMINATOR)?;
+    Ok(())
+}
