@@ -1,5 +1,5 @@
 -- An import up to some file.
-use Rattle.std.proofs.Common.{◌≡◌, ℕ, Bool, List, [], ◌∷◌, ◌++◌, Option, Some, None, Result, Ok, Err, refl, sym, ap, ◌∙◌}
+use Rattle.std.proofs.Common.{◌≡◌, ◌≢◌, ◌⊎◌, ℕ, Bool, List, [], ◌∷◌, ◌++◌, Option, Some, None, Result, Ok, Err, refl, sym, ap, ◌∙◌}
 use Rattle.std.proofs.Common.{subst, inl, inr}
 use Rattle.std.specs.Prelude.{IfSome, max, fold}
 use Rattle.std.specs.List.{AllByRecursion}
@@ -9,8 +9,11 @@ use Rattle.std.proofs.lemmas.Grind.{flat_map-append}
 use Rattle.std.proofs.lemmas.List.{append-nil}
 use Rattle.hub_law.specs.declared.reply.Reply.{Reply}
 use Rattle.hub_law.specs.declared.request.Input.{Input}
-use Rattle.hub_commands.specs.Files.{GivenAs, Gives}
-use Rattle.hub_commands.specs.Import.{Looked, Answered, Unread, NoMemory, Unprinted, Of, Takes, GoesOn, Ends, Whole, Early, Imported}
+use Rattle.edi_base.specs.declared.source.ReadFault.{ReadFault}
+use Rattle.edi_base.specs.declared.source.ReadFault.TheVariants.{Read, Memory}
+use Rattle.hub_commands.specs.Files.{Gave, FaultComesOf, GivenAs, Gives}
+use Rattle.hub_commands.specs.Import.{Looked, Answered, Unread, NoMemory, Unprinted, Of, Takes, Known, GoesOn, Ends, Whole, Early}
+use Rattle.hub_commands.specs.Import.{Imported}
 use Rattle.hub_commands.specs.Import.{uploads, replies, import_text, greatest, line_of, text_of, file_status}
 use Rattle.hub_commands.specs.Import as looked_at
 use Rattle.hub_commands.specs.Output.{Written}
@@ -19,16 +22,18 @@ use Rattle.hub_commands.specs.declared.files.NextFile.TheVariants.{Named, Unname
 use Rattle.hub_commands.proofs.Output.{written_then, written_as}
 
 -- the known files are those that were looked at, and those that still come
-pub record Taken (known rest : Option (List NextFile)) (looked : List Looked) : Type 0 where
-  pub others : List NextFile
-  pub taken : IfSome known (λ files. Takes files looked others × (rest ≡ Some others))
+pub record Taken {B : Type 0} (remaining : B → Option (List ℕ)) (broken : B → Bool) (known rest : Option (List (NextFile B)))
+    (looked : List Looked) : Type 0 where
+  pub others : List (NextFile B)
+  pub taken : IfSome known (λ files. Takes remaining broken files looked others × (rest ≡ Some others))
 
 -- the import goes on after all files that were looked at
-pub record SoFar (Runs : List Input → List Reply → Type 0) (asked : List ℕ → Input) (known rest : Option (List NextFile))
-    (old new : Option (List ℕ)) (failed after : Bool) (status : ℕ) : Type 0 where
+pub record SoFar {B : Type 0} (remaining : B → Option (List ℕ)) (broken : B → Bool) (Runs : List Input → List Reply → Type 0)
+    (asked : List ℕ → Input) (known rest : Option (List (NextFile B))) (old new : Option (List ℕ)) (failed after : Bool)
+    (status : ℕ) : Type 0 where
   pub looked : List Looked
-  pub files : Taken known rest looked
-  pub ran : Runs (uploads asked looked) (replies looked)
+  pub files : Taken remaining broken known rest looked
+  pub ran : AllByRecursion (Known remaining) looked → Runs (uploads asked looked) (replies looked)
   pub go_on : AllByRecursion GoesOn looked
   pub written : Written old new failed after (import_text looked)
   pub status_is : status ≡ greatest looked
@@ -50,148 +55,159 @@ greatest_more : (status : ℕ) (looked : List Looked) (one : Looked)
 greatest_more status [] one = refl
 greatest_more status (first ∷ looked) one = greatest_more (max status (file_status first)) looked one
 
-takes_more : (files : List NextFile) (looked : List Looked) (file : NextFile) (one : Looked) (others : List NextFile)
-    → Takes files looked (file ∷ others)
-    → Of file one
-    → Takes files (looked ++ one ∷ []) others
-takes_more files [] file one others takes is =
-    subst (λ (fs : List NextFile). Takes fs (one ∷ []) others) (sym takes) (is, refl)
-takes_more [] (first ∷ looked) file one others takes is = absurd takes
-takes_more (f ∷ files) (first ∷ looked) file one others takes is = (takes.0, takes_more files looked file one others takes.1 is)
+-- facts of variants
+ok_not_err : {X E : Type 0} (r : Result X E) (x : X) (fault : E) → r ≡ Ok x → r ≡ Err fault → ⊥
+ok_not_err (Ok y) x fault is not = absurd cc
+ok_not_err (Err e) x fault is not = absurd cc
 
--- what comes of a file as it is given, may come of the file
-given_is : (file given : NextFile) (one : Looked) → GivenAs file given → Of given one → Of file one
-given_is (Named file) (Named given) (Answered name bytes reply) like is = (
-  sym like.0 ∙ is.0,
-  elim like.1 [
-    | inl e ↦ absurd cc
-    | inr e ↦ sym e ∙ is.1
-  ],
-)
-given_is (Named file) (Named given) (Unread name) like is = (
-  sym like.0 ∙ is.0,
-  elim like.1 [
-    | inl e ↦ absurd cc
-    | inr e ↦ sym e ∙ is.1
-  ],
-)
-given_is (Named file) (Named given) looked_at.Unnamed like is = absurd cc
-given_is (Named file) (Named given) (NoMemory None) like is = tt
-given_is (Named file) (Named given) (NoMemory (Some name)) like is = sym like.0 ∙ is
-given_is (Named file) (Named given) (Unprinted name) like is = sym like.0 ∙ is
-given_is Unnamed Unnamed one like is = is
-given_is (Named file) Unnamed one like is = absurd like
-given_is Unnamed (Named given) one like is = absurd like
+read_not_memory : Read ≢ Memory
+read_not_memory e = absurd cc
 
--- what is given: none, a file, or want of memory
-pub gives_none : {E : Type 0} (known rest : Option (List NextFile)) (r : Result (Option NextFile) E) (o : Option NextFile)
-    → Gives known rest r → r ≡ Ok o → o ≡ None → IfSome known (λ files. files ≡ [])
-gives_none {E} known rest r o gives is none =
-    subst (λ (r : Result (Option NextFile) E). Gives known rest r) (is ∙ ap (λ (o : Option NextFile). Ok o) none) gives
+module _ {B : Type 0} (remaining : B → Option (List ℕ)) (broken : B → Bool) where
+  takes_more : (files : List (NextFile B)) (looked : List Looked) (file : NextFile B) (one : Looked) (others : List (NextFile B))
+      → Takes remaining broken files looked (file ∷ others)
+      → Of remaining broken file one
+      → Takes remaining broken files (looked ++ one ∷ []) others
+  takes_more files [] file one others takes is =
+      subst (λ (fs : List (NextFile B)). Takes remaining broken fs (one ∷ []) others) (sym takes) (is, refl)
+  takes_more [] (first ∷ looked) file one others takes is = absurd takes
+  takes_more (f ∷ files) (first ∷ looked) file one others takes is = (takes.0, takes_more files looked file one others takes.1 is)
 
-pub gives_file : {E : Type 0} (known rest : Option (List NextFile)) (r : Result (Option NextFile) E) (o : Option NextFile)
-    (given : NextFile)
-    → Gives known rest r → r ≡ Ok o → o ≡ Some given
-    → IfSome known (λ files. (file : NextFile) × (others : List NextFile) × (files ≡ file ∷ others) × (rest ≡ Some others)
-    × GivenAs file given)
-gives_file {E} known rest r o given gives is some =
-    subst (λ (r : Result (Option NextFile) E). Gives known rest r) (is ∙ ap (λ (o : Option NextFile). Ok o) some) gives
+  -- what comes of a file as it is given, may come of the file
+  source_is : {source given : Result B ReadFault} (bytes : Option (List ℕ)) → (given ≡ Err Memory) ⊎ (given ≡ source)
+      → Gave remaining given bytes
+      → Gave remaining source bytes
+  source_is {source} {given} bytes (inl e) gave = absurd (ok_not_err given gave.0 Memory gave.1 e)
+  source_is {source} {given} bytes (inr e) gave = subst (λ (s : Result B ReadFault). Gave remaining s bytes) e gave
 
-pub gives_fault : {E : Type 0} (known rest : Option (List NextFile)) (r : Result (Option NextFile) E) (fault : E)
-    → Gives known rest r → r ≡ Err fault
-    → IfSome known (λ files. (file : NextFile) × (others : List NextFile) × (files ≡ file ∷ others))
-gives_fault {E} known rest r fault gives is = (subst (λ (r : Result (Option NextFile) E). Gives known rest r) is gives).1
+  unread_is : {source given : Result B ReadFault} → (given ≡ Err Memory) ⊎ (given ≡ source) → FaultComesOf broken given Read
+      → FaultComesOf broken source Read
+  unread_is (inl e) comes = absurd (read_not_memory (subst (λ (s : Result B ReadFault). FaultComesOf broken s Read) e comes))
+  unread_is (inr e) comes = subst (λ (s : Result B ReadFault). FaultComesOf broken s Read) e comes
 
--- the first of the files that still come is looked at
-pub taken_more : (known rest later : Option (List NextFile)) (looked : List Looked) (given : NextFile) (one : Looked)
-    → Taken known rest looked
-    → IfSome rest (λ files. (file : NextFile) × (others : List NextFile) × (files ≡ file ∷ others) × (later ≡ Some others)
-    × GivenAs file given)
-    → Of given one
-    → Taken known later (looked ++ one ∷ [])
-taken_more None rest later looked given one t gives is = record { others = []; taken = tt }
-taken_more (Some files) None later looked given one t gives is = absurd cc
-taken_more (Some files) (Some rest) later looked given one t gives is = record {
-  others = gives.1;
-  taken = (
-    takes_more files looked gives.0 one gives.1
-        (subst (λ (fs : List NextFile). Takes files looked fs)
-        (sym (ap (λ (r : Option (List NextFile)). unwrap_or r rest) t.taken.1) ∙ gives.2) t.taken.0)
-        (given_is gives.0 given one gives.4 is),
-    gives.3,
-  );
-}
+  given_is : (file given : NextFile B) (one : Looked) → GivenAs file given → Of remaining broken given one → Of remaining broken file one
+  given_is (Named file) (Named given) (Answered name bytes reply) like is = (sym like.0 ∙ is.0, source_is bytes like.1 is.1)
+  given_is (Named file) (Named given) (Unread name) like is = (sym like.0 ∙ is.0, unread_is like.1 is.1)
+  given_is (Named file) (Named given) looked_at.Unnamed like is = absurd cc
+  given_is (Named file) (Named given) (NoMemory None) like is = tt
+  given_is (Named file) (Named given) (NoMemory (Some name)) like is = sym like.0 ∙ is
+  given_is (Named file) (Named given) (Unprinted name) like is = sym like.0 ∙ is
+  given_is Unnamed Unnamed one like is = is
+  given_is (Named file) Unnamed one like is = absurd like
+  given_is Unnamed (Named given) one like is = absurd like
 
--- memory gives out before the name of the next file is known
-pub taken_no_memory : (known rest : Option (List NextFile)) (looked : List Looked)
-    → Taken known rest looked
-    → IfSome rest (λ files. (file : NextFile) × (others : List NextFile) × (files ≡ file ∷ others))
-    → (others : List NextFile) × IfSome known (λ files. Takes files (looked ++ NoMemory None ∷ []) others)
-taken_no_memory None rest looked t gives = ([], tt)
-taken_no_memory (Some files) None looked t gives = absurd cc
-taken_no_memory (Some files) (Some rest) looked t gives = (
-  gives.1,
-  takes_more files looked gives.0 (NoMemory None) gives.1
-      (subst (λ (fs : List NextFile). Takes files looked fs)
-      (sym (ap (λ (r : Option (List NextFile)). unwrap_or r rest) t.taken.1) ∙ gives.2) t.taken.0)
-      tt,
-)
+  -- what is given: none, a file, or want of memory
+  pub gives_none : {E : Type 0} (known rest : Option (List (NextFile B))) (r : Result (Option (NextFile B)) E) (o : Option (NextFile B))
+      → Gives known rest r → r ≡ Ok o → o ≡ None → IfSome known (λ files. files ≡ [])
+  gives_none {E} known rest r o gives is none =
+      subst (λ (r : Result (Option (NextFile B)) E). Gives known rest r) (is ∙ ap (λ (o : Option (NextFile B)). Ok o) none) gives
 
-pub taken_known : (known rest : Option (List NextFile)) (looked : List Looked) (t : Taken known rest looked)
-    → IfSome known (λ files. Takes files looked t.others)
-taken_known None rest looked t = tt
-taken_known (Some files) rest looked t = t.taken.0
+  pub gives_file : {E : Type 0} (known rest : Option (List (NextFile B))) (r : Result (Option (NextFile B)) E) (o : Option (NextFile B))
+      (given : NextFile B)
+      → Gives known rest r → r ≡ Ok o → o ≡ Some given
+      → IfSome known (λ files. (file : NextFile B) × (others : List (NextFile B)) × (files ≡ file ∷ others) × (rest ≡ Some others)
+      × GivenAs file given)
+  gives_file {E} known rest r o given gives is some =
+      subst (λ (r : Result (Option (NextFile B)) E). Gives known rest r) (is ∙ ap (λ (o : Option (NextFile B)). Ok o) some) gives
 
-none_left : (known rest : Option (List NextFile)) (looked : List Looked)
-    → Taken known rest looked
-    → IfSome rest (λ files. files ≡ [])
-    → IfSome known (λ files. Takes files looked [])
-none_left None rest looked t none = tt
-none_left (Some files) None looked t none = absurd cc
-none_left (Some files) (Some rest) looked t none =
-    subst (λ (fs : List NextFile). Takes files looked fs)
-    (sym (ap (λ (r : Option (List NextFile)). unwrap_or r rest) t.taken.1) ∙ none) t.taken.0
+  pub gives_fault : {E : Type 0} (known rest : Option (List (NextFile B))) (r : Result (Option (NextFile B)) E) (fault : E)
+      → Gives known rest r → r ≡ Err fault
+      → IfSome known (λ files. (file : NextFile B) × (others : List (NextFile B)) × (files ≡ file ∷ others))
+  gives_fault {E} known rest r fault gives is = (subst (λ (r : Result (Option (NextFile B)) E). Gives known rest r) is gives).1
 
-taken_none : (known : Option (List NextFile)) → Taken known known []
-taken_none None = record { others = []; taken = tt }
-taken_none (Some files) = record { others = files; taken = (refl, refl) }
+  -- the first of the files that still come is looked at
+  pub taken_more : (known rest later : Option (List (NextFile B))) (looked : List Looked) (given : NextFile B) (one : Looked)
+      → Taken remaining broken known rest looked
+      → IfSome rest (λ files. (file : NextFile B) × (others : List (NextFile B)) × (files ≡ file ∷ others) × (later ≡ Some others)
+      × GivenAs file given)
+      → Of remaining broken given one
+      → Taken remaining broken known later (looked ++ one ∷ [])
+  taken_more None rest later looked given one t gives is = record { others = []; taken = tt }
+  taken_more (Some files) None later looked given one t gives is = absurd cc
+  taken_more (Some files) (Some rest) later looked given one t gives is = record {
+    others = gives.1;
+    taken = (
+      takes_more files looked gives.0 one gives.1
+          (subst (λ (fs : List (NextFile B)). Takes remaining broken files looked fs)
+          (sym (ap (λ (r : Option (List (NextFile B))). unwrap_or r rest) t.taken.1) ∙ gives.2) t.taken.0)
+          (given_is gives.0 given one gives.4 is),
+      gives.3,
+    );
+  }
 
-module _ (asked : List ℕ → Input) (known : Option (List NextFile)) (old : Option (List ℕ)) (failed : Bool) where
+  -- memory gives out before the name of the next file is known
+  pub taken_no_memory : (known rest : Option (List (NextFile B))) (looked : List Looked)
+      → Taken remaining broken known rest looked
+      → IfSome rest (λ files. (file : NextFile B) × (others : List (NextFile B)) × (files ≡ file ∷ others))
+      → (others : List (NextFile B)) × IfSome known (λ files. Takes remaining broken files (looked ++ NoMemory None ∷ []) others)
+  taken_no_memory None rest looked t gives = ([], tt)
+  taken_no_memory (Some files) None looked t gives = absurd cc
+  taken_no_memory (Some files) (Some rest) looked t gives = (
+    gives.1,
+    takes_more files looked gives.0 (NoMemory None) gives.1
+        (subst (λ (fs : List (NextFile B)). Takes remaining broken files looked fs)
+        (sym (ap (λ (r : Option (List (NextFile B))). unwrap_or r rest) t.taken.1) ∙ gives.2) t.taken.0)
+        tt,
+  )
+
+  pub taken_known : (known rest : Option (List (NextFile B))) (looked : List Looked) (t : Taken remaining broken known rest looked)
+      → IfSome known (λ files. Takes remaining broken files looked t.others)
+  taken_known None rest looked t = tt
+  taken_known (Some files) rest looked t = t.taken.0
+
+  none_left : (known rest : Option (List (NextFile B))) (looked : List Looked)
+      → Taken remaining broken known rest looked
+      → IfSome rest (λ files. files ≡ [])
+      → IfSome known (λ files. Takes remaining broken files looked [])
+  none_left None rest looked t none = tt
+  none_left (Some files) None looked t none = absurd cc
+  none_left (Some files) (Some rest) looked t none =
+      subst (λ (fs : List (NextFile B)). Takes remaining broken files looked fs)
+      (sym (ap (λ (r : Option (List (NextFile B))). unwrap_or r rest) t.taken.1) ∙ none) t.taken.0
+
+  taken_none : (known : Option (List (NextFile B))) → Taken remaining broken known known []
+  taken_none None = record { others = []; taken = tt }
+  taken_none (Some files) = record { others = files; taken = (refl, refl) }
+
+module _ {B : Type 0} (remaining : B → Option (List ℕ)) (broken : B → Bool) (asked : List ℕ → Input)
+    (known : Option (List (NextFile B))) (old : Option (List ℕ)) (failed : Bool) where
   -- no file was looked at
-  pub so_far_none : (Runs : List Input → List Reply → Type 0) → Runs [] [] → SoFar Runs asked known known old old failed failed 0
+  pub so_far_none : (Runs : List Input → List Reply → Type 0) → Runs [] []
+      → SoFar remaining broken Runs asked known known old old failed failed 0
   so_far_none Runs ran = record {
     looked = [];
-    files = taken_none known;
-    ran = ran;
+    files = taken_none remaining broken known;
+    ran = λ known. ran;
     go_on = tt;
     written = record { bytes = Appends-nil old; flag = refl };
     status_is = refl;
   }
 
   -- all known files were looked at
-  pub whole : (Runs : List Input → List Reply → Type 0) (rest : Option (List NextFile)) (new : Option (List ℕ)) (after : Bool)
+  pub whole : (Runs : List Input → List Reply → Type 0) (rest : Option (List (NextFile B))) (new : Option (List ℕ)) (after : Bool)
       (status : ℕ)
-      → SoFar Runs asked known rest old new failed after status
+      → SoFar remaining broken Runs asked known rest old new failed after status
       → IfSome rest (λ files. files ≡ [])
-      → Imported Runs asked known old new failed after status
+      → Imported remaining broken Runs asked known old new failed after status
   whole Runs rest new after status s none = record {
     looked = s.looked;
     rest = [];
-    taken = none_left known rest s.looked s.files none;
+    taken = none_left remaining broken known rest s.looked s.files none;
     ran = s.ran;
     ended = inl (record { none_left = refl; go_on = s.go_on; written = s.written; status_is = s.status_is });
   }
 
   -- and then one file more, over a sink and with a status
-  module _ (Runs After : List Input → List Reply → Type 0) (rest later : Option (List NextFile)) (between new : Option (List ℕ))
-      (middle after : Bool) (status : ℕ) (s : SoFar Runs asked known rest old between failed middle status) (one : Looked)
-      (ran : After (uploads asked (s.looked ++ one ∷ [])) (replies (s.looked ++ one ∷ []))) where
-    pub so_far_more : Taken known later (s.looked ++ one ∷ [])
+  module _ (Runs After : List Input → List Reply → Type 0) (rest later : Option (List (NextFile B))) (between new : Option (List ℕ))
+      (middle after : Bool) (status : ℕ) (s : SoFar remaining broken Runs asked known rest old between failed middle status) (one : Looked)
+      (ran : AllByRecursion (Known remaining) (s.looked ++ one ∷ [])
+      → After (uploads asked (s.looked ++ one ∷ [])) (replies (s.looked ++ one ∷ []))) where
+    pub so_far_more : Taken remaining broken known later (s.looked ++ one ∷ [])
         → GoesOn one
         → Written between new middle after (text_of one)
         → (next given : ℕ) → next ≡ max status given
         → given ≡ file_status one
-        → SoFar After asked known later old new failed after next
+        → SoFar remaining broken After asked known later old new failed after next
     so_far_more files goes written next given is given_is = record {
       looked = s.looked ++ one ∷ [];
       files = files;
@@ -213,9 +229,9 @@ module _ (asked : List ℕ → Input) (known : Option (List NextFile)) (old : Op
       lost = broken.lost;
     })
 
-    pub early : (others : List NextFile) → IfSome known (λ files. Takes files (s.looked ++ one ∷ []) others)
+    pub early : (others : List (NextFile B)) → IfSome known (λ files. Takes remaining broken files (s.looked ++ one ∷ []) others)
         → Ends between new middle after [] one
-        → Imported After asked known old new failed after 3
+        → Imported remaining broken After asked known old new failed after 3
     early others files ends = record {
       looked = s.looked ++ one ∷ [];
       rest = others;

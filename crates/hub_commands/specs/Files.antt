@@ -1,42 +1,68 @@
--- Files that come one after another.
-use Rattle.std.specs.Prelude.{◌≡◌, ◌⊎◌, ⊤, ℕ, ◌<◌, List, [], ◌∷◌, string_bytes, Option, Some, None, Result, Ok, Err}
-use Rattle.std.specs.Prelude.{IfSome}
+-- Files that come one after another, and what is read of one.
+use Rattle.std.specs.Prelude.{◌≡◌, ◌⊎◌, ⊤, ℕ, Bool, true, ◌<◌, List, [], ◌∷◌, string_bytes, Option, Some, None}
+use Rattle.std.specs.Prelude.{Result, Ok, Err, IfSome}
 use Rattle.edi_base.specs.declared.source.ReadFault.{ReadFault}
-use Rattle.edi_base.specs.declared.source.ReadFault.TheVariants.{Memory}
+use Rattle.edi_base.specs.declared.source.ReadFault.TheVariants.{Read, Memory}
+use Rattle.edi_envelope.specs.Opened.{opened, Opens}
+use Rattle.edi_envelope.specs.declared.fault.OpenFault.{OpenFault}
+use Rattle.edi_envelope.specs.declared.interchange.Interchange.{Interchange}
 use Rattle.hub_commands.specs.declared.files.NextFile.{NextFile}
 use Rattle.hub_commands.specs.declared.files.NextFile.TheVariants.{Named, Unnamed}
 
+-- there is a source, and this is known of the bytes that it will give
+abbrev pub Gave : {B : Type 0} → (B → Option (List ℕ)) → Result B ReadFault → Option (List ℕ) → Type 0
+Gave {B} remaining source bytes = (from : B) × (source ≡ Ok from) × (remaining from ≡ bytes)
+
+-- why the bytes of a source are not known: it could not be opened, a read of it failed, or memory gave out
+abbrev pub FaultComesOf : {B : Type 0} → (B → Bool) → Result B ReadFault → ReadFault → Type 0
+FaultComesOf failed (Err why) fault = fault ≡ why
+FaultComesOf {B} failed (Ok source) Read = (later : B) × (failed later ≡ true)
+FaultComesOf failed (Ok source) Memory = ⊤
+
+-- what an upload is opened as whose bytes are read from a source
+abbrev pub OpensSource : {B : Type 0} → (B → Option (List ℕ)) → Result B ReadFault → Result Interchange OpenFault
+    → Type 0
+OpensSource remaining (Ok source) upload = IfSome (remaining source) (λ bytes. Opens upload (opened bytes))
+OpensSource remaining (Err fault) upload = ⊥
+
 -- the file has this name
-abbrev pub IsCalled : NextFile → List ℕ → Type 0
+abbrev pub IsCalled : {B : Type 0} → NextFile B → List ℕ → Type 0
 IsCalled (Named file) name = string_bytes file.name ≡ name
 IsCalled Unnamed name = ⊥
 
--- the file has this name, and these are its bytes, or this is why they are not known
-abbrev pub IsFile : NextFile → List ℕ → Result (List ℕ) ReadFault → Type 0
-IsFile (Named file) name bytes = (string_bytes file.name ≡ name) × (file.bytes ≡ bytes)
-IsFile Unnamed name bytes = ⊥
+-- the file has this name, and a source of which this is known
+abbrev pub IsRead : {B : Type 0} → (B → Option (List ℕ)) → NextFile B → List ℕ → Option (List ℕ) → Type 0
+IsRead remaining (Named file) name bytes = (string_bytes file.name ≡ name) × Gave remaining file.source bytes
+IsRead remaining Unnamed name bytes = ⊥
 
--- a file is given as it is; its bytes are not where memory gives out for them
-abbrev pub GivenAs : NextFile → NextFile → Type 0
+-- the file has this name, and could not be opened, or a read of its source failed
+abbrev pub IsUnread : {B : Type 0} → (B → Bool) → NextFile B → List ℕ → Type 0
+IsUnread failed (Named file) name = (string_bytes file.name ≡ name) × FaultComesOf failed file.source Read
+IsUnread failed Unnamed name = ⊥
+
+-- a file is given as it is; its source is not where memory gives out for it
+abbrev pub GivenAs : {B : Type 0} → NextFile B → NextFile B → Type 0
 GivenAs (Named file) (Named given) =
     (string_bytes given.name ≡ string_bytes file.name)
-    × ((given.bytes ≡ Err Memory) ⊎ (given.bytes ≡ file.bytes))
+    × ((given.source ≡ Err Memory) ⊎ (given.source ≡ file.source))
 GivenAs Unnamed Unnamed = ⊤
 GivenAs (Named file) Unnamed = ⊥
 GivenAs Unnamed (Named given) = ⊥
 
 -- What is given of files that still come, where these are known: the first of them, or none at their end. Where memory
 -- gives out before a name is known, there is such a file, and it still comes.
-abbrev pub Gives : {E : Type 0} → Option (List NextFile) → Option (List NextFile) → Result (Option NextFile) E → Type 0
-Gives known rest (Ok (Some given)) =
-    IfSome known (λ files. (file : NextFile) × (others : List NextFile) × (files ≡ file ∷ others)
+abbrev pub Gives : {B E : Type 0} → Option (List (NextFile B)) → Option (List (NextFile B))
+    → Result (Option (NextFile B)) E → Type 0
+Gives {B} known rest (Ok (Some given)) =
+    IfSome known (λ files. (file : NextFile B) × (others : List (NextFile B)) × (files ≡ file ∷ others)
     × (rest ≡ Some others) × GivenAs file given)
 Gives known rest (Ok None) = IfSome known (λ files. files ≡ [])
-Gives known rest (Err fault) =
-    (rest ≡ known) × IfSome known (λ files. (file : NextFile) × (others : List NextFile) × (files ≡ file ∷ others))
+Gives {B} known rest (Err fault) =
+    (rest ≡ known)
+    × IfSome known (λ files. (file : NextFile B) × (others : List (NextFile B)) × (files ≡ file ∷ others))
 
 -- at most so many files still come, and fewer after each that is given
-abbrev pub GoesDown : {E : Type 0} → ℕ → ℕ → Result (Option NextFile) E → Type 0
+abbrev pub GoesDown : {B E : Type 0} → ℕ → ℕ → Result (Option (NextFile B)) E → Type 0
 GoesDown old new (Ok (Some given)) = new < old
 GoesDown old new (Ok None) = ⊤
 GoesDown old new (Err fault) = ⊤

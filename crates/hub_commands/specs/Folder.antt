@@ -12,7 +12,7 @@ abbrev pub most_of : Names → ℕ
 most_of names = length names.0 + names.1
 
 -- the next file has the first name, or, where there is none, a name that is no UTF-8; else there is no file
-abbrev pub GivesInOrder : {E : Type 0} → Names → Names → Result (Option NextFile) E → Type 0
+abbrev pub GivesInOrder : {B E : Type 0} → Names → Names → Result (Option (NextFile B)) E → Type 0
 GivesInOrder old new (Ok (Some (Named file))) = (old.0 ≡ file.name ∷ new.0) × (new.1 ≡ old.1)
 GivesInOrder old new (Ok (Some Unnamed)) = (old.0 ≡ []) × (new.0 ≡ []) × (old.1 ≡ new.1 + 1)
 GivesInOrder old new (Ok None) = (old.0 ≡ []) × (old.1 ≡ 0)

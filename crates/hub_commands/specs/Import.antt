@@ -1,41 +1,51 @@
 -- An import of files: what comes of each, what is asked of the hub, what is printed, and the exit status.
 use Rattle.std.specs.Prelude.{◌≡◌, ◌≢◌, ◌⊎◌, ⊤, ℕ, max, Bool, List, [], ◌∷◌, ◌++◌, codes, Option, Some, None}
-use Rattle.std.specs.Prelude.{Ok, Err, IfSome, flat_map, fold}
+use Rattle.std.specs.Prelude.{IfSome, flat_map, fold}
 use Rattle.std.specs.List.{AllByRecursion}
 use Rattle.std.specs.Io.KnownBytes.{Appends}
-use Rattle.edi_base.specs.declared.source.ReadFault.TheVariants.{Read}
 use Rattle.hub_law.specs.declared.reply.Outcome.TheVariants.{Stopped}
 use Rattle.hub_law.specs.declared.reply.Reply.{Reply}
 use Rattle.hub_law.specs.declared.request.Input.{Input}
-use Rattle.hub_commands.specs.Files.{IsCalled, IsFile}
+use Rattle.hub_commands.specs.Files.{IsCalled, IsRead, IsUnread}
 use Rattle.hub_commands.specs.Output.{Written, Lost}
 use Rattle.hub_commands.specs.Replies.{status_of}
 use Rattle.hub_commands.specs.declared.files.NextFile.{NextFile}
 use Rattle.hub_commands.specs.declared.files.NextFile.TheVariants as files
 
--- What comes of a file. Answered: it has this name and these bytes, and this is the reply to their upload. Unread: it
--- cannot be read. Unnamed: its name is no UTF-8. NoMemory: memory gave out for its bytes, or before its name was known.
--- Unprinted: its line could not be written, and it was not uploaded.
+-- What comes of a file. Answered: it has this name and these bytes, where they are known before they are read, and this
+-- is the reply to their upload. Unread: it cannot be read. Unnamed: its name is no UTF-8. NoMemory: memory gave out for
+-- its source, or before its name was known. Unprinted: its line could not be written, and it was not uploaded.
 pub data Looked : Type 0 where
-  Answered : List ℕ → List ℕ → Reply → Looked
+  Answered : List ℕ → Option (List ℕ) → Reply → Looked
   Unread : List ℕ → Looked
   Unnamed : Looked
   NoMemory : Option (List ℕ) → Looked
   Unprinted : List ℕ → Looked
 
 -- that may come of the file
-abbrev pub Of : NextFile → Looked → Type 0
-Of file (Answered name bytes reply) = IsFile file name (Ok bytes)
-Of file (Unread name) = IsFile file name (Err Read)
-Of file Unnamed = file ≡ files.Unnamed
-Of file (NoMemory name) = IfSome name (IsCalled file)
-Of file (Unprinted name) = IsCalled file name
+abbrev pub Of : {B : Type 0} → (B → Option (List ℕ)) → (B → Bool) → NextFile B → Looked → Type 0
+Of remaining failed file (Answered name bytes reply) = IsRead remaining file name bytes
+Of remaining failed file (Unread name) = IsUnread failed file name
+Of remaining failed file Unnamed = file ≡ files.Unnamed
+Of remaining failed file (NoMemory name) = IfSome name (IsCalled file)
+Of remaining failed file (Unprinted name) = IsCalled file name
 
 -- it came of the first files, one after another, and the rest still come
-abbrev pub Takes : List NextFile → List Looked → List NextFile → Type 0
-Takes files [] rest = files ≡ rest
-Takes [] (one ∷ looked) rest = ⊥
-Takes (file ∷ files) (one ∷ looked) rest = Of file one × Takes files looked rest
+abbrev pub Takes : {B : Type 0} → (B → Option (List ℕ)) → (B → Bool) → List (NextFile B) → List Looked
+    → List (NextFile B) → Type 0
+Takes remaining failed files [] rest = files ≡ rest
+Takes remaining failed [] (one ∷ looked) rest = ⊥
+Takes remaining failed (file ∷ files) (one ∷ looked) rest =
+    Of remaining failed file one × Takes remaining failed files looked rest
+
+-- its bytes are known, if it was uploaded; or of each source there could be they are
+abbrev pub Known : {B : Type 0} → (B → Option (List ℕ)) → Looked → Type 0
+Known remaining (Answered name (Some bytes) reply) = ⊤
+Known {B} remaining (Answered name None reply) = (source : B) → remaining source ≢ None
+Known remaining (Unread name) = ⊤
+Known remaining Unnamed = ⊤
+Known remaining (NoMemory name) = ⊤
+Known remaining (Unprinted name) = ⊤
 
 -- the import goes on after it
 abbrev pub GoesOn : Looked → Type 0
@@ -55,7 +65,8 @@ Stops (Unprinted name) = ⊥
 
 -- what is asked of the hub, where an upload of some bytes is asked so
 abbrev pub upload_of : (List ℕ → Input) → Looked → List Input
-upload_of asked (Answered name bytes reply) = asked bytes ∷ []
+upload_of asked (Answered name (Some bytes) reply) = asked bytes ∷ []
+upload_of asked (Answered name None reply) = []
 upload_of asked (Unread name) = []
 upload_of asked Unnamed = []
 upload_of asked (NoMemory name) = []
@@ -127,8 +138,8 @@ Ends old new failed after before last =
     ⊎ BrokenOff old new after (before ++ line_of last) (words_of last)
 
 -- all known files were looked at
-pub record Whole (old new : Option (List ℕ)) (failed after : Bool) (looked : List Looked) (rest : List NextFile)
-    (status : ℕ) : Type 0 where
+pub record Whole {B : Type 0} (old new : Option (List ℕ)) (failed after : Bool) (looked : List Looked)
+    (rest : List (NextFile B)) (status : ℕ) : Type 0 where
   pub none_left : rest ≡ []
   pub go_on : AllByRecursion GoesOn looked
   pub written : Written old new failed after (import_text looked)
@@ -144,11 +155,13 @@ pub record Early (old new : Option (List ℕ)) (failed after : Bool) (looked : L
   pub ends : Ends old new failed after (import_text earlier) last
   pub status_is : status ≡ 3
 
--- An import. What was looked at are the first of the known files, and their uploads ran with these replies.
-pub record Imported (Runs : List Input → List Reply → Type 0) (asked : List ℕ → Input) (known : Option (List NextFile))
+-- An import. What was looked at are the first of the known files, and their uploads ran with these replies, where their
+-- bytes are known.
+pub record Imported {B : Type 0} (remaining : B → Option (List ℕ)) (broken : B → Bool)
+    (Runs : List Input → List Reply → Type 0) (asked : List ℕ → Input) (known : Option (List (NextFile B)))
     (old new : Option (List ℕ)) (failed after : Bool) (status : ℕ) : Type 0 where
   pub looked : List Looked
-  pub rest : List NextFile
-  pub taken : IfSome known (λ files. Takes files looked rest)
-  pub ran : Runs (uploads asked looked) (replies looked)
+  pub rest : List (NextFile B)
+  pub taken : IfSome known (λ files. Takes remaining broken files looked rest)
+  pub ran : AllByRecursion (Known remaining) looked → Runs (uploads asked looked) (replies looked)
   pub ended : Whole old new failed after looked rest status ⊎ Early old new failed after looked status

@@ -1,8 +1,8 @@
 //! The plain files of a folder.
 ghost use Rattle.std.specs.Prelude.{IfOk, IsSorted, string_cmp};
 
-use crate::files::{Files, LONGEST_FILE, NamedFile, NextFile};
-use edi_base::{Items, MemoryFault, OfRead, ReadFault, read_to_limit};
+use crate::files::{Files, NamedFile, NextFile};
+use edi_base::{MemoryFault, OfRead, ReadFault};
 use std::alloc::Global;
 use std::collections::VecDeque;
 use std::fs::{DirEntry, File};
@@ -96,12 +96,11 @@ impl<'a, R: FileSystem + AllocGlobal + Clone + Drop> Folder<'a, R> {
         })
     }
 
-    // The bytes of a file of the folder, as many as `Files` gives.
-    fn bytes_of(&self, alloc: Global, name: &str) -> Result<Items<u8>, ReadFault> {
+    // Opens a file of the folder. None of its bytes are read.
+    fn open_file(&self, alloc: Global, name: &str) -> Result<OfRead<R::File>, ReadFault> {
         let path = format!(in alloc; "{}/{name}", self.path.as_str())?;
         let file = File::open(self.system, path.as_str()).map_err(fault_of)?;
-        let bytes = read_to_limit(alloc, &mut OfRead::new(file), LONGEST_FILE)?;
-        Ok(Items::from_vec(bytes))
+        Ok(OfRead::new(file))
     }
 }
 
@@ -110,17 +109,19 @@ impl<'a, R: FileSystem + AllocGlobal + Clone + Drop> Files for Folder<'a, R> {
     ghost use Rattle.hub_commands.specs.Files.{Gives, GoesDown};
     ghost use Rattle.hub_commands.specs.Folder.{GivesInOrder, most_of};
 
+    type Bytes = OfRead<R::File>;
+
     ghost most = { most_of };
 
-    fn next(&mut self, alloc: Global) -> Result<Option<NextFile>, MemoryFault>
+    fn next(&mut self, alloc: Global) -> Result<Option<NextFile<OfRead<R::File>>>, MemoryFault>
         ensures gives { Gives None None result }
         ensures goes_down { GoesDown (most_of self.old) (most_of self.new) result }
         ensures in_order { GivesInOrder self.old self.new result }
     {
         match self.names.in_order.pop_front() {
             Some(name) => {
-                let bytes = self.bytes_of(alloc, name.as_str());
-                Ok(Some(NextFile::Named(NamedFile { name, bytes })))
+                let source = self.open_file(alloc, name.as_str());
+                Ok(Some(NextFile::Named(NamedFile { name, source })))
             }
             None if self.names.unnamed == 0 => Ok(None),
             None => {

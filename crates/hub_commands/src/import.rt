@@ -1,6 +1,7 @@
 //! An import of files.
-ghost use Rattle.std.specs.Prelude.{◌≡◌};
+ghost use Rattle.std.specs.Prelude.{◌≡◌, ◌≢◌, Err, IfOk, IfErr};
 ghost use Rattle.hub_core.specs.Steps.{Stepped, Ran, input_of};
+ghost use Rattle.hub_commands.specs.Files.{OpensSource, FaultComesOf};
 ghost use Rattle.hub_commands.specs.Import.{Imported};
 ghost use Rattle.hub_commands.specs.OneFile.{FaultComes, LooksAt, ReplyComes};
 ghost use Rattle.hub_law.specs.declared.request.Request.TheVariants.{Upload};
@@ -9,10 +10,11 @@ ghost use Rattle.hub_rules.specs.Sound.{Sound};
 use crate::files::{Files, NamedFile, NextFile};
 use crate::print::{print, print_file_line};
 use crate::reply::{DONE, FAILED, reply_run};
-use edi_base::{ReadFault, Sink, WriteFault};
-use edi_envelope::Moment;
+use edi_base::{ReadFault, Sink, Source, WriteFault};
+use edi_envelope::{Interchange, Moment, OpenFault, open_feed};
+use edi_tokens::{Feeder, TokenFault};
 use gs1_ids::Gln;
-use hub_core::{Hub, Reply, Request};
+use hub_core::{Hub, Reply};
 use hub_store::Store;
 use std::alloc::Global;
 
@@ -54,16 +56,36 @@ fn print_fault<W: Sink>(fault: ReadFault, out: &mut W) -> Result<u8, Ended>
     }
 }
 
+// Opens what is read from a source, one segment at a time; or why it was not read. A read that fails ends it.
+fn opened_from<B: Source + Drop>(
+    alloc: Global,
+    source: Result<B, ReadFault>,
+) -> Result<Result<Interchange, OpenFault>, ReadFault>
+    ensures opens { IfOk result (λ upload. OpensSource B.remaining source upload) }
+    ensures read { IfOk result (λ upload. upload ≢ Err (OpenFault.Token TokenFault.Read)) }
+    ensures fault { IfErr result (FaultComesOf B.failed source) }
+{
+    let Ok(mut feeder) = Feeder::new(alloc, source?) else {
+        return Err(ReadFault::Memory);
+    };
+    let upload = open_feed(alloc, &mut feeder);
+    if let Err(OpenFault::Token(TokenFault::Read)) = upload {
+        return Err(ReadFault::Read);
+    }
+    Ok(upload)
+}
+
 // Uploads a file, and prints what comes of it. Answers its exit status.
-fn import_file<S: Store, W: Sink>(
+fn import_file<S: Store, B: Source + Drop, W: Sink>(
+    alloc: Global,
     hub: &mut Hub<S>,
     moment: Moment,
     caller: &Gln,
     key: &[u8],
-    file: NextFile,
+    file: NextFile<B>,
     out: &mut W,
 ) -> Result<u8, Ended>
-    ensures looks_at { LooksAt
+    ensures looks_at { LooksAt B.remaining B.failed
         (λ bytes reply. S.honest hub.new.1 → Sound hub.old.0.suppliers (S.content hub.old.1) →
         Stepped hub.old.0 (S.content hub.old.1) (S.content hub.new.1) (S.left hub.old.1) (S.left hub.new.1)
         (input_of moment caller.now key.now (Upload bytes)) reply)
@@ -76,11 +98,11 @@ fn import_file<S: Store, W: Sink>(
         print(b"fault\n", out)?;
         return Ok(FAILED);
     };
-    let NamedFile { name, bytes } = file;
+    let NamedFile { name, source } = file;
     print_file_line(name.as_str(), out)?;
-    match bytes {
-        Ok(bytes) => {
-            let reply = hub.step(moment, caller, key, Request::Upload(bytes));
+    match opened_from(alloc, source) {
+        Ok(upload) => {
+            let reply = hub.step_opened(moment, caller, key, upload);
             print_reply(&reply, out)
         }
         Err(fault) => print_fault(fault, out),
@@ -88,9 +110,10 @@ fn import_file<S: Store, W: Sink>(
 }
 
 /// Uploads files one after another, each in the name of whoever has this GLN and this key, and prints of each the line
-/// `file NAME` before it is uploaded, and then the reply. A file that cannot be read has the line `fault` in place of
-/// the reply, and one whose name is no UTF-8 this line alone; the next file follows. A reply that is stopped ends the
-/// import, and so does want of memory, with the line `stopped`, and a failed write. What was accepted stays accepted.
+/// `file NAME` before it is read, and then the reply. A file is opened as it is read, one segment at a time, and no more
+/// than 1,048,577 of its bytes are. One that cannot be read has the line `fault` in place of the reply, and one whose
+/// name is no UTF-8 this line alone; the next file follows. A reply that is stopped ends the import, and so does want of
+/// memory, with the line `stopped`, and a failed write. What was accepted stays accepted.
 ///
 /// Answers the exit status, the greatest of all files: of a reply 0, 1 or 3, as `reply_run` has it; 3 for a file that
 /// cannot be read or has no name, for want of memory, and for a failed write.
@@ -103,7 +126,7 @@ pub fn import_run<S: Store, F: Files, W: Sink>(
     files: &mut F,
     out: &mut W,
 ) -> u8
-    ensures imported { Imported
+    ensures imported { Imported F.Bytes.remaining F.Bytes.failed
         (λ inputs replies. S.honest hub.new.1 → Sound hub.old.0.suppliers (S.content hub.old.1) →
         Ran hub.old.0 (S.content hub.old.1) (S.content hub.new.1) (S.left hub.old.1) (S.left hub.new.1) inputs replies)
         (λ bytes. input_of moment caller.now key.now (Upload bytes)) (F.remaining files.old)
@@ -122,7 +145,7 @@ pub fn import_run<S: Store, F: Files, W: Sink>(
                 return FAILED;
             }
         };
-        match import_file(hub, moment, caller, key, file, out) {
+        match import_file(alloc, hub, moment, caller, key, file, out) {
             Ok(status) => greatest = greatest.max(status),
             Err(Ended) => return FAILED,
         }

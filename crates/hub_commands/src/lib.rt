@@ -7,7 +7,7 @@ mod import;
 mod print;
 mod reply;
 
-pub use files::{Files, LONGEST_FILE, NamedFile, NextFile};
+pub use files::{Files, NamedFile, NextFile};
 pub use folder::Folder;
 pub use import::import_run;
 pub use reply::reply_run;

@@ -16,7 +16,8 @@ loop-file-init g c =
       register = refl;
       was_honest = λ honest. honest;
       so_far =
-          so_far_none asked (g.F.Files.remaining c.args.files.now) (g.W.Sink.contents c.args.out.now)
+          so_far_none g.F.Bytes.Source.remaining g.F.Bytes.Source.failed
+          asked (g.F.Files.remaining c.args.files.now) (g.W.Sink.contents c.args.out.now)
           (g.W.Sink.failed c.args.out.now) (RunsTo g.S.Store.content g.S.Store.honest g.S.Store.left asked hub hub)
           (λ honest sound. c.steps_are_a_run.ensures.none hub.1 sound);
     }
@@ -24,11 +25,13 @@ loop-file-init g c =
 pub returns-in-Ok-None-clause-imported : goal.returns-in-Ok-None-clause-imported
 returns-in-Ok-None-clause-imported g c =
     let asked = λ (bytes : List ℕ). input_of c.args.moment c.args.caller.now c.args.key.now (Upload bytes) in
-    whole asked (g.F.Files.remaining c.args.files.now) (g.W.Sink.contents c.args.out.now) (g.W.Sink.failed c.args.out.now)
+    whole g.F.Bytes.Source.remaining g.F.Bytes.Source.failed
+    asked (g.F.Files.remaining c.args.files.now) (g.W.Sink.contents c.args.out.now) (g.W.Sink.failed c.args.out.now)
     (RunsTo g.S.Store.content g.S.Store.honest g.S.Store.left asked c.args.hub.now c.loop-file.hub)
     (g.F.Files.remaining c.loop-file.files) (g.W.Sink.contents c.loop-file.out) (g.W.Sink.failed c.loop-file.out)
     c.loop-file.greatest c.loop-file.invariant.so_far
-    (gives_none (g.F.Files.remaining c.loop-file.files) (g.F.Files.remaining c.next.new.self) c.next.result c.in-Ok-None.field-0
+    (gives_none g.F.Bytes.Source.remaining g.F.Bytes.Source.failed
+    (g.F.Files.remaining c.loop-file.files) (g.F.Files.remaining c.next.new.self) c.next.result c.in-Ok-None.field-0
     c.next.ensures.gives c.in-Ok-None.is c.in-Ok-None.field-0-is)
 
 pub returns-in-Err-clause-imported : goal.returns-in-Err-clause-imported
@@ -39,11 +42,14 @@ returns-in-Err-clause-imported g c =
     let rest = g.F.Files.remaining c.loop-file.files in
     let s = c.loop-file.invariant.so_far in
     let asked = λ (bytes : List ℕ). input_of c.args.moment c.args.caller.now c.args.key.now (Upload bytes) in
-    let ran = runs_more g.S.Store.content g.S.Store.honest g.S.Store.left asked hub.0 c.steps_are_a_run.ensures.more hub.1 between
-    between s.looked (NoMemory None) c.loop-file.invariant.register (λ honest. honest) s.ran refl in
-    let taken = taken_no_memory known rest s.looked s.files
-    (gives_fault rest (g.F.Files.remaining c.next.new.self) c.next.result c.in-Err.field-0 c.next.ensures.gives c.in-Err.is) in
-    early asked known (g.W.Sink.contents c.args.out.now) (g.W.Sink.failed c.args.out.now)
+    let ran = runs_more g.S.Store.content g.S.Store.honest g.S.Store.left asked g.F.Bytes.Source.remaining hub.0
+    c.steps_are_a_run.ensures.more hub.1 between between s.looked (NoMemory None) c.loop-file.invariant.register
+    (λ honest. honest) s.ran refl in
+    let taken = taken_no_memory g.F.Bytes.Source.remaining g.F.Bytes.Source.failed known rest s.looked s.files
+    (gives_fault g.F.Bytes.Source.remaining g.F.Bytes.Source.failed
+    rest (g.F.Files.remaining c.next.new.self) c.next.result c.in-Err.field-0 c.next.ensures.gives c.in-Err.is) in
+    early g.F.Bytes.Source.remaining g.F.Bytes.Source.failed
+    asked known (g.W.Sink.contents c.args.out.now) (g.W.Sink.failed c.args.out.now)
     (RunsTo g.S.Store.content g.S.Store.honest g.S.Store.left asked hub between)
     (RunsTo g.S.Store.content g.S.Store.honest g.S.Store.left asked hub between) rest rest
     (g.W.Sink.contents c.loop-file.out) (g.W.Sink.contents c.print.new.out) (g.W.Sink.failed c.loop-file.out)
@@ -64,19 +70,23 @@ loop-file-preserved g c =
     let s = c.loop-file.invariant.so_far in
     let looks = c.in-Ok.ensures.looks_at in
     let asked = λ (bytes : List ℕ). input_of c.args.moment c.args.caller.now c.args.key.now (Upload bytes) in
-    let ran = runs_more g.S.Store.content g.S.Store.honest g.S.Store.left asked hub.0 c.steps_are_a_run.ensures.more hub.1 between
-    new s.looked looks.one c.loop-file.invariant.register c.import_file.ensures.was_honest s.ran looks.did in
+    let ran = runs_more g.S.Store.content g.S.Store.honest g.S.Store.left asked g.F.Bytes.Source.remaining hub.0
+    c.steps_are_a_run.ensures.more hub.1 between new s.looked looks.one c.loop-file.invariant.register
+    c.import_file.ensures.was_honest s.ran looks.did in
     record {
       register = c.import_file.ensures.register ∙ c.loop-file.invariant.register;
       was_honest = λ honest. c.loop-file.invariant.was_honest (c.import_file.ensures.was_honest honest);
       so_far =
-          so_far_more asked known (g.W.Sink.contents c.args.out.now) (g.W.Sink.failed c.args.out.now)
+          so_far_more g.F.Bytes.Source.remaining g.F.Bytes.Source.failed
+          asked known (g.W.Sink.contents c.args.out.now) (g.W.Sink.failed c.args.out.now)
           (RunsTo g.S.Store.content g.S.Store.honest g.S.Store.left asked hub between)
           (RunsTo g.S.Store.content g.S.Store.honest g.S.Store.left asked hub new) rest later
           (g.W.Sink.contents c.loop-file.out) (g.W.Sink.contents c.import_file.new.out) (g.W.Sink.failed c.loop-file.out)
           (g.W.Sink.failed c.import_file.new.out) c.loop-file.greatest s looks.one ran
-          (taken_more known rest later s.looked c.in-Ok-Some.file looks.one s.files
-          (gives_file rest later c.next.result c.in-Ok-Some.field-0 c.in-Ok-Some.file c.next.ensures.gives c.in-Ok-Some.is
+          (taken_more g.F.Bytes.Source.remaining g.F.Bytes.Source.failed
+          known rest later s.looked c.in-Ok-Some.file looks.one s.files
+          (gives_file g.F.Bytes.Source.remaining g.F.Bytes.Source.failed
+          rest later c.next.result c.in-Ok-Some.field-0 c.in-Ok-Some.file c.next.ensures.gives c.in-Ok-Some.is
           c.in-Ok-Some.field-0-is) looks.is) looks.comes.0 looks.comes.1 c.max-greatest.result c.in-Ok.status
           c.max-greatest.ensures looks.comes.2;
     }
@@ -92,14 +102,18 @@ returns-in-Err-import_file-clause-imported g c =
     let s = c.loop-file.invariant.so_far in
     let looks = c.in-Err-import_file.ensures.looks_at in
     let asked = λ (bytes : List ℕ). input_of c.args.moment c.args.caller.now c.args.key.now (Upload bytes) in
-    let ran = runs_more g.S.Store.content g.S.Store.honest g.S.Store.left asked hub.0 c.steps_are_a_run.ensures.more hub.1 between
-    new s.looked looks.one c.loop-file.invariant.register c.import_file.ensures.was_honest s.ran looks.did in
-    let taken = taken_more known rest later s.looked c.in-Ok-Some.file looks.one s.files
-    (gives_file rest later c.next.result c.in-Ok-Some.field-0 c.in-Ok-Some.file c.next.ensures.gives c.in-Ok-Some.is
+    let ran = runs_more g.S.Store.content g.S.Store.honest g.S.Store.left asked g.F.Bytes.Source.remaining hub.0
+    c.steps_are_a_run.ensures.more hub.1 between new s.looked looks.one c.loop-file.invariant.register
+    c.import_file.ensures.was_honest s.ran looks.did in
+    let taken = taken_more g.F.Bytes.Source.remaining g.F.Bytes.Source.failed
+    known rest later s.looked c.in-Ok-Some.file looks.one s.files
+    (gives_file g.F.Bytes.Source.remaining g.F.Bytes.Source.failed
+    rest later c.next.result c.in-Ok-Some.field-0 c.in-Ok-Some.file c.next.ensures.gives c.in-Ok-Some.is
     c.in-Ok-Some.field-0-is) looks.is in
-    early asked known (g.W.Sink.contents c.args.out.now) (g.W.Sink.failed c.args.out.now)
+    early g.F.Bytes.Source.remaining g.F.Bytes.Source.failed
+    asked known (g.W.Sink.contents c.args.out.now) (g.W.Sink.failed c.args.out.now)
     (RunsTo g.S.Store.content g.S.Store.honest g.S.Store.left asked hub between)
     (RunsTo g.S.Store.content g.S.Store.honest g.S.Store.left asked hub new) rest later
     (g.W.Sink.contents c.loop-file.out) (g.W.Sink.contents c.import_file.new.out) (g.W.Sink.failed c.loop-file.out)
     (g.W.Sink.failed c.import_file.new.out) c.loop-file.greatest s looks.one ran taken.others
-    (taken_known known later (s.looked ++ looks.one ∷ []) taken) looks.comes
+    (taken_known g.F.Bytes.Source.remaining g.F.Bytes.Source.failed known later (s.looked ++ looks.one ∷ []) taken) looks.comes

@@ -28,8 +28,9 @@ returns-clause-stepped g c bytes opens honest sound =
     replied register (c.step_is_own.ensures register) (c.hub_stays_sound.ensures.step register)
     (c.stops_are_told.ensures.outcome register) (c.run_is_own.ensures.status register)
     (c.each_line_balances.ensures register.suppliers)
-    g.S.Store.content g.S.Store.honest g.S.Store.left c.args.store.now c.answer_opened-answered.new.store input c.answer_opened-answered.result c.in-Ok.stopped
-    c.replied.result (λ t. c.stops_are_told.ensures.bare register t input) c.in-Ok.ensures c.replied.ensures.ok c.replied.ensures.err
+    g.S.Store.content g.S.Store.honest g.S.Store.left c.args.store.now c.answer_opened-answered.new.store input
+    c.answer_opened-answered.result c.in-Ok.stopped c.replied.result
+    (λ t. c.stops_are_told.ensures.bare register t input) c.in-Ok.ensures c.replied.ensures.ok c.replied.ensures.err
     honest hub (c.answer_opened-answered.ensures.asked bytes opens hub)
 
 pub returns-clause-ran_out : goal.returns-clause-ran_out
