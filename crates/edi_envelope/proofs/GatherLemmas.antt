@@ -22,7 +22,7 @@ use Rattle.edi_envelope.proofs.JoinLemmas.{between_of}
 use Rattle.edi_envelope.proofs.JudgeLemmas.{last_at}
 use Rattle.edi_envelope.proofs.RowLemmas.{frame_tags}
 
-drop_one : (lent : List Segment) (s : Segment) → 0 < length lent → drop 1 (lent ++ s ∷ []) ≡ drop 1 lent ++ s ∷ []
+pub drop_one : (lent : List Segment) (s : Segment) → 0 < length lent → drop 1 (lent ++ s ∷ []) ≡ drop 1 lent ++ s ∷ []
 drop_one [] s h = absurd (omega arith)
 drop_one (u ∷ m) s h = refl
 
@@ -31,7 +31,7 @@ head_on [] s h = absurd (omega arith)
 head_on (u ∷ m) s h = refl
 
 -- the last block
-joined : (m before l : List Segment) → m ≡ before ++ l → IsLast before l → l ≢ [] → blocks m ≡ blocks before ++ l ∷ []
+pub joined : (m before l : List Segment) → m ≡ before ++ l → IsLast before l → l ≢ [] → blocks m ≡ blocks before ++ l ∷ []
 joined m before [] split is some = absurd (some refl)
 joined m before (u ∷ ys) split is some = ap blocks split ∙ blocks-at before u ys is.0 is.1
 
@@ -53,7 +53,7 @@ closed_more lent g messages message k some is put =
     ∙ sym (ap (map message_of) (joined (drop 1 lent) k.before g.last.items k.split k.last some)
     ∙ map_push message_of (blocks k.before) g.last.items)
 
-not_last : (lent : List Segment) (s : Segment) → is_unz s ≡ false → is_unz (last_segment (lent ++ s ∷ [])) ≡ false
+pub not_last : (lent : List Segment) (s : Segment) → is_unz s ≡ false → is_unz (last_segment (lent ++ s ∷ [])) ≡ false
 not_last lent s h = ap is_unz (last_at lent s) ∙ h
 
 going_gathers : (lent : List Segment) (g : Gathered) → is_unz (last_segment lent) ≡ false → Keeps lent g → Gathers lent g
@@ -94,7 +94,7 @@ unh_kept p lent g new s is w placed head messages last =
       messages = messages ∙ w.messages;
     })
 
-last_more : (before l : List Segment) (s : Segment) → IsLast before l → list_any is_unh (before ++ l) ≡ true → is_unh s ≡ false
+pub last_more : (before l : List Segment) (s : Segment) → IsLast before l → list_any is_unh (before ++ l) ≡ true → is_unh s ≡ false
     → IsLast before (l ++ s ∷ [])
 last_more before [] s is some not_h = absurd (false≢true (ap (λ b. list_any is_unh (b ++ [])) (sym is) ∙ some))
 last_more before (u ∷ ys) s is some not_h =
