@@ -27,50 +27,47 @@ of_fault name Read = Unread name
 of_fault name Memory = NoMemory (Some name)
 
 module _ {B : Type 0} (remaining : B → Option (List ℕ)) (broken : B → Bool) where
-  -- what is known of a source that was opened
-  abbrev pub known_of : Result B ReadFault → Option (List ℕ)
-  known_of (Ok source) = remaining source
-  known_of (Err fault) = None
+  -- the bytes of a source that was opened
+  abbrev pub bytes_of : (source : Result B ReadFault) (upload : Result Interchange OpenFault) → OpensSource remaining source upload
+      → List ℕ
+  bytes_of (Ok source) upload opens = opens.0
+  bytes_of (Err fault) upload opens = absurd opens
 
-  gave : (source : Result B ReadFault) (upload : Result Interchange OpenFault) → OpensSource remaining source upload
-      → Gave remaining source (known_of source)
-  gave (Ok source) upload opens = (source, refl, refl)
+  gave : (source : Result B ReadFault) (upload : Result Interchange OpenFault) (opens : OpensSource remaining source upload)
+      → Gave remaining source (bytes_of source upload opens)
+  gave (Ok source) upload opens = (source, refl, opens.1)
   gave (Err fault) upload opens = absurd opens
 
   pub of_read : (file : NextFile B) (named : NamedFile B) (upload : Result Interchange OpenFault) (reply : Reply)
       → file ≡ Named named
-      → OpensSource remaining named.source upload
-      → Of remaining broken file (Answered (string_bytes named.name) (known_of named.source) reply)
+      → (opens : OpensSource remaining named.source upload)
+      → Of remaining broken file (Answered (string_bytes named.name) (bytes_of named.source upload opens) reply)
   of_read file named upload reply e opens =
-      subst (λ (f : NextFile B). IsRead remaining f (string_bytes named.name) (known_of named.source)) (sym e)
+      subst (λ (f : NextFile B). IsRead remaining f (string_bytes named.name) (bytes_of named.source upload opens)) (sym e)
       (refl, gave named.source upload opens)
 
-  if_known : {P : List ℕ → Type 0} (known : Option (List ℕ)) → ((bytes : List ℕ) → known ≡ Some bytes → P bytes) → IfSome known P
-  if_known None holds = tt
-  if_known (Some bytes) holds = holds bytes refl
+  opens_known : (upload : Result Interchange OpenFault) (known : Option (List ℕ))
+      → ((bytes : List ℕ) → known ≡ Some bytes → Opens upload (opened bytes))
+      → ((bytes : List ℕ) × Opens upload (opened bytes))
+      → (bytes : List ℕ) × IfSome known (λ known. bytes ≡ known) × Opens upload (opened bytes)
+  opens_known upload None opens some = (some.0, tt, some.1)
+  opens_known upload (Some bytes) opens some = (bytes, refl, opens bytes refl)
 
   pub opens_source : (given : Result B ReadFault) (source : B) (upload : Result Interchange OpenFault)
       → given ≡ Ok source
       → ((bytes : List ℕ) → remaining source ≡ Some bytes → Opens upload (opened bytes))
+      → ((bytes : List ℕ) × Opens upload (opened bytes))
       → OpensSource remaining given upload
-  opens_source given source upload is opens =
-      subst (λ (given : Result B ReadFault). OpensSource remaining given upload) (sym is) (if_known (remaining source) opens)
-
-  did_known : (Steps : List ℕ → Reply → Type 0) (Stays : Type 0) (name : List ℕ) (reply : Reply)
-      (upload : Result Interchange OpenFault) (source : B) (known : Option (List ℕ)) → remaining source ≡ known
-      → ((bytes : List ℕ) → Opens upload (opened bytes) → Steps bytes reply)
-      → IfSome known (λ bytes. Opens upload (opened bytes))
-      → Did remaining Steps Stays (Answered name known reply)
-  did_known Steps Stays name reply upload source None is step opens = (source, is)
-  did_known Steps Stays name reply upload source (Some bytes) is step opens = step bytes opens
+  opens_source given source upload is opens some =
+      subst (λ (given : Result B ReadFault). OpensSource remaining given upload) (sym is)
+      (opens_known upload (remaining source) opens some)
 
   pub did_upload : (Steps : List ℕ → Reply → Type 0) (Stays : Type 0) (name : List ℕ) (reply : Reply) (source : Result B ReadFault)
       (upload : Result Interchange OpenFault)
       → ((bytes : List ℕ) → Opens upload (opened bytes) → Steps bytes reply)
-      → OpensSource remaining source upload
-      → Did remaining Steps Stays (Answered name (known_of source) reply)
-  did_upload Steps Stays name reply (Ok source) upload step opens =
-      did_known Steps Stays name reply upload source (remaining source) refl step opens
+      → (opens : OpensSource remaining source upload)
+      → Did Steps Stays (Answered name (bytes_of source upload opens) reply)
+  did_upload Steps Stays name reply (Ok source) upload step opens = step opens.0 opens.2
   did_upload Steps Stays name reply (Err fault) upload step opens = absurd opens
 
   pub of_unread : (file : NextFile B) (named : NamedFile B) (fault : ReadFault) → file ≡ Named named
@@ -81,7 +78,7 @@ module _ {B : Type 0} (remaining : B → Option (List ℕ)) (broken : B → Bool
   of_unread file named Memory e comes = is_called file named e
 
   pub nothing_done : (Steps : List ℕ → Reply → Type 0) {Stays : Type 0} (name : List ℕ) (fault : ReadFault) → Stays
-      → Did remaining Steps Stays (of_fault name fault)
+      → Did Steps Stays (of_fault name fault)
   nothing_done Steps name Read stays = stays
   nothing_done Steps name Memory stays = stays
 
@@ -99,7 +96,7 @@ lost_at_once {old} lost = record { between = old; written = Appends-nil old; los
 
 -- after the line of a file its reply is printed
 pub answered : {E : Type 0} {old between : Option (List ℕ)} {failed middle : Bool} (new : Option (List ℕ)) (after : Bool)
-    (name : List ℕ) (bytes : Option (List ℕ)) (reply : Reply) (r : Result ℕ E)
+    (name bytes : List ℕ) (reply : Reply) (r : Result ℕ E)
     → Written old between failed middle (file_line name)
     → ReplyComes between new middle after reply r
     → Comes old new failed after (Answered name bytes reply) r

@@ -1,6 +1,5 @@
 -- What one file does to a run of a hub.
-use Rattle.std.proofs.Common.{◌≡◌, ℕ, Option, Some, None, List, [], ◌∷◌, ◌++◌, refl, sym, subst, ap, ◌∙◌}
-use Rattle.std.specs.List.{AllByRecursion}
+use Rattle.std.proofs.Common.{◌≡◌, ℕ, List, [], ◌∷◌, ◌++◌, refl, sym, subst, ap, ◌∙◌}
 use Rattle.std.proofs.lemmas.Grind.{flat_map-append}
 use Rattle.std.proofs.lemmas.List.{append-nil}
 use Rattle.hub_parties.specs.Rows.{RegisterRows}
@@ -9,16 +8,9 @@ use Rattle.hub_rules.specs.Sound.{Sound}
 use Rattle.hub_law.specs.declared.reply.Reply.{Reply}
 use Rattle.hub_law.specs.declared.request.Input.{Input}
 use Rattle.hub_core.specs.Steps.{Stepped, Ran}
-use Rattle.hub_commands.specs.Import.{Looked, Answered, Unread, Unnamed, NoMemory, Unprinted, Known}
+use Rattle.hub_commands.specs.Import.{Looked, Answered, Unread, Unnamed, NoMemory, Unprinted}
 use Rattle.hub_commands.specs.Import.{uploads, replies, upload_of, reply_of}
 use Rattle.hub_commands.specs.OneFile.{Did}
-
-all_known : {B : Type 0} (remaining : B → Option (List ℕ)) (looked : List Looked) (one : Looked)
-    → AllByRecursion (Known remaining) (looked ++ one ∷ [])
-    → AllByRecursion (Known remaining) looked × Known remaining one
-all_known remaining [] one all = (tt, all.0)
-all_known remaining (first ∷ looked) one all =
-    let rest = all_known remaining looked one all.1 in ((all.0, rest.0), rest.1)
 
 module _ {S : Type 0} (content : S → Tables) (honest : S → Type 0) (left : S → Tables → Type 0) (asked : List ℕ → Input) where
   -- the inputs of a run from the one hub to the other, and the replies to them
@@ -54,50 +46,34 @@ module _ {S : Type 0} (content : S → Tables) (honest : S → Type 0) (left : S
       (subst (λ (xs : List Input). RunsTo first new xs (replies looked)) (uploads_none looked one none)
       (subst (λ (hub : RegisterRows × S). RunsTo first hub (uploads asked looked) (replies looked)) (sym same) ran))
 
-  -- the same, where the bytes of all that was uploaded are known
-  abbrev pub KnownTo : {B : Type 0} → (B → Option (List ℕ)) → RegisterRows × S → RegisterRows × S → List Looked → Type 0
-  KnownTo remaining old new looked = AllByRecursion (Known remaining) looked → RunsTo old new (uploads asked looked) (replies looked)
-
-  module _ {B : Type 0} (remaining : B → Option (List ℕ)) (register : RegisterRows)
+  module _ (register : RegisterRows)
       (more : (old between new : S) (inputs : List Input) (replies : List Reply) (input : Input) (reply : Reply)
       → Sound register.suppliers (content old)
       → Ran register (content old) (content between) (left old) (left between) inputs replies
       → Stepped register (content between) (content new) (left between) (left new) input reply
       → Ran register (content old) (content new) (left old) (left new) (inputs ++ input ∷ []) (replies ++ reply ∷ [])) where
-    runs_then : (old : S) (between new : RegisterRows × S) (looked : List Looked) (one : Looked)
+    pub runs_more : (old : S) (between new : RegisterRows × S) (looked : List Looked) (one : Looked)
         → between.0 ≡ register
         → (honest new.1 → honest between.1)
         → RunsTo (register, old) between (uploads asked looked) (replies looked)
-        → Known remaining one
-        → Did remaining (StepsTo between new) (new ≡ between) one
+        → Did (StepsTo between new) (new ≡ between) one
         → RunsTo (register, old) new (uploads asked (looked ++ one ∷ [])) (replies (looked ++ one ∷ []))
-    runs_then old between new looked (Answered name None reply) same was_honest ran known did = absurd (known did.0 did.1)
-    runs_then old between new looked (Answered name (Some bytes) reply) same was_honest ran known did = λ h sound.
+    runs_more old between new looked (Answered name bytes reply) same was_honest ran did = λ h sound.
         let before = ran (was_honest h) sound in
         let step : Stepped register (content between.1) (content new.1) (left between.1) (left new.1) (asked bytes) reply =
         subst (λ (r : RegisterRows). Sound r.suppliers (content between.1)
         → Stepped r (content between.1) (content new.1) (left between.1) (left new.1) (asked bytes) reply) same (did h) before.run.sound in
         subst (λ (rs : List Reply). Ran register (content old) (content new.1) (left old) (left new.1)
-        (uploads asked (looked ++ Answered name (Some bytes) reply ∷ [])) rs)
-        (sym (flat_map-append reply_of looked (Answered name (Some bytes) reply ∷ [])))
+        (uploads asked (looked ++ Answered name bytes reply ∷ [])) rs)
+        (sym (flat_map-append reply_of looked (Answered name bytes reply ∷ [])))
         (subst (λ (xs : List Input). Ran register (content old) (content new.1) (left old) (left new.1) xs (replies looked ++ reply ∷ []))
-        (sym (flat_map-append (upload_of asked) looked (Answered name (Some bytes) reply ∷ [])))
+        (sym (flat_map-append (upload_of asked) looked (Answered name bytes reply ∷ [])))
         (more old between.1 new.1 (uploads asked looked) (replies looked) (asked bytes) reply sound before step))
-    runs_then old between new looked (Unread name) same was_honest ran known did =
+    runs_more old between new looked (Unread name) same was_honest ran did =
         stays (register, old) between new looked (Unread name) refl refl ran did
-    runs_then old between new looked Unnamed same was_honest ran known did =
+    runs_more old between new looked Unnamed same was_honest ran did =
         stays (register, old) between new looked Unnamed refl refl ran did
-    runs_then old between new looked (NoMemory name) same was_honest ran known did =
+    runs_more old between new looked (NoMemory name) same was_honest ran did =
         stays (register, old) between new looked (NoMemory name) refl refl ran did
-    runs_then old between new looked (Unprinted name) same was_honest ran known did =
+    runs_more old between new looked (Unprinted name) same was_honest ran did =
         stays (register, old) between new looked (Unprinted name) refl refl ran did
-
-    pub runs_more : (old : S) (between new : RegisterRows × S) (looked : List Looked) (one : Looked)
-        → between.0 ≡ register
-        → (honest new.1 → honest between.1)
-        → KnownTo remaining (register, old) between looked
-        → Did remaining (StepsTo between new) (new ≡ between) one
-        → KnownTo remaining (register, old) new (looked ++ one ∷ [])
-    runs_more old between new looked one same was_honest ran did = λ all.
-        let known = all_known remaining looked one all in
-        runs_then old between new looked one same was_honest (ran known.0) known.1 did

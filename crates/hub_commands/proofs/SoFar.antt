@@ -12,7 +12,7 @@ use Rattle.hub_law.specs.declared.request.Input.{Input}
 use Rattle.edi_base.specs.declared.source.ReadFault.{ReadFault}
 use Rattle.edi_base.specs.declared.source.ReadFault.TheVariants.{Read, Memory}
 use Rattle.hub_commands.specs.Files.{Gave, FaultComesOf, GivenAs, Gives}
-use Rattle.hub_commands.specs.Import.{Looked, Answered, Unread, NoMemory, Unprinted, Of, Takes, Known, GoesOn, Ends, Whole, Early}
+use Rattle.hub_commands.specs.Import.{Looked, Answered, Unread, NoMemory, Unprinted, Of, Takes, GoesOn, Ends, Whole, Early}
 use Rattle.hub_commands.specs.Import.{Imported}
 use Rattle.hub_commands.specs.Import.{uploads, replies, import_text, greatest, line_of, text_of, file_status}
 use Rattle.hub_commands.specs.Import as looked_at
@@ -33,7 +33,7 @@ pub record SoFar {B : Type 0} (remaining : B → Option (List ℕ)) (broken : B 
     (status : ℕ) : Type 0 where
   pub looked : List Looked
   pub files : Taken remaining broken known rest looked
-  pub ran : AllByRecursion (Known remaining) looked → Runs (uploads asked looked) (replies looked)
+  pub ran : Runs (uploads asked looked) (replies looked)
   pub go_on : AllByRecursion GoesOn looked
   pub written : Written old new failed after (import_text looked)
   pub status_is : status ≡ greatest looked
@@ -74,7 +74,7 @@ module _ {B : Type 0} (remaining : B → Option (List ℕ)) (broken : B → Bool
   takes_more (f ∷ files) (first ∷ looked) file one others takes is = (takes.0, takes_more files looked file one others takes.1 is)
 
   -- what comes of a file as it is given, may come of the file
-  source_is : {source given : Result B ReadFault} (bytes : Option (List ℕ)) → (given ≡ Err Memory) ⊎ (given ≡ source)
+  source_is : {source given : Result B ReadFault} (bytes : List ℕ) → (given ≡ Err Memory) ⊎ (given ≡ source)
       → Gave remaining given bytes
       → Gave remaining source bytes
   source_is {source} {given} bytes (inl e) gave = absurd (ok_not_err given gave.0 Memory gave.1 e)
@@ -177,7 +177,7 @@ module _ {B : Type 0} (remaining : B → Option (List ℕ)) (broken : B → Bool
   so_far_none Runs ran = record {
     looked = [];
     files = taken_none remaining broken known;
-    ran = λ known. ran;
+    ran = ran;
     go_on = tt;
     written = record { bytes = Appends-nil old; flag = refl };
     status_is = refl;
@@ -200,8 +200,7 @@ module _ {B : Type 0} (remaining : B → Option (List ℕ)) (broken : B → Bool
   -- and then one file more, over a sink and with a status
   module _ (Runs After : List Input → List Reply → Type 0) (rest later : Option (List (NextFile B))) (between new : Option (List ℕ))
       (middle after : Bool) (status : ℕ) (s : SoFar remaining broken Runs asked known rest old between failed middle status) (one : Looked)
-      (ran : AllByRecursion (Known remaining) (s.looked ++ one ∷ [])
-      → After (uploads asked (s.looked ++ one ∷ [])) (replies (s.looked ++ one ∷ []))) where
+      (ran : After (uploads asked (s.looked ++ one ∷ [])) (replies (s.looked ++ one ∷ []))) where
     pub so_far_more : Taken remaining broken known later (s.looked ++ one ∷ [])
         → GoesOn one
         → Written between new middle after (text_of one)

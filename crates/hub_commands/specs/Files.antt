@@ -9,9 +9,9 @@ use Rattle.edi_envelope.specs.declared.interchange.Interchange.{Interchange}
 use Rattle.hub_commands.specs.declared.files.NextFile.{NextFile}
 use Rattle.hub_commands.specs.declared.files.NextFile.TheVariants.{Named, Unnamed}
 
--- there is a source, and this is known of the bytes that it will give
-abbrev pub Gave : {B : Type 0} → (B → Option (List ℕ)) → Result B ReadFault → Option (List ℕ) → Type 0
-Gave {B} remaining source bytes = (from : B) × (source ≡ Ok from) × (remaining from ≡ bytes)
+-- there is a source, and where it is known what it will give, it is these bytes
+abbrev pub Gave : {B : Type 0} → (B → Option (List ℕ)) → Result B ReadFault → List ℕ → Type 0
+Gave {B} remaining source bytes = (from : B) × (source ≡ Ok from) × IfSome (remaining from) (λ known. bytes ≡ known)
 
 -- why the bytes of a source are not known: it could not be opened, a read of it failed, or memory gave out
 abbrev pub FaultComesOf : {B : Type 0} → (B → Bool) → Result B ReadFault → ReadFault → Type 0
@@ -19,10 +19,11 @@ FaultComesOf failed (Err why) fault = fault ≡ why
 FaultComesOf {B} failed (Ok source) Read = (later : B) × (failed later ≡ true)
 FaultComesOf failed (Ok source) Memory = ⊤
 
--- what an upload is opened as whose bytes are read from a source
+-- what an upload is opened as whose bytes are read from a source: those that it is known to give, else some
 abbrev pub OpensSource : {B : Type 0} → (B → Option (List ℕ)) → Result B ReadFault → Result Interchange OpenFault
     → Type 0
-OpensSource remaining (Ok source) upload = IfSome (remaining source) (λ bytes. Opens upload (opened bytes))
+OpensSource remaining (Ok source) upload =
+    (bytes : List ℕ) × IfSome (remaining source) (λ known. bytes ≡ known) × Opens upload (opened bytes)
 OpensSource remaining (Err fault) upload = ⊥
 
 -- the file has this name
@@ -30,8 +31,8 @@ abbrev pub IsCalled : {B : Type 0} → NextFile B → List ℕ → Type 0
 IsCalled (Named file) name = string_bytes file.name ≡ name
 IsCalled Unnamed name = ⊥
 
--- the file has this name, and a source of which this is known
-abbrev pub IsRead : {B : Type 0} → (B → Option (List ℕ)) → NextFile B → List ℕ → Option (List ℕ) → Type 0
+-- the file has this name, and a source of these bytes
+abbrev pub IsRead : {B : Type 0} → (B → Option (List ℕ)) → NextFile B → List ℕ → List ℕ → Type 0
 IsRead remaining (Named file) name bytes = (string_bytes file.name ≡ name) × Gave remaining file.source bytes
 IsRead remaining Unnamed name bytes = ⊥
 

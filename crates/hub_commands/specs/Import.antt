@@ -12,11 +12,11 @@ use Rattle.hub_commands.specs.Replies.{status_of}
 use Rattle.hub_commands.specs.declared.files.NextFile.{NextFile}
 use Rattle.hub_commands.specs.declared.files.NextFile.TheVariants as files
 
--- What comes of a file. Answered: it has this name and these bytes, where they are known before they are read, and this
--- is the reply to their upload. Unread: it cannot be read. Unnamed: its name is no UTF-8. NoMemory: memory gave out for
+-- What comes of a file. Answered: it has this name and these bytes, which are those that its source was known to give,
+-- where these are known, and this is the reply to their upload. Unread: it cannot be read. Unnamed: its name is no UTF-8. NoMemory: memory gave out for
 -- its source, or before its name was known. Unprinted: its line could not be written, and it was not uploaded.
 pub data Looked : Type 0 where
-  Answered : List ℕ → Option (List ℕ) → Reply → Looked
+  Answered : List ℕ → List ℕ → Reply → Looked
   Unread : List ℕ → Looked
   Unnamed : Looked
   NoMemory : Option (List ℕ) → Looked
@@ -38,15 +38,6 @@ Takes remaining failed [] (one ∷ looked) rest = ⊥
 Takes remaining failed (file ∷ files) (one ∷ looked) rest =
     Of remaining failed file one × Takes remaining failed files looked rest
 
--- its bytes are known, if it was uploaded; or of each source there could be they are
-abbrev pub Known : {B : Type 0} → (B → Option (List ℕ)) → Looked → Type 0
-Known remaining (Answered name (Some bytes) reply) = ⊤
-Known {B} remaining (Answered name None reply) = (source : B) → remaining source ≢ None
-Known remaining (Unread name) = ⊤
-Known remaining Unnamed = ⊤
-Known remaining (NoMemory name) = ⊤
-Known remaining (Unprinted name) = ⊤
-
 -- the import goes on after it
 abbrev pub GoesOn : Looked → Type 0
 GoesOn (Answered name bytes reply) = reply.outcome ≢ Stopped
@@ -65,8 +56,7 @@ Stops (Unprinted name) = ⊥
 
 -- what is asked of the hub, where an upload of some bytes is asked so
 abbrev pub upload_of : (List ℕ → Input) → Looked → List Input
-upload_of asked (Answered name (Some bytes) reply) = asked bytes ∷ []
-upload_of asked (Answered name None reply) = []
+upload_of asked (Answered name bytes reply) = asked bytes ∷ []
 upload_of asked (Unread name) = []
 upload_of asked Unnamed = []
 upload_of asked (NoMemory name) = []
@@ -155,13 +145,12 @@ pub record Early (old new : Option (List ℕ)) (failed after : Bool) (looked : L
   pub ends : Ends old new failed after (import_text earlier) last
   pub status_is : status ≡ 3
 
--- An import. What was looked at are the first of the known files, and their uploads ran with these replies, where their
--- bytes are known.
+-- An import. What was looked at are the first of the known files, and their uploads ran with these replies.
 pub record Imported {B : Type 0} (remaining : B → Option (List ℕ)) (broken : B → Bool)
     (Runs : List Input → List Reply → Type 0) (asked : List ℕ → Input) (known : Option (List (NextFile B)))
     (old new : Option (List ℕ)) (failed after : Bool) (status : ℕ) : Type 0 where
   pub looked : List Looked
   pub rest : List (NextFile B)
   pub taken : IfSome known (λ files. Takes remaining broken files looked rest)
-  pub ran : AllByRecursion (Known remaining) looked → Runs (uploads asked looked) (replies looked)
+  pub ran : Runs (uploads asked looked) (replies looked)
   pub ended : Whole old new failed after looked rest status ⊎ Early old new failed after looked status

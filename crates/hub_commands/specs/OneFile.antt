@@ -10,14 +10,13 @@ use Rattle.hub_commands.specs.Output.{Written, Lost}
 use Rattle.hub_commands.specs.Replies.{status_of}
 use Rattle.hub_commands.specs.declared.files.NextFile.{NextFile}
 
--- what one file did to the hub: a step where it was uploaded, of its bytes where they are known, else nothing
-abbrev pub Did : {B : Type 0} → (B → Option (List ℕ)) → (List ℕ → Reply → Type 0) → Type 0 → Looked → Type 0
-Did remaining Steps Stays (Answered name (Some bytes) reply) = Steps bytes reply
-Did {B} remaining Steps Stays (Answered name None reply) = (source : B) × (remaining source ≡ None)
-Did remaining Steps Stays (Unread name) = Stays
-Did remaining Steps Stays Unnamed = Stays
-Did remaining Steps Stays (NoMemory name) = Stays
-Did remaining Steps Stays (Unprinted name) = Stays
+-- what one file did to the hub: a step where it was uploaded, else nothing
+abbrev pub Did : (List ℕ → Reply → Type 0) → Type 0 → Looked → Type 0
+Did Steps Stays (Answered name bytes reply) = Steps bytes reply
+Did Steps Stays (Unread name) = Stays
+Did Steps Stays Unnamed = Stays
+Did Steps Stays (NoMemory name) = Stays
+Did Steps Stays (Unprinted name) = Stays
 
 -- the status of a file after which the import goes on, or its end
 abbrev pub Comes : {E : Type 0} → Option (List ℕ) → Option (List ℕ) → Bool → Bool → Looked → Result ℕ E → Type 0
@@ -31,7 +30,7 @@ pub record LooksAt {B E : Type 0} (remaining : B → Option (List ℕ)) (broken 
     (failed after : Bool) (result : Result ℕ E) : Type 0 where
   pub one : Looked
   pub is : Of remaining broken file one
-  pub did : Did remaining Steps Stays one
+  pub did : Did Steps Stays one
   pub comes : Comes old new failed after one result
 
 -- the status of a reply that was printed and was not stopped, or the end of the import

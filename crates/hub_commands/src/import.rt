@@ -11,8 +11,8 @@ use crate::files::{Files, NamedFile, NextFile};
 use crate::print::{print, print_file_line};
 use crate::reply::{DONE, FAILED, reply_run};
 use edi_base::{ReadFault, Sink, Source, WriteFault};
-use edi_envelope::{Interchange, Moment, OpenFault, open_feed};
-use edi_tokens::{Feeder, TokenFault};
+use edi_envelope::{Interchange, Moment, OpenFault, open_lent};
+use edi_tokens::{Lender, TokenFault};
 use gs1_ids::Gln;
 use hub_core::{Hub, Reply};
 use hub_store::Store;
@@ -65,10 +65,11 @@ fn opened_from<B: Source + Drop>(
     ensures read { IfOk result (λ upload. upload ≢ Err (OpenFault.Token TokenFault.Read)) }
     ensures fault { IfErr result (FaultComesOf B.failed source) }
 {
-    let Ok(mut feeder) = Feeder::new(alloc, source?) else {
+    let mut source = source?;
+    let Ok(mut lender) = Lender::new(alloc) else {
         return Err(ReadFault::Memory);
     };
-    let upload = open_feed(alloc, &mut feeder);
+    let upload = open_lent(alloc, &mut lender, &mut source);
     if let Err(OpenFault::Token(TokenFault::Read)) = upload {
         return Err(ReadFault::Read);
     }

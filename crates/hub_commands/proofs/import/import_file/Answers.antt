@@ -2,7 +2,7 @@ use Rattle.std.proofs.Common.{◌≡◌, ℕ, List, refl, ap, inr, string_bytes}
 use Rattle.hub_core.specs.Steps.{input_of}
 use Rattle.hub_law.specs.declared.request.Request.TheVariants.{Upload}
 use Rattle.hub_commands.specs.Import.{Answered, Unprinted, file_line}
-use Rattle.hub_commands.proofs.OneFile.{is_called, known_of, of_read, did_upload, of_fault, of_unread, nothing_done}
+use Rattle.hub_commands.proofs.OneFile.{is_called, bytes_of, of_read, did_upload, of_fault, of_unread, nothing_done}
 use Rattle.hub_commands.proofs.OneFile.{ended, answered, unread, lost_at_once}
 use Rattle.hub_commands.proofs.Output.{written_as, lost_as}
 use Rattle.hub_commands.proofs.Running.{StepsTo}
@@ -26,7 +26,7 @@ returns-in-Ok-clause-looks_at g c =
     let asked = λ (bytes : List ℕ). input_of c.args.moment c.args.caller.now c.args.key.now (Upload bytes) in
     let hub = c.args.hub.now in
     let new = c.step_opened-reply.new.self in record {
-      one = Answered name (known_of g.B.Source.remaining g.B.Source.failed source) c.step_opened-reply.result;
+      one = Answered name (bytes_of g.B.Source.remaining g.B.Source.failed source c.in-Ok.upload c.in-Ok.ensures.opens) c.step_opened-reply.result;
       is = of_read g.B.Source.remaining g.B.Source.failed
           c.args.file c.in-Named.file c.in-Ok.upload c.step_opened-reply.result c.in-Named.is c.in-Ok.ensures.opens;
       did =
@@ -35,7 +35,7 @@ returns-in-Ok-clause-looks_at g c =
           c.step_opened-reply.result source c.in-Ok.upload c.step_opened-reply.ensures.stepped c.in-Ok.ensures.opens;
       comes =
           answered (g.W.Sink.contents c.print_reply.new.out) (g.W.Sink.failed c.print_reply.new.out) name
-          (known_of g.B.Source.remaining g.B.Source.failed source)
+          (bytes_of g.B.Source.remaining g.B.Source.failed source c.in-Ok.upload c.in-Ok.ensures.opens)
           c.step_opened-reply.result c.print_reply.result
           (written_as (ap file_line c.as_str.ensures.value) c.in_ok-print_file_line.ensures.ok) c.print_reply.ensures;
     }

@@ -42,7 +42,7 @@ returns-in-Err-clause-imported g c =
     let rest = g.F.Files.remaining c.loop-file.files in
     let s = c.loop-file.invariant.so_far in
     let asked = λ (bytes : List ℕ). input_of c.args.moment c.args.caller.now c.args.key.now (Upload bytes) in
-    let ran = runs_more g.S.Store.content g.S.Store.honest g.S.Store.left asked g.F.Bytes.Source.remaining hub.0
+    let ran = runs_more g.S.Store.content g.S.Store.honest g.S.Store.left asked hub.0
     c.steps_are_a_run.ensures.more hub.1 between between s.looked (NoMemory None) c.loop-file.invariant.register
     (λ honest. honest) s.ran refl in
     let taken = taken_no_memory g.F.Bytes.Source.remaining g.F.Bytes.Source.failed known rest s.looked s.files
@@ -70,7 +70,7 @@ loop-file-preserved g c =
     let s = c.loop-file.invariant.so_far in
     let looks = c.in-Ok.ensures.looks_at in
     let asked = λ (bytes : List ℕ). input_of c.args.moment c.args.caller.now c.args.key.now (Upload bytes) in
-    let ran = runs_more g.S.Store.content g.S.Store.honest g.S.Store.left asked g.F.Bytes.Source.remaining hub.0
+    let ran = runs_more g.S.Store.content g.S.Store.honest g.S.Store.left asked hub.0
     c.steps_are_a_run.ensures.more hub.1 between new s.looked looks.one c.loop-file.invariant.register
     c.import_file.ensures.was_honest s.ran looks.did in
     record {
@@ -102,7 +102,7 @@ returns-in-Err-import_file-clause-imported g c =
     let s = c.loop-file.invariant.so_far in
     let looks = c.in-Err-import_file.ensures.looks_at in
     let asked = λ (bytes : List ℕ). input_of c.args.moment c.args.caller.now c.args.key.now (Upload bytes) in
-    let ran = runs_more g.S.Store.content g.S.Store.honest g.S.Store.left asked g.F.Bytes.Source.remaining hub.0
+    let ran = runs_more g.S.Store.content g.S.Store.honest g.S.Store.left asked hub.0
     c.steps_are_a_run.ensures.more hub.1 between new s.looked looks.one c.loop-file.invariant.register
     c.import_file.ensures.was_honest s.ran looks.did in
     let taken = taken_more g.F.Bytes.Source.remaining g.F.Bytes.Source.failed
