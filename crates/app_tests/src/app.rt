@@ -1,5 +1,5 @@
 ghost use Rattle.std.specs.Prelude.{IfSome};
-ghost use Rattle.hub_app.specs.Relay.{AreRelayWords};
+ghost use Rattle.edi_relay.specs.Relay.{AreRelayWords};
 
 use edi_envelope::Moment;
 use edi_tokens::{Sink, Source};

@@ -1,6 +1,6 @@
 pub mod Asked
 pub mod Commands
 pub mod Lines
-pub mod Mails
+pub mod Taken
 pub mod Simple
 pub mod Texts

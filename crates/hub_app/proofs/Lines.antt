@@ -8,9 +8,9 @@ use Rattle.std.proofs.KnownBytes.{Appends-trans}
 use Rattle.edi_base.specs.Buffer.{AppendsFront}
 use Rattle.edi_base.specs.declared.source.ReadFault.{ReadFault}
 use Rattle.edi_base.specs.declared.source.ReadFault.TheVariants as read_faults
-use Rattle.hub_app.specs.declared.relay.RelayWords.{RelayWords}
-use Rattle.hub_app.specs.declared.relay.RelayFault.{RelayFault}
-use Rattle.hub_app.specs.Relay.{relayed}
+use Rattle.edi_relay.specs.declared.relay.RelayWords.{RelayWords}
+use Rattle.edi_relay.specs.declared.relay.RelayFault.{RelayFault}
+use Rattle.edi_relay.specs.Relay.{relayed}
 use Rattle.hub_app.specs.Run.{read_limit, Delivers, DeliversFront, IsRefused}
 use Rattle.hub_app.specs.Show.{lines_shown, status_of, Shows, ShowsFront}
 
@@ -43,36 +43,6 @@ front_of_second old mid new first second begun h = (
   ap (λ (t : List ℕ). first ++ t) h.2 ∙ sym (append_assoc first h.0 h.1),
   Appends-trans old mid new first h.0 begun h.3,
 )
-
--- what a run did, by what was read, relayed and written
-pub is_delivered : (known : Option (List ℕ)) (words : RelayWords) (old new : Option (List ℕ)) (read bytes mail : List ℕ)
-    → IfSome known (λ k. read ≡ take read_limit k)
-    → bytes ≡ read
-    → relayed bytes words ≡ Ok mail
-    → Appends old new mail
-    → Delivers known words old new
-is_delivered None words old new read bytes mail whole same mailed written = tt
-is_delivered (Some k) words old new read bytes mail whole same mailed written =
-    (mail, ap (λ (t : List ℕ). relayed t words) (sym whole ∙ sym same) ∙ mailed, written)
-
-pub is_front_delivered : (known : Option (List ℕ)) (words : RelayWords) (old new : Option (List ℕ))
-    (read bytes mail : List ℕ)
-    → IfSome known (λ k. read ≡ take read_limit k)
-    → bytes ≡ read
-    → relayed bytes words ≡ Ok mail
-    → AppendsFront old new mail
-    → DeliversFront known words old new
-is_front_delivered None words old new read bytes mail whole same mailed written = tt
-is_front_delivered (Some k) words old new read bytes mail whole same mailed written =
-    (mail, ap (λ (t : List ℕ). relayed t words) (sym whole ∙ sym same) ∙ mailed, written)
-
-pub is_refused : (known : Option (List ℕ)) (words : RelayWords) (fault : RelayFault) (read bytes : List ℕ)
-    → IfSome known (λ k. read ≡ take read_limit k)
-    → bytes ≡ read
-    → relayed bytes words ≡ Err fault
-    → IsRefused known words fault
-is_refused None words fault read bytes whole same refused = tt
-is_refused (Some k) words fault read bytes whole same refused = ap (λ (t : List ℕ). relayed t words) (sym whole ∙ sym same) ∙ refused
 
 -- where the reader stands
 pub stands : (old new : Option (List ℕ)) (read : List ℕ)

@@ -2,7 +2,6 @@ pub mod Check
 pub mod Exit
 pub mod Options
 pub mod Program
-pub mod Relay
 pub mod Run
 pub mod Show
 pub mod Words

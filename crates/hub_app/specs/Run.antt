@@ -1,11 +1,13 @@
 -- What a run of `relay` between a reader and two writers does, by the bytes that are known of each.
-use Rattle.std.specs.Prelude.{◌≡◌, ℕ, ◌+◌, List, ◌++◌, take, codes, Option, IfSome, Ok, Err}
+use Rattle.std.specs.Prelude.{◌≡◌, ℕ, ◌+◌, List, ◌++◌, take, codes, Option, IfSome, Result, Ok, Err}
 use Rattle.std.specs.Io.KnownBytes.{Appends}
 use Rattle.edi_base.specs.Buffer.{AppendsFront}
 use Rattle.edi_tokens.specs.Spelling.{text_limit}
-use Rattle.hub_app.specs.declared.relay.RelayWords.{RelayWords}
-use Rattle.hub_app.specs.declared.relay.RelayFault.{RelayFault}
-use Rattle.hub_app.specs.Relay.{relayed, code_of}
+use Rattle.edi_relay.specs.declared.relay.RelayWords.{RelayWords}
+use Rattle.edi_relay.specs.declared.relay.RelayFault.{RelayFault}
+use Rattle.edi_tokens.specs.declared.fault.TokenFault.TheVariants as token
+use Rattle.edi_relay.specs.declared.relay.RelayFault.TheVariants.{Token, Envelope, Memory}
+use Rattle.edi_relay.specs.Relay.{relayed, code_of}
 
 -- one byte more than the longest text is read, so that a longer one shows
 abbrev pub read_limit : ℕ
@@ -28,3 +30,11 @@ IsRefused known words fault = IfSome known (λ bytes. relayed (take read_limit b
 
 abbrev pub refusal : RelayFault → List ℕ
 refusal fault = codes "refused " ++ (code_of fault ++ codes "\n")
+
+-- a fact, unless a read failed or memory ran out
+abbrev pub IfToEnd : {X : Type 0} → Result X RelayFault → Type 0 → Type 0
+IfToEnd (Ok x) fact = fact
+IfToEnd (Err (Token token.Read)) fact = Unit {0}
+IfToEnd (Err (Token fault)) fact = fact
+IfToEnd (Err (Envelope fault)) fact = fact
+IfToEnd (Err Memory) fact = Unit {0}

@@ -12,10 +12,10 @@ use Rattle.hub_app.specs.declared.words.Words.{Words}
 use Rattle.hub_app.specs.declared.words.Words.TheVariants.{Check, Relay, Show, Hub, Serve}
 use Rattle.hub_app.specs.declared.words.WordsFault.{WordsFault}
 use Rattle.hub_app.specs.declared.words.WordsFault.TheVariants.{Memory}
-use Rattle.hub_app.specs.declared.relay.RelayWords.{RelayWords}
+use Rattle.edi_relay.specs.declared.relay.RelayWords.{RelayWords}
 use Rattle.hub_app.specs.Options.{number_of, moment_of, port_of, count_of, if_given, values_of, in_lines}
 use Rattle.hub_app.specs.Program.{edihub}
-use Rattle.hub_app.specs.Relay.{AreRelayWords, relay_words_of}
+use Rattle.edi_relay.specs.Relay.{AreRelayWords, relay_words_of}
 use Rattle.hub_rules.specs.declared.cancel.Cancel.{Cancel as Cancellation}
 use Rattle.hub_texts.specs.Cancel.{cancel_of}
 

@@ -5,14 +5,13 @@ mod check;
 mod exit;
 mod options;
 mod program;
-mod relay;
 mod run;
 mod show;
 mod words;
 
 pub use check::{TextFault, check_run, read_register_text};
 pub use exit::FAILED;
-pub use relay::{RelayFault, RelayWords, relay_text};
+pub use edi_relay::{RelayFault, RelayWords, relay_text};
 pub use run::relay_run;
 pub use show::show_run;
 pub use words::{CheckWords, HubTask, HubWords, ServeWords, Words, WordsFault, read_words};

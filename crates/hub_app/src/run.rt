@@ -1,17 +1,18 @@
 //! A run of `relay` between a reader and two writers.
 
-ghost use Rattle.std.specs.Prelude.{◌≡◌, ◌⊎◌, true, take, codes, OnOk, OnErr, IsTrue, IfSome};
+ghost use Rattle.std.specs.Prelude.{◌≡◌, ◌⊎◌, true, take, codes, Err, OnOk, OnErr, IsTrue, IfSome};
 ghost use Rattle.std.specs.Io.KnownBytes.{Appends, Consumes, Keeps};
 ghost use Rattle.edi_base.specs.Buffer.{AppendsFront};
 ghost use Rattle.edi_base.specs.Source.{TakesAtMost};
-ghost use Rattle.hub_app.specs.declared.relay.RelayFault.{RelayFault};
-ghost use Rattle.hub_app.specs.Relay.{AreRelayWords};
+ghost use Rattle.edi_relay.specs.declared.relay.RelayFault.{RelayFault};
+ghost use Rattle.edi_relay.specs.Relay.{AreRelayWords, RelaysRead, relayed};
+ghost use Rattle.edi_relay.specs.Relaying.{Flagged};
 ghost use Rattle.hub_app.specs.Exit.{Tells};
-ghost use Rattle.hub_app.specs.Run.{Delivers, DeliversFront, IsRefused, read_limit, refusal};
+ghost use Rattle.hub_app.specs.Run.{Delivers, DeliversFront, IfToEnd, IsRefused, read_limit, refusal};
 
 use crate::exit::{DONE, FAILED, REFUSED, tell};
-use crate::relay::{RelayFault, RelayWords, relay_text};
-use edi_tokens::{ReadFault, Sink, Source, TEXT_LIMIT, WriteFault, read_to_limit, write_bytes};
+use edi_relay::{RelayFault, RelayWords, relay_lent};
+use edi_tokens::{Lender, ReadFault, Sink, Source, TEXT_LIMIT, TokenFault, WriteFault, write_bytes};
 use std::alloc::Global;
 
 /// One byte more than the longest text is read, so that a longer one shows.
@@ -48,6 +49,39 @@ pub(crate) fn tell_read_fault<E: Sink>(fault: ReadFault, err: &mut E) -> u8
     FAILED
 }
 
+// Whether a read has failed.
+fn is_failed_read(relayed: &Result<Vec<u8>, RelayFault>) -> bool
+    ensures { IsTrue result → relayed.now ≡ Err (RelayFault.Token TokenFault.Read) }
+{
+    matches!(relayed, Err(RelayFault::Token(TokenFault::Read)))
+}
+
+// The mail texts of an interchange, of which at most 1,048,577 bytes are read; or why it is refused, or that a read
+// failed. Where memory did not run out and no read failed, so many bytes are read, or the reader has ended.
+fn relay_input<R: Source>(
+    alloc: Global,
+    words: &RelayWords,
+    input: &mut R,
+) -> Result<Vec<u8>, RelayFault>
+    ensures relayed { IfSome (R.remaining input.old) (λ known.
+        RelaysRead (λ out. out.items) result (relayed (take read_limit known) words.now)) }
+    ensures flag { Flagged result (R.failed input.old) (R.failed input.new) }
+    ensures taken { TakesAtMost (R.remaining input.old) (R.remaining input.new) read_limit }
+    ensures stands { IfToEnd result (IfSome (R.remaining input.old) (λ known.
+        Consumes (R.remaining input.old) (R.remaining input.new) (take read_limit known))) }
+{
+    let mut lender = Lender::new(alloc)?;
+    let relayed = relay_lent(alloc, &mut lender, input, words);
+    let failed = is_failed_read(&relayed);
+    if failed {
+        return relayed;
+    }
+    match lender.skip_rest(input) {
+        Ok(_) => relayed,
+        Err(_) => Err(RelayFault::Token(TokenFault::Read)),
+    }
+}
+
 /// Reads an interchange, at most 1,048,577 bytes, and writes its mail texts to `out`. Answers the exit status: 0 where
 /// they were written; 1 where the interchange is refused, and then `refused` with the code is a line on `err`; 3 where
 /// a read or write failed, with the line `file`, or memory ran out, with the line `memory`.
@@ -82,11 +116,7 @@ pub fn relay_run<R: Source, W: Sink, E: Sink>(
         ⊎ (Tells (E.contents err.old) (E.contents err.new) (E.failed err.new) (codes "memory\n")
         × Keeps (W.contents out.old) (W.contents out.new)) }
 {
-    let text = match read_to_limit(alloc, input, READ_LIMIT) {
-        Ok(text) => text,
-        Err(fault) => return tell_read_fault(fault, err),
-    };
-    match relay_text(alloc, text.as_slice(), words) {
+    match relay_input(alloc, words, input) {
         Ok(mail) => {
             if write_bytes(mail.as_slice(), out).is_ok() {
                 return DONE;
@@ -98,10 +128,16 @@ pub fn relay_run<R: Source, W: Sink, E: Sink>(
             tell(b"memory\n", err);
             FAILED
         }
-        Err(RelayFault::Token(fault)) => {
-            tell_refusal(RelayFault::Token(fault), err);
-            REFUSED
-        }
+        Err(RelayFault::Token(fault)) => match fault {
+            TokenFault::Read => {
+                tell(b"file\n", err);
+                FAILED
+            }
+            _ => {
+                tell_refusal(RelayFault::Token(fault), err);
+                REFUSED
+            }
+        },
         Err(RelayFault::Envelope(fault)) => {
             tell_refusal(RelayFault::Envelope(fault), err);
             REFUSED

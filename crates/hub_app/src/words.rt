@@ -4,7 +4,7 @@ ghost use Rattle.std.specs.Prelude.{◌≡◌, map, option_map, codes, IfOk, IfE
 ghost use Rattle.clap.specs.Words.{app_of, first_of, found_of, rows_of, subcommand_rows_of};
 ghost use Rattle.hub_app.specs.Options as spec;
 ghost use Rattle.hub_app.specs.Options.{Finds, if_given, moment_of, values_of};
-ghost use Rattle.hub_app.specs.Relay.{AreRelayWords};
+ghost use Rattle.edi_relay.specs.Relay.{AreRelayWords};
 ghost use Rattle.hub_texts.specs.Cancel as body;
 ghost use Rattle.hub_app.specs.Words.{cancel_options, texts_of, AreWords, Asks, IsAsker, IsHub, IsOverHub};
 ghost use Rattle.hub_app.specs.Words.{IsRelay, IsServe, IsTask, Names, Refuses, Say};
@@ -12,10 +12,10 @@ ghost use Rattle.hub_app.specs.Program.{edihub};
 
 use crate::options::{count, gln, in_lines, moment, number, port, text};
 use crate::program::program;
-use crate::relay::RelayWords;
 use clap::error::ErrorKind;
 use clap::{ArgMatches, Command, Error};
 use edi_envelope::Moment;
+use edi_relay::RelayWords;
 use gs1_ids::Gln;
 use hub_rules::Cancel;
 use hub_texts::read_cancel;

@@ -2,7 +2,7 @@ use Rattle.std.proofs.Common.{ℕ, List, arith, sym, subst, ◌∙◌, inl, inr}
 use Rattle.std.specs.Io.KnownBytes.{Appends}
 use Rattle.std.proofs.KnownBytes.{Keeps-refl}
 use Rattle.edi_base.specs.Buffer.{AppendsFront}
-use Rattle.hub_app.specs.declared.relay.RelayFault.TheVariants.{Token, Envelope}
+use Rattle.edi_relay.specs.declared.relay.RelayFault.TheVariants.{Token, Envelope}
 use Rattle.hub_app.proofs.Lines.{stands, read_or_told, failed_unwritten, at_ok, at_err, is_delivered, is_front_delivered, is_refused}
 use Rattle.hub_app.proofs.run.relay_run.Goals as goal
 

@@ -3,7 +3,7 @@ use Rattle.std.specs.Prelude.{codes}
 use Rattle.std.specs.Io.KnownBytes.{Appends}
 use Rattle.std.proofs.lemmas.Result.{on_err_weaker}
 use Rattle.edi_base.specs.Buffer.{AppendsFront}
-use Rattle.hub_app.specs.Relay.{code_of}
+use Rattle.edi_relay.specs.Relay.{code_of}
 use Rattle.hub_app.proofs.Lines.{on_err, front_of_first, front_of_second}
 use Rattle.hub_app.proofs.run.write_refusal.Goals as goal
 

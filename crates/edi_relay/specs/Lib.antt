@@ -1,0 +1,3 @@
+pub mod Relay
+pub mod Mails
+pub mod Relaying

@@ -1,0 +1,149 @@
+-- What a run of `relay` took of its reader, and what it did with it.
+use Rattle.std.proofs.Common.{◌≡◌, ◌≢◌, ℕ, ◌+◌, ◌-◌, ◌<◌, ◌≤◌, Bool, zero, suc, List, [], ◌∷◌, ◌++◌, length, take, Option, Some, None, Result, Ok, Err, inl, inr}
+use Rattle.std.proofs.Common.{refl, sym, ap, subst, ◌∙◌, arith, append-nil}
+use Rattle.std.specs.Prelude.{◌⊎◌, IfSome, nat_lt, if◌then◌else◌}
+use Rattle.std.specs.Io.KnownBytes.{Appends, Consumes, IsAtEnd}
+use Rattle.std.proofs.lemmas.Bool.{cases_lt, lt-ltb}
+use Rattle.std.proofs.lemmas.List.{length-take, take_all, take_at}
+use Rattle.edi_base.specs.Buffer.{AppendsFront}
+use Rattle.edi_base.specs.Source.{TakesAtMost}
+use Rattle.edi_tokens.specs.declared.lender.Lender.{Lender}
+use Rattle.edi_tokens.specs.Spelling.{text_limit}
+use Rattle.edi_tokens.specs.declared.fault.TokenFault.{TokenFault}
+use Rattle.edi_tokens.specs.declared.fault.TokenFault.TheVariants as token
+use Rattle.edi_tokens.specs.declared.fault.TokenFault.TheVariants.{TooLong, ServiceString, Byte, Cut, Tag, LongSegment, Read}
+use Rattle.edi_tokens.specs.Reading.{run, start, finish, tokens_of, ◌>>=◌}
+use Rattle.edi_tokens.specs.Lender.{Fed, TakesOf}
+use Rattle.edi_relay.specs.declared.relay.RelayWords.{RelayWords}
+use Rattle.edi_relay.specs.declared.relay.RelayFault.{RelayFault}
+use Rattle.edi_relay.specs.declared.relay.RelayFault.TheVariants.{Token, Envelope, Memory}
+use Rattle.edi_relay.specs.Relay.{relayed, tokens_mailed, Relays, RelaysRead, without_read}
+use Rattle.edi_relay.specs.Relaying.{Flagged}
+use Rattle.edi_relay.proofs.ReadOn.{never_read}
+use Rattle.hub_app.specs.Run.{read_limit, Delivers, DeliversFront, IfToEnd, IsRefused}
+
+-- ---- one byte more than the longest text tells as much as all
+
+take_less : {A : Type 0} (m n : ℕ) (xs : List A) → m ≤ n → take m (take n xs) ≡ take m xs
+take_less zero n xs h = refl
+take_less (suc m) zero xs h = absurd (omega arith)
+take_less (suc m) (suc n) [] h = refl
+take_less (suc m) (suc n) (x ∷ xs) h = ap (λ l. x ∷ l) (take_less m n xs (omega arith))
+
+same_length : (k : List ℕ) → nat_lt text_limit (length (take read_limit k)) ≡ nat_lt text_limit (length k)
+same_length k =
+    elim (cases_lt text_limit (length k)) [
+      | inl long ↦
+          lt-ltb text_limit (length (take read_limit k)) (omega (arith, length-take read_limit k, long))
+          ∙ sym (lt-ltb text_limit (length k) long)
+      | inr within ↦ ap (λ (l : List ℕ). nat_lt text_limit (length l)) (take_all read_limit k (omega (arith, within)))
+    ]
+
+same_text : (k : List ℕ) → tokens_of (take read_limit k) ≡ tokens_of k
+same_text k =
+    let front : take text_limit (take read_limit k) ≡ take text_limit k = take_less text_limit read_limit k (omega arith) in
+    ap (λ (t : List ℕ). run start t >>= λ r. if nat_lt text_limit (length (take read_limit k)) then Err TooLong else finish r) front
+    ∙ ap (λ (b : Bool). run start (take text_limit k) >>= λ r. if b then Err TooLong else finish r) (same_length k)
+
+-- ---- what was relayed
+
+pub known_relayed : (P : Result (List ℕ) RelayFault → Type 0) (words : RelayWords) (known : Option (List ℕ)) (lender : Lender)
+    → ((k : List ℕ) → Fed (Some k) k [] lender)
+    → ((all : List ℕ) → Fed known all [] lender → P (relayed all words))
+    → IfSome known (λ k. P (relayed (take read_limit k) words))
+known_relayed P words None lender fed told = tt
+known_relayed P words (Some k) lender fed told =
+    subst (λ r. P (tokens_mailed words r)) (sym (same_text k)) (told k (fed k))
+
+pub taken_at_most : (old new : Option (List ℕ)) (left : ℕ) → TakesOf old new read_limit left → TakesAtMost old new read_limit
+taken_at_most old new left t = record { front = t.front; taken = t.consumed; within = omega (arith, t.counted) }
+
+front_is : (old new : Option (List ℕ)) (front : List ℕ) (missing : ℕ) → Consumes old new front → length front + missing ≡ read_limit
+    → IsAtEnd new ⊎ (missing ≡ 0)
+    → IfSome old (λ k. Consumes old new (take read_limit k))
+front_is None new front missing taken count end = tt
+front_is (Some k) None front missing taken count end = absurd taken
+front_is (Some k) (Some rest) front missing taken count (inl none) =
+    let all : k ≡ front = taken ∙ ap (λ l. front ++ l) none ∙ append-nil front in
+    let whole : take read_limit k ≡ k = take_all read_limit k (omega (arith, ap (λ l. length l) all, count)) in
+    taken ∙ ap (λ l. l ++ rest) (sym (whole ∙ all))
+front_is (Some k) (Some rest) front missing taken count (inr full) =
+    let n : length front ≡ read_limit = omega (arith, count, full) in
+    let whole : take read_limit k ≡ front = ap (take read_limit) taken ∙ take_at front rest read_limit n in
+    taken ∙ ap (λ l. l ++ rest) (sym whole)
+
+pub stands_at : (old new : Option (List ℕ)) (missing : ℕ) → TakesOf old new read_limit missing → IsAtEnd new ⊎ (missing ≡ 0)
+    → IfSome old (λ k. Consumes old new (take read_limit k))
+stands_at old new missing t end = front_is old new t.front missing t.consumed t.counted end
+
+pub to_end : {X F : Type 0} (r : Result X RelayFault) → F → IfToEnd r F
+to_end (Ok x) f = f
+to_end (Err (Token TooLong)) f = f
+to_end (Err (Token ServiceString)) f = f
+to_end (Err (Token Byte)) f = f
+to_end (Err (Token Cut)) f = f
+to_end (Err (Token Tag)) f = f
+to_end (Err (Token LongSegment)) f = f
+to_end (Err (Token Read)) f = tt
+to_end (Err (Token token.Memory)) f = f
+to_end (Err (Envelope fault)) f = f
+to_end (Err Memory) f = tt
+
+-- ---- what a run did
+
+pub is_delivered : (known : Option (List ℕ)) (words : RelayWords) (old new : Option (List ℕ)) (mail : List ℕ)
+    → IfSome known (λ k. relayed (take read_limit k) words ≡ Ok mail)
+    → Appends old new mail
+    → Delivers known words old new
+is_delivered None words old new mail mailed written = tt
+is_delivered (Some k) words old new mail mailed written = (mail, mailed, written)
+
+pub is_front_delivered : (known : Option (List ℕ)) (words : RelayWords) (old new : Option (List ℕ)) (mail : List ℕ)
+    → IfSome known (λ k. relayed (take read_limit k) words ≡ Ok mail)
+    → AppendsFront old new mail
+    → DeliversFront known words old new
+is_front_delivered None words old new mail mailed written = tt
+is_front_delivered (Some k) words old new mail mailed written = (mail, mailed, written)
+
+known_fault : {X : Type 0} (view : X → List ℕ) (fault : RelayFault) (given : Result (List ℕ) RelayFault) → fault ≢ Memory
+    → Relays view (Err fault) given
+    → given ≡ Err fault
+known_fault view (Token fault) given some h = h
+known_fault view (Envelope fault) given some h = h
+known_fault view Memory given some h = absurd (some refl)
+
+fault_is : {X : Type 0} (view : X → List ℕ) (fault : RelayFault) (given : Result (List ℕ) RelayFault) → without_read fault ≡ fault
+    → fault ≢ Memory
+    → RelaysRead view (Err fault) given
+    → given ≡ Err fault
+fault_is view fault given read some h =
+    known_fault view fault given some (subst (λ f. Relays view (Err f) given) read (never_read fault given view h))
+
+pub is_refused : {X : Type 0} (view : X → List ℕ) (known : Option (List ℕ)) (words : RelayWords) (fault : RelayFault)
+    → without_read fault ≡ fault
+    → fault ≢ Memory
+    → IfSome known (λ k. RelaysRead view (Err fault) (relayed (take read_limit k) words))
+    → IsRefused known words fault
+is_refused view None words fault read memory h = tt
+is_refused view (Some k) words fault read memory h = fault_is view fault (relayed (take read_limit k) words) read memory h
+
+pub was_to_end : {X F : Type 0} (fault : TokenFault) → fault ≢ Read → IfToEnd {X = X} (Err (Token fault)) F → F
+was_to_end TooLong h f = f
+was_to_end ServiceString h f = f
+was_to_end Byte h f = f
+was_to_end Cut h f = f
+was_to_end Tag h f = f
+was_to_end LongSegment h f = f
+was_to_end Read h f = absurd (h refl)
+was_to_end token.Memory h f = f
+
+-- no flag goes up but at a failed read
+pub same_flag : {X : Type 0} (fault : TokenFault) (old new : Bool) → fault ≢ Read → Flagged {X = X} (Err (Token fault)) old new → new ≡ old
+same_flag TooLong old new h f = f
+same_flag ServiceString old new h f = f
+same_flag Byte old new h f = f
+same_flag Cut old new h f = f
+same_flag Tag old new h f = f
+same_flag LongSegment old new h f = f
+same_flag Read old new h f = absurd (h refl)
+same_flag token.Memory old new h f = absurd f
