@@ -1,5 +1,5 @@
 -- Reading on: what a lender told, with what was written before.
-use Rattle.std.proofs.Common.{◌≡◌, ◌≢◌, ℕ, Bool, true, false, List, [], ◌∷◌, ◌++◌, Option, Some, None, Result, Ok, Err, refl, sym, ap, subst, ◌∙◌}
+use Rattle.std.proofs.Common.{◌≡◌, ◌≢◌, ℕ, Bool, true, false, List, [], ◌∷◌, ◌++◌, Option, None, Result, Ok, Err, refl, sym, ap, subst, ◌∙◌}
 use Rattle.std.specs.Prelude.{OnOk}
 use Rattle.std.proofs.lemmas.Bool.{true≢false, false≢true, not-false}
 use Rattle.edi_tokens.specs.declared.lender.Lender.{Lender}
@@ -7,10 +7,8 @@ use Rattle.edi_tokens.specs.declared.segment.Segment.{Segment}
 use Rattle.edi_tokens.specs.declared.segment.Service.{Service}
 use Rattle.edi_tokens.specs.declared.segment.Tokens.{Tokens}
 use Rattle.edi_tokens.specs.declared.fault.TokenFault.{TokenFault}
-use Rattle.edi_tokens.specs.declared.fault.TokenFault.TheVariants as token
 use Rattle.edi_tokens.specs.declared.fault.TokenFault.TheVariants.{TooLong, ServiceString, Byte, Cut, Tag, LongSegment, Read, Memory}
 use Rattle.edi_tokens.specs.Reading.{tokens_of}
-use Rattle.edi_tokens.specs.Machine.{tokens_at}
 use Rattle.edi_tokens.specs.Lender.{AtEnd, Fed, Told, Feeds, Flags, TakesOf, answered, decimal_of, lent_by, room_of, stopped}
 use Rattle.edi_tokens.proofs.Lending.{takes_none, takes_then}
 use Rattle.edi_tokens.proofs.Settled.{settled_service}
@@ -31,7 +29,7 @@ use Rattle.edi_relay.specs.declared.mails.Mails.{Mails}
 use Rattle.edi_relay.specs.declared.relaying.Relaying.{Relaying}
 use Rattle.edi_relay.specs.Relay.{mail_texts, mailed, tokens_mailed, relayed, of_token, of_envelope, Relays, RelaysRead, without_read}
 use Rattle.edi_relay.specs.Mails.{Writes}
-use Rattle.edi_relay.specs.Relaying.{Stands, IsMailed, StandsBy, Reads, HasRead}
+use Rattle.edi_relay.specs.Relaying.{Stands, Reads, HasRead}
 
 push_some : (lent : List Segment) (s : Segment) → lent ++ s ∷ [] ≢ []
 push_some [] s = λ e. cc

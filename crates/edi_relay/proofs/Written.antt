@@ -1,5 +1,5 @@
 -- What is written of the mail texts, one more segment at a time.
-use Rattle.std.proofs.Common.{◌≡◌, ◌≢◌, ◌<◌, ◌+◌, ℕ, suc, Bool, true, false, ◌⊎◌, inl, inr, List, [], ◌∷◌, ◌++◌, length, map, drop}
+use Rattle.std.proofs.Common.{◌≡◌, ◌≢◌, ◌<◌, ◌+◌, ℕ, suc, Bool, true, false, List, [], ◌∷◌, ◌++◌, length, map, drop}
 use Rattle.std.proofs.Common.{refl, sym, ap, subst, ◌∙◌, arith, append_assoc, append-nil, codes}
 use Rattle.std.specs.List.{list_any}
 use Rattle.std.specs.Fmt.{decimal}
@@ -10,14 +10,13 @@ use Rattle.edi_tokens.specs.declared.segment.Segment.{Segment}
 use Rattle.edi_tokens.specs.Text.{text, una, segment_text}
 use Rattle.edi_tokens.specs.Appending.{with_component}
 use Rattle.edi_envelope.specs.declared.interchange.RawMessage.{RawMessage}
-use Rattle.edi_envelope.specs.declared.judge.Place.{Place}
 use Rattle.edi_envelope.specs.declared.judge.Place.TheVariants as place
 use Rattle.edi_envelope.specs.Segments.{is_unz, is_unh, is_unt, last_segment}
 use Rattle.edi_envelope.specs.Blocks.{blocks}
 use Rattle.edi_envelope.specs.Message.{message_of, is_frame}
 use Rattle.edi_envelope.specs.Moment.{date_text, time_text}
 use Rattle.edi_envelope.specs.Mail.{renumbered, mail_text}
-use Rattle.edi_envelope.specs.Judge.{Placed, IsGoingOn, IsBegun}
+use Rattle.edi_envelope.specs.Judge.{Placed}
 use Rattle.edi_envelope.specs.Gathered.{IsLast}
 use Rattle.edi_envelope.proofs.FrameLemmas.{other_tag}
 use Rattle.edi_envelope.proofs.JoinLemmas.{between_of}

@@ -1,5 +1,5 @@
 -- What a run of `relay` took of its reader, and what it did with it.
-use Rattle.std.proofs.Common.{◌≡◌, ◌≢◌, ℕ, ◌+◌, ◌-◌, ◌<◌, ◌≤◌, Bool, zero, suc, List, [], ◌∷◌, ◌++◌, length, take, Option, Some, None, Result, Ok, Err, inl, inr}
+use Rattle.std.proofs.Common.{◌≡◌, ◌≢◌, ℕ, ◌+◌, ◌-◌, ◌<◌, ◌≤◌, Bool, true, zero, suc, List, [], ◌∷◌, ◌++◌, length, take, Option, Some, None, Result, Ok, Err, inl, inr}
 use Rattle.std.proofs.Common.{refl, sym, ap, subst, ◌∙◌, arith, append-nil}
 use Rattle.std.specs.Prelude.{◌⊎◌, IfSome, nat_lt, if◌then◌else◌}
 use Rattle.std.specs.Io.KnownBytes.{Appends, Consumes, IsAtEnd}
@@ -13,14 +13,15 @@ use Rattle.edi_tokens.specs.declared.fault.TokenFault.{TokenFault}
 use Rattle.edi_tokens.specs.declared.fault.TokenFault.TheVariants as token
 use Rattle.edi_tokens.specs.declared.fault.TokenFault.TheVariants.{TooLong, ServiceString, Byte, Cut, Tag, LongSegment, Read}
 use Rattle.edi_tokens.specs.Reading.{run, start, finish, tokens_of, ◌>>=◌}
-use Rattle.edi_tokens.specs.Lender.{Fed, TakesOf}
+use Rattle.edi_tokens.specs.Lender.{AtEnd, Fed, IsBegun, TakesOf, room_of, stopped}
+use Rattle.edi_tokens.proofs.Lending.{takes_then}
 use Rattle.edi_relay.specs.declared.relay.RelayWords.{RelayWords}
 use Rattle.edi_relay.specs.declared.relay.RelayFault.{RelayFault}
 use Rattle.edi_relay.specs.declared.relay.RelayFault.TheVariants.{Token, Envelope, Memory}
 use Rattle.edi_relay.specs.Relay.{relayed, tokens_mailed, Relays, RelaysRead, without_read}
 use Rattle.edi_relay.specs.Relaying.{Flagged}
 use Rattle.edi_relay.proofs.ReadOn.{never_read}
-use Rattle.hub_app.specs.Run.{read_limit, Delivers, DeliversFront, IfToEnd, IsRefused}
+use Rattle.hub_app.specs.Run.{read_limit, Delivers, DeliversFront, IfToEnd, IsRefused, Ran}
 
 -- ---- one byte more than the longest text tells as much as all
 
@@ -88,6 +89,69 @@ to_end (Err (Token Read)) f = tt
 to_end (Err (Token token.Memory)) f = f
 to_end (Err (Envelope fault)) f = f
 to_end (Err Memory) f = tt
+
+-- ---- what was read and relayed
+
+nothing_known : {P : List ℕ → Type 0} (known : Option (List ℕ)) → ((k : List ℕ) → P k) → IfSome known P
+nothing_known None h = tt
+nothing_known (Some k) h = h k
+
+nothing_taken : (known : Option (List ℕ)) → Consumes known known []
+nothing_taken None = tt
+nothing_taken (Some k) = refl
+
+module _ {X : Type 0} (view : X → List ℕ) (words : RelayWords) (before : Option (List ℕ)) (was : Bool) where
+  pub out_of_memory : Ran view words before before was was (Err Memory)
+  out_of_memory = record {
+    relayed_as = nothing_known before (λ k. tt);
+    flag = refl;
+    taken = record { front = []; taken = nothing_taken before; within = omega arith };
+    stands = tt;
+  }
+
+  module _ (old new : Lender) (begun : IsBegun old (text_limit + 1)) (fed : (k : List ℕ) → Fed (Some k) k [] old)
+      (between : Option (List ℕ)) (flag : Bool) (r : Result X RelayFault)
+      (told : (all : List ℕ) → Fed before all [] old → RelaysRead view r (relayed all words))
+      (flagged : stopped old ≡ None → Flagged r was flag)
+      (bound : TakesOf before between (room_of old) (room_of new))
+      (ends : AtEnd before old → AtEnd between new) where
+    relays : IfSome before (λ k. RelaysRead view r (relayed (take read_limit k) words))
+    relays = known_relayed (λ x. RelaysRead view r x) words before old fed told
+
+    bound_at : TakesOf before between read_limit (room_of new)
+    bound_at = subst (λ (n : ℕ). TakesOf before between n (room_of new)) begun.room_is bound
+
+    pub cut_short : r ≡ Err (Token Read) → Ran view words before between was flag r
+    cut_short is = record {
+      relayed_as = relays;
+      flag = flagged begun.going;
+      taken = taken_at_most before between (room_of new) bound_at;
+      stands =
+          subst (λ (q : Result X RelayFault). IfToEnd q (IfSome before (λ k. Consumes before between (take read_limit k)))) (sym is) tt;
+    }
+
+    module _ (after : Option (List ℕ)) (failed : Bool) where
+      pub read_away : (missing : ℕ)
+          → TakesOf between after (room_of new) missing × (AtEnd between new → IsAtEnd after ⊎ (missing ≡ 0))
+          → failed ≡ flag
+          → Ran view words before after was failed r
+      read_away missing away kept =
+          let all = takes_then before between after read_limit (room_of new) missing bound_at away.0 in
+          record {
+            relayed_as = relays;
+            flag = subst (λ (b : Bool). Flagged r was b) (sym kept) (flagged begun.going);
+            taken = taken_at_most before after missing all;
+            stands = to_end r (stands_at before after missing all (away.1 (ends (begun.ends before))));
+          }
+
+      pub read_failed : (left : ℕ) × TakesOf between after (room_of new) left → failed ≡ true
+          → Ran view words before after was failed (Err (Token Read))
+      read_failed away up = record {
+        relayed_as = nothing_known before (λ k. tt);
+        flag = up;
+        taken = taken_at_most before after away.0 (takes_then before between after read_limit (room_of new) away.0 bound_at away.1);
+        stands = tt;
+      }
 
 -- ---- what a run did
 

@@ -1,13 +1,15 @@
 -- What a run of `relay` between a reader and two writers does, by the bytes that are known of each.
-use Rattle.std.specs.Prelude.{◌≡◌, ℕ, ◌+◌, List, ◌++◌, take, codes, Option, IfSome, Result, Ok, Err}
-use Rattle.std.specs.Io.KnownBytes.{Appends}
+use Rattle.std.specs.Prelude.{◌≡◌, ℕ, ◌+◌, Bool, List, ◌++◌, take, codes, Option, IfSome, Result, Ok, Err}
+use Rattle.std.specs.Io.KnownBytes.{Appends, Consumes}
+use Rattle.edi_base.specs.Source.{TakesAtMost}
 use Rattle.edi_base.specs.Buffer.{AppendsFront}
 use Rattle.edi_tokens.specs.Spelling.{text_limit}
 use Rattle.edi_relay.specs.declared.relay.RelayWords.{RelayWords}
 use Rattle.edi_relay.specs.declared.relay.RelayFault.{RelayFault}
 use Rattle.edi_tokens.specs.declared.fault.TokenFault.TheVariants as token
 use Rattle.edi_relay.specs.declared.relay.RelayFault.TheVariants.{Token, Envelope, Memory}
-use Rattle.edi_relay.specs.Relay.{relayed, code_of}
+use Rattle.edi_relay.specs.Relay.{relayed, code_of, RelaysRead}
+use Rattle.edi_relay.specs.Relaying.{Flagged}
 
 -- one byte more than the longest text is read, so that a longer one shows
 abbrev pub read_limit : ℕ
@@ -38,3 +40,12 @@ IfToEnd (Err (Token token.Read)) fact = Unit {0}
 IfToEnd (Err (Token fault)) fact = fact
 IfToEnd (Err (Envelope fault)) fact = fact
 IfToEnd (Err Memory) fact = Unit {0}
+
+-- What was read of a reader, and relayed: at most so many bytes, and all of them where no read failed and memory did not
+-- run out.
+pub record Ran {X : Type 0} (view : X → List ℕ) (words : RelayWords) (before after : Option (List ℕ)) (was failed : Bool)
+    (result : Result X RelayFault) : Type 0 where
+  pub relayed_as : IfSome before (λ known. RelaysRead view result (relayed (take read_limit known) words))
+  pub flag : Flagged result was failed
+  pub taken : TakesAtMost before after read_limit
+  pub stands : IfToEnd result (IfSome before (λ known. Consumes before after (take read_limit known)))

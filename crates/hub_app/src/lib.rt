@@ -10,8 +10,8 @@ mod show;
 mod words;
 
 pub use check::{TextFault, check_run, read_register_text};
-pub use exit::FAILED;
 pub use edi_relay::{RelayFault, RelayWords, relay_text};
+pub use exit::FAILED;
 pub use run::relay_run;
 pub use show::show_run;
 pub use words::{CheckWords, HubTask, HubWords, ServeWords, Words, WordsFault, read_words};

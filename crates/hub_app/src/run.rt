@@ -5,10 +5,9 @@ ghost use Rattle.std.specs.Io.KnownBytes.{Appends, Consumes, Keeps};
 ghost use Rattle.edi_base.specs.Buffer.{AppendsFront};
 ghost use Rattle.edi_base.specs.Source.{TakesAtMost};
 ghost use Rattle.edi_relay.specs.declared.relay.RelayFault.{RelayFault};
-ghost use Rattle.edi_relay.specs.Relay.{AreRelayWords, RelaysRead, relayed};
-ghost use Rattle.edi_relay.specs.Relaying.{Flagged};
+ghost use Rattle.edi_relay.specs.Relay.{AreRelayWords};
 ghost use Rattle.hub_app.specs.Exit.{Tells};
-ghost use Rattle.hub_app.specs.Run.{Delivers, DeliversFront, IfToEnd, IsRefused, read_limit, refusal};
+ghost use Rattle.hub_app.specs.Run.{Delivers, DeliversFront, IsRefused, Ran, read_limit, refusal};
 
 use crate::exit::{DONE, FAILED, REFUSED, tell};
 use edi_relay::{RelayFault, RelayWords, relay_lent};
@@ -63,12 +62,8 @@ fn relay_input<R: Source>(
     words: &RelayWords,
     input: &mut R,
 ) -> Result<Vec<u8>, RelayFault>
-    ensures relayed { IfSome (R.remaining input.old) (λ known.
-        RelaysRead (λ out. out.items) result (relayed (take read_limit known) words.now)) }
-    ensures flag { Flagged result (R.failed input.old) (R.failed input.new) }
-    ensures taken { TakesAtMost (R.remaining input.old) (R.remaining input.new) read_limit }
-    ensures stands { IfToEnd result (IfSome (R.remaining input.old) (λ known.
-        Consumes (R.remaining input.old) (R.remaining input.new) (take read_limit known))) }
+    ensures { Ran (λ out. out.items) words.now (R.remaining input.old) (R.remaining input.new) (R.failed input.old)
+        (R.failed input.new) result }
 {
     let mut lender = Lender::new(alloc)?;
     let relayed = relay_lent(alloc, &mut lender, input, words);
