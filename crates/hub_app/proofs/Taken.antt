@@ -191,23 +191,23 @@ pub is_refused : {X : Type 0} (view : X → List ℕ) (known : Option (List ℕ)
 is_refused view None words fault read memory h = tt
 is_refused view (Some k) words fault read memory h = fault_is view fault (relayed (take read_limit k) words) read memory h
 
-pub was_to_end : {X F : Type 0} (fault : TokenFault) → fault ≢ Read → IfToEnd {X = X} (Err (Token fault)) F → F
-was_to_end TooLong h f = f
-was_to_end ServiceString h f = f
-was_to_end Byte h f = f
-was_to_end Cut h f = f
-was_to_end Tag h f = f
-was_to_end LongSegment h f = f
-was_to_end Read h f = absurd (h refl)
-was_to_end token.Memory h f = f
+pub was_to_end : (X : Type 0) {F : Type 0} (fault : TokenFault) → fault ≢ Read → IfToEnd {X = X} (Err (Token fault)) F → F
+was_to_end X TooLong h f = f
+was_to_end X ServiceString h f = f
+was_to_end X Byte h f = f
+was_to_end X Cut h f = f
+was_to_end X Tag h f = f
+was_to_end X LongSegment h f = f
+was_to_end X Read h f = absurd (h refl)
+was_to_end X token.Memory h f = f
 
 -- no flag goes up but at a failed read
-pub same_flag : {X : Type 0} (fault : TokenFault) (old new : Bool) → fault ≢ Read → Flagged {X = X} (Err (Token fault)) old new → new ≡ old
-same_flag TooLong old new h f = f
-same_flag ServiceString old new h f = f
-same_flag Byte old new h f = f
-same_flag Cut old new h f = f
-same_flag Tag old new h f = f
-same_flag LongSegment old new h f = f
-same_flag Read old new h f = absurd (h refl)
-same_flag token.Memory old new h f = absurd f
+pub same_flag : (X : Type 0) (fault : TokenFault) (old new : Bool) → fault ≢ Read → Flagged {X = X} (Err (Token fault)) old new → new ≡ old
+same_flag X TooLong old new h f = f
+same_flag X ServiceString old new h f = f
+same_flag X Byte old new h f = f
+same_flag X Cut old new h f = f
+same_flag X Tag old new h f = f
+same_flag X LongSegment old new h f = f
+same_flag X Read old new h f = absurd (h refl)
+same_flag X token.Memory old new h f = absurd f
