@@ -11,7 +11,9 @@ ghost use Rattle.hub_app.specs.Run.{Delivers, DeliversFront, IsRefused, Ran, rea
 
 use crate::exit::{DONE, FAILED, REFUSED, tell};
 use edi_relay::{RelayFault, RelayWords, relay_lent};
-use edi_tokens::{Lender, ReadFault, Sink, Source, TEXT_LIMIT, TokenFault, WriteFault, write_bytes};
+use edi_tokens::{
+    Lender, ReadFault, Sink, Source, TEXT_LIMIT, TokenFault, WriteFault, write_bytes,
+};
 use std::alloc::Global;
 
 /// One byte more than the longest text is read, so that a longer one shows.
