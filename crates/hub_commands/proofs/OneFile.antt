@@ -1,12 +1,15 @@
 -- What comes of one file.
 use Rattle.std.proofs.Common.{◌≡◌, ℕ, Bool, List, [], Option, Some, None, Result, Ok, Err, refl, sym, subst, inl, inr, string_bytes}
-use Rattle.std.specs.Prelude.{IsErr, IfSome}
+use Rattle.std.specs.Prelude.{◌≢◌, IsErr, IfOk, IfErr, IfSome}
 use Rattle.std.proofs.KnownBytes.{Appends-nil}
 use Rattle.std.proofs.lemmas.Bool.{false≢true}
 use Rattle.edi_base.specs.declared.source.ReadFault.{ReadFault}
 use Rattle.edi_base.specs.declared.source.ReadFault.TheVariants.{Read, Memory}
 use Rattle.edi_envelope.specs.Opened.{opened, Opens}
+use Rattle.edi_tokens.specs.declared.fault.TokenFault.TheVariants as token
+use Rattle.edi_envelope.specs.Gathered.{Flagged}
 use Rattle.edi_envelope.specs.declared.fault.OpenFault.{OpenFault}
+use Rattle.edi_envelope.specs.declared.fault.OpenFault.TheVariants.{Token}
 use Rattle.edi_envelope.specs.declared.interchange.Interchange.{Interchange}
 use Rattle.hub_law.specs.declared.reply.Reply.{Reply}
 use Rattle.hub_commands.specs.Files.{Gave, FaultComesOf, OpensSource, IsCalled, IsRead, IsUnread}
@@ -61,6 +64,31 @@ module _ {B : Type 0} (remaining : B → Option (List ℕ)) (broken : B → Bool
   opens_source given source upload is opens some =
       subst (λ (given : Result B ReadFault). OpensSource remaining given upload) (sym is)
       (opens_known upload (remaining source) opens some)
+
+  -- the upload of a source whose read failed
+  pub read_failed : (given : Result B ReadFault) (source later : B) (upload : Result Interchange OpenFault)
+      → given ≡ Ok source
+      → upload ≡ Err (Token token.Read)
+      → Flagged upload (broken source) (broken later)
+      → FaultComesOf broken given Read
+  read_failed given source later upload is failed flag =
+      subst (λ (given : Result B ReadFault). FaultComesOf broken given Read) (sym is)
+      (later, subst (λ (u : Result Interchange OpenFault). Flagged u (broken source) (broken later)) failed flag)
+
+  module _ (given : Result B ReadFault) (source later : B) (upload : Result Interchange OpenFault) (is : given ≡ Ok source)
+      (opens : OpensSource remaining given upload) (flag : Flagged upload (broken source) (broken later)) where
+    pub read_opens : (r : Result (Result Interchange OpenFault) ReadFault)
+        → IfOk r (λ read. (read ≡ upload) × (read ≢ Err (Token token.Read)))
+        → IfOk r (λ upload. OpensSource remaining given upload)
+    read_opens (Ok read) ok = subst (λ (u : Result Interchange OpenFault). OpensSource remaining given u) (sym ok.0) opens
+    read_opens (Err fault) ok = tt
+
+    pub unread_comes : (r : Result (Result Interchange OpenFault) ReadFault)
+        → IfErr r (λ fault. (fault ≡ Read) × (upload ≡ Err (Token token.Read)))
+        → IfErr r (FaultComesOf broken given)
+    unread_comes (Ok read) err = tt
+    unread_comes (Err fault) err =
+        subst (λ (f : ReadFault). FaultComesOf broken given f) (sym err.0) (read_failed given source later upload is err.1 flag)
 
   pub did_upload : (Steps : List ℕ → Reply → Type 0) (Stays : Type 0) (name : List ℕ) (reply : Reply) (source : Result B ReadFault)
       (upload : Result Interchange OpenFault)

@@ -56,6 +56,19 @@ fn print_fault<W: Sink>(fault: ReadFault, out: &mut W) -> Result<u8, Ended>
     }
 }
 
+// What was opened, unless a read had failed.
+fn unless_unread(
+    upload: Result<Interchange, OpenFault>,
+) -> Result<Result<Interchange, OpenFault>, ReadFault>
+    ensures ok { IfOk result (λ given. (given ≡ upload) × (given ≢ Err (OpenFault.Token TokenFault.Read))) }
+    ensures err { IfErr result (λ fault. (fault ≡ ReadFault.Read) × (upload ≡ Err (OpenFault.Token TokenFault.Read))) }
+{
+    match upload {
+        Err(OpenFault::Token(TokenFault::Read)) => Err(ReadFault::Read),
+        _ => Ok(upload),
+    }
+}
+
 // Opens what is read from a source, one segment at a time; or why it was not read. A read that fails ends it.
 fn opened_from<B: Source + Drop>(
     alloc: Global,
@@ -70,10 +83,7 @@ fn opened_from<B: Source + Drop>(
         return Err(ReadFault::Memory);
     };
     let upload = open_lent(alloc, &mut lender, &mut source);
-    if let Err(OpenFault::Token(TokenFault::Read)) = upload {
-        return Err(ReadFault::Read);
-    }
-    Ok(upload)
+    unless_unread(upload)
 }
 
 // Uploads a file, and prints what comes of it. Answers its exit status.
