@@ -56,6 +56,17 @@ def reads_that_fail():
     return play.served(ORDER, 200, ORDER_TAKEN, f"piece 1 reads {len(ORDER)}")
 
 
+def faults_far_from_the_end():
+    """A body that shows its fault at once is read to its end: cut, or with a read that fails behind the fault, it is not refused."""
+    play = Wire().now()
+    whole = asking("POST", f"/p/{RETAILER}/interchanges", RETAILER, "abc" + "x" * 297)
+    for manner in ("", "piece 1"):
+        play.served(whole[:-1], 400, "bad request\n", manner).served(whole, 400, "refused E05\n", manner)
+    play.connection(whole, "fault read", b"", f"piece 1 reads {len(whole) - 1}")
+    play.served(whole + b"more", 400, "refused E05\n", f"piece 1 reads {len(whole)}")
+    return play.served(LIST, 200, EMPTY)
+
+
 def writes_that_fail():
     """Each write fails in turn, and what was sent is repeated; and a writer that takes nothing."""
     play = Wire().now()
@@ -83,6 +94,7 @@ CONNECTIONS = [
     byte_by_byte().case("connections byte by byte"),
     cut_everywhere().case("a request cut at each of its lengths"),
     reads_that_fail().case("each read of a connection fails in turn"),
+    faults_far_from_the_end().case("a body whose fault shows at once is read to its end"),
     writes_that_fail().case("each write of a connection fails in turn"),
     stores_that_stop().case("connections over a store that stops"),
 ]

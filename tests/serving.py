@@ -186,6 +186,7 @@ def seen_by_others(program):
     other = lambda method, rest, status, body, *fields: (f"{method} {rest}", head(f"{method} {rest} HTTP/1.1", key, *fields), status, body)
     interchanges = f"/p/{ALPHA}/interchanges"
     hundred = asking("POST", interchanges, ALPHA, "x" * 100)
+    no_tag = asking("POST", interchanges, ALPHA, "abc" + "x" * 297)
     assert len(response(200, listed((1, "ORDERS", "128576")))) == 33 + len(response(200, "")) + 1
     return served(
         program,
@@ -197,6 +198,8 @@ def seen_by_others(program):
             other("POST", interchanges, 411, "length\n"),
             other("POST", interchanges, 413, "too large\n", "Content-Length: 1048577"),
             ("a body one byte short", hundred[:-1], 400, "bad request\n"),
+            ("299 of 300 bytes that begin with no tag", no_tag[:-1], 400, "bad request\n"),
+            ("300 bytes that begin with no tag", no_tag, 400, "refused E05\n"),
             post(ALPHA, "mail/item/1/taken", "", 200, "taken\n"),
             get(ALPHA, "mail/after/0", 200, "end\n"),
             get(ALPHA, "mail/item/1", 200, FIRST_MAIL),

@@ -4,3 +4,4 @@ mod Callers
 mod Examples
 mod Judging
 mod Serving
+mod Uploads

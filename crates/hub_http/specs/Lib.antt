@@ -5,3 +5,4 @@ pub mod Refusal
 pub mod Serve
 pub mod Sought
 pub mod Told
+pub mod Upload

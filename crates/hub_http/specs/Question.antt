@@ -39,6 +39,10 @@ abbrev pub of_asker : Asked → Result Request Refusal → Result Question Refus
 of_asker asked (Ok request) = Ok (record { gln = asked.gln; key = asked.key; request = request })
 of_asker asked (Err refusal) = Err refusal
 
+-- an upload of these bytes
+abbrev pub uploading : Asked → List ℕ → Question
+uploading asked bytes = record { gln = asked.gln; key = asked.key; request = asks.Upload bytes }
+
 -- with the body, none where it is cut
 abbrev pub with_body : Asked → Option (List ℕ) → Result Question Refusal
 with_body asked (Some body) = of_asker asked (request_for asked.sought body)

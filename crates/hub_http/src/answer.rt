@@ -1,19 +1,24 @@
 //! The one answer to a connection.
-ghost use Rattle.std.specs.Prelude.{◌≡◌, ◌+◌, ◌++◌, codes, true, Ok, Some, IfOk, IfSome, OnErr, OnOk};
+ghost use Rattle.std.specs.Prelude.{◌≡◌, ◌≢◌, ◌+◌, ◌++◌, ◌≤◌, ℕ, List, codes, true, Ok, Err, Some, IfOk, IfSome};
+ghost use Rattle.std.specs.Prelude.{OnErr, OnOk};
 ghost use Rattle.edi_base.specs.Source.{TakesAtMost};
+ghost use Rattle.edi_envelope.specs.Opened.{opened, Opens};
 ghost use Rattle.http_head.specs.Head.{before, longest_head};
 ghost use Rattle.http_head.specs.Body.{body_in};
 ghost use Rattle.hub_http.specs.Answer as spec;
 ghost use Rattle.hub_http.specs.Asked.{asked_by, is_single, longest_body};
-ghost use Rattle.hub_http.specs.Question.{question_of as asked_of, with_body};
+ghost use Rattle.hub_http.specs.Question.{question_of as asked_of, uploading, with_body};
 ghost use Rattle.hub_http.specs.Refusal.{status_of as refusal_status, text_of};
 ghost use Rattle.hub_http.specs.Told.{told, told_question};
 
 use crate::asked::{Asking, judge};
 use crate::question::{Posed, question_of};
 use crate::refusal::Refusal;
+use crate::sought::Sought;
+use crate::upload::{Opened, open_body};
 use edi_base::{Items, ReadFault, Source};
-use edi_envelope::Moment;
+use edi_envelope::{Moment, OpenFault};
+use edi_tokens::TokenFault;
 use http::StatusCode;
 use http_head::{Head, HeadFault, read_body, read_head};
 use hub_core::{Hub, Outcome, Reply};
@@ -109,8 +114,8 @@ fn answer_body<S: Store>(
     }
 }
 
-// The answer to what is asked for, whose body begins with these bytes.
-fn answer_asked<R: Source, S: Store>(
+// The answer to what is asked for with a body that is kept, and begins with these bytes.
+fn answer_kept<R: Source, S: Store>(
     alloc: Global,
     hub: &mut Hub<S>,
     moment: Moment,
@@ -133,6 +138,76 @@ fn answer_asked<R: Source, S: Store>(
         Ok(body) => Ok(answer_body(alloc, hub, moment, asking, body)),
         Err(ReadFault::Read) => Err(HeadFault),
         Err(ReadFault::Memory) => Ok(stopped()),
+    }
+}
+
+// Asks the hub with an upload that was opened.
+fn ask_opened<S: Store>(hub: &mut Hub<S>, moment: Moment, asking: &Asking<'_>, upload: Opened) -> Answer
+    requires { upload ≢ Err (OpenFault.Token TokenFault.Read) }
+    ensures asked { (bytes : List ℕ) → Opens upload (opened bytes) →
+        spec.Ends (spec.Steps S.content S.honest S.left moment hub.old hub.new) (hub.new ≡ hub.old)
+        (Ok (uploading (told asking.now) bytes)) result }
+    ensures register { hub.new.0 ≡ hub.old.0 }
+    ensures was_honest { S.honest hub.new.1 → S.honest hub.old.1 }
+{
+    let reply = hub.step_opened(moment, &asking.gln, asking.key, upload);
+    replied(reply)
+}
+
+// The answer to an upload whose body begins with these bytes. It is not kept.
+fn answer_upload<R: Source, S: Store>(
+    alloc: Global,
+    hub: &mut Hub<S>,
+    moment: Moment,
+    reader: &mut R,
+    front: &[u8],
+    asking: &Asking<'_>,
+) -> Result<Answer, HeadFault>
+    requires sought { asking.now.sought ≡ Sought.Upload }
+    requires short { asking.now.size ≤ longest_body }
+    ensures answers { IfOk result (λ answer. IfSome (R.remaining reader.old) (λ left.
+        spec.Answers (spec.Steps S.content S.honest S.left moment hub.old hub.new) (hub.new ≡ hub.old) true
+        (with_body (told asking.now) (body_in (told asking.now).size (front.now ++ left))) answer)) }
+    ensures stepped { spec.OneStep (spec.Steps S.content S.honest S.left moment hub.old hub.new) (hub.new ≡ hub.old) }
+    ensures untouched { OnErr result (hub.new ≡ hub.old) }
+    ensures register { hub.new.0 ≡ hub.old.0 }
+    ensures was_honest { S.honest hub.new.1 → S.honest hub.old.1 }
+    ensures front { TakesAtMost (R.remaining reader.old) (R.remaining reader.new) asking.now.size }
+    ensures failed { OnErr result (R.failed reader.new ≡ true) }
+    ensures kept { OnOk result (R.failed reader.new ≡ R.failed reader.old) }
+{
+    match open_body(alloc, reader, front, asking.size) {
+        Ok(Some(upload)) => Ok(ask_opened(hub, moment, asking, upload)),
+        Ok(None) => Ok(refused(Refusal::BadRequest)),
+        Err(ReadFault::Read) => Err(HeadFault),
+        Err(ReadFault::Memory) => Ok(stopped()),
+    }
+}
+
+// The answer to what is asked for, whose body begins with these bytes.
+fn answer_asked<R: Source, S: Store>(
+    alloc: Global,
+    hub: &mut Hub<S>,
+    moment: Moment,
+    reader: &mut R,
+    front: &[u8],
+    asking: &Asking<'_>,
+) -> Result<Answer, HeadFault>
+    requires { asking.now.size ≤ longest_body }
+    ensures answers { IfOk result (λ answer. IfSome (R.remaining reader.old) (λ left.
+        spec.Answers (spec.Steps S.content S.honest S.left moment hub.old hub.new) (hub.new ≡ hub.old) true
+        (with_body (told asking.now) (body_in (told asking.now).size (front.now ++ left))) answer)) }
+    ensures stepped { spec.OneStep (spec.Steps S.content S.honest S.left moment hub.old hub.new) (hub.new ≡ hub.old) }
+    ensures untouched { OnErr result (hub.new ≡ hub.old) }
+    ensures register { hub.new.0 ≡ hub.old.0 }
+    ensures was_honest { S.honest hub.new.1 → S.honest hub.old.1 }
+    ensures front { TakesAtMost (R.remaining reader.old) (R.remaining reader.new) asking.now.size }
+    ensures failed { OnErr result (R.failed reader.new ≡ true) }
+    ensures kept { OnOk result (R.failed reader.new ≡ R.failed reader.old) }
+{
+    match asking.sought {
+        Sought::Upload => answer_upload(alloc, hub, moment, reader, front, asking),
+        _ => answer_kept(alloc, hub, moment, reader, front, asking),
     }
 }
 

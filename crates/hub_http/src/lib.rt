@@ -7,5 +7,6 @@ mod question;
 mod refusal;
 mod serve;
 mod sought;
+mod upload;
 
 pub use serve::{IoFault, Served, serve_one};

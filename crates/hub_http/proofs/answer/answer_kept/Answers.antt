@@ -3,7 +3,7 @@ use Rattle.hub_http.specs.Answer.{Steps}
 use Rattle.hub_http.specs.Question.{with_body}
 use Rattle.hub_http.specs.Told.{told}
 use Rattle.hub_http.proofs.Serving.{one_step}
-use Rattle.hub_http.proofs.answer.answer_asked.Goals as goal
+use Rattle.hub_http.proofs.answer.answer_kept.Goals as goal
 
 pub returns-in-Ok-clause-stepped : goal.returns-in-Ok-clause-stepped
 returns-in-Ok-clause-stepped g c =

@@ -1,0 +1,61 @@
+//! The body of an upload, which is opened as it is read.
+ghost use Rattle.std.specs.Prelude.{◌≡◌, ◌≢◌, ◌≤◌, ◌++◌, ◌↔◌, ℕ, List, true, Err, IfOk, IfSome};
+ghost use Rattle.edi_base.specs.Source.{TakesAtMost};
+ghost use Rattle.edi_envelope.specs.Opened.{opened, Opens};
+ghost use Rattle.http_head.specs.Body.{body_in};
+ghost use Rattle.hub_http.specs.Asked.{longest_body};
+ghost use Rattle.hub_http.specs.Upload.{IsUpload};
+
+use edi_base::{ReadFault, Source};
+use edi_envelope::{Interchange, OpenFault, open_lent};
+use edi_tokens::{Lender, TokenFault};
+use std::alloc::Global;
+
+/// What a text was opened as, or why there is no interchange.
+pub(crate) type Opened = Result<Interchange, OpenFault>;
+
+// Whether a read failed.
+fn is_unread(upload: &Opened) -> bool
+    ensures { (result ≡ true) ↔ (upload.now ≡ Err (OpenFault.Token TokenFault.Read)) }
+{
+    match upload {
+        Err(OpenFault::Token(TokenFault::Read)) => true,
+        _ => false,
+    }
+}
+
+/// Opens the body of `size` bytes whose front was read with the head, one segment after another as it is read: the body
+/// is not kept. Behind a fault it is read away. `None` where the source ended before it.
+pub(crate) fn open_body<R: Source>(
+    alloc: Global,
+    reader: &mut R,
+    front: &[u8],
+    size: usize,
+) -> Result<Option<Opened>, ReadFault>
+    requires { size ≤ longest_body }
+    ensures body { IfOk result (λ upload. IfSome (R.remaining reader.old) (λ left.
+        IsUpload upload (body_in size (front.now ++ left)))) }
+
+    // Also where nothing is known of the bytes, it is what some are opened as, and no failed read.
+    ensures some { IfOk result (λ upload. IfSome upload (λ upload. (bytes : List ℕ) × Opens upload (opened bytes))) }
+    ensures unread { IfOk result (λ upload. IfSome upload (λ upload. upload ≢ Err (OpenFault.Token TokenFault.Read))) }
+
+    ensures front { TakesAtMost (R.remaining reader.old) (R.remaining reader.new) size }
+    ensures read { result ≡ Err ReadFault.Read → R.failed reader.new ≡ true }
+    ensures kept { result ≢ Err ReadFault.Read → R.failed reader.new ≡ R.failed reader.old }
+{
+    let Ok(mut lender) = Lender::of_size(alloc, front, size) else {
+        return Err(ReadFault::Memory);
+    };
+    let upload = open_lent(alloc, &mut lender, reader);
+    if is_unread(&upload) {
+        return Err(ReadFault::Read);
+    }
+    let Ok(missing) = lender.skip_rest(reader) else {
+        return Err(ReadFault::Read);
+    };
+    if missing == 0 {
+        return Ok(Some(upload));
+    }
+    Ok(None)
+}
