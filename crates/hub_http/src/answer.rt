@@ -142,7 +142,12 @@ fn answer_kept<R: Source, S: Store>(
 }
 
 // Asks the hub with an upload that was opened.
-fn ask_opened<S: Store>(hub: &mut Hub<S>, moment: Moment, asking: &Asking<'_>, upload: Opened) -> Answer
+fn ask_opened<S: Store>(
+    hub: &mut Hub<S>,
+    moment: Moment,
+    asking: &Asking<'_>,
+    upload: Opened,
+) -> Answer
     requires { upload ≢ Err (OpenFault.Token TokenFault.Read) }
     ensures asked { (bytes : List ℕ) → Opens upload (opened bytes) →
         spec.Ends (spec.Steps S.content S.honest S.left moment hub.old hub.new) (hub.new ≡ hub.old)
