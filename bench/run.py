@@ -16,10 +16,10 @@ import loads
 WORDS = ["relay", "--hub", "5412345000006", "--owner", "4012345500004", "--moment", "1748942400", "--number", "1"]
 ROUNDS = 7
 
-# The bounds: instructions of the plain program, growth from 1/16 of the size, and MB on the first load.
-MOST_INSTRUCTIONS = 1.3
+# The bounds: instructions of the flat program at the whole size, growth from 1/16 of it, and MB on the first load.
+MOST_INSTRUCTIONS = 2.5
 MOST_GROWTH = 18
-MOST_MEMORY = 32
+MOST_MEMORY = 8
 
 # The bounds of a check: seconds that 1,000 suppliers take more than one, and MB of address space.
 MOST_CHECK_SECONDS = 0.010
@@ -73,8 +73,8 @@ def size(ours, plain, flat, name, text, data):
     passed = []
     if count and plain_count and flat_count:
         line += f", instructions {count / plain_count:.2f} and {count / flat_count:.2f} ({count / len(data):.0f} a byte, {plain_count / len(data):.0f} in the plain program, {flat_count / len(data):.0f} in the flat one)"
-        if count > MOST_INSTRUCTIONS * plain_count:
-            passed.append(f"{name}: more than {MOST_INSTRUCTIONS} times the instructions of the plain program")
+        if len(data) > loads.LIMIT // 2 and count > MOST_INSTRUCTIONS * flat_count:
+            passed.append(f"{name}: more than {MOST_INSTRUCTIONS} times the instructions of the flat program")
     if name == next(iter(loads.LOADS)) and memory * 1024 > MOST_MEMORY * 10**6:
         passed.append(f"{name}: more than {MOST_MEMORY} MB")
     print(line, flush=True)
