@@ -75,17 +75,17 @@ def despatches(measured):
 
 
 def status(measured):
-    """The status of 10,000 lines, 200 times."""
+    """The status of 10,000 lines, 50 times."""
     play = Play().say("quiet")
     sent(play, 999, 0, 10)
     sent(play, 1, 999, 10)
     begun(play.say("loud"))
-    for _ in range(200 if measured else 0):
+    for _ in range(50 if measured else 0):
         play.status()
     return play.script
 
 
-LOADS = {"20 uploads of 999 orders": orders, "2,000 despatches of 10 lines among 100,000": despatches, "200 statuses of 10,000 lines": status}
+LOADS = {"20 uploads of 999 orders": orders, "2,000 despatches of 10 lines among 100,000": despatches, "50 statuses of 10,000 lines": status}
 
 
 def since_first(words, folder, source=subprocess.DEVNULL):
