@@ -320,7 +320,8 @@ def memory_refused(program, top):
                 kind = "store memory"
             elif status == 3 and error == b"memory\n" and whole[1].startswith(printed):
                 kind = "memory"
-            elif status == 3 and not error and (printed.endswith(b"stopped\n") or printed == whole[1].split(b"\n")[0] + b"\n"):
+            elif status == 3 and not error and (not printed or printed.endswith(b"stopped\n") or printed == whole[1].split(b"\n")[0] + b"\n"):
+                # also with no word, where there is no memory even for it
                 kind = "stopped"
             else:
                 return f"{name}: allocation {number} refused: {(status, printed, error)!r:.300}"
