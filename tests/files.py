@@ -81,8 +81,12 @@ def rows_in(folder):
 
 
 def is_whole(folder):
-    """What SQLite finds wrong with the file."""
-    whole, _ = rows_in(folder)
+    """What SQLite finds wrong with the file, which may have no tables yet."""
+    read = sqlite3.connect(os.path.join(folder, NAME))
+    try:
+        whole = read.execute("PRAGMA integrity_check").fetchall()
+    finally:
+        read.close()
     return None if whole == [("ok",)] else f"integrity: {whole}"
 
 
