@@ -63,6 +63,15 @@ def rows_of(folder):
     return found
 
 
+def is_made(folder):
+    """Whether a database file is there whose making has ended: only then does its first byte stand, and SQLite knows it."""
+    path = os.path.join(folder, NAME)
+    if not os.path.exists(path):
+        return False
+    with open(path, "rb") as file:
+        return file.read(1) != b"\0"
+
+
 def run(program, words, folder, **how):
     ran = subprocess.run([program, *words], cwd=folder, capture_output=True, timeout=60, **how)
     return ran.returncode, ran.stdout, ran.stderr
@@ -91,7 +100,7 @@ def imports_killed(program, top):
         time.sleep(length * place / MOMENTS)
         child.kill()
         child.communicate()
-        if os.path.exists(os.path.join(folder, NAME)) and is_whole(shutil.copytree(folder, folder + "looked")):
+        if is_made(folder) and is_whole(shutil.copytree(folder, folder + "looked")):
             return f"killed at {place}: {is_whole(folder + 'looked')}"
         status, printed, error = run(program, IMPORT, folder)
         words = [line.rsplit(b" ", 1)[-1] for line in printed.split(b"\n")[2:-1]]
@@ -133,7 +142,7 @@ def servers_killed(program, top):
                 except OSError:
                     pass
             server.child.wait()
-            if is_whole(shutil.copytree(folder, folder + "looked")):
+            if is_made(folder) and is_whole(shutil.copytree(folder, folder + "looked")):
                 return f"killed at {place}: {is_whole(folder + 'looked')}"
             with Server(program, asked, folder=folder) as again:
                 for k in range(asked):
