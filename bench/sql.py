@@ -15,7 +15,7 @@ import tempfile
 from hub import ALPHA, RETAILER, Play, begun, despatch, interchange, order, sent, since_first
 from hubs import TWO_SUPPLIERS
 
-ROUNDS, MESSAGES = 3, 600
+ROUNDS, MESSAGES = 5, 600
 LINES = (10, 1_000, 100_000)
 # the bounds: times of the plain program, growth from the fewest lines to the most, syncs a message
 MOST, MOST_GROWTH, MOST_SYNCS = 2, 1.3, 4
