@@ -1,7 +1,7 @@
 RELAY = relay --hub 5412345000006 --owner 4012345500004 --moment 1748942400 --number 1
 PROVED = crates/edihub/out/edihub
 
-.PHONY: run day serve try test wrong hostile fuzz bench edihub clean
+.PHONY: run day serve try test wrong found hostile fuzz bench edihub clean
 
 # The main job, with the proved program: the example's ORDERS interchange becomes the supplier's mailbox interchange.
 run: edihub
@@ -38,6 +38,10 @@ test:
 # The library of wrong bodies and wrong definitions, of all crates or of one: make wrong CRATE=edi_goods
 wrong:
 	python3 tests/wrong.py $(CRATE)
+
+# Whether the trial of a machine that stops finds a commit in two transactions, which the contracts refuse: some minutes.
+found:
+	python3 tests/found.py
 
 # Kills, full disks and damaged files, for some minutes; no part of the gate.
 hostile: edihub

@@ -17,12 +17,22 @@ FILES = ("stop-file", "stop-log")
 FEWEST, MOST = 20, 2000
 
 
-def play(program, words, text):
+def runs_of(program):
+    """How a program is run: of words and a script its status and what it prints."""
+
+    def run(words, text):
+        ran = subprocess.run([program, *words], input=text, capture_output=True, timeout=60)
+        return ran.returncode, ran.stdout
+
+    return run
+
+
+def play(run, words, text):
     """The replies that a script prints, each with its word and its body."""
-    ran = subprocess.run([program, *words], input=text, capture_output=True, timeout=60)
-    if ran.returncode:
-        raise OSError(f"{words}: ended with {ran.returncode}, {ran.stdout!r:.200} {ran.stderr!r:.200}")
-    return replies(ran.stdout)
+    status, output = run(words, text)
+    if status:
+        raise OSError(f"{words}: ended with {status}, {output!r:.200}")
+    return replies(output)
 
 
 def replies(output):
@@ -47,34 +57,40 @@ def looks(play):
     return play
 
 
+def shown_after(number):
+    """The script that shows what there is after so many inputs."""
+    return looks(script(number)).script
+
+
+def stopped_script(hubs):
+    """A hub, opened so often; the inputs, looks once the machine has come back, the inputs again, and looks."""
+    whole = looks(script(len(inputs())).say("mend"))
+    for first, _ in inputs():
+        first(whole)
+    return Play().script * (hubs - 1) + looks(whole).script
+
+
 class Machine:
-    def __init__(self, program):
-        self.program = program
+    def __init__(self, run):
+        self.run = run
         self.count = len(inputs())
         self.told = replies(script(self.count).printed)
         # what is seen after each number of inputs, over lists
-        self.seen = [play(program, [], looks(script(number)).script)[number:] for number in range(self.count + 1)]
-
-    def script(self, hubs):
-        """A hub, opened so often; the inputs, looks once the machine has come back, the inputs again, and looks."""
-        whole = looks(script(self.count).say("mend"))
-        for first, _ in inputs():
-            first(whole)
-        return Play().script * (hubs - 1) + looks(whole).script
+        self.seen = [play(run, [], shown_after(number))[number:] for number in range(self.count + 1)]
 
     def stopped(self, which, number):
         """What is wrong where the machine stops at the call of this number; the number of inputs answered, less than
         all where it stopped."""
         words = [which, str(number)]
         front = []
-        ran = subprocess.run([self.program, *words], input=self.script(1), capture_output=True, timeout=60)
-        if ran.stdout.startswith(b"store "):
+        status, output = self.run(words, stopped_script(1))
+        if output.startswith(b"store "):
             # while the tables were made
             front = [(b"store disk", b"")]
-            ran = subprocess.run([self.program, *words], input=self.script(2), capture_output=True, timeout=60)
-        found = replies(ran.stdout)
-        if ran.returncode or found[: len(front)] != front:
-            return f"{words}: ended with {ran.returncode}, {ran.stdout!r:.300}"
+            status, output = self.run(words, stopped_script(2))
+        found = replies(output)
+        if status or found[: len(front)] != front:
+            return f"{words}: ended with {status}, {output!r:.300}"
         found = found[len(front) :]
         answers, rest = found[: self.count], found[self.count :]
         told = next((place for place, pair in enumerate(zip(answers, self.told)) if pair[0] != pair[1]), self.count)
@@ -120,7 +136,7 @@ class Again(Play):
 def machine(program):
     """What is wrong where a machine stops at a call of its files, if anything."""
     try:
-        tries = Machine(program)
+        tries = Machine(runs_of(program))
         for which in FILES:
             found = tries.tried(which)
             if isinstance(found, str):

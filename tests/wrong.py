@@ -72,17 +72,17 @@ def room_beside():
     return tempfile.TemporaryDirectory(prefix="wrong-", dir=os.path.dirname(ROOT))
 
 
-def copied(room, anew):
+def copied(room, anew, kept=True):
     """A copy of the tree, with what its checks kept. Of the crates in `anew` the kept work may be written to; that of the others is shared."""
     listed = subprocess.run(["git", "ls-files", "-z", "--cached", "--others", "--exclude-standard"], cwd=ROOT, stdout=subprocess.PIPE, text=True, check=True)
     for path in filter(None, listed.stdout.split("\0")):
         if os.path.isfile(os.path.join(ROOT, path)):
             os.makedirs(os.path.dirname(os.path.join(room, path)), exist_ok=True)
             shutil.copy2(os.path.join(ROOT, path), os.path.join(room, path))
-    for crate in sorted(os.listdir(os.path.join(ROOT, "crates"))):
-        kept = os.path.join(ROOT, "crates", crate, "out")
-        if os.path.isdir(kept):
-            shutil.copytree(kept, os.path.join(room, "crates", crate, "out"), symlinks=True, copy_function=shutil.copy2 if crate in anew else os.link)
+    for crate in sorted(os.listdir(os.path.join(ROOT, "crates"))) if kept else []:
+        work = os.path.join(ROOT, "crates", crate, "out")
+        if os.path.isdir(work):
+            shutil.copytree(work, os.path.join(room, "crates", crate, "out"), symlinks=True, copy_function=shutil.copy2 if crate in anew else os.link)
 
 
 def run(words, folder):

@@ -2,7 +2,7 @@
 use Rattle.std.proofs.Common.{◌≡◌, List, [], ◌∷◌, ◌++◌, true, false, refl, ap}
 use Rattle.std.specs.List.{list_any}
 use Rattle.std.proofs.lemmas.Bool.{or_parts, cases_Bool}
-use Rattle.edi_tokens.specs.declared.segment.Segment.{Segment}
+use Rattle.edi_segments.specs.declared.segment.Segment.{Segment}
 use Rattle.edi_envelope.specs.Segments.{is_unh}
 use Rattle.edi_envelope.specs.Blocks.{before_message, blocks}
 use Rattle.std.proofs.Common.{inl, inr}

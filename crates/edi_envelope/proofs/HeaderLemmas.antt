@@ -1,7 +1,7 @@
 -- What a header that is taken has in its places.
 use Rattle.std.proofs.Common.{◌≡◌, ℕ, zero, suc, ◌<◌, List, [], ◌∷◌, length, get_or, remove, true, refl, arith}
 use Rattle.std.proofs.lemmas.Bool.{and_parts}
-use Rattle.edi_tokens.specs.declared.segment.Segment.{Segment}
+use Rattle.edi_segments.specs.declared.segment.Segment.{Segment}
 use Rattle.edi_envelope.specs.Segments.{component}
 use Rattle.edi_base.specs.Limits.{are_digits}
 use Rattle.edi_envelope.specs.Limits.{is_reference}

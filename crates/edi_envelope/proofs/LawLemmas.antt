@@ -5,7 +5,7 @@ use Rattle.std.proofs.lemmas.Bool.{ltb-false}
 use Rattle.std.proofs.lemmas.List.{length-map}
 use Rattle.edi_base.proofs.Lowest.{Among, Above, Above-from_test, holds_here, none_lower, is_found, all_false, is_none}
 use Rattle.edi_envelope.specs.Message.{message_of}
-use Rattle.edi_tokens.specs.declared.segment.Segment.{Segment}
+use Rattle.edi_segments.specs.declared.segment.Segment.{Segment}
 use Rattle.edi_envelope.specs.declared.fault.EnvelopeFault.{EnvelopeFault}
 use Rattle.edi_envelope.specs.declared.fault.EnvelopeFault.TheVariants.{InterchangeFrame, InterchangeHeader, MessageFrame}
 use Rattle.edi_envelope.specs.declared.fault.EnvelopeFault.TheVariants.{MessageHeader, SegmentCount, MessageReference}
@@ -13,7 +13,7 @@ use Rattle.edi_envelope.specs.declared.fault.EnvelopeFault.TheVariants.{MessageC
 use Rattle.edi_envelope.specs.declared.fault.EnvelopeFault.TheVariants.{TestIndicator, TooManyMessages, CharacterSet}
 use Rattle.edi_envelope.specs.declared.fault.EnvelopeFault.TheVariants.{Memory}
 use Rattle.edi_envelope.specs.Fault.{number}
-use Rattle.edi_tokens.specs.declared.segment.Tokens.{Tokens}
+use Rattle.edi_segments.specs.declared.segment.Tokens.{Tokens}
 use Rattle.edi_envelope.specs.declared.interchange.Interchange.{Interchange}
 use Rattle.edi_envelope.specs.Interchange.{holds, faults, fault_of, judged, contents_of, interchange_of, messages_in}
 use Rattle.edi_envelope.specs.Law.{IsLowest, IsFaultless}

@@ -5,7 +5,6 @@ pub mod JoinLemmas
 pub mod LawLemmas
 pub mod LimitLemmas
 pub mod MailLemmas
-pub mod MomentLemmas
 pub mod ReferenceLemmas
 pub mod RowLemmas
 pub mod TallyLemmas

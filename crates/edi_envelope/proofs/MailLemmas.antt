@@ -8,11 +8,11 @@ use Rattle.std.proofs.lemmas.Bool.Decides.{nat_tests}
 use Rattle.std.proofs.lemmas.List.Concat.{flat_map-append}
 use Rattle.std.proofs.lemmas.List.Elements.{recursion_from_All}
 use Rattle.std.proofs.lemmas.Fmt.{decimal_by_steps}
-use Rattle.edi_tokens.specs.Characters.{is_digit}
+use Rattle.edi_segments.specs.Characters.{is_digit}
 use Rattle.edi_tokens.specs.Text.{text, is_usual, byte_text, component_text, segment_text}
 use Rattle.edi_envelope.specs.declared.interchange.RawMessage.{RawMessage}
-use Rattle.edi_tokens.specs.declared.segment.Segment.{Segment}
-use Rattle.edi_envelope.specs.Moment.{date_text, time_text, day_of, two_digits}
+use Rattle.edi_segments.specs.declared.segment.Segment.{Segment}
+use Rattle.edi_moment.specs.Moment.{date_text, time_text, day_of, two_digits}
 use Rattle.edi_envelope.specs.Mail.{renumbered, unb_from, unz_of, mail_segments, mail_interchange}
 
 -- each byte is a digit

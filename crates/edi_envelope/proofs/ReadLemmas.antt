@@ -3,16 +3,16 @@ use Rattle.std.proofs.Common.{◌≡◌, ◌≢◌, ℕ, Bool, true, false, List
 use Rattle.std.specs.Prelude.{OnOk}
 use Rattle.std.proofs.lemmas.Bool.{false≢true}
 use Rattle.edi_tokens.specs.declared.lender.Lender.{Lender}
-use Rattle.edi_tokens.specs.declared.segment.Segment.{Segment}
-use Rattle.edi_tokens.specs.declared.fault.TokenFault.{TokenFault}
-use Rattle.edi_tokens.specs.declared.fault.TokenFault.TheVariants as token
-use Rattle.edi_tokens.specs.Reading.{tokens_of}
-use Rattle.edi_tokens.specs.Machine.{tokens_at}
+use Rattle.edi_segments.specs.declared.segment.Segment.{Segment}
+use Rattle.edi_segments.specs.declared.fault.TokenFault.{TokenFault}
+use Rattle.edi_segments.specs.declared.fault.TokenFault.TheVariants as token
+use Rattle.edi_segments.specs.Reading.{tokens_of}
+use Rattle.edi_segments.specs.Machine.{tokens_at}
 use Rattle.edi_tokens.specs.Lender.{AtEnd, Came, Fed, TellsSome, Told, Feeds, Flags, TakesOf, answered, lent_by, room_of, stopped}
 use Rattle.edi_tokens.proofs.Lending.{takes_none, takes_then}
 use Rattle.edi_envelope.specs.declared.opening.Opening.{Opening}
-use Rattle.edi_tokens.specs.declared.fault.TokenFault.TheVariants.{TooLong, ServiceString, Byte, Cut, Tag, LongSegment, Read, Memory}
-use Rattle.edi_tokens.specs.declared.segment.Tokens.{Tokens}
+use Rattle.edi_segments.specs.declared.fault.TokenFault.TheVariants.{TooLong, ServiceString, Byte, Cut, Tag, LongSegment, Read, Memory}
+use Rattle.edi_segments.specs.declared.segment.Tokens.{Tokens}
 use Rattle.edi_envelope.specs.declared.fault.EnvelopeFault.{EnvelopeFault}
 use Rattle.edi_envelope.specs.declared.fault.EnvelopeFault.TheVariants as envelope
 use Rattle.edi_envelope.specs.declared.fault.OpenFault.{OpenFault}

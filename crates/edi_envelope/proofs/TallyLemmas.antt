@@ -9,7 +9,7 @@ use Rattle.std.proofs.lemmas.List.Folds.{list_all-append, list_any-append}
 use Rattle.edi_base.specs.Limits.{is_count, is_count_of}
 use Rattle.edi_base.specs.Seen.{is_among, has_twice}
 use Rattle.edi_base.proofs.Twice.{bytes_eq-sym}
-use Rattle.edi_tokens.specs.declared.segment.Segment.{Segment}
+use Rattle.edi_segments.specs.declared.segment.Segment.{Segment}
 use Rattle.edi_envelope.specs.declared.tally.Headers.{Headers}
 use Rattle.edi_envelope.specs.declared.tally.Trailers.{Trailers}
 use Rattle.edi_envelope.specs.Segments.{component, first_segment, last_segment}

@@ -1,6 +1,6 @@
 -- The messages between UNB and UNZ, cut before each UNH.
 use Rattle.std.specs.Prelude.{List, [], ◌∷◌, if◌then◌else◌}
-use Rattle.edi_tokens.specs.declared.segment.Segment.{Segment}
+use Rattle.edi_segments.specs.declared.segment.Segment.{Segment}
 use Rattle.edi_envelope.specs.Segments.{is_unh}
 
 -- the segments before the first UNH

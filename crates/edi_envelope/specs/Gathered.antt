@@ -2,11 +2,11 @@
 use Rattle.std.specs.Prelude.{◌≡◌, ◌≢◌, ℕ, Bool, false, true, List, [], ◌∷◌, ◌++◌, map, drop, Option, Some, None}
 use Rattle.std.specs.Prelude.{Result, Ok, Err}
 use Rattle.std.specs.List.{list_any}
-use Rattle.edi_tokens.specs.declared.segment.Segment.{Segment}
+use Rattle.edi_segments.specs.declared.segment.Segment.{Segment}
 use Rattle.edi_tokens.specs.declared.lender.Lender.{Lender}
-use Rattle.edi_tokens.specs.declared.fault.TokenFault.TheVariants as token
-use Rattle.edi_tokens.specs.Reading.{tokens_of}
-use Rattle.edi_tokens.specs.Machine.{tokens_at}
+use Rattle.edi_segments.specs.declared.fault.TokenFault.TheVariants as token
+use Rattle.edi_segments.specs.Reading.{tokens_of}
+use Rattle.edi_segments.specs.Machine.{tokens_at}
 use Rattle.edi_tokens.specs.Lender.{AtEnd, Came, Fed, HasCause, TakesOf, room_of, stopped}
 use Rattle.edi_envelope.specs.declared.fault.EnvelopeFault.{EnvelopeFault}
 use Rattle.edi_envelope.specs.declared.fault.EnvelopeFault.TheVariants as envelope

@@ -1,7 +1,7 @@
 -- The interchange header UNB (ISO 9735, service segments). Its elements and their components are counted from 0.
 use Rattle.std.specs.Prelude.{ℕ, Bool, ◌==◌, ◌&&◌, ◌||◌, codes, length}
 use Rattle.std.specs.Str.{bytes_eq}
-use Rattle.edi_tokens.specs.declared.segment.Segment.{Segment}
+use Rattle.edi_segments.specs.declared.segment.Segment.{Segment}
 use Rattle.edi_envelope.specs.declared.interchange.Head.{Head}
 use Rattle.edi_envelope.specs.Segments.{component}
 use Rattle.edi_base.specs.Limits.{has_length, are_digits}

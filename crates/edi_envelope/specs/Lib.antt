@@ -10,5 +10,4 @@ pub mod Judge
 pub mod Gathered
 pub mod Opened
 pub mod Law
-pub mod Moment
 pub mod Mail

@@ -1,12 +1,12 @@
 -- The mail text: an interchange of the hub that carries one message.
 use Rattle.std.specs.Prelude.{ℕ, List, [], ◌∷◌, ◌++◌, codes, map, slice_set, if◌then◌else◌}
 use Rattle.std.specs.Fmt.{decimal}
-use Rattle.edi_tokens.specs.declared.segment.Segment.{Segment}
-use Rattle.edi_tokens.specs.Segment.{element_at}
+use Rattle.edi_segments.specs.declared.segment.Segment.{Segment}
+use Rattle.edi_segments.specs.Segment.{element_at}
 use Rattle.edi_tokens.specs.Text.{text, una}
 use Rattle.edi_envelope.specs.declared.interchange.RawMessage.{RawMessage}
 use Rattle.edi_envelope.specs.Segments.{is_unh, is_unt}
-use Rattle.edi_envelope.specs.Moment.{date_text, time_text}
+use Rattle.edi_moment.specs.Moment.{date_text, time_text}
 
 -- the greatest number of a mail text
 abbrev pub last_number : ℕ

@@ -1,10 +1,10 @@
 -- What the bytes of a text are opened as: its interchange, or why there is none.
 use Rattle.std.specs.Prelude.{◌≡◌, ℕ, List, Result, Ok, Err}
-use Rattle.edi_tokens.specs.declared.segment.Tokens.{Tokens}
-use Rattle.edi_tokens.specs.declared.fault.TokenFault.{TokenFault}
-use Rattle.edi_tokens.specs.declared.fault.TokenFault.TheVariants as token
-use Rattle.edi_tokens.specs.Code.{code_text as token_code}
-use Rattle.edi_tokens.specs.Reading.{tokens_of}
+use Rattle.edi_segments.specs.declared.segment.Tokens.{Tokens}
+use Rattle.edi_segments.specs.declared.fault.TokenFault.{TokenFault}
+use Rattle.edi_segments.specs.declared.fault.TokenFault.TheVariants as token
+use Rattle.edi_segments.specs.Code.{code_text as token_code}
+use Rattle.edi_segments.specs.Reading.{tokens_of}
 use Rattle.edi_envelope.specs.declared.fault.EnvelopeFault.{EnvelopeFault}
 use Rattle.edi_envelope.specs.declared.fault.EnvelopeFault.TheVariants as envelope
 use Rattle.edi_envelope.specs.declared.fault.OpenFault.{OpenFault}

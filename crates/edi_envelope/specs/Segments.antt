@@ -1,8 +1,8 @@
 -- The service segments of an interchange (ISO 9735, structures and service segments), and places in a list of segments.
 use Rattle.std.specs.Prelude.{ℕ, ◌-◌, Bool, List, [], codes, length, take, drop, slice_index_or}
 use Rattle.std.specs.Str.{bytes_eq}
-use Rattle.edi_tokens.specs.declared.segment.Segment.{Segment}
-use Rattle.edi_tokens.specs.Segment.{component_at}
+use Rattle.edi_segments.specs.declared.segment.Segment.{Segment}
+use Rattle.edi_segments.specs.Segment.{component_at}
 
 abbrev pub has_tag : List ℕ → Segment → Bool
 has_tag tag segment = bytes_eq segment.tag tag

@@ -1,7 +1,7 @@
 //! What is kept of an interchange while its segments come.
 
 ghost use Rattle.std.specs.Prelude.{◌≡◌, ◌≢◌, ◌∷◌, ◌++◌, List, [], None, IsTrue, OnOk, MatchOption};
-ghost use Rattle.edi_tokens.specs.declared.segment.Segment.{Segment};
+ghost use Rattle.edi_segments.specs.declared.segment.Segment.{Segment};
 ghost use Rattle.edi_envelope.specs.Header.{is_header};
 ghost use Rattle.edi_envelope.specs.Judge.{Placed};
 ghost use Rattle.edi_envelope.specs.Gathered.{Keeps, Whole, Gathers, IsOf};

@@ -1,10 +1,10 @@
 //! The judge of an interchange: it takes the segments one after another, and knows at the end which fault they have.
 
-ghost use Rattle.std.specs.Prelude.{◌≡◌, ◌↔◌, ◌∷◌, ◌++◌, ◌&&◌, ◌||◌, true, false, List, [], None, IsTrue, IfOk, OnOk};
+ghost use Rattle.std.specs.Prelude.{◌≡◌, ◌↔◌, ◌∷◌, ◌++◌, ◌&&◌, ◌||◌, true, false, List, [], None, IsTrue, IfOk, OnOk, OnErr};
 ghost use Rattle.std.specs.List.{list_any};
-ghost use Rattle.edi_tokens.specs.declared.segment.Segment.{Segment};
-ghost use Rattle.edi_tokens.specs.Segment.{element_at};
-ghost use Rattle.edi_tokens.specs.SegmentRef.{segment_in};
+ghost use Rattle.edi_segments.specs.declared.segment.Segment.{Segment};
+ghost use Rattle.edi_segments.specs.Segment.{element_at};
+ghost use Rattle.edi_segments.specs.SegmentRef.{segment_in};
 ghost use Rattle.edi_envelope.specs.Segments.{has_tag};
 ghost use Rattle.edi_envelope.specs.Header.{is_header};
 ghost use Rattle.edi_envelope.specs.Interchange.{fault_of, has_high, has_high_data};
@@ -340,7 +340,7 @@ impl Judge {
     }
 
     /// Takes the next segment, and says where it stands. Once a fault is sure, each segment is refused, and only `fault`
-    /// says at the end which one it is.
+    /// says at the end which one it is. Where memory ran out, each segment is refused from then on.
     pub fn next(&mut self, segment: &SegmentRef<'_>) -> Result<Place, MemoryFault>
         ensures judged { (lent : List Segment) → Judged lent self.old →
             OnOk result (Judged (lent ++ segment_in segment.now ∷ []) self.new) }
@@ -348,9 +348,16 @@ impl Judge {
             IfOk result (λ place. Placed place lent (segment_in segment.now)) }
         ensures taken { IfOk result (λ place. place ≡ Place.Header → IsTrue (is_header (segment_in segment.now))) }
         ensures refused { IfOk result (λ place. (place ≡ Place.Refused) ↔ (is_fine self.new ≡ false)) }
-        ensures for_good { OnOk result (is_fine self.new ≡ true → is_fine self.old ≡ true) }
+        ensures for_good { is_fine self.new ≡ true → is_fine self.old ≡ true }
+        ensures ran_out { OnErr result (is_fine self.new ≡ false) }
     {
-        let place = self.step(segment)?;
+        let place = match self.step(segment) {
+            Ok(place) => place,
+            Err(refused) => {
+                self.stage = Stage::Broken;
+                return Err(refused);
+            }
+        };
         if !self.is_fine() {
             return Ok(Place::Refused);
         }

@@ -1,5 +1,5 @@
 ghost use Rattle.std.specs.Prelude.{◌≡◌, ◌↔◌, Ok, Err};
-ghost use Rattle.edi_tokens.specs.declared.segment.Tokens.{Tokens};
+ghost use Rattle.edi_segments.specs.declared.segment.Tokens.{Tokens};
 ghost use Rattle.edi_envelope.specs.declared.fault.EnvelopeFault.{EnvelopeFault};
 ghost use Rattle.edi_envelope.specs.declared.interchange.Interchange.{Interchange};
 ghost use Rattle.edi_envelope.specs.Interchange.{interchange_of};

@@ -10,15 +10,14 @@ mod law;
 mod limits;
 mod mail;
 mod message;
-mod moment;
 mod opening;
 mod reference;
 mod tally;
 
+pub use edi_moment::{Moment, date_digits, time_digits};
 pub use fault::{EnvelopeFault, OpenFault};
 pub use interchange::{Head, Interchange, RawMessage};
 pub use judge::{Judge, Place};
 pub use law::lowest_condition;
 pub use mail::{LAST_MAIL_NUMBER, mail_message_text, wrap};
-pub use moment::{Moment, date_digits, time_digits};
 pub use opening::{open, open_feed, open_lent};

@@ -1,12 +1,12 @@
 ghost use Rattle.std.specs.Prelude.{◌≡◌, ◌≤◌, [], ◌∷◌, All, ◌++◌, map, IsTrue, IfOk, OnOk};
-ghost use Rattle.edi_tokens.specs.Characters.{is_digit};
+ghost use Rattle.edi_segments.specs.Characters.{is_digit};
 ghost use Rattle.edi_tokens.specs.Text.{text};
-ghost use Rattle.edi_envelope.specs.Moment.{date_text, time_text};
+ghost use Rattle.edi_moment.specs.Moment.{date_text, time_text};
 ghost use Rattle.edi_envelope.specs.Mail.{unb_from, unz_of, with_one, renumbered, mail_segments, mail_interchange, last_number};
 
 use crate::interchange::RawMessage;
-use crate::moment::{Moment, date_digits, time_digits};
 use edi_base::copied;
+use edi_moment::{Moment, date_digits, time_digits};
 use edi_tokens::{Elements, Items, MemoryFault, Segment, append_text};
 use std::alloc::Global;
 use std::array;

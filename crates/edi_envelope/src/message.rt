@@ -1,5 +1,5 @@
 ghost use Rattle.std.specs.Prelude.{◌≡◌, IfOk};
-ghost use Rattle.edi_tokens.specs.SegmentRef.{segment_in};
+ghost use Rattle.edi_segments.specs.SegmentRef.{segment_in};
 ghost use Rattle.edi_envelope.specs.Segments.{component, first_segment};
 ghost use Rattle.edi_envelope.specs.Message as spec;
 ghost use Rattle.edi_envelope.specs.Judge.{has_identity};

@@ -1,9 +1,9 @@
 //! Opening an interchange: its segments are judged as they come, and kept as long as no fault is sure.
 
 ghost use Rattle.std.specs.Prelude.{◌≡◌, ◌≢◌, ◌≤◌, ◌∷◌, ◌++◌, ℕ, List, [], length, None, Ok, Err, IfOk, IfErr, OnOk};
-ghost use Rattle.edi_tokens.specs.declared.segment.Segment.{Segment};
-ghost use Rattle.edi_tokens.specs.declared.segment.Tokens.{Tokens};
-ghost use Rattle.edi_tokens.specs.SegmentRef.{segment_in};
+ghost use Rattle.edi_segments.specs.declared.segment.Segment.{Segment};
+ghost use Rattle.edi_segments.specs.declared.segment.Tokens.{Tokens};
+ghost use Rattle.edi_segments.specs.SegmentRef.{segment_in};
 ghost use Rattle.edi_tokens.specs.Lender.{AtEnd, Came, Fed, TakesOf, room_of, stopped};
 ghost use Rattle.edi_envelope.specs.Interchange as spec;
 ghost use Rattle.edi_envelope.specs.Gathered.{Stands, IsJudged, Reads, ReadsSome, Flagged};

@@ -1,8 +1,8 @@
 //! What the headers and the trailers of messages say, as far as they have come.
 
 ghost use Rattle.std.specs.Prelude.{◌≡◌, ◌∷◌, ◌++◌, ◌+◌, true, length, List, [], IfOk, OnOk};
-ghost use Rattle.edi_tokens.specs.declared.segment.Segment.{Segment};
-ghost use Rattle.edi_tokens.specs.SegmentRef.{segment_in};
+ghost use Rattle.edi_segments.specs.declared.segment.Segment.{Segment};
+ghost use Rattle.edi_segments.specs.SegmentRef.{segment_in};
 ghost use Rattle.edi_envelope.specs.Segments.{component};
 ghost use Rattle.edi_envelope.specs.Reference as reference_spec;
 ghost use Rattle.edi_envelope.specs.Judge.{Heads, Trails, are_heads_sound, are_trails_sound};

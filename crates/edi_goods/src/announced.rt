@@ -23,7 +23,7 @@ pub(crate) struct DespatchItem<'a, 'b> {
 
 impl<'a, 'b> Model for DespatchItem<'a, 'b> {
     ghost use Rattle.std.specs.Prelude.{◌≡◌, List, Some};
-    ghost use Rattle.edi_tokens.specs.declared.segment.Segment.{Segment};
+    ghost use Rattle.edi_segments.specs.declared.segment.Segment.{Segment};
     ghost use Rattle.edi_goods.specs.Despatch.{despatched};
 
     ghost Value = { List Segment };
@@ -42,7 +42,7 @@ pub(crate) struct DespatchUnit<'a, 'b> {
 
 impl<'a, 'b> Model for DespatchUnit<'a, 'b> {
     ghost use Rattle.std.specs.Prelude.{◌≡◌, List};
-    ghost use Rattle.edi_tokens.specs.declared.segment.Segment.{Segment};
+    ghost use Rattle.edi_segments.specs.declared.segment.Segment.{Segment};
     ghost use Rattle.edi_messages.specs.Parts.{line_groups};
 
     ghost Value = { List Segment };
@@ -97,7 +97,7 @@ pub(crate) struct ReferredItem<'a, 'b> {
 
 impl<'a, 'b> Model for ReferredItem<'a, 'b> {
     ghost use Rattle.std.specs.Prelude.{List, option_map};
-    ghost use Rattle.edi_tokens.specs.declared.segment.Segment.{Segment};
+    ghost use Rattle.edi_segments.specs.declared.segment.Segment.{Segment};
     ghost use Rattle.edi_goods.specs.Referred.{IsReferredItem};
 
     ghost Value = { List Segment };
@@ -116,7 +116,7 @@ pub(crate) struct ReferredUnit<'a, 'b> {
 
 impl<'a, 'b> Model for ReferredUnit<'a, 'b> {
     ghost use Rattle.std.specs.Prelude.{◌≡◌, List};
-    ghost use Rattle.edi_tokens.specs.declared.segment.Segment.{Segment};
+    ghost use Rattle.edi_segments.specs.declared.segment.Segment.{Segment};
     ghost use Rattle.edi_messages.specs.Parts.{line_groups};
 
     ghost Value = { List Segment };

@@ -24,7 +24,7 @@ pub(crate) struct ReceivedUnit<'a, 'b> {
 
 impl<'a, 'b> Model for ReceivedUnit<'a, 'b> {
     ghost use Rattle.std.specs.Prelude.{◌≡◌, List};
-    ghost use Rattle.edi_tokens.specs.declared.segment.Segment.{Segment};
+    ghost use Rattle.edi_segments.specs.declared.segment.Segment.{Segment};
     ghost use Rattle.edi_goods.specs.Receipt.{lines_in_unit};
 
     ghost Value = { List Segment };

@@ -23,7 +23,7 @@ pub(crate) struct ItemUnit<'a> {
 
 impl<'a> Model for ItemUnit<'a> {
     ghost use Rattle.std.specs.Prelude.{◌≡◌, List};
-    ghost use Rattle.edi_tokens.specs.declared.segment.Segment.{Segment};
+    ghost use Rattle.edi_segments.specs.declared.segment.Segment.{Segment};
     ghost use Rattle.edi_messages.specs.Parts.{line_groups};
 
     ghost Value = { List Segment };

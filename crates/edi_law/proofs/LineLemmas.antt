@@ -9,8 +9,8 @@ use Rattle.std.proofs.lemmas.Slice.Eq.{bytes_eq-Decides}
 use Rattle.gs1_ids.specs.Gtin.{IsGtin, in_fourteen, gtin_of}
 use Rattle.gs1_ids.proofs.Decided.{Decides-is_gtin}
 use Rattle.edi_base.specs.Seen.{has_number_twice, has_twice, comes_among, comes_twice}
-use Rattle.edi_tokens.specs.declared.segment.Segment.{Segment}
-use Rattle.edi_tokens.specs.Segment.{element_at}
+use Rattle.edi_segments.specs.declared.segment.Segment.{Segment}
+use Rattle.edi_segments.specs.Segment.{element_at}
 use Rattle.edi_envelope.specs.Segments.{component}
 use Rattle.edi_messages.specs.Lines.{number, number_or_zero, gtin_in, gtin, is_line, is_piece, from_least, amount, quantity_of}
 use Rattle.edi_messages.specs.Values.{quantity}

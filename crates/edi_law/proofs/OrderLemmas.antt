@@ -4,7 +4,7 @@ use Rattle.std.specs.Prelude.{◌↔◌, codes, is_some, unwrap_or, Decides}
 use Rattle.std.specs.List.{list_all, AllZip}
 use Rattle.std.proofs.lemmas.Bool.{and_parts, and_from, or_parts, not-false}
 use Rattle.std.proofs.lemmas.Bool.Decides.{Decides-and}
-use Rattle.edi_tokens.specs.declared.segment.Segment.{Segment}
+use Rattle.edi_segments.specs.declared.segment.Segment.{Segment}
 use Rattle.edi_base.specs.Seen.{has_number_twice}
 use Rattle.edi_envelope.specs.declared.interchange.RawMessage.{RawMessage}
 use Rattle.edi_messages.specs.Header.{party}

@@ -5,7 +5,7 @@ use Rattle.std.specs.Prelude.{is_some, ◌||◌, option_and_then, Decides}
 use Rattle.std.specs.List.{list_any, AllByRecursion, take_while}
 use Rattle.std.proofs.lemmas.Bool.{cases_Bool, true≢false, not-true, not_from_false, true_from_ne_false}
 use Rattle.std.proofs.lemmas.List.Sums.{take_while-cons}
-use Rattle.edi_tokens.specs.declared.segment.Segment.{Segment}
+use Rattle.edi_segments.specs.declared.segment.Segment.{Segment}
 use Rattle.edi_messages.specs.Parts.{only, header, line_groups, up_to_end}
 use Rattle.edi_law.specs.Parts.{HasNone, BeginsWith, IsFront, IsOnly, IsHeader, AreParts, AreLineGroups, OfHeader, OfLines}
 use Rattle.edi_law.specs.Parts.{OfOnly, OneOrNone}

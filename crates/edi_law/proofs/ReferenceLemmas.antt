@@ -2,7 +2,7 @@
 use Rattle.std.proofs.Common.{◌≡◌, ℕ, List, [], Option, Some, None, ◌⊎◌, inl, inr, refl, sym, ap, subst, ◌∙◌}
 use Rattle.std.specs.Prelude.{option_and_then, Decides}
 use Rattle.std.proofs.lemmas.Bool.Decides.{Decides-or}
-use Rattle.edi_tokens.specs.declared.segment.Segment.{Segment}
+use Rattle.edi_segments.specs.declared.segment.Segment.{Segment}
 use Rattle.edi_envelope.specs.Segments.{component}
 use Rattle.edi_messages.specs.Parts.{only}
 use Rattle.edi_messages.specs.References.{reference, order_named, order, line_named, group_line, has_line_or_none}

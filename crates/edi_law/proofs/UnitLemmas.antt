@@ -9,8 +9,8 @@ use Rattle.gs1_ids.specs.Digits.{is_key}
 use Rattle.gs1_ids.specs.Sscc.{IsSscc, sscc_of}
 use Rattle.gs1_ids.proofs.Decided.{Decides-is_key}
 use Rattle.edi_base.specs.Seen.{has_twice}
-use Rattle.edi_tokens.specs.declared.segment.Segment.{Segment}
-use Rattle.edi_tokens.specs.Segment.{element_at}
+use Rattle.edi_segments.specs.declared.segment.Segment.{Segment}
+use Rattle.edi_segments.specs.Segment.{element_at}
 use Rattle.edi_envelope.specs.Segments.{component}
 use Rattle.edi_messages.specs.Lines.{is_line}
 use Rattle.edi_messages.specs.Parts.{line_groups, only}

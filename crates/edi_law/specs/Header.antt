@@ -1,7 +1,7 @@
 -- What is valid in the header of a message: its type, its beginning, its function, its date and its parties.
 use Rattle.std.specs.Prelude.{◌≡◌, ℕ, true, false, List, ◌∷◌, codes, Option}
 use Rattle.gs1_ids.specs.Gln.{IsGln}
-use Rattle.edi_tokens.specs.declared.segment.Segment.{Segment}
+use Rattle.edi_segments.specs.declared.segment.Segment.{Segment}
 use Rattle.edi_envelope.specs.Segments.{has_tag, component}
 use Rattle.edi_envelope.specs.declared.interchange.RawMessage.{RawMessage}
 use Rattle.edi_law.specs.Parts.{HasNone, OfHeader, OfOnly, OneOrNone}

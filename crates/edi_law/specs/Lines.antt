@@ -2,8 +2,8 @@
 use Rattle.std.specs.Prelude.{◌≡◌, ◌≢◌, ◌≤◌, ◌⊎◌, ℕ, List, [], ◌∷◌, codes, ⊤}
 use Rattle.std.specs.List.{AllByRecursion}
 use Rattle.gs1_ids.specs.Gtin.{IsGtin, in_fourteen}
-use Rattle.edi_tokens.specs.declared.segment.Segment.{Segment}
-use Rattle.edi_tokens.specs.Segment.{element_at}
+use Rattle.edi_segments.specs.declared.segment.Segment.{Segment}
+use Rattle.edi_segments.specs.Segment.{element_at}
 use Rattle.edi_envelope.specs.Segments.{component}
 use Rattle.edi_law.specs.Parts.{OfOnly}
 use Rattle.edi_law.specs.Segments.{says}

@@ -2,7 +2,7 @@
 -- found.
 use Rattle.std.specs.Prelude.{◌≡◌, Bool, true, false, List, [], ◌∷◌, ◌++◌, ⊤, Option, Some, None}
 use Rattle.std.specs.List.{AllByRecursion}
-use Rattle.edi_tokens.specs.declared.segment.Segment.{Segment}
+use Rattle.edi_segments.specs.declared.segment.Segment.{Segment}
 use Rattle.edi_law.specs.Segments.{is_line_item, is_packing, parts_lines, parts_units}
 
 -- no segment of the part is of the kind

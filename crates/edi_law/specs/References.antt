@@ -1,6 +1,6 @@
 -- References to an order and its lines: RFF with 1153 ON.
 use Rattle.std.specs.Prelude.{◌≡◌, ◌⊎◌, ℕ, Bool, List, [], codes, Option, Some, None}
-use Rattle.edi_tokens.specs.declared.segment.Segment.{Segment}
+use Rattle.edi_segments.specs.declared.segment.Segment.{Segment}
 use Rattle.edi_envelope.specs.Segments.{component}
 use Rattle.edi_law.specs.Parts.{HasNone, OfHeader, OfOnly}
 use Rattle.edi_law.specs.Segments.{says}

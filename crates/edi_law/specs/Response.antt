@@ -1,7 +1,7 @@
 -- What is valid in an order response (ORDRSP) under the number of each fault, and what a response says.
 use Rattle.std.specs.Prelude.{◌≡◌, ◌⊎◌, ⊤, ℕ, List, ◌∷◌, codes}
 use Rattle.std.specs.List.{AllByRecursion, AllZip}
-use Rattle.edi_tokens.specs.declared.segment.Segment.{Segment}
+use Rattle.edi_segments.specs.declared.segment.Segment.{Segment}
 use Rattle.edi_envelope.specs.Segments.{component}
 use Rattle.edi_envelope.specs.declared.interchange.RawMessage.{RawMessage}
 use Rattle.edi_messages.specs.declared.fault.MessageFault.{MessageFault}

@@ -1,7 +1,7 @@
 -- The kinds of segments by which a message is cut and read (EANCOM 2002).
 use Rattle.std.specs.Prelude.{ℕ, Bool, ◌||◌, ◌&&◌, List, codes}
 use Rattle.std.specs.Str.{bytes_eq}
-use Rattle.edi_tokens.specs.declared.segment.Segment.{Segment}
+use Rattle.edi_segments.specs.declared.segment.Segment.{Segment}
 use Rattle.edi_envelope.specs.Segments.{has_tag, component}
 
 -- a line, a packing group, the section control, and the end of the message

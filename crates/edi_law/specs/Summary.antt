@@ -1,6 +1,6 @@
 -- What is valid in the summary of a message, and the count of its lines.
 use Rattle.std.specs.Prelude.{◌≡◌, ◌⊎◌, true, List, ◌∷◌, ◌++◌, length, filter, codes}
-use Rattle.edi_tokens.specs.declared.segment.Segment.{Segment}
+use Rattle.edi_segments.specs.declared.segment.Segment.{Segment}
 use Rattle.edi_envelope.specs.Segments.{component}
 use Rattle.edi_law.specs.Parts.{HasNone, IsOnly, OfOnly}
 use Rattle.edi_law.specs.Segments.{is_line_item, is_section_control, says}

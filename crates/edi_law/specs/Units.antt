@@ -2,7 +2,7 @@
 use Rattle.std.specs.Prelude.{◌≡◌, ◌≢◌, ℕ, List, [], ◌∷◌, filter, codes}
 use Rattle.std.specs.List.{list_any, AllZip, AllByRecursion}
 use Rattle.gs1_ids.specs.Sscc.{IsSscc}
-use Rattle.edi_tokens.specs.declared.segment.Segment.{Segment}
+use Rattle.edi_segments.specs.declared.segment.Segment.{Segment}
 use Rattle.edi_envelope.specs.Segments.{component}
 use Rattle.edi_law.specs.Lines.{IsLine, NoneTwice}
 use Rattle.edi_law.specs.Parts.{HasNone, IsFront, AreUnits, OfLines, OfOnly}

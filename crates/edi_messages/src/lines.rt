@@ -25,7 +25,7 @@ pub struct LineItem<'a> {
 
 impl<'a> Model for LineItem<'a> {
     ghost use Rattle.std.specs.Prelude.{List};
-    ghost use Rattle.edi_tokens.specs.declared.segment.Segment.{Segment};
+    ghost use Rattle.edi_segments.specs.declared.segment.Segment.{Segment};
     ghost use Rattle.edi_messages.specs.Items.{IsLineItem};
 
     ghost Value = { List Segment };

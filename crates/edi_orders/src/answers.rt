@@ -23,7 +23,7 @@ pub(crate) struct ActionItem<'a, 'b> {
 
 impl<'a, 'b> Model for ActionItem<'a, 'b> {
     ghost use Rattle.std.specs.Prelude.{◌≡◌, List, Some};
-    ghost use Rattle.edi_tokens.specs.declared.segment.Segment.{Segment};
+    ghost use Rattle.edi_segments.specs.declared.segment.Segment.{Segment};
     ghost use Rattle.edi_orders.specs.Response as said;
 
     ghost Value = { List Segment };
@@ -42,7 +42,7 @@ pub(crate) struct AnsweredItem<'a, 'b> {
 
 impl<'a, 'b> Model for AnsweredItem<'a, 'b> {
     ghost use Rattle.std.specs.Prelude.{◌≡◌, List, Some};
-    ghost use Rattle.edi_tokens.specs.declared.segment.Segment.{Segment};
+    ghost use Rattle.edi_segments.specs.declared.segment.Segment.{Segment};
     ghost use Rattle.edi_orders.specs.Response as said;
 
     ghost Value = { List Segment };

@@ -6,7 +6,7 @@ use Rattle.std.specs.Fmt.{decimal}
 use Rattle.std.proofs.lemmas.Bool.{true≢false, false≢true}
 use Rattle.std.proofs.lemmas.List.{map_push, length-map, length-append}
 use Rattle.std.proofs.lemmas.List.Concat.{flat_map-append}
-use Rattle.edi_tokens.specs.declared.segment.Segment.{Segment}
+use Rattle.edi_segments.specs.declared.segment.Segment.{Segment}
 use Rattle.edi_tokens.specs.Text.{text, una, segment_text}
 use Rattle.edi_tokens.specs.Appending.{with_component}
 use Rattle.edi_envelope.specs.declared.interchange.RawMessage.{RawMessage}
@@ -14,7 +14,7 @@ use Rattle.edi_envelope.specs.declared.judge.Place.TheVariants as place
 use Rattle.edi_envelope.specs.Segments.{is_unz, is_unh, is_unt, last_segment}
 use Rattle.edi_envelope.specs.Blocks.{blocks}
 use Rattle.edi_envelope.specs.Message.{message_of, is_frame}
-use Rattle.edi_envelope.specs.Moment.{date_text, time_text}
+use Rattle.edi_moment.specs.Moment.{date_text, time_text}
 use Rattle.edi_envelope.specs.Mail.{renumbered, mail_text}
 use Rattle.edi_envelope.specs.Judge.{Placed}
 use Rattle.edi_envelope.specs.Gathered.{IsLast}

@@ -1,13 +1,13 @@
 -- What is written of the mail texts while the segments of an interchange come.
 use Rattle.std.specs.Prelude.{◌≡◌, ◌≢◌, ℕ, ◌+◌, Bool, true, false, List, [], ◌∷◌, ◌++◌, length, map, drop, codes}
 use Rattle.std.specs.Fmt.{decimal}
-use Rattle.edi_tokens.specs.declared.segment.Segment.{Segment}
+use Rattle.edi_segments.specs.declared.segment.Segment.{Segment}
 use Rattle.edi_tokens.specs.Text.{text, una}
 use Rattle.edi_envelope.specs.Segments.{is_unz, last_segment}
 use Rattle.edi_envelope.specs.Blocks.{blocks}
 use Rattle.edi_envelope.specs.Message.{message_of}
 use Rattle.edi_envelope.specs.Interchange.{messages_in}
-use Rattle.edi_envelope.specs.Moment.{date_text, time_text}
+use Rattle.edi_moment.specs.Moment.{date_text, time_text}
 use Rattle.edi_envelope.specs.Mail.{renumbered}
 use Rattle.edi_envelope.specs.Gathered.{IsLast}
 use Rattle.edi_relay.specs.declared.relay.RelayWords.{RelayWords}

@@ -2,12 +2,12 @@
 use Rattle.std.specs.Prelude.{◌≡◌, ℕ, ◌+◌, ◌≤◌, nat_le, ◌==◌, ◌&&◌, if◌then◌else◌, Bool, Option, Some, None, length}
 use Rattle.std.specs.Prelude.{IsTrue, List, [], ◌∷◌, ◌++◌, Result, Ok, Err, All, codes}
 use Rattle.std.specs.List.{list_all}
-use Rattle.edi_tokens.specs.declared.segment.Tokens.{Tokens}
-use Rattle.edi_tokens.specs.declared.fault.TokenFault.{TokenFault}
-use Rattle.edi_tokens.specs.declared.fault.TokenFault.TheVariants as token
-use Rattle.edi_tokens.specs.Characters.{is_digit}
-use Rattle.edi_tokens.specs.Code.{code_text as token_code}
-use Rattle.edi_tokens.specs.Reading.{tokens_of}
+use Rattle.edi_segments.specs.declared.segment.Tokens.{Tokens}
+use Rattle.edi_segments.specs.declared.fault.TokenFault.{TokenFault}
+use Rattle.edi_segments.specs.declared.fault.TokenFault.TheVariants as token
+use Rattle.edi_segments.specs.Characters.{is_digit}
+use Rattle.edi_segments.specs.Code.{code_text as token_code}
+use Rattle.edi_segments.specs.Reading.{tokens_of}
 use Rattle.edi_envelope.specs.Fault.{code_text as envelope_code}
 use Rattle.edi_envelope.specs.declared.interchange.Interchange.{Interchange}
 use Rattle.edi_envelope.specs.declared.interchange.RawMessage.{RawMessage}

@@ -1,11 +1,11 @@
 -- How far a text has been read, and its mail texts are written.
 use Rattle.std.specs.Prelude.{◌≡◌, ◌≢◌, ℕ, Bool, true, List, [], Option, None, Result, Ok, Err}
-use Rattle.edi_tokens.specs.declared.segment.Segment.{Segment}
-use Rattle.edi_tokens.specs.declared.segment.Tokens.{Tokens}
+use Rattle.edi_segments.specs.declared.segment.Segment.{Segment}
+use Rattle.edi_segments.specs.declared.segment.Tokens.{Tokens}
 use Rattle.edi_tokens.specs.declared.lender.Lender.{Lender}
-use Rattle.edi_tokens.specs.declared.fault.TokenFault.TheVariants as token
-use Rattle.edi_tokens.specs.Reading.{tokens_of}
-use Rattle.edi_tokens.specs.Machine.{tokens_at}
+use Rattle.edi_segments.specs.declared.fault.TokenFault.TheVariants as token
+use Rattle.edi_segments.specs.Reading.{tokens_of}
+use Rattle.edi_segments.specs.Machine.{tokens_at}
 use Rattle.edi_tokens.specs.Lender.{AtEnd, Fed, HasCause, TakesOf, room_of, stopped}
 use Rattle.edi_envelope.specs.declared.fault.EnvelopeFault.{EnvelopeFault}
 use Rattle.edi_envelope.specs.declared.interchange.Interchange.{Interchange}

@@ -1,8 +1,8 @@
 //! The mail texts of the messages of an interchange, written while its segments come.
 
 ghost use Rattle.std.specs.Prelude.{◌≡◌, ◌≢◌, ℕ, ◌+◌, ◌∷◌, ◌++◌, List, [], true, false, IfOk, OnOk};
-ghost use Rattle.edi_tokens.specs.declared.segment.Segment.{Segment};
-ghost use Rattle.edi_tokens.specs.SegmentRef.{segment_in};
+ghost use Rattle.edi_segments.specs.declared.segment.Segment.{Segment};
+ghost use Rattle.edi_segments.specs.SegmentRef.{segment_in};
 ghost use Rattle.edi_envelope.specs.Judge.{Placed};
 ghost use Rattle.edi_relay.specs.Mails.{Keeps, Whole, Writes, header_text, front_text, trailer_text};
 

@@ -1,7 +1,7 @@
 //! `edihub relay`: an interchange becomes the mail texts of its messages.
 
 ghost use Rattle.std.specs.Prelude.{◌≡◌, ℕ, List, [], None, IfSome, IsTrue, All};
-ghost use Rattle.edi_tokens.specs.Characters.{is_digit};
+ghost use Rattle.edi_segments.specs.Characters.{is_digit};
 ghost use Rattle.edi_tokens.specs.Lender.{AtEnd, Fed, TakesOf, room_of, stopped};
 
 use crate::relaying::Relaying;

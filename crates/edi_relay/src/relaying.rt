@@ -1,9 +1,9 @@
 //! The judge of an interchange, and what is written of its mail texts as long as no fault is sure.
 
 ghost use Rattle.std.specs.Prelude.{◌≡◌, ℕ, ◌∷◌, ◌++◌, List, [], IfOk, OnOk};
-ghost use Rattle.edi_tokens.specs.declared.segment.Segment.{Segment};
-ghost use Rattle.edi_tokens.specs.declared.segment.Tokens.{Tokens};
-ghost use Rattle.edi_tokens.specs.SegmentRef.{segment_in};
+ghost use Rattle.edi_segments.specs.declared.segment.Segment.{Segment};
+ghost use Rattle.edi_segments.specs.declared.segment.Tokens.{Tokens};
+ghost use Rattle.edi_segments.specs.SegmentRef.{segment_in};
 ghost use Rattle.edi_envelope.specs.Interchange as spec;
 ghost use Rattle.edi_relay.specs.Relaying.{Stands, IsMailed};
 

@@ -1,7 +1,7 @@
 -- What a text says, in lines.
 use Rattle.std.specs.Prelude.{ℕ, List, [], ◌∷◌, ◌++◌, length, codes, Option, Some, None}
 use Rattle.std.specs.Fmt.{decimal}
-use Rattle.edi_tokens.specs.declared.segment.Service.{Service}
+use Rattle.edi_segments.specs.declared.segment.Service.{Service}
 use Rattle.edi_envelope.specs.declared.interchange.Head.{Head}
 use Rattle.edi_show.specs.declared.fault.WholeFault.{WholeFault}
 use Rattle.edi_show.specs.declared.shown.Shown.{Shown}

@@ -5,7 +5,7 @@ use Rattle.std.proofs.lemmas.List.{length-drop, get_or-drop, drop_all}
 use Rattle.std.proofs.Math.Seq.{drop-cons}
 use Rattle.std.proofs.lemmas.Grind.{flat_map-append}
 use Rattle.std.specs.List.{flat_map}
-use Rattle.edi_tokens.specs.declared.segment.Segment.{Segment}
+use Rattle.edi_segments.specs.declared.segment.Segment.{Segment}
 use Rattle.edi_tokens.specs.Text.{is_usual, byte_text, component_text, element_text, segment_text}
 
 -- the part of one item, and those of the items after it

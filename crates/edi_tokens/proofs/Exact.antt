@@ -5,14 +5,14 @@ use Rattle.std.proofs.Common.{take, Some, Result, Ok, Err, refl, sym, ap, subst,
 use Rattle.std.specs.Prelude.{◌⊎◌, ◌↔◌, IfOk, IfErr}
 use Rattle.std.proofs.lemmas.List.{take_all, take_at, length-append}
 use Rattle.std.proofs.lemmas.Bool.{cases_Bool, eqb-true, eqb-false, le-ltb, lt-ltb, cases_order, ne_eqb}
-use Rattle.edi_tokens.specs.declared.segment.Service.{Service}
-use Rattle.edi_tokens.specs.declared.segment.Segment.{Segment}
-use Rattle.edi_tokens.specs.declared.segment.Tokens.{Tokens}
-use Rattle.edi_tokens.specs.declared.fault.TokenFault.{TokenFault}
-use Rattle.edi_tokens.specs.declared.fault.TokenFault.TheVariants.{TooLong, ServiceString, Byte, Cut, Tag, LongSegment, Read, Memory}
-use Rattle.edi_tokens.specs.Spelling.{text_limit, Spells}
-use Rattle.edi_tokens.specs.Reading.{Place, Outside, InService, InTag, InData, Released, Reading, start, step, run, ◌>>=◌}
-use Rattle.edi_tokens.specs.Reading.{finish, finish_at, tokens_of, Fails, Answers}
+use Rattle.edi_segments.specs.declared.segment.Service.{Service}
+use Rattle.edi_segments.specs.declared.segment.Segment.{Segment}
+use Rattle.edi_segments.specs.declared.segment.Tokens.{Tokens}
+use Rattle.edi_segments.specs.declared.fault.TokenFault.{TokenFault}
+use Rattle.edi_segments.specs.declared.fault.TokenFault.TheVariants.{TooLong, ServiceString, Byte, Cut, Tag, LongSegment, Read, Memory}
+use Rattle.edi_segments.specs.Spelling.{text_limit, Spells}
+use Rattle.edi_segments.specs.Reading.{Place, Outside, InService, InTag, InData, Released, Reading, start, step, run, ◌>>=◌}
+use Rattle.edi_segments.specs.Reading.{finish, finish_at, tokens_of, Fails, Answers}
 use Rattle.edi_tokens.specs.Fault.{Ends, shown_at, shown_by_end, ByteShows, EndShows, Shows, is_fresh}
 use Rattle.edi_tokens.proofs.Steps.{shown_is, fault_of}
 use Rattle.edi_tokens.proofs.Sound.{IsRead, is_read}

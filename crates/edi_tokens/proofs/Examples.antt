@@ -1,9 +1,9 @@
 -- The definitions at small texts.
 use Rattle.std.proofs.Common.{◌≡◌, [], ◌∷◌, ◌++◌, Ok, Err, refl}
 use Rattle.std.specs.Prelude.{codes}
-use Rattle.edi_tokens.specs.declared.fault.TokenFault.TheVariants.{ServiceString, Byte, Cut, Tag}
-use Rattle.edi_tokens.specs.Service.{usual, with_decimal}
-use Rattle.edi_tokens.specs.Reading.{tokens_of}
+use Rattle.edi_segments.specs.declared.fault.TokenFault.TheVariants.{ServiceString, Byte, Cut, Tag}
+use Rattle.edi_segments.specs.Service.{usual, with_decimal}
+use Rattle.edi_segments.specs.Reading.{tokens_of}
 use Rattle.edi_tokens.specs.Text.{text, una}
 
 empty_text : tokens_of (codes "") ≡ Ok (record { service = usual; segments = [] })

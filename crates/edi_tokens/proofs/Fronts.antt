@@ -4,14 +4,14 @@ use Rattle.std.proofs.Common.{None, refl, sym, ap, subst, ◌∙◌, append_asso
 use Rattle.std.specs.Prelude.{IsTrue, ◌||◌, not}
 use Rattle.std.proofs.lemmas.List.{map-append, length-append, length_push}
 use Rattle.std.proofs.lemmas.Bool.{true≢false}
-use Rattle.edi_tokens.specs.declared.segment.Service.{Service}
-use Rattle.edi_tokens.specs.declared.segment.Segment.{Segment}
-use Rattle.edi_tokens.specs.Characters.{is_data, is_special, is_capital, is_digit, is_line_end}
-use Rattle.edi_tokens.specs.Service.{usual, una_tag, service_of}
-use Rattle.edi_tokens.specs.Spelling.{segment_limit, Each, Behind, Before, SpellsByte, SpellsComponent, SpellsElement}
-use Rattle.edi_tokens.specs.Spelling.{SpellsSegment, SpellsNext, SpellsWhole, LineEnds, IsTag, tags, Advice, Advises}
-use Rattle.edi_tokens.specs.Spelling.{advice_text, without_empty_end}
-use Rattle.edi_tokens.specs.Reading.{Open, with_tag, with_byte, with_component, with_element, with_release, closed_elements}
+use Rattle.edi_segments.specs.declared.segment.Service.{Service}
+use Rattle.edi_segments.specs.declared.segment.Segment.{Segment}
+use Rattle.edi_segments.specs.Characters.{is_data, is_special, is_capital, is_digit, is_line_end}
+use Rattle.edi_segments.specs.Service.{usual, una_tag, service_of}
+use Rattle.edi_segments.specs.Spelling.{segment_limit, Each, Behind, Before, SpellsByte, SpellsComponent, SpellsElement}
+use Rattle.edi_segments.specs.Spelling.{SpellsSegment, SpellsNext, SpellsWhole, LineEnds, IsTag, tags, Advice, Advises}
+use Rattle.edi_segments.specs.Spelling.{advice_text, without_empty_end}
+use Rattle.edi_segments.specs.Reading.{Open, with_tag, with_byte, with_component, with_element, with_release, closed_elements}
 use Rattle.edi_tokens.specs.Fault.{is_fresh, EndsOutside, EndsInService, EndsInTag, IsTagFront, SpellsOpen, EndsInData, EndsReleased}
 use Rattle.edi_tokens.proofs.Parts.{Each-push, LineEnds-push, grows}
 

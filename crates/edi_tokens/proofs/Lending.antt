@@ -8,19 +8,19 @@ use Rattle.std.specs.Io.KnownBytes.{Consumes, IsAtEnd}
 use Rattle.edi_tokens.specs.declared.lender.Lender.{Lender}
 use Rattle.edi_tokens.specs.declared.lender.Tail.{Tail}
 use Rattle.edi_tokens.specs.declared.lender.Tail.TheVariants.{More, Within, End, Long, Failed}
-use Rattle.edi_tokens.specs.declared.machine.Machine.{Machine}
-use Rattle.edi_tokens.specs.declared.segment.Segment.{Segment}
-use Rattle.edi_tokens.specs.declared.fault.TokenFault.{TokenFault}
-use Rattle.edi_tokens.specs.declared.fault.TokenFault.TheVariants.{TooLong, ServiceString, Byte, Cut, Tag, LongSegment, Read, Memory}
-use Rattle.edi_tokens.specs.Spelling.{text_limit}
-use Rattle.edi_tokens.specs.Reading.{Reading, Place, Outside, InService, InTag, InData, Released, start, run, finish, finish_at, tokens_of, ◌>>=◌}
-use Rattle.edi_tokens.specs.Machine.{reading_of, after}
+use Rattle.edi_segments.specs.declared.machine.Machine.{Machine}
+use Rattle.edi_segments.specs.declared.segment.Segment.{Segment}
+use Rattle.edi_segments.specs.declared.fault.TokenFault.{TokenFault}
+use Rattle.edi_segments.specs.declared.fault.TokenFault.TheVariants.{TooLong, ServiceString, Byte, Cut, Tag, LongSegment, Read, Memory}
+use Rattle.edi_segments.specs.Spelling.{text_limit}
+use Rattle.edi_segments.specs.Reading.{Reading, Place, Outside, InService, InTag, InData, Released, start, run, finish, finish_at, tokens_of, ◌>>=◌}
+use Rattle.edi_segments.specs.Machine.{reading_of, after}
 use Rattle.edi_tokens.specs.Piece.{FillsWith}
 use Rattle.edi_tokens.specs.Lender.{Begins, Came, GoesOn, Fed, FitsSome, Took, Filled, FillsSome, TakesOf, IsOfText, HasCause}
-use Rattle.edi_tokens.specs.declared.segment.Tokens.{Tokens}
+use Rattle.edi_segments.specs.declared.segment.Tokens.{Tokens}
 use Rattle.std.proofs.KnownBytes.{Consumes-nil, Consumes-trans}
-use Rattle.edi_tokens.proofs.Runs.{run-append}
-use Rattle.edi_tokens.proofs.Pieces.{run_on, take_sum}
+use Rattle.edi_segments.proofs.Runs.{run-append}
+use Rattle.edi_segments.proofs.Pieces.{run_on, take_sum}
 use Rattle.edi_tokens.proofs.Lent.{came, run_lent, run_lent_fails}
 
 within_limit : (tail : Tail) (known : Option (List ℕ)) (left : List ℕ) (room count : ℕ) → GoesOn tail known left room count

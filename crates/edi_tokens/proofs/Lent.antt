@@ -3,16 +3,16 @@ use Rattle.std.proofs.Common.{◌≡◌, ℕ, Bool, true, false, List, [], ◌�
 use Rattle.std.proofs.Common.{◌∙◌, append_assoc, length}
 use Rattle.std.specs.Prelude.{◌==◌, ◌||◌, nat_lt, if◌then◌else◌}
 use Rattle.std.proofs.lemmas.List.{append-nil}
-use Rattle.edi_tokens.specs.declared.segment.Service.{Service}
-use Rattle.edi_tokens.specs.declared.segment.Segment.{Segment}
-use Rattle.edi_tokens.specs.declared.machine.Machine.{Machine}
-use Rattle.edi_tokens.specs.declared.fault.TokenFault.{TokenFault}
-use Rattle.edi_tokens.specs.Characters.{is_line_end, is_capital, is_digit, is_data, is_special}
-use Rattle.edi_tokens.specs.Service.{service_of}
-use Rattle.edi_tokens.specs.Spelling.{segment_limit}
-use Rattle.edi_tokens.specs.Reading.{Reading, Place, Outside, InService, InTag, InData, Released, Open, adopt, step, step_at, step_data, step_released}
-use Rattle.edi_tokens.specs.Reading.{run, ◌>>=◌}
-use Rattle.edi_tokens.specs.Machine.{reading_of, after, place_of}
+use Rattle.edi_segments.specs.declared.segment.Service.{Service}
+use Rattle.edi_segments.specs.declared.segment.Segment.{Segment}
+use Rattle.edi_segments.specs.declared.machine.Machine.{Machine}
+use Rattle.edi_segments.specs.declared.fault.TokenFault.{TokenFault}
+use Rattle.edi_segments.specs.Characters.{is_line_end, is_capital, is_digit, is_data, is_special}
+use Rattle.edi_segments.specs.Service.{service_of}
+use Rattle.edi_segments.specs.Spelling.{segment_limit}
+use Rattle.edi_segments.specs.Reading.{Reading, Place, Outside, InService, InTag, InData, Released, Open, adopt, step, step_at, step_data, step_released}
+use Rattle.edi_segments.specs.Reading.{run, ◌>>=◌}
+use Rattle.edi_segments.specs.Machine.{reading_of, after}
 use Rattle.edi_tokens.specs.Lender.{IsOfText}
 
 -- the same, behind segments
@@ -73,7 +73,7 @@ module _ (before : List Segment) where
 
 none_before : (lent : List Segment) (m : Machine) → behind lent (reading_of [] m) ≡ reading_of lent m
 none_before lent m =
-    ap (λ (l : List Segment). record { service = m.service; segments = l; place = place_of m.place m }) (append-nil lent)
+    ap (λ (l : List Segment). reading_of l m) (append-nil lent)
 
 pub run_lent : (lent : List Segment) (m next : Machine) (ended : Bool) (bytes : List ℕ)
     → run (reading_of [] m) bytes ≡ Ok (after [] ended next) → run (reading_of lent m) bytes ≡ Ok (after lent ended next)

@@ -6,10 +6,6 @@ pub mod Sound
 pub mod Whole
 pub mod Exact
 pub mod SpelledAgain
-pub mod Differs
-pub mod EmptyEnd
-pub mod Runs
-pub mod Pieces
 pub mod Pieced
 pub mod Lent
 pub mod Lending
@@ -17,5 +13,4 @@ pub mod Settled
 pub mod Segments
 pub mod Spelled
 pub mod Canonical
-pub mod Flat
-pub mod Appended
+pub mod Kept

@@ -1,8 +1,8 @@
 -- Lists that are spelled part after part.
 use Rattle.std.proofs.Common.{◌≡◌, ℕ, List, [], ◌∷◌, ◌++◌, refl, sym, ap, ◌∙◌, append_assoc, append-nil}
 use Rattle.std.specs.Prelude.{IsTrue}
-use Rattle.edi_tokens.specs.Characters.{is_line_end}
-use Rattle.edi_tokens.specs.Spelling.{Each, LineEnds}
+use Rattle.edi_segments.specs.Characters.{is_line_end}
+use Rattle.edi_segments.specs.Spelling.{Each, LineEnds}
 
 -- one part more
 pub Each-push : {A : Type 0} (R : List ℕ → A → Type 0) (text : List ℕ) (xs : List A) (part : List ℕ) (x : A)

@@ -1,13 +1,13 @@
 -- The segments of a text, put one after another.
 use Rattle.std.proofs.Common.{◌≡◌, ℕ, true, false, List, [], length, take, drop, Result, Ok, Err, sym, ap, ◌∙◌, arith}
 use Rattle.std.proofs.lemmas.List.{take-append-drop, take_all}
-use Rattle.edi_tokens.specs.declared.machine.Machine.{Machine}
-use Rattle.edi_tokens.specs.declared.segment.Segment.{Segment}
-use Rattle.edi_tokens.specs.declared.fault.TokenFault.{TokenFault}
-use Rattle.edi_tokens.specs.declared.fault.TokenFault.TheVariants.{TooLong, ServiceString, Byte, Cut, Tag, LongSegment, Read, Memory}
-use Rattle.edi_tokens.specs.Reading.{Reading, run, Fails}
-use Rattle.edi_tokens.specs.Machine.{reading_of, after}
-use Rattle.edi_tokens.proofs.Pieces.{run_on}
+use Rattle.edi_segments.specs.declared.machine.Machine.{Machine}
+use Rattle.edi_segments.specs.declared.segment.Segment.{Segment}
+use Rattle.edi_segments.specs.declared.fault.TokenFault.{TokenFault}
+use Rattle.edi_segments.specs.declared.fault.TokenFault.TheVariants.{TooLong, ServiceString, Byte, Cut, Tag, LongSegment, Read, Memory}
+use Rattle.edi_segments.specs.Reading.{Reading, run, Fails}
+use Rattle.edi_segments.specs.Machine.{reading_of, after}
+use Rattle.edi_segments.proofs.Pieces.{run_on}
 use Rattle.edi_tokens.proofs.Lent.{run_lent, run_lent_fails}
 
 pub fails_is : {Y : Type 0} (fault : TokenFault) (given : Result Y TokenFault) → given ≡ Err fault → Fails fault given

@@ -3,19 +3,19 @@ use Rattle.std.proofs.Common.{◌≡◌, ◌≢◌, ◌⊎◌, ◌-◌, inl, inr
 use Rattle.std.proofs.Common.{Result, Ok, Err, refl, sym, ap, subst, ◌∙◌, arith}
 use Rattle.std.specs.Prelude.{◌==◌, ◌||◌, nat_lt, if◌then◌else◌}
 use Rattle.edi_tokens.specs.declared.lender.Lender.{Lender}
-use Rattle.edi_tokens.specs.declared.segment.Service.{Service}
-use Rattle.edi_tokens.specs.declared.segment.Segment.{Segment}
-use Rattle.edi_tokens.specs.declared.segment.Tokens.{Tokens}
-use Rattle.edi_tokens.specs.declared.fault.TokenFault.{TokenFault}
-use Rattle.edi_tokens.specs.declared.fault.TokenFault.TheVariants.{TooLong}
-use Rattle.edi_tokens.specs.Characters.{is_line_end, is_capital, is_digit, is_data, is_special}
-use Rattle.edi_tokens.specs.Service.{service_of}
-use Rattle.edi_tokens.specs.Spelling.{segment_limit, text_limit}
-use Rattle.edi_tokens.specs.Reading.{Reading, Place, Outside, InService, InTag, InData, Released, Open, adopt, start, step, step_at, step_data}
-use Rattle.edi_tokens.specs.Reading.{run, finish, finish_at, tokens_of, ◌>>=◌}
-use Rattle.edi_tokens.specs.Machine.{reading_of}
+use Rattle.edi_segments.specs.declared.segment.Service.{Service}
+use Rattle.edi_segments.specs.declared.segment.Segment.{Segment}
+use Rattle.edi_segments.specs.declared.segment.Tokens.{Tokens}
+use Rattle.edi_segments.specs.declared.fault.TokenFault.{TokenFault}
+use Rattle.edi_segments.specs.declared.fault.TokenFault.TheVariants.{TooLong}
+use Rattle.edi_segments.specs.Characters.{is_line_end, is_capital, is_digit, is_data, is_special}
+use Rattle.edi_segments.specs.Service.{service_of}
+use Rattle.edi_segments.specs.Spelling.{segment_limit, text_limit}
+use Rattle.edi_segments.specs.Reading.{Reading, Place, Outside, InService, InTag, InData, Released, Open, adopt, start, step, step_at, step_data}
+use Rattle.edi_segments.specs.Reading.{run, finish, finish_at, tokens_of, ◌>>=◌}
+use Rattle.edi_segments.specs.Machine.{reading_of}
 use Rattle.edi_tokens.specs.Lender.{Fed}
-use Rattle.edi_tokens.proofs.Runs.{run-append}
+use Rattle.edi_segments.proofs.Runs.{run-append}
 use Rattle.edi_tokens.proofs.Lending.{fits, front_within}
 
 -- no service string may stand there any more

@@ -3,14 +3,14 @@ use Rattle.std.proofs.Common.{◌≡◌, ℕ, ◌<◌, ◌≤◌, cond, ltb, Lis
 use Rattle.std.proofs.Common.{refl, sym, ap, subst, ◌∙◌, append_assoc, arith, inl, inr}
 use Rattle.std.proofs.lemmas.List.{take-append-drop, length-take, length-append, length-drop, take_all}
 use Rattle.std.proofs.lemmas.Bool.{cases_Bool, ltb-true, ltb-false, ne_eqb, eq-eqb}
-use Rattle.edi_tokens.specs.declared.segment.Service.{Service}
-use Rattle.edi_tokens.specs.declared.segment.Segment.{Segment}
-use Rattle.edi_tokens.specs.declared.segment.Tokens.{Tokens}
-use Rattle.edi_tokens.specs.declared.fault.TokenFault.{TokenFault}
-use Rattle.edi_tokens.specs.declared.fault.TokenFault.TheVariants.{TooLong}
-use Rattle.edi_tokens.specs.Spelling.{text_limit, Spells}
-use Rattle.edi_tokens.specs.Reading.{Place, Outside, InService, InTag, InData, Released, Reading, start, run, ◌>>=◌, finish}
-use Rattle.edi_tokens.specs.Reading.{finish_at, tokens_of}
+use Rattle.edi_segments.specs.declared.segment.Service.{Service}
+use Rattle.edi_segments.specs.declared.segment.Segment.{Segment}
+use Rattle.edi_segments.specs.declared.segment.Tokens.{Tokens}
+use Rattle.edi_segments.specs.declared.fault.TokenFault.{TokenFault}
+use Rattle.edi_segments.specs.declared.fault.TokenFault.TheVariants.{TooLong}
+use Rattle.edi_segments.specs.Spelling.{text_limit, Spells}
+use Rattle.edi_segments.specs.Reading.{Place, Outside, InService, InTag, InData, Released, Reading, start, run, ◌>>=◌, finish}
+use Rattle.edi_segments.specs.Reading.{finish_at, tokens_of}
 use Rattle.edi_tokens.specs.Fault.{EndsAt, Ends, Shows}
 use Rattle.edi_tokens.proofs.Steps.{Runs, Stops, run_leads}
 

@@ -1,14 +1,14 @@
 -- What was lent is what a front of the text spells.
 use Rattle.std.proofs.Common.{◌≡◌, ℕ, List, [], ◌∷◌, ◌++◌, Option, None, refl, sym, ap, subst, ◌∙◌, append_assoc}
 use Rattle.std.proofs.lemmas.List.{append-nil}
-use Rattle.edi_tokens.specs.declared.segment.Service.{Service}
-use Rattle.edi_tokens.specs.declared.segment.Segment.{Segment}
+use Rattle.edi_segments.specs.declared.segment.Service.{Service}
+use Rattle.edi_segments.specs.declared.segment.Segment.{Segment}
 use Rattle.edi_tokens.specs.declared.lender.Lender.{Lender}
-use Rattle.edi_tokens.specs.Service.{usual, una_tag}
-use Rattle.edi_tokens.specs.Spelling.{SpellsWhole, LineEnds}
-use Rattle.edi_tokens.specs.Reading.{Place, Outside, InService, InTag, InData, Released, start}
+use Rattle.edi_segments.specs.Service.{usual, una_tag}
+use Rattle.edi_segments.specs.Spelling.{SpellsWhole, LineEnds}
+use Rattle.edi_segments.specs.Reading.{Place, Outside, InService, InTag, InData, Released, start}
 use Rattle.edi_tokens.specs.Fault.{Ends, EndsAt}
-use Rattle.edi_tokens.specs.Machine.{reading_of, place_of}
+use Rattle.edi_segments.specs.Machine.{reading_of}
 use Rattle.edi_tokens.specs.Lender.{Fed}
 use Rattle.edi_tokens.proofs.Steps.{Runs, run_leads}
 use Rattle.edi_tokens.proofs.Sound.{start_ends}
@@ -43,7 +43,7 @@ pub lent_spelled : (known : Option (List ℕ)) (all : List ℕ) (lent : List Seg
     → HasWhole all f.machine.service lent
 lent_spelled known all lent f fed =
     let ends : Ends fed.taken (reading_of lent f.machine) = subst (Runs fed.taken) fed.read_as (run_leads [] fed.taken start start_ends) in
-    let whole = whole_at fed.taken f.machine.service lent (place_of f.machine.place f.machine) ends in (
+    let whole = whole_at fed.taken f.machine.service lent (reading_of lent f.machine).place ends in (
       whole.0,
       whole.1 ++ (f.piece ++ fed.left),
       fed.all_is ∙ ap (λ l. l ++ (f.piece ++ fed.left)) whole.2 ∙ append_assoc whole.0 whole.1 (f.piece ++ fed.left),

@@ -3,13 +3,13 @@ use Rattle.std.proofs.Common.{◌≡◌, ℕ, ◌≤◌, Bool, true, false, List
 use Rattle.std.proofs.Common.{◌∙◌, append_assoc, append-nil, inl, inr}
 use Rattle.std.specs.Prelude.{IsTrue, not, ◌⊎◌}
 use Rattle.std.specs.List.{AllByRecursion, flat_map}
-use Rattle.edi_tokens.specs.declared.segment.Service.{Service}
-use Rattle.edi_tokens.specs.declared.segment.Segment.{Segment}
-use Rattle.edi_tokens.specs.Characters.{is_data}
-use Rattle.edi_tokens.specs.Service.{service_of, with_decimal}
-use Rattle.edi_tokens.specs.Spelling.{text_limit, segment_limit, Each, Behind, Before, SpellsByte, SpellsComponent}
-use Rattle.edi_tokens.specs.Spelling.{SpellsElement, SpellsSegment, SpellsNext, Spells, IsTag, without_empty_end}
-use Rattle.edi_tokens.specs.Spelling.{and_others}
+use Rattle.edi_segments.specs.declared.segment.Service.{Service}
+use Rattle.edi_segments.specs.declared.segment.Segment.{Segment}
+use Rattle.edi_segments.specs.Characters.{is_data}
+use Rattle.edi_segments.specs.Service.{service_of, with_decimal}
+use Rattle.edi_segments.specs.Spelling.{text_limit, segment_limit, Each, Behind, Before, SpellsByte, SpellsComponent}
+use Rattle.edi_segments.specs.Spelling.{SpellsElement, SpellsSegment, SpellsNext, Spells, IsTag, without_empty_end}
+use Rattle.edi_segments.specs.Spelling.{and_others}
 use Rattle.edi_tokens.specs.Text.{is_usual, byte_text, component_text, components_text, element_text, segment_text, text, una}
 
 -- ---- what is spelled is in its counted form

@@ -6,15 +6,15 @@ use Rattle.std.specs.Prelude.{IsTrue, ◌&&◌, ◌||◌, not, ◌⊎◌}
 use Rattle.std.proofs.lemmas.Bool.{cases_Bool, cases_lt, true≢false, false≢true, eqb-true, eqb-false, ltb-true, ltb-false}
 use Rattle.std.proofs.lemmas.Bool.{lt-ltb, le-ltb, eq-eqb, ne_eqb, and_parts}
 use Rattle.std.specs.Prelude.{is_none}
-use Rattle.edi_tokens.specs.declared.segment.Service.{Service}
-use Rattle.edi_tokens.specs.declared.fault.TokenFault.{TokenFault}
-use Rattle.edi_tokens.specs.declared.fault.TokenFault.TheVariants.{ServiceString, Byte, Tag, LongSegment}
-use Rattle.edi_tokens.specs.Characters.{is_data, is_special, is_release, is_capital, is_digit, is_line_end}
-use Rattle.edi_tokens.specs.Service.{una_tag, service_of}
-use Rattle.edi_tokens.specs.Spelling.{segment_limit}
-use Rattle.edi_tokens.specs.Reading.{Open, Place, Outside, InService, InTag, InData, Released, Reading, is_una, step}
-use Rattle.edi_tokens.specs.Reading.{step_at, step_outside, step_service, adopt, step_tag, step_data, step_released, within}
-use Rattle.edi_tokens.specs.Reading.{run, ◌>>=◌, at, tag_or_service, with_component, with_element}
+use Rattle.edi_segments.specs.declared.segment.Service.{Service}
+use Rattle.edi_segments.specs.declared.fault.TokenFault.{TokenFault}
+use Rattle.edi_segments.specs.declared.fault.TokenFault.TheVariants.{ServiceString, Byte, Tag, LongSegment}
+use Rattle.edi_segments.specs.Characters.{is_data, is_special, is_release, is_capital, is_digit, is_line_end}
+use Rattle.edi_segments.specs.Service.{una_tag, service_of}
+use Rattle.edi_segments.specs.Spelling.{segment_limit}
+use Rattle.edi_segments.specs.Reading.{Open, Place, Outside, InService, InTag, InData, Released, Reading, is_una, step}
+use Rattle.edi_segments.specs.Reading.{step_at, step_outside, step_service, adopt, step_tag, step_data, step_released, within}
+use Rattle.edi_segments.specs.Reading.{run, ◌>>=◌, at, tag_or_service, with_component, with_element}
 use Rattle.edi_tokens.specs.Fault.{EndsAt, Ends, shown_at, EndsOutside, EndsInService, EndsInTag, EndsInData, EndsReleased}
 use Rattle.edi_tokens.proofs.Fronts.{line_end_after, tag_begins, tag_goes_on, service_begins, service_goes_on, service_ends}
 use Rattle.edi_tokens.proofs.Fronts.{segment_opens, empty_segment_ends, data_goes_on, data_ends, data_byte, release_comes}

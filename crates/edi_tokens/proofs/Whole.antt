@@ -6,16 +6,16 @@ use Rattle.std.specs.Prelude.{IsTrue, ◌&&◌, ◌||◌, not, ◌⊎◌}
 use Rattle.std.proofs.lemmas.List.{length-append}
 use Rattle.std.proofs.lemmas.Bool.{false≢true, eqb-false, ne_eqb, eq-eqb, lt-ltb, le-ltb, leb-true, not-true, and_parts}
 use Rattle.std.proofs.lemmas.Bool.{and_right, or_left, or_right, false_from_ne_true}
-use Rattle.edi_tokens.specs.declared.segment.Service.{Service}
-use Rattle.edi_tokens.specs.declared.segment.Segment.{Segment}
-use Rattle.edi_tokens.specs.declared.fault.TokenFault.{TokenFault}
-use Rattle.edi_tokens.specs.Characters.{is_data, is_special, is_release, is_capital, is_digit, is_line_end}
-use Rattle.edi_tokens.specs.Service.{usual, una_tag, service_of, differs, is_mark, is_decimal, are_right}
-use Rattle.edi_tokens.specs.Spelling.{segment_limit, Each, Behind, Before, SpellsByte, SpellsComponent, SpellsElement}
-use Rattle.edi_tokens.specs.Spelling.{SpellsSegment, SpellsNext, SpellsWhole, LineEnds, IsTag, IsNoAdvice, tags, Advice}
-use Rattle.edi_tokens.specs.Spelling.{Advises, advice_text, without_empty_end}
-use Rattle.edi_tokens.specs.Reading.{Open, Place, Outside, InService, InTag, InData, Released, Reading, start, is_una}
-use Rattle.edi_tokens.specs.Reading.{adopt, step, run, ◌>>=◌}
+use Rattle.edi_segments.specs.declared.segment.Service.{Service}
+use Rattle.edi_segments.specs.declared.segment.Segment.{Segment}
+use Rattle.edi_segments.specs.declared.fault.TokenFault.{TokenFault}
+use Rattle.edi_segments.specs.Characters.{is_data, is_special, is_release, is_capital, is_digit, is_line_end}
+use Rattle.edi_segments.specs.Service.{usual, una_tag, service_of, differs, is_mark, is_decimal, are_right}
+use Rattle.edi_segments.specs.Spelling.{segment_limit, Each, Behind, Before, SpellsByte, SpellsComponent, SpellsElement}
+use Rattle.edi_segments.specs.Spelling.{SpellsSegment, SpellsNext, SpellsWhole, LineEnds, IsTag, IsNoAdvice, tags, Advice}
+use Rattle.edi_segments.specs.Spelling.{Advises, advice_text, without_empty_end}
+use Rattle.edi_segments.specs.Reading.{Open, Place, Outside, InService, InTag, InData, Released, Reading, start, is_una}
+use Rattle.edi_segments.specs.Reading.{adopt, step, run, ◌>>=◌}
 use Rattle.edi_tokens.specs.Fault.{is_fresh, EndsAt, IsTagFront, SpellsOpen, EndsInData, EndsReleased}
 use Rattle.edi_tokens.proofs.Steps.{is_una_true}
 

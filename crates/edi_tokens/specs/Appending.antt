@@ -1,7 +1,7 @@
--- A segment of which one component is another.
-use Rattle.std.specs.Prelude.{ℕ, List, slice_set}
-use Rattle.edi_tokens.specs.declared.segment.Segment.{Segment}
-use Rattle.edi_tokens.specs.Segment.{element_at}
+-- A segment of which one component is another, and bytes that are only added to.
+use Rattle.std.specs.Prelude.{◌≡◌, ℕ, List, length, take, slice_set}
+use Rattle.edi_segments.specs.declared.segment.Segment.{Segment}
+use Rattle.edi_segments.specs.Segment.{element_at}
 
 -- the components of an element with another first one, where there is one
 abbrev pub with_first : List (List ℕ) → List ℕ → List (List ℕ)
@@ -13,3 +13,7 @@ elements_with elements place first = slice_set elements place (with_first (eleme
 
 abbrev pub with_component : Segment → ℕ → List ℕ → Segment
 with_component segment place first = record { tag = segment.tag; elements = elements_with segment.elements place first }
+
+-- the new bytes begin with the old ones
+abbrev pub Keeps : List ℕ → List ℕ → Type 0
+Keeps old new = take (length old) new ≡ old

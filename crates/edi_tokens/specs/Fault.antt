@@ -1,15 +1,15 @@
 -- The fault of a text: the number that its earliest showing byte gives.
 use Rattle.std.specs.Prelude.{◌≡◌, ◌≢◌, ◌⊎◌, ◌≤◌, ℕ, Bool, true, false, IsTrue, nat_lt, is_none, ◌==◌, ◌&&◌, ◌||◌, List}
 use Rattle.std.specs.Prelude.{[], ◌∷◌, ◌++◌, length, map, Option, Some, None, if◌then◌else◌}
-use Rattle.edi_tokens.specs.declared.segment.Service.{Service}
-use Rattle.edi_tokens.specs.declared.segment.Segment.{Segment}
-use Rattle.edi_tokens.specs.declared.fault.TokenFault.{TokenFault}
-use Rattle.edi_tokens.specs.declared.fault.TokenFault.TheVariants.{TooLong, ServiceString, Byte, Cut, Tag, LongSegment}
-use Rattle.edi_tokens.specs.Characters.{is_data, is_special, is_capital, is_digit, is_line_end}
-use Rattle.edi_tokens.specs.Service.{usual, una_tag, service_of}
-use Rattle.edi_tokens.specs.Spelling.{text_limit, segment_limit, Each, Behind, Before, SpellsComponent, SpellsElement}
-use Rattle.edi_tokens.specs.Spelling.{SpellsWhole, LineEnds, IsTag, tags, Advice, Advises, without_empty_end}
-use Rattle.edi_tokens.specs.Reading.{Open, Place, Outside, InService, InTag, InData, Released, Reading, with_release}
+use Rattle.edi_segments.specs.declared.segment.Service.{Service}
+use Rattle.edi_segments.specs.declared.segment.Segment.{Segment}
+use Rattle.edi_segments.specs.declared.fault.TokenFault.{TokenFault}
+use Rattle.edi_segments.specs.declared.fault.TokenFault.TheVariants.{TooLong, ServiceString, Byte, Cut, Tag, LongSegment}
+use Rattle.edi_segments.specs.Characters.{is_data, is_special, is_capital, is_digit, is_line_end}
+use Rattle.edi_segments.specs.Service.{usual, una_tag, service_of}
+use Rattle.edi_segments.specs.Spelling.{text_limit, segment_limit, Each, Behind, Before, SpellsComponent, SpellsElement}
+use Rattle.edi_segments.specs.Spelling.{SpellsWhole, LineEnds, IsTag, tags, Advice, Advises, without_empty_end}
+use Rattle.edi_segments.specs.Reading.{Open, Place, Outside, InService, InTag, InData, Released, Reading, with_release}
 
 -- whether neither a service string nor a segment has come
 abbrev pub is_fresh : Option Advice → List Segment → Bool

@@ -1,8 +1,8 @@
 -- A reader and the lender of its segments.
 use Rattle.std.specs.Prelude.{◌≡◌, ℕ, Bool, List, Option, Result, IfSome}
 use Rattle.edi_tokens.specs.declared.feeder.Feeder.{Feeder}
-use Rattle.edi_tokens.specs.declared.segment.Segment.{Segment}
-use Rattle.edi_tokens.specs.declared.fault.TokenFault.{TokenFault}
+use Rattle.edi_segments.specs.declared.segment.Segment.{Segment}
+use Rattle.edi_segments.specs.declared.fault.TokenFault.{TokenFault}
 use Rattle.edi_tokens.specs.Lender.{Feeds, stopped}
 
 -- what a call answers; whoever has been told a fault is told it again, and nothing is read

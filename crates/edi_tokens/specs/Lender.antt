@@ -5,13 +5,13 @@ use Rattle.std.specs.Io.KnownBytes.{Consumes, IsAtEnd}
 use Rattle.edi_tokens.specs.declared.lender.Lender.{Lender}
 use Rattle.edi_tokens.specs.declared.lender.Tail.{Tail}
 use Rattle.edi_tokens.specs.declared.lender.Tail.TheVariants.{More, Within, End, Long, Failed}
-use Rattle.edi_tokens.specs.declared.segment.Service.{Service}
-use Rattle.edi_tokens.specs.declared.segment.Segment.{Segment}
-use Rattle.edi_tokens.specs.declared.fault.TokenFault.{TokenFault}
-use Rattle.edi_tokens.specs.declared.fault.TokenFault.TheVariants.{TooLong, ServiceString, Byte, Cut, Tag, LongSegment, Read, Memory}
-use Rattle.edi_tokens.specs.Spelling.{text_limit}
-use Rattle.edi_tokens.specs.Reading.{start, run, finish, tokens_of}
-use Rattle.edi_tokens.specs.Machine.{reading_of, segment_of, tokens_at}
+use Rattle.edi_segments.specs.declared.segment.Service.{Service}
+use Rattle.edi_segments.specs.declared.segment.Segment.{Segment}
+use Rattle.edi_segments.specs.declared.fault.TokenFault.{TokenFault}
+use Rattle.edi_segments.specs.declared.fault.TokenFault.TheVariants.{TooLong, ServiceString, Byte, Cut, Tag, LongSegment, Read, Memory}
+use Rattle.edi_segments.specs.Spelling.{text_limit}
+use Rattle.edi_segments.specs.Reading.{start, run, finish, tokens_of}
+use Rattle.edi_segments.specs.Machine.{lent_of, reading_of, tokens_at}
 
 -- of the bytes of a reader so many are left of a text, or fewer at their end
 pub record Begins (known : Option (List ℕ)) (left : List ℕ) (room : ℕ) : Type 0 where
@@ -67,7 +67,7 @@ pub record IsBegun (l : Lender) (room : ℕ) : Type 0 where
 
 -- the segment that ended last
 abbrev pub lent_by : Lender → Segment
-lent_by l = segment_of l.machine.«open»
+lent_by l = lent_of l.machine
 
 -- the service characters, where a service string or a segment has come
 abbrev pub known_service : Lender → Option Service

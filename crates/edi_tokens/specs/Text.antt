@@ -2,8 +2,8 @@
 -- `'`, a release character before each of them in data and nowhere else, no line ends.
 use Rattle.std.specs.Prelude.{ℕ, Bool, ◌==◌, ◌||◌, List, [], ◌∷◌, ◌++◌, drop, if◌then◌else◌}
 use Rattle.std.specs.List.{flat_map}
-use Rattle.edi_tokens.specs.declared.segment.Segment.{Segment}
-use Rattle.edi_tokens.specs.Service.{usual_component, usual_element, usual_release, usual_terminator, una_tag}
+use Rattle.edi_segments.specs.declared.segment.Segment.{Segment}
+use Rattle.edi_segments.specs.Service.{usual_component, usual_element, usual_release, usual_terminator, una_tag}
 
 -- `:` `+` `?` or `'`
 abbrev pub is_usual : ℕ → Bool

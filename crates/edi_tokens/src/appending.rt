@@ -1,18 +1,18 @@
 //! The text of a segment that is lent, appended to what was written (ISO 9735, character sets and structures).
 
-ghost use Rattle.std.specs.Prelude.{◌≡◌, ◌∷◌, ◌++◌, OnOk};
-ghost use Rattle.edi_tokens.specs.Segment.{element_at};
-ghost use Rattle.edi_tokens.specs.SegmentRef.{segment_in};
+ghost use Rattle.std.specs.Prelude.{◌≡◌, ◌∷◌, ◌++◌, OnOk, OnErr};
+ghost use Rattle.edi_segments.specs.Segment.{element_at};
+ghost use Rattle.edi_segments.specs.SegmentRef.{segment_in};
 ghost use Rattle.edi_tokens.specs.Text.{component_text, element_text, others_text, segment_text};
-ghost use Rattle.edi_tokens.specs.Appending.{with_first, with_component};
+ghost use Rattle.edi_tokens.specs.Appending.{Keeps, with_first, with_component};
 
-use crate::segment_ref::SegmentRef;
-use crate::service::{COMPONENT, ELEMENT, RELEASE, TERMINATOR};
 use crate::text::plain_len;
 use edi_base::MemoryFault;
+use edi_segments::{COMPONENT, ELEMENT, RELEASE, SegmentRef, TERMINATOR};
 
 fn append_component(out: &mut Vec<u8>, component: &[u8]) -> Result<(), MemoryFault>
-    ensures { OnOk result (out.new.items ≡ out.old.items ++ component_text component.now) }
+    ensures ok { OnOk result (out.new.items ≡ out.old.items ++ component_text component.now) }
+    ensures kept { Keeps out.old.items out.new.items }
 {
     let mut rest = component;
     loop {
@@ -28,12 +28,14 @@ fn append_component(out: &mut Vec<u8>, component: &[u8]) -> Result<(), MemoryFau
 }
 
 /// Appends the components of an element after the first.
+#[tactic(auto, using(crate::proofs::Kept::keeps))]
 fn append_others(
     out: &mut Vec<u8>,
     segment: &SegmentRef<'_>,
     element: usize,
 ) -> Result<(), MemoryFault>
-    ensures { OnOk result (out.new.items ≡ out.old.items ++ others_text (element_at (segment_in segment.now).elements element)) }
+    ensures ok { OnOk result (out.new.items ≡ out.old.items ++ others_text (element_at (segment_in segment.now).elements element)) }
+    ensures kept { Keeps out.old.items out.new.items }
 {
     for place in 1..segment.components(element) {
         out.push(COMPONENT)?;
@@ -42,12 +44,14 @@ fn append_others(
     Ok(())
 }
 
+#[tactic(auto, using(crate::proofs::Kept::keeps))]
 fn append_element(
     out: &mut Vec<u8>,
     segment: &SegmentRef<'_>,
     element: usize,
 ) -> Result<(), MemoryFault>
-    ensures { OnOk result (out.new.items ≡ out.old.items ++ element_text (element_at (segment_in segment.now).elements element)) }
+    ensures ok { OnOk result (out.new.items ≡ out.old.items ++ element_text (element_at (segment_in segment.now).elements element)) }
+    ensures kept { Keeps out.old.items out.new.items }
 {
     out.push(ELEMENT)?;
     append_component(out, segment.component(element, 0))?;
@@ -55,14 +59,16 @@ fn append_element(
 }
 
 /// Appends an element with another first component, where it has one.
+#[tactic(auto, using(crate::proofs::Kept::keeps))]
 fn append_element_with(
     out: &mut Vec<u8>,
     segment: &SegmentRef<'_>,
     element: usize,
     first: &[u8],
 ) -> Result<(), MemoryFault>
-    ensures { OnOk result (out.new.items ≡ out.old.items
+    ensures ok { OnOk result (out.new.items ≡ out.old.items
         ++ element_text (with_first (element_at (segment_in segment.now).elements element) first.now)) }
+    ensures kept { Keeps out.old.items out.new.items }
 {
     out.push(ELEMENT)?;
     if segment.components(element) == 0 {
@@ -72,9 +78,11 @@ fn append_element_with(
     append_others(out, segment, element)
 }
 
-/// Appends the canonical text of a segment.
-pub fn append_segment(out: &mut Vec<u8>, segment: &SegmentRef<'_>) -> Result<(), MemoryFault>
-    ensures { OnOk result (out.new.items ≡ out.old.items ++ segment_text (segment_in segment.now)) }
+/// Appends the canonical text of a segment. Where memory runs out, a part of it may be left behind.
+#[tactic(auto, using(crate::proofs::Kept::keeps))]
+fn append_parts(out: &mut Vec<u8>, segment: &SegmentRef<'_>) -> Result<(), MemoryFault>
+    ensures ok { OnOk result (out.new.items ≡ out.old.items ++ segment_text (segment_in segment.now)) }
+    ensures kept { Keeps out.old.items out.new.items }
 {
     out.extend_from_slice(&segment.tag())?;
     for element in 0..segment.elements() {
@@ -84,16 +92,18 @@ pub fn append_segment(out: &mut Vec<u8>, segment: &SegmentRef<'_>) -> Result<(),
     Ok(())
 }
 
-/// Appends the canonical text of a segment, with another first component of the element with this number, counted from 0.
-/// Where there is no such component, it stays as it is.
-pub fn append_segment_with(
+/// Appends the canonical text of a segment, with another first component of an element. Where memory runs out, a part of it
+/// may be left behind.
+#[tactic(auto, using(crate::proofs::Kept::keeps))]
+fn append_parts_with(
     out: &mut Vec<u8>,
     segment: &SegmentRef<'_>,
     place: usize,
     first: &[u8],
 ) -> Result<(), MemoryFault>
-    ensures { OnOk result (out.new.items ≡ out.old.items
+    ensures ok { OnOk result (out.new.items ≡ out.old.items
         ++ segment_text (with_component (segment_in segment.now) place first.now)) }
+    ensures kept { Keeps out.old.items out.new.items }
 {
     out.extend_from_slice(&segment.tag())?;
     for element in 0..segment.elements() {
@@ -105,4 +115,37 @@ pub fn append_segment_with(
     }
     out.push(TERMINATOR)?;
     Ok(())
+}
+
+/// Appends the canonical text of a segment.
+pub fn append_segment(out: &mut Vec<u8>, segment: &SegmentRef<'_>) -> Result<(), MemoryFault>
+    ensures ok { OnOk result (out.new.items ≡ out.old.items ++ segment_text (segment_in segment.now)) }
+    ensures err { OnErr result (out.new.items ≡ out.old.items) }
+{
+    let length = out.len();
+    let result = append_parts(out, segment);
+    if result.is_err() {
+        out.truncate(length);
+    }
+    result
+}
+
+/// Appends the canonical text of a segment, with another first component of the element with this number, counted from 0.
+/// Where there is no such component, it stays as it is.
+pub fn append_segment_with(
+    out: &mut Vec<u8>,
+    segment: &SegmentRef<'_>,
+    place: usize,
+    first: &[u8],
+) -> Result<(), MemoryFault>
+    ensures ok { OnOk result (out.new.items ≡ out.old.items
+        ++ segment_text (with_component (segment_in segment.now) place first.now)) }
+    ensures err { OnErr result (out.new.items ≡ out.old.items) }
+{
+    let length = out.len();
+    let result = append_parts_with(out, segment, place, first);
+    if result.is_err() {
+        out.truncate(length);
+    }
+    result
 }

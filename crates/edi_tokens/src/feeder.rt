@@ -1,14 +1,12 @@
 //! The segments of a text, one after another, as its bytes are read.
 
 ghost use Rattle.std.specs.Prelude.{◌≡◌, ◌+◌, ℕ, List, [], IfOk, IfErr, Some};
-ghost use Rattle.edi_tokens.specs.Spelling.{text_limit};
+ghost use Rattle.edi_segments.specs.Spelling.{text_limit};
 ghost use Rattle.edi_tokens.specs.Lender.{Fed, IsBegun, answered, decimal_of, known_service, lent_by};
 
-use crate::fault::TokenFault;
 use crate::lender::Lender;
-use crate::segment::Service;
-use crate::segment_ref::SegmentRef;
 use edi_base::Source;
+use edi_segments::{SegmentRef, Service, TokenFault};
 use std::alloc::Global;
 
 /// Reads a text and lends its segments one after another. Its buffers are made once: no later call takes memory.
@@ -32,7 +30,7 @@ impl<R: Source> Feeder<R> {
     ghost use mathlib.Core.Option.{none};
     ghost use Rattle.std.specs.Prelude.{⊤};
     ghost use Rattle.edi_tokens.specs.Feeder.{FeedsOn};
-    ghost use Rattle.edi_tokens.specs.SegmentRef.{segment_in, segment_told};
+    ghost use Rattle.edi_segments.specs.SegmentRef.{segment_in, segment_told};
 
     /// Nothing is read yet. Where memory is refused, the reader is given back.
     pub fn new(alloc: Global, reader: R) -> Result<Self, Refused<R>>

@@ -2,14 +2,14 @@
 
 ghost use Rattle.std.specs.Prelude.{◌≡◌, ◌⊎◌, ◌↔◌, ◌≤◌, ◌≢◌, ℕ, List, [], ◌++◌, length, Option, Ok};
 ghost use Rattle.std.specs.List.{AllByRecursion};
-ghost use Rattle.edi_tokens.specs.declared.segment.Service.{Service};
-ghost use Rattle.edi_tokens.specs.declared.segment.Segment.{Segment};
-ghost use Rattle.edi_tokens.specs.declared.segment.Tokens.{Tokens};
-ghost use Rattle.edi_tokens.specs.declared.fault.TokenFault.{TokenFault};
-ghost use Rattle.edi_tokens.specs.Spelling.{Spells, SpellsWhole, text_limit, segment_limit};
+ghost use Rattle.edi_segments.specs.declared.segment.Service.{Service};
+ghost use Rattle.edi_segments.specs.declared.segment.Segment.{Segment};
+ghost use Rattle.edi_segments.specs.declared.segment.Tokens.{Tokens};
+ghost use Rattle.edi_segments.specs.declared.fault.TokenFault.{TokenFault};
+ghost use Rattle.edi_segments.specs.Spelling.{Spells, SpellsWhole, text_limit, segment_limit};
 ghost use Rattle.edi_tokens.specs.Fault.{Shows, ByteShows, EndShows};
-ghost use Rattle.edi_tokens.specs.Reading.{tokens_of};
-ghost use Rattle.edi_tokens.specs.Service.{with_decimal};
+ghost use Rattle.edi_segments.specs.Reading.{tokens_of};
+ghost use Rattle.edi_segments.specs.Service.{with_decimal};
 ghost use Rattle.edi_tokens.specs.declared.lender.Lender.{Lender};
 ghost use Rattle.edi_tokens.specs.Lender.{Fed};
 ghost use Rattle.edi_tokens.specs.Text.{text, una, segment_text};

@@ -3,20 +3,17 @@
 ghost use Rattle.std.specs.Prelude.{◌≡◌, ◌⊎◌, ◌<◌, ◌≤◌, ◌-◌, ◌+◌, ◌++◌, ℕ, List, [], length, take, IfOk, IfErr, OnOk, OnErr};
 ghost use Rattle.std.specs.Prelude.{Option, Some, None, Ok, IfSome, false, true};
 ghost use Rattle.std.specs.Io.KnownBytes.{IsAtEnd};
-ghost use Rattle.edi_tokens.specs.declared.segment.Segment.{Segment};
-ghost use Rattle.edi_tokens.specs.Spelling.{text_limit};
-ghost use Rattle.edi_tokens.specs.SegmentRef.{segment_in};
+ghost use Rattle.edi_segments.specs.declared.segment.Segment.{Segment};
+ghost use Rattle.edi_segments.specs.Spelling.{text_limit};
+ghost use Rattle.edi_segments.specs.SegmentRef.{segment_in};
 ghost use Rattle.edi_tokens.specs.Lender.{AtEnd, Came, Fed, Feeds, Filled, FillsSome, FitsSome, Flags, IsBegun, IsOfText, ReadsAway};
 ghost use Rattle.edi_tokens.specs.Lender.{TakesOf, TellsSome, Told, Took};
 ghost use Rattle.edi_tokens.specs.Lender.{answered, decimal_of, known_service, lent_by, stopped, unread};
 
-use crate::fault::TokenFault;
-use crate::machine::Machine;
 use crate::piece::{Piece, ReadFailed};
 use crate::reading::TEXT_LIMIT;
-use crate::segment::Service;
-use crate::segment_ref::SegmentRef;
 use edi_base::{MemoryFault, Source};
+use edi_segments::{Machine, SegmentRef, Service, TokenFault};
 use std::alloc::Global;
 
 /// How the text goes on behind the bytes that were read.
@@ -251,7 +248,7 @@ impl Lender {
     pub fn lent(&self) -> SegmentRef<'_>
         ensures { segment_in result ≡ lent_by self.now }
     {
-        SegmentRef::new(&self.machine.open)
+        self.machine.lent()
     }
 
     /// The service characters, known from the first segment on.

@@ -2,18 +2,11 @@
 #![tactic(auto)]
 
 mod appending;
-mod characters;
-mod fault;
 mod feeder;
-mod flat_segment;
 mod laws;
 mod lender;
-mod machine;
 mod piece;
 mod reading;
-mod segment;
-mod segment_ref;
-mod service;
 mod text;
 
 pub use appending::{append_segment, append_segment_with};
@@ -21,7 +14,7 @@ pub use edi_base::{
     Items, MemoryFault, OfRead, OfWrite, ReadFault, Sink, Source, WriteFault, read_to_limit,
     write_bytes,
 };
-pub use fault::TokenFault;
+pub use edi_segments::{Elements, Segment, SegmentRef, Service, TokenFault, Tokens};
 pub use feeder::{Feeder, Refused};
 pub use laws::{
     canonical_text_spells_again, lent_segments_are_spelled, reading_is_the_grammar,
@@ -30,6 +23,4 @@ pub use laws::{
 pub use lender::Lender;
 pub use piece::ReadFailed;
 pub use reading::{TEXT_LIMIT, read_all};
-pub use segment::{Elements, Segment, Service, Tokens};
-pub use segment_ref::SegmentRef;
 pub use text::{append_text, body_text, service_string, write_text};

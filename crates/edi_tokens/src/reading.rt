@@ -1,18 +1,15 @@
 //! What any bytes are read as.
 
 ghost use Rattle.std.specs.Prelude.{◌≢◌, List, IfOk, IfErr, Ok};
-ghost use Rattle.edi_tokens.specs.declared.segment.Service.{Service};
-ghost use Rattle.edi_tokens.specs.declared.segment.Segment.{Segment};
-ghost use Rattle.edi_tokens.specs.Spelling.{Spells};
+ghost use Rattle.edi_segments.specs.declared.segment.Service.{Service};
+ghost use Rattle.edi_segments.specs.declared.segment.Segment.{Segment};
+ghost use Rattle.edi_segments.specs.Spelling.{Spells};
 ghost use Rattle.edi_tokens.specs.Fault.{Shows};
-ghost use Rattle.edi_tokens.specs.Reading.{Answers, run, tokens_of};
-ghost use Rattle.edi_tokens.specs.Machine.{reading_of};
+ghost use Rattle.edi_segments.specs.Reading.{Answers, run, tokens_of};
+ghost use Rattle.edi_segments.specs.Machine.{reading_of};
 
-use crate::fault::TokenFault;
-use crate::machine::Machine;
-use crate::segment::{Segment, Tokens};
-use crate::segment_ref::SegmentRef;
 use edi_base::Items;
+use edi_segments::{Machine, Segment, TokenFault, Tokens};
 use std::alloc::Global;
 
 /// The longest text in bytes.
@@ -34,7 +31,7 @@ fn push_segments(
         if !ended {
             return Ok(());
         }
-        segments.push(SegmentRef::new(&machine.open).to_segment(alloc)?)?;
+        segments.push(machine.lent().to_segment(alloc)?)?;
         rest = &rest[count..];
     }
 }

@@ -5,9 +5,8 @@ ghost use Rattle.std.specs.Io.KnownBytes.{Appends};
 ghost use Rattle.edi_tokens.specs.Text.{is_usual, component_text, element_text, segment_text, text, una};
 ghost use Rattle.edi_base.specs.Buffer.{Puts, Flags, AppendsFront};
 
-use crate::segment::Segment;
-use crate::service::{COMPONENT, ELEMENT, RELEASE, TERMINATOR};
 use edi_base::{Buffer, Items, MemoryFault, OfWrite, Sink, WriteFault};
+use edi_segments::{COMPONENT, ELEMENT, RELEASE, Segment, TERMINATOR};
 use std::alloc::{AllocError, Global};
 use std::mem;
 

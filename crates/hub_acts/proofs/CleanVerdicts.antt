@@ -2,9 +2,9 @@
 use Rattle.std.proofs.Common.{◌≡◌, ℕ, ◌==◌, nat_le, true, false, List, [], ◌∷◌, ◌++◌, Some, subst, cond, refl}
 use Rattle.std.specs.List.{AllByRecursion}
 use Rattle.std.proofs.lemmas.Bool.{and_parts}
-use Rattle.edi_tokens.specs.Service.{is_decimal}
+use Rattle.edi_segments.specs.Service.{is_decimal}
 use Rattle.edi_envelope.specs.Mail.{last_number}
-use Rattle.edi_envelope.specs.Moment.{last_moment}
+use Rattle.edi_moment.specs.Moment.{last_moment}
 use Rattle.gs1_ids.specs.Gln.{is_gln}
 use Rattle.hub_parties.specs.declared.row.SupplierRow.{SupplierRow}
 use Rattle.hub_tables.specs.Cases.{truth_number}

@@ -2,9 +2,9 @@
 use Rattle.std.specs.Prelude.{◌≡◌, ◌≤◌, true, List, length}
 use Rattle.std.specs.List.{AllByRecursion}
 use Rattle.edi_base.specs.Limits.{greatest}
-use Rattle.edi_tokens.specs.Service.{is_decimal}
+use Rattle.edi_segments.specs.Service.{is_decimal}
 use Rattle.edi_envelope.specs.Limits.{is_reference}
-use Rattle.edi_envelope.specs.Moment.{last_moment}
+use Rattle.edi_moment.specs.Moment.{last_moment}
 use Rattle.gs1_ids.specs.Digits.{is_key}
 use Rattle.gs1_ids.specs.Gln.{is_gln}
 use Rattle.edi_orders.specs.declared.order.Order.{Order}

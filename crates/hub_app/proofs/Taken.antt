@@ -8,11 +8,11 @@ use Rattle.std.proofs.lemmas.List.{length-take, take_all, take_at}
 use Rattle.edi_base.specs.Buffer.{AppendsFront}
 use Rattle.edi_base.specs.Source.{TakesAtMost}
 use Rattle.edi_tokens.specs.declared.lender.Lender.{Lender}
-use Rattle.edi_tokens.specs.Spelling.{text_limit}
-use Rattle.edi_tokens.specs.declared.fault.TokenFault.{TokenFault}
-use Rattle.edi_tokens.specs.declared.fault.TokenFault.TheVariants as token
-use Rattle.edi_tokens.specs.declared.fault.TokenFault.TheVariants.{TooLong, ServiceString, Byte, Cut, Tag, LongSegment, Read}
-use Rattle.edi_tokens.specs.Reading.{run, start, finish, tokens_of, ◌>>=◌}
+use Rattle.edi_segments.specs.Spelling.{text_limit}
+use Rattle.edi_segments.specs.declared.fault.TokenFault.{TokenFault}
+use Rattle.edi_segments.specs.declared.fault.TokenFault.TheVariants as token
+use Rattle.edi_segments.specs.declared.fault.TokenFault.TheVariants.{TooLong, ServiceString, Byte, Cut, Tag, LongSegment, Read}
+use Rattle.edi_segments.specs.Reading.{run, start, finish, tokens_of, ◌>>=◌}
 use Rattle.edi_tokens.specs.Lender.{AtEnd, Fed, IsBegun, TakesOf, room_of, stopped}
 use Rattle.edi_tokens.proofs.Lending.{takes_then}
 use Rattle.edi_relay.specs.declared.relay.RelayWords.{RelayWords}

@@ -3,7 +3,7 @@ use Rattle.std.specs.Prelude.{ℕ, ◌≤◌, List, ◌++◌, length, codes, IsU
 use Rattle.std.specs.Fmt.{decimal}
 use Rattle.edi_base.specs.declared.source.ReadFault.{ReadFault}
 use Rattle.edi_base.specs.declared.source.ReadFault.TheVariants as read
-use Rattle.edi_tokens.specs.Spelling.{text_limit}
+use Rattle.edi_segments.specs.Spelling.{text_limit}
 use Rattle.hub_app.specs.declared.check.TextFault.{TextFault}
 use Rattle.hub_app.specs.declared.check.TextFault.TheVariants.{File, Memory}
 use Rattle.hub_parties.specs.Rows.{RegisterRows}

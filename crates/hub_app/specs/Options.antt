@@ -2,7 +2,7 @@
 use Rattle.std.specs.Prelude.{ℕ, ◌++◌, ◌&&◌, if◌then◌else◌, nat_le, List, [], ◌∷◌, Option, Some, None, option_map}
 use Rattle.std.specs.Prelude.{option_and_then}
 use Rattle.clap.specs.Words.{Row, Text, first_of}
-use Rattle.edi_envelope.specs.Moment.{last_moment}
+use Rattle.edi_moment.specs.Moment.{last_moment}
 pub use Rattle.hub_texts.specs.Number.{number_in as number_of}
 
 -- the moment that they write

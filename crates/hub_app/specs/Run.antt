@@ -3,10 +3,10 @@ use Rattle.std.specs.Prelude.{◌≡◌, ℕ, ◌+◌, Bool, List, ◌++◌, tak
 use Rattle.std.specs.Io.KnownBytes.{Appends, Consumes}
 use Rattle.edi_base.specs.Source.{TakesAtMost}
 use Rattle.edi_base.specs.Buffer.{AppendsFront}
-use Rattle.edi_tokens.specs.Spelling.{text_limit}
+use Rattle.edi_segments.specs.Spelling.{text_limit}
 use Rattle.edi_relay.specs.declared.relay.RelayWords.{RelayWords}
 use Rattle.edi_relay.specs.declared.relay.RelayFault.{RelayFault}
-use Rattle.edi_tokens.specs.declared.fault.TokenFault.TheVariants as token
+use Rattle.edi_segments.specs.declared.fault.TokenFault.TheVariants as token
 use Rattle.edi_relay.specs.declared.relay.RelayFault.TheVariants.{Token, Envelope, Memory}
 use Rattle.edi_relay.specs.Relay.{relayed, code_of, RelaysRead}
 use Rattle.edi_relay.specs.Relaying.{Flagged}

@@ -6,7 +6,7 @@ use Rattle.std.proofs.lemmas.Bool.{false≢true}
 use Rattle.edi_base.specs.declared.source.ReadFault.{ReadFault}
 use Rattle.edi_base.specs.declared.source.ReadFault.TheVariants.{Read, Memory}
 use Rattle.edi_envelope.specs.Opened.{opened, Opens}
-use Rattle.edi_tokens.specs.declared.fault.TokenFault.TheVariants as token
+use Rattle.edi_segments.specs.declared.fault.TokenFault.TheVariants as token
 use Rattle.edi_envelope.specs.Gathered.{Flagged}
 use Rattle.edi_envelope.specs.declared.fault.OpenFault.{OpenFault}
 use Rattle.edi_envelope.specs.declared.fault.OpenFault.TheVariants.{Token}

@@ -1,10 +1,10 @@
 -- What an upload is.
 use Rattle.std.proofs.Common.{◌≡◌, ◌≢◌, inl, inr, ℕ, true, false, not, cond, codes, List, Result, Ok, Err, refl, ap, ◌∙◌}
 use Rattle.std.specs.List.{list_any}
-use Rattle.edi_tokens.specs.Reading.{tokens_of, Fails}
-use Rattle.edi_tokens.specs.declared.fault.TokenFault.{TokenFault}
-use Rattle.edi_tokens.specs.declared.fault.TokenFault.TheVariants as token
-use Rattle.edi_tokens.specs.declared.segment.Tokens.{Tokens}
+use Rattle.edi_segments.specs.Reading.{tokens_of, Fails}
+use Rattle.edi_segments.specs.declared.fault.TokenFault.{TokenFault}
+use Rattle.edi_segments.specs.declared.fault.TokenFault.TheVariants as token
+use Rattle.edi_segments.specs.declared.segment.Tokens.{Tokens}
 use Rattle.edi_envelope.specs.Interchange.{interchange_of}
 use Rattle.edi_envelope.specs.Opened.{judged_as, read_as, opened, Opens}
 use Rattle.edi_envelope.specs.declared.fault.EnvelopeFault.{EnvelopeFault}

@@ -1,10 +1,10 @@
 -- What the bytes of an upload are: an interchange for this hub, or the code of a fault of the text or of the envelope.
 use Rattle.std.specs.Prelude.{ℕ, not, List, if◌then◌else◌, codes, Result, Ok, Err}
 use Rattle.std.specs.List.{list_any}
-use Rattle.edi_tokens.specs.Code as token_faults
-use Rattle.edi_tokens.specs.Reading.{tokens_of}
-use Rattle.edi_tokens.specs.declared.fault.TokenFault.{TokenFault}
-use Rattle.edi_tokens.specs.declared.segment.Tokens.{Tokens}
+use Rattle.edi_segments.specs.Code as token_faults
+use Rattle.edi_segments.specs.Reading.{tokens_of}
+use Rattle.edi_segments.specs.declared.fault.TokenFault.{TokenFault}
+use Rattle.edi_segments.specs.declared.segment.Tokens.{Tokens}
 use Rattle.edi_envelope.specs.Fault as envelope_faults
 use Rattle.edi_envelope.specs.Interchange.{interchange_of}
 use Rattle.edi_envelope.specs.declared.fault.EnvelopeFault.{EnvelopeFault}

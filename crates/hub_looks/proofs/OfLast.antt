@@ -50,8 +50,8 @@ use Rattle.std.proofs.lemmas.List.Elements.{recursion_from_All}
 use Rattle.std.proofs.lemmas.List.Sorted.{sorted_far, ranks_by, IsStrictWeakOrder-flip, IsPermutation-sym, length_permutation}
 use Rattle.sql_rows.proofs.Answers.{every_shuffled, map_twice}
 use Rattle.hub_store.specs.Clean.{is_within, is_kind, is_number, is_truth, are_bytes}
-use Rattle.edi_envelope.specs.Moment.{last_moment}
-use Rattle.edi_tokens.specs.Service.{is_decimal}
+use Rattle.edi_moment.specs.Moment.{last_moment}
+use Rattle.edi_segments.specs.Service.{is_decimal}
 use Rattle.gs1_ids.specs.Gln.{is_gln}
 use Rattle.std.specs.Prelude.{nat_le}
 use Rattle.hub_tables.specs.Keys.{bytes_cmp}

@@ -16,8 +16,8 @@ use Rattle.sqlite.specs.State.{State}
 use Rattle.sql_rows.specs.Cells.{AreOf}
 use Rattle.sql_rows.proofs.Answers.{and_true}
 use Rattle.edi_envelope.specs.Mail.{last_number}
-use Rattle.edi_envelope.specs.Moment.{last_moment}
-use Rattle.edi_tokens.specs.Service.{is_decimal}
+use Rattle.edi_moment.specs.Moment.{last_moment}
+use Rattle.edi_segments.specs.Service.{is_decimal}
 use Rattle.gs1_ids.specs.Gln.{is_gln}
 use Rattle.hub_store.specs.Clean.{are_clean, are_bytes, clean_mail, is_within, is_kind, is_number, is_truth}
 use Rattle.hub_store.specs.declared.fault.StoreFault.{StoreFault}

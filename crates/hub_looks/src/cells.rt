@@ -1,7 +1,7 @@
 //! Cells of a row as values of the hub.
 ghost use Rattle.std.specs.Prelude.{◌≡◌, ◌≢◌, ◌≤◌, ◌^◌, ◌∷◌, [], false, Err, nat_le, IfOk, IsTrue};
-ghost use Rattle.edi_tokens.specs.Service.{is_decimal};
-ghost use Rattle.edi_envelope.specs.Moment.{last_moment};
+ghost use Rattle.edi_segments.specs.Service.{is_decimal};
+ghost use Rattle.edi_moment.specs.Moment.{last_moment};
 ghost use Rattle.gs1_ids.specs.Digits.{is_key};
 ghost use Rattle.gs1_ids.specs.Gln.{is_gln};
 ghost use Rattle.hub_store.specs.Clean.{is_within, is_number, is_answer, is_arrival, is_kind, is_truth, are_bytes};

@@ -4,10 +4,10 @@ use Rattle.std.specs.Prelude.{ℕ, ◌+◌, ◌==◌, nat_lt, nat_le, Bool, true
 use Rattle.std.specs.Prelude.{if◌then◌else◌}
 use Rattle.std.specs.List.{list_all, list_any}
 use Rattle.edi_base.specs.Limits.{has_length, is_printable, greatest}
-use Rattle.edi_tokens.specs.Service.{is_decimal}
+use Rattle.edi_segments.specs.Service.{is_decimal}
 use Rattle.edi_envelope.specs.Limits.{is_reference}
 use Rattle.edi_envelope.specs.Mail.{last_number}
-use Rattle.edi_envelope.specs.Moment.{last_moment}
+use Rattle.edi_moment.specs.Moment.{last_moment}
 use Rattle.gs1_ids.specs.Digits.{is_key}
 use Rattle.gs1_ids.specs.Gln.{is_gln}
 use Rattle.hub_tables.specs.Cases.{answer_letter, side_letter, kind_letter, arrival_number, truth_number}

@@ -1,7 +1,7 @@
 //! Mailbox entries, and lists of them.
 ghost use Rattle.std.specs.Prelude.{◌≡◌, ◌+◌, ◌++◌, List, codes, length, nat_lt, take, if◌then◌else◌, IfOk, OnOk};
 ghost use Rattle.std.specs.List.{flat_map};
-ghost use Rattle.edi_envelope.specs.Moment.{date_text, time_text};
+ghost use Rattle.edi_moment.specs.Moment.{date_text, time_text};
 ghost use Rattle.hub_tables.specs.declared.rows.MailRow.{MailRow};
 ghost use Rattle.hub_law.specs.MailText as spec;
 

@@ -20,9 +20,9 @@ use Rattle.hub_tables.specs.declared.change.Change.{Change}
 use Rattle.hub_tables.specs.declared.rows.ContentRow.{ContentRow}
 use Rattle.hub_tables.specs.declared.rows.MailRow.{MailRow}
 use Rattle.hub_tables.proofs.Lists.{decide}
-use Rattle.edi_tokens.specs.Service.{is_decimal}
+use Rattle.edi_segments.specs.Service.{is_decimal}
 use Rattle.edi_envelope.specs.Mail.{last_number}
-use Rattle.edi_envelope.specs.Moment.{last_moment}
+use Rattle.edi_moment.specs.Moment.{last_moment}
 use Rattle.gs1_ids.specs.Digits.{is_key}
 use Rattle.gs1_ids.specs.Gln.{is_gln}
 use Rattle.hub_store.specs.Clean.{are_clean, clean_order, clean_line, clean_advice, clean_pallet, clean_content}

@@ -1,5 +1,5 @@
 use Rattle.std.proofs.Common.{◌≡◌, ℕ, List, ◌<◌, length, get_or, remove, ap, ◌∙◌, arith, [], refl}
-use Rattle.edi_tokens.specs.Segment.{component_at}
+use Rattle.edi_segments.specs.Segment.{component_at}
 use Rattle.edi_envelope.proofs.HeaderLemmas.{header_places, get_or-remove}
 use Rattle.edi_envelope.proofs.header.head_of.Goals as goal
 

@@ -1,7 +1,7 @@
 use Rattle.std.proofs.Common.{◌≡◌, drop}
 use Rattle.std.specs.List.{list_any}
-use Rattle.edi_tokens.specs.Segment.{element_at}
-use Rattle.edi_tokens.specs.SegmentRef.{segment_in}
+use Rattle.edi_segments.specs.Segment.{element_at}
+use Rattle.edi_segments.specs.SegmentRef.{segment_in}
 use Rattle.edi_envelope.specs.Interchange.{has_high}
 use Rattle.edi_envelope.proofs.judge.has_high_element.Given as goal
 

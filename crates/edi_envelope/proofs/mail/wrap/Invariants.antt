@@ -1,6 +1,6 @@
 use Rattle.std.proofs.Common.{◌≡◌, take, ◌∷◌, map}
 use Rattle.std.specs.Fmt.{decimal}
-use Rattle.edi_envelope.specs.Moment.{date_text, time_text}
+use Rattle.edi_moment.specs.Moment.{date_text, time_text}
 use Rattle.edi_envelope.specs.Mail.{unb_from, renumbered}
 use Rattle.edi_envelope.proofs.mail.wrap.Given as goal
 

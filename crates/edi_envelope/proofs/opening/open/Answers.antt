@@ -1,5 +1,5 @@
 use Rattle.std.proofs.Common.{List, sym, subst}
-use Rattle.edi_tokens.specs.declared.segment.Segment.{Segment}
+use Rattle.edi_segments.specs.declared.segment.Segment.{Segment}
 use Rattle.edi_envelope.specs.Gathered.{Stands}
 use Rattle.edi_envelope.proofs.OpenLemmas.{few_opened}
 use Rattle.edi_envelope.proofs.opening.open.Goals as goal

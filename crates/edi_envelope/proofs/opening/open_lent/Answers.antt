@@ -1,6 +1,6 @@
 use Rattle.std.proofs.Common.{None, refl, sym}
 use Rattle.std.proofs.lemmas.Result.{err_from_is_err_and}
-use Rattle.edi_tokens.specs.declared.segment.Tokens.{Tokens}
+use Rattle.edi_segments.specs.declared.segment.Tokens.{Tokens}
 use Rattle.edi_envelope.proofs.LawLemmas.{few_messages}
 use Rattle.edi_envelope.proofs.ReadLemmas.{fault_opens, fault_opens_some, envelope_opens, interchange_opens}
 use Rattle.edi_envelope.proofs.opening.open_lent.Goals as goal

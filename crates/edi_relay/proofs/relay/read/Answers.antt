@@ -1,6 +1,6 @@
 use Rattle.std.proofs.Common.{Bool, Result, Ok, ap, ◌∙◌}
 use Rattle.std.proofs.lemmas.Result.{err_from_is_err_and}
-use Rattle.edi_tokens.specs.declared.fault.TokenFault.{TokenFault}
+use Rattle.edi_segments.specs.declared.fault.TokenFault.{TokenFault}
 use Rattle.edi_relay.proofs.ReadOn.{nothing_read, bound_then, fault_told, end_told, more_read}
 use Rattle.edi_relay.proofs.relay.read.Goals as goal
 

@@ -1,9 +1,9 @@
 use Rattle.std.proofs.Common.{◌≡◌, ℕ, ◌-◌, Bool, true, List, [], ◌∷◌, ◌++◌, length, take, drop, Ok, ap, subst, ◌∙◌, arith}
 use Rattle.std.proofs.lemmas.List.{take_all, length-drop}
 use Rattle.std.proofs.lemmas.Result.{err_from_is_err_and}
-use Rattle.edi_tokens.specs.declared.segment.Segment.{Segment}
-use Rattle.edi_tokens.specs.Reading.{run}
-use Rattle.edi_tokens.specs.Machine.{reading_of, after}
+use Rattle.edi_segments.specs.declared.segment.Segment.{Segment}
+use Rattle.edi_segments.specs.Reading.{run}
+use Rattle.edi_segments.specs.Machine.{reading_of, after}
 use Rattle.edi_tokens.proofs.Segments.{stops_in, all_in, one_in}
 use Rattle.edi_tokens.proofs.reading.push_segments.Goals as goal
 
@@ -28,7 +28,7 @@ loop-count-preserved c =
     let after_it : List ℕ = drop count rest in
     let same : take (length rest - count) after_it ≡ after_it = take_all (length rest - count) after_it (omega (arith, length-drop count rest)) in
     let grown : c.push.new.self.items ≡ c.loop-count.segments.items ++ c.in_ok-to_segment.field-0 ∷ [] = c.in_ok-push.ensures.items in
-    let item = c.in_ok-to_segment.ensures ∙ c.new.ensures in
+    let item = c.in_ok-to_segment.ensures ∙ c.lent.ensures in
     let one = one_in c.loop-count.segments.items c.loop-count.machine c.push_all.new.self rest _ c.loop-count.invariant count
     (subst (λ (b : Bool). run (reading_of [] c.loop-count.machine) (take count rest) ≡ Ok (after [] b c.push_all.new.self))
     c.if-not-ended.false c.in_ok-count.ensures.ok) in

@@ -1,6 +1,6 @@
 use Rattle.std.proofs.Common.{◌≡◌, length}
-use Rattle.edi_tokens.specs.Reading.{run}
-use Rattle.edi_tokens.specs.Machine.{reading_of}
+use Rattle.edi_segments.specs.Reading.{run}
+use Rattle.edi_segments.specs.Machine.{reading_of}
 use Rattle.edi_tokens.proofs.reading.push_segments.Given as goal
 
 abbrev pub invariant-loop-count : goal.invariant-loop-count

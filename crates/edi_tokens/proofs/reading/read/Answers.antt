@@ -1,12 +1,12 @@
 use Rattle.std.proofs.Common.{◌≡◌, List, [], Result, Ok, sym, ap, ◌∙◌}
-use Rattle.edi_tokens.specs.declared.segment.Tokens.{Tokens}
-use Rattle.edi_tokens.specs.declared.fault.TokenFault.{TokenFault}
-use Rattle.edi_tokens.specs.declared.segment.Segment.{Segment}
-use Rattle.edi_tokens.specs.declared.machine.Machine.{Machine}
+use Rattle.edi_segments.specs.declared.segment.Tokens.{Tokens}
+use Rattle.edi_segments.specs.declared.fault.TokenFault.{TokenFault}
+use Rattle.edi_segments.specs.declared.segment.Segment.{Segment}
+use Rattle.edi_segments.specs.declared.machine.Machine.{Machine}
 use Rattle.std.proofs.lemmas.Result.{err_from_is_err_and}
-use Rattle.edi_tokens.specs.Reading.{start}
-use Rattle.edi_tokens.specs.Machine.{reading_of, tokens_at}
-use Rattle.edi_tokens.proofs.Runs.{tokens_of-fails, tokens_of-long, tokens_of-short}
+use Rattle.edi_segments.specs.Reading.{start}
+use Rattle.edi_segments.specs.Machine.{reading_of, tokens_at}
+use Rattle.edi_segments.proofs.Runs.{tokens_of-fails, tokens_of-long, tokens_of-short}
 use Rattle.edi_tokens.proofs.Segments.{fails_is}
 use Rattle.edi_tokens.proofs.reading.read.Goals as goal
 

@@ -1,7 +1,7 @@
 use Rattle.std.proofs.Common.{Result, subst}
-use Rattle.edi_tokens.specs.declared.segment.Tokens.{Tokens}
-use Rattle.edi_tokens.specs.declared.fault.TokenFault.{TokenFault}
-use Rattle.edi_tokens.specs.Reading.{Answers}
+use Rattle.edi_segments.specs.declared.segment.Tokens.{Tokens}
+use Rattle.edi_segments.specs.declared.fault.TokenFault.{TokenFault}
+use Rattle.edi_segments.specs.Reading.{Answers}
 use Rattle.edi_tokens.proofs.Exact.{spelled_is_read, is_spelled, is_shown}
 use Rattle.edi_tokens.proofs.reading.read_all.Goals as goal
 

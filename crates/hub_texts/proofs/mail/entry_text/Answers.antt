@@ -1,6 +1,6 @@
 use Rattle.std.proofs.Common.{◌++◌, List, ℕ, codes, ap, ap₂, ◌∙◌}
 use Rattle.edi_tokens.specs.Text.{una}
-use Rattle.edi_envelope.specs.Moment.{date_text, time_text}
+use Rattle.edi_moment.specs.Moment.{date_text, time_text}
 use Rattle.hub_law.specs.MailText.{entry_text}
 use Rattle.hub_texts.proofs.MailTexts.{parts_of_mail}
 use Rattle.hub_texts.proofs.mail.entry_text.Goals as goal

@@ -1,5 +1,5 @@
 use Rattle.std.proofs.Common.{ℕ, List, ◌++◌, codes, ap, ◌∙◌}
-use Rattle.edi_envelope.specs.Moment.{date_text, time_text}
+use Rattle.edi_moment.specs.Moment.{date_text, time_text}
 use Rattle.hub_texts.proofs.Appended.{joined}
 use Rattle.hub_texts.proofs.mail.put_date.Goals as goal
 

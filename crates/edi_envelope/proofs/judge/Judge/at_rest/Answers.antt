@@ -1,6 +1,6 @@
 use Rattle.std.proofs.Common.{sym, ap, ◌∙◌, refl}
 use Rattle.std.proofs.lemmas.Bool.{or_from}
-use Rattle.edi_tokens.specs.SegmentRef.{segment_in}
+use Rattle.edi_segments.specs.SegmentRef.{segment_in}
 use Rattle.edi_envelope.specs.Reference.{kept}
 use Rattle.edi_envelope.specs.Judge.{lowest_of}
 use Rattle.edi_envelope.proofs.JudgeLemmas.{breaks_at_rest, ends_at_rest, loses_at_rest, opens}

@@ -1,5 +1,5 @@
 use Rattle.std.proofs.Common.{sym, ◌∙◌}
-use Rattle.edi_tokens.specs.SegmentRef.{segment_in}
+use Rattle.edi_segments.specs.SegmentRef.{segment_in}
 use Rattle.edi_envelope.proofs.JudgeLemmas.{begins, begins_badly}
 use Rattle.edi_envelope.proofs.judge.Judge.begin.Goals as goal
 

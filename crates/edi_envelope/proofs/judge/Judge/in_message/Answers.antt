@@ -1,6 +1,6 @@
 use Rattle.std.proofs.Common.{sym, ◌∙◌, refl}
 use Rattle.std.proofs.lemmas.Bool.{or_from}
-use Rattle.edi_tokens.specs.SegmentRef.{segment_in}
+use Rattle.edi_segments.specs.SegmentRef.{segment_in}
 use Rattle.edi_envelope.proofs.JudgeLemmas.{breaks_in_message, ends_in_message, ended_with, loses_in_message, shuts, goes_on}
 use Rattle.edi_envelope.proofs.judge.Judge.in_message.Goals as goal
 

@@ -4,6 +4,6 @@ use Rattle.edi_envelope.proofs.judge.Judge.next.Goals as goal
 
 pub returns-clause-refused : goal.returns-clause-refused
 returns-clause-refused c = (
-  c.in_ok-place.ensures.refuses,
+  c.in-Ok.ensures.refuses,
   λ bad. absurd (true≢false (sym c.if-not-is_fine.false ∙ c.is_fine.ensures ∙ bad)),
 )

@@ -1,6 +1,6 @@
 use Rattle.std.proofs.Common.{sym, subst, ◌∙◌}
 use Rattle.std.proofs.lemmas.Bool.{or_from}
-use Rattle.edi_tokens.specs.SegmentRef.{segment_in}
+use Rattle.edi_segments.specs.SegmentRef.{segment_in}
 use Rattle.edi_envelope.specs.declared.judge.Stage.{Stage}
 use Rattle.edi_envelope.specs.declared.judge.Place.TheVariants as place
 use Rattle.edi_envelope.specs.Judge.{Steps}

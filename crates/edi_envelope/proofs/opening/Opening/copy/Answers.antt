@@ -1,7 +1,7 @@
 use Rattle.std.proofs.Common.{◌∷◌, ◌++◌, [], refl, subst}
 use Rattle.std.specs.Prelude.{OnOk}
-use Rattle.edi_tokens.specs.declared.segment.Segment.{Segment}
-use Rattle.edi_tokens.specs.SegmentRef.{segment_in}
+use Rattle.edi_segments.specs.declared.segment.Segment.{Segment}
+use Rattle.edi_segments.specs.SegmentRef.{segment_in}
 use Rattle.edi_envelope.specs.declared.judge.Place.{Place}
 use Rattle.edi_envelope.specs.Judge.{Placed}
 use Rattle.edi_envelope.specs.Gathered.{Gathers}

@@ -1,7 +1,7 @@
 use Rattle.std.proofs.Common.{ℕ, List, not, ap, ◌∙◌, ◌&&◌, ◌||◌, inl, inr}
 use Rattle.std.specs.Str.{bytes_eq}
 use Rattle.edi_base.specs.Seen.{is_among}
-use Rattle.edi_tokens.specs.SegmentRef.{segment_in}
+use Rattle.edi_segments.specs.SegmentRef.{segment_in}
 use Rattle.edi_envelope.specs.Reference.{kept}
 use Rattle.edi_envelope.proofs.TallyLemmas.{heads_skipped, heads_seen, not_not}
 use Rattle.edi_envelope.proofs.tally.Headers.take.Goals.{then-not-self-via-then-not-self, then-not-self-via-else-not-self+then-self}

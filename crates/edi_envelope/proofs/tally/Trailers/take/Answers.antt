@@ -1,7 +1,7 @@
 use Rattle.std.proofs.Common.{ℕ, List, ap, ◌∙◌, ◌+◌, ◌&&◌}
 use Rattle.std.specs.Str.{bytes_eq}
 use Rattle.edi_base.specs.Limits.{is_count, is_count_of}
-use Rattle.edi_tokens.specs.SegmentRef.{segment_in}
+use Rattle.edi_segments.specs.SegmentRef.{segment_in}
 use Rattle.edi_envelope.specs.Reference.{kept}
 use Rattle.edi_envelope.proofs.TallyLemmas.{trails_more}
 use Rattle.edi_envelope.proofs.tally.Trailers.take.Goals as goal

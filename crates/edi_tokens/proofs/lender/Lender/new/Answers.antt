@@ -1,5 +1,5 @@
 use Rattle.std.proofs.Common.{[], ◌++◌, length, sym, ap, refl, arith}
-use Rattle.edi_tokens.specs.Reading.{Reading}
+use Rattle.edi_segments.specs.Reading.{Reading}
 use Rattle.edi_tokens.proofs.Lent.{came}
 use Rattle.edi_tokens.proofs.lender.Lender.new.Goals as goal
 

@@ -1,8 +1,8 @@
 use Rattle.std.proofs.Common.{◌≡◌, ◌⊎◌, ℕ, [], length, Bool, false, Result, Ok, sym, ap, subst, ◌∙◌, arith}
-use Rattle.edi_tokens.specs.declared.fault.TokenFault.{TokenFault}
+use Rattle.edi_segments.specs.declared.fault.TokenFault.{TokenFault}
 use Rattle.std.specs.Io.KnownBytes.{IsAtEnd}
 use Rattle.std.proofs.lemmas.Result.{err_from_is_err_and}
-use Rattle.edi_tokens.specs.Machine.{reading_of}
+use Rattle.edi_segments.specs.Machine.{reading_of}
 use Rattle.edi_tokens.specs.Lender.{Came, Fed, Took, FitsSome, Filled, FillsSome, TakesOf}
 use Rattle.edi_tokens.proofs.Lending.{takes_then, has_cause, finish_text}
 use Rattle.edi_tokens.proofs.lender.Lender.step.Given as given

@@ -1,5 +1,5 @@
 use Rattle.std.proofs.Common.{◌≡◌, ◌≤◌, ℕ, List, None}
-use Rattle.edi_tokens.specs.declared.segment.Segment.{Segment}
+use Rattle.edi_segments.specs.declared.segment.Segment.{Segment}
 use Rattle.edi_tokens.specs.Lender.{AtEnd, Came, Fed, TakesOf, stopped, unread}
 use Rattle.edi_tokens.proofs.lender.Lender.step.Given as goal
 

@@ -1,6 +1,6 @@
 use Rattle.std.proofs.lemmas.Result.{err_from_is_err_and}
 use Rattle.std.proofs.Common.{[], Ok}
-use Rattle.edi_tokens.specs.Machine.{reading_of}
+use Rattle.edi_segments.specs.Machine.{reading_of}
 use Rattle.edi_tokens.proofs.Lent.{run_text}
 use Rattle.edi_tokens.proofs.Lending.{took, took_fault, took_some}
 use Rattle.edi_tokens.proofs.lender.Lender.take_piece.Goals as goal

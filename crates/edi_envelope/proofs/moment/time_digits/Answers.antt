@@ -1,5 +1,0 @@
-use Rattle.std.proofs.Common.{rules}
-use Rattle.edi_envelope.proofs.moment.time_digits.Goals as goal
-
-pub returns : goal.returns
-returns c = search rules

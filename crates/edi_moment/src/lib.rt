@@ -1,0 +1,6 @@
+//! Moments in whole seconds, and what a clock at UTC shows of them.
+#![tactic(auto)]
+
+mod moment;
+
+pub use moment::{Moment, date_digits, time_digits};

@@ -1,0 +1,5 @@
+pub mod Differs
+pub mod EmptyEnd
+pub mod Runs
+pub mod Pieces
+pub mod Flat

@@ -1,0 +1,12 @@
+pub mod Segment
+pub mod Characters
+pub mod Service
+pub mod Spelling
+pub mod Reading
+pub mod OpenSegment
+pub mod Plain
+pub mod Code
+pub mod Flat
+pub mod FlatSegment
+pub mod Machine
+pub mod SegmentRef

@@ -1,0 +1,42 @@
+-- What has come of a text, as a machine keeps it that keeps one segment.
+use Rattle.std.specs.Prelude.{◌≡◌, Bool, true, false, List, [], ◌∷◌, ◌++◌, take, Result, Ok, Err}
+use Rattle.edi_segments.specs.declared.machine.Machine.{Machine}
+use Rattle.edi_segments.specs.declared.machine.Place as code
+use Rattle.edi_segments.specs.declared.machine.Place.TheVariants as at
+use Rattle.edi_segments.specs.declared.segment.Segment.{Segment}
+use Rattle.edi_segments.specs.declared.segment.Tokens.{Tokens}
+use Rattle.edi_segments.specs.declared.fault.TokenFault.{TokenFault}
+use Rattle.edi_segments.specs.Reading.{Open, Reading, Place, Outside, InService, InTag, InData, Released}
+use Rattle.edi_segments.specs.Spelling.{without_empty_end}
+
+abbrev pub place_of : code.Place → Machine → Place
+place_of at.Outside m = Outside m.fresh
+place_of at.InService m = InService (take m.taken m.six)
+place_of at.InTag m = InTag m.fresh (take m.taken m.tag)
+place_of at.InData m = InData m.open
+place_of at.Released m = Released m.open
+
+-- the segments that were lent stand with the reader of them
+abbrev pub reading_of : List Segment → Machine → Reading
+reading_of lent m = record { service = m.service; segments = lent; place = place_of m.place m }
+
+-- the segment that ended last
+abbrev pub segment_of : Open → Segment
+segment_of o = record { tag = o.tag; elements = without_empty_end o.elements }
+
+-- the segment that a machine keeps
+abbrev pub lent_of : Machine → Segment
+lent_of m = segment_of m.«open»
+
+-- what came of a byte, which may have ended a segment
+abbrev pub after : List Segment → Bool → Machine → Reading
+after lent true m = reading_of (lent ++ segment_of m.open ∷ []) m
+after lent false m = reading_of lent m
+
+abbrev pub tokens_at : List Segment → Machine → Tokens
+tokens_at lent m = record { service = m.service; segments = lent }
+
+-- a call answers what reading gives
+abbrev pub Gives : {X Y : Type 0} → (X → Y) → Result X TokenFault → Result Y TokenFault → Type 0
+Gives view (Ok x) given = given ≡ Ok (view x)
+Gives view (Err fault) given = given ≡ Err fault

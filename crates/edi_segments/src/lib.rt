@@ -1,0 +1,16 @@
+//! Segments, the characters that part them, and the machine that reads one after another (ISO 9735, syntax version 3).
+#![tactic(auto)]
+
+mod characters;
+mod fault;
+mod flat_segment;
+mod machine;
+mod segment;
+mod segment_ref;
+mod service;
+
+pub use fault::TokenFault;
+pub use machine::Machine;
+pub use segment::{Elements, Segment, Service, Tokens};
+pub use segment_ref::SegmentRef;
+pub use service::{COMPONENT, ELEMENT, RELEASE, TERMINATOR};

@@ -1,0 +1,252 @@
+//! One machine over the bytes of a text, in whatever pieces they come. It keeps the segment that has begun, or the one
+//! that ended last, and no other.
+
+ghost use Rattle.std.specs.Prelude.{◌≡◌, ◌≤◌, List, [], length, take, IfOk, IfErr, false, true, ◌<◌, Ok, Err};
+ghost use Rattle.edi_segments.specs.Reading.{step, run, start, finish, is_una};
+ghost use Rattle.edi_segments.specs.Machine.{Gives};
+
+use crate::characters::{is_capital, is_data, is_digit, is_line_end};
+use crate::fault::TokenFault;
+use crate::flat_segment::{FlatSegment, SEGMENT_LIMIT};
+use crate::segment::Service;
+use crate::segment_ref::SegmentRef;
+use edi_base::MemoryFault;
+use std::alloc::Global;
+
+/// Where the bytes so far end.
+#[derive(Clone, Copy, Debug, PartialEq, Eq)]
+enum Place {
+    /// Outside of segments.
+    Outside,
+    /// Among the six characters of a service string.
+    InService,
+    /// In a tag, or right after it.
+    InTag,
+    /// In the data of a segment.
+    InData,
+    /// Behind a release character.
+    Released,
+}
+
+/// What has come of a text.
+#[derive(Drop)]
+pub struct Machine {
+    /// The service characters, as far as they are known.
+    pub service: Service,
+    place: Place,
+    /// Whether a service string may still come.
+    pub fresh: bool,
+    /// How many characters of a service string, or bytes of a tag, have come.
+    taken: usize,
+    /// The first five characters of a service string.
+    six: [u8; 5],
+    tag: [u8; 3],
+    open: FlatSegment,
+}
+
+fn is_una(tag: &[u8]) -> bool
+    ensures { result ≡ is_una tag.now }
+{
+    matches!(tag, [b'U', b'N', b'A'])
+}
+
+impl Machine {
+    ghost use Rattle.edi_segments.specs.declared.segment.Segment.{Segment};
+    ghost use Rattle.edi_segments.specs.Machine.{reading_of, after, lent_of, tokens_at};
+    ghost use Rattle.edi_segments.specs.SegmentRef.{segment_in};
+
+    /// Nothing has come.
+    pub fn new(alloc: Global) -> Result<Self, MemoryFault>
+        ensures { IfOk result (λ machine. reading_of [] machine ≡ start) }
+    {
+        Ok(Machine {
+            service: Service::usual(),
+            place: Place::Outside,
+            fresh: true,
+            taken: 0,
+            six: [0; 5],
+            tag: [0; 3],
+            open: FlatSegment::new(alloc)?,
+        })
+    }
+
+    /// Takes the next byte. Whether it ended a segment.
+    fn push(&mut self, byte: u8) -> Result<bool, TokenFault>
+        ensures { Gives (λ ended. after [] ended self.new) result (step (reading_of [] self.old) byte) }
+    {
+        match self.place {
+            Place::Outside => self.push_outside(byte),
+            Place::InService => self.push_service(byte),
+            Place::InTag => self.push_tag(byte),
+            Place::InData => self.push_in_data(byte),
+            Place::Released => self.push_released(byte),
+        }
+    }
+
+    fn push_outside(&mut self, byte: u8) -> Result<bool, TokenFault>
+        requires { self.old.place ≡ Place.Outside }
+        ensures { Gives (λ ended. after [] ended self.new) result (step (reading_of [] self.old) byte) }
+    {
+        if is_line_end(byte) {
+            return Ok(false);
+        }
+        if !is_capital(byte) {
+            return Err(TokenFault::Tag);
+        }
+        self.place = Place::InTag;
+        self.taken = 1;
+        self.tag = [byte, 0, 0];
+        Ok(false)
+    }
+
+    fn push_service(&mut self, byte: u8) -> Result<bool, TokenFault>
+        requires { self.old.place ≡ Place.InService }
+        ensures { Gives (λ ended. after [] ended self.new) result (step (reading_of [] self.old) byte) }
+    {
+        if self.taken < 5 {
+            self.six[self.taken] = byte;
+            self.taken += 1;
+            return Ok(false);
+        }
+        let [component, element, decimal, release, reserved] = self.six;
+        let six = [component, element, decimal, release, reserved, byte];
+        self.service = Service::of(&six).ok_or(TokenFault::ServiceString)?;
+        self.place = Place::Outside;
+        self.fresh = false;
+        Ok(false)
+    }
+
+    fn push_tag(&mut self, byte: u8) -> Result<bool, TokenFault>
+        requires { self.old.place ≡ Place.InTag }
+        ensures { Gives (λ ended. after [] ended self.new) result (step (reading_of [] self.old) byte) }
+    {
+        if self.taken >= 3 {
+            return self.push_after_tag(byte);
+        }
+        if !is_capital(byte) && !is_digit(byte) {
+            return Err(TokenFault::Tag);
+        }
+        self.tag[self.taken] = byte;
+        self.taken += 1;
+        if self.fresh && is_una(&self.tag[..self.taken]) {
+            self.place = Place::InService;
+            self.taken = 0;
+        }
+        Ok(false)
+    }
+
+    fn push_after_tag(&mut self, byte: u8) -> Result<bool, TokenFault>
+        requires place { self.old.place ≡ Place.InTag }
+        requires whole { 3 ≤ self.old.taken }
+        ensures { Gives (λ ended. after [] ended self.new) result (step (reading_of [] self.old) byte) }
+    {
+        if byte == self.service.element {
+            self.open.begin(self.tag);
+            self.place = Place::InData;
+            return Ok(false);
+        }
+        if byte != self.service.terminator {
+            return Err(TokenFault::Tag);
+        }
+        self.open.begin(self.tag);
+        self.place = Place::Outside;
+        self.fresh = false;
+        Ok(true)
+    }
+
+    fn push_in_data(&mut self, byte: u8) -> Result<bool, TokenFault>
+        requires { self.old.place ≡ Place.InData }
+        ensures { Gives (λ ended. after [] ended self.new) result (step (reading_of [] self.old) byte) }
+    {
+        if self.open.size() == SEGMENT_LIMIT {
+            return Err(TokenFault::LongSegment);
+        }
+        if byte == self.service.component {
+            self.open.end_component();
+        } else if byte == self.service.element {
+            self.open.end_element();
+        } else if byte == self.service.terminator {
+            self.open.end_element();
+            self.place = Place::Outside;
+            self.fresh = false;
+            return Ok(true);
+        } else if self.service.is_release(byte) {
+            self.open.release();
+            self.place = Place::Released;
+        } else if is_data(byte) {
+            self.open.push(byte);
+        } else {
+            return Err(TokenFault::Byte);
+        }
+        Ok(false)
+    }
+
+    fn push_released(&mut self, byte: u8) -> Result<bool, TokenFault>
+        requires { self.old.place ≡ Place.Released }
+        ensures { Gives (λ ended. after [] ended self.new) result (step (reading_of [] self.old) byte) }
+    {
+        if self.open.size() == SEGMENT_LIMIT {
+            return Err(TokenFault::LongSegment);
+        }
+        if !is_data(byte) {
+            return Err(TokenFault::Byte);
+        }
+        self.open.push(byte);
+        self.place = Place::InData;
+        Ok(false)
+    }
+
+    /// Takes the bytes at the front that are plain data, and says how many. None outside of data.
+    fn push_plain(&mut self, bytes: &[u8]) -> usize
+        ensures within { result ≤ length bytes.now }
+        ensures taken { run (reading_of [] self.old) (take result bytes.now) ≡ Ok (reading_of [] self.new) }
+    {
+        let Place::InData = self.place else {
+            return 0;
+        };
+        let room = SEGMENT_LIMIT - self.open.size();
+        let window = &bytes[..bytes.len().min(room)];
+        let count = self.service.plain_len(window);
+        self.open.extend(&window[..count]);
+        count
+    }
+
+    /// Takes bytes from the front on, to the end of a segment or to the last of them. How many, and whether a segment
+    /// ended.
+    pub fn push_all(&mut self, bytes: &[u8]) -> Result<(usize, bool), TokenFault>
+        ensures within { IfOk result (λ taken. taken.0 ≤ length bytes.now) }
+        ensures whole { IfOk result (λ taken. taken.1 ≡ false → taken.0 ≡ length bytes.now) }
+        ensures some { IfOk result (λ taken. taken.1 ≡ true → 0 < taken.0) }
+        ensures ok { IfOk result (λ taken. run (reading_of [] self.old) (take taken.0 bytes.now) ≡ Ok (after [] taken.1 self.new)) }
+        ensures err { IfErr result (λ fault. run (reading_of [] self.old) bytes.now ≡ Err fault) }
+    {
+        let mut at = 0;
+        while at < bytes.len() {
+            let ended = self.push(bytes[at])?;
+            at += 1;
+            if ended {
+                return Ok((at, true));
+            }
+            at += self.push_plain(&bytes[at..]);
+        }
+        Ok((at, false))
+    }
+
+    /// The segment that ended last.
+    pub fn lent(&self) -> SegmentRef<'_>
+        ensures { segment_in result ≡ lent_of self.now }
+    {
+        SegmentRef::new(&self.open)
+    }
+
+    /// What the text is that ends here.
+    pub fn finish(&self) -> Result<(), TokenFault>
+        ensures { (lent : List Segment) → Gives (λ _. tokens_at lent self.now) result (finish (reading_of lent self.now)) }
+    {
+        match self.place {
+            Place::Outside => Ok(()),
+            Place::InService => Err(TokenFault::ServiceString),
+            Place::InTag | Place::InData | Place::Released => Err(TokenFault::Cut),
+        }
+    }
+}

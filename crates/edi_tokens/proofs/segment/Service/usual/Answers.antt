@@ -1,5 +1,0 @@
-use Rattle.std.proofs.Common.{rules}
-use Rattle.edi_tokens.proofs.segment.Service.usual.Goals as goal
-
-pub returns : goal.returns
-returns c = search rules

@@ -1,6 +1,0 @@
-use Rattle.std.proofs.Common.{◌≡◌, take}
-use Rattle.edi_tokens.specs.SegmentRef.{segment_in}
-use Rattle.edi_tokens.proofs.segment_ref.SegmentRef.to_segment.Given as goal
-
-abbrev pub invariant-loop-element : goal.invariant-loop-element
-invariant-loop-element l = l.elements.items ≡ take l.element (segment_in l.self).elements
