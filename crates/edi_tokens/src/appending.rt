@@ -1,6 +1,6 @@
 //! The text of a segment that is lent, appended to what was written (ISO 9735, character sets and structures).
 
-ghost use Rattle.std.specs.Prelude.{◌≡◌, ◌∷◌, ◌++◌, OnOk, OnErr};
+ghost use Rattle.std.specs.Prelude.{◌≡◌, ◌++◌, OnOk, OnErr};
 ghost use Rattle.edi_segments.specs.Segment.{element_at};
 ghost use Rattle.edi_segments.specs.SegmentRef.{segment_in};
 ghost use Rattle.edi_tokens.specs.Text.{component_text, element_text, others_text, segment_text};
