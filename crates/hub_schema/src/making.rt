@@ -1,5 +1,5 @@
 //! The making of the tables.
-ghost use Rattle.std.specs.Prelude.{◌≡◌, OnOk, IsTrue, false, [], ◌∷◌};
+ghost use Rattle.std.specs.Prelude.{◌≡◌, OnOk, OnErr, IsTrue, false, [], ◌∷◌};
 ghost use Rattle.sqlite.specs.Tree.{Trees};
 ghost use Rattle.sqlite.specs.State.{HasCleanDisk, Survives, KeepsCommit};
 ghost use Rattle.sqlite.specs.Schema.{Schema};
@@ -140,7 +140,11 @@ pub fn make_schema<S: Alter>(conn: &mut Connection<S>) -> Result<(), Error>
     ensures durable { HasCleanDisk (state S.Store conn.new) →
         OnOk result ((trees : Trees) → (state S.Store conn.new).may_leave trees →
         trees ≡ (state S.Store conn.new).now.trees) }
+    ensures kept { HasCleanDisk (state S.Store conn.new) → (state S.Store conn.old).now.schema ≡ no_schema →
+        IsTrue (state S.Store conn.new).is_open →
+        OnErr result (IsTrue (state S.Store conn.old).is_open × ((state S.Store conn.new).now ≡ (state S.Store conn.old).now)) }
 {
+    let _idle = conn.is_autocommit();
     let mut tx = conn.transaction();
     make_tables(&mut tx)?;
     tx.commit()
