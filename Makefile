@@ -1,7 +1,7 @@
 RELAY = relay --hub 5412345000006 --owner 4012345500004 --moment 1748942400 --number 1
 PROVED = crates/edihub/out/edihub
 
-.PHONY: run day serve try test wrong found hostile fuzz bench edihub clean
+.PHONY: run day serve try test wrong found hostile fuzz bench edihub hub_script clean
 
 # The main job, with the proved program: the example's ORDERS interchange becomes the supplier's mailbox interchange.
 run: edihub
@@ -26,6 +26,11 @@ edihub:
 	cd crates/edihub && rt run -- --help > out/help 2> out/log || { cat out/log; exit 1; }
 	cp $(PROVED) edihub
 
+# Proves and builds the program that plays scripts on a hub, for trials.
+hub_script:
+	mkdir -p crates/hub_script/out
+	cd crates/hub_script && rt run < stdin > out/printed 2> out/log || { cat out/log; exit 1; }
+
 # The same job without any proof, in seconds.
 try:
 	@echo "make try: this run proves nothing" >&2
@@ -44,8 +49,8 @@ found:
 	python3 tests/found.py
 
 # Kills, full disks and damaged files, for some minutes; no part of the gate.
-hostile: edihub
-	python3 tests/hostile.py crates/edihub/out/edihub
+hostile: edihub hub_script
+	python3 tests/hostile.py crates/edihub/out/edihub crates/hub_script/out/hub_script
 
 # Inputs made right and then changed, through the program: make fuzz SEED=2 NUMBER=10000
 SEED = 1
@@ -54,13 +59,11 @@ NUMBER = 100000
 fuzz: edihub
 	python3 tests/fuzz.py crates/edihub/out/edihub $(SEED) $(NUMBER)
 
-bench: edihub
+bench: edihub hub_script
 	rustc --edition 2021 -O -o crates/edihub/out/plain bench/plain.rs
 	rustc --edition 2021 -O -o crates/edihub/out/flat bench/flat.rs
 	python3 bench/run.py ./edihub crates/edihub/out/plain crates/edihub/out/flat
 	python3 bench/store.py
-	mkdir -p crates/hub_script/out
-	cd crates/hub_script && rt run < stdin > out/printed
 	rustc --edition 2021 -O -o crates/hub_script/out/plain bench/hub.rs
 	python3 bench/hub.py crates/hub_script/out/hub_script crates/hub_script/out/plain
 	if printf 'fn main() {}' | rustc -l sqlite3 -o crates/hub_script/out/empty - 2> crates/hub_script/out/log; then \

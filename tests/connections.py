@@ -79,6 +79,18 @@ def writes_that_fail():
     return play.served(LIST, 200, LISTED)
 
 
+def interruptions():
+    """A read or a write that is interrupted has failed."""
+    play = Wire().now()
+    for reads in (0, 1, 40, len(ORDER) - 1):
+        play.connection(ORDER, "fault read", b"", f"piece 1 reads {reads} interrupted")
+    play.served(LIST, 200, EMPTY)
+    again = response(200, ORDER_AGAIN)
+    for writes in (0, 1, len(again) - 1):
+        play.connection(ORDER, "fault write", again[:writes], f"takes 1 writes {writes} interrupted")
+    return play.served(ORDER, 200, ORDER_AGAIN).served(LIST, 200, LISTED)
+
+
 def stores_that_stop():
     """A store that fails at a call answers 503, and the same again is done once it is mended."""
     play = Wire("disk 0").now()
@@ -96,5 +108,6 @@ CONNECTIONS = [
     reads_that_fail().case("each read of a connection fails in turn"),
     faults_far_from_the_end().case("a body whose fault shows at once is read to its end"),
     writes_that_fail().case("each write of a connection fails in turn"),
+    interruptions().case("a read or write that is interrupted"),
     stores_that_stop().case("connections over a store that stops"),
 ]

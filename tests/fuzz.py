@@ -1,8 +1,9 @@
 """`make fuzz SEED=1 NUMBER=100000`: inputs made right and then changed, by bytes, segments and messages, through the built program.
 
 Interchanges go in by folders (`import`), over HTTP (`serve`), and by `show` and `relay`; registers by `check`; and lists of words.
-Each answer has a form that docs/FORMATS.md names; no program ends by a signal, takes a second for a small input, or more memory
-than its bound; the rows of the file grow by what was accepted and by nothing else: the accepted inputs alone make the same file.
+Each answer has a form that docs/FORMATS.md names; no program ends by a signal, takes a second of processor time for a small input,
+or more memory than its bound; the rows of the file grow by what was accepted and by nothing else: the accepted inputs alone make
+the same file, by import and over HTTP.
 What is found is left in a folder, which is named. The last line is `N tried, M found`.
 
     python3 tests/fuzz.py crates/edihub/out/edihub [SEED [NUMBER]]"""
@@ -24,12 +25,14 @@ from files import NAME
 from http_texts import PHRASES, asking, response
 from hubs import ALPHA, BETA, HUB, KEYS, ORDERS, RETAILER, SECOND, SPELLED, TWO_SUPPLIERS
 from made import upload_of
-from serving import Server
+from serving import Server, exit_of, lines_of
 
 BATCH = 120
-# bytes of address space: a program that asks for more is refused it
-ROOM = 256 << 20
-SECONDS = 20
+# bytes of address space: a program that asks for more is refused it. An input has some thousand bytes, so what counts is the
+# program itself, and the open store where there is one
+ROOM, ROOM_OF_STORE = 24 << 20, 48 << 20
+# how long a command may take in all, by the clock beside other work, and how much processor time a small input may take
+SECONDS, OF_SMALL = 20, 1
 TABLES = ("order", "line", "advice", "pallet", "content", "receipt", "remembered", "mail")
 # what any of the hub's replies to an upload is
 LINE = re.compile(rb"[ -~]{1,14} [ -~]{1,6} (accepted|repeated|refused [BM]\d\d)")
@@ -134,16 +137,19 @@ class Fuzz:
 
     def ran(self, words, cwd, data=b"", small=True):
         """What a command prints: its status, and its output and error."""
-        begun = time.monotonic()
-        limits = lambda: resource.setrlimit(resource.RLIMIT_AS, (ROOM, ROOM))
+        room = ROOM_OF_STORE if "--db" in words else ROOM
+
+        def limits():
+            resource.setrlimit(resource.RLIMIT_AS, (room, room))
+            # what takes longer is ended by a signal
+            resource.setrlimit(resource.RLIMIT_CPU, (OF_SMALL, OF_SMALL) if small else (SECONDS, SECONDS))
+
         try:
             ran = subprocess.run([self.program, *words], input=data, capture_output=True, cwd=cwd, timeout=SECONDS, preexec_fn=limits)
         except subprocess.TimeoutExpired as late:
             raise Found("no end", words) from late
         if ran.returncode not in (0, 1, 2, 3):
             raise Found(f"ended with {ran.returncode}", words, data, ran.stderr)
-        if small and time.monotonic() - begun > SECONDS / 4:
-            raise Found("took too long", words, data)
         return ran.returncode, ran.stdout, ran.stderr
 
     # interchanges by folders
@@ -256,26 +262,32 @@ class Fuzz:
             raise Found("no response", data, answer)
         return int(found[1])
 
-    def requests(self, draw):
-        count = BATCH
-        with Server(self.program, count) as server:
-            statuses = []
-            for _ in range(count):
-                data = self.request(draw)
+    def served(self, requests):
+        """What is answered to each request, one connection after another, and the rows that there are then."""
+        with Server(self.program, len(requests), room=ROOM_OF_STORE) as server:
+            answers = []
+            for data in requests:
                 begun = time.monotonic()
                 try:
-                    answer = server.ask(data)
+                    answers.append(server.ask(data))
                 except OSError as why:
                     raise Found(f"no answer: {why}", data) from why
-                statuses.append(self.judge_response(data, answer))
                 if time.monotonic() - begun > SECONDS / 4:
                     raise Found("took too long", data)
+            statuses = [self.judge_response(data, answer) for data, answer in zip(requests, answers)]
             status, printed, error = server.end()
-            lines = printed.split(b"\n")[1:-1]
-            if lines != [b"connection %d %d" % it for it in enumerate(statuses, 1)] or error:
-                raise Found("other lines than responses", printed, statuses, error)
-            self.rows(server.folder)
-        return count
+            if printed != lines_of(server.port, statuses) or error or status != exit_of(statuses):
+                raise Found(f"serve ends with {status}", printed, statuses, error)
+            return answers, self.rows(server.folder)
+
+    def requests(self, draw):
+        """Requests in turn; and those alone of which something was accepted or taken make the same rows."""
+        requests = [self.request(draw) for _ in range(BATCH)]
+        answers, rows = self.served(requests)
+        changing = [data for data, answer in zip(requests, answers) if re.search(rb"\r\n\r\n(.*\n)*(\d+ .* )?(accepted|taken)\n", answer)]
+        if changing and self.served(changing)[1] != rows:
+            raise Found("the accepted alone make other rows", requests)
+        return len(requests)
 
     # what needs no hub
 
@@ -287,8 +299,13 @@ class Fuzz:
         if status > 1 or error or lines.pop() or not lines or not all(SHOWN.fullmatch(line) for line in lines):
             raise Found(f"show ends with {status}", text, printed, error)
         words = ["relay", "--hub", HUB, "--owner", ALPHA, "--moment", MOMENT, "--number", "1"]
-        status, printed, error = self.ran(words, self.folder, text)
+        told, (status, printed, error) = printed, self.ran(words, self.folder, text)
         if status == 0 and not error:
+            # a mailbox interchange for each message that `show` shows, and no other behind them
+            count = told.count(b"\nmessage ")
+            ends = [b"UNZ+1+%d'" % number for number in range(1, count + 1)]
+            if not all(it in printed for it in ends) or not printed.endswith(ends[-1] if ends else b"") or bool(ends) != printed.startswith(b"UNA:+"):
+                raise Found("relay writes no mail", text, printed)
             return 2
         if status != 1 or printed or not re.fullmatch(rb"refused E\d\d\n", error):
             raise Found(f"relay ends with {status}", text, printed, error)

@@ -6,11 +6,14 @@
 - The disk is full: a file may not grow past some size. Each command ends with its named fault or `stopped`, status 3, nothing is
   done in part, and the same again with room goes through.
 - Each allocation of the program is refused in turn, command by command, `serve` with an upload among them: it says `memory`, or
-  stops, or makes up for it; and the same command with ample memory leaves the rows that it would have left.
-- A database file is cut at each 512 bytes, has a byte changed in each page, or is replaced by other files: a named refusal, or the
-  right answers.
+  stops, or makes up for it; and the same command with ample memory leaves the rows that it would have left, and says `repeated`
+  of what was done. Of the allocations before the file is open one in so many is refused, but for the first command; all others are.
+- A database file is cut at each 512 bytes, has bytes changed all over each page, or is replaced by other files: a named refusal, or
+  the right answers; and so an import into it. A file of today has sums of its pages, so no changed byte of a row is answered from.
 
-    python3 tests/hostile.py crates/edihub/out/edihub"""
+- A script is played over tables of SQL, with each of its allocations refused in turn.
+
+    python3 tests/hostile.py crates/edihub/out/edihub crates/hub_script/out/hub_script [TRIAL..]"""
 import os
 import random
 import resource
@@ -28,14 +31,16 @@ from concurrent.futures import ThreadPoolExecutor
 from commands import KEPT, REGISTER, over, told
 from files import NAME, is_whole
 from http_texts import response
-from hubs import ALPHA, DESPATCH, HUB, MOMENT, ORDERS as ORDER, RECEIPT, RESPONSE, RETAILER, SECOND, SPELLED, TWO_SUPPLIERS, interchange, order
-from refusals import SHIM
+from hubs import ALPHA, BETA, DESPATCH, HUB, MOMENT, ORDERS as ORDER, RECEIPT, RESPONSE, RETAILER, SECOND, SPELLED, TWO_SUPPLIERS, interchange, order
+from refusals import SHIM, refusals
 from registers import of_prefixes
 from serving import Server, all_of, free_port, upload
 
 ORDERS, MOMENTS = 999, 100
-# how many allocations of a command are all refused, and of those before them one in so many
-OF_COMMAND, EACH = 700, 25
+# the bytes of a page of a database file, and how many of them are changed, each in a file of its own
+PAGE, CHANGES = 4096, 12
+# of the allocations before a file is open one in so many is refused, up to so many before the last of them
+EACH, BEFORE_OPEN = 25, 60
 TABLES = ("order", "line", "advice", "pallet", "content", "receipt", "remembered", "mail")
 STORE_FAULTS = {b"store disk\n", b"store unclean\n", b"store version\n", b"store memory\n"}
 
@@ -207,63 +212,101 @@ def damaged(data):
     for length in range(0, len(data), 512):
         yield f"cut to {length}", data[:length]
     draw = random.Random(7)
-    for page in range(0, len(data), 4096):
-        for _ in range(6):
-            at = page + draw.randrange(4096)
+    for page in range(0, len(data), PAGE):
+        # the head of the page, and then all over it, where its rows are
+        for at in (page, page + 3, page + 5, page + 8, *(page + draw.randrange(PAGE) for _ in range(CHANGES))):
+            yield f"byte {at} changed", data[:at] + bytes([data[at] ^ draw.choice((0xFF, 1 << draw.randrange(8)))]) + data[at + 1 :]
+        filled = [at for at in range(page, min(page + PAGE, len(data))) if data[at]]
+        for at in draw.sample(filled, min(CHANGES, len(filled))):
             yield f"byte {at} changed", data[:at] + bytes([data[at] ^ (1 << draw.randrange(8))]) + data[at + 1 :]
-        for at in (page, page + 3, page + 5, page + 8):
-            yield f"byte {at} changed", data[:at] + bytes([data[at] ^ 0xFF]) + data[at + 1 :]
     yield "text", b"no database at all\n" * 300
     yield "zeros", bytes(len(data))
     yield "doubled", data + data
-    yield "pages exchanged", data[4096:8192] + data[:4096] + data[8192:]
+    yield "pages exchanged", data[PAGE : 2 * PAGE] + data[:PAGE] + data[2 * PAGE :]
 
 
-def files_damaged(program, top):
+def file_of_today(program, top):
+    """A file as the program makes it now, of some orders and what came of them."""
+    folder = of_orders(top, 30)
+    for name, words, data, _, _ in steps()[:7]:
+        put(folder, data)
+        run(program, words, folder)
+    run(program, IMPORT, folder)
+    with open(os.path.join(folder, NAME), "rb") as file:
+        return file.read()
+
+
+def kept_file():
+    """A file of an earlier program, without sums of its pages."""
     with open(os.path.join(KEPT, "schema1.db"), "rb") as file:
-        data = file.read()
-    words = [over("status", ALPHA), over("mail", ALPHA, "--do", "after", "--n", "0"), over("mail", ALPHA, "--do", "item", "--n", "1")]
-    healthy = new_folder(top)
-    with open(os.path.join(healthy, NAME), "wb") as file:
+        return file.read()
+
+
+def put(folder, data):
+    for path, text in data.items():
+        os.makedirs(os.path.dirname(os.path.join(folder, path)), exist_ok=True)
+        with open(os.path.join(folder, path), "w", encoding="latin-1") as file:
+            file.write(text)
+
+
+def with_file(top, data):
+    """A folder with this database file, and an order to be imported."""
+    folder = new_folder(top)
+    put(folder, {"new/new.edi": interchange(RETAILER, "U7", order("700", quantity="7"))})
+    with open(os.path.join(folder, NAME), "wb") as file:
         file.write(data)
-    wanted = [run(program, it, healthy) for it in words]
-    empty = [run(program, it, new_folder(top)) for it in words]
-    counts = {"right": 0, "refused": 0, "stopped": 0, "empty": 0, "other": []}
+    return folder
+
+
+DAMAGED_LOOKS = [*LOOKS[:3], over("status", RETAILER, "--of", ALPHA), over("import", RETAILER, "--folder", "new")]
+
+
+def file_damaged(program, top, data, has_sums):
+    """What comes of a file in each way of damage, as numbers of each kind; or what is wrong."""
+    wanted = [run(program, it, with_file(top, data)) for it in DAMAGED_LOOKS]
+    empty = [run(program, it, with_file(top, b"")) for it in DAMAGED_LOOKS]
+    counts = Counter()
+
+    def kind_of(found, right, none, what, bytes_of_file):
+        if found == right:
+            # of a file with sums a changed byte that is used is found; one that is not used changes no answer
+            return "right"
+        if found[0] == 3 and not found[1] and found[2] in STORE_FAULTS:
+            return "refused"
+        if found[0] == 3 and found[1].endswith(b"stopped\n") and not found[2]:
+            return "stopped"
+        if found == none and (not bytes_of_file or what == "zeros"):
+            return "empty"
+        # without sums a changed row may be another right one, which nobody can tell: it has to be a reply at least
+        return None if has_sums else "unseen" if found[0] in (0, 1) and not found[2] else None
 
     def tried(one):
         what, bytes_of_file = one
-        folder = new_folder(top)
-        kinds = set()
-        for it, right, none in zip(words, wanted, empty):
-            with open(os.path.join(folder, NAME), "wb") as file:
-                file.write(bytes_of_file)
-            for name in os.listdir(folder):
-                if name not in (NAME, REGISTER):
-                    os.remove(os.path.join(folder, name))
+        kinds = []
+        for it, right, none in zip(DAMAGED_LOOKS, wanted, empty):
+            folder = with_file(top, bytes_of_file)
             found = run(program, it, folder)
-            if found == right:
-                kinds.add("right")
-            elif found[0] == 3 and not found[1] and found[2] in STORE_FAULTS:
-                kinds.add("refused")
-            elif found == (3, b"stopped\n", b""):
-                kinds.add("stopped")
-            elif found == none and not bytes_of_file:
-                kinds.add("empty")
-            else:
-                return what, found
-        shutil.rmtree(folder)
-        return what, kinds
+            kinds.append(kind_of(found, right, none, what, bytes_of_file))
+            if kinds[-1] is None:
+                return f"{what}: {it[0]}: {found!r:.300}"
+            shutil.rmtree(folder)
+        return kinds
 
     with ThreadPoolExecutor(len(os.sched_getaffinity(0))) as pool:
-        for what, kinds in pool.map(tried, damaged(data)):
-            if isinstance(kinds, tuple):
-                counts["other"].append((what, kinds))
-            else:
-                for kind in kinds:
-                    counts[kind] += 1
-    other = counts.pop("other")
-    print("a damaged file: " + ", ".join(f"{count} {word}" for word, count in counts.items()) + f", {len(other)} other answers")
-    return f"{len(other)} other answers, first {other[:3]}" if other else None
+        for found in pool.map(tried, damaged(data)):
+            if isinstance(found, str):
+                return found
+            counts.update(found)
+    return counts
+
+
+def files_damaged(program, top):
+    for name, data, has_sums in (("of today", file_of_today(program, top), True), ("without sums", kept_file(), False)):
+        counts = file_damaged(program, top, data, has_sums)
+        if isinstance(counts, str):
+            return f"a file {name}, {counts}"
+        print(f"a damaged file {name}: " + ", ".join(f"{count} {kind}" for kind, count in counts.most_common()), flush=True)
+    return None
 
 
 def steps():
@@ -301,23 +344,27 @@ def memory_refused(program, top):
     shim, base = os.path.join(top, "refuse.so"), new_folder(top)
     subprocess.run(["cc", "-O2", "-shared", "-fPIC", "-o", shim, SHIM, "-ldl"], check=True)
     for name, words, data, first, again in steps():
-        for path, text in data.items():
-            os.makedirs(os.path.dirname(os.path.join(base, path)), exist_ok=True)
-            with open(os.path.join(base, path), "w", encoding="latin-1") as file:
-                file.write(text)
+        put(base, data)
         source = data.get("stdin", "").encode("latin-1")
 
         def once(folder, **variables):
             return run(program, words, folder, input=source, env=variables)
 
+        def counted(folder, of):
+            """What comes of a command, and how many allocations it makes."""
+            ran = run(program, of, folder, input=source, env={"LD_PRELOAD": shim, "COUNT": os.path.join(top, "count")})
+            with open(os.path.join(top, "count"), encoding="ascii") as file:
+                return ran, int(file.read())
+
         end = shutil.copytree(base, os.path.join(top, name))
-        whole = once(end, LD_PRELOAD=shim, COUNT=os.path.join(top, "count"))
+        over_hub = "--db" in words
+        # a caller that is denied opens the file and does no more
+        denied = over("status", BETA, key="another-key")
+        opening = counted(shutil.copytree(base, os.path.join(top, name + "opened")), denied)[1] if over_hub else 0
+        whole, allocations = counted(end, words)
         if first not in (None, whole[1]):
             return f"{name}: {whole}"
-        with open(os.path.join(top, "count"), encoding="ascii") as file:
-            allocations = int(file.read())
-        # most of them are those of opening the file, and of these one in so many is enough behind the first command
-        numbers = [k for k in range(1, allocations + 1) if name == "order" or k > allocations - OF_COMMAND or k % EACH == 0]
+        numbers = [k for k in range(1, allocations + 1) if name == "order" or k > opening - BEFORE_OPEN or k % EACH == 0]
         wanted = rows_of(end) if os.path.exists(os.path.join(end, NAME)) else None
 
         def tried(number):
@@ -329,13 +376,14 @@ def memory_refused(program, top):
                 kind = "store memory"
             elif status == 3 and error == b"memory\n" and whole[1].startswith(printed):
                 kind = "memory"
-            elif status == 3 and not error and (not printed or printed.endswith(b"stopped\n") or printed == whole[1].split(b"\n")[0] + b"\n"):
+            elif over_hub and status == 3 and not error and (not printed or printed.endswith(b"stopped\n") or printed == whole[1].split(b"\n")[0] + b"\n"):
                 # also with no word, where there is no memory even for it
                 kind = "stopped"
             else:
                 return f"{name}: allocation {number} refused: {(status, printed, error)!r:.300}"
-            later = once(folder)
-            if later != whole and later != (whole[0], again or whole[1], whole[2]):
+            later, repeated = once(folder), (whole[0], again or whole[1], whole[2])
+            # what was told of is kept
+            if later != repeated and (kind == "as ever" or later != whole):
                 return f"{name}: allocation {number} refused, {kind}, then: {later!r:.300}"
             if wanted is not None and rows_of(folder) != wanted:
                 return f"{name}: allocation {number} refused, {kind}, then other rows"
@@ -348,7 +396,8 @@ def memory_refused(program, top):
         if wrong:
             return f"{len(wrong)} of {allocations} wrong, first {wrong[0]}"
         counts = ", ".join(f"{count} {kind}" for (kind,), count in Counter(found).most_common())
-        print(f"{name}: {len(numbers)} of {allocations} allocations refused in turn: {counts}", flush=True)
+        own = f", {allocations - opening} of them once the file is open" if over_hub else ""
+        print(f"{name}: {allocations} allocations{own}; {len(numbers)} refused in turn: {counts}", flush=True)
         base = end
     return None
 
@@ -397,7 +446,7 @@ def serving_refused(program, top):
         else:
             return f"allocation {number} refused: {found!r:.300}"
         later = served_once(program, folder, request, {})
-        if later not in (whole, again) or rows_of(folder) != wanted:
+        if later != again and (kind == "as ever" or later != whole) or rows_of(folder) != wanted:
             return f"allocation {number} refused, {kind}, then: {later!r:.300}"
         shutil.rmtree(folder)
         return (kind,)
@@ -412,18 +461,25 @@ def serving_refused(program, top):
     return None
 
 
+def script_refused(scripts, top):
+    return refusals(scripts, "sql")
+
+
+# what is tried of the program, and of the program that plays scripts
 TRIALS = (files_damaged, disks_full, memory_refused, serving_refused, imports_killed, servers_killed)
+OF_SCRIPTS = (script_refused,)
 
 
-def main(program):
-    program, failed = os.path.abspath(program), 0
-    for trial in TRIALS:
+def main(program, scripts, *names):
+    failed = 0
+    trials = [(os.path.abspath(it), trial) for it, some in ((program, TRIALS), (scripts, OF_SCRIPTS)) for trial in some if trial.__name__ in (names or [trial.__name__])]
+    for it, trial in trials:
         with tempfile.TemporaryDirectory() as top:
-            why = trial(program, top)
+            why = trial(it, top)
         if why:
             failed += 1
             print(f"{trial.__name__}: {why}", flush=True)
-    print(f"{len(TRIALS) - failed} passed, {failed} failed")
+    print(f"{len(trials) - failed} passed, {failed} failed")
     return 1 if failed else 0
 
 

@@ -9,8 +9,8 @@ import re
 import subprocess
 from concurrent.futures import ThreadPoolExecutor
 
-from hubs import ALPHA, BETA, Play
-from stops import inputs, script
+from hubs import Play
+from stops import LOOKS, inputs, looks, script
 
 FILES = ("stop-file", "stop-log")
 # how many calls of a file are stopped at least behind the making of the tables, and how many are tried at most
@@ -48,13 +48,6 @@ def replies(output):
         else:
             raise OSError(f"no reply: {line!r:.200}")
     return found
-
-
-def looks(play):
-    """What shows all rows, behind a script."""
-    for who in (ALPHA, BETA):
-        play.ask(who, "status", "", "").ask(who, "after 0", "", "")
-    return play
 
 
 def shown_after(number):
@@ -98,13 +91,13 @@ class Machine:
             return f"{words}: told of {told}, then {answers[told:]!r:.300}"
         if front and told < self.count:
             return f"{words}: stopped again, {answers!r:.300}"
-        done = [number for number in range(self.count + 1) if self.seen[number] == rest[:4] and told <= number <= told + 1]
+        done = [number for number in range(self.count + 1) if self.seen[number] == rest[:LOOKS] and told <= number <= told + 1]
         if not done:
-            return f"{words}: told of {told}, then seen {rest[:4]!r:.400}"
+            return f"{words}: told of {told}, then seen {rest[:LOOKS]!r:.400}"
         # the last input shows only in a list, so that what is seen may be that of two numbers
         wanted = [replies(Again(number).printed) for number in done]
-        again = rest[4 : 4 + self.count]
-        if again not in wanted or rest[4 + self.count :] != self.seen[-1]:
+        again = rest[LOOKS : LOOKS + self.count]
+        if again not in wanted or rest[LOOKS + self.count :] != self.seen[-1]:
             return f"{words}: told of {told}, done {done}, sent again {again!r:.400}"
         return told if not front else -1
 

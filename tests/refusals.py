@@ -11,7 +11,7 @@ from concurrent.futures import ThreadPoolExecutor
 from dataclasses import dataclass
 
 import http_texts
-from hubs import ALPHA, BETA, DESPATCH, FIRST_MAIL, ORDERS, OTHER_PALLET, RECEIPT, RESPONSE, RETAILER, SECOND, SECOND_MAIL, STATUS
+from hubs import ALPHA, BETA, DESPATCH, FIRST_MAIL, ORDERS, OTHER_PALLET, RECEIPT, RESPONSE, RETAILER, SECOND, SECOND_MAIL, SPELLED, STATUS
 from hubs import Play, despatch, interchange, line_status, order, response
 
 SHIM = os.path.join(os.path.dirname(os.path.abspath(__file__)), "refuse.c")
@@ -55,6 +55,7 @@ def sent_twice():
         twice(one, one)
 
     sends(RETAILER, "1001", "ORDERS", ORDERS)
+    sends(RETAILER, "1001", "ORDERS", SPELLED, "repeated")
     sends(RETAILER, "1002", "ORDERS", SECOND)
     sends(RETAILER, "1003", "ORDERS", interchange(RETAILER, "1003", order()), "refused B04", "refused B04")
     sends(ALPHA, "S1", "ORDRSP", RESPONSE)
@@ -64,6 +65,10 @@ def sent_twice():
     sends(RETAILER, "1005", "RECADV", RECEIPT)
     twice(lambda: play.cancel("C1", 1, 10, "accepted"), lambda: play.cancel("C1", 1, 10, "repeated"))
     looks(lambda: play.take(1))
+    # two inputs of one run
+    play.say("run")
+    sends(RETAILER, "1004", "ORDERS", interchange(RETAILER, "1004", order("128578", supplier=BETA)))
+    play.say("end")
     looks(lambda: play.upload(RETAILER, "", "refused E06", outcome="bad"))
     looks(lambda: play.ask(RETAILER, "status", "denied", "denied\n"))
     looks(lambda: play.ask(ALPHA, "item 9", "unknown", "unknown\n"))
@@ -91,7 +96,7 @@ def sent_twice():
     wired(asking("GET", f"{path}/mail/item/1", ALPHA), FIRST_MAIL)
     wired(asking("GET", f"{path}/mail/after/3", ALPHA), "             4 ORDERS 128579\nend\n")
     wired(asking("POST", f"{path}/mail/item/4/taken", ALPHA, ""), "taken\n")
-    wired(asking("GET", f"/p/{RETAILER}/status/{BETA}", RETAILER), "end\n")
+    wired(asking("GET", f"/p/{RETAILER}/status/{BETA}", RETAILER), line_status("128578", "W", 48, 48, 0, 0, 0) + "\nend\n")
     cancel = f"{ALPHA}\nC5\n128579\n1\n7\n"
     wired(asking("POST", f"/p/{RETAILER}/cancellations", RETAILER, cancel), "accepted\n", "repeated\n")
     wired(asking("GET", f"{path}/mail/item/x", ALPHA), "unknown\n", status=404)
@@ -126,40 +131,45 @@ def stops_of(output, asked):
     return stops
 
 
-def outcome(program, shim, script, asked, number):
+def outcome(words, shim, script, asked, number):
     """What becomes of the script where the allocation of this number is refused."""
-    ran = subprocess.run([program], input=script, capture_output=True, env={"LD_PRELOAD": shim, "REFUSE": str(number)}, timeout=60)
+    ran = subprocess.run(words, input=script, capture_output=True, env={"LD_PRELOAD": shim, "REFUSE": str(number)}, timeout=60)
     if ran.returncode == 3 and ran.stderr == b"memory\n":
         return "script"
+    if ran.returncode == 1 and ran.stdout == b"store memory\n":
+        # no hub, so the next line of the script is none
+        return "opening"
     stops = stops_of(ran.stdout, asked) if ran.returncode == 0 else None
     return {None: "wrong", 0: "none", 1: "stop"}.get(stops, "wrong")
 
 
-def tried(program, folder):
+def tried(words, folder):
+    """What is wrong of the script, played by these words, where one allocation is refused, if anything."""
     script, asked = sent_twice()
     shim, count = os.path.join(folder, "refuse.so"), os.path.join(folder, "count")
     subprocess.run(["cc", "-O2", "-shared", "-fPIC", "-o", shim, SHIM, "-ldl"], check=True)
-    whole = subprocess.run([program], input=script, capture_output=True, env={"LD_PRELOAD": shim, "COUNT": count}, timeout=60)
+    whole = subprocess.run(words, input=script, capture_output=True, env={"LD_PRELOAD": shim, "COUNT": count}, timeout=60)
     if whole.returncode or stops_of(whole.stdout, asked) != 0:
         return f"with ample memory: {whole.stdout!r:.300}"
     with open(count, encoding="ascii") as file:
         allocations = int(file.read())
     numbers = range(1, allocations + 1)
     with ThreadPoolExecutor(len(os.sched_getaffinity(0))) as pool:
-        outcomes = list(pool.map(lambda number: outcome(program, shim, script, asked, number), numbers))
+        outcomes = list(pool.map(lambda number: outcome(words, shim, script, asked, number), numbers))
     found = Counter(outcomes)
-    print(f"{allocations} allocations refused in turn: {found['stop']} stops, {found['none']} made up for, {found['script']} of the script's own")
+    own, opening = found["script"], found["opening"]
+    print(f"{allocations} allocations refused in turn: {found['stop']} stops, {found['none']} made up for, {opening} of opening, {own} of the script's own")
     if found["wrong"]:
         return f"wrong where one of these is refused: {[number for number, it in zip(numbers, outcomes) if it == 'wrong'][:20]}"
-    if allocations < FEWEST or found["script"] > MOST_OF_SCRIPT or found["stop"] < allocations // 2:
+    if allocations < FEWEST or own > MOST_OF_SCRIPT or found["stop"] < (allocations - opening) // 2:
         return "too few allocations of the hub were refused"
     return None
 
 
-def refusals(program):
+def refusals(program, *words):
     """What is wrong where an allocation of the program is refused, if anything."""
     with tempfile.TemporaryDirectory() as folder:
         try:
-            return tried(program, folder)
+            return tried([program, *words], folder)
         except (OSError, subprocess.SubprocessError) as why:
             return f"not tried: {why}"

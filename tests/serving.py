@@ -2,6 +2,7 @@
 never taken from the program."""
 import os
 import re
+import resource
 import shutil
 import socket
 import struct
@@ -30,7 +31,7 @@ def free_port():
 class Server:
     """The program, serving so many connections in a folder of its own."""
 
-    def __init__(self, program, count, moment=MOMENT, data=(), folder=None, register=REGISTER, output=None):
+    def __init__(self, program, count, moment=MOMENT, data=(), folder=None, register=REGISTER, output=None, room=None):
         self.folder = folder or tempfile.mkdtemp()
         for name, it in {REGISTER: TWO_SUPPLIERS.encode(), **dict(data)}.items():
             with open(os.path.join(self.folder, name), "wb") as file:
@@ -38,7 +39,9 @@ class Server:
         self.port = free_port()
         words = ["serve", "--register", register, "--db", NAME, "--port", str(self.port), "--count", str(count)]
         words += ["--moment", moment] if moment else []
-        self.child = subprocess.Popen([program, *words], cwd=self.folder, stdout=output or subprocess.PIPE, stderr=subprocess.PIPE)
+        limits = (lambda: resource.setrlimit(resource.RLIMIT_AS, (room, room))) if room else None
+        how = {"stdout": output or subprocess.PIPE, "stderr": subprocess.PIPE, "preexec_fn": limits}
+        self.child = subprocess.Popen([program, *words], cwd=self.folder, **how)
         self.lines = [] if output else [self.child.stdout.readline()]
 
     def __enter__(self):

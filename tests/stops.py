@@ -18,6 +18,9 @@ SHIM = os.path.join(os.path.dirname(os.path.abspath(__file__)), "stop.c")
 WAYS = {"at once": {}, "torn": {"TORN": "1"}, "lost": {"LOST": "1"}}
 # how many changes there are at least
 FEWEST = 40
+# how many entries a mailbox has, and one more, and how much is looked at behind the inputs
+MAILS = 4
+LOOKS = 2 * (2 + MAILS)
 
 
 def inputs():
@@ -40,12 +43,19 @@ def inputs():
     ]
 
 
+def looks(play):
+    """What shows all rows, behind a script: lines and pallets, the entries that are not taken, and each entry as it is mailed."""
+    for who in (ALPHA, BETA):
+        play.ask(who, "status", "", "").ask(who, "after 0", "", "")
+        for number in range(1, MAILS + 1):
+            play.ask(who, f"item {number}", "", "")
+    return play
+
+
 def with_looks(play):
     """The script of a play, and then what shows all rows."""
     printed = play.printed
-    for who in (ALPHA, BETA):
-        play.ask(who, "status", "", "").ask(who, "after 0", "", "")
-    play.printed = printed
+    looks(play).printed = printed
     return play.script
 
 

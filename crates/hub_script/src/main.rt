@@ -12,7 +12,7 @@
 //! | `as MOMENT GLN KEY` | says who asks from now on, and when, in seconds |
 //! | `upload N`, `after N`, `item N`, `taken N`, `status`, `status-of GLN`, `cancel N` | asks; the bytes of `upload` and `cancel` follow |
 //! | `run`, `end` | puts what is asked between them into one run |
-//! | `connection N`, then `piece P`, `reads R`, `takes T`, `writes W` where they are wanted | serves a connection of HTTP whose bytes the N are, at the moment of the last `as`. A read gives at most P bytes, and the one after R others fails; a write takes at most T bytes, and the one after W others fails. Prints `served` with the status or `fault` with its kind, the length of what went out, a line end, and that |
+//! | `connection N`, then `piece P`, `reads R`, `takes T`, `writes W`, `interrupted` where they are wanted | serves a connection of HTTP whose bytes the N are, at the moment of the last `as`. A read gives at most P bytes, and the one after R others fails; a write takes at most T bytes, and the one after W others fails, by an interruption where that is said. Prints `served` with the status or `fault` with its kind, the length of what went out, a line end, and that |
 //! | `mend` | opens the store anew, with its rows, or what a crash leaves of a file that stopped; no call of it fails. Where it is not opened, prints `store` and the fault |
 //! | `counts` | prints how many look-ups and commits there were since the hub was made or its store opened anew |
 //! | `quiet`, `loud` | prints no reply from here on, or each again |

@@ -19,28 +19,41 @@ pub struct Manner {
     takes: usize,
     /// The write after so many others fails.
     writes: u64,
+    /// What fails was interrupted.
+    interrupted: bool,
 }
 
 impl Manner {
-    /// What the words of a line say, each with its number: `piece`, `reads`, `takes` and `writes`.
+    /// What the words of a line say, four with a number, `piece`, `reads`, `takes` and `writes`, and `interrupted`.
     pub fn of(words: &mut Words<'_>) -> Result<Manner, ScriptFault> {
         let mut manner = Manner {
             piece: usize::MAX,
             reads: u64::MAX,
             takes: usize::MAX,
             writes: u64::MAX,
+            interrupted: false,
         };
-        for _ in 0..4u32 {
+        for _ in 0..5u32 {
             match words.next_word() {
                 b"" => return Ok(manner),
                 b"piece" => manner.piece = words.next_count().ok_or(ScriptFault::Line)?,
                 b"reads" => manner.reads = words.next_number().ok_or(ScriptFault::Line)?,
                 b"takes" => manner.takes = words.next_count().ok_or(ScriptFault::Line)?,
                 b"writes" => manner.writes = words.next_number().ok_or(ScriptFault::Line)?,
+                b"interrupted" => manner.interrupted = true,
                 _ => return Err(ScriptFault::Line),
             }
         }
         Ok(manner)
+    }
+
+    // How a read or write fails.
+    fn failure(&self) -> io::Error {
+        io::Error::from(if self.interrupted {
+            io::ErrorKind::Interrupted
+        } else {
+            io::ErrorKind::Other
+        })
     }
 }
 
@@ -68,7 +81,7 @@ impl Source for Incoming<'_> {
 
     fn read(&mut self, buffer: &mut [u8]) -> io::Result<usize> {
         if self.manner.reads == 0 {
-            return Err(io::Error::from(io::ErrorKind::Other));
+            return Err(self.manner.failure());
         }
         self.manner.reads -= 1;
         let room = buffer.len().min(self.manner.piece);
@@ -105,7 +118,7 @@ impl Sink for Outgoing {
 
     fn write(&mut self, bytes: &[u8]) -> io::Result<usize> {
         if self.manner.writes == 0 {
-            return Err(io::Error::from(io::ErrorKind::Other));
+            return Err(self.manner.failure());
         }
         self.manner.writes -= 1;
         let count = bytes.len().min(self.manner.takes);
