@@ -109,9 +109,10 @@ fn wraps_a_message_for_the_mailbox(rt: HostRuntime) -> Result<(), Fail> {
     Ok(())
 }
 
-// Date and time of the mail that a message becomes.
-fn mail_date(alloc: Global, message: &RawMessage, moment: Moment) -> Result<Vec<u8>, Fail> {
-    let mail = mail(alloc, moment, 1, message)?;
+// Date and time of the mail that a message becomes at a moment.
+fn mail_date(alloc: Global, moment: Moment) -> Result<Vec<u8>, Fail> {
+    let message = only_message(alloc, RELAYED)?;
+    let mail = mail(alloc, moment, 1, &message)?;
     let unb = mail.as_slice().first().ok_or("UNB")?;
     Ok(joined(alloc, &[unb.component(3, 0), unb.component(3, 1)])?)
 }
@@ -132,12 +133,10 @@ static MOMENTS: [(u64, &[u8]); 11] = [
 
 #[test]
 fn shows_dates_and_times_at_utc(rt: HostRuntime) -> Result<(), Fail> {
-    let alloc = rt.alloc();
-    let message = only_message(alloc, RELAYED)?;
     for (seconds, want) in &MOMENTS {
         let moment = Moment::new(*seconds).ok_or("a moment")?;
         assert_eq!(rt; moment.seconds(), *seconds);
-        let date = mail_date(alloc, &message, moment)?;
+        let date = mail_date(rt.alloc(), moment)?;
         assert_eq!(rt; date.as_slice(), *want);
     }
     assert_eq!(rt; Moment::new(4_102_444_800), None);

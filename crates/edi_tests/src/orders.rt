@@ -48,14 +48,26 @@ fn is_the_response(rt: &impl Abort, response: &Response) {
     assert_eq!(rt; numbers, (b"R1".as_slice(), b"128576".as_slice()));
 }
 
-#[test]
-fn an_order_and_its_response_are_read(rt: HostRuntime) -> Result<(), Fail> {
-    let alloc = rt.alloc();
+fn first_order(alloc: Global) -> Result<Order, Fail> {
     let interchange = opened(alloc, TEXT)?;
-    let messages = interchange.messages.as_slice();
-    let order = read_order(alloc, messages.first().ok_or("an order")?)?;
-    is_the_order(&rt, &order)?;
-    let response = read_response(alloc, messages.get(1).ok_or("a response")?)?;
+    let message = interchange.messages.as_slice().first().ok_or("an order")?;
+    Ok(read_order(alloc, message)?)
+}
+
+fn second_response(alloc: Global) -> Result<Response, Fail> {
+    let interchange = opened(alloc, TEXT)?;
+    let message = interchange.messages.as_slice().get(1).ok_or("a response")?;
+    Ok(read_response(alloc, message)?)
+}
+
+#[test]
+fn an_order_is_read(rt: HostRuntime) -> Result<(), Fail> {
+    is_the_order(&rt, &first_order(rt.alloc())?)
+}
+
+#[test]
+fn a_response_is_read(rt: HostRuntime) -> Result<(), Fail> {
+    let response = second_response(rt.alloc())?;
     is_the_response(&rt, &response);
     is_the_answer(&rt, &response.answer)
 }
