@@ -1,7 +1,7 @@
 //! Bytes that wait to be written together.
 
-ghost use Rattle.std.specs.Prelude.{◌≡◌, ◌+◌, ◌≤◌, [], ◌++◌, length, OnOk};
-ghost use Rattle.edi_base.specs.Buffer.{Puts, Flags};
+ghost use Rattle.std.specs.Prelude.{◌≡◌, ◌+◌, ◌≤◌, [], ◌++◌, length, OnOk, OnErr};
+ghost use Rattle.edi_base.specs.Buffer.{Puts, Flags, Leaves};
 
 use crate::sink::{Sink, WriteFault};
 use std::marker::Model;
@@ -57,11 +57,12 @@ impl Buffer {
         }
     }
 
-    /// Writes the bytes that wait. At `WriteFault` a front of them was written, and what then waits is not promised.
+    /// Writes the bytes that wait. At `WriteFault` a front of them was written, and all of them still wait.
     pub fn flush<W: Sink>(&mut self, out: &mut W) -> Result<(), WriteFault>
         ensures bytes { Puts result (W.contents out.old) (W.contents out.new) self.old [] [] }
         ensures flag { Flags result (W.failed out.old) (W.failed out.new) }
         ensures empty { OnOk result (self.new ≡ []) }
+        ensures waits { OnErr result (self.new ≡ self.old) }
     {
         write_whole(out, &self.bytes[..self.filled])?;
         self.filled = 0;
@@ -69,10 +70,12 @@ impl Buffer {
     }
 
     /// Puts bytes after those that wait, and writes as many as there is no room for. At `WriteFault` a front of
-    /// those that waited and these was written, and what then waits is not promised.
+    /// those that waited and these was written. All that waited still wait where they were not all written; else
+    /// nothing waits.
     pub fn put<W: Sink>(&mut self, out: &mut W, bytes: &[u8]) -> Result<(), WriteFault>
         ensures bytes { Puts result (W.contents out.old) (W.contents out.new) self.old self.new bytes.now }
         ensures flag { Flags result (W.failed out.old) (W.failed out.new) }
+        ensures waits { OnErr result (Leaves (W.contents out.old) (W.contents out.new) self.old self.new bytes.now) }
     {
         if bytes.len() > ROOM - self.filled {
             self.flush(out)?;

@@ -1,4 +1,4 @@
-ghost use Rattle.std.specs.Prelude.{◌≡◌, ◌==◌, ◌++◌, ◌∷◌, [], length, IfOk, OnOk, OnErr};
+ghost use Rattle.std.specs.Prelude.{◌≡◌, ◌==◌, ◌++◌, ◌∷◌, [], length, IfOk, IfErr, OnOk, OnErr};
 
 use crate::memory::MemoryFault;
 use std::alloc::{AllocFailed, Global};
@@ -64,10 +64,11 @@ impl<T> Items<T> {
         self.vector.is_empty()
     }
 
-    /// Puts an item at the end.
+    /// Puts an item at the end. Where memory is refused, the item is given back.
     pub fn push(&mut self, item: T) -> Result<(), AllocFailed<T>>
         ensures ok { OnOk result (self.new ≡ self.old ++ item ∷ []) }
         ensures err { OnErr result (self.new ≡ self.old) }
+        ensures back { IfErr result (λ refused. refused.value ≡ item) }
     {
         self.vector.push(item)
     }
