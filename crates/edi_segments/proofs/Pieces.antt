@@ -20,6 +20,10 @@ one_more r next last bytes at lt so_far one =
     ap (run r) (take_more bytes at 0 lt)
     ∙ run_on r next (take at bytes) (get_or bytes at 0 ∷ []) so_far ∙ run_one next last (get_or bytes at 0) one
 
+-- bytes, parted at one of them
+pub split_at : (bytes : List ℕ) (at : ℕ) → at < length bytes → bytes ≡ take at bytes ++ get_or bytes at 0 ∷ drop (at + 1) bytes
+split_at bytes at lt = sym (take-append-drop at bytes) ∙ ap (λ (l : List ℕ). take at bytes ++ l) (drop_more bytes at 0 lt)
+
 pub stops_here : (r next : Reading) (bytes : List ℕ) (at : ℕ) (fault : TokenFault) → at < length bytes → run r (take at bytes) ≡ Ok next
     → step next (get_or bytes at 0) ≡ Err fault → run r bytes ≡ Err fault
 stops_here r next bytes at fault lt so_far stops =

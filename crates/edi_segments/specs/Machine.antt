@@ -1,12 +1,12 @@
 -- What has come of a text, as a machine keeps it that keeps one segment.
-use Rattle.std.specs.Prelude.{◌≡◌, Bool, true, false, List, [], ◌∷◌, ◌++◌, take, Result, Ok, Err}
+use Rattle.std.specs.Prelude.{◌≡◌, ℕ, Bool, true, false, List, [], ◌∷◌, ◌++◌, take, Result, Ok, Err}
 use Rattle.edi_segments.specs.declared.machine.Machine.{Machine}
 use Rattle.edi_segments.specs.declared.machine.Place as code
 use Rattle.edi_segments.specs.declared.machine.Place.TheVariants as at
 use Rattle.edi_segments.specs.declared.segment.Segment.{Segment}
 use Rattle.edi_segments.specs.declared.segment.Tokens.{Tokens}
 use Rattle.edi_segments.specs.declared.fault.TokenFault.{TokenFault}
-use Rattle.edi_segments.specs.Reading.{Open, Reading, Place, Outside, InService, InTag, InData, Released}
+use Rattle.edi_segments.specs.Reading.{Open, Reading, Place, Outside, InService, InTag, InData, Released, run, step}
 use Rattle.edi_segments.specs.Spelling.{without_empty_end}
 
 abbrev pub place_of : code.Place → Machine → Place
@@ -40,3 +40,12 @@ tokens_at lent m = record { service = m.service; segments = lent }
 abbrev pub Gives : {X Y : Type 0} → (X → Y) → Result X TokenFault → Result Y TokenFault → Type 0
 Gives view (Ok x) given = given ≡ Ok (view x)
 Gives view (Err fault) given = given ≡ Err fault
+
+-- the machine has taken the bytes before the one that shows the fault, in which no segment ended, and no other
+pub record StopsAt (old : Machine) (bytes : List ℕ) (fault : TokenFault) (new : Machine) : Type 0 where
+  pub front : List ℕ
+  pub byte : ℕ
+  pub rest : List ℕ
+  pub bytes_are : bytes ≡ front ++ byte ∷ rest
+  pub taken : run (reading_of [] old) front ≡ Ok (reading_of [] new)
+  pub shows : step (reading_of [] new) byte ≡ Err fault

@@ -1,9 +1,9 @@
 //! One machine over the bytes of a text, in whatever pieces they come. It keeps the segment that has begun, or the one
 //! that ended last, and no other.
 
-ghost use Rattle.std.specs.Prelude.{◌≡◌, ◌≤◌, List, [], length, take, IfOk, IfErr, false, true, ◌<◌, Ok, Err};
+ghost use Rattle.std.specs.Prelude.{◌≡◌, ◌≤◌, List, [], length, take, IfOk, IfErr, OnErr, false, true, ◌<◌, Ok, Err};
 ghost use Rattle.edi_segments.specs.Reading.{step, run, start, finish, is_una};
-ghost use Rattle.edi_segments.specs.Machine.{Gives};
+ghost use Rattle.edi_segments.specs.Machine.{Gives, StopsAt};
 
 use crate::characters::{is_capital, is_data, is_digit, is_line_end};
 use crate::fault::TokenFault;
@@ -70,9 +70,10 @@ impl Machine {
         })
     }
 
-    /// Takes the next byte. Whether it ended a segment.
+    /// Takes the next byte. Whether it ended a segment. A byte that shows a fault is not taken.
     fn push(&mut self, byte: u8) -> Result<bool, TokenFault>
-        ensures { Gives (λ ended. after [] ended self.new) result (step (reading_of [] self.old) byte) }
+        ensures gives { Gives (λ ended. after [] ended self.new) result (step (reading_of [] self.old) byte) }
+        ensures kept { OnErr result (self.new ≡ self.old) }
     {
         match self.place {
             Place::Outside => self.push_outside(byte),
@@ -85,7 +86,8 @@ impl Machine {
 
     fn push_outside(&mut self, byte: u8) -> Result<bool, TokenFault>
         requires { self.old.place ≡ Place.Outside }
-        ensures { Gives (λ ended. after [] ended self.new) result (step (reading_of [] self.old) byte) }
+        ensures gives { Gives (λ ended. after [] ended self.new) result (step (reading_of [] self.old) byte) }
+        ensures kept { OnErr result (self.new ≡ self.old) }
     {
         if is_line_end(byte) {
             return Ok(false);
@@ -101,7 +103,8 @@ impl Machine {
 
     fn push_service(&mut self, byte: u8) -> Result<bool, TokenFault>
         requires { self.old.place ≡ Place.InService }
-        ensures { Gives (λ ended. after [] ended self.new) result (step (reading_of [] self.old) byte) }
+        ensures gives { Gives (λ ended. after [] ended self.new) result (step (reading_of [] self.old) byte) }
+        ensures kept { OnErr result (self.new ≡ self.old) }
     {
         if self.taken < 5 {
             self.six[self.taken] = byte;
@@ -118,7 +121,8 @@ impl Machine {
 
     fn push_tag(&mut self, byte: u8) -> Result<bool, TokenFault>
         requires { self.old.place ≡ Place.InTag }
-        ensures { Gives (λ ended. after [] ended self.new) result (step (reading_of [] self.old) byte) }
+        ensures gives { Gives (λ ended. after [] ended self.new) result (step (reading_of [] self.old) byte) }
+        ensures kept { OnErr result (self.new ≡ self.old) }
     {
         if self.taken >= 3 {
             return self.push_after_tag(byte);
@@ -138,7 +142,8 @@ impl Machine {
     fn push_after_tag(&mut self, byte: u8) -> Result<bool, TokenFault>
         requires place { self.old.place ≡ Place.InTag }
         requires whole { 3 ≤ self.old.taken }
-        ensures { Gives (λ ended. after [] ended self.new) result (step (reading_of [] self.old) byte) }
+        ensures gives { Gives (λ ended. after [] ended self.new) result (step (reading_of [] self.old) byte) }
+        ensures kept { OnErr result (self.new ≡ self.old) }
     {
         if byte == self.service.element {
             self.open.begin(self.tag);
@@ -156,7 +161,8 @@ impl Machine {
 
     fn push_in_data(&mut self, byte: u8) -> Result<bool, TokenFault>
         requires { self.old.place ≡ Place.InData }
-        ensures { Gives (λ ended. after [] ended self.new) result (step (reading_of [] self.old) byte) }
+        ensures gives { Gives (λ ended. after [] ended self.new) result (step (reading_of [] self.old) byte) }
+        ensures kept { OnErr result (self.new ≡ self.old) }
     {
         if self.open.size() == SEGMENT_LIMIT {
             return Err(TokenFault::LongSegment);
@@ -183,7 +189,8 @@ impl Machine {
 
     fn push_released(&mut self, byte: u8) -> Result<bool, TokenFault>
         requires { self.old.place ≡ Place.Released }
-        ensures { Gives (λ ended. after [] ended self.new) result (step (reading_of [] self.old) byte) }
+        ensures gives { Gives (λ ended. after [] ended self.new) result (step (reading_of [] self.old) byte) }
+        ensures kept { OnErr result (self.new ≡ self.old) }
     {
         if self.open.size() == SEGMENT_LIMIT {
             return Err(TokenFault::LongSegment);
@@ -212,13 +219,14 @@ impl Machine {
     }
 
     /// Takes bytes from the front on, to the end of a segment or to the last of them. How many, and whether a segment
-    /// ended.
+    /// ended. At a fault those before the byte that shows it are taken, and no other.
     pub fn push_all(&mut self, bytes: &[u8]) -> Result<(usize, bool), TokenFault>
         ensures within { IfOk result (λ taken. taken.0 ≤ length bytes.now) }
         ensures whole { IfOk result (λ taken. taken.1 ≡ false → taken.0 ≡ length bytes.now) }
         ensures some { IfOk result (λ taken. taken.1 ≡ true → 0 < taken.0) }
         ensures ok { IfOk result (λ taken. run (reading_of [] self.old) (take taken.0 bytes.now) ≡ Ok (after [] taken.1 self.new)) }
         ensures err { IfErr result (λ fault. run (reading_of [] self.old) bytes.now ≡ Err fault) }
+        ensures stops { IfErr result (λ fault. StopsAt self.old bytes.now fault self.new) }
     {
         let mut at = 0;
         while at < bytes.len() {

@@ -1,9 +1,9 @@
-use Rattle.std.proofs.Common.{◌≡◌, ℕ, ◌+◌, ◌-◌, List, [], length, take, drop, Ok, ap, subst, arith}
+use Rattle.std.proofs.Common.{◌≡◌, ℕ, ◌+◌, ◌-◌, List, [], length, get_or, take, drop, Ok, ap, subst, arith}
 use Rattle.edi_segments.specs.Reading.{run}
 use Rattle.std.proofs.lemmas.List.{length-drop, take_all}
 use Rattle.std.proofs.lemmas.Result.{err_from_is_err_and}
 use Rattle.edi_segments.specs.Machine.{reading_of}
-use Rattle.edi_segments.proofs.Pieces.{one_more, some_more, stops_here}
+use Rattle.edi_segments.proofs.Pieces.{one_more, some_more, split_at, stops_here}
 use Rattle.edi_segments.proofs.machine.Machine.push_all.Goals as goal
 
 pub returns-in_err-ended-clause-err : goal.returns-in_err-ended-clause-err
@@ -11,17 +11,17 @@ returns-in_err-ended-clause-err c =
     let p = err_from_is_err_and c.from_residual.result c.from_residual.ensures.1 in
     rw (p.1, p.2)
     (stops_here (reading_of [] c.args.self.now) (reading_of [] c.loop-at.self) c.args.bytes.now c.loop-at.at c.in_err-ended.field-0.0
-    c.loop-at-test.true c.loop-at.invariant.so_far c.in_err-ended.ensures)
+    c.loop-at-test.true c.loop-at.invariant.so_far c.in_err-ended.ensures.gives)
 
 pub returns-then-ended-clause-ok : goal.returns-then-ended-clause-ok
 returns-then-ended-clause-ok c =
     one_more (reading_of [] c.args.self.now) (reading_of [] c.loop-at.self) _ c.args.bytes.now c.loop-at.at
-    c.loop-at-test.true c.loop-at.invariant.so_far (rw c.if-ended.true at c.in_ok-ended.ensures)
+    c.loop-at-test.true c.loop-at.invariant.so_far (rw c.if-ended.true at c.in_ok-ended.ensures.gives)
 
 pub loop-at-preserved : goal.loop-at-preserved
 loop-at-preserved c =
     let one = one_more (reading_of [] c.args.self.now) (reading_of [] c.loop-at.self) (reading_of [] c.push.new.self) c.args.bytes.now
-    c.loop-at.at c.loop-at-test.true c.loop-at.invariant.so_far (rw c.if-ended.false at c.in_ok-ended.ensures) in
+    c.loop-at.at c.loop-at-test.true c.loop-at.invariant.so_far (rw c.if-ended.false at c.in_ok-ended.ensures.gives) in
     let after : List ℕ = drop (c.loop-at.at + 1) c.args.bytes.now in
     let rest : take (length c.args.bytes.now - (c.loop-at.at + 1)) after ≡ after =
     take_all (length c.args.bytes.now - (c.loop-at.at + 1)) after (omega (arith, length-drop (c.loop-at.at + 1) c.args.bytes.now)) in
@@ -33,3 +33,16 @@ loop-at-preserved c =
           (subst (λ (l : List ℕ). run (reading_of [] c.push.new.self) (take c.push_plain-at.result l) ≡ Ok (reading_of [] c.push_plain-at.new.self))
           rest c.push_plain-at.ensures.taken);
     }
+
+pub returns-in_err-ended-clause-stops : goal.returns-in_err-ended-clause-stops
+returns-in_err-ended-clause-stops c =
+    let p = err_from_is_err_and c.from_residual.result c.from_residual.ensures.1 in
+    let same : c.push.new.self ≡ c.loop-at.self = c.in_err-ended.ensures.kept in
+    rw (p.1, p.2, same) (record {
+      front = take c.loop-at.at c.args.bytes.now;
+      byte = get_or c.args.bytes.now c.loop-at.at 0;
+      rest = drop (c.loop-at.at + 1) c.args.bytes.now;
+      bytes_are = split_at c.args.bytes.now c.loop-at.at c.loop-at-test.true;
+      taken = c.loop-at.invariant.so_far;
+      shows = c.in_err-ended.ensures.gives;
+    })
