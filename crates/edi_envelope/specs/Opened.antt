@@ -1,5 +1,5 @@
 -- What the bytes of a text are opened as: its interchange, or why there is none.
-use Rattle.std.specs.Prelude.{◌≡◌, ℕ, List, Result, Ok, Err}
+use Rattle.std.specs.Prelude.{◌≡◌, ℕ, List, Option, Some, None, Result, Ok, Err}
 use Rattle.edi_segments.specs.declared.segment.Tokens.{Tokens}
 use Rattle.edi_segments.specs.declared.fault.TokenFault.{TokenFault}
 use Rattle.edi_segments.specs.declared.fault.TokenFault.TheVariants as token
@@ -37,3 +37,9 @@ Opens (Err (Token token.Read)) given = Unit {0}
 Opens (Err (Token fault)) given = given ≡ Err (Token fault)
 Opens (Err (Envelope envelope.Memory)) given = Unit {0}
 Opens (Err (Envelope fault)) given = given ≡ Err (Envelope fault)
+
+-- the token fault that was answered, if it was one
+abbrev pub token_told : {X : Type 0} → Result X OpenFault → Option TokenFault
+token_told (Ok x) = None
+token_told (Err (Token fault)) = Some fault
+token_told (Err (Envelope fault)) = None

@@ -5,9 +5,10 @@ ghost use Rattle.edi_segments.specs.declared.segment.Segment.{Segment};
 ghost use Rattle.edi_segments.specs.declared.segment.Tokens.{Tokens};
 ghost use Rattle.edi_segments.specs.SegmentRef.{segment_in};
 ghost use Rattle.edi_tokens.specs.Lender.{AtEnd, Came, Fed, TakesOf, room_of, stopped};
+ghost use Rattle.edi_tokens.specs.Stops.{Stops};
 ghost use Rattle.edi_envelope.specs.Interchange as spec;
 ghost use Rattle.edi_envelope.specs.Gathered.{Stands, IsJudged, Reads, ReadsSome, Flagged};
-ghost use Rattle.edi_envelope.specs.Opened.{opened, Opens};
+ghost use Rattle.edi_envelope.specs.Opened.{opened, Opens, token_told};
 
 use crate::fault::{EnvelopeFault, OpenFault};
 use crate::gathering::Gathered;
@@ -94,6 +95,7 @@ fn read<R: Source>(alloc: Global, lender: &mut Lender, reader: &mut R) -> Result
     ensures flag { stopped lender.old ≡ None → Flagged result (R.failed reader.old) (R.failed reader.new) }
     ensures bound { TakesOf (R.remaining reader.old) (R.remaining reader.new) (room_of lender.old) (room_of lender.new) }
     ensures ends { AtEnd (R.remaining reader.old) lender.old → AtEnd (R.remaining reader.new) lender.new }
+    ensures stops { Stops R.remaining (token_told result) reader.old lender.old reader.new lender.new }
 {
     let mut opening = Opening::new(alloc);
     while lender.advance(reader)? {
@@ -118,6 +120,8 @@ pub fn open_lent<R: Source>(
     ensures flag { stopped lender.old ≡ None → Flagged result (R.failed reader.old) (R.failed reader.new) }
     ensures bound { TakesOf (R.remaining reader.old) (R.remaining reader.new) (room_of lender.old) (room_of lender.new) }
     ensures ends { AtEnd (R.remaining reader.old) lender.old → AtEnd (R.remaining reader.new) lender.new }
+    // The lender stops with the fault that it told, and after any other answer goes on.
+    ensures stops { Stops R.remaining (token_told result) reader.old lender.old reader.new lender.new }
 {
     let opening = read(alloc, lender, reader)?;
     let interchange = opening.finish(lender.decimal())?;
@@ -132,6 +136,7 @@ pub fn open_feed<R: Source>(alloc: Global, feeder: &mut Feeder<R>) -> Result<Int
     ensures flag { stopped feeder.old.lender ≡ None → Flagged result (R.failed feeder.old.reader) (R.failed feeder.new.reader) }
     ensures bound { TakesOf (R.remaining feeder.old.reader) (R.remaining feeder.new.reader) (room_of feeder.old.lender) (room_of feeder.new.lender) }
     ensures ends { AtEnd (R.remaining feeder.old.reader) feeder.old.lender → AtEnd (R.remaining feeder.new.reader) feeder.new.lender }
+    ensures stops { Stops R.remaining (token_told result) feeder.old.reader feeder.old.lender feeder.new.reader feeder.new.lender }
 {
     open_lent(alloc, &mut feeder.lender, &mut feeder.reader)
 }

@@ -1,6 +1,6 @@
 -- Reading on: what a lender told, with what was written before.
-use Rattle.std.proofs.Common.{◌≡◌, ◌≢◌, ℕ, Bool, true, false, List, [], ◌∷◌, ◌++◌, Option, None, Result, Ok, Err, refl, sym, ap, subst, ◌∙◌}
-use Rattle.std.specs.Prelude.{OnOk}
+use Rattle.std.proofs.Common.{◌≡◌, ◌≢◌, ℕ, Bool, true, false, List, [], ◌∷◌, ◌++◌, Option, Some, None, Result, Ok, Err, refl, sym, ap, subst, ◌∙◌}
+use Rattle.std.specs.Prelude.{IfSome, OnOk}
 use Rattle.std.proofs.lemmas.Bool.{true≢false, false≢true, not-false}
 use Rattle.edi_tokens.specs.declared.lender.Lender.{Lender}
 use Rattle.edi_segments.specs.declared.segment.Segment.{Segment}
@@ -10,7 +10,9 @@ use Rattle.edi_segments.specs.declared.fault.TokenFault.{TokenFault}
 use Rattle.edi_segments.specs.declared.fault.TokenFault.TheVariants.{TooLong, ServiceString, Byte, Cut, Tag, LongSegment, Read, Memory}
 use Rattle.edi_segments.specs.Reading.{tokens_of}
 use Rattle.edi_tokens.specs.Lender.{AtEnd, Fed, Told, Feeds, Flags, TakesOf, answered, decimal_of, lent_by, room_of, stopped}
+use Rattle.edi_tokens.specs.Stops.{StaysStopped, Stops}
 use Rattle.edi_tokens.proofs.Lending.{takes_none, takes_then}
+use Rattle.edi_tokens.proofs.Stopping.{stops_by_fault, stops_by_memory}
 use Rattle.edi_tokens.proofs.Settled.{settled_service}
 use Rattle.edi_envelope.specs.declared.fault.EnvelopeFault.{EnvelopeFault}
 use Rattle.edi_envelope.specs.declared.fault.EnvelopeFault.TheVariants as envelope
@@ -29,7 +31,7 @@ use Rattle.edi_relay.specs.declared.mails.Mails.{Mails}
 use Rattle.edi_relay.specs.declared.relaying.Relaying.{Relaying}
 use Rattle.edi_relay.specs.Relay.{mail_texts, mailed, tokens_mailed, relayed, of_token, of_envelope, Relays, RelaysRead, without_read}
 use Rattle.edi_relay.specs.Mails.{Writes}
-use Rattle.edi_relay.specs.Relaying.{Stands, Reads, HasRead}
+use Rattle.edi_relay.specs.Relaying.{Stands, Reads, HasRead, stopped_after}
 
 push_some : (lent : List Segment) (s : Segment) → lent ++ s ∷ [] ≢ []
 push_some [] s = λ e. cc
@@ -142,6 +144,27 @@ module _ (words : RelayWords) (before : Option (List ℕ)) (was : Bool) (old : L
       bound = bound_then;
       ends = ends_then;
     }
+
+-- a fault stops the lender; out of memory, which it never answers first, leaves it as it was
+module _ {R : Type 0} (remaining : R → Option (List ℕ)) (first between after : R) (was failed : Bool) (old now new : Lender)
+    (result : Result Bool TokenFault)
+    (feeds : Feeds (remaining between) (remaining after) was failed now (answered result new) new)
+    (still : IfSome (stopped now) (λ _. after ≡ between))
+    (stays : StaysStopped first old between now)
+    (going : stopped old ≡ None → stopped now ≡ None) where
+  stops_by : (fault : TokenFault) → result ≡ Err fault → Stops remaining (Some fault) first old after new
+  stops_by fault is = stops_by_fault remaining first between after was failed old now new result feeds still stays fault is
+
+  pub fault_stops : (X : Type 0) (fault : TokenFault) → result ≡ Err fault
+      → Stops remaining (stopped_after {X = X} (Err (of_token fault)) (stopped old)) first old after new
+  fault_stops X TooLong is = stops_by TooLong is
+  fault_stops X ServiceString is = stops_by ServiceString is
+  fault_stops X Byte is = stops_by Byte is
+  fault_stops X Cut is = stops_by Cut is
+  fault_stops X Tag is = stops_by Tag is
+  fault_stops X LongSegment is = stops_by LongSegment is
+  fault_stops X Read is = stops_by Read is
+  fault_stops X Memory is = stops_by_memory remaining first between after was failed old now new result feeds still stays is going
 
 -- ---- what was read is what the text is relayed as
 

@@ -1,8 +1,9 @@
 -- How far a text has been read, and its mail texts are written.
-use Rattle.std.specs.Prelude.{◌≡◌, ◌≢◌, ℕ, Bool, true, List, [], Option, None, Result, Ok, Err}
+use Rattle.std.specs.Prelude.{◌≡◌, ◌≢◌, ℕ, Bool, true, List, [], Option, Some, None, Result, Ok, Err}
 use Rattle.edi_segments.specs.declared.segment.Segment.{Segment}
 use Rattle.edi_segments.specs.declared.segment.Tokens.{Tokens}
 use Rattle.edi_tokens.specs.declared.lender.Lender.{Lender}
+use Rattle.edi_segments.specs.declared.fault.TokenFault.{TokenFault}
 use Rattle.edi_segments.specs.declared.fault.TokenFault.TheVariants as token
 use Rattle.edi_segments.specs.Reading.{tokens_of}
 use Rattle.edi_segments.specs.Machine.{tokens_at}
@@ -61,3 +62,10 @@ pub record HasRead (words : RelayWords) (before after : Option (List ℕ)) (was 
   pub going : stopped old ≡ None → stopped new ≡ None
   pub bound : TakesOf before after (room_of old) (room_of new)
   pub ends : AtEnd before old → AtEnd after new
+
+-- the token fault by which a lender is stopped after the answer, where it had stopped by this one before, or by none
+abbrev pub stopped_after : {X : Type 0} → Result X RelayFault → Option TokenFault → Option TokenFault
+stopped_after (Ok x) was = None
+stopped_after (Err (Token fault)) was = Some fault
+stopped_after (Err (Envelope fault)) was = None
+stopped_after (Err Memory) was = was

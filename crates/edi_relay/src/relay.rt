@@ -3,6 +3,7 @@
 ghost use Rattle.std.specs.Prelude.{◌≡◌, ℕ, List, [], None, IfSome, IsTrue, All};
 ghost use Rattle.edi_segments.specs.Characters.{is_digit};
 ghost use Rattle.edi_tokens.specs.Lender.{AtEnd, Fed, TakesOf, room_of, stopped};
+ghost use Rattle.edi_tokens.specs.Stops.{Stops};
 
 use crate::relaying::Relaying;
 use edi_envelope::{EnvelopeFault, LAST_MAIL_NUMBER, Moment};
@@ -157,7 +158,7 @@ impl From<AllocError> for RelayFault {
 ghost use Rattle.std.specs.List.{list_all};
 ghost use Rattle.std.specs.Option.{SomeIff};
 ghost use Rattle.edi_relay.specs.Relay.{AreRelayWords, Relays, RelaysRead, relayed, are_gln_digits, relay_words_of, without_read};
-ghost use Rattle.edi_relay.specs.Relaying.{Reads, Flagged};
+ghost use Rattle.edi_relay.specs.Relaying.{Reads, Flagged, stopped_after};
 
 // Reads to the end of the text.
 fn read<R: Source>(
@@ -170,6 +171,7 @@ fn read<R: Source>(
     ensures flag { stopped lender.old ≡ None → Flagged result (R.failed reader.old) (R.failed reader.new) }
     ensures bound { TakesOf (R.remaining reader.old) (R.remaining reader.new) (room_of lender.old) (room_of lender.new) }
     ensures ends { AtEnd (R.remaining reader.old) lender.old → AtEnd (R.remaining reader.new) lender.new }
+    ensures stops { Stops R.remaining (stopped_after result (stopped lender.old)) reader.old lender.old reader.new lender.new }
 {
     let mut relaying = Relaying::new(alloc, words)?;
     while lender.advance(reader)? {
@@ -194,6 +196,8 @@ pub fn relay_lent<R: Source>(
     ensures flag { stopped lender.old ≡ None → Flagged result (R.failed reader.old) (R.failed reader.new) }
     ensures bound { TakesOf (R.remaining reader.old) (R.remaining reader.new) (room_of lender.old) (room_of lender.new) }
     ensures ends { AtEnd (R.remaining reader.old) lender.old → AtEnd (R.remaining reader.new) lender.new }
+    // The lender stops with the token fault that it told. After any other answer it goes on, unless it had stopped before.
+    ensures stops { Stops R.remaining (stopped_after result (stopped lender.old)) reader.old lender.old reader.new lender.new }
 {
     let relaying = read(alloc, lender, reader, words)?;
     let out = relaying.finish()?;

@@ -14,3 +14,4 @@ pub mod Segments
 pub mod Spelled
 pub mod Canonical
 pub mod Kept
+pub mod Stopping
