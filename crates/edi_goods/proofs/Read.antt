@@ -1,5 +1,5 @@
 -- What is known of an advice that was read, without its definition.
-use Rattle.std.proofs.Common.{◌≡◌, ◌&&◌, not, ℕ, List, [], ◌∷◌, map, true, false, codes, Ok, refl, sym, ap, ap₂, ◌∙◌}
+use Rattle.std.proofs.Common.{◌≡◌, ◌&&◌, not, ℕ, List, [], ◌∷◌, map, true, false, codes, Option, None, Ok, refl, sym, ap, ◌∙◌}
 use Rattle.std.specs.List.{list_all}
 use Rattle.std.specs.Str.{bytes_eq}
 use Rattle.std.proofs.lemmas.Bool.{not-true, not-false, and_parts, and_from}
@@ -7,6 +7,7 @@ use Rattle.std.proofs.lemmas.Simd.{map-map}
 use Rattle.edi_base.specs.Seen.{has_twice}
 use Rattle.edi_segments.specs.declared.segment.Segment.{Segment}
 use Rattle.edi_envelope.specs.declared.interchange.RawMessage.{RawMessage}
+use Rattle.edi_messages.specs.Fault.{faults, unless}
 use Rattle.edi_messages.specs.Parts.{line_groups}
 use Rattle.edi_messages.specs.Header.{is_type, begins_as, function, has_date}
 use Rattle.edi_messages.specs.Summary.{line_count, is_controlled}
@@ -15,9 +16,9 @@ use Rattle.edi_messages.specs.declared.fault.MessageFault.TheVariants.{MessageTy
 use Rattle.edi_messages.specs.declared.fault.MessageFault.TheVariants.{Summary, Line, Quantity, Reference, Unit}
 use Rattle.edi_messages.specs.declared.fault.MessageFault.TheVariants.{Control, NoLine, Memory}
 use Rattle.edi_messages.proofs.Judged.{judged_is, judged_at, judged_when, some_counted}
-use Rattle.edi_goods.specs.Despatch.{holds as despatch_holds, header_order, unit_from as despatch_unit, inherits}
-use Rattle.edi_goods.specs.Despatch.{has_quantities as despatch_quantities, has_header_reference_or_none, has_references}
-use Rattle.edi_goods.specs.Despatch.{contents_of as despatch_contents, despatch_of}
+use Rattle.edi_goods.specs.Despatch.{holds as despatch_holds, header_order, unit_from as despatch_unit}
+use Rattle.edi_goods.specs.Despatch.{contents_of as despatch_contents, despatch_of, line_faults as despatch_line_faults}
+use Rattle.edi_goods.specs.Despatch.{lowest as despatch_lowest}
 use Rattle.edi_goods.specs.Parties.{has_parties}
 use Rattle.edi_goods.specs.Receipt.{is_received, lines_in_unit, has_sums, has_quantities, holds as receipt_holds}
 use Rattle.edi_goods.specs.Receipt.{unit_from as receipt_unit, contents_of as receipt_contents, receipt_of}
@@ -125,35 +126,11 @@ receipt_when m receipt type begun new dated parties lined counted units controll
 
 -- the despatch advice of a message in which no condition holds
 pub despatch_when : (m : RawMessage) (despatch : Despatch)
-    → is_type (codes "DESADV") m ≡ true
-    → begins_as (codes "351") m.segments ≡ true
-    → bytes_eq (function m.segments) (codes "9") ≡ true
-    → has_date m.segments ≡ true
-    → has_parties m.segments ≡ true
-    → list_all has_lines (read_units m.segments) ≡ true
-    → list_all despatch_quantities (read_units m.segments) ≡ true
-    → has_header_reference_or_none m.segments ≡ true
-    → list_all (has_references (inherits m.segments)) (read_units m.segments) ≡ true
-    → has_units m.segments ≡ true
-    → is_controlled m.segments ≡ true
-    → (line_count m.segments ≡ 0 → ⊥)
+    → despatch_lowest faults m ≡ despatch_lowest despatch_line_faults m
+    → despatch_lowest despatch_line_faults m ≡ None
     → despatch_contents m.segments ≡ despatch
     → despatch_of m ≡ Ok despatch
 unfolding despatch_of
-despatch_when m despatch type begun new dated parties lined counted header referred units controlled some same =
-    judged_when (λ fault. despatch_holds fault m) (despatch_contents m.segments) despatch none same
-  where
-    none : (fault : MessageFault) → despatch_holds fault m ≡ false
-    none MessageType = ap not type
-    none Beginning = ap not begun
-    none Function = ap not new
-    none Date = ap not dated
-    none Parties = ap not parties
-    none Summary = refl
-    none Line = ap not lined
-    none Quantity = ap not counted
-    none Reference = ap₂ (λ one each. not (one && each)) header referred
-    none Unit = ap not units
-    none Control = ap not controlled
-    none NoLine = some_counted (line_count m.segments) some
-    none Memory = refl
+despatch_when m despatch headed none same =
+    ap (λ (found : Option MessageFault). unless found (despatch_contents m.segments)) (headed ∙ none)
+    ∙ ap (λ (right : Despatch). Ok right) same

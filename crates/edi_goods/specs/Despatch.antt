@@ -1,6 +1,6 @@
 -- The despatch advice that a message is (DESADV), or its message fault.
-use Rattle.std.specs.Prelude.{ℕ, ◌==◌, Bool, false, not, ◌&&◌, List, [], map, is_some, codes, Option, Some, None}
-use Rattle.std.specs.Prelude.{Result}
+use Rattle.std.specs.Prelude.{ℕ, ◌==◌, Bool, false, not, ◌&&◌, List, [], ◌∷◌, map, find, is_some, codes}
+use Rattle.std.specs.Prelude.{Option, Some, None, Result}
 use Rattle.std.specs.List.{list_all}
 use Rattle.std.specs.Option.{unwrap_or}
 use Rattle.std.specs.Str.{bytes_eq}
@@ -75,6 +75,18 @@ holds Unit m = not (has_units m.segments)
 holds Control m = not (is_controlled m.segments)
 holds NoLine m = line_count m.segments == 0
 holds Memory m = false
+
+-- the lowest of these faults whose condition holds
+abbrev pub lowest : List MessageFault → RawMessage → Option MessageFault
+lowest among m = find (λ fault. holds fault m) among
+
+-- the faults of references, and those behind them
+abbrev pub reference_faults : List MessageFault
+reference_faults = Reference ∷ Unit ∷ Control ∷ NoLine ∷ []
+
+-- the faults of lines, and those behind them
+abbrev pub line_faults : List MessageFault
+line_faults = Line ∷ Quantity ∷ reference_faults
 
 abbrev pub line_of : List ℕ → List Segment → DespatchLine
 line_of order group = record {

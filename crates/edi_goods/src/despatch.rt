@@ -1,12 +1,15 @@
 //! Despatch advices (DESADV).
-ghost use Rattle.std.specs.Prelude.{◌≡◌, ◌≢◌, IfOk, IfErr, Ok, Err, true, false, map};
+ghost use Rattle.std.specs.Prelude.{◌≡◌, ◌≢◌, IfOk, IfErr, Ok, Err, Some, None, true, false, map, codes};
 ghost use Rattle.edi_base.specs.Seen.{has_twice};
+ghost use Rattle.edi_messages.specs.Fault.{faults};
+ghost use Rattle.edi_messages.specs.Header.{party};
 ghost use Rattle.edi_goods.specs.Despatch as spec;
-ghost use Rattle.edi_goods.specs.Units.{sscc_or_none};
+ghost use Rattle.edi_goods.specs.Parties.{buyer};
+ghost use Rattle.edi_goods.specs.Units.{has_units, read_units, sscc_or_none};
 
-use crate::announced::{ReferredUnit, despatch_units, lines_in_unit, referred_units};
-use crate::parties::read_parties;
-use crate::units::{item_units, ssccs};
+use crate::announced::{DespatchUnit, ReferredUnit, despatch_units, lines_in_unit, referred_units};
+use crate::parties::{Parties, read_parties};
+use crate::units::{ItemUnit, item_units, ssccs};
 use edi_base::copied;
 use edi_envelope::RawMessage;
 use edi_messages::MessageFault;
@@ -91,6 +94,70 @@ fn units_of(
     Ok(read)
 }
 
+// The parties, or the lowest fault of what stands before the lines.
+fn read_heading(message: &RawMessage) -> Result<Parties, MessageFault>
+    ensures said { IfOk result (λ parties. (parties.buyer ≡ buyer message.now.segments)
+        × (party (codes "SU") message.now.segments ≡ Some parties.supplier)) }
+    ensures ok { IfOk result (λ _. spec.lowest faults message.now ≡ spec.lowest spec.line_faults message.now) }
+    ensures err { IfErr result (λ fault. spec.lowest faults message.now ≡ Some fault) }
+{
+    let segments = message.segments.as_slice();
+    if !is_type(b"DESADV", message) {
+        return Err(MessageFault::MessageType);
+    }
+    if !begins_as(b"351", segments) {
+        return Err(MessageFault::Beginning);
+    }
+    if function(segments) != b"9".as_slice() {
+        return Err(MessageFault::Function);
+    }
+    if !has_date(segments) {
+        return Err(MessageFault::Date);
+    }
+    read_parties(segments)
+}
+
+// The units of the record, or the lowest fault of the references and of what is judged behind them.
+fn read_referred(
+    alloc: Global,
+    message: &RawMessage,
+    items: &[ItemUnit<'_>],
+    despatched: &[DespatchUnit<'_, '_>],
+) -> Result<Items<Unit>, MessageFault>
+    requires items { items.now ≡ read_units message.now.segments }
+    requires despatched { despatched.now ≡ read_units message.now.segments }
+    ensures said { IfOk result (λ units. units ≡ map (spec.unit_from (spec.header_order message.now.segments)) (read_units message.now.segments)) }
+    ensures units { IfOk result (λ _. has_units message.now.segments ≡ true) }
+    ensures ok { IfOk result (λ _. spec.lowest spec.reference_faults message.now ≡ None) }
+    ensures err { IfErr result (λ fault. fault ≢ MessageFault.Memory → spec.lowest spec.reference_faults message.now ≡ Some fault) }
+{
+    let segments = message.segments.as_slice();
+    let order = header_order(segments)?;
+    let inherited = has_reference(header(segments));
+    let referred = referred_units(alloc, inherited, despatched)?;
+    let ssccs = ssccs(alloc, items, segments)?;
+    if !is_controlled(segments) {
+        return Err(MessageFault::Control);
+    }
+    if line_count(segments) == 0 {
+        return Err(MessageFault::NoLine);
+    }
+    let units = units_of(alloc, order, referred.as_slice(), ssccs.as_slice())?;
+    Ok(units)
+}
+
+// The units of the record, or the lowest fault of them and of what is judged behind them.
+fn read_units(alloc: Global, message: &RawMessage) -> Result<Items<Unit>, MessageFault>
+    ensures said { IfOk result (λ units. units ≡ map (spec.unit_from (spec.header_order message.now.segments)) (read_units message.now.segments)) }
+    ensures units { IfOk result (λ _. has_units message.now.segments ≡ true) }
+    ensures ok { IfOk result (λ _. spec.lowest spec.line_faults message.now ≡ None) }
+    ensures err { IfErr result (λ fault. fault ≢ MessageFault.Memory → spec.lowest spec.line_faults message.now ≡ Some fault) }
+{
+    let items = item_units(alloc, message.segments.as_slice())?;
+    let despatched = despatch_units(alloc, items.as_slice())?;
+    read_referred(alloc, message, items.as_slice(), despatched.as_slice())
+}
+
 impl Despatch {
     /// The despatch advice that a message is: DESADV of the directory D.01B with BGM 1001 351 and 1225 9, one document
     /// date, one supplier and at most one buyer, and units with lines, each unit with an identifier and an SSCC of its own,
@@ -102,37 +169,14 @@ impl Despatch {
         ensures apart { IfOk result (λ despatch. has_twice (map (λ unit. unit.sscc) despatch.units) ≡ false) }
         ensures err { IfErr result (λ fault. fault ≢ MessageFault.Memory → spec.despatch_of message.now ≡ Err fault) }
     {
-        let segments = message.segments.as_slice();
-        if !is_type(b"DESADV", message) {
-            return Err(MessageFault::MessageType);
-        }
-        if !begins_as(b"351", segments) {
-            return Err(MessageFault::Beginning);
-        }
-        if function(segments) != b"9".as_slice() {
-            return Err(MessageFault::Function);
-        }
-        if !has_date(segments) {
-            return Err(MessageFault::Date);
-        }
-        let parties = read_parties(segments)?;
-        let items = item_units(alloc, segments)?;
-        let despatched = despatch_units(alloc, items.as_slice())?;
-        let order = header_order(segments)?;
-        let inherited = has_reference(header(segments));
-        let referred = referred_units(alloc, inherited, despatched.as_slice())?;
-        let ssccs = ssccs(alloc, items.as_slice(), segments)?;
-        if !is_controlled(segments) {
-            return Err(MessageFault::Control);
-        }
-        if line_count(segments) == 0 {
-            return Err(MessageFault::NoLine);
-        }
+        let parties = read_heading(message)?;
+        let units = read_units(alloc, message)?;
+        let number = copied(alloc, document_number(message.segments.as_slice()))?;
         Ok(Despatch {
-            number: copied(alloc, document_number(segments))?,
+            number,
             buyer: parties.buyer,
             supplier: parties.supplier,
-            units: units_of(alloc, order, referred.as_slice(), ssccs.as_slice())?,
+            units,
         })
     }
 }

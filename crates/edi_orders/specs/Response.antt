@@ -1,6 +1,6 @@
 -- The response that a message is (ORDRSP), or its message fault.
-use Rattle.std.specs.Prelude.{ℕ, ◌==◌, Bool, true, false, not, ◌&&◌, ◌||◌, if◌then◌else◌, List, [], map, is_some, codes}
-use Rattle.std.specs.Prelude.{Option, Some, None, option_map, Result}
+use Rattle.std.specs.Prelude.{ℕ, ◌==◌, Bool, true, false, not, ◌&&◌, ◌||◌, if◌then◌else◌, List, [], ◌∷◌, map, find}
+use Rattle.std.specs.Prelude.{is_some, codes, Option, Some, None, option_map, Result}
 use Rattle.std.specs.List.{list_all}
 use Rattle.std.specs.Option.{unwrap_or}
 use Rattle.std.specs.Str.{bytes_eq}
@@ -106,6 +106,18 @@ holds Unit m = false
 holds Control m = not (is_controlled m.segments)
 holds NoLine m = has_lines (extent m.segments) && line_count m.segments == 0
 holds Memory m = false
+
+-- the lowest of these faults whose condition holds
+abbrev pub lowest : List MessageFault → RawMessage → Option MessageFault
+lowest among m = find (λ fault. holds fault m) among
+
+-- the faults of no line
+abbrev pub end_faults : List MessageFault
+end_faults = Unit ∷ Control ∷ NoLine ∷ []
+
+-- the faults of lines, and those behind them
+abbrev pub line_faults : List MessageFault
+line_faults = Line ∷ Quantity ∷ Reference ∷ end_faults
 
 abbrev pub line_of : List Segment → AnswerLine
 line_of group =

@@ -1,7 +1,10 @@
 //! Responses to orders (ORDRSP).
-ghost use Rattle.std.specs.Prelude.{◌≡◌, ◌≢◌, IfOk, IfErr, Ok, Err, Some, true, false};
+ghost use Rattle.std.specs.Prelude.{◌≡◌, ◌≢◌, IfOk, IfErr, Ok, Err, Some, true, false, map, codes};
 ghost use Rattle.std.specs.List.{list_all};
+ghost use Rattle.edi_messages.specs.Fault.{faults};
+ghost use Rattle.edi_messages.specs.Header.{party};
 ghost use Rattle.edi_messages.specs.Lines.{is_line};
+ghost use Rattle.edi_messages.specs.References.{order};
 ghost use Rattle.edi_orders.specs.Response as spec;
 
 use crate::answers::{action_items, answer_lines, answered_items};
@@ -94,6 +97,73 @@ fn answer_of(extent: Extent, lines: Items<AnswerLine>) -> Answer
     }
 }
 
+/// What stands before the lines.
+#[derive(Drop)]
+struct Heading {
+    extent: Extent,
+    buyer: Gln,
+    supplier: Gln,
+}
+
+/// The order that is answered, and the answers to its lines.
+#[derive(Drop)]
+struct Answers<'a> {
+    order: &'a [u8],
+    lines: Items<AnswerLine>,
+}
+
+// What stands before the lines, or the lowest fault of it.
+fn read_heading(message: &RawMessage) -> Result<Heading, MessageFault>
+    ensures said { IfOk result (λ heading. (spec.extent message.now.segments ≡ Some heading.extent)
+        × (party (codes "BY") message.now.segments ≡ Some heading.buyer)
+        × (party (codes "SU") message.now.segments ≡ Some heading.supplier)) }
+    ensures ok { IfOk result (λ _. spec.lowest faults message.now ≡ spec.lowest spec.line_faults message.now) }
+    ensures err { IfErr result (λ fault. spec.lowest faults message.now ≡ Some fault) }
+{
+    let segments = message.segments.as_slice();
+    if !is_type(b"ORDRSP", message) {
+        return Err(MessageFault::MessageType);
+    }
+    if !begins_as(b"231", segments) {
+        return Err(MessageFault::Beginning);
+    }
+    let extent = extent_of(function(segments)).ok_or(MessageFault::Function)?;
+    if !has_date(segments) {
+        return Err(MessageFault::Date);
+    }
+    let buyer = party(b"BY", segments).ok_or(MessageFault::Parties)?;
+    let supplier = party(b"SU", segments).ok_or(MessageFault::Parties)?;
+    if !has_summary(segments) {
+        return Err(MessageFault::Summary);
+    }
+    Ok(Heading {
+        extent,
+        buyer,
+        supplier,
+    })
+}
+
+// The order that is answered, and the answers to its lines, or the lowest fault of them.
+fn read_answers(
+    alloc: Global,
+    extent: Extent,
+    message: &RawMessage,
+) -> Result<Answers<'_>, MessageFault>
+    requires { spec.extent message.now.segments ≡ Some extent }
+    ensures said { IfOk result (λ answers. (order message.now.segments ≡ Some answers.order.now)
+        × (answers.lines ≡ map spec.line_of (spec.read_groups message.now.segments))) }
+    ensures ok { IfOk result (λ _. spec.lowest spec.line_faults message.now ≡ spec.lowest spec.end_faults message.now) }
+    ensures err { IfErr result (λ fault. fault ≢ MessageFault.Memory → spec.lowest spec.line_faults message.now ≡ Some fault) }
+{
+    let segments = message.segments.as_slice();
+    let items = read_items(alloc, extent, segments)?;
+    let actions = action_items(alloc, items.as_slice())?;
+    let answered = answered_items(alloc, actions.as_slice())?;
+    let order = order(segments).ok_or(MessageFault::Reference)?;
+    let lines = answer_lines(alloc, order, answered.as_slice())?;
+    Ok(Answers { order, lines })
+}
+
 impl Response {
     /// The response that a message is: ORDRSP of the directory D.01B with BGM 1001 231 and 1225 4, 9, 27 or 29, one
     /// document date, one buyer and one supplier, one reference to an order, lines each with an article, an action, the
@@ -104,27 +174,14 @@ impl Response {
         ensures ok { IfOk result (λ response. spec.response_of message.now ≡ Ok response) }
         ensures err { IfErr result (λ fault. fault ≢ MessageFault.Memory → spec.response_of message.now ≡ Err fault) }
     {
+        let heading = read_heading(message)?;
+        let Heading {
+            extent,
+            buyer,
+            supplier,
+        } = heading;
+        let answers = read_answers(alloc, extent, message)?;
         let segments = message.segments.as_slice();
-        if !is_type(b"ORDRSP", message) {
-            return Err(MessageFault::MessageType);
-        }
-        if !begins_as(b"231", segments) {
-            return Err(MessageFault::Beginning);
-        }
-        let extent = extent_of(function(segments)).ok_or(MessageFault::Function)?;
-        if !has_date(segments) {
-            return Err(MessageFault::Date);
-        }
-        let buyer = party(b"BY", segments).ok_or(MessageFault::Parties)?;
-        let supplier = party(b"SU", segments).ok_or(MessageFault::Parties)?;
-        if !has_summary(segments) {
-            return Err(MessageFault::Summary);
-        }
-        let items = read_items(alloc, extent, segments)?;
-        let actions = action_items(alloc, items.as_slice())?;
-        let answered = answered_items(alloc, actions.as_slice())?;
-        let order = order(segments).ok_or(MessageFault::Reference)?;
-        let lines = answer_lines(alloc, order, answered.as_slice())?;
         if !is_controlled(segments) {
             return Err(MessageFault::Control);
         }
@@ -135,8 +192,8 @@ impl Response {
             number: copied(alloc, document_number(segments))?,
             buyer,
             supplier,
-            order: copied(alloc, order)?,
-            answer: answer_of(extent, lines),
+            order: copied(alloc, answers.order)?,
+            answer: answer_of(extent, answers.lines),
         })
     }
 }
