@@ -1,5 +1,6 @@
 -- A call that reads a text on, and what it leaves where it ends.
-use Rattle.std.proofs.Common.{◌≡◌, ℕ, Bool, true, false, List, [], ◌∷◌, ◌++◌, Option, Some, None, Result, Ok, Err, refl, sym, ap, subst, ◌∙◌}
+use Rattle.std.proofs.Common.{◌≡◌, ℕ, Bool, true, false, List, [], ◌∷◌, ◌++◌, Option, Some, None, Result, Ok, Err}
+use Rattle.std.proofs.Common.{refl, sym, ap, subst, ◌∙◌}
 use Rattle.std.specs.Prelude.{IfErr, IfSome, OnOk}
 use Rattle.edi_segments.specs.declared.segment.Segment.{Segment}
 use Rattle.edi_segments.specs.declared.fault.TokenFault.{TokenFault}
@@ -31,6 +32,9 @@ module _ {R : Type 0} (remaining : R → Option (List ℕ)) (first between after
     (feeds : Feeds (remaining between) (remaining after) was failed now (answered result new) new)
     (still : IfSome (stopped now) (λ _. after ≡ between))
     (stays : StaysStopped first old between now) where
+  abbrev told_again : Option TokenFault → Type 0
+  told_again s = IfSome s (λ fault. (answered result new ≡ Err fault) × (new ≡ now))
+
   pub stays_then : StaysStopped first old after new
   stays_then =
       elim (stopped old) as (λ s. stopped old ≡ s → IfSome s (λ _. (now ≡ old) × (between ≡ first))
@@ -38,7 +42,7 @@ module _ {R : Type 0} (remaining : R → Option (List ℕ)) (first between after
         | None ↦ λ is before. tt
         | Some fault ↦ λ is before.
             let at : stopped now ≡ Some fault = ap stopped before.0 ∙ is in
-            let same = subst (λ (s : Option TokenFault). IfSome s (λ fault. (answered result new ≡ Err fault) × (new ≡ now))) at feeds.for_good in
+            let same = subst told_again at feeds.for_good in
             let read = subst (λ (s : Option TokenFault). IfSome s (λ _. after ≡ between)) at still in
             (same.1 ∙ before.0, read ∙ before.1)
       ]
@@ -76,7 +80,7 @@ module _ {R : Type 0} (remaining : R → Option (List ℕ)) (first between after
         | None ↦ λ none before. refl
         | Some fault ↦ λ some before.
             let at : stopped now ≡ Some fault = ap stopped before.0 ∙ some in
-            let same = subst (λ (s : Option TokenFault). IfSome s (λ fault. (answered result new ≡ Err fault) × (new ≡ now))) at feeds.for_good in
+            let same = subst told_again at feeds.for_good in
             absurd (not_told more fault new (subst (λ (r : Result Bool TokenFault). answered r new ≡ Err fault) is same.0))
       ]
       refl stays

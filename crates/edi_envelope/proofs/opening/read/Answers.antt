@@ -13,7 +13,8 @@ returns-in_err-advance-clause-told g c =
     let p = err_from_is_err_and c.from_residual.result c.from_residual.ensures.1 in
     rw (p.1, p.2)
     (fault_told (g.R.Source.remaining c.args.reader.now) (g.R.Source.failed c.args.reader.now) c.args.lender.now _ _ _ _
-    c.loop-opening.lender _ c.loop-opening.opening c.advance.result c.loop-opening.invariant.read c.advance.ensures.feeds _ c.in_err-advance.was)
+    c.loop-opening.lender _ c.loop-opening.opening c.advance.result c.loop-opening.invariant.read
+    c.advance.ensures.feeds _ c.in_err-advance.was)
 
 pub returns-in_err-advance-clause-bound : goal.returns-in_err-advance-clause-bound
 returns-in_err-advance-clause-bound g c =
@@ -53,7 +54,8 @@ returns-in_err-advance-clause-some g c =
     let p = err_from_is_err_and c.from_residual.result c.from_residual.ensures.1 in
     rw (p.1, p.2)
     (fault_of_some (g.R.Source.remaining c.args.reader.now) (g.R.Source.failed c.args.reader.now) c.args.lender.now _ _ _ _
-    c.loop-opening.lender _ c.loop-opening.opening c.advance.result c.loop-opening.invariant.read c.advance.ensures.feeds _ c.in_err-advance.was)
+    c.loop-opening.lender _ c.loop-opening.opening c.advance.result c.loop-opening.invariant.read
+    c.advance.ensures.feeds _ c.in_err-advance.was)
 
 pub returns-clause-some : goal.returns-clause-some
 returns-clause-some g c =

@@ -22,7 +22,8 @@ returns-in_err-advance-clause-told g c =
     let p = err_from_is_err_and c.from_residual-in_err-advance.result c.from_residual-in_err-advance.ensures.1 in
     rw (p.1, p.2)
     (fault_told c.args.words.now (g.R.Source.remaining c.args.reader.now) (g.R.Source.failed c.args.reader.now) c.args.lender.now _ _ _ _
-    c.loop-relaying.lender _ c.loop-relaying.relaying c.advance.result c.loop-relaying.invariant.read c.advance.ensures.feeds _ c.in_err-advance.was)
+    c.loop-relaying.lender _ c.loop-relaying.relaying c.advance.result c.loop-relaying.invariant.read
+    c.advance.ensures.feeds _ c.in_err-advance.was)
 
 pub returns-in_err-advance-clause-bound : goal.returns-in_err-advance-clause-bound
 returns-in_err-advance-clause-bound g c =
@@ -67,7 +68,8 @@ returns-in_err-advance-clause-stops g c =
     let p = err_from_is_err_and c.from_residual-in_err-advance.result c.from_residual-in_err-advance.ensures.1 in
     rw (p.1, p.2)
     (fault_stops g.R.Source.remaining c.args.reader.now _ _ _ _ c.args.lender.now c.loop-relaying.lender _ c.advance.result
-    c.advance.ensures.feeds c.advance.ensures.still c.loop-relaying.invariant.stays c.loop-relaying.invariant.read.going Relaying _ c.in_err-advance.was)
+    c.advance.ensures.feeds c.advance.ensures.still c.loop-relaying.invariant.stays c.loop-relaying.invariant.read.going Relaying _
+    c.in_err-advance.was)
 
 pub returns-in_err-take-clause-stops : goal.returns-in_err-take-clause-stops
 returns-in_err-take-clause-stops g c =
