@@ -1,13 +1,15 @@
 -- What a query does, from its clauses.
-use Rattle.std.proofs.Common.{Vec, Result, Ok, Err, IfOk, ◌≡◌, ◌⊎◌, inl, inr, ℕ, false, List, IsTrue, refl, sym, ◌∙◌, subst}
+use Rattle.std.proofs.Common.{Vec, Result, Ok, Err, IfOk, ◌≡◌, ◌⊎◌, inl, inr, ℕ, false, List, IsTrue, IsSome, refl, sym, ◌∙◌, subst, true≢false}
 use Rattle.std.specs.declared.alloc.Global.{Global}
 use Rattle.sqlite_value.specs.Order.{Row}
 use Rattle.sqlite.specs.declared.error.Error.{Error}
 use Rattle.sqlite.specs.Clock.{timed}
 use Rattle.sqlite.specs.State.{State, HasCleanDisk, Shown, ShowsRows, FailsToQuery, FailsToShow, IsNotRun, IsUnchanged}
 use Rattle.sqlite.specs.State.{IsRolledBack, Survives, CommitsShowing}
+use Rattle.sqlite.proofs.StateLemmas.{survives_weaker}
 use Rattle.hub_store.specs.declared.fault.StoreFault.{StoreFault}
-use Rattle.hub_store.specs.declared.fault.StoreFault.TheVariants.{Memory, Disk}
+use Rattle.hub_store.specs.declared.fault.StoreFault.TheVariants.{Memory, Disk, Unclean}
+use Rattle.hub_schema.proofs.Leaving.{unchanged, rolled_back, spared}
 use Rattle.hub_looks.specs.Asks.{OnlyReads, Asks}
 
 pub shown_same : (sql : List ℕ) (params : Row) (old new : State) (rows : List Row) → OnlyReads sql → Shown sql params old new rows
@@ -26,6 +28,13 @@ failed_same sql params old new e plain (inr h) =
     let none = plain old.now.schema h.0 h.1.is in
     inl (subst (FailsToShow old new sql h.0 (timed params h.0.formats h.1.now) e) none h.2).3
 
+-- so nothing is committed
+pub reads_no_commit : (sql : List ℕ) (params : Row) (old new : State) → OnlyReads sql → Survives old new (CommitsShowing sql params old)
+    → Survives old new (λ _. ⊥)
+unfolding CommitsShowing
+reads_no_commit sql params old new plain =
+    survives_weaker old new _ _ (λ _ db commits. let none = plain old.now.schema commits.0 commits.1.is in true≢false (sym (subst IsSome none commits.2)))
+
 abbrev Rows : List Row → Vec Row Global → Type 0
 Rows rows answer = answer.items ≡ rows
 
@@ -40,6 +49,8 @@ module _ (text : List ℕ) (params : Row) (old new : State) (mode : old.in_trans
     same = λ clean plain. let it = (shown_same text params old new rows.items plain (shown clean)).0 in
         (it.was_open, it.is_open, it.now_is);
     stays = λ clean idle plain up. let it = (shown_same text params old new rows.items plain (shown clean)).0 in (it.was_open, it.now_is);
+    leaves = λ clean plain.
+        spared old new (Ok rows) (unchanged old new (shown_same text params old new rows.items plain (shown clean)));
     mode = mode;
     survives = survives;
   }
@@ -57,6 +68,13 @@ module _ (text : List ℕ) (params : Row) (old new : State) (mode : old.in_trans
       | inl it ↦ (it.0.was_open, it.0.now_is)
       | inr back ↦ (back.was_open up, (back.undone up).0 ∙ sym (settled idle (back.was_open up)))
     ];
+    leaves = λ clean plain. record {
+      done = tt;
+      fault = elim (failed_same text params old new e plain (fails clean)) [
+        | inl it ↦ inl (unchanged old new it)
+        | inr back ↦ inr (rolled_back old new back)
+      ];
+    };
     mode = mode;
     survives = survives;
   }
@@ -71,6 +89,7 @@ reads_more More (Ok x) more asks = record {
   same = asks.same;
   kept = asks.kept;
   stays = asks.stays;
+  leaves = λ clean plain. let it = asks.leaves clean plain in record { done = it.done; fault = it.fault };
   mode = asks.mode;
   survives = asks.survives;
 }
@@ -80,6 +99,32 @@ reads_more More (Err fault) more asks = record {
   same = asks.same;
   kept = asks.kept;
   stays = asks.stays;
+  leaves = λ clean plain. let it = asks.leaves clean plain in record { done = it.done; fault = it.fault };
+  mode = asks.mode;
+  survives = asks.survives;
+}
+
+-- what is made of the rows of an answer
+pub asked_more : {X : Type 0} (Reads : List Row → X → Type 0) (Spoil : List Row → Type 0) (text : List ℕ) (params : Row) (old new : State)
+    (rows : Vec Row Global) (result : Result X StoreFault) → Asks {X = Vec Row Global} Rows (λ _. ⊥) text params old new (Ok rows)
+    → IfOk result (λ x. Reads rows.items x) → (result ≡ Err Unclean → Spoil rows.items) → Asks Reads Spoil text params old new result
+asked_more Reads Spoil text params old new rows (Ok x) asks right wrong = record {
+  reads = λ clean. let h = asks.reads clean in (h.0, h.1, subst (λ rs. Reads rs x) h.2 right);
+  spoils = λ clean e. absurd cc;
+  same = asks.same;
+  kept = asks.kept;
+  stays = asks.stays;
+  leaves = λ clean plain. spared old new (Ok x) (asks.leaves clean plain).done;
+  mode = asks.mode;
+  survives = asks.survives;
+}
+asked_more Reads Spoil text params old new rows (Err fault) asks right wrong = record {
+  reads = λ clean. tt;
+  spoils = λ clean e. let h = asks.reads clean in (h.0, h.1, subst Spoil h.2 (wrong e));
+  same = λ clean plain. tt;
+  kept = λ clean plain. tt;
+  stays = asks.stays;
+  leaves = λ clean plain. spared old new (Err fault) (asks.leaves clean plain).done;
   mode = asks.mode;
   survives = asks.survives;
 }

@@ -8,6 +8,7 @@ use Rattle.hub_store.specs.declared.fault.StoreFault.TheVariants.{Unclean}
 use Rattle.hub_tables.specs.Tables.{Tables}
 use Rattle.hub_schema.specs.Rows.{tables_in}
 use Rattle.hub_schema.specs.State.{IsHub, Holds, IsNumbered, AreOrdered, LooksUp}
+use Rattle.hub_schema.proofs.Leaving.{spared, spares_then}
 use Rattle.sqlite.specs.Effect.{Database, IsDatabase}
 use Rattle.hub_schema.specs.Schema.{hub_schema}
 
@@ -18,6 +19,7 @@ looks_failed {Y = Y} one other old new fault it = record {
   answers = λ clean holds. tt;
   same = λ clean. tt;
   stays = it.stays;
+  leaves = λ clean. record { done = tt; fault = (it.leaves clean).fault };
   mode = it.mode;
   crash = it.crash;
   unclean = λ clean holds e. it.unclean clean holds (ap Err (failed fault Unclean e));
@@ -33,6 +35,7 @@ looks_on one other old new x y follows it = record {
   answers = λ clean holds. follows (tables_in old.now.trees) (it.answers clean holds);
   same = it.same;
   stays = it.stays;
+  leaves = λ clean. spared old new (Ok y) (it.leaves clean).done;
   mode = it.mode;
   crash = it.crash;
   unclean = λ clean holds e. absurd cc;
@@ -45,6 +48,7 @@ looks_spoilt one other old new x follows it = record {
   answers = λ clean holds. tt;
   same = λ clean. tt;
   stays = it.stays;
+  leaves = λ clean. spared old new (Err Unclean) (it.leaves clean).done;
   mode = it.mode;
   crash = it.crash;
   unclean = λ clean holds e. ((it.same clean).0, follows (tables_in old.now.trees) (it.answers clean holds));
@@ -77,9 +81,9 @@ looks_then {Y = Y} one two all old mid new x follows a result b =
       stays = λ clean idle has up.
           let it = b.stays clean (a.mode idle) (ap (λ (db : Database). db.schema) (same clean) ∙ has) up in
           (was_open clean, it.1 ∙ same clean);
+      leaves = λ clean. spares_then old mid new result (a.leaves (before clean)).done (b.leaves clean);
       mode = λ idle. b.mode (a.mode idle);
-      crash = survives_then old mid new _ _ _ (λ clean db h. h)
-          (λ clean db h has. h (ap (λ (db : Database). db.schema) (same clean) ∙ has)) a.crash b.crash;
+      crash = survives_then old mid new _ _ _ (λ clean db h. h) (λ clean db h. h) a.crash b.crash;
       unclean = λ clean holds e. (was_open clean, ap are_clean (sym (tables clean)) ∙ (b.unclean clean (hub clean holds) e).1);
     }
   where

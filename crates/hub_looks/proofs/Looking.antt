@@ -9,7 +9,6 @@ use Rattle.sqlite_resolve.specs.Compile.{first}
 use Rattle.sqlite.specs.Listing.{understood, reads_listing}
 use Rattle.sqlite.specs.State.{State, Shown}
 use Rattle.sqlite.proofs.Callers.{IsPlain, command_of, reads_as}
-use Rattle.sql_rows.proofs.Answers.{shows_no_commit}
 use Rattle.hub_store.specs.Clean.{are_clean}
 use Rattle.hub_store.specs.declared.fault.StoreFault.{StoreFault}
 use Rattle.hub_tables.specs.Tables.{Tables}
@@ -17,7 +16,7 @@ use Rattle.hub_schema.specs.Rows.{tables_in}
 use Rattle.hub_schema.specs.Schema.{hub_schema}
 use Rattle.hub_schema.specs.State.{IsHub, LooksUp}
 use Rattle.hub_looks.specs.Asks.{OnlyReads, Asks}
-use Rattle.hub_looks.proofs.Asking.{shown_same}
+use Rattle.hub_looks.proofs.Asking.{shown_same, reads_no_commit}
 use Rattle.hub_looks.proofs.Selecting.{begins_query, only_reads}
 
 -- the text selects by the query from the tables of a hub
@@ -51,16 +50,18 @@ module _ {text : List ℕ} {query : Query} {names : List (List ℕ)} (it : Selec
         let hub = holds (was_open params old new h.0 h.1) in right hub h.0 (answered params old new h.0 hub h.1) x h.2;
     same = λ clean. asks.same clean reads_none;
     stays = λ clean idle has up. asks.stays clean idle reads_none up;
+    leaves = λ clean. let left = asks.leaves clean reads_none in record { done = left.done; fault = left.fault };
     mode = asks.mode;
-    crash = shows_no_commit hub_schema text params old new it.plain asks.survives;
+    crash = reads_no_commit text params old new reads_none asks.survives;
     unclean = λ clean holds e. absurd cc;
   }
   looks answer Reads Spoil params old new right wrong (Err fault) asks = record {
     answers = λ clean holds. tt;
     same = λ clean. tt;
     stays = λ clean idle has up. asks.stays clean idle reads_none up;
+    leaves = λ clean. let left = asks.leaves clean reads_none in record { done = left.done; fault = left.fault };
     mode = asks.mode;
-    crash = shows_no_commit hub_schema text params old new it.plain asks.survives;
+    crash = reads_no_commit text params old new reads_none asks.survives;
     unclean = λ clean holds e. let h = asks.spoils clean e in
         let up = was_open params old new h.0 h.1 in
         let hub = holds up in (up, wrong hub h.0 (answered params old new h.0 hub h.1) h.2);

@@ -11,13 +11,13 @@ use Rattle.sqlite_tied.specs.Compute.{everything}
 use Rattle.sqlite.specs.Listing.{understood}
 use Rattle.sqlite.specs.State.{State, Shown}
 use Rattle.sqlite.proofs.Callers.{reads_as, one_permutation}
-use Rattle.sql_rows.proofs.Answers.{shows_no_commit}
 use Rattle.hub_schema.specs.Schema.{hub_schema}
 use Rattle.hub_store.specs.declared.fault.StoreFault.{StoreFault}
 use Rattle.hub_store.specs.declared.fault.StoreFault.TheVariants.{Memory, Disk}
 use Rattle.hub_schema.specs.State.{IsNumbered}
-use Rattle.hub_looks.specs.Asks.{Asks}
+use Rattle.hub_looks.specs.Asks.{OnlyReads, Asks}
 use Rattle.hub_looks.specs.Numbered.{TellsNumber}
+use Rattle.hub_looks.proofs.Asking.{reads_no_commit}
 use Rattle.hub_looks.proofs.Finding.{all_of, no_limit, passes, finds}
 use Rattle.hub_looks.proofs.Looking.{Selects}
 use Rattle.hub_looks.proofs.Selecting.{only_reads}
@@ -73,17 +73,21 @@ number_shown old new rows has h is =
     (subst (λ xs. IsPermutation xs (map (λ row. column row 1) found.sources)) is moved) in
     found.is ∙ shown_source found.sources one
 
+number_reads : OnlyReads number_text
+number_reads = only_reads number_text number_selects.first
+
 pub tells : (old new : State) (rows : Vec Row Global) (is : Bool)
     → Asks {X = Vec Row Global} (λ rows answer. answer.items ≡ rows) (λ _. ⊥) number_text [] old new (Ok rows)
     → (IsTrue is ↔ (rows.items ≡ (Int (pos 1) ∷ []) ∷ [])) → TellsNumber old new (Ok is)
 tells old new rows is asks one = record {
   number = λ clean has. let h = asks.reads clean in
       (λ yes. number_read old new h.0 has h.1 (sym h.2 ∙ one.0 yes), λ numbered. one.1 (h.2 ∙ number_shown old new h.0 has h.1 numbered));
-  same = λ clean. let it = asks.same clean (only_reads number_text number_selects.first) in
-      (it.0, it.1, it.2, asks.kept clean (only_reads number_text number_selects.first));
+  same = λ clean. let it = asks.same clean number_reads in
+      (it.0, it.1, it.2, asks.kept clean number_reads);
   fault = tt;
+  leaves = λ clean. let left = asks.leaves clean number_reads in record { done = left.done; fault = left.fault };
   mode = asks.mode;
-  crash = shows_no_commit hub_schema number_text [] old new number_selects.plain asks.survives;
+  crash = reads_no_commit number_text [] old new number_reads asks.survives;
 }
 
 pub tells_none : (old new : State) (fault : StoreFault) → (fault ≡ Memory) ⊎ (fault ≡ Disk)
@@ -93,6 +97,7 @@ tells_none old new fault which asks = record {
   number = λ clean has. tt;
   same = λ clean. tt;
   fault = which;
+  leaves = λ clean. let left = asks.leaves clean number_reads in record { done = left.done; fault = left.fault };
   mode = asks.mode;
-  crash = shows_no_commit hub_schema number_text [] old new number_selects.plain asks.survives;
+  crash = reads_no_commit number_text [] old new number_reads asks.survives;
 }

@@ -7,6 +7,7 @@ use Rattle.sqlite.specs.Listing.{understood}
 use Rattle.sqlite.specs.State.{State, HasCleanDisk, Shown, Survives, CommitsShowing}
 use Rattle.hub_store.specs.declared.fault.StoreFault.{StoreFault}
 use Rattle.hub_store.specs.declared.fault.StoreFault.TheVariants.{Unclean}
+use Rattle.hub_schema.specs.State.{Spares}
 
 -- a statement that writes nothing, under any schema
 abbrev pub OnlyReads : List ℕ → Type 0
@@ -23,5 +24,6 @@ pub record Asks {X : Type 0} (Reads : List Row → X → Type 0) (Spoil : List R
   pub stays :
       HasCleanDisk new → old.in_transaction ≡ false → OnlyReads text → IsTrue new.is_open →
       IsTrue old.is_open × (new.now ≡ old.now)
+  pub leaves : HasCleanDisk new → OnlyReads text → Spares old new result
   pub mode : old.in_transaction ≡ false → new.in_transaction ≡ false
   pub survives : Survives old new (CommitsShowing text params old)

@@ -1,12 +1,12 @@
 -- What the number of the schema is.
-use Rattle.std.specs.Prelude.{◌≡◌, ◌≢◌, ◌⊎◌, ◌↔◌, false, Bool, IsTrue, Result, IfOk, IfErr, OnOk}
+use Rattle.std.specs.Prelude.{◌≡◌, ◌⊎◌, ◌↔◌, false, Bool, IsTrue, Result, IfOk, IfErr, OnOk}
 use Rattle.sqlite.specs.State.{State, HasCleanDisk, Survives}
 use Rattle.hub_store.specs.declared.fault.StoreFault.{StoreFault}
 use Rattle.hub_store.specs.declared.fault.StoreFault.TheVariants.{Memory, Disk}
 use Rattle.hub_schema.specs.Schema.{hub_schema}
-use Rattle.hub_schema.specs.State.{IsNumbered}
+use Rattle.hub_schema.specs.State.{IsNumbered, Spares}
 
--- whether it is 1, exactly; nothing changes, also after a crash
+-- whether it is 1, exactly; nothing changes, also after a crash; after a fault a transaction that was open may be undone
 pub record TellsNumber (old new : State) (result : Result Bool StoreFault) : Type 0 where
   pub number :
       HasCleanDisk new → old.now.schema ≡ hub_schema → IfOk result (λ is. IsTrue is ↔ IsNumbered old.now.trees)
@@ -14,5 +14,6 @@ pub record TellsNumber (old new : State) (result : Result Bool StoreFault) : Typ
       HasCleanDisk new →
       OnOk result (IsTrue old.is_open × IsTrue new.is_open × (new.now ≡ old.now) × (new.committed ≡ old.committed))
   pub fault : IfErr result (λ fault. (fault ≡ Memory) ⊎ (fault ≡ Disk))
+  pub leaves : HasCleanDisk new → Spares old new result
   pub mode : old.in_transaction ≡ false → new.in_transaction ≡ false
-  pub crash : Survives old new (λ trees. old.now.schema ≢ hub_schema)
+  pub crash : Survives old new (λ _. ⊥)

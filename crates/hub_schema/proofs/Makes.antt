@@ -1,14 +1,19 @@
 -- What the making of a table leaves.
-use Rattle.std.proofs.Common.{◌≡◌, ℕ, pos, if◌then◌else◌, List, [], ◌∷◌, ◌++◌, map, None, Result, Ok, Err, OnOk}
-use Rattle.std.proofs.Common.{refl, sym, ap, subst, ◌∙◌, arith}
+use Rattle.std.proofs.Common.{◌≡◌, ℕ, pos, if◌then◌else◌, List, [], ◌∷◌, ◌++◌, map, None, Result, Ok, Err, OnOk, OnErr}
+use Rattle.std.proofs.Common.{inl, inr, true, false, IsTrue, refl, sym, ap, subst, ◌∙◌, true≢false, arith}
 use Rattle.std.specs.List.{AllByRecursion}
 use Rattle.sqlite.specs.Command.TheVariants.{CreateTable}
 use Rattle.sqlite.specs.Schema.{Schema}
 use Rattle.sqlite.specs.Table.{Table}
 use Rattle.sqlite.specs.Tree.{Trees}
-use Rattle.sqlite.specs.State.{State, Writes, ExecutesInside, Shows}
+use Rattle.sqlite.specs.Held.{Held, state}
+use Rattle.sqlite.specs.State.{State, Writes, ExecutesInside, Shows, HasCleanDisk, KeepsCommit, IsRolledBack, Survives}
+use Rattle.sqlite.specs.Steps.{FailsToCommit}
 use Rattle.sqlite.specs.declared.error.Error.{Error}
-use Rattle.sqlite.proofs.Callers.{runs_as}
+use Rattle.sqlite.proofs.Callers.{runs_as, survives_begin}
+use Rattle.sqlite.proofs.StateLemmas.{survives_then}
+use Rattle.sqlite_trees.specs.declared.store.Store.{Ghosts}
+use Rattle.sql_rows.proofs.Transactions.{clean_before}
 use Rattle.sqlite_catalog.specs.Change.{created, KeepsRows}
 use Rattle.sql_rows.proofs.Creates.{creates}
 use Rattle.sqlite.specs.declared.types.Value.TheVariants.{Null, Int}
@@ -21,10 +26,11 @@ use Rattle.sqlite_trees.specs.declared.store.Shape.TheVariants.{Table as Rows}
 use Rattle.sqlite_value.specs.Order.{Row, column}
 use Rattle.sql_rows.proofs.Inserts.{inserts, cast_null, cast_int}
 use Rattle.hub_tables.specs.Tables.{empty as no_rows}
-use Rattle.hub_schema.specs.Schema.{schema_table, hub_schema}
-use Rattle.hub_schema.specs.State.{Makes}
+use Rattle.hub_schema.specs.Schema.{schema_table, hub_schema, hub_tables, no_schema}
+use Rattle.hub_schema.specs.State.{IsNewHub, Leaves, Makes, ShowsTheSame}
+use Rattle.hub_schema.proofs.Leaving.{undone_later}
 use Rattle.hub_schema.proofs.Texts.{put_number, put_number_is, put_number_plain}
-use Rattle.hub_schema.specs.Making.{HasMade, Defines, MakesOn}
+use Rattle.hub_schema.specs.Making.{HasMade, Defines, MakesOn, LeavesTables, schema_with}
 
 still_empty : (tables : List Table) (old new : Trees) → KeepsRows tables old new
     → AllByRecursion (λ t. old t.tree ≡ []) tables → AllByRecursion (λ t. new t.tree ≡ []) tables
@@ -111,3 +117,126 @@ number_put old new (Ok count) has h =
           w.shown).committed_is;
       mode = w.shown.mode ∙ has.mode;
     }
+
+-- What is left where the making stops.
+
+still_made : (schema : Schema) (old new : State) → ShowsTheSame old new → HasMade schema old → HasMade schema new
+still_made schema old new same has = record {
+  schema = ap (λ d. d.schema) same.rows ∙ has.schema;
+  empty = subst (λ d. AllByRecursion (λ table. d.trees table.tree ≡ []) schema.tables) (sym same.rows) has.empty;
+  mode = same.mode ∙ has.mode;
+}
+
+-- a statement failed behind these tables
+pub stops_at : {X Y : Type 0} (first rest : List Table) → hub_tables ≡ first ++ rest → (old new : State) (e : Error)
+    → Leaves {X = X} old new (Err e) → LeavesTables {X = Y} first old new (Err e)
+stops_at first rest are old new e left = record {
+  fault = λ clean has. elim (left.fault clean has.mode) [
+    | inl same ↦ inl (record {
+      first = first;
+      rest = rest;
+      are = are;
+      made = record { made = still_made (schema_with first) old new same has; committed = same.committed };
+    })
+    | inr back ↦ inr back
+  ];
+  ended = left.ended;
+}
+
+-- a part of the making failed, behind one that is done
+pub stops_later : {X Y : Type 0} (begun made : List Table) (old mid new : State) (e : Error)
+    → (HasCleanDisk mid → HasMade (schema_with begun) old → MakesOn (schema_with made) old mid)
+    → (old.in_transaction ≡ false → ⊥) → (HasCleanDisk mid → KeepsCommit old mid)
+    → (HasCleanDisk new → HasCleanDisk mid) → LeavesTables {X = X} made mid new (Err e)
+    → LeavesTables {X = Y} begun old new (Err e)
+stops_later begun made old mid new e makes ran kept early left = record {
+  fault = λ clean has.
+      let did = makes (early clean) has in
+      elim (left.fault clean did.made) [
+        | inl some ↦ inl (record {
+          first = some.first;
+          rest = some.rest;
+          are = some.are;
+          made = record { made = some.made.made; committed = some.made.committed ∙ did.committed };
+        })
+        | inr back ↦ inr (undone_later old mid new (kept (early clean)) back)
+      ];
+  ended = λ none. absurd (ran none);
+}
+
+-- a part that is done met an open transaction
+pub ran_before : {X : Type 0} (x : X) (old new : State) → Leaves {E = Error} old new (Ok x) → old.in_transaction ≡ false
+    → ⊥
+ran_before x old new left none = (left.ended none).0
+
+pub part_ran : {X : Type 0} (begun : List Table) (x : X) (old new : State) → LeavesTables begun old new (Ok x)
+    → old.in_transaction ≡ false → ⊥
+part_ran begun x old new left none = (left.ended none).0
+
+-- all of it is done
+pub stops_nowhere : {X : Type 0} (begun : List Table) (old new : State) (x : X) → (old.in_transaction ≡ false → ⊥)
+    → LeavesTables begun old new (Ok x)
+stops_nowhere begun old new x ran = record { fault = λ clean has. tt; ended = λ none. absurd (ran none) }
+
+-- the row with the schema's number, behind all tables
+pub number_leaves : (old new : State) (r : Result ℕ Error) → Leaves old new r → LeavesTables hub_tables old new r
+number_leaves old new (Ok count) left = record {
+  fault = λ clean has. tt;
+  ended = λ none. let it = left.ended none in (it.0, it.1);
+}
+number_leaves old new (Err e) left = stops_at hub_tables [] refl old new e left
+
+pub on_any_err : {X E A : Type 0} (r : Result X E) → A → OnErr r A
+on_any_err (Ok x) a = tt
+on_any_err (Err e) a = a
+
+-- The transaction of the making ends.
+module _ {S : Type 0} (g : Ghosts S) (old mid end : Held S) (idle : old.in_transaction ≡ false)
+    (settled : IsTrue (state g old).is_open → (state g old).now ≡ (state g old).committed) where
+  abbrev begun : State
+  begun = state g (record old { in_transaction = true })
+
+  pub back_again : KeepsCommit begun (state g mid) → IsRolledBack (state g mid) (state g end)
+      → IsTrue (state g end).is_open → ShowsTheSame (state g old) (state g end)
+  back_again kept back up =
+      let between = back.was_open up in
+      let before = kept.was_open between in
+      record {
+        rows = (back.undone up).0 ∙ kept.committed between ∙ sym (settled before);
+        committed = (back.undone up).1 ∙ kept.committed between;
+        mode = back.autocommit ∙ sym idle;
+        is_open = up ∙ sym before;
+      }
+
+  pub not_committed : mid.in_transaction ≡ true → (e : Error) → FailsToCommit (state g mid) (state g end) e
+      → IsRolledBack (state g mid) (state g end)
+  not_committed stands e (inl fails) = fails.3
+  not_committed stands e (inr it) = absurd (true≢false (sym stands ∙ it.1))
+
+  bare : (state g old).now.schema ≡ no_schema → HasMade no_schema begun
+  bare none = record { schema = none; empty = tt; mode = refl }
+
+  abbrev MakesAll : Type 0
+  MakesAll = HasCleanDisk (state g mid) → HasMade no_schema begun → Makes (λ _. no_rows) begun (state g mid)
+
+  pub made_before : MakesAll → HasCleanDisk (state g mid) → (state g old).now.schema ≡ no_schema
+      → Makes (λ _. no_rows) begun (state g mid)
+  made_before makes clean none = makes clean (bare none)
+
+  -- after a crash, where it was committed
+  pub left_by_commit : MakesAll → Survives begun (state g mid) (λ _. ⊥)
+      → Survives (state g mid) (state g end) (λ db. db ≡ (state g mid).now.trees)
+      → Survives (state g old) (state g end) (λ trees. (state g old).now.schema ≡ no_schema → IsNewHub trees)
+  left_by_commit makes one two =
+      survives_then (state g old) (state g mid) (state g end) _ _ _ (λ _ db none. absurd none)
+      (λ clean db is none.
+      let did = made_before makes (clean_before (state g mid) (state g end) _ two clean) none in
+      subst IsNewHub (sym is) (did.hub.numbered, did.tables))
+      (survives_begin g old (state g mid) _ one) two
+
+  -- and where it was not
+  pub left_by_fault : {P : Trees → Type 0} → Survives begun (state g mid) (λ _. ⊥)
+      → Survives (state g mid) (state g end) (λ _. ⊥) → Survives (state g old) (state g end) P
+  left_by_fault one two =
+      survives_then (state g old) (state g mid) (state g end) _ _ _ (λ _ db none. absurd none)
+      (λ _ db none. absurd none) (survives_begin g old (state g mid) _ one) two

@@ -1,16 +1,18 @@
 -- Making the tables, one after another, in a transaction.
-use Rattle.std.specs.Prelude.{◌≡◌, ℕ, false, IsTrue, List, [], fold, Ok}
+use Rattle.std.specs.Prelude.{◌≡◌, ◌⊎◌, ◌++◌, ℕ, false, IsTrue, List, [], fold, Result, Ok, OnOk, OnErr}
 use Rattle.std.specs.List.{AllByRecursion}
 use Rattle.sqlite.specs.Command.TheVariants.{CreateTable}
 use Rattle.sqlite.specs.Compile.{table_defined_by}
 use Rattle.sqlite.specs.Does.{lacks_sequence}
 use Rattle.sqlite.specs.Listing.{understood}
 use Rattle.sqlite.specs.Schema.{Schema}
-use Rattle.sqlite.specs.State.{State}
+use Rattle.sqlite.specs.State.{State, HasCleanDisk}
 use Rattle.sqlite.specs.Table.{Table}
+use Rattle.sqlite.specs.declared.error.Error.{Error}
 use Rattle.sqlite.proofs.Callers.{IsPlain, command_of, statement_of}
 use Rattle.sqlite_catalog.specs.Change.{created}
-use Rattle.hub_schema.specs.Schema.{no_schema}
+use Rattle.hub_schema.specs.Schema.{no_schema, hub_tables}
+use Rattle.hub_schema.specs.State.{ShowsTheSame, IsUndone}
 
 -- the schema of the first tables, made in this order
 abbrev pub schema_with : List Table → Schema
@@ -34,3 +36,17 @@ pub record Defines (text : List ℕ) (schema : Schema) (table : Table) : Type 0 
 pub record MakesOn (after : Schema) (old new : State) : Type 0 where
   pub made : HasMade after new
   pub committed : new.committed ≡ old.committed
+
+-- the first of the hub's tables are made, each whole, and nothing of the others
+pub record MakesFirstTables (old new : State) : Type 0 where
+  pub first : List Table
+  pub rest : List Table
+  pub are : hub_tables ≡ first ++ rest
+  pub made : MakesOn (schema_with first) old new
+
+-- the making goes on from these tables: after a fault the transaction is undone, or it stands with the first tables,
+-- and nothing is committed; where the transaction had ended before, nothing is done at all
+pub record LeavesTables {X : Type 0} (begun : List Table) (old new : State) (result : Result X Error) : Type 0 where
+  pub fault :
+      HasCleanDisk new → HasMade (schema_with begun) old → OnErr result (MakesFirstTables old new ⊎ IsUndone old new)
+  pub ended : old.in_transaction ≡ false → OnOk result ⊥ × ShowsTheSame old new

@@ -1,5 +1,5 @@
 -- What a connection shows that holds the tables of a hub, and what calls do to it.
-use Rattle.std.specs.Prelude.{◌≡◌, ◌≢◌, ◌⊎◌, pos, true, false, IsTrue, List, [], ◌∷◌, map, Result, Err, IfOk, OnOk}
+use Rattle.std.specs.Prelude.{◌≡◌, ◌⊎◌, pos, true, false, IsTrue, List, [], ◌∷◌, map, Result, Err, IfOk, OnOk}
 use Rattle.std.specs.Prelude.{OnErr}
 use Rattle.std.specs.List.{AllByRecursion}
 use Rattle.sqlite_value.specs.declared.value.Value.TheVariants.{Int}
@@ -11,7 +11,7 @@ use Rattle.sqlite.specs.Effect.{IsDatabase}
 use Rattle.sqlite.specs.State.{State, HasCleanDisk, Survives}
 use Rattle.hub_tables.specs.Change.{apply_all}
 use Rattle.hub_tables.specs.Sets.{Rising}
-use Rattle.hub_tables.specs.Tables.{Tables}
+use Rattle.hub_tables.specs.Tables.{Tables, empty}
 use Rattle.hub_tables.specs.declared.change.Change.{Change}
 use Rattle.hub_store.specs.Calls.{have_places}
 use Rattle.hub_store.specs.Clean.{are_clean}
@@ -35,6 +35,10 @@ pub record IsHub (s : State) : Type 0 where
   pub ordered : AreOrdered s.now.trees
   pub sound : IsDatabase s.now
 
+-- a hub's tables without rows
+abbrev pub IsNewHub : Trees → Type 0
+IsNewHub trees = IsNumbered trees × (tables_in trees ≡ empty)
+
 -- the tables become these, in the transaction alone
 pub record Makes (change : Tables → Tables) (old new : State) : Type 0 where
   pub hub : IsHub new
@@ -53,6 +57,33 @@ MayRefuse changes t =
 abbrev pub Holds : State → Type 0
 Holds s = IsTrue s.is_open → IsHub s
 
+-- the same rows and the same commit are shown, and a transaction is open where one was
+pub record ShowsTheSame (old new : State) : Type 0 where
+  pub rows : new.now ≡ old.now
+  pub committed : new.committed ≡ old.committed
+  pub mode : new.in_transaction ≡ old.in_transaction
+  pub is_open : new.is_open ≡ old.is_open
+
+-- no transaction is open any more, and none of its rows is left: where the connection is not shut it shows what was
+-- committed
+pub record IsUndone (old new : State) : Type 0 where
+  pub ended : new.in_transaction ≡ false
+  pub was_open : IsTrue new.is_open → IsTrue old.is_open
+  pub rows : IsTrue new.is_open → new.now ≡ old.committed
+  pub committed : IsTrue new.is_open → new.committed ≡ old.committed
+
+-- a call that writes nothing: after a fault all is as it was, or a transaction that was open is undone
+pub record Spares {X E : Type 0} (old new : State) (result : Result X E) : Type 0 where
+  pub done : OnOk result (ShowsTheSame old new)
+  pub fault : OnErr result (ShowsTheSame old new ⊎ IsUndone old new)
+
+-- a statement in a transaction: after a fault nothing of it is done, and the transaction stands or is undone; where
+-- the transaction had ended before, nothing is done at all
+pub record Leaves {X E : Type 0} (old new : State) (result : Result X E) : Type 0 where
+  pub fault :
+      HasCleanDisk new → IsTrue old.in_transaction → OnErr result (ShowsTheSame old new ⊎ IsUndone old new)
+  pub ended : old.in_transaction ≡ false → OnOk result ⊥ × ShowsTheSame old new
+
 -- a look-up outside a transaction: what it answers of the tables, and that it changes nothing. `Unclean` comes only
 -- where some row is none of the kinds.
 pub record LooksUp {X : Type 0} (answer : Tables → X) (old new : State) (result : Result X StoreFault) : Type 0 where
@@ -61,8 +92,9 @@ pub record LooksUp {X : Type 0} (answer : Tables → X) (old new : State) (resul
   pub stays :
       HasCleanDisk new → old.in_transaction ≡ false → old.now.schema ≡ hub_schema → IsTrue new.is_open →
       IsTrue old.is_open × (new.now ≡ old.now)
+  pub leaves : HasCleanDisk new → Spares old new result
   pub mode : old.in_transaction ≡ false → new.in_transaction ≡ false
-  pub crash : Survives old new (λ trees. old.now.schema ≢ hub_schema)
+  pub crash : Survives old new (λ _. ⊥)
   pub unclean :
       HasCleanDisk new → Holds old → result ≡ Err Unclean →
       IsTrue old.is_open × (are_clean (tables_in old.now.trees) ≡ false)

@@ -7,10 +7,10 @@ ghost use Rattle.sqlite.specs.Table.{Table};
 ghost use Rattle.sqlite.specs.Held.{state};
 ghost use Rattle.hub_tables.specs.Tables.{empty};
 ghost use Rattle.sqlite_catalog.specs.Change.{created};
-ghost use Rattle.hub_schema.specs.Making.{HasMade, Defines, MakesOn, schema_with};
-ghost use Rattle.hub_schema.specs.Schema.{no_schema, hub_schema, schema_table, order_table, line_table, advice_table, pallet_table, content_table};
+ghost use Rattle.hub_schema.specs.Making.{HasMade, Defines, MakesOn, LeavesTables, schema_with};
+ghost use Rattle.hub_schema.specs.Schema.{no_schema, hub_schema, hub_tables, schema_table, order_table, line_table, advice_table, pallet_table, content_table};
 ghost use Rattle.hub_schema.specs.Rows.{tables_in};
-ghost use Rattle.hub_schema.specs.State.{IsHub, Makes};
+ghost use Rattle.hub_schema.specs.State.{IsHub, IsNewHub, Leaves, Makes, ShowsTheSame};
 
 use sqlite::{Alter, Connection, Error, Transaction};
 
@@ -24,6 +24,7 @@ fn create<S: Alter>(tx: &mut Transaction<'_, S>, text: &str) -> Result<usize, Er
     ensures kept { HasCleanDisk (state S.Store tx.new.conn.now) →
         KeepsCommit (state S.Store tx.old.conn.now) (state S.Store tx.new.conn.now) }
     ensures survives { Survives (state S.Store tx.old.conn.now) (state S.Store tx.new.conn.now) (λ _. ⊥) }
+    ensures leaves { Leaves (state S.Store tx.old.conn.now) (state S.Store tx.new.conn.now) result }
 {
     tx.execute(text, &[])
 }
@@ -37,6 +38,7 @@ fn make_orders<S: Alter>(tx: &mut Transaction<'_, S>) -> Result<(), Error>
     ensures kept { HasCleanDisk (state S.Store tx.new.conn.now) →
         KeepsCommit (state S.Store tx.old.conn.now) (state S.Store tx.new.conn.now) }
     ensures survives { Survives (state S.Store tx.old.conn.now) (state S.Store tx.new.conn.now) (λ _. ⊥) }
+    ensures leaves { LeavesTables [] (state S.Store tx.old.conn.now) (state S.Store tx.new.conn.now) result }
 {
     create(tx, "CREATE TABLE schema (number INTEGER NOT NULL) STRICT")?;
     create(
@@ -61,6 +63,8 @@ fn make_pallets<S: Alter>(tx: &mut Transaction<'_, S>) -> Result<(), Error>
     ensures kept { HasCleanDisk (state S.Store tx.new.conn.now) →
         KeepsCommit (state S.Store tx.old.conn.now) (state S.Store tx.new.conn.now) }
     ensures survives { Survives (state S.Store tx.old.conn.now) (state S.Store tx.new.conn.now) (λ _. ⊥) }
+    ensures leaves { LeavesTables (schema_table ∷ order_table ∷ line_table ∷ [])
+        (state S.Store tx.old.conn.now) (state S.Store tx.new.conn.now) result }
 {
     create(
         tx,
@@ -85,6 +89,9 @@ fn make_messages<S: Alter>(tx: &mut Transaction<'_, S>) -> Result<(), Error>
     ensures kept { HasCleanDisk (state S.Store tx.new.conn.now) →
         KeepsCommit (state S.Store tx.old.conn.now) (state S.Store tx.new.conn.now) }
     ensures survives { Survives (state S.Store tx.old.conn.now) (state S.Store tx.new.conn.now) (λ _. ⊥) }
+    ensures leaves { LeavesTables
+        (schema_table ∷ order_table ∷ line_table ∷ advice_table ∷ pallet_table ∷ content_table ∷ [])
+        (state S.Store tx.old.conn.now) (state S.Store tx.new.conn.now) result }
 {
     create(
         tx,
@@ -109,6 +116,7 @@ fn put_number<S: Alter>(tx: &mut Transaction<'_, S>) -> Result<usize, Error>
     ensures kept { HasCleanDisk (state S.Store tx.new.conn.now) →
         KeepsCommit (state S.Store tx.old.conn.now) (state S.Store tx.new.conn.now) }
     ensures survives { Survives (state S.Store tx.old.conn.now) (state S.Store tx.new.conn.now) (λ _. ⊥) }
+    ensures leaves { LeavesTables hub_tables (state S.Store tx.old.conn.now) (state S.Store tx.new.conn.now) result }
 {
     tx.execute("INSERT INTO schema (number) VALUES (1)", &[])
 }
@@ -121,6 +129,7 @@ pub fn make_tables<S: Alter>(tx: &mut Transaction<'_, S>) -> Result<(), Error>
     ensures kept { HasCleanDisk (state S.Store tx.new.conn.now) →
         KeepsCommit (state S.Store tx.old.conn.now) (state S.Store tx.new.conn.now) }
     ensures survives { Survives (state S.Store tx.old.conn.now) (state S.Store tx.new.conn.now) (λ _. ⊥) }
+    ensures leaves { LeavesTables [] (state S.Store tx.old.conn.now) (state S.Store tx.new.conn.now) result }
 {
     make_orders(tx)?;
     make_pallets(tx)?;
@@ -142,7 +151,9 @@ pub fn make_schema<S: Alter>(conn: &mut Connection<S>) -> Result<(), Error>
         trees ≡ (state S.Store conn.new).now.trees) }
     ensures kept { HasCleanDisk (state S.Store conn.new) → (state S.Store conn.old).now.schema ≡ no_schema →
         IsTrue (state S.Store conn.new).is_open →
-        OnErr result (IsTrue (state S.Store conn.old).is_open × ((state S.Store conn.new).now ≡ (state S.Store conn.old).now)) }
+        OnErr result (ShowsTheSame (state S.Store conn.old) (state S.Store conn.new)) }
+    ensures crash { Survives (state S.Store conn.old) (state S.Store conn.new)
+        (λ trees. (state S.Store conn.old).now.schema ≡ no_schema → IsNewHub trees) }
 {
     let _idle = conn.is_autocommit();
     let mut tx = conn.transaction();

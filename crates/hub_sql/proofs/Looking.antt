@@ -80,7 +80,7 @@ module _ {S : Type 0} (g : Ghosts S) (old new : Stored S) (settled : IsSettled g
         | inl e ↦ inl (e ∙ same_content)
         | inr it ↦ elim (looks.crash.crash clean it.0 it.1) [
           | inl was ↦ inr (it.0, was, it.2)
-          | inr never ↦ absurd (never (settled.schema whole (back clean)))
+          | inr never ↦ absurd never
         ]
       ];
       was_honest = back;

@@ -35,7 +35,7 @@ use Rattle.hub_schema.proofs.Single.{hub_rises}
 use Rattle.hub_writes.specs.Acts.{great_place, great_entry, has_great, Acts}
 use Rattle.hub_writes.specs.Faults.{ended}
 use Rattle.hub_writes.proofs.Outcomes.{no_unclean}
-use Rattle.hub_writes.proofs.Steps.{same_hub}
+use Rattle.hub_writes.proofs.Hubs.{same_hub}
 
 -- A row whose number SQL has not is none of the kinds.
 

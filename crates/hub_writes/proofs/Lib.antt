@@ -3,9 +3,12 @@ pub mod Alters
 pub mod Contents
 pub mod Ends
 pub mod Entries
+pub mod Hubs
 pub mod Keys
 pub mod Lines
 pub mod Memories
+pub mod Nothing
+pub mod Nowhere
 pub mod Orders
 pub mod Outcomes
 pub mod Pallets

@@ -1,5 +1,6 @@
 -- What a statement comes to.
-use Rattle.std.proofs.Common.{Bool, ◌==◌, if◌then◌else◌, ◌≡◌, inl, inr, false, true, not, ℕ, List, [], Result, Ok, Err, OnOk}
+use Rattle.std.proofs.Common.{Bool, ◌==◌, if◌then◌else◌, ◌≡◌, ◌⊎◌, inl, inr, false, true, not, ℕ, List, [], ◌∷◌, Result, Ok}
+use Rattle.std.proofs.Common.{Err, OnOk, OnErr}
 use Rattle.std.proofs.Common.{IsTrue, refl, sym, subst, ap, ◌∙◌, true≢false}
 use Rattle.std.proofs.lemmas.Bool.{cases_Bool}
 use Rattle.sqlite_schema.specs.declared.schema.Constraint.TheVariants as rule
@@ -10,7 +11,7 @@ use Rattle.sqlite.specs.declared.error.Error.TheVariants.{SqliteFailure}
 use Rattle.sqlite.specs.declared.error.Error.TheVariants as error
 use Rattle.sqlite.specs.declared.error.ErrorCode.TheVariants as code
 use Rattle.sqlite.specs.Held.{Held, state}
-use Rattle.sqlite.specs.State.{HasCleanDisk, KeepsCommit, Survives, ExecutesInside}
+use Rattle.sqlite.specs.State.{State, HasCleanDisk, KeepsCommit, Survives, ExecutesInside}
 use Rattle.sql_rows.proofs.Refusals.{not_unique}
 use Rattle.sql_rows.proofs.Transactions.{kept_ran, kept_still}
 use Rattle.hub_tables.specs.Change.{apply_all}
@@ -21,9 +22,12 @@ use Rattle.hub_store.specs.Calls.{have_places}
 use Rattle.hub_store.specs.declared.fault.StoreFault.{StoreFault}
 use Rattle.hub_store.specs.declared.fault.StoreFault.TheVariants.{Unclean}
 use Rattle.hub_schema.specs.Rows.{tables_in}
-use Rattle.hub_schema.specs.State.{IsHub, Makes}
+use Rattle.hub_schema.specs.State.{IsHub, IsUndone, Makes, ShowsTheSame, Leaves}
+use Rattle.hub_schema.proofs.Leaving.{executed_leaves}
 use Rattle.hub_writes.specs.Faults.{placed, inserted, ended, refusal_of, fault_of}
-use Rattle.hub_writes.specs.Acts.{Acts}
+use Rattle.hub_writes.specs.Acts.{Acts, MakesFirst}
+use Rattle.hub_writes.proofs.Nowhere.{unplaced}
+use Rattle.hub_writes.proofs.Hubs.{same_hub}
 
 pub on_inserted : (A : Type 0) (r : Result ℕ Error) → OnOk r A → OnOk (inserted r) A
 on_inserted A (Ok count) h = h
@@ -40,6 +44,18 @@ at_ok (Err e) p = tt
 on_ok_at : {X E P : Type 0} {r : Result X E} {x : X} → r ≡ Ok x → OnOk r P → P
 on_ok_at {r = Ok y} is h = h
 on_ok_at {r = Err e} is h = cc
+
+on_err_at : {X E P : Type 0} {r : Result X E} {e : E} → r ≡ Err e → OnErr r P → P
+on_err_at {r = Ok y} is h = cc
+on_err_at {r = Err e} is h = h
+
+on_err : {X E A B : Type 0} (r : Result X E) → (A → B) → OnErr r A → OnErr r B
+on_err (Ok x) f h = tt
+on_err (Err e) f h = f h
+
+err_inserted : (A : Type 0) (r : Result ℕ Error) → OnErr r A → OnErr (inserted r) A
+err_inserted A (Ok count) h = tt
+err_inserted A (Err e) h = h
 
 -- only a key that is there is `Unclean`
 refused_so : (e : Error) → refusal_of e ≡ Unclean → e ≡ not_unique
@@ -136,6 +152,23 @@ pub record Executed {S : Type 0} (g : Ghosts S) (sql : List ℕ) (params : Row) 
       → ExecutesInside 0 sql params (state g old) (state g new) r
   pub survives : Survives (state g old) (state g new) (λ _. ⊥)
 
+-- a change that failed, where all is as it was
+pub first_failed : (change : Change) (old new : State) → old.in_transaction ≡ true → ShowsTheSame old new
+    → MakesFirst (change ∷ []) old new
+first_failed change old new begun same = record {
+  made = [];
+  failed = change;
+  left = [];
+  are = refl;
+  makes = λ hub. record {
+    hub = same_hub old new same.rows hub;
+    tables = ap (λ d. tables_in d.trees) same.rows;
+    committed = same.committed;
+    mode = same.mode ∙ begun;
+  };
+  is_open = same.is_open;
+}
+
 module _ {S : Type 0} (g : Ghosts S) (sql : List ℕ) (params : Row) (old new : Held S) (r : Result ℕ Error) (did :
     Executed g sql params old new r) where
   kept : HasCleanDisk (state g new) → KeepsCommit (state g old) (state g new)
@@ -143,6 +176,34 @@ module _ {S : Type 0} (g : Ghosts S) (sql : List ℕ) (params : Row) (old new : 
     | inl begun ↦ kept_ran sql params (state g old) (state g new) r (did.runs clean begun)
     | inr none ↦ subst (λ h. KeepsCommit (state g old) (state g h)) (sym (did.ended none).1) (kept_still (state g old))
   ]
+
+  left_by : Leaves (state g old) (state g new) r
+  left_by = executed_leaves g sql params old new r did.ended did.runs
+
+  abbrev Stands : Type 0
+  Stands = IsTrue (state g new).is_open × IsTrue new.in_transaction
+
+  stands_if : (out : Result ℕ Error) → ExecutesInside 0 sql params (state g old) (state g new) out → OnOk out Stands
+  stands_if (Ok count) h = (h.1.is_open, h.1.mode)
+  stands_if (Err e) h = tt
+
+  no_result : (A : Type 0) (out : Result ℕ Error) (e : Error) → out ≡ Err e → OnOk out A
+  no_result A (Ok count) e is = absurd cc
+  no_result A (Err f) e is = tt
+
+  stands : HasCleanDisk (state g new) → OnOk r Stands
+  stands clean = elim (cases_Bool old.in_transaction) [
+    | inl begun ↦ stands_if r (did.runs clean begun)
+    | inr none ↦ no_result _ r _ (did.ended none).0
+  ]
+
+  -- where it failed, none of the change is made
+  stops : (change : Change) → HasCleanDisk (state g new) → IsTrue old.in_transaction
+      → OnErr r (MakesFirst (change ∷ []) (state g old) (state g new) ⊎ IsUndone (state g old) (state g new))
+  stops change clean begun = on_err r (λ it. elim it [
+    | inl same ↦ inl (first_failed change (state g old) (state g new) begun same)
+    | inr back ↦ inr back
+  ]) (left_by.fault clean begun)
 
   error_of : (out : Result ℕ Error) → r ≡ out → inserted out ≡ Err Unclean → r ≡ Err not_unique
   error_of (Ok count) is h = absurd cc
@@ -154,13 +215,13 @@ module _ {S : Type 0} (g : Ghosts S) (sql : List ℕ) (params : Row) (old new : 
       × (IsHub (state g old) → Rising (apply_all changes (tables_in (state g old).now.trees)) → ⊥)
 
   -- an INSERT
-  pub insert_acts : (changes : List Change) → ((t : Tables) → have_places changes t ≡ true)
+  pub insert_acts : (change : Change) → ((t : Tables) → have_places (change ∷ []) t ≡ true)
       → (IsHub (state g old) → old.in_transaction ≡ true
       → ExecutesInside 0 sql params (state g old) (state g new) r
-      → OnOk r (Makes (apply_all changes) (state g old) (state g new)))
-      → (ExecutesInside 0 sql params (state g old) (state g new) (Err not_unique) → Refused changes)
-      → (out : Result (Unit {0}) StoreFault) → out ≡ inserted r → Acts changes (state g old) (state g new) out
-  insert_acts changes there makes fits_not out is = subst (Acts changes (state g old) (state g new)) (sym is) (record {
+      → OnOk r (Makes (apply_all (change ∷ [])) (state g old) (state g new)))
+      → (ExecutesInside 0 sql params (state g old) (state g new) (Err not_unique) → Refused (change ∷ []))
+      → (out : Result (Unit {0}) StoreFault) → out ≡ inserted r → Acts (change ∷ []) (state g old) (state g new) out
+  insert_acts change there makes fits_not out is = subst (Acts (change ∷ []) (state g old) (state g new)) (sym is) (record {
     makes = λ clean hub begun. on_inserted _ r (makes hub begun (did.runs clean begun));
     places = λ clean hub begun. at_ok (inserted r) (there (tables_in (state g old).now.trees));
     unclean = λ clean h. let e = error_of r refl h in
@@ -171,30 +232,43 @@ module _ {S : Type 0} (g : Ghosts S) (sql : List ℕ) (params : Row) (old new : 
               (no_fit.0, λ hub rising _. absurd (no_fit.1 hub rising))
           | inr none ↦ absurd (let no = sym e ∙ (did.ended none).0 in cc)
         ]);
+    stands = λ clean. on_inserted _ r (stands clean);
+    fault = λ clean begun. err_inserted _ r (stops change clean begun);
+    ended = λ none. (on_inserted _ r (left_by.ended none).0, (left_by.ended none).1);
     kept = kept;
     survives = did.survives;
   })
 
   -- a statement that does nothing
-  pub touch_acts : (IsHub (state g old) → old.in_transaction ≡ true
+  pub touch_acts : ((e : Error) → ExecutesInside 0 sql params (state g old) (state g new) (Err e)
+      → IsUndone (state g old) (state g new))
+      → (IsHub (state g old) → old.in_transaction ≡ true
       → ExecutesInside 0 sql params (state g old) (state g new) r
       → OnOk r (Makes (apply_all []) (state g old) (state g new)))
       → (out : Result (Unit {0}) StoreFault) → out ≡ ended r → Acts [] (state g old) (state g new) out
-  touch_acts makes out is = subst (Acts [] (state g old) (state g new)) (sym is) (record {
+  touch_acts undone makes out is = subst (Acts [] (state g old) (state g new)) (sym is) (record {
     makes = λ clean hub begun. on_ended _ r (makes hub begun (did.runs clean begun));
     places = λ clean hub begun. at_ok (ended r) refl;
     unclean = λ clean h. absurd (no_unclean r h);
+    stands = λ clean. on_ended _ r (stands clean);
+    fault = λ clean begun. fails r (did.runs clean begun);
+    ended = λ none. (on_ended _ r (left_by.ended none).0, (left_by.ended none).1);
     kept = kept;
     survives = did.survives;
   })
+    where
+      fails : (out : Result ℕ Error) → ExecutesInside 0 sql params (state g old) (state g new) out
+          → OnErr (ended out) (MakesFirst [] (state g old) (state g new) ⊎ IsUndone (state g old) (state g new))
+      fails (Ok count) h = tt
+      fails (Err e) h = inr (undone e h)
 
   -- an UPDATE that is to meet a row, and tells how many it met
-  module _ (changes : List Change) (makes : IsHub (state g old) → old.in_transaction ≡ true
+  module _ (change : Change) (makes : IsHub (state g old) → old.in_transaction ≡ true
       → ExecutesInside 0 sql params (state g old) (state g new) r
-      → OnOk r (Makes (apply_all changes) (state g old) (state g new)))
+      → OnOk r (Makes (apply_all (change ∷ [])) (state g old) (state g new)))
       (met : IsHub (state g old) → old.in_transaction ≡ true → (count : ℕ)
       → ExecutesInside 0 sql params (state g old) (state g new) (Ok count)
-      → have_places changes (tables_in (state g old).now.trees) ≡ not (count == 0)) where
+      → have_places (change ∷ []) (tables_in (state g old).now.trees) ≡ not (count == 0)) where
     ran : (count : ℕ) → r ≡ Ok count → HasCleanDisk (state g new)
         → IsTrue old.in_transaction × ExecutesInside 0 sql params (state g old) (state g new) (Ok count)
     ran count is clean = elim (cases_Bool old.in_transaction) [
@@ -203,12 +277,40 @@ module _ {S : Type 0} (g : Ghosts S) (sql : List ℕ) (params : Row) (old new : 
       | inr none ↦ absurd (let bad = sym is ∙ (did.ended none).0 in cc)
     ]
 
+    never : (A : Type 0) (count : ℕ) → r ≡ Ok count → old.in_transaction ≡ false → A
+    never A count is none = absurd (let bad = sym is ∙ (did.ended none).0 in cc)
+
+    -- it met none, and the tables are as they were
+    met_none : (count : ℕ) → r ≡ Ok count → (count == 0) ≡ true → HasCleanDisk (state g new)
+        → MakesFirst (change ∷ []) (state g old) (state g new)
+    met_none count is e clean =
+        let it = ran count is clean in
+        record {
+          made = [];
+          failed = change;
+          left = [];
+          are = refl;
+          makes = λ hub.
+              let did = on_ok_at is (makes hub it.0 (subst (ExecutesInside 0 sql params (state g old) (state g new)) (sym is) it.1)) in
+              record {
+                hub = did.hub;
+                tables = did.tables
+                    ∙ unplaced change (tables_in (state g old).now.trees) (met hub it.0 count it.1 ∙ ap not e);
+                committed = did.committed;
+                mode = did.mode;
+              };
+          is_open = it.1.1.is_open ∙ sym it.1.1.was_open;
+        }
+
     counted : (count : ℕ) → r ≡ Ok count → (b : Bool) → (count == 0) ≡ b
-        → Acts changes (state g old) (state g new) (if b then Err Unclean else Ok tt)
+        → Acts (change ∷ []) (state g old) (state g new) (if b then Err Unclean else Ok tt)
     counted count is false e = record {
       makes = λ clean hub begun. on_ok_at is (makes hub begun (did.runs clean begun));
       places = λ clean hub begun. met hub begun count (ran count is clean).1 ∙ ap not e;
       unclean = λ clean h. absurd (let bad = h in cc);
+      stands = λ clean. on_ok_at is (stands clean);
+      fault = λ clean begun. tt;
+      ended = λ none. never _ count is none;
       kept = kept;
       survives = did.survives;
     }
@@ -218,20 +320,26 @@ module _ {S : Type 0} (g : Ghosts S) (sql : List ℕ) (params : Row) (old new : 
       unclean = λ clean h.
           let it = ran count is clean in
           inl (it.1.1.was_open, λ hub rising have. absurd (true≢false (sym have ∙ met hub it.0 count it.1 ∙ ap not e)));
+      stands = λ clean. tt;
+      fault = λ clean begun. inl (met_none count is e clean);
+      ended = λ none. never _ count is none;
       kept = kept;
       survives = did.survives;
     }
 
-    sets : (out : Result ℕ Error) → r ≡ out → Acts changes (state g old) (state g new) (placed out)
+    sets : (out : Result ℕ Error) → r ≡ out → Acts (change ∷ []) (state g old) (state g new) (placed out)
     sets (Ok count) is = counted count is (count == 0) refl
     sets (Err e) is = record {
       makes = λ clean hub begun. tt;
       places = λ clean hub begun. tt;
       unclean = λ clean h. absurd (never_unclean e (let same : fault_of e ≡ Unclean = cc in same));
+      stands = λ clean. tt;
+      fault = λ clean begun. on_err_at is (stops change clean begun);
+      ended = λ none. (tt, (left_by.ended none).1);
       kept = kept;
       survives = did.survives;
     }
 
     pub set_acts : (out : Result (Unit {0}) StoreFault) → out ≡ placed r
-        → Acts changes (state g old) (state g new) out
-    set_acts out is = subst (Acts changes (state g old) (state g new)) (sym is) (sets r refl)
+        → Acts (change ∷ []) (state g old) (state g new) out
+    set_acts out is = subst (Acts (change ∷ []) (state g old) (state g new)) (sym is) (sets r refl)

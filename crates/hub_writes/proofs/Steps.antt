@@ -1,12 +1,12 @@
 -- One change after another.
 use Rattle.std.proofs.Common.{◌&&◌, ◌≡◌, ◌||◌, ◌==◌, ◌^◌, nat_le, Bool, cond, ap₂, arith, inl, inr, ℕ, List, [], ◌∷◌, true}
-use Rattle.std.proofs.Common.{false, Result, Ok, Err, OnOk, IsTrue, refl, sym, ap, subst, ◌∙◌, true≢false}
+use Rattle.std.proofs.Common.{false, Result, Ok, Err, OnOk, IsTrue, refl, sym, ap, subst, ◌∙◌, true≢false, ◌⊎◌, ◌++◌, length}
+use Rattle.std.proofs.Common.{append_assoc, length-append}
 use Rattle.std.proofs.lemmas.Bool.{cases_Bool}
 use Rattle.sqlite_trees.specs.declared.store.Store.{Ghosts}
 use Rattle.sqlite_schema.specs.declared.command.Command.TheVariants.{Nothing}
 use Rattle.sqlite_tied.specs.Compute.{everything}
 use Rattle.sqlite.specs.declared.error.Error.{Error}
-use Rattle.sqlite.specs.Effect.{IsDatabase}
 use Rattle.sqlite.specs.Held.{Held, state}
 use Rattle.sqlite.specs.Listing.{understood}
 use Rattle.sqlite.specs.State.{State, HasCleanDisk, ExecutesInside}
@@ -35,20 +35,13 @@ use Rattle.hub_store.specs.declared.fault.StoreFault.{StoreFault}
 use Rattle.hub_store.specs.declared.fault.StoreFault.TheVariants.{Unclean}
 use Rattle.hub_schema.specs.Rows.{tables_in}
 use Rattle.hub_schema.specs.Schema.{hub_schema}
-use Rattle.hub_schema.specs.State.{AreOrdered, IsNumbered, IsHub, Makes}
+use Rattle.hub_schema.specs.State.{IsHub, Makes}
+use Rattle.hub_schema.proofs.Leaving.{still, undone_later}
 use Rattle.hub_schema.proofs.Single.{hub_rises}
-use Rattle.hub_writes.specs.Acts.{great_place, great_entry, has_great, Acts, HasRun}
+use Rattle.hub_writes.specs.Acts.{great_place, great_entry, has_great, Acts, MakesFirst, HasRun}
 use Rattle.hub_writes.specs.Faults.{ended}
-use Rattle.hub_writes.proofs.Outcomes.{Executed}
-
--- a hub whose database is the same
-pub same_hub : (old new : State) → new.now ≡ old.now → IsHub old → IsHub new
-same_hub old new same hub = record {
-  schema = ap (λ d. d.schema) same ∙ hub.schema;
-  numbered = subst (λ d. IsNumbered d.trees) (sym same) hub.numbered;
-  ordered = subst (λ d. AreOrdered d.trees) (sym same) hub.ordered;
-  sound = subst IsDatabase (sym same) hub.sound;
-}
+use Rattle.hub_writes.proofs.Hubs.{same_hub}
+use Rattle.hub_writes.proofs.Outcomes.{Executed, first_failed}
 
 nothing_is : command_of (understood hub_schema []) ≡ Nothing
 unfolding understood everything
@@ -94,11 +87,19 @@ run_none all a b it met = record {
         committed = did.committed;
         mode = did.mode;
       };
-  begun = met;
+  mode = begun (cases_Bool a.in_transaction);
+  stands = λ clean. let up = it.stands clean in ((met clean).0, up.0, up.1);
+  made = [];
+  are = refl;
+  first = λ clean hub. (it.makes clean hub (met clean).1).tables;
   splits = λ t. (t, refl, λ h. h);
   kept = it.kept;
   survives = it.survives;
 }
+  where
+    begun : (a.in_transaction ≡ true) ⊎ (a.in_transaction ≡ false) → a.in_transaction ≡ true
+    begun (inl e) = e
+    begun (inr e) = absurd (it.ended e).0
 
 first_placed : (a b : Bool) → (a && b) ≡ true → (a && true) ≡ true
 first_placed a b h = ap (λ v. v && true) (and_parts a b h).0
@@ -107,6 +108,11 @@ first_placed a b h = ap (λ v. v && true) (and_parts a b h).0
 placed_later : (a b : Bool) → (a && true) ≡ true → b ≡ (a && b)
 placed_later true b h = refl
 placed_later false b h = absurd cc
+
+apply_behind : (first : List Change) (last : Change) (t : Tables)
+    → apply_all (first ++ last ∷ []) t ≡ apply last (apply_all first t)
+apply_behind [] last t = refl
+apply_behind (change ∷ first) last t = apply_behind first last (apply change t)
 
 pub run_one : (all left : List Change) (change : Change) (a b c : State) → HasRun all (change ∷ left) a b
     → Acts (change ∷ []) b c (Ok tt) → HasRun all left a c
@@ -126,7 +132,14 @@ run_one all left change a b c so_far it =
                 ∙ was.committed;
             mode = did.mode;
           };
-      begun = λ clean. so_far.begun (before clean);
+      mode = so_far.mode;
+      stands = λ clean. let up = it.stands clean in ((so_far.stands (before clean)).0, up.0, up.1);
+      made = so_far.made ++ change ∷ [];
+      are = so_far.are ∙ sym (append_assoc so_far.made (change ∷ []) left);
+      first = λ clean hub.
+          let was = so_far.makes (before clean) hub in
+          (it.makes clean was.hub was.mode).tables ∙ ap (apply change) (so_far.first (before clean) hub)
+          ∙ sym (apply_behind so_far.made change (tables_in a.now.trees));
       splits = λ t.
           let u = so_far.splits t in
           (apply_all (change ∷ []) u.0, u.1, λ h. (and_parts (has_place change u.0) _ (u.2 h)).1);
@@ -140,6 +153,9 @@ run_all all a b it = record {
       record { hub = did.hub; tables = did.tables; committed = did.committed; mode = did.mode };
   places = λ clean hub begun. sym (it.makes clean hub).places;
   unclean = λ clean no. absurd (let e = no in cc);
+  stands = λ clean. let up = it.stands clean in (up.1, up.2);
+  fault = λ clean begun. tt;
+  ended = λ none. absurd (true≢false (sym it.mode ∙ none));
   kept = it.kept;
   survives = it.survives;
 }
@@ -241,13 +257,16 @@ set_is_great row great t have =
     or_true false = refl
 
 -- a change that is refused before any statement
-pub refused_before : (changes : List Change) (s : State)
-    → ((t : Tables) → have_places changes t ≡ true → has_great (apply_all changes t) ≡ true)
-    → Acts changes s s (Err Unclean)
-refused_before changes s great = record {
+pub refused_before : (change : Change) (s : State)
+    → ((t : Tables) → have_places (change ∷ []) t ≡ true → has_great (apply_all (change ∷ []) t) ≡ true)
+    → Acts (change ∷ []) s s (Err Unclean)
+refused_before change s great = record {
   makes = λ clean hub begun. tt;
   places = λ clean hub begun. tt;
   unclean = λ clean e. inr great;
+  stands = λ clean. tt;
+  fault = λ clean begun. inl (first_failed change s s begun (still s));
+  ended = λ none. (tt, still s);
   kept = λ clean. kept_still s;
   survives = survives_still s;
 }
@@ -270,8 +289,45 @@ none_run all a b fault it = record {
     )
     | inr great ↦ absurd (true≢false (sym (great empty refl)))
   ];
+  stands = λ clean. tt;
+  fault = λ clean begun. elim (it.fault clean begun) [
+    | inl some ↦ absurd (none_there some.made some.failed some.left some.are)
+    | inr back ↦ inr back
+  ];
+  ended = it.ended;
   kept = it.kept;
   survives = it.survives;
+}
+  where
+    none_there : (made : List Change) (failed : Change) (left : List Change) → [] ≡ made ++ failed ∷ left → ⊥
+    none_there [] failed left e = cc
+    none_there (change ∷ made) failed left e = cc
+
+-- of one change that failed, none came before it
+alone : (change failed : Change) (made left : List Change) → (change ∷ []) ≡ made ++ failed ∷ left → made ≡ []
+alone change failed [] left e = refl
+alone change failed (first ∷ made) left e = absurd (omega (arith, ap length e, length-append made (failed ∷ left)))
+
+-- a change failed, and the transaction stands
+stopped : (all left : List Change) (change : Change) (a b c : State) → HasCleanDisk b → HasRun all (change ∷ left) a b
+    → MakesFirst (change ∷ []) b c → MakesFirst all a c
+stopped all left change a b c clean so_far it = record {
+  made = so_far.made;
+  failed = change;
+  left = left;
+  are = so_far.are;
+  makes = λ hub.
+      let was = so_far.makes clean hub in
+      let same = it.makes was.hub in
+      record {
+        hub = same.hub;
+        tables = same.tables
+            ∙ ap (λ made. apply_all made (tables_in b.now.trees)) (alone change it.failed it.made it.left it.are)
+            ∙ so_far.first clean hub;
+        committed = same.committed ∙ was.committed;
+        mode = same.mode;
+      };
+  is_open = let up = so_far.stands clean in it.is_open ∙ up.1 ∙ sym up.0;
 }
 
 -- a change failed
@@ -284,7 +340,7 @@ run_failed all left change a b c fault so_far it =
       places = λ clean hub begun. tt;
       unclean = λ clean e. elim (it.unclean clean e) [
         | inl refused ↦ inl (
-          (so_far.begun (before clean)).0,
+          (so_far.stands (before clean)).0,
           λ hub rising have.
               let was = so_far.makes (before clean) hub in
               let great = refused.1 was.hub (rising_before left (apply_all (change
@@ -298,6 +354,12 @@ run_failed all left change a b c fault so_far it =
             let first = great u.0 (first_placed (has_place change u.0) _ (u.2 have)) in
             ap has_great u.1 ∙ great_later left (apply_all (change ∷ []) u.0) first)
       ];
+      stands = λ clean. tt;
+      fault = λ clean begun. elim (it.fault clean (so_far.stands (before clean)).2) [
+        | inl some ↦ inl (stopped all left change a b c (before clean) so_far some)
+        | inr back ↦ inr (undone_later a b c (so_far.kept (before clean)) back)
+      ];
+      ended = λ none. absurd (true≢false (sym so_far.mode ∙ none));
       kept = λ clean. kept_then a b c (so_far.kept (before clean)) (it.kept clean);
       survives = survives_then a b c _ _ (λ _. ⊥) (λ _ db none. none) (λ _ db none. none) so_far.survives it.survives;
     }

@@ -1,5 +1,6 @@
 -- What the statements of some changes do inside a transaction.
-use Rattle.std.specs.Prelude.{◌≡◌, ◌⊎◌, ◌^◌, nat_le, Bool, true, ◌||◌, IsTrue, List, Result, Err, OnOk}
+use Rattle.std.specs.Prelude.{◌≡◌, ◌⊎◌, ◌^◌, ◌++◌, ◌∷◌, nat_le, Bool, true, false, ◌||◌, IsTrue, List, Result}
+use Rattle.std.specs.Prelude.{Err, OnOk, OnErr}
 use Rattle.std.specs.List.{list_any}
 use Rattle.sqlite.specs.State.{State, HasCleanDisk, KeepsCommit, Survives}
 use Rattle.hub_tables.specs.Change.{apply_all}
@@ -12,7 +13,7 @@ use Rattle.hub_store.specs.Calls.{have_places}
 use Rattle.hub_store.specs.declared.fault.StoreFault.{StoreFault}
 use Rattle.hub_store.specs.declared.fault.StoreFault.TheVariants.{Unclean}
 use Rattle.hub_schema.specs.Rows.{tables_in}
-use Rattle.hub_schema.specs.State.{IsHub, Makes}
+use Rattle.hub_schema.specs.State.{IsHub, IsUndone, Makes, ShowsTheSame}
 
 -- a place, and an entry, whose number SQL has not
 abbrev pub great_place : ContentRow → Bool
@@ -25,9 +26,19 @@ great_entry row = nat_le (2 ^ 63) row.number
 abbrev pub has_great : Tables → Bool
 has_great t = list_any great_place t.contents || list_any great_entry t.mail
 
+-- some first changes are made, nothing of the one behind them, which failed, and none of the others
+pub record MakesFirst (changes : List Change) (old new : State) : Type 0 where
+  pub made : List Change
+  pub failed : Change
+  pub left : List Change
+  pub are : changes ≡ made ++ failed ∷ left
+  pub makes : IsHub old → Makes (apply_all made) old new
+  pub is_open : new.is_open ≡ old.is_open
+
 -- At Ok all changes are made, in the transaction alone, and each row that is set had one in its place. `Unclean` comes
 -- where a key is there that is to be added, where a row is to be set that is not there, or where a number is none of
--- SQL. At no time is anything committed.
+-- SQL. After a fault the transaction stands with the changes before the one that failed, or it is undone; where it had
+-- ended before, nothing is done at all. At no time is anything committed.
 pub record Acts (changes : List Change) (old new : State) (result : Result (Unit {0}) StoreFault) : Type 0 where
   pub makes : HasCleanDisk new → IsHub old → IsTrue old.in_transaction → OnOk result (Makes (apply_all changes) old new)
   pub places :
@@ -39,6 +50,10 @@ pub record Acts (changes : List Change) (old new : State) (result : Result (Unit
       → have_places changes (tables_in old.now.trees) ≡ true
       → has_great (apply_all changes (tables_in old.now.trees)) ≡ true))
       ⊎ ((t : Tables) → have_places changes t ≡ true → has_great (apply_all changes t) ≡ true)
+  pub stands : HasCleanDisk new → OnOk result (IsTrue new.is_open × IsTrue new.in_transaction)
+  pub fault :
+      HasCleanDisk new → IsTrue old.in_transaction → OnErr result (MakesFirst changes old new ⊎ IsUndone old new)
+  pub ended : old.in_transaction ≡ false → OnOk result ⊥ × ShowsTheSame old new
   pub kept : HasCleanDisk new → KeepsCommit old new
   pub survives : Survives old new (λ _. ⊥)
 
@@ -52,7 +67,11 @@ pub record IsUnderWay (all left : List Change) (old now : State) : Type 0 where
 
 pub record HasRun (all left : List Change) (old now : State) : Type 0 where
   pub makes : HasCleanDisk now → IsHub old → IsUnderWay all left old now
-  pub begun : HasCleanDisk now → IsTrue old.is_open × IsTrue old.in_transaction
+  pub mode : IsTrue old.in_transaction
+  pub stands : HasCleanDisk now → IsTrue old.is_open × IsTrue now.is_open × IsTrue now.in_transaction
+  pub made : List Change
+  pub are : all ≡ made ++ left
+  pub first : HasCleanDisk now → IsHub old → tables_in now.now.trees ≡ apply_all made (tables_in old.now.trees)
   pub splits :
       (t : Tables) → (u : Tables) × (apply_all all t ≡ apply_all left u)
       × (have_places all t ≡ true → have_places left u ≡ true)

@@ -54,4 +54,4 @@ returns-clause-acts g c =
     run_all c.args.changes.now _ _ (rw none at c.changes.invariant.1)
 
 pub returns-clause-was_open : goal.returns-clause-was_open
-returns-clause-was_open g c clean = (c.changes.invariant.1.begun clean).0
+returns-clause-was_open g c clean = (c.changes.invariant.1.stands clean).0

@@ -1,6 +1,7 @@
 use Rattle.std.proofs.Common.{[], Result, OnOk, IsTrue, sym, subst}
 use Rattle.sqlite.specs.Held.{state}
 use Rattle.hub_store.specs.declared.fault.StoreFault.{StoreFault}
+use Rattle.hub_writes.proofs.Nothing.{nothing_undone}
 use Rattle.hub_writes.proofs.Outcomes.{Executed, touch_acts}
 use Rattle.hub_writes.proofs.Steps.{nothing_made, was_open}
 use Rattle.hub_writes.proofs.changes.touch.Goals as goal
@@ -12,7 +13,7 @@ returns-clause-acts g c =
       runs = c.execute.ensures.runs;
       survives = c.execute.ensures.survives;
     } in
-    touch_acts g.S.Store _ _ _ _ c.execute.result did (nothing_made _ _ c.execute.result) c.touch_ended.result
+    touch_acts g.S.Store _ _ _ _ c.execute.result did (nothing_undone _ _) (nothing_made _ _ c.execute.result) c.touch_ended.result
     c.touch_ended.ensures
 
 pub returns-clause-was_open : goal.returns-clause-was_open
