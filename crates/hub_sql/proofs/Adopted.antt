@@ -1,16 +1,18 @@
 -- A store that takes over a connection with tables.
-use Rattle.std.proofs.Common.{◌≡◌, ◌⊎◌, inl, inr, true, IsTrue, [], ◌∷◌, None, Result, Ok, Err, IfOk, IfErr, sym, ap, ◌∙◌}
+use Rattle.std.proofs.Common.{◌≡◌, ◌⊎◌, inl, inr, true, IsTrue, [], ◌∷◌, None, Result, Ok, Err, IfOk, IfErr, sym, ap, subst}
+use Rattle.std.proofs.Common.{◌∙◌}
 use Rattle.sqlite.specs.Held.{Held, state}
 use Rattle.sqlite.specs.State.{State, HasCleanDisk}
 use Rattle.sqlite_trees.specs.Tree.{Trees}
 use Rattle.sqlite_trees.specs.declared.store.Store.{Ghosts}
 use Rattle.hub_tables.specs.Tables.{Tables}
 use Rattle.hub_schema.specs.Rows.{tables_in}
-use Rattle.hub_schema.specs.Schema.{hub_schema}
+use Rattle.hub_schema.specs.Schema.{hub_schema, no_schema}
 use Rattle.hub_store.specs.declared.fault.StoreFault.{StoreFault}
 use Rattle.hub_store.specs.declared.fault.StoreFault.TheVariants.{Memory, Disk}
-use Rattle.hub_sql.specs.Opening.{Adopts, Refuses, HoldsHub, IsAsBefore}
+use Rattle.hub_sql.specs.Opening.{Adopts, Refuses, HoldsHub, IsAsBefore, SparesConnection, IsSpared}
 use Rattle.hub_sql.specs.declared.adopting.Returned.{Returned}
+use Rattle.hub_sql.specs.declared.adopting.Returned.TheVariants.{Connection}
 use Rattle.hub_sql.specs.Stored.{Stored, content, left, honest}
 
 -- a crash leaves the rows of an idle connection
@@ -40,12 +42,25 @@ module _ {S X : Type 0} (g : Ghosts S) (was : State) (mid conn : Held S)
 
 -- once the tables are known to be a hub's, a fault is one of the disk or of memory
 module _ {S : Type 0} (g : Ghosts S) (was : State) (has : was.now.schema ≡ hub_schema) where
-  pub refused_later : (back : Returned S) (fault : StoreFault) → (fault ≡ Memory) ⊎ (fault ≡ Disk) → Refuses g was back fault
-  refused_later back fault which = record {
+  pub refused_later : (back : Returned S) (fault : StoreFault) → (fault ≡ Memory) ⊎ (fault ≡ Disk) → IsSpared g was back
+      → Refuses g was back fault
+  refused_later back fault which spared = record {
     version = λ is. absurd (elim which [ inl memory ↦ cc | inr disk ↦ cc ]);
     other = λ none hub. absurd (hub has);
+    spared = spared;
   }
 
-  pub all_refused : {X : Type 0} (r : Result X (Returned S × StoreFault)) → IfErr r (λ e. e.1 ≡ Disk) → IfErr r (λ e. Refuses g was e.0 e.1)
-  all_refused (Ok x) fails = tt
-  all_refused (Err e) fails = refused_later e.0 e.1 (inr fails)
+  pub all_refused : {X : Type 0} (conn : Held S) (r : Result X (Returned S × StoreFault))
+      → IfErr r (λ e. (e.0 ≡ Connection conn) × (e.1 ≡ Disk)) → SparesConnection g was conn → IfErr r (λ e. Refuses g was e.0 e.1)
+  all_refused conn (Ok x) fails spared = tt
+  all_refused conn (Err e) fails spared =
+      refused_later e.0 e.1 (inr fails.1) (subst (IsSpared g was) (sym fails.0) spared)
+
+-- a database that has no tables is none of another version
+pub refused_bare : {S : Type 0} (g : Ghosts S) (was : State) (conn : Held S) (fault : StoreFault) → was.now.schema ≡ no_schema
+    → (fault ≡ Memory) ⊎ (fault ≡ Disk) → SparesConnection g was conn → Refuses g was (Connection conn) fault
+refused_bare g was conn fault none which spared = record {
+  version = λ is. absurd (elim which [ inl memory ↦ cc | inr disk ↦ cc ]);
+  other = λ other hub. absurd (other none);
+  spared = spared;
+}

@@ -3,3 +3,4 @@ pub mod Committing
 pub mod Looking
 pub mod Moving
 pub mod Reopening
+pub mod Sparing

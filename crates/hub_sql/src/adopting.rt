@@ -8,7 +8,7 @@ ghost use Rattle.hub_tables.specs.Tables.{Tables};
 ghost use Rattle.hub_schema.specs.Rows.{tables_in};
 ghost use Rattle.hub_schema.specs.Schema.{hub_schema};
 ghost use Rattle.hub_schema.specs.State.{AreOrdered, IsNumbered};
-ghost use Rattle.hub_sql.specs.Opening.{Adopts, Refuses, HoldsHub, IsAsBefore};
+ghost use Rattle.hub_sql.specs.Opening.{Adopts, Refuses, HoldsHub, IsAsBefore, SparesConnection, SparesStore};
 ghost use Rattle.hub_sql.specs.Stored.{content, left, honest};
 
 use crate::opening::{fault_of, found};
@@ -53,6 +53,7 @@ fn reopened<S: Alter + Drop>(
     ensures fresh { IfOk result IsNew }
     ensures clean { IfOk result (λ c. HasCleanDisk (state S.Store c) → HasCleanDisk (state S.Store conn)) }
     ensures fails { IfErr result (λ e. (e.0 ≡ StoreFault.Memory) ⊎ (e.0 ≡ StoreFault.Disk)) }
+    ensures spared { IfErr result (λ e. SparesStore S.Store (state S.Store conn) e.1) }
 {
     let store = conn.into_store();
     if store.is_broken() {
@@ -88,7 +89,9 @@ fn of_this_version<S: Alter + Drop>(
     ensures clean { IfOk result (λ c. HasCleanDisk (state S.Store c) → HasCleanDisk (state S.Store conn)) }
     ensures refuses { IfErr result (λ e. e.1 ≡ StoreFault.Version → HasCleanDisk (state S.Store e.0) → ¬ HoldsHub (state S.Store conn).now × IsAsBefore (state S.Store conn) (state S.Store e.0)) }
     ensures other { IfErr result (λ e. conn.schema ≢ hub_schema → e.1 ≡ StoreFault.Version) }
+    ensures spared { IfErr result (λ e. SparesConnection S.Store (state S.Store conn) e.0) }
 {
+    let _was_idle = conn.is_autocommit();
     if !is_hub_schema(conn.schema()) {
         return Err((conn, StoreFault::Version));
     }
@@ -115,7 +118,7 @@ fn numbered<S: Alter + Drop>(
     ensures rows { IfOk result (λ store. honest S.Store store → content S.Store store ≡ tables_in (state S.Store conn).now.trees) }
     ensures crash { IfOk result (λ store. honest S.Store store → (t : Tables) → left S.Store store t → t ≡ content S.Store store) }
     ensures clean { IfOk result (λ store. honest S.Store store → HasCleanDisk (state S.Store conn)) }
-    ensures fails { IfErr result (λ e. e.1 ≡ StoreFault.Disk) }
+    ensures fails { IfErr result (λ e. (e.0 ≡ Returned.Connection conn) × (e.1 ≡ StoreFault.Disk)) }
 {
     if !is_hub_schema(conn.schema()) {
         return Err((Returned::Connection(conn), StoreFault::Disk));
@@ -142,7 +145,7 @@ pub(crate) fn adopted<S: Alter + Drop>(
 impl<S: Alter + Drop> SqliteStore<S> {
     /// Takes over a connection in which no transaction is open and no statement is limited. A database without tables
     /// gets those of schema 1. `Version` where it has other tables, or another number of the schema, and only there;
-    /// the connection that comes back with it is as it was.
+    /// the connection that comes back with it is as it was. With any other fault no row is lost that was committed.
     pub fn adopt(
         alloc: Global,
         conn: Connection<S>,

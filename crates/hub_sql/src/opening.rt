@@ -5,6 +5,7 @@ ghost use Rattle.sqlite.specs.State.{HasCleanDisk};
 ghost use Rattle.sqlite.specs.Steps.{over_memory};
 ghost use Rattle.hub_schema.specs.Schema.{no_schema};
 ghost use Rattle.hub_tables.specs.Tables.{Tables, empty};
+ghost use Rattle.hub_sql.specs.Opening.{SparesConnection};
 ghost use Rattle.hub_sql.specs.Stored.{content, left, honest};
 
 use crate::store::SqliteStore;
@@ -35,7 +36,9 @@ pub(crate) fn found<S: Alter + Drop>(
     ensures rows { IfOk result (λ store. honest S.Store store → content S.Store store ≡ empty) }
     ensures crash { IfOk result (λ store. honest S.Store store → (t : Tables) → left S.Store store t → t ≡ empty) }
     ensures fails { IfErr result (λ e. (e.1 ≡ StoreFault.Memory) ⊎ (e.1 ≡ StoreFault.Disk)) }
+    ensures spared { IfErr result (λ e. SparesConnection S.Store (state S.Store conn) e.0) }
 {
+    let _idle = conn.is_autocommit();
     match make_schema(&mut conn) {
         Ok(()) => Ok(SqliteStore::settled(alloc, conn)),
         Err(error) => {

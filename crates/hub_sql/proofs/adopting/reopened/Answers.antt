@@ -1,7 +1,9 @@
 use Rattle.std.proofs.Common.{◌≡◌, false, sym, subst, ◌∙◌, ◌∷◌, [], arith}
+use Rattle.sqlite.specs.Held.{state}
 use Rattle.sqlite_trees.specs.View.{IsClean}
 use Rattle.hub_schema.specs.State.{AreOrdered}
 use Rattle.hub_sql.proofs.Reopening.{open_if_whole, all_shaped}
+use Rattle.hub_sql.proofs.Sparing.{spared_below, spared_again}
 use Rattle.hub_sql.proofs.adopting.reopened.Goals as goal
 
 pub returns-in-Ok-clause-ordered : goal.returns-in-Ok-clause-ordered
@@ -22,3 +24,22 @@ returns-in-Ok-clause-rows g c clean =
     c.in-Ok.ensures.trees clean ∙
     (c.into_store-store.ensures.undone.undone
     (open_if_whole (g.S.Store.view store) (g.met.S.Store.broken_if_shut store) whole)).0
+
+pub returns-then-is_broken-clause-spared : goal.returns-then-is_broken-clause-spared
+returns-then-is_broken-clause-spared g c =
+    spared_below g.S.Store c.args.conn c.into_store-store.result c.into_store-store.ensures.undone
+    c.into_store-store.ensures.quiet
+
+pub returns-then-not-has_tables-clause-spared : goal.returns-then-not-has_tables-clause-spared
+returns-then-not-has_tables-clause-spared g c =
+    spared_below g.S.Store c.args.conn c.into_store-store.result c.into_store-store.ensures.undone
+    c.into_store-store.ensures.quiet
+
+pub returns-in-Err-clause-spared : goal.returns-in-Err-clause-spared
+returns-in-Err-clause-spared g c =
+    let store = c.into_store-store.result in
+    spared_again g.S.Store (state g.S.Store c.args.conn) store c.in-Err.store
+    (spared_below g.S.Store c.args.conn store c.into_store-store.ensures.undone c.into_store-store.ensures.quiet)
+    c.in-Err.ensures.unharmed c.in-Err.ensures.rows
+    (λ early. open_if_whole (g.S.Store.view store) (g.met.S.Store.broken_if_shut store)
+    (sym (c.is_broken.ensures early) ∙ c.if-is_broken.false))

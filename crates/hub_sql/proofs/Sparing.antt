@@ -1,0 +1,132 @@
+-- What comes back with a fault.
+use Rattle.std.proofs.Common.{◌≡◌, ◌⊎◌, inl, inr, Bool, false, IsTrue, Ok, Err, Result, refl, sym, ap}
+use Rattle.std.proofs.Common.{◌∙◌, arith}
+use Rattle.sqlite_trees.specs.Tree.{Trees}
+use Rattle.sqlite_trees.specs.View.{IsClean, IsQuiet, IsRolledBack}
+use Rattle.sqlite_trees.specs.declared.store.Store.{Ghosts}
+use Rattle.sqlite.specs.Held.{Held, state}
+use Rattle.sqlite.specs.State.{State, HasCleanDisk, Survives, Opens}
+use Rattle.sql_rows.proofs.Transactions.{clean_before}
+use Rattle.hub_store.specs.declared.fault.StoreFault.{StoreFault}
+use Rattle.hub_looks.specs.Numbered.{TellsNumber}
+use Rattle.hub_schema.specs.Schema.{no_schema, hub_schema}
+use Rattle.hub_schema.specs.State.{IsUndone, IsNewHub, ShowsTheSame, Spares}
+use Rattle.hub_sql.specs.Opening.{LeftAfter, SparesConnection, SparesStore, IsAsBefore}
+
+module _ {S : Type 0} (g : Ghosts S) where
+  -- where it is not shut, an idle connection shows what is committed
+  abbrev pub IsSettled : Held S → Type 0
+  IsSettled h = IsTrue (state g h).is_open → (state g h).now ≡ (state g h).committed
+
+  module _ (was new : Held S) (settled : IsSettled was) (idle : new.in_transaction ≡ false) where
+    -- all is as it was, or undone
+    shown : ShowsTheSame (state g was) (state g new) ⊎ IsUndone (state g was) (state g new) → IsTrue (state g new).is_open
+        → ((state g new).now ≡ (state g was).committed) × ((state g new).now ≡ (state g was).now)
+    shown (inl same) up = (same.rows ∙ settled (sym same.is_open ∙ up), same.rows)
+    shown (inr back) up = (back.rows up, back.rows up ∙ sym (settled (back.was_open up)))
+
+    pub spared_so : {P : Trees → Type 0} → Survives (state g was) (state g new) P
+        → (HasCleanDisk (state g new) → (trees : Trees) → P trees → LeftAfter (state g was) trees)
+        → (HasCleanDisk (state g new) → IsTrue (state g new).is_open
+        → ShowsTheSame (state g was) (state g new) ⊎ IsUndone (state g was) (state g new))
+        → SparesConnection g (state g was) new
+    spared_so {P} survives more shows = record {
+      idle = idle;
+      limit = survives.limit;
+      clean = clean_before (state g was) (state g new) P survives;
+      rows = λ clean up. ap (λ d. d.trees) (shown (shows clean up) up).0;
+      schema = λ clean up. inl (ap (λ d. d.schema) (shown (shows clean up) up).1);
+      crash = λ clean trees left. elim (survives.crash clean trees left) [
+        | inl before ↦ inl before
+        | inr made ↦ more clean trees made
+      ];
+    }
+
+  either_way : {X E : Type 0} (old new : State) (r : Result X E) → Spares old new r → ShowsTheSame old new ⊎ IsUndone old new
+  either_way old new (Ok x) it = inl it.done
+  either_way old new (Err e) it = it.fault
+
+  -- the schema's number was read, or was not
+  pub spared_number : (was new : Held S) (r : Result Bool StoreFault) → IsSettled was → was.in_transaction ≡ false
+      → TellsNumber (state g was) (state g new) r → SparesConnection g (state g was) new
+  spared_number was new r settled idle it =
+      spared_so was new settled (it.mode idle) it.crash (λ _ trees none. absurd none)
+      (λ clean up. either_way (state g was) (state g new) r (it.leaves clean))
+
+  -- it is the connection that it was
+  pub spared_itself : (h : Held S) → IsSettled h → h.in_transaction ≡ false → SparesConnection g (state g h) h
+  spared_itself h settled idle = record {
+    idle = idle;
+    limit = refl;
+    clean = λ clean. clean;
+    rows = λ clean up. ap (λ d. d.trees) (settled up);
+    schema = λ clean up. inl refl;
+    crash = λ clean trees left. inl left;
+  }
+
+  -- the making of the tables failed
+  pub spared_bare : (was new : Held S) → IsSettled was → new.in_transaction ≡ false
+      → (HasCleanDisk (state g was) → was.schema ≡ no_schema)
+      → Survives (state g was) (state g new) (λ trees. was.schema ≡ no_schema → IsNewHub trees)
+      → (HasCleanDisk (state g new) → was.schema ≡ no_schema → IsTrue (state g new).is_open
+      → ShowsTheSame (state g was) (state g new))
+      → SparesConnection g (state g was) new
+  spared_bare was new settled idle bare survives kept =
+      let none = λ (clean : HasCleanDisk (state g new)). bare (clean_before (state g was) (state g new) _ survives clean) in
+      spared_so was new settled idle survives (λ clean trees made. inr (inr (none clean, made (none clean))))
+      (λ clean up. inl (kept clean (none clean) up))
+
+  -- it was taken apart, which undoes what was not committed
+  pub spared_below : (conn : Held S) (store : S) → IsRolledBack (g.view conn.store) (g.view store)
+      → IsQuiet g.view g.faults g.recovers g.is_shielded conn.store store → SparesStore g (state g conn) store
+  spared_below conn store undone quiet = record {
+    clean = λ clean. omega (arith, quiet.clean);
+    rows = λ clean up. (undone.undone up).0;
+    crash = λ clean trees left. quiet.outcomes trees left;
+  }
+
+  -- and could not be opened anew
+  pub spared_again : (was : State) (store back : S) → SparesStore g was store
+      → IsQuiet g.view g.faults g.recovers g.is_shielded store back
+      → (IsClean (g.view back) → IsTrue (g.view back).is_open → (g.view back).trees ≡ (g.view store).trees)
+      → (IsClean (g.view store) → IsTrue (g.view store).is_open) → SparesStore g was back
+  spared_again was store back it quiet same up = record {
+    clean = λ clean. it.clean (omega (arith, quiet.clean));
+    rows = λ clean now.
+        let early : IsClean (g.view store) = omega (arith, quiet.clean) in
+        same clean now ∙ it.rows early (up early);
+    crash = λ clean trees left. it.crash (omega (arith, quiet.clean)) trees (quiet.outcomes trees left);
+  }
+
+  -- of a connection that was as it had been before
+  pub spared_before : (was : State) (mid : Held S) (store : S)
+      → (HasCleanDisk (state g mid) → IsAsBefore was (state g mid)) → (HasCleanDisk (state g mid) → HasCleanDisk was)
+      → SparesStore g (state g mid) store → SparesStore g was store
+  spared_before was mid store before early it = record {
+    clean = λ clean. early (it.clean clean);
+    rows = λ clean up. it.rows clean up ∙ ap (λ d. d.trees) (before (it.clean clean)).committed;
+    crash = λ clean trees left. (before (it.clean clean)).crash trees (it.crash clean trees left);
+  }
+
+  -- it was opened anew, and lists other tables
+  pub spared_anew : (was : State) (mid conn : Held S) → was.now.schema ≡ hub_schema
+      → (HasCleanDisk (state g mid) → IsAsBefore was (state g mid)) → (HasCleanDisk (state g mid) → HasCleanDisk was)
+      → (HasCleanDisk (state g conn) → HasCleanDisk (state g mid))
+      → (HasCleanDisk (state g conn) → (state g conn).now.trees ≡ (state g mid).committed.trees)
+      → conn.in_transaction ≡ false → conn.step_limit ≡ was.step_limit
+      → (HasCleanDisk (state g conn) → Opens (state g conn))
+      → ((db : Trees) → IsTrue (state g conn).is_open → (state g conn).may_leave db → db ≡ (state g conn).committed.trees)
+      → SparesConnection g was conn
+  spared_anew was mid conn hub before early between rows idle limit opens law =
+      let same = λ (clean : HasCleanDisk (state g conn)). rows clean
+      ∙ ap (λ d. d.trees) (before (between clean)).committed in
+      record {
+        idle = idle;
+        limit = limit;
+        clean = λ clean. early (between clean);
+        rows = λ clean up. same clean;
+        schema = λ clean up. inr hub;
+        crash = λ clean trees left.
+            let it = opens clean in
+            inr (inl (law trees it.is_open left ∙ ap (λ d. d.trees) (sym it.clean) ∙ same clean));
+      }
