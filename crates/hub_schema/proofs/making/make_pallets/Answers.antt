@@ -22,43 +22,63 @@ returns-clause-makes g c clean has =
 
 pub returns-in_err-create-clause-leaves : goal.returns-in_err-create-clause-leaves
 returns-in_err-create-clause-leaves g c =
+    let old = state g.S.Store c.args.tx.now.conn.now in
+    let one = state g.S.Store c.create.new.tx.conn.now in
     let e = c.in_err-create.field-0.0 in
     let same : c.from_residual.result ≡ Err e = search rules in
-    subst (LeavesTables (schema_table ∷ order_table ∷ line_table ∷ []) (state g.S.Store c.args.tx.now.conn.now) (state g.S.Store c.create.new.tx.conn.now)) (sym same)
-    (stops_at {Y = Unit {0}} (schema_table ∷ order_table ∷ line_table ∷ []) (advice_table ∷ pallet_table ∷ content_table ∷ receipt_table ∷ remembered_table ∷ mail_table ∷ []) refl (state g.S.Store c.args.tx.now.conn.now) (state g.S.Store c.create.new.tx.conn.now) e
-    (subst (Leaves (state g.S.Store c.args.tx.now.conn.now) (state g.S.Store c.create.new.tx.conn.now)) c.in_err-create.was c.create.ensures.leaves))
+    let failed = subst (Leaves old one) c.in_err-create.was c.create.ensures.leaves in
+    subst (LeavesTables (schema_table ∷ order_table ∷ line_table ∷ []) old one) (sym same)
+    (stops_at {Y = Unit {0}} (schema_table ∷ order_table ∷ line_table ∷ [])
+    (advice_table ∷ pallet_table ∷ content_table ∷ receipt_table ∷ remembered_table ∷ mail_table ∷ [])
+    refl old one e failed)
 
 pub returns-in_err-create-2-clause-leaves : goal.returns-in_err-create-2-clause-leaves
 returns-in_err-create-2-clause-leaves g c =
+    let old = state g.S.Store c.args.tx.now.conn.now in
+    let one = state g.S.Store c.create.new.tx.conn.now in
+    let two = state g.S.Store c.create-2.new.tx.conn.now in
     let e = c.in_err-create-2.field-0.0 in
     let same : c.from_residual-in_err-create-2.result ≡ Err e = search rules in
-    subst (LeavesTables (schema_table ∷ order_table ∷ line_table ∷ []) (state g.S.Store c.args.tx.now.conn.now) (state g.S.Store c.create-2.new.tx.conn.now)) (sym same)
-    (stops_later (schema_table ∷ order_table ∷ line_table ∷ []) (schema_table ∷ order_table ∷ line_table ∷ advice_table ∷ []) (state g.S.Store c.args.tx.now.conn.now) (state g.S.Store c.create.new.tx.conn.now) (state g.S.Store c.create-2.new.tx.conn.now) e (λ clean has. c.in_ok-create.ensures.makes clean _ _ advice_defined has)
-    (ran_before _ (state g.S.Store c.args.tx.now.conn.now) (state g.S.Store c.create.new.tx.conn.now) (subst (Leaves (state g.S.Store c.args.tx.now.conn.now) (state g.S.Store c.create.new.tx.conn.now)) c.in_ok-create.was c.create.ensures.leaves))
-    c.create.ensures.kept
-    (clean_before (state g.S.Store c.create.new.tx.conn.now) (state g.S.Store c.create-2.new.tx.conn.now) _ c.create-2.ensures.survives)
-    (stops_at {Y = Unit {0}} (schema_table ∷ order_table ∷ line_table ∷ advice_table ∷ []) (pallet_table ∷ content_table ∷ receipt_table ∷ remembered_table ∷ mail_table ∷ []) refl (state g.S.Store c.create.new.tx.conn.now) (state g.S.Store c.create-2.new.tx.conn.now) e
-    (subst (Leaves (state g.S.Store c.create.new.tx.conn.now) (state g.S.Store c.create-2.new.tx.conn.now)) c.in_err-create-2.was c.create-2.ensures.leaves)))
+    let failed = subst (Leaves one two) c.in_err-create-2.was c.create-2.ensures.leaves in
+    let ran = ran_before _ old one (subst (Leaves old one) c.in_ok-create.was c.create.ensures.leaves) in
+    subst (LeavesTables (schema_table ∷ order_table ∷ line_table ∷ []) old two) (sym same)
+    (stops_later (schema_table ∷ order_table ∷ line_table ∷ [])
+    (schema_table ∷ order_table ∷ line_table ∷ advice_table ∷ []) old one two e
+    (λ clean has. c.in_ok-create.ensures.makes clean _ _ advice_defined has) ran c.create.ensures.kept
+    (clean_before one two _ c.create-2.ensures.survives)
+    (stops_at {Y = Unit {0}} (schema_table ∷ order_table ∷ line_table ∷ advice_table ∷ [])
+    (pallet_table ∷ content_table ∷ receipt_table ∷ remembered_table ∷ mail_table ∷ [])
+    refl one two e failed))
 
 pub returns-in_err-create-3-clause-leaves : goal.returns-in_err-create-3-clause-leaves
 returns-in_err-create-3-clause-leaves g c =
+    let old = state g.S.Store c.args.tx.now.conn.now in
+    let one = state g.S.Store c.create.new.tx.conn.now in
+    let two = state g.S.Store c.create-2.new.tx.conn.now in
+    let three = state g.S.Store c.create-3.new.tx.conn.now in
     let e = c.in_err-create-3.field-0.0 in
     let same : c.from_residual-in_err-create-3.result ≡ Err e = search rules in
-    subst (LeavesTables (schema_table ∷ order_table ∷ line_table ∷ []) (state g.S.Store c.args.tx.now.conn.now) (state g.S.Store c.create-3.new.tx.conn.now)) (sym same)
-    (stops_later (schema_table ∷ order_table ∷ line_table ∷ []) (schema_table ∷ order_table ∷ line_table ∷ advice_table ∷ pallet_table ∷ []) (state g.S.Store c.args.tx.now.conn.now) (state g.S.Store c.create-2.new.tx.conn.now) (state g.S.Store c.create-3.new.tx.conn.now) e (λ clean has.
-    let first = clean_before (state g.S.Store c.create.new.tx.conn.now) (state g.S.Store c.create-2.new.tx.conn.now) _ c.create-2.ensures.survives clean in
-    let one = c.in_ok-create.ensures.makes first _ _ advice_defined has in
-    let two = c.in_ok-create-2.ensures.makes clean _ _ pallet_defined one.made in
-    record { made = two.made; committed = two.committed ∙ one.committed })
-    (ran_before _ (state g.S.Store c.args.tx.now.conn.now) (state g.S.Store c.create.new.tx.conn.now) (subst (Leaves (state g.S.Store c.args.tx.now.conn.now) (state g.S.Store c.create.new.tx.conn.now)) c.in_ok-create.was c.create.ensures.leaves))
-    (λ clean. kept_then (state g.S.Store c.args.tx.now.conn.now) (state g.S.Store c.create.new.tx.conn.now) (state g.S.Store c.create-2.new.tx.conn.now)
-    (c.create.ensures.kept (clean_before (state g.S.Store c.create.new.tx.conn.now) (state g.S.Store c.create-2.new.tx.conn.now) _ c.create-2.ensures.survives clean))
+    let failed = subst (Leaves two three) c.in_err-create-3.was c.create-3.ensures.leaves in
+    let ran = ran_before _ old one (subst (Leaves old one) c.in_ok-create.was c.create.ensures.leaves) in
+    subst (LeavesTables (schema_table ∷ order_table ∷ line_table ∷ []) old three) (sym same)
+    (stops_later (schema_table ∷ order_table ∷ line_table ∷ [])
+    (schema_table ∷ order_table ∷ line_table ∷ advice_table ∷ pallet_table ∷ []) old two three e
+    (λ clean has.
+    let first = clean_before one two _ c.create-2.ensures.survives clean in
+    let this = c.in_ok-create.ensures.makes first _ _ advice_defined has in
+    let next = c.in_ok-create-2.ensures.makes clean _ _ pallet_defined this.made in
+    record { made = next.made; committed = next.committed ∙ this.committed })
+    ran
+    (λ clean. kept_then old one two (c.create.ensures.kept (clean_before one two _ c.create-2.ensures.survives clean))
     (c.create-2.ensures.kept clean))
-    (clean_before (state g.S.Store c.create-2.new.tx.conn.now) (state g.S.Store c.create-3.new.tx.conn.now) _ c.create-3.ensures.survives)
-    (stops_at {Y = Unit {0}} (schema_table ∷ order_table ∷ line_table ∷ advice_table ∷ pallet_table ∷ []) (content_table ∷ receipt_table ∷ remembered_table ∷ mail_table ∷ []) refl (state g.S.Store c.create-2.new.tx.conn.now) (state g.S.Store c.create-3.new.tx.conn.now) e
-    (subst (Leaves (state g.S.Store c.create-2.new.tx.conn.now) (state g.S.Store c.create-3.new.tx.conn.now)) c.in_err-create-3.was c.create-3.ensures.leaves)))
+    (clean_before two three _ c.create-3.ensures.survives)
+    (stops_at {Y = Unit {0}} (schema_table ∷ order_table ∷ line_table ∷ advice_table ∷ pallet_table ∷ [])
+    (content_table ∷ receipt_table ∷ remembered_table ∷ mail_table ∷ [])
+    refl two three e failed))
 
 pub returns-clause-leaves : goal.returns-clause-leaves
 returns-clause-leaves g c =
-    stops_nowhere (schema_table ∷ order_table ∷ line_table ∷ []) (state g.S.Store c.args.tx.now.conn.now) (state g.S.Store c.create-3.new.tx.conn.now) tt
-    (ran_before _ (state g.S.Store c.args.tx.now.conn.now) (state g.S.Store c.create.new.tx.conn.now) (subst (Leaves (state g.S.Store c.args.tx.now.conn.now) (state g.S.Store c.create.new.tx.conn.now)) c.in_ok-create.was c.create.ensures.leaves))
+    let old = state g.S.Store c.args.tx.now.conn.now in
+    let one = state g.S.Store c.create.new.tx.conn.now in
+    stops_nowhere (schema_table ∷ order_table ∷ line_table ∷ []) old (state g.S.Store c.create-3.new.tx.conn.now) tt
+    (ran_before _ old one (subst (Leaves old one) c.in_ok-create.was c.create.ensures.leaves))

@@ -8,63 +8,95 @@ use Rattle.hub_schema.proofs.making.make_tables.Goals as goal
 
 pub returns-in_err-make_orders-clause-leaves : goal.returns-in_err-make_orders-clause-leaves
 returns-in_err-make_orders-clause-leaves g c =
+    let old = state g.S.Store c.args.tx.now.conn.now in
+    let one = state g.S.Store c.make_orders.new.tx.conn.now in
     let e = c.in_err-make_orders.field-0.0 in
     let same : c.from_residual.result ≡ Err e = search rules in
-    subst (LeavesTables [] (state g.S.Store c.args.tx.now.conn.now) (state g.S.Store c.make_orders.new.tx.conn.now)) (sym same)
-    (subst (LeavesTables [] (state g.S.Store c.args.tx.now.conn.now) (state g.S.Store c.make_orders.new.tx.conn.now)) c.in_err-make_orders.was c.make_orders.ensures.leaves)
+    let failed = subst (LeavesTables [] old one)
+    c.in_err-make_orders.was c.make_orders.ensures.leaves in
+    subst (LeavesTables [] old one) (sym same) failed
 
 pub returns-in_err-make_pallets-clause-leaves : goal.returns-in_err-make_pallets-clause-leaves
 returns-in_err-make_pallets-clause-leaves g c =
+    let old = state g.S.Store c.args.tx.now.conn.now in
+    let one = state g.S.Store c.make_orders.new.tx.conn.now in
+    let two = state g.S.Store c.make_pallets.new.tx.conn.now in
     let e = c.in_err-make_pallets.field-0.0 in
     let same : c.from_residual-in_err-make_pallets.result ≡ Err e = search rules in
-    subst (LeavesTables [] (state g.S.Store c.args.tx.now.conn.now) (state g.S.Store c.make_pallets.new.tx.conn.now)) (sym same)
-    (stops_later [] (schema_table ∷ order_table ∷ line_table ∷ []) (state g.S.Store c.args.tx.now.conn.now) (state g.S.Store c.make_orders.new.tx.conn.now) (state g.S.Store c.make_pallets.new.tx.conn.now) e (λ clean has.
+    let failed = subst (LeavesTables (schema_table ∷ order_table ∷ line_table ∷ []) one two)
+    c.in_err-make_pallets.was c.make_pallets.ensures.leaves in
+    let ran = part_ran [] _ old one (subst (LeavesTables [] old one) c.in_ok-make_orders.was c.make_orders.ensures.leaves) in
+    subst (LeavesTables [] old two) (sym same)
+    (stops_later [] (schema_table ∷ order_table ∷ line_table ∷ []) old one two e
+    (λ clean has.
     let did-1 = c.in_ok-make_orders.ensures.makes clean has in
     record { made = did-1.made; committed = did-1.committed })
-    (part_ran [] _ (state g.S.Store c.args.tx.now.conn.now) (state g.S.Store c.make_orders.new.tx.conn.now) (subst (LeavesTables [] (state g.S.Store c.args.tx.now.conn.now) (state g.S.Store c.make_orders.new.tx.conn.now)) c.in_ok-make_orders.was c.make_orders.ensures.leaves))
+    ran
     (λ clean.
-    c.make_orders.ensures.kept clean)
-    (clean_before (state g.S.Store c.make_orders.new.tx.conn.now) (state g.S.Store c.make_pallets.new.tx.conn.now) _ c.make_pallets.ensures.survives)
-    (subst (LeavesTables (schema_table ∷ order_table ∷ line_table ∷ []) (state g.S.Store c.make_orders.new.tx.conn.now) (state g.S.Store c.make_pallets.new.tx.conn.now)) c.in_err-make_pallets.was c.make_pallets.ensures.leaves))
+    let kept-1 = c.make_orders.ensures.kept clean in
+    kept-1)
+    (clean_before one two _ c.make_pallets.ensures.survives) failed)
 
 pub returns-in_err-make_messages-clause-leaves : goal.returns-in_err-make_messages-clause-leaves
 returns-in_err-make_messages-clause-leaves g c =
+    let old = state g.S.Store c.args.tx.now.conn.now in
+    let one = state g.S.Store c.make_orders.new.tx.conn.now in
+    let two = state g.S.Store c.make_pallets.new.tx.conn.now in
+    let three = state g.S.Store c.make_messages.new.tx.conn.now in
     let e = c.in_err-make_messages.field-0.0 in
     let same : c.from_residual-in_err-make_messages.result ≡ Err e = search rules in
-    subst (LeavesTables [] (state g.S.Store c.args.tx.now.conn.now) (state g.S.Store c.make_messages.new.tx.conn.now)) (sym same)
-    (stops_later [] (schema_table ∷ order_table ∷ line_table ∷ advice_table ∷ pallet_table ∷ content_table ∷ []) (state g.S.Store c.args.tx.now.conn.now) (state g.S.Store c.make_pallets.new.tx.conn.now) (state g.S.Store c.make_messages.new.tx.conn.now) e (λ clean has.
-    let clean-1 = clean_before (state g.S.Store c.make_orders.new.tx.conn.now) (state g.S.Store c.make_pallets.new.tx.conn.now) _ c.make_pallets.ensures.survives clean in
+    let failed = subst (LeavesTables (schema_table ∷ order_table ∷ line_table ∷ advice_table ∷ pallet_table ∷ content_table ∷ []) two three)
+    c.in_err-make_messages.was c.make_messages.ensures.leaves in
+    let ran = part_ran [] _ old one (subst (LeavesTables [] old one) c.in_ok-make_orders.was c.make_orders.ensures.leaves) in
+    subst (LeavesTables [] old three) (sym same)
+    (stops_later [] (schema_table ∷ order_table ∷ line_table ∷ advice_table ∷ pallet_table ∷ content_table ∷ []) old two three e
+    (λ clean has.
+    let clean-1 = clean_before one two _ c.make_pallets.ensures.survives clean in
     let did-1 = c.in_ok-make_orders.ensures.makes clean-1 has in
     let did-2 = c.in_ok-make_pallets.ensures.makes clean did-1.made in
     record { made = did-2.made; committed = did-2.committed ∙ did-1.committed })
-    (part_ran [] _ (state g.S.Store c.args.tx.now.conn.now) (state g.S.Store c.make_orders.new.tx.conn.now) (subst (LeavesTables [] (state g.S.Store c.args.tx.now.conn.now) (state g.S.Store c.make_orders.new.tx.conn.now)) c.in_ok-make_orders.was c.make_orders.ensures.leaves))
+    ran
     (λ clean.
-    let clean-1 = clean_before (state g.S.Store c.make_orders.new.tx.conn.now) (state g.S.Store c.make_pallets.new.tx.conn.now) _ c.make_pallets.ensures.survives clean in
-    kept_then (state g.S.Store c.args.tx.now.conn.now) (state g.S.Store c.make_orders.new.tx.conn.now) (state g.S.Store c.make_pallets.new.tx.conn.now) (c.make_orders.ensures.kept clean-1) (c.make_pallets.ensures.kept clean))
-    (clean_before (state g.S.Store c.make_pallets.new.tx.conn.now) (state g.S.Store c.make_messages.new.tx.conn.now) _ c.make_messages.ensures.survives)
-    (subst (LeavesTables (schema_table ∷ order_table ∷ line_table ∷ advice_table ∷ pallet_table ∷ content_table ∷ []) (state g.S.Store c.make_pallets.new.tx.conn.now) (state g.S.Store c.make_messages.new.tx.conn.now)) c.in_err-make_messages.was c.make_messages.ensures.leaves))
+    let clean-1 = clean_before one two _ c.make_pallets.ensures.survives clean in
+    let kept-1 = c.make_orders.ensures.kept clean-1 in
+    let kept-2 = kept_then old one two kept-1 (c.make_pallets.ensures.kept clean) in
+    kept-2)
+    (clean_before two three _ c.make_messages.ensures.survives) failed)
 
 pub returns-in_err-put_number-clause-leaves : goal.returns-in_err-put_number-clause-leaves
 returns-in_err-put_number-clause-leaves g c =
+    let old = state g.S.Store c.args.tx.now.conn.now in
+    let one = state g.S.Store c.make_orders.new.tx.conn.now in
+    let two = state g.S.Store c.make_pallets.new.tx.conn.now in
+    let three = state g.S.Store c.make_messages.new.tx.conn.now in
+    let four = state g.S.Store c.put_number.new.tx.conn.now in
     let e = c.in_err-put_number.field-0.0 in
     let same : c.from_residual-in_err-put_number.result ≡ Err e = search rules in
-    subst (LeavesTables [] (state g.S.Store c.args.tx.now.conn.now) (state g.S.Store c.put_number.new.tx.conn.now)) (sym same)
-    (stops_later [] hub_tables (state g.S.Store c.args.tx.now.conn.now) (state g.S.Store c.make_messages.new.tx.conn.now) (state g.S.Store c.put_number.new.tx.conn.now) e (λ clean has.
-    let clean-2 = clean_before (state g.S.Store c.make_pallets.new.tx.conn.now) (state g.S.Store c.make_messages.new.tx.conn.now) _ c.make_messages.ensures.survives clean in
-    let clean-1 = clean_before (state g.S.Store c.make_orders.new.tx.conn.now) (state g.S.Store c.make_pallets.new.tx.conn.now) _ c.make_pallets.ensures.survives clean-2 in
+    let failed = subst (LeavesTables hub_tables three four)
+    c.in_err-put_number.was c.put_number.ensures.leaves in
+    let ran = part_ran [] _ old one (subst (LeavesTables [] old one) c.in_ok-make_orders.was c.make_orders.ensures.leaves) in
+    subst (LeavesTables [] old four) (sym same)
+    (stops_later [] hub_tables old three four e
+    (λ clean has.
+    let clean-2 = clean_before two three _ c.make_messages.ensures.survives clean in
+    let clean-1 = clean_before one two _ c.make_pallets.ensures.survives clean-2 in
     let did-1 = c.in_ok-make_orders.ensures.makes clean-1 has in
     let did-2 = c.in_ok-make_pallets.ensures.makes clean-2 did-1.made in
     let did-3 = c.in_ok-make_messages.ensures.makes clean did-2.made in
     record { made = did-3.made; committed = did-3.committed ∙ did-2.committed ∙ did-1.committed })
-    (part_ran [] _ (state g.S.Store c.args.tx.now.conn.now) (state g.S.Store c.make_orders.new.tx.conn.now) (subst (LeavesTables [] (state g.S.Store c.args.tx.now.conn.now) (state g.S.Store c.make_orders.new.tx.conn.now)) c.in_ok-make_orders.was c.make_orders.ensures.leaves))
+    ran
     (λ clean.
-    let clean-2 = clean_before (state g.S.Store c.make_pallets.new.tx.conn.now) (state g.S.Store c.make_messages.new.tx.conn.now) _ c.make_messages.ensures.survives clean in
-    let clean-1 = clean_before (state g.S.Store c.make_orders.new.tx.conn.now) (state g.S.Store c.make_pallets.new.tx.conn.now) _ c.make_pallets.ensures.survives clean-2 in
-    kept_then (state g.S.Store c.args.tx.now.conn.now) (state g.S.Store c.make_pallets.new.tx.conn.now) (state g.S.Store c.make_messages.new.tx.conn.now) (kept_then (state g.S.Store c.args.tx.now.conn.now) (state g.S.Store c.make_orders.new.tx.conn.now) (state g.S.Store c.make_pallets.new.tx.conn.now) (c.make_orders.ensures.kept clean-1) (c.make_pallets.ensures.kept clean-2)) (c.make_messages.ensures.kept clean))
-    (clean_before (state g.S.Store c.make_messages.new.tx.conn.now) (state g.S.Store c.put_number.new.tx.conn.now) _ c.put_number.ensures.survives)
-    (subst (LeavesTables hub_tables (state g.S.Store c.make_messages.new.tx.conn.now) (state g.S.Store c.put_number.new.tx.conn.now)) c.in_err-put_number.was c.put_number.ensures.leaves))
+    let clean-2 = clean_before two three _ c.make_messages.ensures.survives clean in
+    let clean-1 = clean_before one two _ c.make_pallets.ensures.survives clean-2 in
+    let kept-1 = c.make_orders.ensures.kept clean-1 in
+    let kept-2 = kept_then old one two kept-1 (c.make_pallets.ensures.kept clean-2) in
+    let kept-3 = kept_then old two three kept-2 (c.make_messages.ensures.kept clean) in
+    kept-3)
+    (clean_before three four _ c.put_number.ensures.survives) failed)
 
 pub returns-clause-leaves : goal.returns-clause-leaves
 returns-clause-leaves g c =
-    stops_nowhere [] (state g.S.Store c.args.tx.now.conn.now) (state g.S.Store c.put_number.new.tx.conn.now) tt
-    (part_ran [] _ (state g.S.Store c.args.tx.now.conn.now) (state g.S.Store c.make_orders.new.tx.conn.now) (subst (LeavesTables [] (state g.S.Store c.args.tx.now.conn.now) (state g.S.Store c.make_orders.new.tx.conn.now)) c.in_ok-make_orders.was c.make_orders.ensures.leaves))
+    let old = state g.S.Store c.args.tx.now.conn.now in
+    let one = state g.S.Store c.make_orders.new.tx.conn.now in
+    stops_nowhere [] old (state g.S.Store c.put_number.new.tx.conn.now) tt
+    (part_ran [] _ old one (subst (LeavesTables [] old one) c.in_ok-make_orders.was c.make_orders.ensures.leaves))
