@@ -1,5 +1,6 @@
 -- What a query does, from its clauses.
-use Rattle.std.proofs.Common.{Vec, Result, Ok, Err, IfOk, ◌≡◌, ◌⊎◌, inl, inr, ℕ, false, List, IsTrue, IsSome, refl, sym, ◌∙◌, subst, true≢false}
+use Rattle.std.proofs.Common.{Vec, Result, Ok, Err, IfOk, ◌≡◌, ◌⊎◌, inl, inr, ℕ, false, List, IsTrue, IsSome}
+use Rattle.std.proofs.Common.{refl, sym, ◌∙◌, subst, true≢false}
 use Rattle.std.specs.declared.alloc.Global.{Global}
 use Rattle.sqlite_value.specs.Order.{Row}
 use Rattle.sqlite.specs.declared.error.Error.{Error}
@@ -33,7 +34,9 @@ pub reads_no_commit : (sql : List ℕ) (params : Row) (old new : State) → Only
     → Survives old new (λ _. ⊥)
 unfolding CommitsShowing
 reads_no_commit sql params old new plain =
-    survives_weaker old new _ _ (λ _ db commits. let none = plain old.now.schema commits.0 commits.1.is in true≢false (sym (subst IsSome none commits.2)))
+    survives_weaker old new _ _ (λ _ db commits.
+    let none = plain old.now.schema commits.0 commits.1.is in
+    true≢false (sym (subst IsSome none commits.2)))
 
 abbrev Rows : List Row → Vec Row Global → Type 0
 Rows rows answer = answer.items ≡ rows

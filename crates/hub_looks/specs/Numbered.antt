@@ -6,7 +6,8 @@ use Rattle.hub_store.specs.declared.fault.StoreFault.TheVariants.{Memory, Disk}
 use Rattle.hub_schema.specs.Schema.{hub_schema}
 use Rattle.hub_schema.specs.State.{IsNumbered, Spares}
 
--- whether it is 1, exactly; nothing changes, also after a crash; after a fault a transaction that was open may be undone
+-- whether it is 1, exactly; nothing changes, also after a crash; after a fault a transaction that was open may be
+-- undone
 pub record TellsNumber (old new : State) (result : Result Bool StoreFault) : Type 0 where
   pub number :
       HasCleanDisk new → old.now.schema ≡ hub_schema → IfOk result (λ is. IsTrue is ↔ IsNumbered old.now.trees)
