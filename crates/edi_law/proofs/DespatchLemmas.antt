@@ -31,8 +31,8 @@ use Rattle.edi_law.specs.Units.{OfUnitLines, HasSscc, IsUnit, AreMarked}
 use Rattle.edi_law.proofs.Deciding.{Refutes, Refutes-not, Refutes-false, Decides-all, Decides-is_some, said_of, unwrap_of}
 use Rattle.edi_law.proofs.GoodsLemmas.{Decides-parties, buyer-from_NamesBuyer, NamesBuyer-buyer, zip_is}
 use Rattle.edi_law.proofs.HeaderLemmas.{Decides-type, Decides-begins, Decides-function, Decides-dated, Decides-party}
-use Rattle.edi_law.proofs.HeaderLemmas.{Says-party, Begins-begins_as, begins_as-from_Begins, document_number-from_Begins}
-use Rattle.edi_law.proofs.LineLemmas.{item-from_IsLine, Says-quantity_of}
+use Rattle.edi_law.proofs.HeaderLemmas.{Says-party, HasBeginning-begins_as, begins_as-from_HasBeginning, document_number-from_HasBeginning}
+use Rattle.edi_law.proofs.LineLemmas.{article-from_IsLine, Says-quantity_of}
 use Rattle.edi_law.proofs.LowestLemmas.{judged_fault, judged_content}
 use Rattle.edi_law.proofs.PartLemmas.{AreLineGroups-line_groups, line_groups-from_AreLineGroups, of_lines, none_passes}
 use Rattle.edi_law.proofs.PartLemmas.{Says-only, Decides-none, only_some, at_header, IsHeader-header, found-from_OneOrNone}
@@ -188,7 +188,7 @@ lines_there o (group ∷ groups) line quantity referred =
         order_is = subst (IsOfOrder o group) (sym (of_order_is o group of_order.0 of_order.1)) of_order.1;
         order_line_is = NamesLine-group_line group (line_or_none o group referred.0);
         number = line.0.0;
-        line_is = subst (IsLine group line.0.0) (sym (item-from_IsLine group line.0.0 line.0.1 line.0.2)) line.0.2;
+        line_is = subst (IsLine group line.0.0) (sym (article-from_IsLine group line.0.0 line.0.1 line.0.2)) line.0.2;
         quantity_is =
             subst (HasQuantity (codes "12") 1 group)
             (unwrap_of (despatched group) (HasQuantity (codes "12") 1 group) 0 quantity.0.0
@@ -198,16 +198,16 @@ lines_there o (group ∷ groups) line quantity referred =
     )
 
 abbrev despatch_line : List ℕ → Option ℕ → List ℕ → ℕ → DespatchLine
-despatch_line order_ order_line item quantity = record { order = order_; order_line = order_line; gtin = item; quantity = quantity }
+despatch_line order_ order_line article quantity = record { order = order_; order_line = order_line; gtin = article; quantity = quantity }
 
 line_is : (o : Option (List ℕ)) (group : List Segment) (one : DespatchLine) → IsDespatchLine o group one → line_by o group ≡ one
 line_is o group one h =
     let order_line = group_line group in
-    let item = unwrap_or (gtin group) [] in
+    let article = unwrap_or (gtin group) [] in
     let quantity = unwrap_or (despatched group) 0 in
-    ap (λ n. despatch_line n order_line item quantity) (of_order_is o group one.order h.order_is)
-    ∙ ap (λ n. despatch_line one.order n item quantity) (group_line-from_NamesLine group one.order_line h.order_line_is)
-    ∙ ap (λ g. despatch_line one.order one.order_line g quantity) (item-from_IsLine group h.number one.gtin h.line_is)
+    ap (λ n. despatch_line n order_line article quantity) (of_order_is o group one.order h.order_is)
+    ∙ ap (λ n. despatch_line one.order n article quantity) (group_line-from_NamesLine group one.order_line h.order_line_is)
+    ∙ ap (λ g. despatch_line one.order one.order_line g quantity) (article-from_IsLine group h.number one.gtin h.line_is)
     ∙ ap (λ q. despatch_line one.order one.order_line one.gtin q)
     (sym (unwrap_of (despatched group) (HasQuantity (codes "12") 1 group) 0 one.quantity
     (Says-quantity_of (codes "12") 1 group) h.quantity_is))
@@ -258,7 +258,7 @@ contents_there m right =
     let there = units_there o (read_units message) marked.ssccs (of_units _ message (right faults.Line))
     (of_units _ message (right faults.Quantity)) (of_units _ message reference_.2) marked.marked in
     record {
-      number_is = Begins-begins_as (codes "351") message (begins_as-from_Begins (codes "351") message beginning.0 beginning.1);
+      number_is = HasBeginning-begins_as (codes "351") message (begins_as-from_HasBeginning (codes "351") message beginning.0 beginning.1);
       buyer_is = NamesBuyer-buyer message parties.0.0 parties.0.1;
       supplier_is =
           said_of (party (codes "SU") message) (NamesParty (codes "SU") message) [] (Says-party (codes "SU") message)
@@ -292,7 +292,7 @@ contents_are message despatch h =
     let units = map (unit_from (header_order message)) (read_units message) in
     let supplier = unwrap_of (party (codes "SU") message) (NamesParty (codes "SU") message) [] despatch.supplier
     (Says-party (codes "SU") message) h.supplier_is in
-    ap (λ n. despatch_from n (buyer message) su units) (document_number-from_Begins (codes "351") message despatch.number h.number_is)
+    ap (λ n. despatch_from n (buyer message) su units) (document_number-from_HasBeginning (codes "351") message despatch.number h.number_is)
     ∙ ap (λ b. despatch_from despatch.number b su units) (buyer-from_NamesBuyer message despatch.buyer h.buyer_is)
     ∙ ap (λ s. despatch_from despatch.number despatch.buyer s units) (sym supplier)
     ∙ ap (λ us. despatch_from despatch.number despatch.buyer despatch.supplier us) (units_are message despatch h)

@@ -14,7 +14,7 @@ use Rattle.edi_envelope.specs.Segments.{has_tag, component}
 use Rattle.edi_envelope.specs.declared.interchange.RawMessage.{RawMessage}
 use Rattle.edi_messages.specs.Parts.{only, qualified}
 use Rattle.edi_messages.specs.Header.{is_type, begins_as, document_number, function, is_dated, has_date, named_by, party}
-use Rattle.edi_law.specs.Header.{IsOfType, Begins, HasFunction, IsDated, IsNamed, NamesParty}
+use Rattle.edi_law.specs.Header.{IsOfType, HasBeginning, HasFunction, IsDated, IsNamed, NamesParty}
 use Rattle.edi_law.specs.Parts.{HasNone, OfOnly}
 use Rattle.edi_law.specs.Segments.{says}
 use Rattle.edi_law.specs.Values.{IsDocumentNumber, IsDate}
@@ -63,7 +63,7 @@ one_behind unh bgm rest not_ one = sym (rw not_ refl) ∙ one
 
 begun : (code : List ℕ) (unh bgm : Segment) (rest : List Segment)
     → begins_as code (unh ∷ bgm ∷ rest) ≡ true
-    → Begins code (unh ∷ bgm ∷ rest) (component bgm 1 0)
+    → HasBeginning code (unh ∷ bgm ∷ rest) (component bgm 1 0)
 begun code unh bgm rest e =
     let number = and_parts _ _ e in
     let code_ = and_parts _ _ number.0 in
@@ -82,12 +82,12 @@ begun code unh bgm rest e =
       number_right = (Decides-document_number (component bgm 1 0)).0 number.1;
     }
 
-pub Begins-begins_as : (code : List ℕ) (message : List Segment)
+pub HasBeginning-begins_as : (code : List ℕ) (message : List Segment)
     → begins_as code message ≡ true
-    → Begins code message (document_number message)
-Begins-begins_as code [] e = absurd (true≢false (sym e))
-Begins-begins_as code (unh ∷ []) e = absurd (true≢false (sym e))
-Begins-begins_as code (unh ∷ bgm ∷ rest) e = begun code unh bgm rest e
+    → HasBeginning code message (document_number message)
+HasBeginning-begins_as code [] e = absurd (true≢false (sym e))
+HasBeginning-begins_as code (unh ∷ []) e = absurd (true≢false (sym e))
+HasBeginning-begins_as code (unh ∷ bgm ∷ rest) e = begun code unh bgm rest e
 
 begins_there : (code : List ℕ) (unh bgm : Segment) (rest : List Segment) (number : List ℕ)
     → is_bgm bgm ≡ true
@@ -103,22 +103,22 @@ begins_there code unh bgm rest number is not_ none code_ number_ right =
     (and_from _ _ (and_from _ _ is one) ((bytes_eq-Decides (component bgm 0 0) code).1 code_))
     ((Decides-document_number (component bgm 1 0)).1 (subst IsDocumentNumber (sym number_) right))
 
-pub begins_as-from_Begins : (code : List ℕ) (message : List Segment) (number : List ℕ)
-    → Begins code message number
+pub begins_as-from_HasBeginning : (code : List ℕ) (message : List Segment) (number : List ℕ)
+    → HasBeginning code message number
     → begins_as code message ≡ true
-begins_as-from_Begins code message number h =
+begins_as-from_HasBeginning code message number h =
     ap (begins_as code) h.place
     ∙ begins_there code h.unh h.bgm h.rest number h.is_bgm h.first_is_none h.none_later h.code_is h.number_is h.number_right
 
-pub document_number-from_Begins : (code : List ℕ) (message : List Segment) (number : List ℕ)
-    → Begins code message number
+pub document_number-from_HasBeginning : (code : List ℕ) (message : List Segment) (number : List ℕ)
+    → HasBeginning code message number
     → document_number message ≡ number
-document_number-from_Begins code message number h = ap document_number h.place ∙ h.number_is
+document_number-from_HasBeginning code message number h = ap document_number h.place ∙ h.number_is
 
 pub Decides-begins : (code : List ℕ) (message : List Segment)
-    → Decides (begins_as code message) ((number : List ℕ) × Begins code message number)
+    → Decides (begins_as code message) ((number : List ℕ) × HasBeginning code message number)
 Decides-begins code message =
-    ((λ e. (document_number message, Begins-begins_as code message e)), (λ h. begins_as-from_Begins code message h.0 h.1))
+    ((λ e. (document_number message, HasBeginning-begins_as code message e)), (λ h. begins_as-from_HasBeginning code message h.0 h.1))
 
 -- the function
 function_there : (message : List Segment) (code : List ℕ) → ([] ≢ code) → function message ≡ code → HasFunction message code

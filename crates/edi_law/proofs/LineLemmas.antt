@@ -25,12 +25,12 @@ use Rattle.edi_law.proofs.ValueLemmas.{Says-line_number, Says-quantity}
 pub Decides-nothing : {X : Type 0} (xs : List X) → Decides (length xs == 0) (xs ≡ [])
 Decides-nothing xs = Decides-like (length xs == 0) (nil_from_length xs) (λ e. ap length e) (Decides-eqb (length xs) 0)
 
--- the item
+-- the article
 gtin_there : (text : List ℕ) → Says (gtin_of text) (λ digits. IsGtin text × (in_fourteen text ≡ digits))
 gtin_there text = Says-if _ (IsGtin text) (in_fourteen text) (Decides-is_gtin text)
 
-pub Says-item : (lin : Segment) → Says (gtin_in lin) (HasGtin lin)
-Says-item lin =
+pub Says-article : (lin : Segment) → Says (gtin_in lin) (HasGtin lin)
+Says-article lin =
     Says-like (gtin_in lin) (λ digits.
     (component lin 2 1 ≡ codes "SRV") × (IsGtin (component lin 2 0) × (in_fourteen (component lin 2 0) ≡ digits)))
     (HasGtin lin)
@@ -59,36 +59,36 @@ Decides-line_by lin body =
     Decides-and _ _
     (Decides-and _ _
     (Decides-is_some (number (lin ∷ body)) (IsLineNumber (component lin 0 0)) (Says-line_number (component lin 0 0)))
-    (Decides-is_some (gtin_in lin) (HasGtin lin) (Says-item lin)))
+    (Decides-is_some (gtin_in lin) (HasGtin lin) (Says-article lin)))
     (Decides-no_sub_line (element_at lin.elements 3))
 
--- a line, with its number and its item
+-- a line, with its number and its article
 pub line_there : (group : List Segment) → is_line group ≡ true → IsLine group (number_or_zero group) (unwrap_or (gtin group) [])
 line_there [] e = absurd (true≢false (sym e))
 line_there (lin ∷ body) e =
     let h = (Decides-line_by lin body).0 e in
     let n = (Says-line_number (component lin 0 0) h.0.0.0).1 h.0.0.1 in
-    let item = (Says-item lin h.0.1.0).1 h.0.1.1 in
+    let article = (Says-article lin h.0.1.0).1 h.0.1.1 in
     record {
       lin = lin;
       body = body;
       place = refl;
       number_is = subst (IsLineNumber (component lin 0 0)) (sym (ap (λ o. unwrap_or o 0) n)) h.0.0.1;
-      item = subst (HasGtin lin) (sym (ap (λ o. unwrap_or o []) item)) h.0.1.1;
+      article = subst (HasGtin lin) (sym (ap (λ o. unwrap_or o []) article)) h.0.1.1;
       no_sub_line = h.1;
     }
 
 pub is_line-from_IsLine : (group : List Segment) (n : ℕ) (digits : List ℕ) → IsLine group n digits → is_line group ≡ true
 is_line-from_IsLine group n digits h =
-    ap is_line h.place ∙ (Decides-line_by h.lin h.body).1 (((n, h.number_is), (digits, h.item)), h.no_sub_line)
+    ap is_line h.place ∙ (Decides-line_by h.lin h.body).1 (((n, h.number_is), (digits, h.article)), h.no_sub_line)
 
 pub number-from_IsLine : (group : List Segment) (n : ℕ) (digits : List ℕ) → IsLine group n digits → number_or_zero group ≡ n
 number-from_IsLine group n digits h =
     ap number_or_zero h.place ∙ ap (λ o. unwrap_or o 0) ((Says-line_number (component h.lin 0 0) n).1 h.number_is)
 
-pub item-from_IsLine : (group : List Segment) (n : ℕ) (digits : List ℕ) → IsLine group n digits → unwrap_or (gtin group) [] ≡ digits
-item-from_IsLine group n digits h =
-    ap (λ segments. unwrap_or (gtin segments) []) h.place ∙ ap (λ o. unwrap_or o []) ((Says-item h.lin digits).1 h.item)
+pub article-from_IsLine : (group : List Segment) (n : ℕ) (digits : List ℕ) → IsLine group n digits → unwrap_or (gtin group) [] ≡ digits
+article-from_IsLine group n digits h =
+    ap (λ segments. unwrap_or (gtin segments) []) h.place ∙ ap (λ o. unwrap_or o []) ((Says-article h.lin digits).1 h.article)
 
 pub Decides-line : (group : List Segment) → Decides (is_line group) ((number : ℕ) × (gtin : List ℕ) × IsLine group number gtin)
 Decides-line group = (

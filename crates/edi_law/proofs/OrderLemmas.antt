@@ -22,8 +22,8 @@ use Rattle.edi_law.specs.Order.{AreNumbered, IsRight, IsOrderLine, IsOrder}
 use Rattle.edi_law.specs.Parts.{OfLines}
 use Rattle.edi_law.proofs.Deciding.{Refutes, or_refuted, Refutes-not, Refutes-false, Decides-all, Decides-is_some, said_of, unwrap_of}
 use Rattle.edi_law.proofs.HeaderLemmas.{Decides-party, Decides-type, Decides-begins, Decides-function, Decides-dated}
-use Rattle.edi_law.proofs.HeaderLemmas.{Says-party, Begins-begins_as, begins_as-from_Begins, document_number-from_Begins}
-use Rattle.edi_law.proofs.LineLemmas.{line_there, is_line-from_IsLine, number-from_IsLine, item-from_IsLine}
+use Rattle.edi_law.proofs.HeaderLemmas.{Says-party, HasBeginning-begins_as, begins_as-from_HasBeginning, document_number-from_HasBeginning}
+use Rattle.edi_law.proofs.LineLemmas.{line_there, is_line-from_IsLine, number-from_IsLine, article-from_IsLine}
 use Rattle.edi_law.proofs.LineLemmas.{Says-quantity_of, Refutes-number_twice}
 use Rattle.edi_law.proofs.LowestLemmas.{judged_fault, judged_content}
 use Rattle.edi_law.proofs.PartLemmas.{Refutes-lines, AreLineGroups-line_groups, line_groups-from_AreLineGroups, Decides-lines}
@@ -102,16 +102,16 @@ lines_there (group ∷ groups) e q =
     )
 
 abbrev order_line : ℕ → List ℕ → ℕ → OrderLine
-order_line number item quantity = record { line = number; gtin = item; quantity = quantity }
+order_line number article quantity = record { line = number; gtin = article; quantity = quantity }
 
 line_is : (group : List Segment) (line : OrderLine) → IsOrderLine group line → line_of group ≡ line
 line_is group line h =
     let number = number-from_IsLine group line.line line.gtin h.line_is in
-    let item = item-from_IsLine group line.line line.gtin h.line_is in
+    let article = article-from_IsLine group line.line line.gtin h.line_is in
     let quantity = sym (unwrap_of (ordered group) (HasQuantity (codes "21") 1 group) 0 line.quantity
     (Says-quantity_of (codes "21") 1 group) h.quantity_is) in
     ap (λ n. order_line n (unwrap_or (gtin group) []) (unwrap_or (ordered group) 0)) number
-    ∙ ap (λ g. order_line line.line g (unwrap_or (ordered group) 0)) item
+    ∙ ap (λ g. order_line line.line g (unwrap_or (ordered group) 0)) article
     ∙ ap (λ q. order_line line.line line.gtin q) quantity
 
 lines_are : (groups : List (List Segment)) (lines : List OrderLine) → AllZip IsOrderLine groups lines → map line_of groups ≡ lines
@@ -133,8 +133,8 @@ contents_there m right =
     let numbered = or_parts _ _ ((refutes m faults.Line).1 (right faults.Line)) in
     record {
       number_is =
-          Begins-begins_as (codes "220") message
-          (begins_as-from_Begins (codes "220") message (right faults.Beginning).0 (right faults.Beginning).1);
+          HasBeginning-begins_as (codes "220") message
+          (begins_as-from_HasBeginning (codes "220") message (right faults.Beginning).0 (right faults.Beginning).1);
       buyer_is =
           said_of (party (codes "BY") message) (NamesParty (codes "BY") message) [] (Says-party (codes "BY") message)
           ((Decides-party (codes "BY") message).1 parties.0);
@@ -161,7 +161,7 @@ contents_are message order h =
     (Says-party (codes "SU") message) h.supplier_is in
     let lines = map line_of (line_groups message) in
     ap (λ n. order_from n (unwrap_or (party (codes "BY") message) []) (unwrap_or (party (codes "SU") message) []) lines)
-    (document_number-from_Begins (codes "220") message order.number h.number_is)
+    (document_number-from_HasBeginning (codes "220") message order.number h.number_is)
     ∙ ap (λ b. order_from order.number b (unwrap_or (party (codes "SU") message) []) lines) (sym buyer)
     ∙ ap (λ s. order_from order.number order.buyer s lines) (sym supplier)
     ∙ ap (λ ls. order_from order.number order.buyer order.supplier ls) (list_is message order.lines h.lines_are)

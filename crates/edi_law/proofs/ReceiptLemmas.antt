@@ -28,8 +28,8 @@ use Rattle.edi_law.specs.Units.{OfUnits, AreLines, HasSscc, IsUnit, AreMarked}
 use Rattle.edi_law.proofs.Deciding.{Refutes, Refutes-not, Refutes-false, said_of, unwrap_of}
 use Rattle.edi_law.proofs.GoodsLemmas.{Decides-parties, buyer-from_NamesBuyer, NamesBuyer-buyer, zip_is}
 use Rattle.edi_law.proofs.HeaderLemmas.{Decides-type, Decides-begins, Decides-function, Decides-dated, Decides-party}
-use Rattle.edi_law.proofs.HeaderLemmas.{Says-party, Begins-begins_as, begins_as-from_Begins, document_number-from_Begins}
-use Rattle.edi_law.proofs.LineLemmas.{item-from_IsLine, Says-amount}
+use Rattle.edi_law.proofs.HeaderLemmas.{Says-party, HasBeginning-begins_as, begins_as-from_HasBeginning, document_number-from_HasBeginning}
+use Rattle.edi_law.proofs.LineLemmas.{article-from_IsLine, Says-amount}
 use Rattle.edi_law.proofs.LowestLemmas.{judged_fault, judged_content}
 use Rattle.edi_law.proofs.PartLemmas.{AreLineGroups-line_groups, line_groups-from_AreLineGroups, of_lines}
 use Rattle.edi_law.proofs.PartLemmas.{found-from_OneOrNone, OneOrNone-found, Decides-one_or_none}
@@ -79,7 +79,7 @@ received_is group a r d h =
     some
 
 abbrev receipt_line : List ℕ → ℕ → ℕ → ℕ → ReceiptLine
-receipt_line item a r d = record { gtin = item; accepted = a; returned = r; destroyed = d }
+receipt_line article a r d = record { gtin = article; accepted = a; returned = r; destroyed = d }
 
 line_is : (group : List Segment) (line : ReceiptLine) → IsReceiptLine group line → line_of group ≡ line
 line_is group line h =
@@ -87,7 +87,7 @@ line_is group line h =
     let r = unwrap_or (returned group) 0 in
     let d = unwrap_or (destroyed group) 0 in
     let of_none = λ (o : Option ℕ). unwrap_or o 0 in
-    ap (λ g. receipt_line g a r d) (item-from_IsLine group h.number line.gtin h.line_is)
+    ap (λ g. receipt_line g a r d) (article-from_IsLine group h.number line.gtin h.line_is)
     ∙ ap (λ n. receipt_line line.gtin n r d) (ap of_none (kind_is (codes "194") group h.accepted h.received.accepted_is) ∙ h.accepted_is)
     ∙ ap (λ n. receipt_line line.gtin line.accepted n d)
     (ap of_none (kind_is (codes "195") group h.returned h.received.returned_is) ∙ h.returned_is)
@@ -95,7 +95,7 @@ line_is group line h =
     (ap of_none (kind_is (codes "196") group h.destroyed h.received.destroyed_is) ∙ h.destroyed_is)
 
 abbrev IsSomeLine : List Segment → Type 0
-IsSomeLine group = (n : ℕ) × (item : List ℕ) × IsLine group n item
+IsSomeLine group = (n : ℕ) × (article : List ℕ) × IsLine group n article
 
 lines_there : (groups : List (List Segment))
     → AllByRecursion IsSomeLine groups
@@ -106,7 +106,7 @@ lines_there (group ∷ groups) line e =
     let both = and_parts (is_received group) (list_all is_received groups) e in (
       record {
         number = line.0.0;
-        line_is = subst (IsLine group line.0.0) (sym (item-from_IsLine group line.0.0 line.0.1 line.0.2)) line.0.2;
+        line_is = subst (IsLine group line.0.0) (sym (article-from_IsLine group line.0.0 line.0.1 line.0.2)) line.0.2;
         accepted = accepted group;
         returned = returned group;
         destroyed = destroyed group;
@@ -233,7 +233,7 @@ contents_there m right =
     let parties = right faults.Parties in
     let marked = of_units AreMarked message (right faults.Unit).units in
     record {
-      number_is = Begins-begins_as (codes "632") message (begins_as-from_Begins (codes "632") message beginning.0 beginning.1);
+      number_is = HasBeginning-begins_as (codes "632") message (begins_as-from_HasBeginning (codes "632") message beginning.0 beginning.1);
       buyer_is = NamesBuyer-buyer message parties.0.0 parties.0.1;
       supplier_is =
           said_of (party (codes "SU") message) (NamesParty (codes "SU") message) [] (Says-party (codes "SU") message)
@@ -257,7 +257,7 @@ contents_are message receipt h =
     let given = h.units_are in
     let supplier = unwrap_of (party (codes "SU") message) (NamesParty (codes "SU") message) [] receipt.supplier
     (Says-party (codes "SU") message) h.supplier_is in
-    ap (λ n. receipt_from n (buyer message) su units) (document_number-from_Begins (codes "632") message receipt.number h.number_is)
+    ap (λ n. receipt_from n (buyer message) su units) (document_number-from_HasBeginning (codes "632") message receipt.number h.number_is)
     ∙ ap (λ b. receipt_from receipt.number b su units) (buyer-from_NamesBuyer message receipt.buyer h.buyer_is)
     ∙ ap (λ s. receipt_from receipt.number receipt.buyer s units) (sym supplier)
     ∙ ap (λ us. receipt_from receipt.number receipt.buyer receipt.supplier us)

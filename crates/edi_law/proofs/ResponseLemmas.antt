@@ -39,9 +39,9 @@ use Rattle.edi_law.specs.Values.{IsDocumentNumber}
 use Rattle.edi_law.proofs.Deciding.{Says, Refutes, Refutes-not, Refutes-and, Refutes-false, Decides-all, Decides-is_some}
 use Rattle.edi_law.proofs.Deciding.{Decides-of, Decides-read, chosen, said_of, unwrap_of}
 use Rattle.edi_law.proofs.HeaderLemmas.{Decides-type, Decides-begins, Decides-function, function-from_HasFunction}
-use Rattle.edi_law.proofs.HeaderLemmas.{Decides-dated, Decides-party, Says-party, Begins-begins_as, begins_as-from_Begins}
-use Rattle.edi_law.proofs.HeaderLemmas.{document_number-from_Begins}
-use Rattle.edi_law.proofs.LineLemmas.{Decides-line, item-from_IsLine, Says-quantity_of}
+use Rattle.edi_law.proofs.HeaderLemmas.{Decides-dated, Decides-party, Says-party, HasBeginning-begins_as, begins_as-from_HasBeginning}
+use Rattle.edi_law.proofs.HeaderLemmas.{document_number-from_HasBeginning}
+use Rattle.edi_law.proofs.LineLemmas.{Decides-line, article-from_IsLine, Says-quantity_of}
 use Rattle.edi_law.proofs.LowestLemmas.{judged_fault, judged_content}
 use Rattle.edi_law.proofs.PartLemmas.{of_lines, AreLineGroups-line_groups, line_groups-from_AreLineGroups, Decides-lines}
 use Rattle.edi_law.proofs.PartLemmas.{Decides-none, Decides-of_only, only_some}
@@ -347,21 +347,21 @@ lines_there number (group ∷ groups) line action_ change referred = (
   record {
     order_line_is = NamesLine-group_line group (line_or_none number group referred.0);
     number = line.0.0;
-    line_is = subst (IsLine group line.0.0) (sym (item-from_IsLine group line.0.0 line.0.1 line.0.2)) line.0.2;
+    line_is = subst (IsLine group line.0.0) (sym (article-from_IsLine group line.0.0 line.0.1 line.0.2)) line.0.2;
     answer_is = answer_there group action_.0.0 action_.0.1 change.0;
   },
   lines_there number groups line.1 action_.1 change.1 referred.1,
 )
 
 abbrev answer_line : Option ℕ → List ℕ → LineAnswer → AnswerLine
-answer_line order_line item answer = record { order_line = order_line; gtin = item; answer = answer }
+answer_line order_line article answer = record { order_line = order_line; gtin = article; answer = answer }
 
 line_is : (group : List Segment) (one : AnswerLine) → IsAnswerLine group one → line_of group ≡ one
 line_is group one h =
-    let item = unwrap_or (gtin group) [] in
+    let article = unwrap_or (gtin group) [] in
     let answer = unwrap_or (line_answer group) line_answers.Accepted in
-    ap (λ n. answer_line n item answer) (group_line-from_NamesLine group one.order_line h.order_line_is)
-    ∙ ap (λ g. answer_line one.order_line g answer) (item-from_IsLine group h.number one.gtin h.line_is)
+    ap (λ n. answer_line n article answer) (group_line-from_NamesLine group one.order_line h.order_line_is)
+    ∙ ap (λ g. answer_line one.order_line g answer) (article-from_IsLine group h.number one.gtin h.line_is)
     ∙ ap (λ o. answer_line one.order_line one.gtin (unwrap_or o line_answers.Accepted)) (answer_is group one.answer h.answer_is)
 
 lines_are : (groups : List (List Segment)) (lines : List AnswerLine) → AllZip IsAnswerLine groups lines → map line_of groups ≡ lines
@@ -429,7 +429,7 @@ contents_there m right =
     let extent_ = right faults.Function in
     let reference = right faults.Reference in
     record {
-      number_is = Begins-begins_as (codes "231") message (begins_as-from_Begins (codes "231") message beginning.0 beginning.1);
+      number_is = HasBeginning-begins_as (codes "231") message (begins_as-from_HasBeginning (codes "231") message beginning.0 beginning.1);
       buyer_is =
           said_of (party (codes "BY") message) (NamesParty (codes "BY") message) [] (Says-party (codes "BY") message)
           ((Decides-party (codes "BY") message).1 parties.0);
@@ -452,7 +452,7 @@ contents_are message response h =
     let su = unwrap_or (party (codes "SU") message) [] in
     let on = unwrap_or (order message) [] in
     let answer = answer_of (spec.extent message) (read_lines message) in
-    let number = document_number-from_Begins (codes "231") message response.number h.number_is in
+    let number = document_number-from_HasBeginning (codes "231") message response.number h.number_is in
     let buyer = unwrap_of (party (codes "BY") message) (NamesParty (codes "BY") message) [] response.buyer
     (Says-party (codes "BY") message) h.buyer_is in
     let supplier = unwrap_of (party (codes "SU") message) (NamesParty (codes "SU") message) [] response.supplier

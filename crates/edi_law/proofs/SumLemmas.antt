@@ -1,4 +1,4 @@
--- The sums over the lines of an item.
+-- The sums over the lines of an article.
 use Rattle.std.proofs.Common.{◌≡◌, ℕ, ◌+◌, ◌≤◌, ◌⊎◌, inl, inr, List, [], ◌∷◌, filter, map, refl, sym, ap, subst, ◌∙◌, arith}
 use Rattle.std.specs.Prelude.{nat_le, Decides}
 use Rattle.std.specs.List.{AllByRecursion}
@@ -17,39 +17,39 @@ use Rattle.edi_law.proofs.Deciding.{Decides-leb, Decides-all}
 
 module _ (q : ReceiptLine → ℕ) where
   abbrev summed : List ℕ → List ReceiptLine → ℕ
-  summed item lines = sum_of item (map (λ (line : ReceiptLine). record { gtin = line.gtin; quantity = q line }) lines)
+  summed article lines = sum_of article (map (λ (line : ReceiptLine). record { gtin = line.gtin; quantity = q line }) lines)
 
-  summed_is : (item : List ℕ) (lines : List ReceiptLine) → summed item lines ≡ total q item lines
-  summed_is item [] = refl
-  summed_is item (line ∷ lines) =
-      let later = summed_is item lines in
-      elim (cases_Bool (bytes_eq line.gtin item)) [
-        | inl is ↦ rw is (ap (λ rest. q line + rest) later ∙ sym (sum_by-cons q line (filter (λ one. bytes_eq one.gtin item) lines)))
+  summed_is : (article : List ℕ) (lines : List ReceiptLine) → summed article lines ≡ total q article lines
+  summed_is article [] = refl
+  summed_is article (line ∷ lines) =
+      let later = summed_is article lines in
+      elim (cases_Bool (bytes_eq line.gtin article)) [
+        | inl is ↦ rw is (ap (λ rest. q line + rest) later ∙ sym (sum_by-cons q line (filter (λ one. bytes_eq one.gtin article) lines)))
         | inr not_ ↦ rw not_ (omega (arith, later))
       ]
 
-  other_items : (T : List ℕ → ℕ) (item : List ℕ) (lines : List ReceiptLine)
+  other_articles : (T : List ℕ → ℕ) (article : List ℕ) (lines : List ReceiptLine)
       → AllByRecursion (λ line. T line.gtin ≤ greatest) lines
-      → (total q item lines ≡ 0) ⊎ (T item ≤ greatest)
-  other_items T item [] h = inl refl
-  other_items T item (line ∷ lines) h =
-      elim (cases_Bool (bytes_eq line.gtin item)) [
-        | inl is ↦ inr (subst (λ one. T one ≤ greatest) ((bytes_eq-Decides line.gtin item).0 is) h.0)
-        | inr not_ ↦ rw not_ (other_items T item lines h.1)
+      → (total q article lines ≡ 0) ⊎ (T article ≤ greatest)
+  other_articles T article [] h = inl refl
+  other_articles T article (line ∷ lines) h =
+      elim (cases_Bool (bytes_eq line.gtin article)) [
+        | inl is ↦ inr (subst (λ one. T one ≤ greatest) ((bytes_eq-Decides line.gtin article).0 is) h.0)
+        | inr not_ ↦ rw not_ (other_articles T article lines h.1)
       ]
 
-  each_item : (lines : List ReceiptLine)
+  each_article : (lines : List ReceiptLine)
       → AllByRecursion (λ line. summed line.gtin lines ≤ greatest) lines
-      → (item : List ℕ)
-      → total q item lines ≤ greatest
-  each_item lines h item =
-      elim (other_items (λ one. summed one lines) item lines h) [
+      → (article : List ℕ)
+      → total q article lines ≤ greatest
+  each_article lines h article =
+      elim (other_articles (λ one. summed one lines) article lines h) [
         | inl none ↦ omega (arith, none)
-        | inr small ↦ subst (λ n. n ≤ greatest) (summed_is item lines) small
+        | inr small ↦ subst (λ n. n ≤ greatest) (summed_is article lines) small
       ]
 
   each_line : (T : List ℕ → ℕ)
-      → ((item : List ℕ) → T item ≤ greatest)
+      → ((article : List ℕ) → T article ≤ greatest)
       → (lines : List ReceiptLine)
       → AllByRecursion (λ line. T line.gtin ≤ greatest) lines
   each_line T h [] = tt
@@ -57,10 +57,10 @@ module _ (q : ReceiptLine → ℕ) where
 
   Decides-sums : (lines : List ReceiptLine)
       → Decides (sums_within (map (λ (line : ReceiptLine). record { gtin = line.gtin; quantity = q line }) lines))
-      ((item : List ℕ) → total q item lines ≤ greatest)
+      ((article : List ℕ) → total q article lines ≤ greatest)
   Decides-sums lines =
-      Decides-like _ (each_item lines)
-      (λ h. each_line (λ item. summed item lines) (λ item. subst (λ n. n ≤ greatest) (sym (summed_is item lines)) (h item))
+      Decides-like _ (each_article lines)
+      (λ h. each_line (λ article. summed article lines) (λ article. subst (λ n. n ≤ greatest) (sym (summed_is article lines)) (h article))
       lines)
       (Decides-at _ _ (list_all-map _ _ lines)
       (Decides-all (λ line. nat_le (summed line.gtin lines) greatest) (λ line. summed line.gtin lines ≤ greatest)

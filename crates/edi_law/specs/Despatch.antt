@@ -10,7 +10,7 @@ use Rattle.edi_messages.specs.declared.fault.MessageFault.TheVariants.{Control, 
 use Rattle.edi_goods.specs.declared.despatch.Despatch.{Despatch}
 use Rattle.edi_goods.specs.declared.despatch.DespatchLine.{DespatchLine}
 use Rattle.edi_goods.specs.declared.despatch.Unit.{Unit as DespatchUnit}
-use Rattle.edi_law.specs.Header.{IsOfType, Begins, HasFunction, IsDated, NamesParty, NamesBuyer}
+use Rattle.edi_law.specs.Header.{IsOfType, HasBeginning, HasFunction, IsDated, NamesParty, NamesBuyer}
 use Rattle.edi_law.specs.Lines.{IsLine, HasQuantity}
 use Rattle.edi_law.specs.Parts.{HasNone, OfHeader, OfLines, OfOnly, OneOrNone}
 use Rattle.edi_law.specs.References.{is_rff_on, NamesOrder, NamesLineOrNone, NamesLine}
@@ -35,7 +35,7 @@ IsReferred inherited group =
 
 abbrev pub IsRight : RawMessage → MessageFault → Type 0
 IsRight m MessageType = IsOfType (codes "DESADV") m
-IsRight m Beginning = (number : List ℕ) × Begins (codes "351") m.segments number
+IsRight m Beginning = (number : List ℕ) × HasBeginning (codes "351") m.segments number
 IsRight m Function = HasFunction m.segments (codes "9")
 IsRight m Date = IsDated m.segments
 IsRight m Parties = ((buyer : Option (List ℕ)) × NamesBuyer m.segments buyer)
@@ -66,7 +66,7 @@ pub record IsDespatchUnit (inherited : Option (List ℕ)) (segments : List Segme
 
 -- the advice is what the message says
 pub record IsDespatch (message : List Segment) (despatch : Despatch) : Type 0 where
-  pub number_is : Begins (codes "351") message despatch.number
+  pub number_is : HasBeginning (codes "351") message despatch.number
   pub buyer_is : NamesBuyer message despatch.buyer
   pub supplier_is : NamesParty (codes "SU") message despatch.supplier
   pub inherited : Option (List ℕ)

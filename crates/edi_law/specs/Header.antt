@@ -16,7 +16,7 @@ pub record IsOfType (type : List ℕ) (message : RawMessage) : Type 0 where
   pub agency_is : message.agency ≡ codes "UN"
 
 -- BGM stands after UNH and nowhere else, with this code and this document number, which is valid
-pub record Begins (code : List ℕ) (message : List Segment) (number : List ℕ) : Type 0 where
+pub record HasBeginning (code : List ℕ) (message : List Segment) (number : List ℕ) : Type 0 where
   pub unh : Segment
   pub bgm : Segment
   pub rest : List Segment

@@ -15,13 +15,13 @@ pub record HasGtin (lin : Segment) (gtin : List ℕ) : Type 0 where
   pub right : IsGtin (component lin 2 0)
   pub gtin_is : in_fourteen (component lin 2 0) ≡ gtin
 
--- LIN has a line number and an item, and no sub-line
+-- LIN has a line number and an article, and no sub-line
 pub record IsLine (group : List Segment) (number : ℕ) (gtin : List ℕ) : Type 0 where
   pub lin : Segment
   pub body : List Segment
   pub place : group ≡ lin ∷ body
   pub number_is : IsLineNumber (component lin 0 0) number
-  pub item : HasGtin lin gtin
+  pub article : HasGtin lin gtin
   pub no_sub_line : element_at lin.elements 3 ≡ []
 
 -- a QTY has a valid quantity from a least one on, in pieces

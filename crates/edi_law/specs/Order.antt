@@ -9,7 +9,7 @@ use Rattle.edi_messages.specs.declared.fault.MessageFault.TheVariants.{Summary, 
 use Rattle.edi_messages.specs.declared.fault.MessageFault.TheVariants.{Control, NoLine, Memory}
 use Rattle.edi_orders.specs.declared.order.Order.{Order}
 use Rattle.edi_orders.specs.declared.order.OrderLine.{OrderLine}
-use Rattle.edi_law.specs.Header.{IsOfType, Begins, HasFunction, IsDated, NamesParty}
+use Rattle.edi_law.specs.Header.{IsOfType, HasBeginning, HasFunction, IsDated, NamesParty}
 use Rattle.edi_law.specs.Lines.{IsLine, HasQuantity, NoneTwice}
 use Rattle.edi_law.specs.Parts.{OfLines}
 use Rattle.edi_law.specs.Summary.{IsClosed, IsControlled, HasLine}
@@ -22,7 +22,7 @@ pub record AreNumbered (groups : List (List Segment)) : Type 0 where
 
 abbrev pub IsRight : RawMessage → MessageFault → Type 0
 IsRight m MessageType = IsOfType (codes "ORDERS") m
-IsRight m Beginning = (number : List ℕ) × Begins (codes "220") m.segments number
+IsRight m Beginning = (number : List ℕ) × HasBeginning (codes "220") m.segments number
 IsRight m Function = HasFunction m.segments (codes "9")
 IsRight m Date = IsDated m.segments
 IsRight m Parties = ((buyer : List ℕ) × NamesParty (codes "BY") m.segments buyer)
@@ -44,7 +44,7 @@ pub record IsOrderLine (group : List Segment) (line : OrderLine) : Type 0 where
 
 -- the order is what the message says
 pub record IsOrder (message : List Segment) (order : Order) : Type 0 where
-  pub number_is : Begins (codes "220") message order.number
+  pub number_is : HasBeginning (codes "220") message order.number
   pub buyer_is : NamesParty (codes "BY") message order.buyer
   pub supplier_is : NamesParty (codes "SU") message order.supplier
   pub lines_are : OfLines (λ groups. AllZip IsOrderLine groups order.lines) message

@@ -2,6 +2,7 @@
 use Rattle.std.specs.Prelude.{◌≡◌, ◌≤◌, ◌||◌, ⊤, ℕ, true, List, filter, sum_by, is_some, unwrap_or, codes, Option}
 use Rattle.std.specs.List.{AllByRecursion, AllZip}
 use Rattle.std.specs.Str.{bytes_eq}
+use Rattle.edi_base.specs.Limits.{greatest}
 use Rattle.edi_segments.specs.declared.segment.Segment.{Segment}
 use Rattle.edi_envelope.specs.declared.interchange.RawMessage.{RawMessage}
 use Rattle.edi_messages.specs.declared.fault.MessageFault.{MessageFault}
@@ -11,8 +12,7 @@ use Rattle.edi_messages.specs.declared.fault.MessageFault.TheVariants.{Control, 
 use Rattle.edi_goods.specs.declared.receipt.Receipt.{Receipt}
 use Rattle.edi_goods.specs.declared.receipt.ReceiptLine.{ReceiptLine}
 use Rattle.edi_goods.specs.declared.receipt.ReceiptUnit.{ReceiptUnit}
-use Rattle.edi_law.specs.Values.{nine_digits}
-use Rattle.edi_law.specs.Header.{IsOfType, Begins, HasFunction, IsDated, NamesParty, NamesBuyer}
+use Rattle.edi_law.specs.Header.{IsOfType, HasBeginning, HasFunction, IsDated, NamesParty, NamesBuyer}
 use Rattle.edi_law.specs.Lines.{IsLine, IsAmount}
 use Rattle.edi_law.specs.Parts.{OfLines, OneOrNone}
 use Rattle.edi_law.specs.Segments.{says}
@@ -42,15 +42,15 @@ pub record IsReceiptLine (group : List Segment) (line : ReceiptLine) : Type 0 wh
   pub returned_is : unwrap_or returned 0 ≡ line.returned
   pub destroyed_is : unwrap_or destroyed 0 ≡ line.destroyed
 
--- the quantities of all lines of one item, in sum
+-- the quantities of all lines of one article, in sum
 abbrev pub total : (ReceiptLine → ℕ) → List ℕ → List ReceiptLine → ℕ
-total quantity item lines = sum_by quantity (filter (λ line. bytes_eq line.gtin item) lines)
+total quantity article lines = sum_by quantity (filter (λ line. bytes_eq line.gtin article) lines)
 
--- no sum of a kind is above 999,999,999 for any item
+-- no sum of a kind is above the greatest for any article
 pub record AreWithin (lines : List ReceiptLine) : Type 0 where
-  pub accepted : (item : List ℕ) → total (λ line. line.accepted) item lines ≤ nine_digits
-  pub returned : (item : List ℕ) → total (λ line. line.returned) item lines ≤ nine_digits
-  pub destroyed : (item : List ℕ) → total (λ line. line.destroyed) item lines ≤ nine_digits
+  pub accepted : (article : List ℕ) → total (λ line. line.accepted) article lines ≤ greatest
+  pub returned : (article : List ℕ) → total (λ line. line.returned) article lines ≤ greatest
+  pub destroyed : (article : List ℕ) → total (λ line. line.destroyed) article lines ≤ greatest
 
 -- the groups of a unit have valid quantities, and these valid sums
 pub record AreReceived (groups : List (List Segment)) : Type 0 where
@@ -60,7 +60,7 @@ pub record AreReceived (groups : List (List Segment)) : Type 0 where
 
 abbrev pub IsRight : RawMessage → MessageFault → Type 0
 IsRight m MessageType = IsOfType (codes "RECADV") m
-IsRight m Beginning = (number : List ℕ) × Begins (codes "632") m.segments number
+IsRight m Beginning = (number : List ℕ) × HasBeginning (codes "632") m.segments number
 IsRight m Function = HasFunction m.segments (codes "9")
 IsRight m Date = IsDated m.segments
 IsRight m Parties = ((buyer : Option (List ℕ)) × NamesBuyer m.segments buyer)
@@ -81,7 +81,7 @@ pub record IsReceiptUnit (segments : List Segment) (unit : ReceiptUnit) : Type 0
 
 -- the advice is what the message says
 pub record IsReceipt (message : List Segment) (receipt : Receipt) : Type 0 where
-  pub number_is : Begins (codes "632") message receipt.number
+  pub number_is : HasBeginning (codes "632") message receipt.number
   pub buyer_is : NamesBuyer message receipt.buyer
   pub supplier_is : NamesParty (codes "SU") message receipt.supplier
   pub units_are : OfUnits (λ units. AllZip IsReceiptUnit units receipt.units) message

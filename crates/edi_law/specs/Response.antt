@@ -14,7 +14,7 @@ use Rattle.edi_orders.specs.declared.response.AnswerLine.{AnswerLine}
 use Rattle.edi_orders.specs.declared.response.LineAnswer.{LineAnswer}
 use Rattle.edi_orders.specs.declared.response.LineAnswer.TheVariants as line_answers
 use Rattle.edi_orders.specs.declared.response.Response.{Response}
-use Rattle.edi_law.specs.Header.{IsOfType, Begins, HasFunction, IsDated, NamesParty}
+use Rattle.edi_law.specs.Header.{IsOfType, HasBeginning, HasFunction, IsDated, NamesParty}
 use Rattle.edi_law.specs.Lines.{IsLine, HasQuantity}
 use Rattle.edi_law.specs.Parts.{HasNone, OfLines, OfOnly}
 use Rattle.edi_law.specs.References.{is_rff_on, NamesOrder, NamesLineOrNone, HeaderNames, NamesLine}
@@ -76,7 +76,7 @@ IsReferred order group = HasNone is_rff_on group
 
 abbrev pub IsRight : RawMessage → MessageFault → Type 0
 IsRight m MessageType = IsOfType (codes "ORDRSP") m
-IsRight m Beginning = (number : List ℕ) × Begins (codes "231") m.segments number
+IsRight m Beginning = (number : List ℕ) × HasBeginning (codes "231") m.segments number
 IsRight m Function = (extent : Extent) × HasExtent m.segments extent
 IsRight m Date = IsDated m.segments
 IsRight m Parties = ((buyer : List ℕ) × NamesParty (codes "BY") m.segments buyer)
@@ -113,7 +113,7 @@ HasAnswers message (answers.Lines lines) =
 
 -- the response is what the message says
 pub record IsResponse (message : List Segment) (response : Response) : Type 0 where
-  pub number_is : Begins (codes "231") message response.number
+  pub number_is : HasBeginning (codes "231") message response.number
   pub buyer_is : NamesParty (codes "BY") message response.buyer
   pub supplier_is : NamesParty (codes "SU") message response.supplier
   pub order_is : HeaderNames message response.order

@@ -2,14 +2,10 @@
 use Rattle.std.specs.Prelude.{◌≡◌, ℕ, ◌≤◌, ◌<◌, ◌⊎◌, List, [], ◌∷◌, ◌++◌, length, codes, pos, ⊤}
 use Rattle.std.specs.List.{AllByRecursion}
 use Rattle.jiff.specs.Words.{days_in_month}
-use Rattle.edi_base.specs.Limits.{number_of}
+use Rattle.edi_base.specs.Limits.{number_of, greatest}
 
 abbrev pub IsDigit : ℕ → Type 0
 IsDigit byte = (48 ≤ byte) × (byte ≤ 57)
-
--- the greatest number of nine digits, which no quantity is above
-abbrev pub nine_digits : ℕ
-nine_digits = 999_999_999
 
 -- a document number or the number of an order: 1 to 35 bytes of 0x20 to 0x7E
 pub record IsDocumentNumber (bytes : List ℕ) : Type 0 where
@@ -45,7 +41,7 @@ pub record IsQuantity (bytes : List ℕ) (number : ℕ) : Type 0 where
   pub digits : AllByRecursion IsDigit whole
   pub no_fraction : IsNoFraction fraction
   pub number_is : number_of whole ≡ number
-  pub at_most : number ≤ nine_digits
+  pub at_most : number ≤ greatest
 
 -- a day of the Gregorian calendar
 pub record IsInCalendar (year month day : ℕ) : Type 0 where
