@@ -13,8 +13,8 @@ use Rattle.edi_envelope.specs.declared.fault.OpenFault.{OpenFault}
 use Rattle.edi_envelope.specs.declared.fault.OpenFault.TheVariants.{Token, Envelope}
 use Rattle.edi_envelope.specs.declared.interchange.Interchange.{Interchange}
 use Rattle.hub_tables.specs.Rows.{same}
-use Rattle.hub_law.specs.Opening.{framed, enveloped, interchange_in, addressed}
-use Rattle.hub_core.specs.Opened.{told_as, HasCode, Sufficed, RanOut}
+use Rattle.hub_law.specs.Opening.{told_as, interchange_in, addressed}
+use Rattle.hub_core.specs.Opened.{HasCode, Sufficed, RanOut}
 
 fails_is : (fault : TokenFault) (given : Result Tokens TokenFault) → (fault ≢ token.Memory) → Fails fault given → given ≡ Err fault
 fails_is token.TooLong given not_memory fails = fails
@@ -31,7 +31,7 @@ pub token_fault : (bytes : List ℕ) (fault : TokenFault) → HasCode (Token fau
     → interchange_in bytes ≡ told_as (Err (Token fault))
 unfolding interchange_in
 token_fault bytes fault has fails =
-    ap enveloped (fails_is fault (tokens_of bytes) (λ e. has (inl (ap (λ fault. Token fault) e))) fails)
+    ap (λ given. told_as (read_as given)) (fails_is fault (tokens_of bytes) (λ e. has (inl (ap (λ fault. Token fault) e))) fails)
 
 pub envelope_fault : (bytes : List ℕ) (tokens : Tokens) (fault : EnvelopeFault)
     → tokens_of bytes ≡ Ok tokens
@@ -40,14 +40,15 @@ pub envelope_fault : (bytes : List ℕ) (tokens : Tokens) (fault : EnvelopeFault
     → interchange_in bytes ≡ told_as (Err (Envelope fault))
 unfolding interchange_in
 envelope_fault bytes tokens fault e has fails =
-    ap enveloped e ∙ ap framed (fails (λ e. has (inr (ap (λ fault. Envelope fault) e))))
+    ap (λ given. told_as (read_as given)) e ∙ ap (λ given. told_as (judged_as given)) (fails (λ e. has (inr (ap (λ fault. Envelope fault) e))))
 
 pub opened_well : (bytes : List ℕ) (tokens : Tokens) (interchange : Interchange)
     → tokens_of bytes ≡ Ok tokens
     → interchange_of tokens ≡ Ok interchange
     → interchange_in bytes ≡ told_as (Ok interchange)
 unfolding interchange_in
-opened_well bytes tokens interchange e f = ap enveloped e ∙ ap framed f
+opened_well bytes tokens interchange e f =
+    ap (λ given. told_as (read_as given)) e ∙ ap (λ given. told_as (judged_as given)) f
 
 -- an upload that was opened before, of some bytes
 opens_text : (fault : TokenFault) (given : Result Interchange OpenFault)
@@ -89,22 +90,13 @@ opens_as (Err (Token fault)) given read has opens =
     opens_text fault given (λ e. read (ap (λ fault. Err (Token fault)) e)) has opens
 opens_as (Err (Envelope fault)) given read has opens = opens_segments fault given has opens
 
-judged_is : (given : Result Interchange EnvelopeFault) → framed given ≡ told_as (judged_as given)
-judged_is (Ok interchange) = refl
-judged_is (Err fault) = refl
-
-read_is : (given : Result Tokens TokenFault) → enveloped given ≡ told_as (read_as given)
-read_is (Ok tokens) = judged_is (interchange_of tokens)
-read_is (Err fault) = refl
-
 pub opened_before : (bytes : List ℕ) (upload : Result Interchange OpenFault)
     → upload ≢ Err (Token token.Read)
     → Sufficed upload
     → Opens upload (opened bytes)
     → interchange_in bytes ≡ told_as upload
 unfolding interchange_in
-opened_before bytes upload read has opens =
-    read_is (tokens_of bytes) ∙ ap told_as (opens_as upload (opened bytes) read has opens)
+opened_before bytes upload read has opens = ap told_as (opens_as upload (opened bytes) read has opens)
 
 pub ran_out : (upload : Result Interchange OpenFault) → RanOut upload → Sufficed upload → ⊥
 ran_out (Ok interchange) out has = out

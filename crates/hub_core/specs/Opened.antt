@@ -1,8 +1,7 @@
--- What an upload is, as the code has it: with the code of its fault, or as it was opened.
+-- An upload with the code of its fault, as the code has it; and whether memory sufficed to open one.
 use Rattle.std.specs.Borrow.{Bor}
 use Rattle.std.specs.Prelude.{◌≡◌, ◌⊎◌, ⊤, ℕ, List, Result, Ok, Err}
 use Rattle.edi_segments.specs.declared.fault.TokenFault.TheVariants as token
-use Rattle.edi_envelope.specs.Opened.{code_text}
 use Rattle.edi_envelope.specs.declared.fault.EnvelopeFault.TheVariants as envelope
 use Rattle.edi_envelope.specs.declared.fault.OpenFault.{OpenFault}
 use Rattle.edi_envelope.specs.declared.fault.OpenFault.TheVariants.{Token, Envelope}
@@ -12,11 +11,6 @@ use Rattle.hub_law.specs.Opening.{Opened}
 abbrev pub opened : Result Interchange (Bor (List ℕ)) → Opened
 opened (Ok interchange) = Ok interchange
 opened (Err code) = Err code.now
-
--- the same of one that was opened, whatever its fault
-abbrev pub told_as : Result Interchange OpenFault → Opened
-told_as (Ok interchange) = Ok interchange
-told_as (Err fault) = Err (code_text fault)
 
 -- memory ran out, of the text or of the envelope
 abbrev pub OfMemory : OpenFault → Type 0

@@ -4,9 +4,9 @@ ghost use Rattle.std.specs.List.{list_any};
 ghost use Rattle.std.specs.Option.{IfSome, IfNone};
 ghost use Rattle.hub_tables.specs.Rows.{same};
 ghost use Rattle.edi_envelope.specs.Opened.{code_text};
-ghost use Rattle.hub_law.specs.Opening.{interchange_in, addressed};
+ghost use Rattle.hub_law.specs.Opening.{told_as, interchange_in, addressed};
 ghost use Rattle.hub_core.specs.Opened as spec;
-ghost use Rattle.hub_core.specs.Opened.{told_as, HasCode, Sufficed};
+ghost use Rattle.hub_core.specs.Opened.{HasCode, Sufficed};
 
 use edi_base::MemoryFault;
 use edi_envelope::{EnvelopeFault, Interchange, OpenFault, open};
