@@ -6,7 +6,7 @@ use Rattle.hub_parties.specs.Rows.{RegisterRows}
 use Rattle.hub_tables.specs.Tables.{Tables}
 use Rattle.hub_law.specs.Again.{Reaches}
 use Rattle.hub_law.specs.Machine.{Inputs, shared_step, shared_run}
-use Rattle.hub_law.specs.Mark.{Mark, Whole, StoppedEmpty, StoppedBare, StoppedAfter, first_done}
+use Rattle.hub_law.specs.Mark.{Mark, Whole, StoppedEmpty, StoppedBare, StoppedAfter}
 use Rattle.hub_law.specs.Messages.{incoming, messages_at}
 use Rattle.hub_law.specs.Replies.{whole_reply}
 use Rattle.hub_law.specs.Requests.{replied_by}
@@ -62,7 +62,7 @@ module _ (register : RegisterRows) (t : Tables) (input : Input) (upload : Upload
       → (k < length upload.interchange.messages
       → shared_step register t input (StoppedAfter k)
       ≡ (reply_behind k upload.interchange (all_acts upload input.moment t).0, (first_acts k upload input.moment t).1))
-      → place < length (first_done (StoppedAfter k) (if below then Some k else None) (messages_at input.moment upload.interchange))
+      → place < length (take (if below then k else 0) (messages_at input.moment upload.interchange))
       → TellsOf upload.interchange place what (shared_step register t input (StoppedAfter k)).0
   tells_cut k true e cut reached = record {
     told = (all_acts upload input.moment t).0;

@@ -9,9 +9,9 @@ use Rattle.edi_envelope.specs.declared.interchange.Interchange.{Interchange}
 use Rattle.edi_envelope.specs.declared.interchange.RawMessage.{RawMessage}
 use Rattle.hub_tables.specs.Tables.{Tables}
 use Rattle.hub_law.specs.Messages.{incoming, messages_at}
-use Rattle.hub_law.specs.Mark.{Whole, StoppedAfter, first_done}
-use Rattle.hub_law.specs.Replies.{message_lines, interchange_line, told_words, whole_reply, cut_reply, stopped_line}
-use Rattle.hub_law.specs.Requests.{uploaded, replied_by, reply_by_stop}
+use Rattle.hub_law.specs.Mark.{Whole, StoppedAfter}
+use Rattle.hub_law.specs.Replies.{message_lines, interchange_line, told_words, whole_reply, cut_reply, stopped, stopped_line}
+use Rattle.hub_law.specs.Requests.{uploaded, replied_by}
 use Rattle.hub_law.specs.declared.reply.Outcome.TheVariants.{Done, Stopped}
 use Rattle.hub_law.specs.declared.reply.Reply.{Reply}
 use Rattle.std.proofs.lemmas.Bool.Decides.{nat_tests}
@@ -124,25 +124,17 @@ pub uploaded_stopped : (deliver : Sent → Act) (moment : ℕ) (interchange : In
     ≡ (record { outcome = Stopped; refused = refused; body = body ++ stopped_line }, now)
 uploaded_stopped deliver moment interchange t now count refused body below far =
     (let among : nat_lt count (length interchange.messages) ≡ true = grind (arith, nat_tests) in
-    let cut : Bool → Reply × Tables = λ b. let stop = if b then Some count else None in
-    replied_by (reply_by_stop (StoppedAfter count) stop interchange)
-    (in_row deliver (first_done (StoppedAfter count) stop (messages_at moment interchange)) t) in
+    let cut : Bool → Reply × Tables = λ more. replied_by (λ told. if more then cut_reply interchange told else stopped)
+    (in_row deliver (take (if more then count else 0) (messages_at moment interchange)) t) in
     ap cut among)
     ∙ ap (replied_by (cut_reply interchange)) far.is
     ∙ (λ i. (record { outcome = Stopped; refused = sym far.refusals i; body = sym far.lines i ++ stopped_line }, now))
-
-take_all : (f : RawMessage → Sent) (messages : List RawMessage) → take (length messages) (map f messages) ≡ map f messages
-take_all f [] = refl
-take_all f (m ∷ messages) = ap (λ xs. f m ∷ xs) (take_all f messages)
 
 pub uploaded_whole : (deliver : Sent → Act) (moment : ℕ) (interchange : Interchange) (t now : Tables) (refused : Bool) (body : List ℕ)
     → DoneSoFar deliver moment interchange t now (length interchange.messages) refused body
     → uploaded deliver moment Whole (Ok interchange) t ≡ (record { outcome = Done; refused = refused; body = body }, now)
 uploaded_whole deliver moment interchange t now refused body far =
-    (let all : in_row deliver (messages_at moment interchange) t ≡ (far.told, now) =
-    ap (λ xs. in_row deliver xs t) (sym (take_all (sent_at moment interchange) interchange.messages)) ∙ far.is in
-    let pair : List Told × Tables → Reply × Tables = λ r. (whole_reply interchange r.0, r.1) in
-    ap pair all)
+    ap (replied_by (whole_reply interchange)) far.is
     ∙ (λ i. (record { outcome = Done; refused = sym far.refusals i; body = sym far.lines i }, now))
 
 one_more_by : (deliver : Sent → Act) (moment : ℕ) (interchange : Interchange) (t now : Tables) (count : ℕ) (refused : Bool)

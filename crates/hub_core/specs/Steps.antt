@@ -1,6 +1,6 @@
 -- What a request did, what a step and a run of a hub did, and what a crash leaves after them.
-use Rattle.std.specs.Prelude.{◌≡◌, ◌≢◌, ◌⊎◌, ◌↔◌, ◌+◌, ⊤, ℕ, nat_lt, List, [], ◌∷◌, ◌++◌, length, map, slice_get}
-use Rattle.std.specs.Prelude.{if◌then◌else◌, Option, Some, None, Result, IfOk, OnErr}
+use Rattle.std.specs.Prelude.{◌≡◌, ◌≢◌, ◌⊎◌, ◌↔◌, ◌+◌, ⊤, ℕ, List, [], ◌∷◌, ◌++◌, length, map, slice_get}
+use Rattle.std.specs.Prelude.{Option, Some, None, Result, IfOk, OnErr}
 use Rattle.std.specs.List.{AllByRecursion}
 use Rattle.hub_parties.specs.Rows.{RegisterRows, supplier_row}
 use Rattle.hub_parties.specs.declared.row.SupplierRow.{SupplierRow}
@@ -10,7 +10,7 @@ use Rattle.hub_rules.specs.Sound.{Balanced, Sound}
 use Rattle.hub_law.specs.Alone.{items, items_of_input}
 use Rattle.hub_law.specs.Laws.{AsksStatus, alone}
 use Rattle.hub_law.specs.Machine.{Inputs, shared_step, shared_run, replies_to}
-use Rattle.hub_law.specs.Mark.{Mark, Whole, StoppedEmpty, StoppedBare, StoppedAfter}
+use Rattle.hub_law.specs.Mark.{Mark, Whole, StoppedBare, acts_done}
 use Rattle.hub_law.specs.Replies.{done}
 use Rattle.hub_law.specs.StatusText.{status_text}
 use Rattle.hub_law.specs.Stops.{Upload, upload_of}
@@ -27,13 +27,6 @@ Does = Mark → Tables → Reply × Tables
 abbrev pub acts_of : Option Upload → ℕ
 acts_of (Some upload) = length upload.interchange.messages
 acts_of None = 1
-
--- how many of so many acts were done
-abbrev pub acts_done : Mark → ℕ → ℕ
-acts_done Whole count = count
-acts_done StoppedEmpty count = 0
-acts_done StoppedBare count = 0
-acts_done (StoppedAfter k) count = if nat_lt k count then k else 0
 
 -- the tables are those after one act more
 pub record OneMore (count : ℕ) (does : Does) (t : Tables) (mark : Mark) (u : Tables) : Type 0 where

@@ -1,7 +1,8 @@
 -- Uploads that are whole, and those that are stopped after some of their messages.
-use Rattle.std.proofs.Common.{◌≡◌, ℕ, zero, suc, ◌<◌, ◌≤◌, nat_lt, true, false, if◌then◌else◌, List, [], ◌∷◌, ◌++◌, length}
+use Rattle.std.proofs.Common.{◌≡◌, ℕ, zero, suc, ◌<◌, ◌≤◌, nat_lt, Bool, true, false, if◌then◌else◌, List, [], ◌∷◌, ◌++◌, length}
 use Rattle.std.proofs.Common.{take, Option, Some, None, Ok, Err, refl, sym, ◌∙◌, ap, subst, arith}
 use Rattle.std.specs.List.{list_any}
+use Rattle.std.proofs.lemmas.List.{length-map, take_all}
 use Rattle.std.proofs.lemmas.Bool.Decides.{nat_tests}
 use Rattle.edi_envelope.specs.declared.interchange.Interchange.{Interchange}
 use Rattle.edi_envelope.specs.declared.interchange.RawMessage.{RawMessage}
@@ -14,11 +15,11 @@ use Rattle.hub_tables.specs.Tables.{Tables, view}
 use Rattle.hub_tables.specs.declared.rows.MailRow.{MailRow}
 use Rattle.hub_rules.specs.declared.incoming.IncomingMessage.{IncomingMessage}
 use Rattle.hub_law.specs.Machine.{shared_step, step_as}
-use Rattle.hub_law.specs.Mark.{Mark, Whole, StoppedAfter, first_done}
-use Rattle.hub_law.specs.Messages.{messages_at, deliver_suppliers}
+use Rattle.hub_law.specs.Mark.{Mark, Whole, StoppedAfter}
+use Rattle.hub_law.specs.Messages.{incoming, messages_at, deliver_suppliers}
 use Rattle.hub_law.specs.Opening.{Opened}
 use Rattle.hub_law.specs.Replies.{told_words, interchange_line, message_lines, stopped_line, stopped, whole_reply, cut_reply}
-use Rattle.hub_law.specs.Requests.{reply_by_stop, uploaded, from_supplier, from_retailer, supplier_request}
+use Rattle.hub_law.specs.Requests.{uploaded, from_supplier, from_retailer, supplier_request}
 use Rattle.hub_law.specs.Requests.{retailer_request, deliver_named, taken}
 use Rattle.hub_law.specs.Stops.{Upload, opened_for, upload_from, upload_by, upload_of, all_acts, first_acts, reply_behind}
 use Rattle.hub_law.specs.Told.{Told, Act, is_refused, in_row}
@@ -57,6 +58,12 @@ well_opened act (Ok i) upload h =
     let same : record { interchange = i; act = act } ≡ upload = cc in
     (ap (λ (u : Upload). Some u.interchange) same, ap (λ (u : Upload). u.act) (sym same))
 
+-- as many messages as there are
+pub all_messages : (moment : ℕ) (i : Interchange) → take (length i.messages) (messages_at moment i) ≡ messages_at moment i
+all_messages moment i =
+    let sent : RawMessage → RawMessage × IncomingMessage = λ message. (message, incoming moment i message) in
+    take_all (length i.messages) (messages_at moment i) (omega (arith, length-map i.messages sent))
+
 module _ (deliver : RawMessage × IncomingMessage → Act) (moment : ℕ) (t : Tables) where
   abbrev told_of : Interchange → List Told
   told_of i = (in_row deliver (messages_at moment i) t).0
@@ -69,7 +76,7 @@ module _ (deliver : RawMessage × IncomingMessage → Act) (moment : ℕ) (t : T
       let same : j ≡ i = cc in
       subst
       (λ i. uploaded deliver moment Whole (Ok j) t ≡ (whole_reply i (told_of i), (in_row deliver (messages_at moment i) t).1))
-      same refl
+      same (ap (λ sents. (whole_reply j (in_row deliver sents t).0, (in_row deliver sents t).1)) (all_messages moment j))
 
   -- the first k messages that are told of
   abbrev cut : ℕ → Interchange → List Told → Tables → Reply × Tables
@@ -89,11 +96,11 @@ module _ (deliver : RawMessage × IncomingMessage → Act) (moment : ℕ) (t : T
         (in_row deliver (take k (messages_at moment i)) t).1,
       )) (lines_first k i.messages (told_of i))
 
-  -- by the messages after which it was stopped
-  abbrev by_stop : Option ℕ → ℕ → Interchange → Reply × Tables
-  by_stop behind k i =
-      let looked : List (RawMessage × IncomingMessage) = first_done (StoppedAfter k) behind (messages_at moment i) in
-      (reply_by_stop (StoppedAfter k) behind i (in_row deliver looked t).0, (in_row deliver looked t).1)
+  -- by whether there are more messages than those after which it was stopped
+  abbrev by_stop : Bool → ℕ → Interchange → Reply × Tables
+  by_stop more k i =
+      let after : List Told × Tables = in_row deliver (take (if more then k else 0) (messages_at moment i)) t in
+      (if more then cut_reply i after.0 else stopped, after.1)
 
   upload_behind : (k : ℕ) (opened : Opened) (i : Interchange)
       → opened_well opened ≡ Some i
@@ -107,7 +114,7 @@ module _ (deliver : RawMessage × IncomingMessage → Act) (moment : ℕ) (t : T
       subst (λ (i : Interchange). nat_lt k (length i.messages) ≡ true) same (is_less k (length i.messages) less) in
       subst (λ i. uploaded deliver moment (StoppedAfter k) (Ok j) t
       ≡ (reply_behind k i (told_of i), (in_row deliver (take k (messages_at moment i)) t).1)) (sym same)
-      (ap (λ v. by_stop (if v then Some k else None) k j) more ∙ cut_behind k j)
+      (ap (λ more. by_stop more k j) more ∙ cut_behind k j)
     where
       is_less : (a b : ℕ) → a < b → nat_lt a b ≡ true
       is_less a b h = grind (arith, nat_tests)
@@ -119,7 +126,7 @@ module _ (deliver : RawMessage × IncomingMessage → Act) (moment : ℕ) (t : T
   upload_too_far k (Err code) i h most = cc
   upload_too_far k (Ok j) i h most =
       let same : i ≡ j = cc in
-      ap (λ v. by_stop (if v then Some k else None) k j)
+      ap (λ more. by_stop more k j)
       (subst (λ (i : Interchange). nat_lt k (length i.messages) ≡ false) same (no_less k (length i.messages) most))
     where
       no_less : (a b : ℕ) → b ≤ a → nat_lt a b ≡ false

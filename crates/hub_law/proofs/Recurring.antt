@@ -18,7 +18,7 @@ use Rattle.hub_rules.specs.Sound.{Sound}
 use Rattle.hub_rules.specs.declared.cancel.Cancel.{Cancel}
 use Rattle.hub_law.specs.Again.{MessageAt, Reaches, SameReference, tables_before, told_at}
 use Rattle.hub_law.specs.Machine.{Inputs, shared_step, shared_run, step_as}
-use Rattle.hub_law.specs.Mark.{Mark, Whole, StoppedEmpty, StoppedBare, StoppedAfter, first_done}
+use Rattle.hub_law.specs.Mark.{Mark, Whole, StoppedEmpty, StoppedBare, StoppedAfter}
 use Rattle.hub_law.specs.Messages.{incoming, messages_at, deliver_suppliers, cancel}
 use Rattle.hub_law.specs.Opening.{Opened}
 use Rattle.hub_law.specs.Remembered.{StaysRemembered, row_of_message, row_of_cancel}
@@ -199,7 +199,7 @@ module _ (register : RegisterRows) (t : Tables) (input : Input) (upload : Upload
   -- what is reached of an upload that is stopped stands before the stop, which is before its end
   reached_behind : (k : ℕ) (more : Bool)
       → nat_lt k (length upload.interchange.messages) ≡ more
-      → place < length (first_done (StoppedAfter k) (if more then Some k else None) sents)
+      → place < length (take (if more then k else 0) sents)
       → (place < k) × (k < length upload.interchange.messages)
   reached_behind k true e reaches =
       let most : place < min k (length sents) = subst (λ n. place < n) (length-take k sents) reaches in

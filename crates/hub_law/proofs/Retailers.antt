@@ -1,6 +1,7 @@
 -- An input of the retailer, in the tables of all and as one supplier sees it.
-use Rattle.std.proofs.Common.{◌≡◌, ℕ, true, false, cond, if◌then◌else◌, List, [], ◌∷◌, map, filter, Option, Some, None}
-use Rattle.std.proofs.Common.{refl, sym, ◌∙◌, ap, subst}
+use Rattle.std.proofs.Common.{◌≡◌, ℕ, nat_lt, Bool, true, false, cond, if◌then◌else◌, List, [], ◌∷◌, map, filter, take, Option}
+use Rattle.std.proofs.Common.{Some, None, refl, sym, ◌∙◌, ap, subst, arith}
+use Rattle.std.proofs.lemmas.Bool.Decides.{nat_tests}
 use Rattle.edi_envelope.specs.declared.interchange.RawMessage.{RawMessage}
 use Rattle.gs1_ids.specs.Overlap.{PrefixFree}
 use Rattle.hub_parties.specs.Rows.{Parties, RegisterRows, parties_of, company_prefixes, supplier_row}
@@ -12,7 +13,7 @@ use Rattle.hub_rules.specs.declared.incoming.IncomingMessage.{IncomingMessage}
 use Rattle.hub_rules.specs.declared.cancel.Cancel.{Cancel}
 use Rattle.hub_rules.specs.Sound.{Sound}
 use Rattle.hub_law.specs.Alone.{Item, Message, Cancellation, fold, retailer_items}
-use Rattle.hub_law.specs.Mark.{Mark, Whole, StoppedEmpty, StoppedBare, StoppedAfter, all_unless_stopped}
+use Rattle.hub_law.specs.Mark.{Mark, Whole, StoppedEmpty, StoppedBare, StoppedAfter, acts_done}
 use Rattle.hub_law.specs.Messages.{named, deliver_retailers, cancel}
 use Rattle.hub_law.specs.Requests.{looked_at, from_retailer, deliver_named, cancel_named, cancelled, retailer_request}
 use Rattle.hub_law.specs.Told.{Act, in_row}
@@ -21,6 +22,11 @@ use Rattle.hub_law.specs.declared.request.Request.TheVariants as requests
 use Rattle.hub_law.proofs.Acting.{Alike}
 use Rattle.hub_law.proofs.Acts.{retailers_act, cancel_act, nobodys_message, nobodys_cancellation}
 use Rattle.hub_law.proofs.Steps.{gln_of, unlike}
+
+-- of one act none was done where it was stopped after any
+none_of_one : (k : ℕ) (below : Bool) → nat_lt k 1 ≡ below → (if below then k else 0) ≡ 0
+none_of_one k true e = grind (arith, nat_tests)
+none_of_one k false e = refl
 
 -- an act for a supplier or for nobody, with what that one sees
 abbrev pub ActFor : Type 0
@@ -151,7 +157,7 @@ module _ (register : RegisterRows) (free : PrefixFree (company_prefixes register
 
     cancelled_moves : (moment : ℕ) (mark : Mark) (c : Cancel) (t : Tables) → Sound register.suppliers t
         → Moves (parties_of register) s (view s.gln t) (cancelled mark (cancel_named register c t) t).1
-        (if same c.supplier s.gln then all_unless_stopped mark (Cancellation moment c ∷ []) else [])
+        (if same c.supplier s.gln then take (acts_done mark 1) (Cancellation moment c ∷ []) else [])
     cancelled_moves moment Whole c t sound =
         elim (same c.supplier s.gln) as (λ v. same c.supplier s.gln ≡ v
         → Moves (parties_of register) s (view s.gln t) (cancel_named register c t).1
@@ -167,7 +173,10 @@ module _ (register : RegisterRows) (free : PrefixFree (company_prefixes register
         ] refl
     cancelled_moves moment StoppedEmpty c t sound = stopped_moves c t
     cancelled_moves moment StoppedBare c t sound = stopped_moves c t
-    cancelled_moves moment (StoppedAfter k) c t sound = stopped_moves c t
+    cancelled_moves moment (StoppedAfter k) c t sound =
+        subst (λ done. Moves (parties_of register) s (view s.gln t) t
+        (if same c.supplier s.gln then take done (Cancellation moment c ∷ []) else [])) (sym (none_of_one k (nat_lt k 1) refl))
+        (stopped_moves c t)
 
     pub retailer_moves : (moment : ℕ) (mark : Mark) (request : Request) (t : Tables) → Sound register.suppliers t
         → Moves (parties_of register) s (view s.gln t) (retailer_request register moment mark request t).1

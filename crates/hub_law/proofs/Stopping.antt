@@ -10,11 +10,11 @@ use Rattle.hub_tables.specs.Tables.{Tables, view}
 use Rattle.hub_tables.specs.declared.rows.MailRow.{MailRow}
 use Rattle.hub_rules.specs.declared.incoming.IncomingMessage.{IncomingMessage}
 use Rattle.hub_law.specs.Machine.{shared_step}
-use Rattle.hub_law.specs.Mark.{Mark, Whole, StoppedEmpty, StoppedBare, StoppedAfter, replied, first_done}
-use Rattle.hub_law.specs.Messages.{messages_at, deliver_suppliers, cancel}
+use Rattle.hub_law.specs.Mark.{Mark, Whole, StoppedEmpty, StoppedBare, StoppedAfter, replied}
+use Rattle.hub_law.specs.Messages.{deliver_suppliers, cancel}
 use Rattle.hub_law.specs.Opening.{Opened}
-use Rattle.hub_law.specs.Replies.{reply, denied, stopped, entry_reply}
-use Rattle.hub_law.specs.Requests.{reply_by_stop, uploaded, from_supplier, from_retailer, taken, supplier_request}
+use Rattle.hub_law.specs.Replies.{reply, denied, stopped, entry_reply, cut_reply}
+use Rattle.hub_law.specs.Requests.{looked_at, uploaded, from_supplier, from_retailer, taken, supplier_request}
 use Rattle.hub_law.specs.Requests.{deliver_named, cancelled, report, retailer_request}
 use Rattle.hub_law.specs.Told.{Told, Act, in_row}
 use Rattle.hub_law.specs.declared.reply.Outcome.TheVariants.{Stopped}
@@ -131,10 +131,8 @@ module _ (register : RegisterRows) (t : Tables) (input : Input) where
           → (uploaded deliver moment (StoppedAfter k) opened t).0.outcome ≡ Stopped
       upload deliver moment (Err code) t = refl
       upload deliver moment (Ok i) t =
-          either (λ (behind : Option ℕ). (reply_by_stop (StoppedAfter k) behind i
-          (in_row deliver (first_done (StoppedAfter k) behind (messages_at moment i)) t).0).outcome
-          ≡ Stopped)
-          (nat_lt k (length i.messages)) (Some k) None refl refl
+          let told : List Told = (in_row deliver (looked_at moment (StoppedAfter k) (Ok i)) t).0 in
+          either (λ (reply : Reply). reply.outcome ≡ Stopped) (nat_lt k (length i.messages)) (cut_reply i told) stopped refl refl
 
       entry : (found : Option MailRow) (t : Tables) → (taken (StoppedAfter k) found t).0.outcome ≡ Stopped
       entry None t = refl

@@ -1,5 +1,5 @@
 -- One supplier alone: the items of inputs that are for it, and its machine over them.
-use Rattle.std.specs.Prelude.{ℕ, List, [], ◌∷◌, ◌++◌, map, filter, if◌then◌else◌, Option, Some, None}
+use Rattle.std.specs.Prelude.{ℕ, List, [], ◌∷◌, ◌++◌, map, filter, take, if◌then◌else◌, Option, Some, None}
 use Rattle.edi_envelope.specs.declared.interchange.RawMessage.{RawMessage}
 use Rattle.hub_parties.specs.Rows.{RegisterRows, Parties, parties_of, role_of}
 use Rattle.hub_parties.specs.declared.role.Role.{Role}
@@ -11,7 +11,7 @@ use Rattle.hub_rules.specs.declared.incoming.IncomingMessage.{IncomingMessage}
 use Rattle.hub_rules.specs.declared.cancel.Cancel.{Cancel}
 use Rattle.hub_law.specs.InTurn.{single, silent, followed_by}
 use Rattle.hub_law.specs.Machine.{Inputs}
-use Rattle.hub_law.specs.Mark.{Mark, replied, all_unless_stopped}
+use Rattle.hub_law.specs.Mark.{Mark, replied, acts_done}
 use Rattle.hub_law.specs.Messages.{named, deliver_retailers, cancel}
 use Rattle.hub_law.specs.Replies.{denied}
 use Rattle.hub_law.specs.Requests.{looked_at, from_retailer, supplier_request}
@@ -57,7 +57,7 @@ retailer_items gln register moment mark (requests.MailTaken number) = []
 retailer_items gln register moment mark requests.Status = []
 retailer_items gln register moment mark (requests.StatusOf other) = []
 retailer_items gln register moment mark (requests.Cancel c) =
-    if same c.supplier gln then all_unless_stopped mark (Cancellation moment c ∷ []) else []
+    if same c.supplier gln then take (acts_done mark 1) (Cancellation moment c ∷ []) else []
 
 abbrev pub own_items : List ℕ → Input → Mark → List Item
 own_items gln input mark = if same input.caller gln then Own input mark ∷ [] else []

@@ -1,9 +1,8 @@
 -- Requests: what is answered, and what is done. Each looks at the tables through `look`, and changes the tables
 -- themselves.
-use Rattle.std.specs.Prelude.{ℕ, true, List, [], ◌∷◌, length, if◌then◌else◌, Option, Some, None, Ok, Err, codes}
+use Rattle.std.specs.Prelude.{ℕ, true, List, [], ◌∷◌, length, take, if◌then◌else◌, Option, Some, None, Ok, Err, codes}
 use Rattle.std.specs.Option.{unwrap_or}
 use Rattle.edi_envelope.specs.declared.interchange.RawMessage.{RawMessage}
-use Rattle.edi_envelope.specs.declared.interchange.Interchange.{Interchange}
 use Rattle.hub_parties.specs.Rows.{Parties, RegisterRows, parties_of, supplier_row}
 use Rattle.hub_parties.specs.declared.row.SupplierRow.{SupplierRow}
 use Rattle.hub_tables.specs.Cases.{truth_number}
@@ -16,7 +15,7 @@ use Rattle.hub_tables.specs.declared.rows.MailRow.{MailRow}
 use Rattle.hub_rules.specs.declared.incoming.IncomingMessage.{IncomingMessage}
 use Rattle.hub_rules.specs.declared.cancel.Cancel.{Cancel}
 use Rattle.hub_law.specs.MailText.{list_text}
-use Rattle.hub_law.specs.Mark.{Mark, stop_reply, stopped_behind, replied, unless_stopped, first_done}
+use Rattle.hub_law.specs.Mark.{Mark, stop_reply, is_cut, acts_done, replied, unless_stopped}
 use Rattle.hub_law.specs.Messages.{messages_at, named, deliver_retailers, deliver_suppliers, cancel}
 use Rattle.hub_law.specs.Opening.{Opened, interchange_in, addressed}
 use Rattle.hub_law.specs.Replies.{done, denied, unknown, refused_reply, whole_reply, cut_reply, cancel_reply}
@@ -30,19 +29,17 @@ use Rattle.hub_law.specs.declared.request.Request.TheVariants as requests
 
 -- Uploads.
 
--- the messages that are looked at: all, or the first so many of more where it was stopped after them, or none
+-- the messages that are looked at: those whose acts were done
 abbrev pub looked_at : ℕ → Mark → Opened → List (RawMessage × IncomingMessage)
 looked_at moment mark (Err code) = []
-looked_at moment mark (Ok i) = first_done mark (stopped_behind mark (length i.messages)) (messages_at moment i)
+looked_at moment mark (Ok i) = take (acts_done mark (length i.messages)) (messages_at moment i)
 
 -- the reply, by what is told of them
-abbrev pub reply_by_stop : Mark → Option ℕ → Interchange → List Told → Reply
-reply_by_stop mark (Some k) i told = cut_reply i told
-reply_by_stop mark None i told = unwrap_or (stop_reply mark) (whole_reply i told)
-
 abbrev pub upload_reply : Mark → Opened → List Told → Reply
 upload_reply mark (Err code) told = unwrap_or (stop_reply mark) (refused_reply code)
-upload_reply mark (Ok i) told = reply_by_stop mark (stopped_behind mark (length i.messages)) i told
+upload_reply mark (Ok i) told =
+    if is_cut mark (length i.messages) then cut_reply i told
+    else unwrap_or (stop_reply mark) (whole_reply i told)
 
 -- what is told, as a reply
 abbrev pub replied_by : {X : Type 0} → (X → Reply) → X × Tables → Reply × Tables
