@@ -13,7 +13,7 @@ use Rattle.gs1_ids.proofs.Overlaps.{none_behind, free_if_none}
 use Rattle.hub_parties.specs.Key.{is_party_key}
 use Rattle.hub_parties.specs.Rows.{RegisterRows, company_prefixes, prefixes, glns, keys}
 use Rattle.hub_parties.specs.declared.row.SupplierRow.{SupplierRow}
-use Rattle.hub_register.specs.Document.{rows_of_text, rows_in, row_with, supplier_in, suppliers_in, tables_in, suppliers_at}
+use Rattle.hub_register.specs.Document.{rows_of_text, rows_in, row_with, supplier_in, suppliers_in, supplier_values, suppliers_at}
 use Rattle.hub_register.specs.Document.{string_at, table_at}
 use Rattle.hub_register.specs.Fault.{fault_of}
 use Rattle.hub_register.specs.InOrder.{in_gln_order, put_all}
@@ -74,7 +74,7 @@ text_has_one text rows h =
     let gln = was_bound (string_at (codes "gln") retailer.0) _ rows retailer.2 in
     let key = was_bound (string_at (codes "key") retailer.0) _ rows gln.2 in
     let suppliers = was_mapped (suppliers_at (codes "supplier") document.0) _ rows key.2 in
-    let values = was_bound (tables_in (get_member (codes "supplier") document.0)) suppliers_in suppliers.0 suppliers.1 in
+    let values = was_bound (supplier_values (get_member (codes "supplier") document.0)) suppliers_in suppliers.0 suppliers.1 in
     subst (λ (r : RegisterRows). HaveOne r.suppliers) suppliers.2 (suppliers_have_one values.0 suppliers.0 values.2)
 
 -- Where no first overlap is found there is none.

@@ -30,22 +30,22 @@ supplier_in table =
     option_map (row_with gln prefix) (string_at (codes "key") table)))
 
 -- the same from what stands for it in their array
-abbrev pub supplier_of : Data → Option SupplierRow
-supplier_of value = as_table value >>= supplier_in
+abbrev pub supplier_from : Data → Option SupplierRow
+supplier_from value = as_table value >>= supplier_in
 
 -- the rows of suppliers, from their tables in their order
 abbrev pub suppliers_in : Items → Option (List SupplierRow)
 suppliers_in no_items = Some []
 suppliers_in (item value values) =
-    supplier_of value >>= (λ row. option_map (λ rows. row ∷ rows) (suppliers_in values))
+    supplier_from value >>= (λ row. option_map (λ rows. row ∷ rows) (suppliers_in values))
 
--- the tables of the suppliers; where no key `supplier` stands there are none
-abbrev pub tables_in : Option Data → Option Items
-tables_in None = Some no_items
-tables_in (Some value) = as_array value
+-- what stands for the suppliers; where no key `supplier` stands there are none
+abbrev pub supplier_values : Option Data → Option Items
+supplier_values None = Some no_items
+supplier_values (Some value) = as_array value
 
 abbrev pub suppliers_at : List ℕ → Members → Option (List SupplierRow)
-suppliers_at name table = tables_in (get_member name table) >>= suppliers_in
+suppliers_at name table = supplier_values (get_member name table) >>= suppliers_in
 
 -- the rows that a document says
 abbrev pub rows_in : Members → Option RegisterRows

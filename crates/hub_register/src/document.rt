@@ -61,9 +61,9 @@ fn entry_in<'a>(table: &'a Table) -> Option<Entry<'a>>
 // Puts the strings of a supplier's table after others.
 fn put_entry<'a>(value: &'a Value, entries: &mut Vec<Entry<'a>>) -> Result<(), RegisterFault>
     ensures ok { OnOk result (option_map (λ row. map row_in entries.old.items ++ row ∷ [])
-        (spec.supplier_of (view value.now)) ≡ Some (map row_in entries.new.items)) }
+        (spec.supplier_from (view value.now)) ≡ Some (map row_in entries.new.items)) }
     ensures err { IfErr result (λ fault. fault ≢ RegisterFault.Memory →
-        (fault ≡ RegisterFault.Text) × (spec.supplier_of (view value.now) ≡ None)) }
+        (fault ≡ RegisterFault.Text) × (spec.supplier_from (view value.now) ≡ None)) }
 {
     let Some(table) = value.as_table() else {
         return Err(RegisterFault::Text);

@@ -17,7 +17,7 @@ use Rattle.hub_tables.proofs.Lists.{all_weaker}
 use Rattle.hub_lines.specs.Book.{place_cmp}
 use Rattle.hub_lines.proofs.ByNumber.{is_eq-nat_cmp, find-filter}
 use Rattle.hub_lines.proofs.InOrder.{first_at, prefix_len-map}
-use Rattle.hub_texts.specs.Articles.{precedes_named, line_named}
+use Rattle.hub_texts.specs.Articles.{precedes_named, line_of_content}
 
 -- an order number and a line number
 abbrev pub Place : Type 0
@@ -49,7 +49,7 @@ pub named_at : (lines : List LineRow) (content : ContentRow) (n : ℕ)
     → n ≡ prefix_len (precedes_named content) lines
     → (found : Option LineRow)
     → slice_get lines n ≡ found
-    → line_named lines content ≡ option_filter (λ row. same row.number content.number && (row.line == content.line)) found
+    → line_of_content lines content ≡ option_filter (λ row. same row.number content.number && (row.line == content.line)) found
 named_at lines content n rise is found at =
     find-filter (λ line. line.line == content.line) (λ line. same line.number content.number) lines
     ∙ sym (λ i. find (λ row. alike row i) lines)

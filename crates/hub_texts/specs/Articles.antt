@@ -13,12 +13,12 @@ abbrev pub precedes_named : ContentRow → LineRow → Bool
 precedes_named content row = is_lt (ordering_then (bytes_cmp row.number content.number) (nat_cmp row.line content.line))
 
 -- the line that a content names
-abbrev pub line_named : List LineRow → ContentRow → Option LineRow
-line_named lines content = line_among (filter (λ line. same line.number content.number) lines) (Some content.line) []
+abbrev pub line_of_content : List LineRow → ContentRow → Option LineRow
+line_of_content lines content = line_among (filter (λ line. same line.number content.number) lines) (Some content.line) []
 
 -- its article
 abbrev pub article_among : List LineRow → ContentRow → Option (List ℕ)
-article_among lines content = option_map (λ row. row.gtin) (line_named lines content)
+article_among lines content = option_map (λ row. row.gtin) (line_of_content lines content)
 
 -- the same, and no digits where there is no such line
 abbrev pub article_in : List LineRow → ContentRow → List ℕ
