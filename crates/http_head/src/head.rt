@@ -13,7 +13,7 @@ use httparse::spans::{EMPTY_HEADER_SPAN, HeaderSpan, RequestSpans, parse_request
 use std::marker::Model;
 
 /// How many bytes a head has at most, the empty line at its end among them.
-const LONGEST: usize = 8192;
+pub const LONGEST_HEAD: usize = 8192;
 
 /// How many fields a head has at most.
 const FIELDS: usize = 32;
@@ -26,7 +26,7 @@ pub struct HeadFault;
 /// bytes, and takes no memory of an allocator.
 #[derive(Drop)]
 pub struct Head {
-    bytes: [u8; LONGEST],
+    bytes: [u8; LONGEST_HEAD],
     filled: usize,
     fields: [HeaderSpan; FIELDS],
     spans: RequestSpans,
@@ -34,13 +34,13 @@ pub struct Head {
 
 impl Model for Head {
     ghost use Rattle.std.specs.Prelude.{◌≤◌, take};
-    ghost use Rattle.http_head.specs.Head.{Heading, ShowsHead, shown};
+    ghost use Rattle.http_head.specs.Head.{Heading, ShowsHead, longest_head, shown};
 
     ghost Value = { Heading };
 
     ghost view = { λ h. shown (take h.filled h.bytes) h.fields h.spans };
 
-    ghost invariant = { λ h. (h.filled ≤ 8192) × ShowsHead (take h.filled h.bytes) h.fields h.spans };
+    ghost invariant = { λ h. (h.filled ≤ longest_head) × ShowsHead (take h.filled h.bytes) h.fields h.spans };
 }
 
 impl Head {
@@ -91,7 +91,7 @@ pub fn read_head<R: Source>(source: &mut R) -> Result<Option<Head>, HeadFault>
     ensures kept { OnOk result (R.failed source.new ≡ R.failed source.old) }
     ensures failed { OnErr result (R.failed source.new ≡ true) }
 {
-    let mut bytes = [0u8; LONGEST];
+    let mut bytes = [0u8; LONGEST_HEAD];
     let mut filled = 0;
     'reading: loop {
         let mut fields = [EMPTY_HEADER_SPAN; FIELDS];
@@ -107,7 +107,7 @@ pub fn read_head<R: Source>(source: &mut R) -> Result<Option<Head>, HeadFault>
             Ok(Status::Partial) => {}
             Err(_) => return Ok(None),
         }
-        if filled == LONGEST {
+        if filled == LONGEST_HEAD {
             return Ok(None);
         }
         let Ok(count) = read_more(source, &mut bytes, filled) else {
