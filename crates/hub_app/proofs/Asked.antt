@@ -12,11 +12,11 @@ use Rattle.hub_app.specs.declared.words.HubWords.{HubWords}
 use Rattle.hub_app.specs.declared.words.Words.{Words}
 use Rattle.hub_app.specs.declared.words.Words.TheVariants.{Check, Relay, Show, Hub, Serve}
 use Rattle.hub_app.specs.Options.{Finds}
-use Rattle.hub_app.specs.Words.{Asks, IsHub, IsOverHub, Names, Refuses, Say}
+use Rattle.hub_app.specs.Words.{Asks, AreHubWords, IsOverHub, Names, Refuses, Say}
 use Rattle.hub_app.proofs.Simple.{simple}
 
 -- without the options of a hub nothing is asked of one
-pub no_hub : (command : Text) (rows : List Row) → ((hub : HubWords) → IsHub rows hub → ⊥) → (words : Words)
+pub no_hub : (command : Text) (rows : List Row) → ((hub : HubWords) → AreHubWords rows hub → ⊥) → (words : Words)
     → IsOverHub command rows words
     → ⊥
 no_hub command rows none (Hub hub) h = none hub h.1

@@ -8,10 +8,7 @@ use Rattle.std.proofs.KnownBytes.{Appends-trans}
 use Rattle.edi_base.specs.Buffer.{AppendsFront}
 use Rattle.edi_base.specs.declared.source.ReadFault.{ReadFault}
 use Rattle.edi_base.specs.declared.source.ReadFault.TheVariants as read_faults
-use Rattle.edi_relay.specs.declared.relay.RelayWords.{RelayWords}
-use Rattle.edi_relay.specs.declared.relay.RelayFault.{RelayFault}
-use Rattle.edi_relay.specs.Relay.{relayed}
-use Rattle.hub_app.specs.Run.{read_limit, Delivers, DeliversFront, IsRefused}
+use Rattle.hub_app.specs.Run.{read_limit}
 use Rattle.hub_app.specs.Show.{lines_shown, status_of, Shows, ShowsFront}
 
 -- a fact where a call failed, or did not

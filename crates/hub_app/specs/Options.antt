@@ -3,23 +3,23 @@ use Rattle.std.specs.Prelude.{ℕ, ◌++◌, ◌&&◌, if◌then◌else◌, nat_
 use Rattle.std.specs.Prelude.{option_and_then}
 use Rattle.clap.specs.Words.{Row, Text, first_of}
 use Rattle.edi_moment.specs.Moment.{last_moment}
-pub use Rattle.hub_texts.specs.Number.{number_in as number_of}
+use Rattle.hub_texts.specs.Number.{number_in}
 
 -- the moment that they write
 abbrev pub moment_of : Text → Option ℕ
-moment_of text = option_and_then (λ number. if nat_le number last_moment then Some number else None) (number_of text)
+moment_of text = option_and_then (λ number. if nat_le number last_moment then Some number else None) (number_in text)
 
 -- a number within limits
-abbrev pub within : ℕ → ℕ → ℕ → Option ℕ
-within least most number = if nat_le least number && nat_le number most then Some number else None
+abbrev pub number_within : ℕ → ℕ → ℕ → Option ℕ
+number_within least most number = if nat_le least number && nat_le number most then Some number else None
 
 -- the port that they write, where a server may listen on it by its number
 abbrev pub port_of : Text → Option ℕ
-port_of text = option_and_then (within 1 65535) (number_of text)
+port_of text = option_and_then (number_within 1 65535) (number_in text)
 
 -- how many connections they say
-abbrev pub count_of : Text → Option ℕ
-count_of text = option_and_then (within 1 1000000) (number_of text)
+abbrev pub connections_of : Text → Option ℕ
+connections_of text = option_and_then (number_within 1 1_000_000) (number_in text)
 
 -- an option that may be left out
 abbrev pub if_given : {X : Type 0} → (Text → Option X) → Option Text → Option (Option X)
@@ -27,10 +27,10 @@ if_given read None = Some None
 if_given read (Some text) = option_map (λ x. Some x) (read text)
 
 -- the values of options, where all are given
-abbrev pub values_of : List Text → List Row → Option (List Text)
-values_of [] rows = Some []
-values_of (name ∷ names) rows =
-    option_and_then (λ value. option_map (λ values. value ∷ values) (values_of names rows)) (first_of name rows)
+abbrev pub values_given : List Text → List Row → Option (List Text)
+values_given [] rows = Some []
+values_given (name ∷ names) rows =
+    option_and_then (λ value. option_map (λ values. value ∷ values) (values_given names rows)) (first_of name rows)
 
 -- texts in lines, each ended by LF
 abbrev pub in_lines : List Text → Text

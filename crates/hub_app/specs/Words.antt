@@ -13,24 +13,25 @@ use Rattle.hub_app.specs.declared.words.Words.TheVariants.{Check, Relay, Show, H
 use Rattle.hub_app.specs.declared.words.WordsFault.{WordsFault}
 use Rattle.hub_app.specs.declared.words.WordsFault.TheVariants.{Memory}
 use Rattle.edi_relay.specs.declared.relay.RelayWords.{RelayWords}
-use Rattle.hub_app.specs.Options.{number_of, moment_of, port_of, count_of, if_given, values_of, in_lines}
+use Rattle.hub_app.specs.Options.{moment_of, port_of, connections_of, if_given, values_given, in_lines}
 use Rattle.hub_app.specs.Program.{edihub}
 use Rattle.edi_relay.specs.Relay.{AreRelayWords, relay_words_of}
 use Rattle.hub_rules.specs.declared.cancel.Cancel.{Cancel as Cancellation}
 use Rattle.hub_texts.specs.Cancel.{cancel_of}
+use Rattle.hub_texts.specs.Number.{number_in}
 
 -- the options of `relay`
 pub record IsRelay (rows : List Row) (words : RelayWords) : Type 0 where
   pub hub : first_of (codes "hub") rows ≡ Some words.hub
   pub owner : first_of (codes "owner") rows ≡ Some words.owner
   pub moment : option_and_then moment_of (first_of (codes "moment") rows) ≡ Some words.moment
-  pub number : option_and_then number_of (first_of (codes "number") rows) ≡ Some words.number
+  pub number : option_and_then number_in (first_of (codes "number") rows) ≡ Some words.number
   pub within : relay_words_of words.hub words.owner words.moment words.number ≡ Some words
 
 -- `mail` asks this of the entry of number n
 pub record IsMail (word : Text) (n : ℕ) (rows : List Row) : Type 0 where
   pub what : first_of (codes "do") rows ≡ Some word
-  pub number : option_and_then number_of (first_of (codes "n") rows) ≡ Some n
+  pub number : option_and_then number_in (first_of (codes "n") rows) ≡ Some n
 
 -- the options whose values are the five lines of a cancellation
 abbrev pub cancel_options : List Text
@@ -41,8 +42,8 @@ abbrev pub texts_of : CancelLines → List Text
 texts_of lines = lines.supplier.now ∷ lines.reference.now ∷ lines.order.now ∷ lines.line.now ∷ lines.quantity.now ∷ []
 
 -- the cancellation whose body has these lines
-abbrev pub cancel_in : List Row → Option Cancellation
-cancel_in rows = option_and_then (λ lines. cancel_of (in_lines lines)) (values_of cancel_options rows)
+abbrev pub cancellation_given : List Row → Option Cancellation
+cancellation_given rows = option_and_then (λ lines. cancel_of (in_lines lines)) (values_given cancel_options rows)
 
 -- what a command over a hub asks
 abbrev pub IsTask : Text → List Row → HubTask → Type 0
@@ -53,7 +54,7 @@ IsTask command rows (Status supplier) =
 IsTask command rows (MailAfter number) = (command ≡ codes "mail") × IsMail (codes "after") number rows
 IsTask command rows (MailItem number) = (command ≡ codes "mail") × IsMail (codes "item") number rows
 IsTask command rows (MailTaken number) = (command ≡ codes "mail") × IsMail (codes "taken") number rows
-IsTask command rows (Cancel cancellation) = (command ≡ codes "cancel") × (cancel_in rows ≡ Some cancellation)
+IsTask command rows (Cancel cancellation) = (command ≡ codes "cancel") × (cancellation_given rows ≡ Some cancellation)
 
 -- the options of every command over a hub
 pub record IsAsker (rows : List Row) (asker : Asker) : Type 0 where
@@ -63,8 +64,8 @@ pub record IsAsker (rows : List Row) (asker : Asker) : Type 0 where
   pub key : first_of (codes "key") rows ≡ Some asker.key.now
   pub moment : if_given moment_of (first_of (codes "moment") rows) ≡ Some asker.moment
 
-abbrev pub IsHub : List Row → HubWords → Type 0
-IsHub rows words = IsAsker rows (record {
+abbrev pub AreHubWords : List Row → HubWords → Type 0
+AreHubWords rows words = IsAsker rows (record {
   register = words.register;
   db = words.db;
   caller = words.caller;
@@ -77,7 +78,7 @@ pub record IsServe (rows : List Row) (words : ServeWords) : Type 0 where
   pub register : first_of (codes "register") rows ≡ Some words.register.now
   pub db : first_of (codes "db") rows ≡ Some words.db.now
   pub port : option_and_then port_of (first_of (codes "port") rows) ≡ Some words.port
-  pub count : option_and_then count_of (first_of (codes "count") rows) ≡ Some words.count
+  pub count : option_and_then connections_of (first_of (codes "count") rows) ≡ Some words.count
   pub moment : if_given moment_of (first_of (codes "moment") rows) ≡ Some words.moment
 
 -- what a command with these options asks for
@@ -86,12 +87,12 @@ Asks command rows (Check words) =
     (command ≡ codes "check") × (first_of (codes "register") rows ≡ Some words.register.now)
 Asks command rows (Relay words) = (command ≡ codes "relay") × IsRelay rows words
 Asks command rows Show = command ≡ codes "show"
-Asks command rows (Hub words) = IsTask command rows words.task × IsHub rows words
+Asks command rows (Hub words) = IsTask command rows words.task × AreHubWords rows words
 Asks command rows (Serve words) = (command ≡ codes "serve") × IsServe rows words
 
 -- the same of a command over a hub alone
 abbrev pub IsOverHub : Text → List Row → Words → Type 0
-IsOverHub command rows (Hub words) = IsTask command rows words.task × IsHub rows words
+IsOverHub command rows (Hub words) = IsTask command rows words.task × AreHubWords rows words
 IsOverHub command rows _ = ⊥
 
 -- the words name this command, with its options

@@ -10,6 +10,7 @@ ghost use Rattle.hub_app.specs.Exit.{Tells};
 ghost use Rattle.hub_register.specs.Register.{register_of};
 
 use crate::exit::{DONE, FAILED, REFUSED, tell};
+use crate::run::READ_LIMIT;
 use edi_tokens::{MemoryFault, ReadFault, Sink, Source, TEXT_LIMIT, read_to_limit, write_bytes};
 use hub_register::{Register, RegisterFault};
 use std::alloc::{AllocError, Global};
@@ -65,7 +66,7 @@ pub fn read_register_text<R: Source>(alloc: Global, input: &mut R) -> Result<Str
         ⊎ IfSome (R.remaining input.old) (λ bytes. ¬ IsRegisterText bytes) }
     ensures kept { result ≢ Err TextFault.File → R.failed input.new ≡ R.failed input.old }
 {
-    let bytes = read_to_limit(alloc, input, TEXT_LIMIT + 1)?;
+    let bytes = read_to_limit(alloc, input, READ_LIMIT)?;
     if bytes.len() > TEXT_LIMIT {
         return Err(TextFault::File);
     }

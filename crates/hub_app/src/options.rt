@@ -47,7 +47,7 @@ pub(crate) fn port(text: &str) -> Option<u16>
 
 /// The count of connections of 1 to 14 digits, 1 to 1,000,000.
 pub(crate) fn count(text: &str) -> Option<u64>
-    ensures { result ≡ spec.count_of text.now }
+    ensures { result ≡ spec.connections_of text.now }
 {
     let number = number(text)?;
     if 1 <= number && number <= 1_000_000 {

@@ -3,10 +3,10 @@
 ghost use Rattle.std.specs.Prelude.{◌≡◌, map, option_map, codes, IfOk, IfErr, IfSome};
 ghost use Rattle.clap.specs.Words.{app_of, first_of, found_of, rows_of, subcommand_rows_of};
 ghost use Rattle.hub_app.specs.Options as spec;
-ghost use Rattle.hub_app.specs.Options.{Finds, if_given, moment_of, values_of};
+ghost use Rattle.hub_app.specs.Options.{Finds, if_given, moment_of, values_given};
 ghost use Rattle.edi_relay.specs.Relay.{AreRelayWords};
 ghost use Rattle.hub_texts.specs.Cancel as body;
-ghost use Rattle.hub_app.specs.Words.{cancel_options, texts_of, AreWords, Asks, IsAsker, IsHub, IsOverHub};
+ghost use Rattle.hub_app.specs.Words.{cancel_options, texts_of, AreWords, Asks, IsAsker, AreHubWords, IsOverHub};
 ghost use Rattle.hub_app.specs.Words.{IsRelay, IsServe, IsTask, Names, Refuses, Say};
 ghost use Rattle.hub_app.specs.Program.{edihub};
 
@@ -180,7 +180,7 @@ struct CancelLines<'a> {
 }
 
 fn cancel_lines<'a>(options: &ArgMatches<'a>) -> Option<CancelLines<'a>>
-    ensures { option_map texts_of result ≡ values_of cancel_options (rows_of (found_of options.now)) }
+    ensures { option_map texts_of result ≡ values_given cancel_options (rows_of (found_of options.now)) }
 {
     Some(CancelLines {
         supplier: text(options, "supplier")?,
@@ -273,7 +273,7 @@ fn asker_in<'a>(options: &ArgMatches<'a>) -> Option<Asker<'a>>
 
 // The words of a command over a hub that asks this.
 fn hub_words<'a>(options: &ArgMatches<'a>, task: HubTask<'a>) -> Option<HubWords<'a>>
-    ensures found { Finds (IsHub (rows_of (found_of options.now))) result }
+    ensures found { Finds (AreHubWords (rows_of (found_of options.now))) result }
     ensures task { IfSome result (λ words. words.task ≡ task.entry) }
 {
     let Some(asker) = asker_in(options) else {
