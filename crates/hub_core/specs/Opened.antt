@@ -8,9 +8,9 @@ use Rattle.edi_envelope.specs.declared.fault.OpenFault.TheVariants.{Token, Envel
 use Rattle.edi_envelope.specs.declared.interchange.Interchange.{Interchange}
 use Rattle.hub_law.specs.Opening.{Opened}
 
-abbrev pub opened : Result Interchange (Bor (List ℕ)) → Opened
-opened (Ok interchange) = Ok interchange
-opened (Err code) = Err code.now
+abbrev pub with_code : Result Interchange (Bor (List ℕ)) → Opened
+with_code (Ok interchange) = Ok interchange
+with_code (Err code) = Err code.now
 
 -- memory ran out, of the text or of the envelope
 abbrev pub OfMemory : OpenFault → Type 0

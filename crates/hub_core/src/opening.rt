@@ -28,7 +28,7 @@ fn refusal_code(fault: OpenFault) -> Option<&'static str>
 pub(crate) fn judged(
     upload: Result<Interchange, OpenFault>,
 ) -> Result<Result<Interchange, &'static str>, MemoryFault>
-    ensures told { IfOk result (λ judged. spec.opened judged ≡ told_as upload) }
+    ensures told { IfOk result (λ judged. spec.with_code judged ≡ told_as upload) }
     ensures sufficed { IfOk result (λ _. Sufficed upload) }
 {
     match upload {
@@ -54,7 +54,7 @@ pub(crate) fn opened(
     alloc: Global,
     upload: &[u8],
 ) -> Result<Result<Interchange, &'static str>, MemoryFault>
-    ensures { IfOk result (λ opened. interchange_in upload.now ≡ spec.opened opened) }
+    ensures { IfOk result (λ opened. interchange_in upload.now ≡ spec.with_code opened) }
 {
     judged(open_bytes(alloc, upload))
 }

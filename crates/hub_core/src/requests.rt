@@ -52,9 +52,9 @@ pub(crate) fn take_opened<S: Store>(
 ) -> Result<Reply, StoreFault>
     ensures asked { MayDeliver register.now caller.entry (S.content store.old) →
         Asked S.content S.honest S.left store.old store.new
-        (acts_of (opened_for (delivered register.now caller.entry) (addressed_by register.now caller.entry (spec.opened upload.entry))))
+        (acts_of (opened_for (delivered register.now caller.entry) (addressed_by register.now caller.entry (spec.with_code upload.entry))))
         (λ mark t. uploaded (delivered register.now caller.entry) moment mark
-        (addressed_by register.now caller.entry (spec.opened upload.entry)) t) result }
+        (addressed_by register.now caller.entry (spec.with_code upload.entry)) t) result }
     ensures was_honest { S.honest store.new → S.honest store.old }
 {
     let interchange = match upload {

@@ -8,16 +8,16 @@ pub returns-in-Some-clause-asked : goal.returns-in-Some-clause-asked
 returns-in-Some-clause-asked g c may =
     let register = c.args.register.now in
     let opening = addressed_by register c.args.caller in
-    let is = ap opening (ap spec.opened c.in-Ok.is) ∙ c.in-Some.ensures.some in
+    let is = ap opening (ap spec.with_code c.in-Ok.is) ∙ c.in-Some.ensures.some in
     upload_refused g.S.Store.content g.S.Store.honest g.S.Store.left (delivered register c.args.caller) c.args.moment
-    c.args.store.now (opening (spec.opened c.args.upload))
+    c.args.store.now (opening (spec.with_code c.args.upload))
     c.in-Some.code.now c.in_ok-refused_upload.field-0 is c.in_ok-refused_upload.ensures
 
 pub returns-clause-asked : goal.returns-clause-asked
 returns-clause-asked g c may =
     let register = c.args.register.now in
     let opening = addressed_by register c.args.caller in
-    let is = ap opening (ap spec.opened c.in-Ok.is) ∙ c.in_default.ensures.none in
+    let is = ap opening (ap spec.with_code c.in-Ok.is) ∙ c.in_default.ensures.none in
     upload_taken g.S.Store.content g.S.Store.honest g.S.Store.left (delivered register c.args.caller) c.args.moment
-    c.args.store.now c.take_messages.new.store (opening (spec.opened c.args.upload))
+    c.args.store.now c.take_messages.new.store (opening (spec.with_code c.args.upload))
     c.in-Ok.interchange c.take_messages.result is (λ honest. c.take_messages.ensures.answered honest may)

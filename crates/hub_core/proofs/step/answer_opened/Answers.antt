@@ -14,4 +14,4 @@ returns-in-Some-clause-asked g c bytes opens =
     g.S.Store.content g.S.Store.honest g.S.Store.left c.args.store.now c.take_opened.new.store
     c.in-Some.caller c.take_opened.result c.in-Some.ensures.some
     (opened_asked g.S.Store.content g.S.Store.honest g.S.Store.left c.args.store.now c.take_opened.new.store register c.in-Some.caller
-    c.args.moment bytes (spec.opened c.in_ok-upload.upload) c.take_opened.result is c.take_opened.ensures.asked)
+    c.args.moment bytes (spec.with_code c.in_ok-upload.upload) c.take_opened.result is c.take_opened.ensures.asked)
