@@ -62,9 +62,13 @@ role_by rows None gln key = if bytes_eq rows.retailer gln && bytes_eq rows.retai
 abbrev pub role_of : RegisterRows → List ℕ → List ℕ → Option Role
 role_of rows gln key = role_by rows (row_of rows gln) gln key
 
+-- how many suppliers a register has at most
+abbrev pub most_suppliers : ℕ
+most_suppliers = 1000
+
 -- what every register keeps
 pub record IsRegister (rows : RegisterRows) : Type 0 where
-  pub few : length rows.suppliers ≤ 1000
+  pub few : length rows.suppliers ≤ most_suppliers
   pub glns_right : IsTrue (list_all is_gln (glns rows))
   pub glns_apart : has_twice (glns rows) ≡ false
   pub prefixes_right : IsTrue (list_all is_prefix (prefixes rows))

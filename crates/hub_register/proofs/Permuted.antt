@@ -15,7 +15,7 @@ use Rattle.gs1_ids.specs.Gln.{is_gln}
 use Rattle.gs1_ids.specs.Overlap.{first_overlap_of}
 use Rattle.gs1_ids.specs.Prefix.{is_prefix}
 use Rattle.hub_parties.specs.Key.{is_party_key}
-use Rattle.hub_parties.specs.Rows.{RegisterRows, glns, prefixes, keys}
+use Rattle.hub_parties.specs.Rows.{RegisterRows, glns, prefixes, keys, most_suppliers}
 use Rattle.hub_parties.specs.declared.row.SupplierRow.{SupplierRow}
 use Rattle.hub_register.specs.Document.{rows_of_text}
 use Rattle.hub_register.specs.Fault.{fault_of}
@@ -91,7 +91,7 @@ by_fault : (rows register : RegisterRows) (fault : Option RegisterFault)
 by_fault rows register None right e =
     let same : in_gln_order rows ≡ register = cc in
     let once : has_twice (glns rows) ≡ false =
-    third (nat_lt 1000 (length rows.suppliers)) (not (list_all is_gln (glns rows))) (has_twice (glns rows)) Many Gln Twice
+    third (nat_lt most_suppliers (length rows.suppliers)) (not (list_all is_gln (glns rows))) (has_twice (glns rows)) Many Gln Twice
     (if not (list_all is_prefix (prefixes rows))
     then Some Prefix
     else if not (list_all is_party_key (keys rows))

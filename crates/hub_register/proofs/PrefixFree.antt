@@ -11,7 +11,7 @@ use Rattle.gs1_ids.specs.Overlap.{OverlapAt, PrefixFree, overlap_from, first_ove
 use Rattle.gs1_ids.specs.Prefix.{overlap, is_prefix}
 use Rattle.gs1_ids.proofs.Overlaps.{none_behind, free_if_none}
 use Rattle.hub_parties.specs.Key.{is_party_key}
-use Rattle.hub_parties.specs.Rows.{RegisterRows, company_prefixes, prefixes, glns, keys}
+use Rattle.hub_parties.specs.Rows.{RegisterRows, company_prefixes, prefixes, glns, keys, most_suppliers}
 use Rattle.hub_parties.specs.declared.row.SupplierRow.{SupplierRow}
 use Rattle.hub_register.specs.Document.{rows_of_text, rows_in, row_with, supplier_in, suppliers_in, supplier_values, suppliers_at}
 use Rattle.hub_register.specs.Document.{string_at, table_at}
@@ -105,7 +105,7 @@ last false false false false false f g h k l rest n = n
 none_overlaps : (rows : RegisterRows) → fault_of rows ≡ None → first_overlap_of (prefixes rows) ≡ None
 none_overlaps rows right =
     was_unmapped (first_overlap_of (prefixes rows)) (λ places. Overlap (places.0 + 1) (places.1 + 1))
-    (last (nat_lt 1000 (length rows.suppliers)) (not (list_all is_gln (glns rows))) (has_twice (glns rows))
+    (last (nat_lt most_suppliers (length rows.suppliers)) (not (list_all is_gln (glns rows))) (has_twice (glns rows))
     (not (list_all is_prefix (prefixes rows))) (not (list_all is_party_key (keys rows))) Many Gln Twice Prefix Key _ right)
 
 text_is_free : (text : List ℕ) (rows : RegisterRows)

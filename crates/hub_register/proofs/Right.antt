@@ -13,7 +13,7 @@ use Rattle.gs1_ids.specs.Overlap.{AreApart, PrefixFree}
 use Rattle.gs1_ids.specs.Prefix.{begins, is_prefix}
 use Rattle.gs1_ids.specs.Gln.{is_gln}
 use Rattle.hub_parties.specs.Key.{is_party_key}
-use Rattle.hub_parties.specs.Rows.{RegisterRows, IsRegister, company_prefixes, prefixes, glns, keys}
+use Rattle.hub_parties.specs.Rows.{RegisterRows, IsRegister, company_prefixes, prefixes, glns, keys, most_suppliers}
 use Rattle.hub_parties.specs.declared.row.SupplierRow.{SupplierRow}
 use Rattle.hub_register.specs.InOrder.{put_all, in_gln_order}
 use Rattle.hub_register.proofs.Ordered.{length-put_all, all-put_all, every-put_all, Apart, apart_in_order}
@@ -106,7 +106,7 @@ all_flat p (r ∷ rows) =
     all_joined p r.prefixes (flat_map (λ r. r.prefixes) rows) ∙ ap (λ rest. list_all p r.prefixes && rest) (all_flat p rows)
 
 pub register_right : (rows : RegisterRows)
-    → length rows.suppliers ≤ 1000
+    → length rows.suppliers ≤ most_suppliers
     → list_all is_gln (glns rows) ≡ true
     → has_twice (glns rows) ≡ false
     → list_all is_prefix (prefixes rows) ≡ true

@@ -6,14 +6,14 @@ use Rattle.gs1_ids.specs.Overlap.{first_overlap_of}
 use Rattle.gs1_ids.specs.Prefix.{is_prefix}
 use Rattle.gs1_ids.specs.Gln.{is_gln}
 use Rattle.hub_parties.specs.Key.{is_party_key}
-use Rattle.hub_parties.specs.Rows.{RegisterRows, glns, prefixes, keys}
+use Rattle.hub_parties.specs.Rows.{RegisterRows, glns, prefixes, keys, most_suppliers}
 use Rattle.hub_register.specs.declared.fault.RegisterFault.{RegisterFault}
 use Rattle.hub_register.specs.declared.fault.RegisterFault.TheVariants.{Many, Gln, Twice, Prefix, Key, Overlap}
 
 -- the fault of the rows: the first of these conditions that holds, wherever in the list it does. Places count from 1.
 abbrev pub fault_of : RegisterRows → Option RegisterFault
 fault_of rows =
-    if nat_lt 1000 (length rows.suppliers) then Some Many
+    if nat_lt most_suppliers (length rows.suppliers) then Some Many
     else if not (list_all is_gln (glns rows)) then Some Gln
     else if has_twice (glns rows) then Some Twice
     else if not (list_all is_prefix (prefixes rows)) then Some Prefix

@@ -8,7 +8,7 @@ ghost use Rattle.std.specs.Str.{bytes_eq};
 ghost use Rattle.gs1_ids.specs.Gln.{is_gln};
 ghost use Rattle.gs1_ids.specs.Overlap.{first_overlap_of, PrefixFree};
 ghost use Rattle.hub_parties.specs.Rows as spec;
-ghost use Rattle.hub_parties.specs.Rows.{IsRegister, rows_by, row_of, role_of};
+ghost use Rattle.hub_parties.specs.Rows.{IsRegister, most_suppliers, rows_by, row_of, role_of};
 ghost use Rattle.hub_register.specs.Entries.{rows_from};
 ghost use Rattle.hub_register.specs.Fault.{fault_of};
 ghost use Rattle.hub_register.specs.declared.fault.RegisterFault.TheVariants.{Overlap};
@@ -70,7 +70,7 @@ fn assembled(
 
 // Every GLN of what a text says, the hub's and the retailer's first, where there are no more suppliers than may be.
 fn glns_of(alloc: Global, document: &Document<'_>) -> Result<Vec<Gln>, RegisterFault>
-    ensures few { IfOk result (λ glns. nat_lt 1000 (length (rows_from document.now).suppliers) ≡ false) }
+    ensures few { IfOk result (λ glns. nat_lt most_suppliers (length (rows_from document.now).suppliers) ≡ false) }
     ensures ok { IfOk result (λ glns. (glns.items ≡ spec.glns (rows_from document.now))
         × (list_all is_gln (spec.glns (rows_from document.now)) ≡ true)) }
     ensures err { IfErr result (λ fault. fault ≢ RegisterFault.Memory → fault_of (rows_from document.now) ≡ Some fault) }

@@ -5,7 +5,7 @@ use Rattle.edi_base.specs.Seen.{has_twice}
 use Rattle.gs1_ids.specs.Overlap.{PrefixFree}
 use Rattle.gs1_ids.specs.Prefix.{is_prefix}
 use Rattle.hub_parties.specs.Key.{is_party_key}
-use Rattle.hub_parties.specs.Rows.{IsRegister, prefixes, keys, glns, company_prefixes}
+use Rattle.hub_parties.specs.Rows.{IsRegister, prefixes, keys, glns, company_prefixes, most_suppliers}
 use Rattle.hub_register.specs.Entries.{row_in, rows_from}
 use Rattle.hub_register.specs.InOrder.{put_all}
 use Rattle.hub_register.proofs.Rest.{one_each}
@@ -18,8 +18,8 @@ assembled-requires-clause-right c =
     let items = c.args.document.now.suppliers.items in
     let entries = c.as_slice-entries.result.now in
     let same : entries ≡ items = c.as_slice-entries.ensures.value in
-    let counted : nat_lt 1000 (length rows.suppliers) ≡ false = c.in_ok-glns.ensures.few in
-    let few : length rows.suppliers ≤ 1000 = grind (arith, counted) in
+    let counted : nat_lt most_suppliers (length rows.suppliers) ≡ false = c.in_ok-glns.ensures.few in
+    let few : length rows.suppliers ≤ most_suppliers = grind (arith, counted) in
     let read = c.in_ok-glns.ensures.ok in
     let once : has_twice (glns rows) ≡ false =
     sym (ap has_twice read.0)
