@@ -27,20 +27,20 @@ overlapping = record {
   suppliers = short_supplier ∷ long_supplier ∷ [];
 }
 
-abbrev pub uploads : List ℕ → List ℕ → List ℕ → Input
-uploads caller key bytes =
+abbrev pub upload_input : List ℕ → List ℕ → List ℕ → Input
+upload_input caller key bytes =
     record { moment = 1_748_942_400; caller = caller; key = key; request = requests.Upload bytes }
 
 -- an order of the retailer for a supplier
 abbrev pub order_for : List ℕ → List ℕ → Input
-order_for supplier reference = uploads retailer (codes "retail-key") (
+order_for supplier reference = upload_input retailer (codes "retail-key") (
     codes "UNB+UNOC:3+5412345000013:14+5412345000006:14+250603:0915+" ++ reference
     ++ codes "'UNH+1+ORDERS:D:01B:UN'BGM+220+128576+9'DTM+137:20250603:102'NAD+BY+5412345000013::9'NAD+SU+"
     ++ supplier ++ codes "::9'LIN+1++4000862141404:SRV'QTY+21:48'UNS+S'UNT+9+1'UNZ+1+" ++ reference ++ codes "'")
 
 -- a supplier's advice of a pallet
 abbrev pub advice_of : SupplierRow → Input
-advice_of s = uploads s.gln s.key (
+advice_of s = upload_input s.gln s.key (
     codes "UNB+UNOC:3+" ++ s.gln ++ codes ":14+5412345000006:14+250604:0800+S2'"
     ++ codes "UNH+1+DESADV:D:01B:UN'BGM+351+DA1+9'DTM+137:20250604:102'RFF+ON:128576'NAD+SU+"
     ++ s.gln ++ codes "::9'CPS+1'GIN+BJ+340123455000000012'LIN+1++4000862141404:SRV'QTY+12:12'UNT+10+1'UNZ+1+S2'")

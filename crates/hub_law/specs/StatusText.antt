@@ -23,8 +23,8 @@ line_text state row = line (
     (row.ordered ∷ row.open_qty ∷ row.refused ∷ row.cancelled ∷ despatched state row ∷ []))
 
 -- the article of a content, by its GTIN, is that of the line that it names
-abbrev pub article_of : Tables → ContentRow → List ℕ
-article_of state content =
+abbrev pub article_of_content : Tables → ContentRow → List ℕ
+article_of_content state content =
     unwrap_or (option_map (λ row. row.gtin) (line_of state content.number (Some content.line) [])) []
 
 -- articles in the order of their digits, with one more where it is not among them
@@ -39,14 +39,14 @@ in_digit_order (gtin ∷ articles) = with_article gtin (in_digit_order articles)
 abbrev pub articles_on : Tables → PalletRow → List (List ℕ)
 articles_on state pallet =
     in_digit_order (
-    map (article_of state) (contents_of state pallet.sscc)
+    map (article_of_content state) (contents_of state pallet.sscc)
     ++ map (λ receipt. receipt.gtin) (receipts_of state pallet.sscc))
 
 -- what of an article is despatched on a pallet
 abbrev pub despatched_on : Tables → PalletRow → List ℕ → ℕ
 despatched_on state pallet gtin =
     sum_by (λ content. content.quantity)
-    (filter (λ content. same (article_of state content) gtin) (contents_of state pallet.sscc))
+    (filter (λ content. same (article_of_content state content) gtin) (contents_of state pallet.sscc))
 
 -- the sum of one kind that is received of an article on a pallet
 abbrev pub received_on : (ReceiptRow → ℕ) → Tables → PalletRow → List ℕ → ℕ

@@ -46,11 +46,11 @@ alpha = record { gln = gln; prefixes = codes "40123455" ∷ []; key = codes "alp
 abbrev number : List ℕ
 number = codes "128576"
 
-abbrev item : List ℕ
-item = codes "04000862141404"
+abbrev article : List ℕ
+article = codes "04000862141404"
 
-abbrev other_item : List ℕ
-other_item = codes "04000862141411"
+abbrev other_article : List ℕ
+other_article = codes "04000862141411"
 
 abbrev sscc : List ℕ
 sscc = codes "340123455000000012"
@@ -67,7 +67,7 @@ line n ordered open_qty refused cancelled answer = record {
   supplier = gln;
   number = number;
   line = n;
-  gtin = item;
+  gtin = article;
   ordered = ordered;
   open_qty = open_qty;
   refused = refused;
@@ -94,37 +94,37 @@ answered n gtin quantity =
     judge_answer number (record { order_line = n; gtin = gtin; answer = says.Changed quantity })
     (with_content 12 (with_lines (line 1 48 36 0 0 Waiting ∷ [])))
 
-below_despatched : answered (Some 1) item 11 ≡ Refuse codes_of.OutOfRange
+below_despatched : answered (Some 1) article 11 ≡ Refuse codes_of.OutOfRange
 below_despatched = refl
 
-all_open_refused : answered (Some 1) item 12 ≡ Accept (SetLine (line 1 48 0 36 0 Changed) ∷ [])
+all_open_refused : answered (Some 1) article 12 ≡ Accept (SetLine (line 1 48 0 36 0 Changed) ∷ [])
 all_open_refused = refl
 
-nothing_refused : answered None item 48 ≡ Accept (SetLine (line 1 48 36 0 0 Changed) ∷ [])
+nothing_refused : answered None article 48 ≡ Accept (SetLine (line 1 48 36 0 0 Changed) ∷ [])
 nothing_refused = refl
 
-above_open : answered (Some 1) item 49 ≡ Refuse codes_of.OutOfRange
+above_open : answered (Some 1) article 49 ≡ Refuse codes_of.OutOfRange
 above_open = refl
 
-another_item : answered (Some 1) other_item 20 ≡ Refuse codes_of.OtherArticle
+another_item : answered (Some 1) other_article 20 ≡ Refuse codes_of.OtherArticle
 another_item = refl
 
-no_such_line : answered (Some 2) item 20 ≡ Refuse codes_of.NoLine
+no_such_line : answered (Some 2) article 20 ≡ Refuse codes_of.NoLine
 no_such_line = refl
 
-answered_before : judge_answer number (record { order_line = Some 1; gtin = other_item; answer = says.Changed 20 })
+answered_before : judge_answer number (record { order_line = Some 1; gtin = other_article; answer = says.Changed 20 })
     (with_lines (line 1 48 48 0 0 Accepted ∷ []))
     ≡ Refuse codes_of.NotWaiting
 answered_before = refl
 
-two_lines_of_an_item : judge_answer number (record { order_line = None; gtin = item; answer = says.Accepted })
+two_lines_of_an_article : judge_answer number (record { order_line = None; gtin = article; answer = says.Accepted })
     (with_lines (line 1 48 48 0 0 Waiting ∷ line 2 48 48 0 0 Accepted ∷ []))
     ≡ Refuse codes_of.NoLine
-two_lines_of_an_item = refl
+two_lines_of_an_article = refl
 
 -- the second answer sees what the first left
-answered_twice : judge_answers (answers.Lines (record { order_line = Some 1; gtin = item; answer = says.Refused }
-    ∷ record { order_line = Some 1; gtin = item; answer = says.Accepted }
+answered_twice : judge_answers (answers.Lines (record { order_line = Some 1; gtin = article; answer = says.Refused }
+    ∷ record { order_line = Some 1; gtin = article; answer = says.Accepted }
     ∷ [])) number (with_lines (line 1 48 48 0 0 Waiting ∷ []))
     ≡ Refuse codes_of.NotWaiting
 answered_twice = refl
@@ -146,7 +146,7 @@ no_order_to_answer = refl
 
 -- a despatch of units to a line of 48, 24 of it open
 abbrev of_line : ℕ → DespatchLine
-of_line quantity = record { order = number; order_line = None; gtin = item; quantity = quantity }
+of_line quantity = record { order = number; order_line = None; gtin = article; quantity = quantity }
 
 abbrev despatched_to : List ℕ → (List ℕ → Bool) → List Unit → Verdict
 despatched_to advice used units =
@@ -191,11 +191,11 @@ order_before_line : despatched_to (codes "DA2") unused
 order_before_line = refl
 
 item_before_open : despatched_to (codes "DA2") unused
-    (record { sscc = sscc; lines = record (of_line 99) { order_line = Some 1; gtin = other_item } ∷ [] } ∷ [])
+    (record { sscc = sscc; lines = record (of_line 99) { order_line = Some 1; gtin = other_article } ∷ [] } ∷ [])
     ≡ Refuse codes_of.OtherArticle
 item_before_open = refl
 
--- a line number that the order does not have; and an item of two of its lines, where none is given
+-- a line number that the order does not have; and an article of two of its lines, where none is given
 no_line_of_the_number : despatched_to (codes "DA2") unused (
     record { sscc = sscc; lines = record (of_line 1) { order_line = Some 2 } ∷ [] } ∷ []) ≡ Refuse codes_of.NoLine
 no_line_of_the_number = refl
@@ -224,9 +224,9 @@ received_of units =
 abbrev received_line : List ℕ → ℕ → ℕ → ReceiptLine
 received_line gtin accepted returned = record { gtin = gtin; accepted = accepted; returned = returned; destroyed = 0 }
 
--- two lines of one item are one receipt
+-- two lines of one article are one receipt
 sums_of_items : received_of
-    (record { sscc = sscc; lines = received_line item 6 1 ∷ received_line other_item 3 0 ∷ received_line item 4 0 ∷ [] }
+    (record { sscc = sscc; lines = received_line article 6 1 ∷ received_line other_article 3 0 ∷ received_line article 4 0 ∷ [] }
     ∷ [])
     ≡ Accept (
     AddMail (record {
@@ -240,15 +240,15 @@ sums_of_items : received_of
       taken = 0;
     })
     ∷ SetPallet (record pallet { received = arrival_number Received })
-    ∷ AddReceipt (record { sscc = sscc; gtin = item; accepted = 10; returned = 1; destroyed = 0 })
-    ∷ AddReceipt (record { sscc = sscc; gtin = other_item; accepted = 3; returned = 0; destroyed = 0 })
+    ∷ AddReceipt (record { sscc = sscc; gtin = article; accepted = 10; returned = 1; destroyed = 0 })
+    ∷ AddReceipt (record { sscc = sscc; gtin = other_article; accepted = 3; returned = 0; destroyed = 0 })
     ∷ [])
 sums_of_items = refl
 
-no_such_pallet : received_of (record { sscc = next_sscc; lines = received_line item 1 0 ∷ [] } ∷ []) ≡ Refuse codes_of.NoPallet
+no_such_pallet : received_of (record { sscc = next_sscc; lines = received_line article 1 0 ∷ [] } ∷ []) ≡ Refuse codes_of.NoPallet
 no_such_pallet = refl
 
-received_twice_before_unknown : received_of (record { sscc = sscc; lines = received_line item 1 0 ∷ [] }
+received_twice_before_unknown : received_of (record { sscc = sscc; lines = received_line article 1 0 ∷ [] }
     ∷ record { sscc = sscc; lines = [] }
     ∷ record { sscc = next_sscc; lines = [] }
     ∷ [])
@@ -294,7 +294,7 @@ not_registered = refl
 
 -- a new order, and the same order under other references
 abbrev order : Order
-order = record { number = number; buyer = buyer; supplier = gln; lines = record { line = 1; gtin = item; quantity = 48 } ∷ [] }
+order = record { number = number; buyer = buyer; supplier = gln; lines = record { line = 1; gtin = article; quantity = 48 } ∷ [] }
 
 new_order : judge_order buyer (Some alpha) (incoming (codes "1001") (codes "content")) (codes "body") order empty ≡ Accept (
     Remember (record { supplier = gln; side = 0x52; control = codes "1001"; message = codes "1"; content = codes "content" })
@@ -362,7 +362,7 @@ not_the_caller = refl
 -- the letters of lines: one that waits is accepted, refused, and changed
 abbrev answered_so : LineAnswer → Verdict
 answered_so answer =
-    judge_answer number (record { order_line = Some 1; gtin = item; answer = answer })
+    judge_answer number (record { order_line = Some 1; gtin = article; answer = answer })
     (with_lines (record (line 1 48 48 0 0 Waiting) { answer = 0x57 } ∷ []))
 
 abbrev lettered : ℕ → ℕ → ℕ → Verdict
@@ -377,12 +377,12 @@ refused_letter = refl
 changed_letter : answered_so (says.Changed 40) ≡ lettered 0x43 40 8
 changed_letter = refl
 
-answer_before_range : judge_answer number (record { order_line = Some 1; gtin = item; answer = says.Changed 99 })
+answer_before_range : judge_answer number (record { order_line = Some 1; gtin = article; answer = says.Changed 99 })
     (with_lines (line 1 48 48 0 0 Accepted ∷ []))
     ≡ Refuse codes_of.NotWaiting
 answer_before_range = refl
 
-range_before_item : answered (Some 1) other_item 49 ≡ Refuse codes_of.OutOfRange
+range_before_item : answered (Some 1) other_article 49 ≡ Refuse codes_of.OutOfRange
 range_before_item = refl
 
 -- what is remembered of a supplier's message, and of the retailer's

@@ -62,7 +62,7 @@ gone gtin (other ∷ others) =
     let turn = bytes_eq-sym gtin other in
     elim (decide (same other gtin)) [ inl e ↦ grind (arith, e, ih) | inr e ↦ grind (arith, e, turn, ih) ]
 
--- each item comes once
+-- each article comes once
 gtins_single : (lines : List ReceiptLine) → Single same (gtins lines)
 gtins_single [] = tt
 gtins_single (line ∷ lines) =
@@ -77,7 +77,7 @@ receipt_of sscc lines gtin = record {
   destroyed = total (λ line. line.destroyed) gtin lines;
 }
 
--- no receipt on the pallet has the item
+-- no receipt on the pallet has the article
 abbrev Lacks : List ℕ → Tables → List ℕ → Type 0
 Lacks sscc state gtin = list_any (λ y. same y.gtin gtin) (filter (λ y. same y.sscc sscc) state.receipts) ≡ false
 

@@ -9,13 +9,9 @@ use Rattle.hub_tables.specs.declared.change.Change.{Change}
 use Rattle.hub_tables.specs.declared.change.Change.TheVariants.{AddMail}
 use Rattle.hub_rules.specs.declared.incoming.IncomingMessage.{IncomingMessage}
 
--- the greatest number of an entry
-abbrev pub mail_limit : ℕ
-mail_limit = last_number
-
 -- a mailbox with so many entries has no number left for one more
 abbrev pub is_full : ℕ → Bool
-is_full mails = nat_lt mail_limit (mails + 1)
+is_full mails = nat_lt last_number (mails + 1)
 
 -- an entry with a number
 abbrev pub mail_entry : List ℕ → ℕ → IncomingMessage → MailKind → List ℕ → List ℕ → Change

@@ -16,16 +16,16 @@ use Rattle.hub_rules.specs.declared.code.Code.TheVariants.{NoPallet, PalletRecei
 use Rattle.hub_rules.specs.declared.incoming.IncomingMessage.{IncomingMessage}
 use Rattle.hub_rules.specs.declared.verdict.Verdict.TheVariants.{Accept}
 
--- the items of lines, each once, in the order in which they first come
+-- the articles of lines, each once, in the order in which they first come
 abbrev pub gtins : List ReceiptLine → List (List ℕ)
 gtins [] = []
 gtins (line ∷ lines) = line.gtin ∷ filter (λ gtin. not (same gtin line.gtin)) (gtins lines)
 
--- the sum of one kind of quantity over the lines of an item
+-- the sum of one kind of quantity over the lines of an article
 abbrev pub total : (ReceiptLine → ℕ) → List ℕ → List ReceiptLine → ℕ
 total kind gtin lines = sum_by kind (filter (λ line. same line.gtin gtin) lines)
 
--- what is received of an item on a pallet
+-- what is received of an article on a pallet
 abbrev pub new_receipt : List ℕ → List ReceiptLine → List ℕ → Change
 new_receipt sscc lines gtin = AddReceipt (record {
   sscc = sscc;
@@ -35,7 +35,7 @@ new_receipt sscc lines gtin = AddReceipt (record {
   destroyed = total (λ line. line.destroyed) gtin lines;
 })
 
--- B14, B15 at a unit; then the pallet is received, with the sums of each item
+-- B14, B15 at a unit; then the pallet is received, with the sums of each article
 abbrev pub judge_received : ReceiptUnit → Judge
 judge_received unit state =
     given (pallet_of state unit.sscc) NoPallet (λ pallet.
