@@ -19,7 +19,7 @@ tables_in s = record {
 }
 
 -- the rows of each kind rise by their keys, and the indexes list what they are to list
-pub record Kept (s : Lists) : Type 0 where
+pub record AreInOrder (s : Lists) : Type 0 where
   pub rising : Rising (tables_in s)
   pub untaken : IsIndex entry_cmp (λ key. key.supplier) entry_key is_untaken s.untaken.items s.mail.items
   pub owned : IsIndex owned_cmp (λ key. key.supplier) owned_key (λ pallet. true) s.owned.items s.pallets.items

@@ -2,7 +2,7 @@
 ghost use Rattle.std.specs.Prelude.{◌≡◌, ℕ, ◌+◌, length, IfOk, OnOk};
 ghost use Rattle.hub_tables.specs.Change.{apply, apply_all};
 ghost use Rattle.hub_tables.specs.Sets.{Rising};
-ghost use Rattle.hub_list.specs.Lists.{tables_in, Kept, Room};
+ghost use Rattle.hub_list.specs.Lists.{tables_in, AreInOrder, Room};
 
 use crate::index::{EntryKey, PalletKey, put_indexed, set_indexed};
 use crate::table::{put_row, set_row};
@@ -30,8 +30,8 @@ pub(crate) struct Lists {
 
 /// Takes the room for so many rows more of each kind.
 pub(crate) fn take_room(lists: &mut Lists, count: usize) -> Result<(), MemoryFault>
-    requires kept { Kept lists.old }
-    ensures kept { Kept lists.new }
+    requires kept { AreInOrder lists.old }
+    ensures kept { AreInOrder lists.new }
     ensures same { tables_in lists.new ≡ tables_in lists.old }
     ensures room { OnOk result (Room count lists.new) }
 {
@@ -70,8 +70,8 @@ pub(crate) fn copy_of(alloc: Global, change: &Change) -> Result<Change, MemoryFa
 /// Makes a change, for which there is room. Where it does not fit to the rows, it is left out.
 pub(crate) fn apply_one(lists: &mut Lists, change: Change)
     requires room { Room 1 lists.old }
-    requires kept { Kept lists.old }
-    ensures kept { Kept lists.new }
+    requires kept { AreInOrder lists.old }
+    ensures kept { AreInOrder lists.new }
     ensures tables { Rising (apply change (tables_in lists.old)) → tables_in lists.new ≡ apply change (tables_in lists.old) }
     ensures room { (n : ℕ) → Room (n + 1) lists.old → Room n lists.new }
 {
@@ -104,8 +104,8 @@ pub(crate) fn copies_of(alloc: Global, changes: &[Change]) -> Result<Vec<Change>
 /// Makes changes one after another, for which there is room. Each that does not fit to the rows is left out.
 pub(crate) fn apply_each(lists: &mut Lists, changes: Vec<Change>)
     requires room { Room (length changes.items) lists.old }
-    requires kept { Kept lists.old }
-    ensures kept { Kept lists.new }
+    requires kept { AreInOrder lists.old }
+    ensures kept { AreInOrder lists.new }
     ensures tables { Rising (apply_all changes.items (tables_in lists.old)) →
         tables_in lists.new ≡ apply_all changes.items (tables_in lists.old) }
 {

@@ -26,13 +26,13 @@ pub struct VecStore {
 
 impl Model for VecStore {
     ghost use Rattle.hub_tables.specs.Tables.{Tables};
-    ghost use Rattle.hub_list.specs.Lists.{tables_in, Kept};
+    ghost use Rattle.hub_list.specs.Lists.{tables_in, AreInOrder};
 
     ghost Value = { Tables };
 
     ghost view = { λ store. tables_in store.lists };
 
-    ghost invariant = { λ store. Kept store.lists };
+    ghost invariant = { λ store. AreInOrder store.lists };
 }
 
 impl VecStore {
