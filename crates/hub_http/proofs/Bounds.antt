@@ -9,7 +9,7 @@ use Rattle.edi_base.specs.Source.{TakesAtMost}
 use Rattle.edi_base.proofs.Taken.{takes_more}
 use Rattle.hub_parties.specs.Rows.{RegisterRows}
 use Rattle.http_head.specs.Fields.{values_of}
-use Rattle.http_head.specs.Head.{Heading}
+use Rattle.http_head.specs.Head.{Heading, longest_head}
 use Rattle.http_routes.specs.declared.routes.Place.{Place}
 use Rattle.hub_http.specs.Answer.{size_asked}
 use Rattle.hub_http.specs.Asked.{Asked, Asker, announced, asked_by, asker_of, at_place, by_asker, by_method, by_party}
@@ -44,7 +44,7 @@ limited true false n is = ltb-false longest_body n is
 
 announced_short : (values : List (List ℕ)) → Short (announced values)
 announced_short [] = tt
-announced_short (value ∷ []) = limited (are_digits 1 8192 value) (nat_lt longest_body (number_of value)) (number_of value) refl
+announced_short (value ∷ []) = limited (are_digits 1 longest_head value) (nat_lt longest_body (number_of value)) (number_of value) refl
 announced_short (value ∷ other ∷ values) = tt
 
 short_if : (test : Bool) (r s : Result ℕ Refusal) → Short r → Short s → Short (if test then r else s)

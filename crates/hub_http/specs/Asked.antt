@@ -5,10 +5,11 @@ use Rattle.std.specs.Prelude.{codes, Option, Some, None, option_map, Result, Ok,
 use Rattle.std.specs.List.{list_any}
 use Rattle.std.specs.Str.{bytes_eq}
 use Rattle.edi_base.specs.Limits.{are_digits, number_of}
+use Rattle.edi_segments.specs.Spelling.{text_limit}
 use Rattle.hub_parties.specs.Rows.{RegisterRows, role_of}
 use Rattle.hub_parties.specs.declared.role.Role.{Role}
 use Rattle.http_head.specs.Fields.{values_of}
-use Rattle.http_head.specs.Head.{Heading}
+use Rattle.http_head.specs.Head.{Heading, longest_head}
 use Rattle.http_routes.specs.Routes.{place_at}
 use Rattle.http_routes.specs.declared.routes.Place.{Place}
 use Rattle.hub_http.specs.Sought.{is_post, may_ask, method_of, sought_at}
@@ -63,12 +64,13 @@ asker_of register (party ∷ parts) (key ∷ other ∷ keys) = None
 
 -- how many bytes a body has at most: as many as the longest upload
 abbrev pub longest_body : ℕ
-longest_body = 1_048_576
+longest_body = text_limit
 
--- how long a body is, by the value of its length (RFC 9110, section 8.6)
+-- how long a body is, by the value of its length (RFC 9110, section 8.6), which has no more digits than a head has room
+-- for
 abbrev pub size_in : List ℕ → Result ℕ Refusal
 size_in value =
-    if not (are_digits 1 8192 value) then Err BadRequest
+    if not (are_digits 1 longest_head value) then Err BadRequest
     else if nat_lt longest_body (number_of value) then Err TooLarge
     else Ok (number_of value)
 

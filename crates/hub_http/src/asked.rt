@@ -8,18 +8,19 @@ ghost use Rattle.hub_http.specs.Told.{told_asker, told_result};
 use crate::refusal::Refusal;
 use crate::sought::{Sought, sought_at};
 use edi_base::{are_digits, value_of};
+use edi_tokens::TEXT_LIMIT;
 use gs1_ids::Gln;
-use http_head::{Head, Values};
+use http_head::{Head, LONGEST_HEAD, Values};
 use http_routes::{Routed, place_of};
 use hub_core::{Hub, Role};
 use hub_store::Store;
 use std::alloc::{AllocError, Global};
 
 /// How many bytes a body has at most: as many as the longest upload.
-const LONGEST_BODY: u32 = 1_048_576;
+const LONGEST_BODY: u32 = TEXT_LIMIT as u32;
 
 /// How many digits a length has at most: as many as there is room for in a head.
-const LONGEST_LENGTH: usize = 8192;
+const LONGEST_LENGTH: usize = LONGEST_HEAD;
 
 /// Who asks, known by its own key.
 #[derive(Clone, Copy)]
