@@ -104,16 +104,16 @@ over_lines article (line ∷ lines) sum h =
     ]
 
 -- what holds of the article of each line holds of an article that comes in lines
-of_item : (p : List ℕ → Bool) (article : List ℕ) (lines : List ReceiptLine) (sum : Total)
+of_article : (p : List ℕ → Bool) (article : List ℕ) (lines : List ReceiptLine) (sum : Total)
     → total_from None article lines ≡ Some sum
     → list_all (λ line. p line.gtin) lines ≡ true
     → p article ≡ true
-of_item p article [] sum h all = cc
-of_item p article (line ∷ lines) sum h all =
+of_article p article [] sum h all = cc
+of_article p article (line ∷ lines) sum h all =
     let parts = and_parts (p line.gtin) (list_all (λ line. p line.gtin) lines) all in
     elim (decide (same line.gtin article)) [
       | inl e ↦ ap p (sym (same_is line.gtin article e)) ∙ parts.0
-      | inr e ↦ of_item p article lines sum
+      | inr e ↦ of_article p article lines sum
           (sym (ap (λ v. total_from (cond v (Some (with_line nothing line)) None) article lines) e) ∙ h) parts.1
     ]
 
@@ -143,7 +143,7 @@ module _ (kind : ReceiptLine → ℕ) where
       sym (list_all-map _ _ lines) ∙ all in
       let t = sum_total article lines in
       let l = leb-true (sum_by_kind article lines) greatest
-      (of_item (λ gtin. nat_le (sum_by_kind gtin lines) greatest) article lines sum h each) in
+      (of_article (λ gtin. nat_le (sum_by_kind gtin lines) greatest) article lines sum h each) in
       omega (arith, t, l)
 
 -- a total and a line are within the limit
