@@ -2,7 +2,10 @@ pub mod Afterwards
 pub mod CleanJudges
 pub mod CleanRows
 pub mod CleanVerdicts
+pub mod Failing
 pub mod LookUps
 pub mod Named
 pub mod Reading
 pub mod Reports
+pub mod SoundLines
+pub mod SoundPallets

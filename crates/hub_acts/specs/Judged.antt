@@ -1,5 +1,8 @@
 -- What comes of a message.
+use Rattle.std.specs.Prelude.{◌≡◌, Result, Err}
 use Rattle.edi_messages.specs.Fault as message_faults
+use Rattle.edi_messages.specs.declared.fault.MessageFault.{MessageFault}
+use Rattle.hub_tables.specs.Tables.{Tables}
 use Rattle.hub_law.specs.Told.{Refused, Act, act}
 use Rattle.hub_acts.specs.declared.judged.Judged.{Judged}
 use Rattle.hub_acts.specs.declared.judged.Judged.TheVariants.{Read, Unread}
@@ -8,3 +11,14 @@ use Rattle.hub_acts.specs.declared.judged.Judged.TheVariants.{Read, Unread}
 abbrev pub act_of : Judged → Act
 act_of (Read verdict) t = act verdict t
 act_of (Unread fault) t = (Refused (message_faults.code_text fault), t)
+
+-- it cannot be read, and this is why
+pub record IsUnread {X : Type 0} (read : Result X MessageFault) (judged : Judged) : Type 0 where
+  pub fault : MessageFault
+  pub read_as : read ≡ Err fault
+  pub is : judged ≡ Unread fault
+
+-- it is what the act tells of whatever tables, and nothing is changed
+pub record UnreadOf (deliver : Act) (judged : Judged) : Type 0 where
+  pub same : (t : Tables) → deliver t ≡ act_of judged t
+  pub stays : (t : Tables) → (act_of judged t).1 ≡ t

@@ -1,12 +1,15 @@
 //! A cancellation.
 ghost use Rattle.std.specs.Prelude.{◌≡◌};
+ghost use Rattle.hub_lines.specs.KnownLines.{AreUnclean};
 ghost use Rattle.hub_tables.specs.Sets.{Rising};
+ghost use Rattle.hub_tables.specs.State.{lines_of};
+ghost use Rattle.hub_tables.specs.Tables.{view};
 ghost use Rattle.hub_rules.specs.Laws.{SoundHub};
 ghost use Rattle.hub_law.specs.Mark.{Whole};
 ghost use Rattle.hub_law.specs.Replies.{cancel_reply};
 ghost use Rattle.hub_law.specs.Requests.{cancel_named, cancelled, replied_by};
 ghost use Rattle.hub_law.specs.Told.{act, changed, told};
-ghost use Rattle.hub_acts.specs.Acts.{Carried, Unharmed, as_told};
+ghost use Rattle.hub_acts.specs.Acts.{Carried, FailsWith, Unharmed, anything, as_told, nothing};
 
 use crate::carrying::{carry_out, told_of_verdict};
 use crate::knowing::known_for_cancel;
@@ -23,6 +26,7 @@ fn finish<S: Store>(store: &mut S, verdict: &Verdict, reply: Reply) -> Result<Re
     ensures carried { Rising (changed verdict.now (S.content store.old)) →
         Carried S.content S.honest S.left store.old store.new (λ t.
         replied_by cancel_reply (act verdict.now t)) as_told result }
+    ensures fails { FailsWith S.plain ⊥ anything (S.broken store.old) (S.broken store.new) result }
     ensures unharmed { Unharmed S.content S.honest store.old store.new result }
 {
     carry_out(store, verdict)?;
@@ -40,6 +44,9 @@ pub fn take_cancel<S: Store>(
     ensures carried { SoundHub register.now.suppliers (S.content store.old) →
         Carried S.content S.honest S.left store.old store.new (λ t.
         cancelled Whole (cancel_named register.now cancel.now t) t) as_told result }
+    ensures fails { FailsWith S.plain (S.honest store.new →
+        AreUnclean (lines_of (view cancel.now.supplier (S.content store.old)) cancel.now.order))
+        nothing (S.broken store.old) (S.broken store.new) result }
     ensures unharmed { Unharmed S.content S.honest store.old store.new result }
 {
     acts_stay_sound();

@@ -11,8 +11,9 @@ ghost use Rattle.hub_rules.specs.Rules as rules;
 ghost use Rattle.hub_law.specs.Messages.{named, body_of, deliver_suppliers};
 ghost use Rattle.hub_law.specs.Requests.{deliver_named};
 ghost use Rattle.hub_law.specs.Told.{read_act};
-ghost use Rattle.hub_acts.specs.Acts.{Stays};
-ghost use Rattle.hub_acts.specs.Judged.{act_of};
+ghost use Rattle.hub_acts.specs.Acts.{FailsWith, Stays};
+ghost use Rattle.hub_acts.specs.Judged.{act_of, IsUnread, UnreadOf};
+ghost use Rattle.hub_acts.specs.Named.{MessageUnclean};
 
 use crate::despatches::known_for_despatch;
 use crate::knowing::{known_for_order, known_for_receipt, known_for_response};
@@ -51,6 +52,7 @@ fn judged_order<S: Store>(
         rules.judge_order register.now.retailer (supplier_row register.now.suppliers (named message.now)) incoming
         (body_of message.now) order (view (named message.now) (S.content store.old))) (S.content store.old)
         ≡ act_of judged (S.content store.old)) }
+    ensures fails { FailsWith S.plain ⊥ (IsUnread (order_of message.now)) (S.broken store.old) (S.broken store.new) result }
     ensures stays { Stays S.content S.honest S.left store.old store.new }
 {
     let order = match Order::read(alloc, message) {
@@ -80,6 +82,7 @@ fn judged_receipt<S: Store>(
         rules.judge_receipt register.now.retailer (supplier_row register.now.suppliers (named message.now)) incoming
         (body_of message.now) receipt (view (named message.now) (S.content store.old))) (S.content store.old)
         ≡ act_of judged (S.content store.old)) }
+    ensures fails { FailsWith S.plain ⊥ (IsUnread (receipt_of message.now)) (S.broken store.old) (S.broken store.new) result }
     ensures stays { Stays S.content S.honest S.left store.old store.new }
 {
     let receipt = match Receipt::read(alloc, message) {
@@ -109,6 +112,8 @@ fn judged_response<S: Store>(
         read_act (response_of message.now) (λ response.
         rules.judge_response register.now.retailer (Some supplier.now) incoming response
         (view supplier.now.gln (S.content store.old))) (S.content store.old) ≡ act_of judged (S.content store.old)) }
+    ensures fails { FailsWith S.plain (S.honest store.new → MessageUnclean message.now (view supplier.now.gln (S.content store.old)))
+        (IsUnread (response_of message.now)) (S.broken store.old) (S.broken store.new) result }
     ensures stays { Stays S.content S.honest S.left store.old store.new }
 {
     let response = match Response::read(alloc, message) {
@@ -137,6 +142,8 @@ fn judged_despatch<S: Store>(
         rules.judge_despatch register.now.retailer (Some supplier.now)
         (has_pallet (S.content store.old)) incoming despatch (view supplier.now.gln (S.content store.old)))
         (S.content store.old) ≡ act_of judged (S.content store.old)) }
+    ensures fails { FailsWith S.plain (S.honest store.new → MessageUnclean message.now (view supplier.now.gln (S.content store.old)))
+        (IsUnread (despatch_of message.now)) (S.broken store.old) (S.broken store.new) result }
     ensures stays { Stays S.content S.honest S.left store.old store.new }
 {
     let despatch = match Despatch::read(alloc, message) {
@@ -161,6 +168,8 @@ pub(crate) fn judged_for_retailer<S: Store>(
     ensures judged { S.honest store.new → Kept (view (named message.now) (S.content store.old)) →
         IfOk result (λ judged. deliver_named register.now (message.now, incoming) (S.content store.old)
         ≡ act_of judged (S.content store.old)) }
+    ensures fails { FailsWith S.plain ⊥
+        (UnreadOf (deliver_named register.now (message.now, incoming))) (S.broken store.old) (S.broken store.new) result }
     ensures stays { Stays S.content S.honest S.left store.old store.new }
 {
     match message.kind.as_slice() {
@@ -182,6 +191,9 @@ pub(crate) fn judged_for_supplier<S: Store>(
     ensures judged { S.honest store.new → Kept (view supplier.now.gln (S.content store.old)) →
         IfOk result (λ judged. deliver_suppliers (view supplier.now.gln) (parties_of register.now) supplier.now
         (message.now, incoming) (S.content store.old) ≡ act_of judged (S.content store.old)) }
+    ensures fails { FailsWith S.plain (S.honest store.new → MessageUnclean message.now (view supplier.now.gln (S.content store.old)))
+        (UnreadOf (deliver_suppliers (view supplier.now.gln) (parties_of register.now) supplier.now
+        (message.now, incoming))) (S.broken store.old) (S.broken store.new) result }
     ensures stays { Stays S.content S.honest S.left store.old store.new }
 {
     match message.kind.as_slice() {

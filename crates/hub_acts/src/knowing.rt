@@ -1,17 +1,17 @@
 //! What is known of a supplier's rows when a message or a cancellation is judged.
-ghost use Rattle.std.specs.Prelude.{◌≡◌, ◌≢◌, [], ◌∷◌, ◌++◌, length, map, true, None, Err, IfOk, OnOk};
+ghost use Rattle.std.specs.Prelude.{◌≡◌, ◌≢◌, ◌⊎◌, [], ◌∷◌, ◌++◌, length, map, true, None, Err, IfOk, IfErr, OnOk};
 ghost use Rattle.std.specs.List.{AllByRecursion};
 ghost use Rattle.edi_base.specs.Seen.{is_among};
 ghost use Rattle.hub_tables.specs.State.{lines_of, pallet_of};
 ghost use Rattle.hub_tables.specs.Tables.{view};
 ghost use Rattle.hub_store.specs.Clean.{are_clean};
-ghost use Rattle.hub_store.specs.declared.fault.StoreFault.TheVariants.{Unclean};
+ghost use Rattle.hub_store.specs.declared.fault.StoreFault.TheVariants.{Memory, Unclean};
 ghost use Rattle.hub_lines.specs.Book.{rows};
 ghost use Rattle.hub_lines.specs.KnownLines.{AddsUp, AreUnclean};
 ghost use Rattle.hub_rules.specs.Sound.{Kept};
 ghost use Rattle.hub_judges.specs.Known.{TellsDespatched, TellsForCancel, TellsForOrder, TellsForReceipt, TellsForResponse, TellsLines};
 ghost use Rattle.hub_judges.specs.Known.{TellsOrder};
-ghost use Rattle.hub_acts.specs.Acts.{Stays};
+ghost use Rattle.hub_acts.specs.Acts.{FailsWith, Stays, anything, nothing};
 
 use edi_base::{Items, MemoryFault, copied};
 use edi_goods::{Receipt, ReceiptUnit};
@@ -35,6 +35,7 @@ pub(crate) fn known_for_order<S: Store>(
     ensures told { S.honest store.new → Kept (view supplier.now (S.content store.old)) →
         IfOk result (λ known. TellsForOrder known incoming.now order.now (view supplier.now (S.content store.old))) }
     ensures unclean { S.honest store.new → S.broken store.old ≡ None → are_clean (S.content store.old) ≡ true → result ≢ Err Unclean }
+    ensures fails { FailsWith S.plain ⊥ nothing (S.broken store.old) (S.broken store.new) result }
     ensures stays { Stays S.content S.honest S.left store.old store.new }
 {
     let control = incoming.control.as_slice();
@@ -74,6 +75,7 @@ pub(crate) fn lines_of_rows(alloc: Global, given: Items<LineRow>) -> Result<Know
     ensures rows { IfOk result (λ lines. rows lines ≡ given) }
     ensures adds_up { IfOk result (AllByRecursion AddsUp) }
     ensures unclean { result ≡ Err Unclean → AreUnclean given }
+    ensures faults { IfErr result (λ fault. (fault ≡ Memory) ⊎ ((fault ≡ Unclean) × AreUnclean given)) }
 {
     match KnownLines::of_rows(alloc, given)? {
         Some(lines) => Ok(lines),
@@ -98,6 +100,8 @@ fn known_of_order<S: Store>(
     ensures remembered { IfOk result (λ known. known.remembered ≡ remembered) }
     ensures unclean { S.honest store.new → S.broken store.old ≡ None → are_clean (S.content store.old) ≡ true →
         result ≡ Err Unclean → AreUnclean (lines_of (view supplier.now (S.content store.old)) order.now) }
+    ensures fails { FailsWith S.plain (S.honest store.new → AreUnclean (lines_of (view supplier.now (S.content store.old)) order.now))
+        nothing (S.broken store.old) (S.broken store.new) result }
     ensures stays { Stays S.content S.honest S.left store.old store.new }
 {
     let is_there = store.order_known(supplier, order)?;
@@ -129,6 +133,9 @@ pub(crate) fn known_for_response<S: Store>(
         (view supplier.now (S.content store.old))) }
     ensures unclean { S.honest store.new → S.broken store.old ≡ None → are_clean (S.content store.old) ≡ true →
         result ≡ Err Unclean → AreUnclean (lines_of (view supplier.now (S.content store.old)) response.now.order) }
+    ensures fails { FailsWith S.plain (S.honest store.new →
+        AreUnclean (lines_of (view supplier.now (S.content store.old)) response.now.order))
+        nothing (S.broken store.old) (S.broken store.new) result }
     ensures stays { Stays S.content S.honest S.left store.old store.new }
 {
     let order = response.order.as_slice();
@@ -150,6 +157,9 @@ pub(crate) fn known_for_cancel<S: Store>(
     ensures unclean { S.honest store.new → S.broken store.old ≡ None → are_clean (S.content store.old) ≡ true →
         result ≡ Err Unclean →
         AreUnclean (lines_of (view cancel.now.supplier (S.content store.old)) cancel.now.order) }
+    ensures fails { FailsWith S.plain (S.honest store.new →
+        AreUnclean (lines_of (view cancel.now.supplier (S.content store.old)) cancel.now.order))
+        nothing (S.broken store.old) (S.broken store.new) result }
     ensures stays { Stays S.content S.honest S.left store.old store.new }
 {
     let supplier = &cancel.supplier;
@@ -183,6 +193,7 @@ fn pallets_of<S: Store>(
         ≡ pallets) }
     ensures each { IfOk result (λ pallets. length pallets ≡ length units.now) }
     ensures unclean { S.honest store.new → S.broken store.old ≡ None → are_clean (S.content store.old) ≡ true → result ≢ Err Unclean }
+    ensures fails { FailsWith S.plain ⊥ anything (S.broken store.old) (S.broken store.new) result }
     ensures stays { Stays S.content S.honest S.left store.old store.new }
 {
     let mut pallets = Items::new(alloc);
@@ -207,6 +218,7 @@ pub(crate) fn known_for_receipt<S: Store>(
         (view supplier.now (S.content store.old))) }
     ensures each { IfOk result (λ known. length known.pallets ≡ length receipt.now.units) }
     ensures unclean { S.honest store.new → S.broken store.old ≡ None → are_clean (S.content store.old) ≡ true → result ≢ Err Unclean }
+    ensures fails { FailsWith S.plain ⊥ nothing (S.broken store.old) (S.broken store.new) result }
     ensures stays { Stays S.content S.honest S.left store.old store.new }
 {
     let control = incoming.control.as_slice();

@@ -15,7 +15,7 @@ mod naming;
 mod status;
 
 pub use cancel::take_cancel;
-pub use laws::rules_keep_rows_clean;
+pub use laws::{lines_of_sound_tables_are_known, rules_keep_rows_clean};
 pub use mailbox::{mailbox_entry, mailbox_list, take_entry};
 pub use messages::{take_retailers_message, take_suppliers_message};
 pub use status::status_report;

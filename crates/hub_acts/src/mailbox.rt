@@ -9,7 +9,7 @@ ghost use Rattle.hub_law.specs.MailText.{list_text};
 ghost use Rattle.hub_law.specs.Mark.{Whole};
 ghost use Rattle.hub_law.specs.Replies.{unknown, done, entry_reply};
 ghost use Rattle.hub_law.specs.Requests.{taken};
-ghost use Rattle.hub_acts.specs.Acts.{Carried, Unharmed, Stays, as_told};
+ghost use Rattle.hub_acts.specs.Acts.{Carried, FailsWith, Unharmed, Stays, as_told, nothing};
 
 use edi_base::{Items, MemoryFault, copied};
 use gs1_ids::Gln;
@@ -54,6 +54,7 @@ pub fn mailbox_list<S: Store>(
     ensures reply { S.honest store.new →
         IfOk result (λ reply.
         reply ≡ done (list_text (untaken_after (view supplier.now (S.content store.old)) number))) }
+    ensures fails { FailsWith S.plain ⊥ nothing (S.broken store.old) (S.broken store.new) result }
     ensures stays { Stays S.content S.honest S.left store.old store.new }
 {
     let entries = store.mail_after(supplier, number, LISTED_AND_ONE)?;
@@ -72,6 +73,7 @@ pub fn mailbox_entry<S: Store>(
     ensures reply { S.honest store.new →
         IfOk result (λ reply. reply ≡ entry_reply hub.now
         (entry_at (view supplier.now (S.content store.old)) number)) }
+    ensures fails { FailsWith S.plain ⊥ nothing (S.broken store.old) (S.broken store.new) result }
     ensures stays { Stays S.content S.honest S.left store.old store.new }
 {
     let Some(entry) = store.mail_item(supplier, number)? else {
@@ -102,6 +104,7 @@ pub fn take_entry<S: Store>(
         Registered register.suppliers s (S.content store.old) →
         Carried S.content S.honest S.left store.old store.new (λ t.
         taken Whole (entry_at (view supplier.now t) number) t) as_told result }
+    ensures fails { FailsWith S.plain ⊥ nothing (S.broken store.old) (S.broken store.new) result }
     ensures unharmed { Unharmed S.content S.honest store.old store.new result }
 {
     acts_stay_sound();

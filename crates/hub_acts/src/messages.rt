@@ -2,14 +2,15 @@
 ghost use Rattle.std.specs.Prelude.{◌≡◌, ◌∷◌, ◌++◌, ◌+◌, ◌≤◌, IfOk, OnErr, vec_len, vec_capacity};
 ghost use Rattle.hub_parties.specs.Rows.{parties_of};
 ghost use Rattle.hub_tables.specs.Sets.{Rising};
-ghost use Rattle.hub_tables.specs.Tables.{view};
+ghost use Rattle.hub_tables.specs.Tables.{Tables, view};
 ghost use Rattle.hub_rules.specs.Laws.{SoundHub, Registered};
 ghost use Rattle.hub_law.specs.Messages.{incoming, deliver_suppliers};
 ghost use Rattle.hub_law.specs.Replies.{told_words};
 ghost use Rattle.hub_law.specs.Requests.{deliver_named};
 ghost use Rattle.hub_law.specs.Widths.{line};
-ghost use Rattle.hub_acts.specs.Acts.{Carried, Unharmed};
+ghost use Rattle.hub_acts.specs.Acts.{Carried, FailsWith, OfAny, Unharmed};
 ghost use Rattle.hub_acts.specs.Judged.{act_of};
+ghost use Rattle.hub_acts.specs.Named.{MessageUnclean};
 ghost use Rattle.hub_texts.specs.Decision.{told_of};
 
 use crate::carrying::{carry_out_judged, told_of_judged};
@@ -34,6 +35,8 @@ fn finish<S: Store>(
 ) -> Result<Decision, StoreFault>
     ensures carried { Rising (act_of judged.now (S.content store.old)).1 →
         Carried S.content S.honest S.left store.old store.new (act_of judged.now) told_of result }
+    ensures fails { FailsWith S.plain ⊥
+        (λ told. (t : Tables) → (act_of judged.now t).0 ≡ told_of told) (S.broken store.old) (S.broken store.new) result }
     ensures unharmed { Unharmed S.content S.honest store.old store.new result }
     ensures line { IfOk result (λ told. reply.new.items ≡ reply.old.items
         ++ line (message.now.reference ∷ message.now.kind ∷ told_words (told_of told))) }
@@ -62,6 +65,8 @@ pub fn take_retailers_message<S: Store>(
     ensures carried { SoundHub register.now.suppliers (S.content store.old) →
         Carried S.content S.honest S.left store.old store.new
         (deliver_named register.now (message.now, incoming moment interchange.now message.now)) told_of result }
+    ensures fails { FailsWith S.plain ⊥
+        (OfAny (deliver_named register.now (message.now, incoming moment interchange.now message.now)) told_of) (S.broken store.old) (S.broken store.new) result }
     ensures unharmed { Unharmed S.content S.honest store.old store.new result }
     ensures line { IfOk result (λ told. reply.new.items ≡ reply.old.items
         ++ line (message.now.reference ∷ message.now.kind ∷ told_words (told_of told))) }
@@ -89,6 +94,9 @@ pub fn take_suppliers_message<S: Store>(
         Carried S.content S.honest S.left store.old store.new
         (deliver_suppliers (view supplier.now.gln) (parties_of register.now) supplier.now
         (message.now, incoming moment interchange.now message.now)) told_of result }
+    ensures fails { FailsWith S.plain (S.honest store.new → MessageUnclean message.now (view supplier.now.gln (S.content store.old)))
+        (OfAny (deliver_suppliers (view supplier.now.gln) (parties_of register.now) supplier.now
+        (message.now, incoming moment interchange.now message.now)) told_of) (S.broken store.old) (S.broken store.new) result }
     ensures unharmed { Unharmed S.content S.honest store.old store.new result }
     ensures line { IfOk result (λ told. reply.new.items ≡ reply.old.items
         ++ line (message.now.reference ∷ message.now.kind ∷ told_words (told_of told))) }

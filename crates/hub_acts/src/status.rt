@@ -1,17 +1,17 @@
 //! The status report of a supplier.
-ghost use Rattle.std.specs.Prelude.{◌≡◌, ◌++◌, true, None, Err, IfOk};
+ghost use Rattle.std.specs.Prelude.{◌≡◌, ◌⊎◌, ◌++◌, true, None, Err, IfOk, IfErr};
 ghost use Rattle.std.specs.List.{flat_map};
 ghost use Rattle.hub_tables.specs.Sets.{Rises};
 ghost use Rattle.hub_tables.specs.State.{contents_of, receipts_of};
 ghost use Rattle.hub_tables.specs.Tables.{Tables, view};
 ghost use Rattle.hub_store.specs.Clean.{are_clean};
-ghost use Rattle.hub_store.specs.declared.fault.StoreFault.TheVariants.{Unclean};
+ghost use Rattle.hub_store.specs.declared.fault.StoreFault.TheVariants.{Memory, Unclean};
 ghost use Rattle.hub_rules.specs.Sound.{Kept};
 ghost use Rattle.hub_lines.specs.Book.{place_cmp};
 ghost use Rattle.hub_law.specs.Replies.{done};
 ghost use Rattle.hub_law.specs.StatusText.{pallet_text, status_text};
 ghost use Rattle.hub_texts.specs.Totals.{IsUnclean};
-ghost use Rattle.hub_acts.specs.Acts.{Stays};
+ghost use Rattle.hub_acts.specs.Acts.{FailsWith, Stays, anything, nothing};
 ghost use Rattle.hub_acts.specs.Status.{PalletUnclean, StatusUnclean};
 
 use crate::mailbox::done_reply;
@@ -38,6 +38,8 @@ fn with_text(
         contents_of state pallet.now.sscc ≡ contents.now → receipts_of state pallet.now.sscc ≡ receipts.now →
         IfOk result (λ whole. whole.items ≡ text.items ++ pallet_text state pallet.now) }
     ensures unclean { result ≡ Err Unclean → IsUnclean lines.now contents.now receipts.now }
+    ensures faults { IfErr result (λ fault.
+        (fault ≡ Memory) ⊎ ((fault ≡ Unclean) × IsUnclean lines.now contents.now receipts.now)) }
 {
     match with_pallet(alloc, lines, pallet, contents, receipts, text) {
         Ok(whole) => Ok(whole),
@@ -61,6 +63,9 @@ fn with_pallets<S: Store>(
         ++ flat_map (pallet_text (view supplier.now (S.content store.old))) pallets.now) }
     ensures unclean { S.honest store.new → S.broken store.old ≡ None → are_clean (S.content store.old) ≡ true →
         result ≡ Err Unclean → PalletUnclean (view supplier.now (S.content store.old)) lines.now pallets.now }
+    ensures fails { FailsWith S.plain (S.honest store.new →
+        PalletUnclean (view supplier.now (S.content store.old)) lines.now pallets.now)
+        anything (S.broken store.old) (S.broken store.new) result }
     ensures stays { Stays S.content S.honest S.left store.old store.new }
 {
     let mut whole = text;
@@ -85,6 +90,8 @@ pub fn status_report<S: Store>(
         IfOk result (λ reply. reply ≡ done (status_text (view supplier.now (S.content store.old)))) }
     ensures unclean { S.honest store.new → S.broken store.old ≡ None → are_clean (S.content store.old) ≡ true →
         result ≡ Err Unclean → StatusUnclean (view supplier.now (S.content store.old)) }
+    ensures fails { FailsWith S.plain (S.honest store.new → StatusUnclean (view supplier.now (S.content store.old)))
+        nothing (S.broken store.old) (S.broken store.new) result }
     ensures stays { Stays S.content S.honest S.left store.old store.new }
 {
     let ordered = store.all_lines(supplier)?;

@@ -1,4 +1,4 @@
-use Rattle.std.proofs.Common.{rules, ◌≡◌, ℕ, true, List, ◌++◌, map, filter, sym, subst, ap, ap₂, ◌∙◌}
+use Rattle.std.proofs.Common.{rules, ◌≡◌, inl, inr, Err, ℕ, true, List, ◌++◌, map, filter, sym, subst, ap, ap₂, ◌∙◌}
 use Rattle.std.specs.List.{flat_map}
 use Rattle.edi_base.specs.Seen.{is_among}
 use Rattle.hub_tables.specs.Rows.{same}
@@ -8,6 +8,7 @@ use Rattle.hub_lines.specs.KnownLines.{AreUnclean}
 use Rattle.hub_judges.specs.Known.{names_order}
 use Rattle.hub_acts.proofs.LookUps.{same_rows}
 use Rattle.hub_acts.proofs.Named.{known_among, lines_of_named, numbers_rise, seen_is_there}
+use Rattle.hub_acts.proofs.Failing.{ends_in, none_broken}
 use Rattle.hub_acts.proofs.despatches.known_for_despatch.Goals as goal
 
 pub returns-clause-told : goal.returns-clause-told
@@ -67,3 +68,39 @@ returns-in_err-lines-clause-unclean g c = λ honest going clean unclean.
       rise = numbers_rise keys c.in_ok-named.ensures.ordered;
       lines = subst AreUnclean found (c.in_err-lines.ensures.unclean search rules);
     }
+
+pub returns-in_err-lines-clause-fails : goal.returns-in_err-lines-clause-fails
+returns-in_err-lines-clause-fails g c =
+    let first = c.in_ok-remembered.ensures.fails in
+    let second = c.in_ok-number_known.ensures.fails in
+    let third = c.in_ok-used.ensures.fails in
+    let fourth = c.in_ok-put_known.ensures.fails in
+    let fault = c.in_err-lines.field-0.0 in
+    let is : c.from_residual-in_err-lines.result ≡ Err fault = search rules in
+    ends_in _ _ _ _ _ c.from_residual-in_err-lines.result fault is (none_broken _ _ _ _ first)
+    (fourth.after ∙ third.after ∙ second.after ∙ first.after)
+    (elim c.in_err-lines.ensures.faults [
+      | inl e ↦ inl e
+      | inr e ↦ inr (
+        e.0,
+        λ honest.
+            let supplier = c.args.supplier.now in
+            let third = c.in_ok-put_known.ensures.stays.was_honest honest in
+            let second = c.in_ok-used.ensures.stays.was_honest third in
+            let first = c.advice_known.ensures.looks.was_honest second in
+            let one = c.remembered.ensures.looks.content_stays first in
+            let two = c.advice_known.ensures.looks.content_stays second in
+            let three = c.in_ok-used.ensures.stays.content_stays third in
+            let keys = c.in_ok-named.named.keys in
+            let numbers = map (λ number. number.now) keys in
+            let found = c.in_ok-put_known.ensures.rows honest
+            ∙ ap₂ (λ so_far s. so_far ++ flat_map (lines_of s) numbers) c.new-rows.ensures
+            (ap (view supplier) (three ∙ two ∙ one)) in
+            record {
+              orders = numbers;
+              named = λ order. c.in_ok-named.ensures.orders order ∙ ap (λ units. names_order units order) c.as_slice-units.ensures;
+              rise = numbers_rise keys c.in_ok-named.ensures.ordered;
+              lines = subst AreUnclean found e.1;
+            },
+      )
+    ])

@@ -1,8 +1,10 @@
-use Rattle.std.proofs.Common.{◌≡◌, ap, ◌∙◌}
+use Rattle.std.proofs.Common.{rules, ◌≡◌, inl, inr, Err, ap, subst, ◌∙◌}
 use Rattle.hub_tables.specs.State.{lines_of}
 use Rattle.hub_tables.specs.Tables.{view}
 use Rattle.hub_lines.specs.Book.{rows}
+use Rattle.hub_lines.specs.KnownLines.{AreUnclean}
 use Rattle.hub_acts.proofs.LookUps.{lines_known, despatched_known}
+use Rattle.hub_acts.proofs.Failing.{ends_in, none_broken}
 use Rattle.hub_acts.proofs.knowing.known_of_order.Goals as goal
 
 pub returns-clause-told : goal.returns-clause-told
@@ -19,3 +21,22 @@ returns-clause-told g c = λ honest.
     let told : rows lines ≡ lines_of state order = c.in_ok-lines.ensures.rows ∙ found ∙ stays in
     let adds_up = c.in_ok-lines.ensures.adds_up in
     (cc, lines_known state order lines told, λ kept. despatched_known state order lines kept told adds_up)
+
+pub returns-in_err-lines-clause-fails : goal.returns-in_err-lines-clause-fails
+returns-in_err-lines-clause-fails g c =
+    let supplier = c.args.supplier.now in
+    let order = c.args.order.now in
+    let first = c.in_ok-is_there.ensures.fails in
+    let second = c.in_ok-rows.ensures.fails in
+    let fault = c.in_err-lines.field-0.0 in
+    let is : c.from_residual-in_err-lines.result ≡ Err fault = search rules in
+    ends_in _ _ _ _ _ c.from_residual-in_err-lines.result fault is (none_broken _ _ _ _ first) (second.after ∙ first.after)
+    (elim c.in_err-lines.ensures.faults [
+      | inl e ↦ inl e
+      | inr e ↦ inr (
+        e.0,
+        λ honest. subst AreUnclean (c.in_ok-rows.ensures.looks.answers honest
+            ∙ ap (λ t. lines_of (view supplier t) order)
+            (c.order_known.ensures.looks.content_stays (c.lines_of.ensures.looks.was_honest honest))) e.1,
+      )
+    ])

@@ -1,10 +1,14 @@
-use Rattle.std.proofs.Common.{sym, ap, ◌∙◌}
+use Rattle.std.proofs.Common.{Ok, sym, subst, ap, ◌∙◌}
+use Rattle.hub_rules.specs.declared.incoming.IncomingMessage.{IncomingMessage}
 use Rattle.hub_parties.specs.Rows.{parties_of}
 use Rattle.hub_tables.specs.Tables.{view}
 use Rattle.hub_law.specs.Messages.{incoming, deliver_suppliers}
 use Rattle.hub_texts.specs.Decision.{told_of}
-use Rattle.hub_acts.specs.Judged.{act_of}
+use Rattle.hub_acts.specs.Acts.{FailsWith}
+use Rattle.hub_acts.specs.Named.{MessageUnclean}
+use Rattle.hub_acts.specs.Judged.{act_of, UnreadOf}
 use Rattle.hub_acts.proofs.Afterwards.{after_looking}
+use Rattle.hub_acts.proofs.Failing.{after_judging}
 use Rattle.hub_acts.proofs.messages.take_suppliers_message.Goals as goal
 
 pub returns-clause-carried : goal.returns-clause-carried
@@ -22,3 +26,21 @@ returns-clause-carried g c = λ here.
     ∙ c.in_ok-judged.ensures.judged honest (here.sound.kept s.gln))
     (c.acts_stay_sound.ensures.suppliers register s message came t here).rising
     c.finish.result c.finish.ensures.carried
+
+pub returns-clause-fails : goal.returns-clause-fails
+returns-clause-fails g c =
+    let register = c.args.register.now in
+    let s = c.args.supplier.now in
+    let message = c.args.message.now in
+    let came = incoming c.args.moment c.args.interchange.now message in
+    let old = g.S.Store.broken c.args.store.now in
+    let middle = g.S.Store.broken c.judged_for_supplier.new.store in
+    let judged = c.in_ok-judged.judged in
+    let unclean : Type 0 = MessageUnclean message (view s.gln (g.S.Store.content c.args.store.now)) in
+    after_judging g.S.Store.plain (g.S.Store.honest c.finish.new.store → unclean) (g.S.Store.honest c.judged_for_supplier.new.store → unclean)
+    old middle (g.S.Store.broken c.finish.new.store)
+    (deliver_suppliers (view s.gln) (parties_of register) s (message, came)) judged c.finish.result
+    (subst (λ (one : IncomingMessage). FailsWith g.S.Store.plain (g.S.Store.honest c.judged_for_supplier.new.store → unclean)
+    (UnreadOf (deliver_suppliers (view s.gln) (parties_of register) s (message, one))) old middle (Ok judged))
+    c.in_ok-came.ensures c.in_ok-judged.ensures.fails)
+    c.finish.ensures.fails
