@@ -3,7 +3,7 @@ use Rattle.std.specs.Prelude.{◌≡◌, ℕ, List, Some}
 use Rattle.edi_segments.specs.declared.segment.Segment.{Segment}
 use Rattle.edi_messages.specs.Lines as lines
 
--- the number and the item are those of the group
+-- the number and the article are those of the group
 pub record IsLineItem (group : List Segment) (number : ℕ) (gtin : List ℕ) : Type 0 where
   pub number_is : lines.number group ≡ Some number
   pub gtin_is : lines.gtin group ≡ Some gtin

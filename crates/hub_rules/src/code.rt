@@ -17,13 +17,13 @@ pub enum Code {
     OrderKnown,
     /// B05: the supplier has no such order.
     NoOrder,
-    /// B06: the order has no such line, or not exactly one of the item.
+    /// B06: the order has no such line, or not exactly one of the article.
     NoLine,
     /// B07: the line does not wait for an answer, or no line of the order does.
     NotWaiting,
     /// B08: a changed quantity is below what is despatched, or above that and what is open.
     OutOfRange,
-    /// B09: the line has another item.
+    /// B09: the line has another article.
     OtherArticle,
     /// B10: more is despatched than is open.
     MoreThanOpen,

@@ -32,7 +32,7 @@ the_only [] = None
 the_only (x ∷ []) = Some x
 the_only (x ∷ y ∷ xs) = None
 
--- among the lines of an order: the one of a number, or where none is given the only one of an item
+-- among the lines of an order: the one of a number, or where none is given the only one of an article
 abbrev pub line_among : List LineRow → Option ℕ → List ℕ → Option LineRow
 line_among lines (Some number) gtin = find (λ line. line.line == number) lines
 line_among lines None gtin = the_only (filter (λ line. same line.gtin gtin) lines)

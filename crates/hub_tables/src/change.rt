@@ -20,7 +20,7 @@ pub enum Change {
     SetPallet(PalletRow),
     /// A new content of a pallet.
     AddContent(ContentRow),
-    /// A new receipt of an item.
+    /// A new receipt of an article.
     AddReceipt(ReceiptRow),
     /// A message or cancellation that is remembered.
     Remember(RememberedRow),

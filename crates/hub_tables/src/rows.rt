@@ -24,7 +24,7 @@ pub struct LineRow {
     pub number: Items<u8>,
     /// The line number, 1 to 999,999.
     pub line: u32,
-    /// The item.
+    /// The article.
     pub gtin: Gtin,
     /// The quantity ordered, 1 to 999,999,999.
     pub ordered: u32,
@@ -75,12 +75,12 @@ pub struct ContentRow {
     pub quantity: u32,
 }
 
-/// What was received of an item on a pallet, in pieces. Key: the pallet's SSCC and the GTIN.
+/// What was received of an article on a pallet, in pieces. Key: the pallet's SSCC and the GTIN.
 #[derive(Debug, Drop)]
 pub struct ReceiptRow {
     /// The pallet's SSCC.
     pub sscc: Sscc,
-    /// The item.
+    /// The article.
     pub gtin: Gtin,
     /// Received and accepted.
     pub accepted: u32,
