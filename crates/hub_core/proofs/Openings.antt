@@ -40,7 +40,8 @@ pub envelope_fault : (bytes : List ℕ) (tokens : Tokens) (fault : EnvelopeFault
     → interchange_in bytes ≡ told_as (Err (Envelope fault))
 unfolding interchange_in
 envelope_fault bytes tokens fault e has fails =
-    ap (λ given. told_as (read_as given)) e ∙ ap (λ given. told_as (judged_as given)) (fails (λ e. has (inr (ap (λ fault. Envelope fault) e))))
+    ap (λ given. told_as (read_as given)) e
+    ∙ ap (λ given. told_as (judged_as given)) (fails (λ e. has (inr (ap (λ fault. Envelope fault) e))))
 
 pub opened_well : (bytes : List ℕ) (tokens : Tokens) (interchange : Interchange)
     → tokens_of bytes ≡ Ok tokens

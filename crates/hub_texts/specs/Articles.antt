@@ -14,7 +14,8 @@ precedes_named content row = is_lt (ordering_then (bytes_cmp row.number content.
 
 -- the line that a content names
 abbrev pub line_of_content : List LineRow → ContentRow → Option LineRow
-line_of_content lines content = line_among (filter (λ line. same line.number content.number) lines) (Some content.line) []
+line_of_content lines content =
+    line_among (filter (λ line. same line.number content.number) lines) (Some content.line) []
 
 -- its article
 abbrev pub article_among : List LineRow → ContentRow → Option (List ℕ)
