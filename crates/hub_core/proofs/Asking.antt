@@ -1,14 +1,19 @@
 -- What a request did that looked at the store, that was one act, or that was an upload.
-use Rattle.std.proofs.Common.{◌≡◌, inl, inr, ℕ, List, length, Result, Ok, Err, IfOk, refl, sym, ap, subst, ◌∙◌}
+use Rattle.std.proofs.Common.{◌≡◌, true, inl, inr, ℕ, Option, Some, None, List, length, Result, Ok, Err, IfOk, refl, sym, ap, subst, ◌∙◌}
+use Rattle.std.specs.Borrow.{Bor}
+use Rattle.std.specs.Option.{is_some, option_copied}
+use Rattle.std.proofs.lemmas.Bool.{true≢false}
 use Rattle.edi_envelope.specs.declared.interchange.Interchange.{Interchange}
 use Rattle.edi_envelope.specs.declared.interchange.RawMessage.{RawMessage}
+use Rattle.hub_parties.specs.declared.row.SupplierRow.{SupplierRow}
 use Rattle.hub_tables.specs.Tables.{Tables}
 use Rattle.hub_store.specs.declared.fault.StoreFault.{StoreFault}
 use Rattle.hub_rules.specs.declared.incoming.IncomingMessage.{IncomingMessage}
 use Rattle.hub_law.specs.Mark.{Whole, StoppedBare}
 use Rattle.hub_law.specs.Opening.{Opened}
-use Rattle.hub_law.specs.Replies.{refused_reply}
-use Rattle.hub_law.specs.Requests.{uploaded}
+use Rattle.hub_law.specs.Replies.{done, refused_reply}
+use Rattle.hub_law.specs.Requests.{report, uploaded}
+use Rattle.hub_law.specs.StatusText.{status_text}
 use Rattle.hub_law.specs.Stops.{opened_for}
 use Rattle.hub_law.specs.Told.{Act}
 use Rattle.hub_law.specs.declared.reply.Reply.{Reply}
@@ -96,3 +101,11 @@ module _ {S : Type 0} (content : S → Tables) (honest : S → Type 0) (left : S
       → AskedOf old new opened reply
   upload_taken old new opened interchange reply is answered =
       subst (λ opened. AskedOf old new opened reply) (sym is) (record { answered = answered; undone = λ h. tt })
+
+-- a report of a supplier that was found
+pub reported : (found : Option (Bor SupplierRow)) (row : Option SupplierRow) (state : Tables)
+    → true ≡ is_some found
+    → option_copied found ≡ row
+    → report row state ≡ done (status_text state)
+reported None row state there is = absurd (true≢false there)
+reported (Some supplier) row state there is = ap (λ row. report row state) (sym is)

@@ -64,7 +64,7 @@ module _ (register : RegisterRows) (input : Input) where
     sound = hub.sound;
   }
 
-  step_is : (caller : Caller)
+  pub step_is : (caller : Caller)
       → Known caller
       → (mark : Mark) (t : Tables)
       → request_of register caller input.moment input.request mark t ≡ shared_step register t input mark

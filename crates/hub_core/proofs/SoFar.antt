@@ -21,10 +21,10 @@ use Rattle.hub_core.specs.Steps.{OneMore}
 use Rattle.hub_core.specs.Uploads.{DoneSoFar}
 use Rattle.hub_rules.specs.declared.incoming.IncomingMessage.{IncomingMessage}
 
-abbrev Sent : Type 0
+abbrev pub Sent : Type 0
 Sent = RawMessage × IncomingMessage
 
-abbrev sent_at : ℕ → Interchange → RawMessage → Sent
+abbrev pub sent_at : ℕ → Interchange → RawMessage → Sent
 sent_at moment interchange message = (message, incoming moment interchange message)
 
 in_row_more : {X : Type 0} (step : X → Act) (xs : List X) (x : X) (t : Tables)

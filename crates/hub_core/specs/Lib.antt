@@ -1,3 +1,4 @@
+pub mod Broken
 pub mod Callers
 pub mod Laws
 pub mod Opened

@@ -7,6 +7,7 @@ ghost use Rattle.hub_law.specs.declared.reply.Outcome.TheVariants.{Stopped};
 ghost use Rattle.hub_law.specs.declared.reply.Reply.{Reply};
 ghost use Rattle.hub_law.specs.declared.request.Input.{Input};
 ghost use Rattle.hub_law.specs.declared.request.Request.TheVariants.{Upload};
+ghost use Rattle.hub_core.specs.Broken.{Breaks, RunBreaks, does_input};
 ghost use Rattle.hub_core.specs.Opened.{RanOut};
 ghost use Rattle.hub_core.specs.Steps.{Stepped, Ran, input_of};
 
@@ -88,6 +89,8 @@ impl<S: Store> Hub<S> {
         ensures stepped { S.honest self.new.1 → Sound self.old.0.suppliers (S.content self.old.1) →
             Stepped self.old.0 (S.content self.old.1) (S.content self.new.1) (S.left self.old.1) (S.left self.new.1)
             (input_of moment caller.now key.now request) result }
+        ensures breaks { Breaks S.plain (does_input self.old.0 (input_of moment caller.now key.now request))
+            (S.broken self.old.1) (S.broken self.new.1) result }
         ensures register { self.new.0 ≡ self.old.0 }
         ensures was_honest { S.honest self.new.1 → S.honest self.old.1 }
     {
@@ -157,6 +160,8 @@ impl<S: Store> Hub<S> {
             IfOk result (λ replies. Ran self.old.0 (S.content self.old.1) (S.content self.new.1) (S.left self.old.1)
             (S.left self.new.1) inputs.now replies) }
         ensures none { OnErr result (self.new ≡ self.old) }
+        ensures breaks { IfOk result (λ replies. RunBreaks S.plain self.old.0 (S.broken self.old.1) (S.broken self.new.1)
+            inputs.now replies) }
         ensures register { self.new.0 ≡ self.old.0 }
         ensures was_honest { S.honest self.new.1 → S.honest self.old.1 }
     {

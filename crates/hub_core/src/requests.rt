@@ -4,6 +4,7 @@ ghost use Rattle.std.specs.Option.{IfSome, IfNone};
 ghost use Rattle.hub_law.specs.Requests.{uploaded};
 ghost use Rattle.hub_law.specs.Stops.{opened_for};
 ghost use Rattle.hub_core.specs.Opened as spec;
+ghost use Rattle.hub_core.specs.Broken.{BreaksAsked};
 ghost use Rattle.hub_core.specs.Callers.{delivered, addressed_by, opening_of, acts_by, request_of, MayDeliver};
 ghost use Rattle.hub_core.specs.Steps.{Asked, acts_of};
 ghost use Rattle.hub_core.specs.declared.caller.Caller.TheVariants.{Retailer, Supplier};
@@ -55,6 +56,9 @@ pub(crate) fn take_opened<S: Store>(
         (acts_of (opened_for (delivered register.now caller.entry) (addressed_by register.now caller.entry (spec.with_code upload.entry))))
         (λ mark t. uploaded (delivered register.now caller.entry) moment mark
         (addressed_by register.now caller.entry (spec.with_code upload.entry)) t) result }
+    ensures breaks { BreaksAsked S.plain (λ mark t. uploaded (delivered register.now caller.entry) moment mark
+        (addressed_by register.now caller.entry (spec.with_code upload.entry)) t)
+        (S.broken store.old) (S.broken store.new) result }
     ensures was_honest { S.honest store.new → S.honest store.old }
 {
     let interchange = match upload {
@@ -89,6 +93,9 @@ fn upload<S: Store>(
         (acts_of (opened_for (delivered register.now caller.entry) (opening_of register.now caller.entry bytes.now)))
         (λ mark t. uploaded (delivered register.now caller.entry) moment mark
         (opening_of register.now caller.entry bytes.now) t) result }
+    ensures breaks { BreaksAsked S.plain (λ mark t. uploaded (delivered register.now caller.entry) moment mark
+        (opening_of register.now caller.entry bytes.now) t)
+        (S.broken store.old) (S.broken store.new) result }
     ensures was_honest { S.honest store.new → S.honest store.old }
 {
     let interchange = opened(alloc, bytes)?;
@@ -108,6 +115,8 @@ fn asked_by_supplier<S: Store>(
         Asked S.content S.honest S.left store.old store.new
         (acts_by register.now (Supplier supplier.entry) request.now)
         (request_of register.now (Supplier supplier.entry) moment request.now) result }
+    ensures breaks { BreaksAsked S.plain (request_of register.now (Supplier supplier.entry) moment request.now)
+        (S.broken store.old) (S.broken store.new) result }
     ensures was_honest { S.honest store.new → S.honest store.old }
 {
     let gln = &supplier.gln;
@@ -135,6 +144,8 @@ fn asked_by_retailer<S: Store>(
     ensures asked { MayDeliver register.now Retailer (S.content store.old) →
         Asked S.content S.honest S.left store.old store.new (acts_by register.now Retailer request.now)
         (request_of register.now Retailer moment request.now) result }
+    ensures breaks { BreaksAsked S.plain (request_of register.now Retailer moment request.now)
+        (S.broken store.old) (S.broken store.new) result }
     ensures was_honest { S.honest store.new → S.honest store.old }
 {
     match request {
@@ -167,6 +178,8 @@ pub(crate) fn asked<S: Store>(
     ensures asked { MayDeliver register.now caller.entry (S.content store.old) →
         Asked S.content S.honest S.left store.old store.new (acts_by register.now caller.entry request.now)
         (request_of register.now caller.entry moment request.now) result }
+    ensures breaks { BreaksAsked S.plain (request_of register.now caller.entry moment request.now)
+        (S.broken store.old) (S.broken store.new) result }
     ensures was_honest { S.honest store.new → S.honest store.old }
 {
     match caller {

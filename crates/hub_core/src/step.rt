@@ -11,6 +11,7 @@ ghost use Rattle.hub_law.specs.Replies.{reply};
 ghost use Rattle.hub_law.specs.Stops.{upload_of};
 ghost use Rattle.hub_law.specs.declared.reply.Outcome.TheVariants.{Stopped};
 ghost use Rattle.hub_law.specs.declared.request.Request.TheVariants.{Upload};
+ghost use Rattle.hub_core.specs.Broken.{Breaks, BreaksAsked, RunBreaks, does_input};
 ghost use Rattle.hub_core.specs.Callers.{IsCaller};
 ghost use Rattle.hub_core.specs.Opened.{RanOut};
 ghost use Rattle.hub_core.specs.Steps.{Asked, Stepped, Ran, acts_of, input_of};
@@ -64,6 +65,8 @@ fn answer<S: Store>(
         Asked S.content S.honest S.left store.old store.new
         (acts_of (upload_of register.now (input_of moment caller.now key.now request.now))) (λ mark t.
         shared_step register.now t (input_of moment caller.now key.now request.now) mark) result }
+    ensures breaks { BreaksAsked S.plain (does_input register.now (input_of moment caller.now key.now request.now))
+        (S.broken store.old) (S.broken store.new) result }
     ensures was_honest { S.honest store.new → S.honest store.old }
 {
     match caller_of(register, caller, key) {
@@ -88,6 +91,9 @@ fn answer_opened<S: Store>(
         Asked S.content S.honest S.left store.old store.new
         (acts_of (upload_of register.now (input_of moment caller.now key.now (Upload bytes)))) (λ mark t.
         shared_step register.now t (input_of moment caller.now key.now (Upload bytes)) mark) result }
+    ensures breaks { (bytes : List ℕ) → Opens upload (opened bytes) →
+        BreaksAsked S.plain (does_input register.now (input_of moment caller.now key.now (Upload bytes)))
+        (S.broken store.old) (S.broken store.new) result }
     ensures was_honest { S.honest store.new → S.honest store.old }
     ensures ran_out { RanOut upload → IsErr result × (store.new ≡ store.old) }
 {
@@ -133,6 +139,8 @@ pub(crate) fn step<S: Store>(
     ensures stepped { S.honest store.new → Sound register.now.suppliers (S.content store.old) →
         Stepped register.now (S.content store.old) (S.content store.new) (S.left store.old) (S.left store.new)
         (input_of moment caller.now key.now request.now) result }
+    ensures breaks { Breaks S.plain (does_input register.now (input_of moment caller.now key.now request.now))
+        (S.broken store.old) (S.broken store.new) result }
     ensures was_honest { S.honest store.new → S.honest store.old }
 {
     step_is_own();
@@ -163,6 +171,9 @@ pub(crate) fn step_opened<S: Store>(
         Sound register.now.suppliers (S.content store.old) →
         Stepped register.now (S.content store.old) (S.content store.new) (S.left store.old) (S.left store.new)
         (input_of moment caller.now key.now (Upload bytes)) result }
+    ensures breaks { (bytes : List ℕ) → Opens upload (opened bytes) →
+        Breaks S.plain (does_input register.now (input_of moment caller.now key.now (Upload bytes)))
+        (S.broken store.old) (S.broken store.new) result }
     ensures was_honest { S.honest store.new → S.honest store.old }
     ensures ran_out { RanOut upload → (result.outcome ≡ Stopped) × (store.new ≡ store.old) }
 {
@@ -190,6 +201,8 @@ pub(crate) fn run<S: Store>(
         IfOk result (λ replies. Ran register.now (S.content store.old) (S.content store.new) (S.left store.old)
         (S.left store.new) inputs.now replies) }
     ensures none { OnErr result (store.new ≡ store.old) }
+    ensures breaks { IfOk result (λ replies. RunBreaks S.plain register.now (S.broken store.old) (S.broken store.new)
+        inputs.now replies) }
     ensures was_honest { S.honest store.new → S.honest store.old }
 {
     run_is_own();

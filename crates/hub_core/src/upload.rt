@@ -1,12 +1,13 @@
 //! The messages of an upload, one after another.
-ghost use Rattle.std.specs.Prelude.{◌≡◌, ◌||◌, ◌+◌, ◌≤◌, ◌∷◌, ◌++◌, length, IfOk, OnErr, Ok, vec_len, vec_capacity};
+ghost use Rattle.std.specs.Prelude.{◌≡◌, ⊤, ◌||◌, ◌+◌, ◌≤◌, ◌∷◌, ◌++◌, length, IfOk, OnErr, Ok, vec_len, vec_capacity};
 ghost use Rattle.hub_law.specs.Messages.{incoming};
 ghost use Rattle.hub_law.specs.Replies.{interchange_line, told_words};
 ghost use Rattle.hub_law.specs.Requests.{uploaded};
 ghost use Rattle.hub_law.specs.Told as law;
 ghost use Rattle.hub_law.specs.Widths.{line};
-ghost use Rattle.hub_acts.specs.Acts.{Carried, Unharmed};
+ghost use Rattle.hub_acts.specs.Acts.{Carried, FailsWith, OfAny, Unharmed};
 ghost use Rattle.hub_texts.specs.Decision.{told_of};
+ghost use Rattle.hub_core.specs.Broken.{Breaks};
 ghost use Rattle.hub_core.specs.Callers.{delivered, MayDeliver};
 ghost use Rattle.hub_core.specs.Steps.{Answered};
 
@@ -40,6 +41,9 @@ fn take_message<S: Store>(
     ensures carried { MayDeliver upload.now.register.now upload.now.caller (S.content store.old) →
         Carried S.content S.honest S.left store.old store.new (delivered upload.now.register.now upload.now.caller
         (message.now, incoming upload.now.moment upload.now.interchange.now message.now)) told_of result }
+    ensures fails { FailsWith S.plain ⊤ (OfAny (delivered upload.now.register.now upload.now.caller
+        (message.now, incoming upload.now.moment upload.now.interchange.now message.now)) told_of)
+        (S.broken store.old) (S.broken store.new) result }
     ensures unharmed { Unharmed S.content S.honest store.old store.new result }
     ensures may { S.honest store.new → MayDeliver upload.now.register.now upload.now.caller (S.content store.old) →
         MayDeliver upload.now.register.now upload.now.caller (S.content store.new) }
@@ -92,6 +96,9 @@ pub(crate) fn take_messages<S: Store>(
     ensures answered { S.honest store.new → MayDeliver upload.now.register.now upload.now.caller (S.content store.old) →
         Answered S.content S.left store.old store.new (length upload.now.interchange.now.messages) (λ mark t.
         uploaded (delivered upload.now.register.now upload.now.caller) upload.now.moment mark (Ok upload.now.interchange.now) t) result }
+    ensures breaks { Breaks S.plain (λ mark t.
+        uploaded (delivered upload.now.register.now upload.now.caller) upload.now.moment mark (Ok upload.now.interchange.now) t)
+        (S.broken store.old) (S.broken store.new) result }
     ensures was_honest { S.honest store.new → S.honest store.old }
 {
     let mut refused = false;
@@ -106,9 +113,10 @@ pub(crate) fn take_messages<S: Store>(
         };
         refused = either_refused(refused, told);
     }
+    let body = Items::from_vec(reply);
     Reply {
         outcome: Outcome::Done,
         refused,
-        body: Items::from_vec(reply),
+        body,
     }
 }

@@ -7,6 +7,7 @@ use Rattle.hub_law.specs.declared.request.Request.TheVariants.{MailItem}
 use Rattle.hub_core.specs.Callers.{request_of}
 use Rattle.hub_core.specs.declared.caller.Caller.TheVariants.{Supplier}
 use Rattle.hub_core.proofs.Asking.{by_look}
+use Rattle.hub_core.proofs.Breaking.{by_call}
 use Rattle.hub_core.proofs.requests.asked_by_supplier.Goals as goal
 
 pub returns-in-Upload-clause-asked : goal.returns-in-Upload-clause-asked
@@ -23,3 +24,26 @@ returns-in-MailItem-clause-asked g c may =
     (λ honest.
     subst (λ hub. IfOk c.mailbox_entry.result (λ (reply : Reply). reply ≡ entry_reply hub entry)) c.hub.ensures.value
     (c.mailbox_entry.ensures.reply honest)) refl)
+
+pub returns-in-Upload-clause-breaks : goal.returns-in-Upload-clause-breaks
+returns-in-Upload-clause-breaks g c = rw c.in-Upload.is (rw c.as_slice.ensures at c.upload.ensures.breaks)
+
+pub returns-in-MailAfter-clause-breaks : goal.returns-in-MailAfter-clause-breaks
+returns-in-MailAfter-clause-breaks g c =
+    by_call g.S.Store.plain (request_of c.args.register.now (Supplier c.args.supplier) c.args.moment c.args.request.now)
+    (g.S.Store.broken c.args.store.now) _ _ _ c.mailbox_list.ensures.fails
+
+pub returns-in-MailItem-clause-breaks : goal.returns-in-MailItem-clause-breaks
+returns-in-MailItem-clause-breaks g c =
+    by_call g.S.Store.plain (request_of c.args.register.now (Supplier c.args.supplier) c.args.moment c.args.request.now)
+    (g.S.Store.broken c.args.store.now) _ _ _ c.mailbox_entry.ensures.fails
+
+pub returns-in-MailTaken-clause-breaks : goal.returns-in-MailTaken-clause-breaks
+returns-in-MailTaken-clause-breaks g c =
+    by_call g.S.Store.plain (request_of c.args.register.now (Supplier c.args.supplier) c.args.moment c.args.request.now)
+    (g.S.Store.broken c.args.store.now) _ _ _ c.take_entry.ensures.fails
+
+pub returns-in-Status-clause-breaks : goal.returns-in-Status-clause-breaks
+returns-in-Status-clause-breaks g c =
+    by_call g.S.Store.plain (request_of c.args.register.now (Supplier c.args.supplier) c.args.moment c.args.request.now)
+    (g.S.Store.broken c.args.store.now) _ _ _ c.status_report.ensures.fails

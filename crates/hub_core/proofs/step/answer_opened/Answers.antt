@@ -4,6 +4,7 @@ use Rattle.hub_core.specs.Opened as spec
 use Rattle.hub_core.specs.Steps.{input_of}
 use Rattle.hub_core.proofs.Callers.{asked_as, opened_asked}
 use Rattle.hub_core.proofs.Openings.{opened_before}
+use Rattle.hub_core.proofs.Breaking.{breaks_as, opened_breaks}
 use Rattle.hub_core.proofs.step.answer_opened.Goals as goal
 
 pub returns-in-Some-clause-asked : goal.returns-in-Some-clause-asked
@@ -15,3 +16,13 @@ returns-in-Some-clause-asked g c bytes opens =
     c.in-Some.caller c.take_opened.result c.in-Some.ensures.some
     (opened_asked g.S.Store.content g.S.Store.honest g.S.Store.left c.args.store.now c.take_opened.new.store register c.in-Some.caller
     c.args.moment bytes (spec.with_code c.in_ok-upload.upload) c.take_opened.result is c.take_opened.ensures.asked)
+
+pub returns-in-Some-clause-breaks : goal.returns-in-Some-clause-breaks
+returns-in-Some-clause-breaks g c bytes opens =
+    let register = c.args.register.now in
+    let is = opened_before bytes c.args.upload c.requires.read c.in_ok-upload.ensures.sufficed opens ∙ sym c.in_ok-upload.ensures.told in
+    breaks_as g.S.Store.plain register (input_of c.args.moment c.args.caller.now c.args.key.now (Upload bytes))
+    (g.S.Store.broken c.args.store.now) (g.S.Store.broken c.take_opened.new.store) c.in-Some.caller c.take_opened.result
+    c.in-Some.ensures.some
+    (opened_breaks g.S.Store.plain register c.in-Some.caller c.args.moment bytes (spec.with_code c.in_ok-upload.upload)
+    (g.S.Store.broken c.args.store.now) (g.S.Store.broken c.take_opened.new.store) c.take_opened.result is c.take_opened.ensures.breaks)

@@ -4,6 +4,8 @@ use Rattle.hub_law.specs.Replies.{reply}
 use Rattle.hub_law.specs.declared.reply.Outcome.TheVariants.{Stopped}
 use Rattle.hub_core.specs.Steps.{input_of}
 use Rattle.hub_core.proofs.Steps.{replied, unanswered}
+use Rattle.hub_core.specs.Broken.{does_input}
+use Rattle.hub_core.proofs.Breaking.{replied_breaks}
 use Rattle.hub_core.proofs.step.step.Goals as goal
 
 pub returns-in_default-clause-stepped : goal.returns-in_default-clause-stepped
@@ -30,3 +32,10 @@ returns-clause-stepped g c honest sound =
     c.answer-answered.result c.in-Ok.stopped c.replied.result
     (λ t. c.stops_are_told.ensures.bare register t input) c.in-Ok.ensures c.replied.ensures.ok c.replied.ensures.err
     honest hub (c.answer-answered.ensures.asked hub)
+
+pub returns-clause-breaks : goal.returns-clause-breaks
+returns-clause-breaks g c =
+    replied_breaks g.S.Store.plain
+    (does_input c.args.register.now (input_of c.args.moment c.args.caller.now c.args.key.now c.args.request.now))
+    (g.S.Store.broken c.args.store.now) (g.S.Store.broken c.answer-answered.new.store) c.answer-answered.result c.in-Ok.stopped
+    c.replied.result c.replied.ensures.ok c.replied.ensures.err c.answer-answered.ensures.breaks

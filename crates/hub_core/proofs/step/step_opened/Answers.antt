@@ -6,6 +6,8 @@ use Rattle.hub_law.specs.declared.reply.Reply.{Reply}
 use Rattle.hub_law.specs.declared.request.Request.TheVariants.{Upload}
 use Rattle.hub_core.specs.Steps.{input_of}
 use Rattle.hub_core.proofs.Steps.{replied, unanswered, where_err}
+use Rattle.hub_core.specs.Broken.{does_input}
+use Rattle.hub_core.proofs.Breaking.{replied_breaks}
 use Rattle.hub_core.proofs.step.step_opened.Goals as goal
 
 pub returns-in_default-clause-stepped : goal.returns-in_default-clause-stepped
@@ -37,3 +39,11 @@ pub returns-clause-ran_out : goal.returns-clause-ran_out
 returns-clause-ran_out g c out =
     let did = c.answer_opened-answered.ensures.ran_out out in
     (ap (λ (r : Reply). r.outcome) (where_err c.answer_opened-answered.result did.0 c.replied.ensures.err), did.1)
+
+pub returns-clause-breaks : goal.returns-clause-breaks
+returns-clause-breaks g c bytes opens =
+    replied_breaks g.S.Store.plain
+    (does_input c.args.register.now (input_of c.args.moment c.args.caller.now c.args.key.now (Upload bytes)))
+    (g.S.Store.broken c.args.store.now) (g.S.Store.broken c.answer_opened-answered.new.store) c.answer_opened-answered.result
+    c.in-Ok.stopped c.replied.result c.replied.ensures.ok c.replied.ensures.err
+    (c.answer_opened-answered.ensures.breaks bytes opens)

@@ -1,17 +1,21 @@
 use Rattle.std.proofs.Common.{◌≡◌, ◌<◌, ◌+◌, ◌∷◌, inl, inr, Bool, get_or, ◌++◌, List, length, Ok, arith, refl, subst}
-use Rattle.std.proofs.Common.{sym, ap, ◌∙◌, ℕ}
+use Rattle.std.proofs.Common.{sym, ap, ◌∙◌, ℕ, Option, IsTrue, ◌⊎◌, None}
+use Rattle.std.specs.Option.{IfSome}
 use Rattle.std.proofs.lemmas.Grind.{common_steps}
 use Rattle.hub_tables.specs.Tables.{Tables}
+use Rattle.hub_store.specs.declared.fault.LastingFault.{LastingFault}
 use Rattle.hub_law.specs.Mark.{StoppedAfter}
 use Rattle.hub_law.specs.Requests.{uploaded}
 use Rattle.hub_law.specs.Replies.{stopped_line, told_words}
 use Rattle.hub_law.specs.Widths.{line}
 use Rattle.hub_law.specs.declared.reply.Outcome.TheVariants.{Stopped}
 use Rattle.hub_texts.specs.Decision.{told_of}
+use Rattle.hub_acts.specs.Acts.{OfAny}
 use Rattle.hub_core.specs.Callers.{delivered}
 use Rattle.hub_core.specs.Steps.{OneMore}
 use Rattle.hub_core.specs.Uploads.{DoneSoFar}
-use Rattle.hub_core.proofs.SoFar.{so_far_none, so_far_more, so_far_then, uploaded_stopped}
+use Rattle.hub_core.proofs.Breaking.{failed, stopped_by, where_both, where_some}
+use Rattle.hub_core.proofs.SoFar.{sent_at, so_far_none, so_far_more, so_far_then, uploaded_stopped, uploaded_whole}
 use Rattle.hub_core.proofs.upload.take_messages.Goals as goal
 
 pub loop-message-init : goal.loop-message-init
@@ -19,6 +23,11 @@ loop-message-init g c = record {
   room = c.requires.room;
   was_honest = λ h. h;
   may = λ h m. m;
+  broken = refl;
+  unasked =
+      where_some (g.S.Store.broken c.args.store.now) (λ (t : Tables).
+      so_far_none (delivered c.args.upload.now.register.now c.args.upload.now.caller) c.args.upload.now.moment
+      c.args.upload.now.interchange.now t c.args.reply.items c.requires.line);
   so_far =
       λ h m. so_far_none (delivered c.args.upload.now.register.now c.args.upload.now.caller) c.args.upload.now.moment
       c.args.upload.now.interchange.now
@@ -75,29 +84,41 @@ loop-message-preserved g c =
     rw c.as_slice-message-items.ensures at c.loop-message-test.true in
     let there : c.message-item.result ≡ get_or c.args.upload.now.interchange.now.messages count c.message-item.result =
     rw c.as_slice-message-items.ensures at c.message-item.is in
+    let told = told_of c.in-Ok.told in
+    let more : (t before after : Tables)
+    → DoneSoFar deliver c.args.upload.now.moment c.args.upload.now.interchange.now t before count c.loop-message.refused
+    c.loop-message.reply.items
+    → deliver (sent_at c.args.upload.now.moment c.args.upload.now.interchange.now c.message-item.result) before ≡ (told, after)
+    → DoneSoFar deliver c.args.upload.now.moment c.args.upload.now.interchange.now t after (count + 1)
+    c.either_refused-refused.result c.take_message.new.reply.items =
+    λ t before after far one.
+    subst (λ (xs : List ℕ).
+    DoneSoFar deliver c.args.upload.now.moment c.args.upload.now.interchange.now t after
+    (count + 1) c.either_refused-refused.result xs)
+    (sym c.in-Ok.ensures.line)
+    (subst (λ (b : Bool).
+    DoneSoFar deliver c.args.upload.now.moment c.args.upload.now.interchange.now t after (count + 1) b
+    (c.loop-message.reply.items
+    ++ line (c.message-item.result.reference ∷ c.message-item.result.kind ∷ told_words told)))
+    (sym c.either_refused-refused.ensures)
+    (so_far_more deliver c.args.upload.now.moment c.args.upload.now.interchange.now t before after count
+    c.loop-message.refused c.loop-message.reply.items c.message-item.result told below there far one)) in
     record {
       room = c.take_message.ensures.room c.loop-message.invariant.room;
       was_honest = λ h. c.loop-message.invariant.was_honest (c.take_message.ensures.unharmed.was_honest h);
       may = λ h m. c.take_message.ensures.may h
           (c.loop-message.invariant.may (c.take_message.ensures.unharmed.was_honest h) m);
+      broken = c.in-Ok.ensures.fails.after ∙ c.loop-message.invariant.broken;
+      unasked =
+          where_both (g.S.Store.broken c.args.store.now) c.loop-message.invariant.unasked
+          (subst (λ (o : Option LastingFault). IfSome o (λ _. OfAny (deliver
+          (sent_at c.args.upload.now.moment c.args.upload.now.interchange.now c.message-item.result)) told_of c.in-Ok.told))
+          c.loop-message.invariant.broken c.in-Ok.ensures.fails.again)
+          (λ far tells t. more t t t (far t) (tells t));
       so_far = λ h m.
           let was = c.take_message.ensures.unharmed.was_honest h in
-          let told = told_of c.in-Ok.told in
-          let more =
-          so_far_more deliver c.args.upload.now.moment c.args.upload.now.interchange.now t before after count
-          c.loop-message.refused
-          c.loop-message.reply.items c.message-item.result told below there
-          (c.loop-message.invariant.so_far was m)
-          ((c.in-Ok.ensures.carried (c.loop-message.invariant.may was m)).done h) in
-          subst (λ (xs : List ℕ).
-          DoneSoFar deliver c.args.upload.now.moment c.args.upload.now.interchange.now t after
-          (count + 1) c.either_refused-refused.result xs)
-          (sym c.in-Ok.ensures.line)
-          (subst (λ (b : Bool).
-          DoneSoFar deliver c.args.upload.now.moment c.args.upload.now.interchange.now t after (count + 1) b
-          (c.loop-message.reply.items
-          ++ line (c.message-item.result.reference ∷ c.message-item.result.kind ∷ told_words told)))
-          (sym c.either_refused-refused.ensures) more);
+          more t before after (c.loop-message.invariant.so_far was m)
+          ((c.in-Ok.ensures.carried (c.loop-message.invariant.may was m)).done h);
       left = λ h m u l.
           let was = c.take_message.ensures.unharmed.was_honest h in
           elim ((c.in-Ok.ensures.carried (c.loop-message.invariant.may was m)).durable h u l) [
@@ -107,4 +128,32 @@ loop-message-preserved g c =
               | inr b ↦ inr (e.0 ∙ b.0, b.1)
             ]
           ];
+    }
+
+pub returns-in_default-clause-breaks : goal.returns-in_default-clause-breaks
+returns-in_default-clause-breaks g c =
+    let deliver = delivered c.args.upload.now.register.now c.args.upload.now.caller in
+    let new = g.S.Store.broken c.take_message.new.store in
+    stopped_by g.S.Store.plain
+    (λ mark t. uploaded deliver c.args.upload.now.moment mark (Ok c.args.upload.now.interchange.now) t)
+    (g.S.Store.broken c.args.store.now) new _
+    (subst (λ (o : Option LastingFault). ((new ≡ o) ⊎ (o ≡ None)) × (IsTrue g.S.Store.plain → new ≡ o))
+    c.loop-message.invariant.broken (failed _ _ _ _ _ _ c.in_default.ensures.fails)) refl
+
+pub returns-clause-breaks : goal.returns-clause-breaks
+returns-clause-breaks g c =
+    let deliver = delivered c.args.upload.now.register.now c.args.upload.now.caller in
+    let moment = c.args.upload.now.moment in
+    let interchange = c.args.upload.now.interchange.now in
+    let all : c.loop-message.message-index ≡ length interchange.messages = grind (arith, common_steps) in
+    let broken = c.loop-message.invariant.broken in
+    record {
+      after = inl broken;
+      again =
+          where_both (g.S.Store.broken c.args.store.now) c.loop-message.invariant.unasked c.loop-message.invariant.unasked
+          (λ far _. inr (λ t. uploaded_whole deliver moment interchange t t c.loop-message.refused c.from_vec-body.result
+          (subst (λ (n : ℕ). DoneSoFar deliver moment interchange t t n c.loop-message.refused c.from_vec-body.result) all
+          (subst (λ (xs : List ℕ). DoneSoFar deliver moment interchange t t c.loop-message.message-index c.loop-message.refused xs)
+          (sym c.from_vec-body.ensures) (far t)))));
+      over_plain = λ p. broken;
     }

@@ -1,4 +1,5 @@
 use Rattle.std.proofs.Common.{◌≡◌, ◌⊎◌, ◌≤◌, ◌+◌, vec_len, vec_capacity}
+use Rattle.std.specs.Option.{IfSome}
 use Rattle.hub_tables.specs.Tables.{Tables}
 use Rattle.hub_core.specs.Callers.{delivered, MayDeliver}
 use Rattle.hub_core.specs.Uploads.{DoneSoFar}
@@ -11,6 +12,10 @@ invariant-loop-message g l = record {
   may : g.S.Store.honest l.store
       → MayDeliver l.upload.register.now l.upload.caller (g.S.Store.content l.fn.store)
       → MayDeliver l.upload.register.now l.upload.caller (g.S.Store.content l.store);
+  broken : g.S.Store.broken l.store ≡ g.S.Store.broken l.fn.store;
+  unasked : IfSome (g.S.Store.broken l.fn.store) (λ _. (t : Tables)
+      → DoneSoFar (delivered l.upload.register.now l.upload.caller) l.upload.moment l.upload.interchange.now t t
+      l.message-index l.refused l.reply.items);
   so_far : g.S.Store.honest l.store → MayDeliver l.upload.register.now l.upload.caller (g.S.Store.content l.fn.store)
       → DoneSoFar (delivered l.upload.register.now l.upload.caller) l.upload.moment l.upload.interchange.now
       (g.S.Store.content l.fn.store)

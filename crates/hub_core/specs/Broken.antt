@@ -1,0 +1,61 @@
+-- For which fault the store of a hub is broken after a request and after a run, and what is replied over it then.
+use Rattle.std.specs.Prelude.{◌≡◌, ◌⊎◌, ⊤, Bool, IsTrue, List, [], ◌∷◌, Option, None, IsSome, Result, MatchResult}
+use Rattle.std.specs.Option.{IfSome}
+use Rattle.hub_parties.specs.Rows.{RegisterRows}
+use Rattle.hub_tables.specs.Tables.{Tables}
+use Rattle.hub_store.specs.declared.fault.LastingFault.{LastingFault}
+use Rattle.hub_store.specs.declared.fault.StoreFault.{StoreFault}
+use Rattle.hub_law.specs.Machine.{shared_step}
+use Rattle.hub_law.specs.Mark.{Whole}
+use Rattle.hub_law.specs.declared.reply.Outcome.TheVariants.{Stopped}
+use Rattle.hub_law.specs.declared.reply.Reply.{Reply}
+use Rattle.hub_law.specs.declared.request.Input.{Input}
+use Rattle.hub_core.specs.Steps.{Does}
+
+-- the reply is that to the request over whatever tables, and none is changed: nothing was asked of the store
+abbrev pub OfNoRow : Does → Reply → Type 0
+OfNoRow does reply = (t : Tables) → does Whole t ≡ (reply, t)
+
+-- a broken store was not asked, or the reply says that it stopped
+abbrev pub StoppedUnless : Does → Reply → Type 0
+StoppedUnless does reply = (reply.outcome ≡ Stopped) ⊎ OfNoRow does reply
+
+-- What a request leaves of its store's fault. A broken store stays so, by the same fault, and what needs it is stopped;
+-- one that breaks stops the request; a plain one never breaks.
+pub record Breaks (plain : Bool) (does : Does) (old new : Option LastingFault) (reply : Reply) : Type 0 where
+  pub after : (new ≡ old) ⊎ ((old ≡ None) × (reply.outcome ≡ Stopped))
+  pub again : IfSome old (λ _. StoppedUnless does reply)
+  pub over_plain : IsTrue plain → new ≡ old
+
+-- the same where a fault makes the reply a stop
+abbrev pub BreaksAsked : Bool → Does → Option LastingFault → Option LastingFault → Result Reply StoreFault → Type 0
+BreaksAsked plain does old new result =
+    MatchResult result (Breaks plain does old new)
+    (λ _. ((new ≡ old) ⊎ (old ≡ None)) × (IsTrue plain → new ≡ old))
+
+-- an input, as the shared machine answers it
+abbrev pub does_input : RegisterRows → Input → Does
+does_input register input mark t = shared_step register t input mark
+
+-- of each input what needs the store is stopped
+abbrev pub AllStopped : RegisterRows → List Input → List Reply → Type 0
+AllStopped register [] [] = ⊤
+AllStopped register [] (reply ∷ replies) = ⊥
+AllStopped register (input ∷ inputs) [] = ⊥
+AllStopped register (input ∷ inputs) (reply ∷ replies) =
+    StoppedUnless (does_input register input) reply × AllStopped register inputs replies
+
+-- one of the inputs was stopped, and after it all that needs the store
+abbrev pub StoppedSinceOne : RegisterRows → List Input → List Reply → Type 0
+StoppedSinceOne register [] replies = ⊥
+StoppedSinceOne register (input ∷ inputs) [] = ⊥
+StoppedSinceOne register (input ∷ inputs) (reply ∷ replies) =
+    ((reply.outcome ≡ Stopped) × AllStopped register inputs replies) ⊎ StoppedSinceOne register inputs replies
+
+-- What a run leaves of its store's fault. A broken store stays so, by the same fault, and all that needs it is stopped;
+-- one that breaks stops the request at which it does, and then all that needs it; a plain one never breaks.
+pub record RunBreaks (plain : Bool) (register : RegisterRows) (old new : Option LastingFault) (inputs : List Input)
+    (replies : List Reply) : Type 0 where
+  pub after : (new ≡ old) ⊎ ((old ≡ None) × (IsSome new × StoppedSinceOne register inputs replies))
+  pub again : IfSome old (λ _. AllStopped register inputs replies)
+  pub over_plain : IsTrue plain → new ≡ old
