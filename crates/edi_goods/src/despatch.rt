@@ -147,7 +147,7 @@ fn read_referred(
 }
 
 // The units of the record, or the lowest fault of them and of what is judged behind them.
-fn read_units(alloc: Global, message: &RawMessage) -> Result<Items<Unit>, MessageFault>
+fn read_announced(alloc: Global, message: &RawMessage) -> Result<Items<Unit>, MessageFault>
     ensures said { IfOk result (λ units. units ≡ map (spec.unit_from (spec.header_order message.now.segments)) (read_units message.now.segments)) }
     ensures units { IfOk result (λ _. has_units message.now.segments ≡ true) }
     ensures ok { IfOk result (λ _. spec.lowest spec.line_faults message.now ≡ None) }
@@ -170,7 +170,7 @@ impl Despatch {
         ensures err { IfErr result (λ fault. fault ≢ MessageFault.Memory → spec.despatch_of message.now ≡ Err fault) }
     {
         let parties = read_heading(message)?;
-        let units = read_units(alloc, message)?;
+        let units = read_announced(alloc, message)?;
         let number = copied(alloc, document_number(message.segments.as_slice()))?;
         Ok(Despatch {
             number,

@@ -2,7 +2,6 @@
 use Rattle.std.specs.Prelude.{◌≡◌, ◌≤◌, ◌||◌, ⊤, ℕ, true, List, filter, sum_by, is_some, unwrap_or, codes, Option}
 use Rattle.std.specs.List.{AllByRecursion, AllZip}
 use Rattle.std.specs.Str.{bytes_eq}
-use Rattle.edi_base.specs.Limits.{greatest}
 use Rattle.edi_segments.specs.declared.segment.Segment.{Segment}
 use Rattle.edi_envelope.specs.declared.interchange.RawMessage.{RawMessage}
 use Rattle.edi_messages.specs.declared.fault.MessageFault.{MessageFault}
@@ -17,6 +16,7 @@ use Rattle.edi_law.specs.Lines.{IsLine, IsAmount}
 use Rattle.edi_law.specs.Parts.{OfLines, OneOrNone}
 use Rattle.edi_law.specs.Segments.{says}
 use Rattle.edi_law.specs.Summary.{IsControlled, HasLine}
+use Rattle.edi_law.specs.Values.{nine_digits}
 use Rattle.edi_law.specs.Units.{OfUnits, AreLines, HasUnits, HasSscc}
 
 -- there is no QTY of the kind in the group, or just one, with this quantity
@@ -46,11 +46,11 @@ pub record IsReceiptLine (group : List Segment) (line : ReceiptLine) : Type 0 wh
 abbrev pub total : (ReceiptLine → ℕ) → List ℕ → List ReceiptLine → ℕ
 total quantity article lines = sum_by quantity (filter (λ line. bytes_eq line.gtin article) lines)
 
--- no sum of a kind is above the greatest for any article
+-- no sum of a kind is above 999,999,999 for any article
 pub record AreWithin (lines : List ReceiptLine) : Type 0 where
-  pub accepted : (article : List ℕ) → total (λ line. line.accepted) article lines ≤ greatest
-  pub returned : (article : List ℕ) → total (λ line. line.returned) article lines ≤ greatest
-  pub destroyed : (article : List ℕ) → total (λ line. line.destroyed) article lines ≤ greatest
+  pub accepted : (article : List ℕ) → total (λ line. line.accepted) article lines ≤ nine_digits
+  pub returned : (article : List ℕ) → total (λ line. line.returned) article lines ≤ nine_digits
+  pub destroyed : (article : List ℕ) → total (λ line. line.destroyed) article lines ≤ nine_digits
 
 -- the groups of a unit have valid quantities, and these valid sums
 pub record AreReceived (groups : List (List Segment)) : Type 0 where

@@ -2,7 +2,7 @@
 use Rattle.std.specs.Prelude.{◌≡◌, ℕ, ◌≤◌, ◌<◌, ◌⊎◌, List, [], ◌∷◌, ◌++◌, length, codes, pos, ⊤}
 use Rattle.std.specs.List.{AllByRecursion}
 use Rattle.jiff.specs.Words.{days_in_month}
-use Rattle.edi_base.specs.Limits.{number_of, greatest}
+use Rattle.edi_base.specs.Limits.{number_of}
 
 abbrev pub IsDigit : ℕ → Type 0
 IsDigit byte = (48 ≤ byte) × (byte ≤ 57)
@@ -31,6 +31,11 @@ IsNoFraction [] = ⊤
 IsNoFraction (mark ∷ zeros) = ((mark ≡ 46) ⊎ (mark ≡ 44)) × (1 ≤ length zeros)
     × AllByRecursion (λ zero. zero ≡ 48) zeros
 
+-- the greatest number of nine digits, which no quantity is above: the law has a number of its own, so that a wrong one in
+-- the definitions that it is about shows
+abbrev pub nine_digits : ℕ
+nine_digits = 999_999_999
+
 -- a quantity: digits, perhaps a fraction of zeros, at most 35 bytes and at most 999,999,999
 pub record IsQuantity (bytes : List ℕ) (number : ℕ) : Type 0 where
   pub whole : List ℕ
@@ -41,7 +46,7 @@ pub record IsQuantity (bytes : List ℕ) (number : ℕ) : Type 0 where
   pub digits : AllByRecursion IsDigit whole
   pub no_fraction : IsNoFraction fraction
   pub number_is : number_of whole ≡ number
-  pub at_most : number ≤ greatest
+  pub at_most : number ≤ nine_digits
 
 -- a day of the Gregorian calendar
 pub record IsInCalendar (year month day : ℕ) : Type 0 where

@@ -54,12 +54,12 @@ pub record FailsWith {X : Type 0} (plain : Bool) (cause : Type 0) (may_answer : 
   pub after : MatchResult result (λ _. new ≡ old) (BreaksBy cause old new)
   pub only_memory : IsTrue plain → (new ≡ old) × IfErr result (λ fault. (fault ≡ Memory) ⊎ ((fault ≡ Unclean) × cause))
 
--- nothing may be answered, and anything
-abbrev pub nothing : {X : Type 0} → X → Type 0
-nothing x = ⊥
+-- no answer may be given, and any may
+abbrev pub no_answer : {X : Type 0} → X → Type 0
+no_answer x = ⊥
 
-abbrev pub anything : {X : Type 0} → X → Type 0
-anything x = ⊤
+abbrev pub any_answer : {X : Type 0} → X → Type 0
+any_answer x = ⊤
 
 -- what is answered is what the act tells of whatever tables, and it changes none
 abbrev pub OfAny : {X Y : Type 0} → (Tables → Y × Tables) → (X → Y) → X → Type 0

@@ -13,7 +13,7 @@ act_of (Read verdict) t = act verdict t
 act_of (Unread fault) t = (Refused (message_faults.code_text fault), t)
 
 -- it cannot be read, and this is why
-pub record IsUnread {X : Type 0} (read : Result X MessageFault) (judged : Judged) : Type 0 where
+pub record CannotBeRead {X : Type 0} (read : Result X MessageFault) (judged : Judged) : Type 0 where
   pub fault : MessageFault
   pub read_as : read ≡ Err fault
   pub is : judged ≡ Unread fault

@@ -9,7 +9,7 @@ ghost use Rattle.hub_law.specs.Mark.{Whole};
 ghost use Rattle.hub_law.specs.Replies.{cancel_reply};
 ghost use Rattle.hub_law.specs.Requests.{cancel_named, cancelled, replied_by};
 ghost use Rattle.hub_law.specs.Told.{act, changed, told};
-ghost use Rattle.hub_acts.specs.Acts.{Carried, FailsWith, Unharmed, anything, as_told, nothing};
+ghost use Rattle.hub_acts.specs.Acts.{Carried, FailsWith, Unharmed, any_answer, as_told, no_answer};
 
 use crate::carrying::{carry_out, told_of_verdict};
 use crate::knowing::known_for_cancel;
@@ -26,7 +26,7 @@ fn finish<S: Store>(store: &mut S, verdict: &Verdict, reply: Reply) -> Result<Re
     ensures carried { Rising (changed verdict.now (S.content store.old)) →
         Carried S.content S.honest S.left store.old store.new (λ t.
         replied_by cancel_reply (act verdict.now t)) as_told result }
-    ensures fails { FailsWith S.plain ⊥ anything (S.broken store.old) (S.broken store.new) result }
+    ensures fails { FailsWith S.plain ⊥ any_answer (S.broken store.old) (S.broken store.new) result }
     ensures unharmed { Unharmed S.content S.honest store.old store.new result }
 {
     carry_out(store, verdict)?;
@@ -34,7 +34,7 @@ fn finish<S: Store>(store: &mut S, verdict: &Verdict, reply: Reply) -> Result<Re
 }
 
 /// Takes a cancellation of the retailer: judges it, and commits what comes of it as one act. The reply is made before.
-/// At a fault nothing was done.
+/// At a fault no_answer was done.
 pub fn take_cancel<S: Store>(
     alloc: Global,
     register: &Register,
@@ -46,7 +46,7 @@ pub fn take_cancel<S: Store>(
         cancelled Whole (cancel_named register.now cancel.now t) t) as_told result }
     ensures fails { FailsWith S.plain (S.honest store.new →
         AreUnclean (lines_of (view cancel.now.supplier (S.content store.old)) cancel.now.order))
-        nothing (S.broken store.old) (S.broken store.new) result }
+        no_answer (S.broken store.old) (S.broken store.new) result }
     ensures unharmed { Unharmed S.content S.honest store.old store.new result }
 {
     acts_stay_sound();

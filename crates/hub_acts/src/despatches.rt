@@ -7,7 +7,7 @@ ghost use Rattle.hub_store.specs.Clean.{are_clean};
 ghost use Rattle.hub_store.specs.declared.fault.StoreFault.TheVariants.{Unclean};
 ghost use Rattle.hub_rules.specs.Sound.{Kept};
 ghost use Rattle.hub_judges.specs.Known.{TellsForDespatch};
-ghost use Rattle.hub_acts.specs.Acts.{FailsWith, Stays, anything, nothing};
+ghost use Rattle.hub_acts.specs.Acts.{FailsWith, Stays, any_answer, no_answer};
 ghost use Rattle.hub_acts.specs.Named.{NamedUnclean};
 
 use crate::knowing::lines_of_rows;
@@ -63,7 +63,7 @@ fn put_known<S: Store>(
         OnOk result (lines.new ≡ lines.old
         ++ flat_map (lines_of (view supplier.now (S.content store.old))) (map (λ number. number.now) named.now.keys)) }
     ensures unclean { S.honest store.new → S.broken store.old ≡ None → are_clean (S.content store.old) ≡ true → result ≢ Err Unclean }
-    ensures fails { FailsWith S.plain ⊥ anything (S.broken store.old) (S.broken store.new) result }
+    ensures fails { FailsWith S.plain ⊥ any_answer (S.broken store.old) (S.broken store.new) result }
     ensures stays { Stays S.content S.honest S.left store.old store.new }
 {
     for number in named {
@@ -94,7 +94,7 @@ fn used_of<S: Store>(
     ensures each { IfOk result (λ used. length used ≡ length units.now) }
     ensures unclean { S.honest store.new → S.broken store.old ≡ None → are_clean (S.content store.old) ≡ true → result ≢ Err Unclean }
     ensures goes_on { OnOk result (S.broken store.new ≡ S.broken store.old) }
-    ensures fails { FailsWith S.plain ⊥ anything (S.broken store.old) (S.broken store.new) result }
+    ensures fails { FailsWith S.plain ⊥ any_answer (S.broken store.old) (S.broken store.new) result }
     ensures stays { Stays S.content S.honest S.left store.old store.new }
 {
     let mut used = Items::new(alloc);
@@ -123,7 +123,7 @@ pub(crate) fn known_for_despatch<S: Store>(
         result ≡ Err Unclean → NamedUnclean despatch.now.units (view supplier.now (S.content store.old)) }
     ensures fails { FailsWith S.plain (S.honest store.new →
         NamedUnclean despatch.now.units (view supplier.now (S.content store.old)))
-        nothing (S.broken store.old) (S.broken store.new) result }
+        no_answer (S.broken store.old) (S.broken store.new) result }
     ensures stays { Stays S.content S.honest S.left store.old store.new }
 {
     let units = despatch.units.as_slice();

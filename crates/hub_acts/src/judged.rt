@@ -12,7 +12,7 @@ ghost use Rattle.hub_law.specs.Messages.{named, body_of, deliver_suppliers};
 ghost use Rattle.hub_law.specs.Requests.{deliver_named};
 ghost use Rattle.hub_law.specs.Told.{read_act};
 ghost use Rattle.hub_acts.specs.Acts.{FailsWith, Stays};
-ghost use Rattle.hub_acts.specs.Judged.{act_of, IsUnread, UnreadOf};
+ghost use Rattle.hub_acts.specs.Judged.{act_of, CannotBeRead, UnreadOf};
 ghost use Rattle.hub_acts.specs.Named.{MessageUnclean};
 
 use crate::despatches::known_for_despatch;
@@ -52,7 +52,7 @@ fn judged_order<S: Store>(
         rules.judge_order register.now.retailer (supplier_row register.now.suppliers (named message.now)) incoming
         (body_of message.now) order (view (named message.now) (S.content store.old))) (S.content store.old)
         ≡ act_of judged (S.content store.old)) }
-    ensures fails { FailsWith S.plain ⊥ (IsUnread (order_of message.now)) (S.broken store.old) (S.broken store.new) result }
+    ensures fails { FailsWith S.plain ⊥ (CannotBeRead (order_of message.now)) (S.broken store.old) (S.broken store.new) result }
     ensures stays { Stays S.content S.honest S.left store.old store.new }
 {
     let order = match Order::read(alloc, message) {
@@ -82,7 +82,7 @@ fn judged_receipt<S: Store>(
         rules.judge_receipt register.now.retailer (supplier_row register.now.suppliers (named message.now)) incoming
         (body_of message.now) receipt (view (named message.now) (S.content store.old))) (S.content store.old)
         ≡ act_of judged (S.content store.old)) }
-    ensures fails { FailsWith S.plain ⊥ (IsUnread (receipt_of message.now)) (S.broken store.old) (S.broken store.new) result }
+    ensures fails { FailsWith S.plain ⊥ (CannotBeRead (receipt_of message.now)) (S.broken store.old) (S.broken store.new) result }
     ensures stays { Stays S.content S.honest S.left store.old store.new }
 {
     let receipt = match Receipt::read(alloc, message) {
@@ -113,7 +113,7 @@ fn judged_response<S: Store>(
         rules.judge_response register.now.retailer (Some supplier.now) incoming response
         (view supplier.now.gln (S.content store.old))) (S.content store.old) ≡ act_of judged (S.content store.old)) }
     ensures fails { FailsWith S.plain (S.honest store.new → MessageUnclean message.now (view supplier.now.gln (S.content store.old)))
-        (IsUnread (response_of message.now)) (S.broken store.old) (S.broken store.new) result }
+        (CannotBeRead (response_of message.now)) (S.broken store.old) (S.broken store.new) result }
     ensures stays { Stays S.content S.honest S.left store.old store.new }
 {
     let response = match Response::read(alloc, message) {
@@ -143,7 +143,7 @@ fn judged_despatch<S: Store>(
         (has_pallet (S.content store.old)) incoming despatch (view supplier.now.gln (S.content store.old)))
         (S.content store.old) ≡ act_of judged (S.content store.old)) }
     ensures fails { FailsWith S.plain (S.honest store.new → MessageUnclean message.now (view supplier.now.gln (S.content store.old)))
-        (IsUnread (despatch_of message.now)) (S.broken store.old) (S.broken store.new) result }
+        (CannotBeRead (despatch_of message.now)) (S.broken store.old) (S.broken store.new) result }
     ensures stays { Stays S.content S.honest S.left store.old store.new }
 {
     let despatch = match Despatch::read(alloc, message) {

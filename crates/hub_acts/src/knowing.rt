@@ -11,7 +11,7 @@ ghost use Rattle.hub_lines.specs.KnownLines.{AddsUp, AreUnclean};
 ghost use Rattle.hub_rules.specs.Sound.{Kept};
 ghost use Rattle.hub_judges.specs.Known.{TellsDespatched, TellsForCancel, TellsForOrder, TellsForReceipt, TellsForResponse, TellsLines};
 ghost use Rattle.hub_judges.specs.Known.{TellsOrder};
-ghost use Rattle.hub_acts.specs.Acts.{FailsWith, Stays, anything, nothing};
+ghost use Rattle.hub_acts.specs.Acts.{FailsWith, Stays, any_answer, no_answer};
 
 use edi_base::{Items, MemoryFault, copied};
 use edi_goods::{Receipt, ReceiptUnit};
@@ -35,7 +35,7 @@ pub(crate) fn known_for_order<S: Store>(
     ensures told { S.honest store.new → Kept (view supplier.now (S.content store.old)) →
         IfOk result (λ known. TellsForOrder known incoming.now order.now (view supplier.now (S.content store.old))) }
     ensures unclean { S.honest store.new → S.broken store.old ≡ None → are_clean (S.content store.old) ≡ true → result ≢ Err Unclean }
-    ensures fails { FailsWith S.plain ⊥ nothing (S.broken store.old) (S.broken store.new) result }
+    ensures fails { FailsWith S.plain ⊥ no_answer (S.broken store.old) (S.broken store.new) result }
     ensures stays { Stays S.content S.honest S.left store.old store.new }
 {
     let control = incoming.control.as_slice();
@@ -101,7 +101,7 @@ fn known_of_order<S: Store>(
     ensures unclean { S.honest store.new → S.broken store.old ≡ None → are_clean (S.content store.old) ≡ true →
         result ≡ Err Unclean → AreUnclean (lines_of (view supplier.now (S.content store.old)) order.now) }
     ensures fails { FailsWith S.plain (S.honest store.new → AreUnclean (lines_of (view supplier.now (S.content store.old)) order.now))
-        nothing (S.broken store.old) (S.broken store.new) result }
+        no_answer (S.broken store.old) (S.broken store.new) result }
     ensures stays { Stays S.content S.honest S.left store.old store.new }
 {
     let is_there = store.order_known(supplier, order)?;
@@ -135,7 +135,7 @@ pub(crate) fn known_for_response<S: Store>(
         result ≡ Err Unclean → AreUnclean (lines_of (view supplier.now (S.content store.old)) response.now.order) }
     ensures fails { FailsWith S.plain (S.honest store.new →
         AreUnclean (lines_of (view supplier.now (S.content store.old)) response.now.order))
-        nothing (S.broken store.old) (S.broken store.new) result }
+        no_answer (S.broken store.old) (S.broken store.new) result }
     ensures stays { Stays S.content S.honest S.left store.old store.new }
 {
     let order = response.order.as_slice();
@@ -159,7 +159,7 @@ pub(crate) fn known_for_cancel<S: Store>(
         AreUnclean (lines_of (view cancel.now.supplier (S.content store.old)) cancel.now.order) }
     ensures fails { FailsWith S.plain (S.honest store.new →
         AreUnclean (lines_of (view cancel.now.supplier (S.content store.old)) cancel.now.order))
-        nothing (S.broken store.old) (S.broken store.new) result }
+        no_answer (S.broken store.old) (S.broken store.new) result }
     ensures stays { Stays S.content S.honest S.left store.old store.new }
 {
     let supplier = &cancel.supplier;
@@ -193,7 +193,7 @@ fn pallets_of<S: Store>(
         ≡ pallets) }
     ensures each { IfOk result (λ pallets. length pallets ≡ length units.now) }
     ensures unclean { S.honest store.new → S.broken store.old ≡ None → are_clean (S.content store.old) ≡ true → result ≢ Err Unclean }
-    ensures fails { FailsWith S.plain ⊥ anything (S.broken store.old) (S.broken store.new) result }
+    ensures fails { FailsWith S.plain ⊥ any_answer (S.broken store.old) (S.broken store.new) result }
     ensures stays { Stays S.content S.honest S.left store.old store.new }
 {
     let mut pallets = Items::new(alloc);
@@ -218,7 +218,7 @@ pub(crate) fn known_for_receipt<S: Store>(
         (view supplier.now (S.content store.old))) }
     ensures each { IfOk result (λ known. length known.pallets ≡ length receipt.now.units) }
     ensures unclean { S.honest store.new → S.broken store.old ≡ None → are_clean (S.content store.old) ≡ true → result ≢ Err Unclean }
-    ensures fails { FailsWith S.plain ⊥ nothing (S.broken store.old) (S.broken store.new) result }
+    ensures fails { FailsWith S.plain ⊥ no_answer (S.broken store.old) (S.broken store.new) result }
     ensures stays { Stays S.content S.honest S.left store.old store.new }
 {
     let control = incoming.control.as_slice();

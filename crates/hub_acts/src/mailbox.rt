@@ -9,7 +9,7 @@ ghost use Rattle.hub_law.specs.MailText.{list_text};
 ghost use Rattle.hub_law.specs.Mark.{Whole};
 ghost use Rattle.hub_law.specs.Replies.{unknown, done, entry_reply};
 ghost use Rattle.hub_law.specs.Requests.{taken};
-ghost use Rattle.hub_acts.specs.Acts.{Carried, FailsWith, Unharmed, Stays, as_told, nothing};
+ghost use Rattle.hub_acts.specs.Acts.{Carried, FailsWith, Unharmed, Stays, as_told, no_answer};
 
 use edi_base::{Items, MemoryFault, copied};
 use gs1_ids::Gln;
@@ -54,7 +54,7 @@ pub fn mailbox_list<S: Store>(
     ensures reply { S.honest store.new →
         IfOk result (λ reply.
         reply ≡ done (list_text (untaken_after (view supplier.now (S.content store.old)) number))) }
-    ensures fails { FailsWith S.plain ⊥ nothing (S.broken store.old) (S.broken store.new) result }
+    ensures fails { FailsWith S.plain ⊥ no_answer (S.broken store.old) (S.broken store.new) result }
     ensures stays { Stays S.content S.honest S.left store.old store.new }
 {
     let entries = store.mail_after(supplier, number, LISTED_AND_ONE)?;
@@ -73,7 +73,7 @@ pub fn mailbox_entry<S: Store>(
     ensures reply { S.honest store.new →
         IfOk result (λ reply. reply ≡ entry_reply hub.now
         (entry_at (view supplier.now (S.content store.old)) number)) }
-    ensures fails { FailsWith S.plain ⊥ nothing (S.broken store.old) (S.broken store.new) result }
+    ensures fails { FailsWith S.plain ⊥ no_answer (S.broken store.old) (S.broken store.new) result }
     ensures stays { Stays S.content S.honest S.left store.old store.new }
 {
     let Some(entry) = store.mail_item(supplier, number)? else {
@@ -93,7 +93,7 @@ fn only(alloc: Global, change: Change) -> Result<Items<Change>, MemoryFault>
 }
 
 /// Marks a mailbox entry as taken; one that is taken stays so, and is not written again. The reply is made before. At a
-/// fault nothing was done.
+/// fault no_answer was done.
 pub fn take_entry<S: Store>(
     alloc: Global,
     store: &mut S,
@@ -104,7 +104,7 @@ pub fn take_entry<S: Store>(
         Registered register.suppliers s (S.content store.old) →
         Carried S.content S.honest S.left store.old store.new (λ t.
         taken Whole (entry_at (view supplier.now t) number) t) as_told result }
-    ensures fails { FailsWith S.plain ⊥ nothing (S.broken store.old) (S.broken store.new) result }
+    ensures fails { FailsWith S.plain ⊥ no_answer (S.broken store.old) (S.broken store.new) result }
     ensures unharmed { Unharmed S.content S.honest store.old store.new result }
 {
     acts_stay_sound();

@@ -11,7 +11,7 @@ ghost use Rattle.hub_lines.specs.Book.{place_cmp};
 ghost use Rattle.hub_law.specs.Replies.{done};
 ghost use Rattle.hub_law.specs.StatusText.{pallet_text, status_text};
 ghost use Rattle.hub_texts.specs.Totals.{IsUnclean};
-ghost use Rattle.hub_acts.specs.Acts.{FailsWith, Stays, anything, nothing};
+ghost use Rattle.hub_acts.specs.Acts.{FailsWith, Stays, any_answer, no_answer};
 ghost use Rattle.hub_acts.specs.Status.{PalletUnclean, StatusUnclean};
 
 use crate::mailbox::done_reply;
@@ -65,7 +65,7 @@ fn with_pallets<S: Store>(
         result ≡ Err Unclean → PalletUnclean (view supplier.now (S.content store.old)) lines.now pallets.now }
     ensures fails { FailsWith S.plain (S.honest store.new →
         PalletUnclean (view supplier.now (S.content store.old)) lines.now pallets.now)
-        anything (S.broken store.old) (S.broken store.new) result }
+        any_answer (S.broken store.old) (S.broken store.new) result }
     ensures stays { Stays S.content S.honest S.left store.old store.new }
 {
     let mut whole = text;
@@ -91,7 +91,7 @@ pub fn status_report<S: Store>(
     ensures unclean { S.honest store.new → S.broken store.old ≡ None → are_clean (S.content store.old) ≡ true →
         result ≡ Err Unclean → StatusUnclean (view supplier.now (S.content store.old)) }
     ensures fails { FailsWith S.plain (S.honest store.new → StatusUnclean (view supplier.now (S.content store.old)))
-        nothing (S.broken store.old) (S.broken store.new) result }
+        no_answer (S.broken store.old) (S.broken store.new) result }
     ensures stays { Stays S.content S.honest S.left store.old store.new }
 {
     let ordered = store.all_lines(supplier)?;

@@ -2,25 +2,20 @@
 use Rattle.std.proofs.Common.{◌≡◌, ◌⊎◌, inl, inr, ℕ, Bool, IsTrue, List, [], ◌∷◌, ◌++◌, length, Option, Some, None, Result, Ok, Err}
 use Rattle.std.proofs.Common.{IfOk, OnErr, IsSome, refl, sym, subst, ap, ◌∙◌, arith}
 use Rattle.std.specs.Option.{IfSome}
-use Rattle.edi_envelope.specs.declared.interchange.RawMessage.{RawMessage}
 use Rattle.hub_parties.specs.Rows.{RegisterRows}
-use Rattle.hub_tables.specs.Tables.{Tables}
 use Rattle.hub_store.specs.Calls.{fault_of}
 use Rattle.hub_store.specs.declared.fault.LastingFault.{LastingFault}
 use Rattle.hub_store.specs.declared.fault.LastingFault.TheVariants as lasting
 use Rattle.hub_store.specs.declared.fault.StoreFault.{StoreFault}
 use Rattle.hub_store.specs.declared.fault.StoreFault.TheVariants.{Memory, Disk, Unclean, Version}
-use Rattle.hub_rules.specs.declared.incoming.IncomingMessage.{IncomingMessage}
-use Rattle.hub_law.specs.Mark.{Whole}
 use Rattle.hub_law.specs.Opening.{Opened, interchange_in}
 use Rattle.hub_law.specs.Replies.{reply}
 use Rattle.hub_law.specs.Requests.{uploaded}
-use Rattle.hub_law.specs.Told.{Act}
 use Rattle.hub_law.specs.declared.reply.Outcome.TheVariants.{Stopped}
 use Rattle.hub_law.specs.declared.reply.Reply.{Reply}
 use Rattle.hub_law.specs.declared.request.Input.{Input}
 use Rattle.hub_law.specs.declared.request.Request.TheVariants.{Upload}
-use Rattle.hub_acts.specs.Acts.{BreaksBy, FailsWith, nothing}
+use Rattle.hub_acts.specs.Acts.{BreaksBy, FailsWith, no_answer}
 use Rattle.hub_core.specs.Broken.{OfNoRow, StoppedUnless, Breaks, BreaksAsked, AllStopped, StoppedSinceOne, RunBreaks, does_input}
 use Rattle.hub_core.specs.Callers.{delivered, addressed_by, request_of}
 use Rattle.hub_core.specs.Steps.{Does}
@@ -62,14 +57,14 @@ module _ (plain : Bool) (does : Does) (old : Option LastingFault) where
 
   -- it was asked, by a call that a broken store does not answer
   pub by_call : (cause : Type 0) (new : Option LastingFault) (result : Result Reply StoreFault)
-      → FailsWith plain cause nothing old new result
+      → FailsWith plain cause no_answer old new result
       → BreaksAsked plain does old new result
   by_call cause new (Ok reply) fails = record {
     after = inl fails.after;
     again = where_both old fails.again fails.again (λ no _. absurd no);
     over_plain = λ p. (fails.only_memory p).0;
   }
-  by_call cause new (Err fault) fails = failed plain cause nothing old new fault fails
+  by_call cause new (Err fault) fails = failed plain cause no_answer old new fault fails
 
   -- it was stopped
   pub stopped_by : (new : Option LastingFault) (reply : Reply)

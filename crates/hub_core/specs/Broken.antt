@@ -1,4 +1,4 @@
--- For which fault the store of a hub is broken after a request and after a run, and what is replied over it then.
+-- Whether the store of a hub is broken after a request and after a run, and what is replied over it then.
 use Rattle.std.specs.Prelude.{◌≡◌, ◌⊎◌, ⊤, Bool, IsTrue, List, [], ◌∷◌, Option, None, IsSome, Result, MatchResult}
 use Rattle.std.specs.Option.{IfSome}
 use Rattle.hub_parties.specs.Rows.{RegisterRows}
@@ -12,11 +12,11 @@ use Rattle.hub_law.specs.declared.reply.Reply.{Reply}
 use Rattle.hub_law.specs.declared.request.Input.{Input}
 use Rattle.hub_core.specs.Steps.{Does}
 
--- the reply is that to the request over whatever tables, and none is changed: nothing was asked of the store
+-- the reply is that to the request over whatever tables, and none is changed: no row of the store is in it
 abbrev pub OfNoRow : Does → Reply → Type 0
 OfNoRow does reply = (t : Tables) → does Whole t ≡ (reply, t)
 
--- a broken store was not asked, or the reply says that it stopped
+-- no row is in the reply, or it says that it stopped
 abbrev pub StoppedUnless : Does → Reply → Type 0
 StoppedUnless does reply = (reply.outcome ≡ Stopped) ⊎ OfNoRow does reply
 

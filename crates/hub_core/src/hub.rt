@@ -121,6 +121,9 @@ impl<S: Store> Hub<S> {
             S.honest self.new.1 → Sound self.old.0.suppliers (S.content self.old.1) →
             Stepped self.old.0 (S.content self.old.1) (S.content self.new.1) (S.left self.old.1) (S.left self.new.1)
             (input_of moment caller.now key.now (Upload bytes)) result }
+        ensures breaks { (bytes : List ℕ) → Opens upload (opened bytes) →
+            Breaks S.plain (does_input self.old.0 (input_of moment caller.now key.now (Upload bytes)))
+            (S.broken self.old.1) (S.broken self.new.1) result }
         ensures register { self.new.0 ≡ self.old.0 }
         ensures was_honest { S.honest self.new.1 → S.honest self.old.1 }
         ensures ran_out { RanOut upload → (result.outcome ≡ Stopped) × (self.new ≡ self.old) }

@@ -49,8 +49,8 @@ pub fn remembered_stays()
         StaysRemembered t (shared_run register t inputs).1 }
 {}
 
-/// What was accepted in a run is remembered under its references and with its content, after it and whatever comes then: a
-/// message, and a cancellation of which the reply tells that it was accepted.
+/// What was accepted in a run is remembered under its references and with its content, after it and whatever comes then:
+/// a message, and a cancellation of which the reply tells that it was accepted.
 pub fn accepted_stays_remembered()
     ensures message { (register : RegisterRows) (t : Tables) (before between : Inputs) (input : Input) (mark : Mark)
         (place : ℕ) (message : RawMessage) (one : AcceptedAt register t before input mark place message) →
@@ -69,12 +69,14 @@ pub fn accepted_stays_remembered()
 /// reply. And a cancellation that was accepted and comes again is answered so.
 pub fn repeated_in_runs()
     ensures message { (register : RegisterRows) (t : Tables) (before between : Inputs) (first second : Input)
-        (mark : Mark) (place later : ℕ) (message : RawMessage) (one : AcceptedAt register t before first mark place message)
+        (mark : Mark) (place later : ℕ) (message : RawMessage)
+        (one : AcceptedAt register t before first mark place message)
         (other : MessageAt register second later message) →
         SameReference first second one.comes.upload other.upload →
         told_at register t (before ++ (first, mark) ∷ between) second other.upload later ≡ Some Repeated }
     ensures stays { (register : RegisterRows) (t : Tables) (before between : Inputs) (first second : Input)
-        (mark : Mark) (place later : ℕ) (message : RawMessage) (one : AcceptedAt register t before first mark place message)
+        (mark : Mark) (place later : ℕ) (message : RawMessage)
+        (one : AcceptedAt register t before first mark place message)
         (other : MessageAt register second later message) →
         SameReference first second one.comes.upload other.upload →
         tables_before register t (before ++ (first, mark) ∷ between) second other.upload (later + 1) ≡

@@ -8,7 +8,7 @@ use Rattle.sqlite.specs.declared.error.Error.TheVariants.{SqliteFailure}
 use Rattle.sqlite.specs.declared.error.ErrorCode.TheVariants.{TransactionState}
 use Rattle.sqlite.specs.Held.{Held, state}
 use Rattle.sqlite.specs.State.{State, HasCleanDisk, ExecutesInside, IsUnchanged, IsRolledBack, KeepsCommit}
-use Rattle.hub_schema.specs.State.{ShowsTheSame, IsUndone, Leaves, Spares}
+use Rattle.hub_schema.specs.State.{ShowsTheSame, IsUndone, StatementLeaves, Spares}
 
 pub still : (s : State) → ShowsTheSame s s
 still s = record { rows = refl; committed = refl; mode = refl; is_open = refl }
@@ -82,7 +82,7 @@ module _ {S : Type 0} (g : Ghosts S) (sql : List ℕ) (params : Row) (old new : 
     (ended : (state g old).in_transaction ≡ false → (result ≡ Err (SqliteFailure TransactionState)) × (new ≡ old))
     (runs : HasCleanDisk (state g new) → IsTrue (state g old).in_transaction
     → ExecutesInside 0 sql params (state g old) (state g new) result) where
-  pub executed_leaves : Leaves (state g old) (state g new) result
+  pub executed_leaves : StatementLeaves (state g old) (state g new) result
   executed_leaves = record {
     fault = λ clean begun. failed_inside sql params (state g old) (state g new) result (runs clean begun);
     ended = λ none. let it = ended none in

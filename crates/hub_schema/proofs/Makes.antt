@@ -27,7 +27,7 @@ use Rattle.sqlite_value.specs.Order.{Row, column}
 use Rattle.sql_rows.proofs.Inserts.{inserts, cast_null, cast_int}
 use Rattle.hub_tables.specs.Tables.{empty as no_rows}
 use Rattle.hub_schema.specs.Schema.{schema_table, hub_schema, hub_tables, no_schema}
-use Rattle.hub_schema.specs.State.{IsNewHub, Leaves, Makes, ShowsTheSame}
+use Rattle.hub_schema.specs.State.{IsNewHub, StatementLeaves, Makes, ShowsTheSame}
 use Rattle.hub_schema.proofs.Leaving.{undone_later}
 use Rattle.hub_schema.proofs.Texts.{put_number, put_number_is, put_number_plain}
 use Rattle.hub_schema.specs.Making.{HasMade, Defines, MakesOn, LeavesTables, schema_with}
@@ -129,7 +129,7 @@ still_made schema old new same has = record {
 
 -- a statement failed behind these tables
 pub stops_at : {X Y : Type 0} (first rest : List Table) → hub_tables ≡ first ++ rest → (old new : State) (e : Error)
-    → Leaves {X = X} old new (Err e) → LeavesTables {X = Y} first old new (Err e)
+    → StatementLeaves {X = X} old new (Err e) → LeavesTables {X = Y} first old new (Err e)
 stops_at first rest are old new e left = record {
   fault = λ clean has. elim (left.fault clean has.mode) [
     | inl same ↦ inl (record {
@@ -165,7 +165,7 @@ stops_later begun made old mid new e makes ran kept early left = record {
 }
 
 -- a part that is done met an open transaction
-pub ran_before : {X : Type 0} (x : X) (old new : State) → Leaves {E = Error} old new (Ok x) → old.in_transaction ≡ false
+pub ran_before : {X : Type 0} (x : X) (old new : State) → StatementLeaves {E = Error} old new (Ok x) → old.in_transaction ≡ false
     → ⊥
 ran_before x old new left none = (left.ended none).0
 
@@ -179,7 +179,7 @@ pub stops_nowhere : {X : Type 0} (begun : List Table) (old new : State) (x : X) 
 stops_nowhere begun old new x ran = record { fault = λ clean has. tt; ended = λ none. absurd (ran none) }
 
 -- the row with the schema's number, behind all tables
-pub number_leaves : (old new : State) (r : Result ℕ Error) → Leaves old new r → LeavesTables hub_tables old new r
+pub number_leaves : (old new : State) (r : Result ℕ Error) → StatementLeaves old new r → LeavesTables hub_tables old new r
 number_leaves old new (Ok count) left = record {
   fault = λ clean has. tt;
   ended = λ none. let it = left.ended none in (it.0, it.1);

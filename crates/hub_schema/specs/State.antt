@@ -79,7 +79,7 @@ pub record Spares {X E : Type 0} (old new : State) (result : Result X E) : Type 
 
 -- a statement in a transaction: after a fault nothing of it is done, and the transaction stands or is undone; where
 -- the transaction had ended before, nothing is done at all
-pub record Leaves {X E : Type 0} (old new : State) (result : Result X E) : Type 0 where
+pub record StatementLeaves {X E : Type 0} (old new : State) (result : Result X E) : Type 0 where
   pub fault :
       HasCleanDisk new → IsTrue old.in_transaction → OnErr result (ShowsTheSame old new ⊎ IsUndone old new)
   pub ended : old.in_transaction ≡ false → OnOk result ⊥ × ShowsTheSame old new

@@ -10,7 +10,7 @@ ghost use Rattle.sqlite_catalog.specs.Change.{created};
 ghost use Rattle.hub_schema.specs.Making.{HasMade, Defines, MakesOn, LeavesTables, schema_with};
 ghost use Rattle.hub_schema.specs.Schema.{no_schema, hub_schema, hub_tables, schema_table, order_table, line_table, advice_table, pallet_table, content_table};
 ghost use Rattle.hub_schema.specs.Rows.{tables_in};
-ghost use Rattle.hub_schema.specs.State.{IsHub, IsNewHub, Leaves, Makes, ShowsTheSame};
+ghost use Rattle.hub_schema.specs.State.{IsHub, IsNewHub, StatementLeaves, Makes, ShowsTheSame};
 
 use sqlite::{Alter, Connection, Error, Transaction};
 
@@ -24,7 +24,7 @@ fn create<S: Alter>(tx: &mut Transaction<'_, S>, text: &str) -> Result<usize, Er
     ensures kept { HasCleanDisk (state S.Store tx.new.conn.now) →
         KeepsCommit (state S.Store tx.old.conn.now) (state S.Store tx.new.conn.now) }
     ensures survives { Survives (state S.Store tx.old.conn.now) (state S.Store tx.new.conn.now) (λ _. ⊥) }
-    ensures leaves { Leaves (state S.Store tx.old.conn.now) (state S.Store tx.new.conn.now) result }
+    ensures leaves { StatementLeaves (state S.Store tx.old.conn.now) (state S.Store tx.new.conn.now) result }
 {
     tx.execute(text, &[])
 }

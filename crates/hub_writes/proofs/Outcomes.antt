@@ -22,7 +22,7 @@ use Rattle.hub_store.specs.Calls.{have_places}
 use Rattle.hub_store.specs.declared.fault.StoreFault.{StoreFault}
 use Rattle.hub_store.specs.declared.fault.StoreFault.TheVariants.{Unclean}
 use Rattle.hub_schema.specs.Rows.{tables_in}
-use Rattle.hub_schema.specs.State.{IsHub, IsUndone, Makes, ShowsTheSame, Leaves}
+use Rattle.hub_schema.specs.State.{IsHub, IsUndone, Makes, ShowsTheSame, StatementLeaves}
 use Rattle.hub_schema.proofs.Leaving.{executed_leaves}
 use Rattle.hub_writes.specs.Faults.{placed, inserted, ended, refusal_of, fault_of}
 use Rattle.hub_writes.specs.Acts.{Acts, MakesFirst}
@@ -177,7 +177,7 @@ module _ {S : Type 0} (g : Ghosts S) (sql : List ℕ) (params : Row) (old new : 
     | inr none ↦ subst (λ h. KeepsCommit (state g old) (state g h)) (sym (did.ended none).1) (kept_still (state g old))
   ]
 
-  left_by : Leaves (state g old) (state g new) r
+  left_by : StatementLeaves (state g old) (state g new) r
   left_by = executed_leaves g sql params old new r did.ended did.runs
 
   abbrev Stands : Type 0

@@ -4,7 +4,7 @@ use Rattle.sql_rows.proofs.Transactions.{clean_before, kept_then}
 use Rattle.hub_schema.specs.Making.{LeavesTables}
 use Rattle.hub_schema.specs.Schema.{schema_table, order_table, line_table, advice_table, pallet_table, content_table}
 use Rattle.hub_schema.specs.Schema.{receipt_table, remembered_table, mail_table}
-use Rattle.hub_schema.specs.State.{Leaves}
+use Rattle.hub_schema.specs.State.{StatementLeaves}
 use Rattle.hub_schema.proofs.Makes.{stops_at, stops_later, stops_nowhere, ran_before}
 use Rattle.hub_schema.proofs.Texts.{receipt_defined, remembered_defined, mail_defined}
 use Rattle.hub_schema.proofs.making.make_messages.Goals as goal
@@ -26,7 +26,7 @@ returns-in_err-create-clause-leaves g c =
     let one = state g.S.Store c.create.new.tx.conn.now in
     let e = c.in_err-create.field-0.0 in
     let same : c.from_residual.result ≡ Err e = search rules in
-    let failed = subst (Leaves old one) c.in_err-create.was c.create.ensures.leaves in
+    let failed = subst (StatementLeaves old one) c.in_err-create.was c.create.ensures.leaves in
     subst (LeavesTables (schema_table ∷ order_table ∷ line_table ∷ advice_table ∷ pallet_table ∷ content_table ∷ []) old one) (sym same)
     (stops_at {Y = Unit {0}} (schema_table ∷ order_table ∷ line_table ∷ advice_table ∷ pallet_table ∷ content_table ∷ [])
     (receipt_table ∷ remembered_table ∷ mail_table ∷ [])
@@ -39,8 +39,8 @@ returns-in_err-create-2-clause-leaves g c =
     let two = state g.S.Store c.create-2.new.tx.conn.now in
     let e = c.in_err-create-2.field-0.0 in
     let same : c.from_residual-in_err-create-2.result ≡ Err e = search rules in
-    let failed = subst (Leaves one two) c.in_err-create-2.was c.create-2.ensures.leaves in
-    let ran = ran_before _ old one (subst (Leaves old one) c.in_ok-create.was c.create.ensures.leaves) in
+    let failed = subst (StatementLeaves one two) c.in_err-create-2.was c.create-2.ensures.leaves in
+    let ran = ran_before _ old one (subst (StatementLeaves old one) c.in_ok-create.was c.create.ensures.leaves) in
     subst (LeavesTables (schema_table ∷ order_table ∷ line_table ∷ advice_table ∷ pallet_table ∷ content_table ∷ []) old two) (sym same)
     (stops_later (schema_table ∷ order_table ∷ line_table ∷ advice_table ∷ pallet_table ∷ content_table ∷ [])
     (schema_table ∷ order_table ∷ line_table ∷ advice_table ∷ pallet_table ∷ content_table ∷ receipt_table ∷ []) old one two e
@@ -58,8 +58,8 @@ returns-in_err-create-3-clause-leaves g c =
     let three = state g.S.Store c.create-3.new.tx.conn.now in
     let e = c.in_err-create-3.field-0.0 in
     let same : c.from_residual-in_err-create-3.result ≡ Err e = search rules in
-    let failed = subst (Leaves two three) c.in_err-create-3.was c.create-3.ensures.leaves in
-    let ran = ran_before _ old one (subst (Leaves old one) c.in_ok-create.was c.create.ensures.leaves) in
+    let failed = subst (StatementLeaves two three) c.in_err-create-3.was c.create-3.ensures.leaves in
+    let ran = ran_before _ old one (subst (StatementLeaves old one) c.in_ok-create.was c.create.ensures.leaves) in
     subst (LeavesTables (schema_table ∷ order_table ∷ line_table ∷ advice_table ∷ pallet_table ∷ content_table ∷ []) old three) (sym same)
     (stops_later (schema_table ∷ order_table ∷ line_table ∷ advice_table ∷ pallet_table ∷ content_table ∷ [])
     (schema_table ∷ order_table ∷ line_table ∷ advice_table ∷ pallet_table ∷ content_table ∷ receipt_table
@@ -84,4 +84,4 @@ returns-clause-leaves g c =
     let one = state g.S.Store c.create.new.tx.conn.now in
     stops_nowhere (schema_table ∷ order_table ∷ line_table ∷ advice_table ∷ pallet_table ∷ content_table ∷ []) old
     (state g.S.Store c.create-3.new.tx.conn.now) tt
-    (ran_before _ old one (subst (Leaves old one) c.in_ok-create.was c.create.ensures.leaves))
+    (ran_before _ old one (subst (StatementLeaves old one) c.in_ok-create.was c.create.ensures.leaves))

@@ -1,0 +1,13 @@
+use Rattle.std.proofs.Common.{subst}
+use Rattle.hub_law.specs.declared.request.Request.TheVariants.{Upload}
+use Rattle.hub_core.specs.Broken.{Breaks, does_input}
+use Rattle.hub_core.specs.Steps.{input_of}
+use Rattle.hub_core.proofs.hub.Hub.step_opened.Goals as goal
+
+-- what the hub's parts leave is what the hub does
+pub returns-clause-breaks : goal.returns-clause-breaks
+returns-clause-breaks g c bytes opens =
+    subst (λ hub. Breaks g.S.Store.plain
+    (does_input hub.0 (input_of c.args.moment c.args.caller.now c.args.key.now (Upload bytes)))
+    (g.S.Store.broken hub.1) (g.S.Store.broken c.step_opened.new.store) c.step_opened.result) c.self.view_is
+    (c.step_opened.ensures.breaks bytes opens)
