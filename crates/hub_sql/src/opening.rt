@@ -49,11 +49,12 @@ pub(crate) fn found<S: Alter + Drop>(
 }
 
 impl SqliteStore<MemStore> {
-    /// A store in memory, without rows. `Memory` is its only fault.
+    /// A store in memory, without rows; or `Memory`, or `Disk`, for which memory has no cause.
     pub fn in_memory(alloc: Global) -> Result<SqliteStore<MemStore>, StoreFault>
         ensures whole { IfOk result (λ store. store.fault ≡ None) }
         ensures rows { IfOk result (λ store. content over_memory store ≡ empty) }
         ensures crash { IfOk result (λ store. (t : Tables) → left over_memory store t → t ≡ empty) }
+        ensures fails { IfErr result (λ fault. (fault ≡ StoreFault.Memory) ⊎ (fault ≡ StoreFault.Disk)) }
     {
         let Ok(conn) = Connection::open_in_memory(alloc) else {
             return Err(StoreFault::Memory);
