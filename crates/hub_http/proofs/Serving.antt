@@ -1,17 +1,20 @@
 -- The question of a connection, from its head.
-use Rattle.std.proofs.Common.{◌≡◌, ℕ, ◌+◌, List, Option, Some, None, Result, Ok, Err, Bool, false, refl, inl, inr}
+use Rattle.std.proofs.Common.{◌≡◌, ℕ, ◌+◌, List, ◌++◌, Option, Some, None, Result, Ok, Err, Bool, true, false, refl, inl, inr}
+use Rattle.std.proofs.Common.{ap, sym, subst, ◌∙◌}
 use Rattle.std.specs.Prelude.{IfOk, IfSome, OnErr}
 use Rattle.std.specs.Io.KnownBytes.{Appends}
 use Rattle.edi_base.specs.Buffer.{AppendsFront}
 use Rattle.hub_law.specs.declared.reply.Reply.{Reply}
 use Rattle.hub_parties.specs.Rows.{RegisterRows}
+use Rattle.http_head.specs.Body.{body_in}
 use Rattle.http_head.specs.Head.{Heading, Finds, before, longest_head}
 use Rattle.edi_base.specs.Source.{TakesAtMost}
 use Rattle.hub_http.specs.Answer.{Answers, OneStep, ReadsWithin, Serves, announced_by}
-use Rattle.hub_http.specs.Asked.{is_single}
-use Rattle.hub_http.specs.Question.{Question, question_of}
+use Rattle.hub_http.specs.Asked.{Asked, asked_by, is_single}
+use Rattle.hub_http.specs.Question.{Question, and_body, question_of, with_body}
 use Rattle.hub_http.specs.Serve.{response}
 use Rattle.hub_http.proofs.Bounds.{both_taken}
+use Rattle.hub_http.proofs.Judging.{passed_first}
 use Rattle.hub_http.specs.declared.answer.Answer.{Answer}
 use Rattle.hub_http.specs.declared.refusal.Refusal.{Refusal}
 use Rattle.hub_http.specs.declared.refusal.Refusal.TheVariants.{BadRequest}
@@ -83,6 +86,23 @@ module _ (Replies : Question → Reply → Type 0) (Same : Type 0) (register : R
   serves_some old new after head (Ok answer) found first more answers =
       serves_head old new after head answer found (both_taken old new after _ _ first more) answers
   serves_some old new after head (Err e) found first more answers = tt
+
+  -- what is answered to what a head asks for, with the bytes behind it, is answered to these
+  pub answers_head : {E : Type 0} (known : Option (List ℕ)) (head : Heading) (asked : Asked) (rest : List ℕ) (r : Result Answer E)
+      → Ok asked ≡ asked_by register head
+      → rest ≡ head.rest
+      → IfOk r (λ answer. IfSome known (λ left.
+      Answers Replies Same true (with_body asked (body_in asked.size (rest ++ left))) answer))
+      → IfOk r (λ answer. IfSome known (λ left.
+      Answers Replies Same (is_single head) (question_of register (Some (before left head))) answer))
+  answers_head known head asked rest (Err e) asks same answers = tt
+  answers_head None head asked rest (Ok answer) asks same answers = tt
+  answers_head (Some left) head asked rest (Ok answer) asks same answers =
+      let is : with_body asked (body_in asked.size (rest ++ left)) ≡ question_of register (Some (before left head)) =
+      ap (λ (more : List ℕ). and_body (more ++ left) (Ok asked)) same ∙ ap (and_body (head.rest ++ left)) asks in
+      subst (λ (b : Bool). Answers Replies Same b (question_of register (Some (before left head))) answer)
+      (sym (passed_first register head asked asks))
+      (subst (λ (q : Result Question Refusal). Answers Replies Same true q answer) is answers)
 
   -- a front of the response was written
   pub ended_cut : (known after was is : Option (List ℕ)) (answer : Answer)

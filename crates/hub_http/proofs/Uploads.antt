@@ -18,7 +18,7 @@ use Rattle.edi_envelope.specs.Gathered.{Flagged}
 use Rattle.edi_envelope.specs.Opened.{opened, Opens}
 use Rattle.hub_law.specs.declared.reply.Reply.{Reply}
 use Rattle.http_head.specs.Body.{body_in}
-use Rattle.hub_http.specs.Answer.{Answers, Ends, OneStep}
+use Rattle.hub_http.specs.Answer.{Answers, AnswersOne, Ends, OneStep}
 use Rattle.hub_http.specs.Asked.{Asked}
 use Rattle.hub_http.specs.Question.{Question, of_asker, request_for, uploading, with_body}
 use Rattle.hub_http.specs.Upload.{IsUpload}
@@ -153,3 +153,9 @@ module _ (Replies : Question → Reply → Type 0) (Same : Type 0) (asked : Aske
   step_upload upload answer some ends =
       let end = ends some.0 some.1 in
       inr (uploading asked some.0, end.0, end.1)
+
+  pub one_upload : (upload : Result Interchange OpenFault) (answer : Answer)
+      → ((bytes : List ℕ) × Opens upload (opened bytes))
+      → ((bytes : List ℕ) → Opens upload (opened bytes) → Ends Replies Same (Ok (uploading asked bytes)) answer)
+      → AnswersOne Replies Same answer
+  one_upload upload answer some ends = (Ok (uploading asked some.0), inl (ends some.0 some.1))

@@ -61,6 +61,10 @@ module _ (Replies : Question → Reply → Type 0) (Same : Type 0) where
   abbrev pub Answers : Bool → Result Question Refusal → Answer → Type 0
   Answers passed question answer = Ends question answer ⊎ ((passed ≡ true) × Stops answer)
 
+  -- one question was answered, whichever it was
+  abbrev pub AnswersOne : Answer → Type 0
+  AnswersOne answer = (question : Result Question Refusal) × Answers true question answer
+
 -- the first check: a head stands there, and its key and its length at most once
 abbrev pub passes : Option Heading → Bool
 passes None = false

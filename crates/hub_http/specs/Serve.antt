@@ -16,16 +16,23 @@ use Rattle.hub_http.specs.declared.serve.Served.{Served}
 abbrev pub response : Answer → List ℕ
 response answer = http_text answer.status (bytes_of answer.text)
 
--- The whole response was written, and its status told. Where a read failed, nothing was written and the hub is as
--- before; where a write failed, a front of the response was written, and the hub is as after the question.
+-- The whole response of an answer that is so was written, and its status told; where a write failed, a front of it; and
+-- where a read failed, nothing.
+abbrev pub Written : (Answer → Type 0) → Option (List ℕ) → Option (List ℕ) → Result Served IoFault → Type 0
+Written IsSo was is (Ok served) =
+    (answer : Answer) × IsSo answer × Appends was is (response answer) × (served.status ≡ answer.status)
+Written IsSo was is (Err Read) = is ≡ was
+Written IsSo was is (Err Write) = (answer : Answer) × IsSo answer × AppendsFront was is (response answer)
+
+-- The response to what the bytes ask was written so. Where a read failed, the hub is as before; where a write failed,
+-- it is as after the question.
 abbrev pub Ended : (Question → Reply → Type 0) → Type 0 → RegisterRows → Option (List ℕ) → Option (List ℕ)
     → Option (List ℕ) → Option (List ℕ) → Result Served IoFault → Type 0
-Ended Replies Same register known after was is (Ok served) = IfSome known (λ bytes. (answer : Answer)
-    × Serves Replies Same register bytes after answer × Appends was is (response answer)
-    × (served.status ≡ answer.status))
+Ended Replies Same register known after was is (Ok served) =
+    IfSome known (λ bytes. Written (Serves Replies Same register bytes after) was is (Ok served))
 Ended Replies Same register known after was is (Err Read) = Same × (is ≡ was)
-Ended Replies Same register known after was is (Err Write) = IfSome known (λ bytes. (answer : Answer)
-    × Serves Replies Same register bytes after answer × AppendsFront was is (response answer))
+Ended Replies Same register known after was is (Err Write) =
+    IfSome known (λ bytes. Written (Serves Replies Same register bytes after) was is (Err Write))
 
 abbrev pub io_fault_text : IoFault → List ℕ
 io_fault_text Read = codes "read"

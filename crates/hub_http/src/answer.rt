@@ -126,6 +126,8 @@ fn answer_kept<R: Source, S: Store>(
     ensures answers { IfOk result (λ answer. IfSome (R.remaining reader.old) (λ left.
         spec.Answers (spec.Steps S.content S.honest S.left moment hub.old hub.new) (hub.new ≡ hub.old) true
         (with_body (told asking.now) (body_in (told asking.now).size (front.now ++ left))) answer)) }
+    ensures answers_one { IfOk result (λ answer.
+        spec.AnswersOne (spec.Steps S.content S.honest S.left moment hub.old hub.new) (hub.new ≡ hub.old) answer) }
     ensures stepped { spec.OneStep (spec.Steps S.content S.honest S.left moment hub.old hub.new) (hub.new ≡ hub.old) }
     ensures untouched { OnErr result (hub.new ≡ hub.old) }
     ensures register { hub.new.0 ≡ hub.old.0 }
@@ -173,6 +175,8 @@ fn answer_upload<R: Source, S: Store>(
     ensures answers { IfOk result (λ answer. IfSome (R.remaining reader.old) (λ left.
         spec.Answers (spec.Steps S.content S.honest S.left moment hub.old hub.new) (hub.new ≡ hub.old) true
         (with_body (told asking.now) (body_in (told asking.now).size (front.now ++ left))) answer)) }
+    ensures answers_one { IfOk result (λ answer.
+        spec.AnswersOne (spec.Steps S.content S.honest S.left moment hub.old hub.new) (hub.new ≡ hub.old) answer) }
     ensures stepped { spec.OneStep (spec.Steps S.content S.honest S.left moment hub.old hub.new) (hub.new ≡ hub.old) }
     ensures untouched { OnErr result (hub.new ≡ hub.old) }
     ensures register { hub.new.0 ≡ hub.old.0 }
@@ -202,6 +206,8 @@ fn answer_asked<R: Source, S: Store>(
     ensures answers { IfOk result (λ answer. IfSome (R.remaining reader.old) (λ left.
         spec.Answers (spec.Steps S.content S.honest S.left moment hub.old hub.new) (hub.new ≡ hub.old) true
         (with_body (told asking.now) (body_in (told asking.now).size (front.now ++ left))) answer)) }
+    ensures answers_one { IfOk result (λ answer.
+        spec.AnswersOne (spec.Steps S.content S.honest S.left moment hub.old hub.new) (hub.new ≡ hub.old) answer) }
     ensures stepped { spec.OneStep (spec.Steps S.content S.honest S.left moment hub.old hub.new) (hub.new ≡ hub.old) }
     ensures untouched { OnErr result (hub.new ≡ hub.old) }
     ensures register { hub.new.0 ≡ hub.old.0 }
@@ -227,6 +233,8 @@ fn answer_head<R: Source, S: Store>(
     ensures answers { IfOk result (λ answer. IfSome (R.remaining reader.old) (λ left.
         spec.Answers (spec.Steps S.content S.honest S.left moment hub.old hub.new) (hub.new ≡ hub.old)
         (is_single head.now) (asked_of hub.old.0 (Some (before left head.now))) answer)) }
+    ensures answers_one { IfOk result (λ answer.
+        spec.AnswersOne (spec.Steps S.content S.honest S.left moment hub.old hub.new) (hub.new ≡ hub.old) answer) }
     ensures stepped { spec.OneStep (spec.Steps S.content S.honest S.left moment hub.old hub.new) (hub.new ≡ hub.old) }
     ensures untouched { OnErr result (hub.new ≡ hub.old) }
     ensures register { hub.new.0 ≡ hub.old.0 }
@@ -253,6 +261,8 @@ pub(crate) fn answer_one<R: Source, S: Store>(
     ensures answered { IfOk result (λ answer. IfSome (R.remaining reader.old) (λ known.
         spec.Serves (spec.Steps S.content S.honest S.left moment hub.old hub.new) (hub.new ≡ hub.old) hub.old.0 known
         (R.remaining reader.new) answer)) }
+    ensures answers_one { IfOk result (λ answer.
+        spec.AnswersOne (spec.Steps S.content S.honest S.left moment hub.old hub.new) (hub.new ≡ hub.old) answer) }
     ensures stepped { spec.OneStep (spec.Steps S.content S.honest S.left moment hub.old hub.new) (hub.new ≡ hub.old) }
     ensures untouched { OnErr result (hub.new ≡ hub.old) }
     ensures register { hub.new.0 ≡ hub.old.0 }

@@ -1,7 +1,8 @@
-use Rattle.std.proofs.Common.{◌≡◌, ◌+◌, inl, refl, arith}
+use Rattle.std.proofs.Common.{◌≡◌, ◌+◌, Err, inl, refl, arith}
 use Rattle.http_head.specs.Head.{longest_head}
 use Rattle.hub_http.specs.Answer.{Steps, size_asked}
 use Rattle.hub_http.specs.Asked.{asked_by, longest_body}
+use Rattle.hub_http.specs.declared.refusal.Refusal.TheVariants.{BadRequest}
 use Rattle.hub_http.proofs.Bounds.{asked_short, both_taken, taken_within}
 use Rattle.hub_http.proofs.Serving.{cut_behind, on_err, serves_none, serves_some}
 use Rattle.hub_http.proofs.answer.answer_one.Goals as goal
@@ -34,3 +35,6 @@ returns-in-None-clause-answered g c =
     serves_none (Steps g.S.Store.content g.S.Store.honest g.S.Store.left c.args.moment c.args.hub.now c.args.hub.now)
     (c.args.hub.now ≡ c.args.hub.now) c.args.hub.now.0 _ _ c.refused.result (rw c.in-None.is at found)
     c.in_ok-head.ensures.limit (inl (refl, c.refused.ensures))
+
+pub returns-in-None-clause-answers_one : goal.returns-in-None-clause-answers_one
+returns-in-None-clause-answers_one g c = (Err BadRequest, inl (refl, c.refused.ensures))

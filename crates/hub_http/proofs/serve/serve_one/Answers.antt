@@ -8,3 +8,7 @@ returns-in-Ok-write_answer-clause-served g c =
     ended_whole (Steps g.S.Store.content g.S.Store.honest g.S.Store.left c.args.moment c.args.hub.now c.answer_one.new.hub)
     (c.answer_one.new.hub ≡ c.args.hub.now) c.args.hub.now.0 _ _ _ _ c.in-Ok.answer c.as_u16.result
     c.in-Ok.ensures.answered c.in-Ok-write_answer.ensures.bytes c.as_u16.ensures.value
+
+pub returns-in-Ok-write_answer-clause-written : goal.returns-in-Ok-write_answer-clause-written
+returns-in-Ok-write_answer-clause-written g c =
+    (c.in-Ok.answer, c.in-Ok.ensures.answers_one, c.in-Ok-write_answer.ensures.bytes, c.as_u16.ensures.value)
