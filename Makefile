@@ -1,7 +1,7 @@
 RELAY = relay --hub 5412345000006 --owner 4012345500004 --moment 1748942400 --number 1
 PROVED = crates/edihub/out/edihub
 
-.PHONY: run day serve try test wrong found hostile fuzz bench edihub hub_script clean
+.PHONY: run day serve try test wrong found hostile fuzz bench edihub hub_script tests_of_calls clean
 
 # The main job, with the proved program: the example's ORDERS interchange becomes the supplier's mailbox interchange.
 run: edihub
@@ -31,6 +31,12 @@ hub_script:
 	mkdir -p crates/hub_script/out
 	cd crates/hub_script && rt run < stdin > out/printed 2> out/log || { cat out/log; exit 1; }
 
+# Proves and runs the tests of calls, whose programs are left for the hostile trials.
+TESTS = edi_tests http_tests judge_tests hub_tests app_tests
+
+tests_of_calls:
+	for crate in $(TESTS); do (mkdir -p crates/$$crate/out && cd crates/$$crate && rt test > out/log 2>&1 || { cat out/log; exit 1; }) || exit 1; done
+
 # The same job without any proof, in seconds.
 try:
 	@echo "make try: this run proves nothing" >&2
@@ -48,8 +54,8 @@ wrong:
 found:
 	python3 tests/found.py
 
-# Kills, full disks and damaged files, for some minutes; no part of the gate.
-hostile: edihub hub_script
+# Kills, full disks, damaged files and refused memory, for some minutes; no part of the gate.
+hostile: edihub hub_script tests_of_calls
 	python3 tests/hostile.py crates/edihub/out/edihub crates/hub_script/out/hub_script
 
 # Inputs made right and then changed, through the program: make fuzz SEED=2 NUMBER=10000

@@ -8,7 +8,7 @@ import loads
 import orders
 import shown
 from case import Case
-from envelopes import ENVELOPES, HEAD, MESSAGE, ORDERS
+from envelopes import ENVELOPES, HEAD, MESSAGE, ORDERS, cut
 from registers import ALPHA, BETA, HUB, REGISTERS, RETAILER, of_prefixes, register
 from texts import TEXT_LIMIT, TEXTS
 
@@ -148,13 +148,6 @@ RELAY = [
 ]
 
 
-def cut(length):
-    """What the order of 255 bytes, cut to a length, is refused with."""
-    whole = length in (0, 9) or length > 9 and ORDERS[length - 1] == "'"
-    return "E06" if whole else "E02" if 3 <= length <= 8 else "E04"
-
-
-assert [sum(cut(length) == code for length in range(255)) for code in ("E06", "E02", "E04")] == [13, 6, 236]
 CUTS = [refused(f"the order cut to {length} bytes", ORDERS[:length], cut(length)) for length in range(255)]
 
 # so little memory in all that the mail texts of an interchange of 1 MiB cannot be held, and a little more

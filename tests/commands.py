@@ -8,7 +8,7 @@ import tempfile
 
 import files
 from case import Case
-from envelopes import ORDERS
+from envelopes import ORDERS, cut
 from files import NAME, has_rows, is_still, is_whole
 from hubs import ALPHA, BETA, DESPATCH, FIRST_MAIL, HUB, KEYS, RECEIPT, RESPONSE, RETAILER, SECOND, STATUS, TWO_SUPPLIERS
 from hubs import OTHER_PALLET, despatch, interchange, line_status, order, response
@@ -132,14 +132,9 @@ def what_is_no_file():
 
 
 def cuts():
-    """An interchange cut at each of its lengths: each is refused, and nothing of it is taken."""
-    uploads = {f"in/{length:03}.edi": ORDERS[:length] for length in range(len(ORDERS))}
-    each = re.compile("".join(f"file {name[3:]}\nrefused E0[2346]\n" for name in uploads).encode())
-    return steps(
-        "an interchange cut at each of its lengths",
-        step(over("import", RETAILER, "--folder", "in"), lambda found: bool(each.fullmatch(found)), 1, files=uploads),
-        status_of(ALPHA),
-    )
+    """An interchange cut at each of its lengths: each is refused, by its code, and nothing of it is taken."""
+    uploads = [(f"{length:03}.edi", ORDERS[:length], f"refused {cut(length)}") for length in range(len(ORDERS))]
+    return steps("an interchange cut at each of its lengths", imported(RETAILER, "in", *uploads, status=1), status_of(ALPHA))
 
 
 def long_mailbox():

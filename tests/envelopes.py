@@ -14,6 +14,15 @@ SECOND = "UNH+2+ORDERS:D:01B:UN'UNT+2+2'"
 HIGH = "\xa0"
 
 
+def cut(length):
+    """What the order of 255 bytes, cut to a length, is refused with."""
+    whole = length in (0, 9) or length > 9 and ORDERS[length - 1] == "'"
+    return "E06" if whole else "E02" if 3 <= length <= 8 else "E04"
+
+
+assert [sum(cut(length) == code for length in range(255)) for code in ("E06", "E02", "E04")] == [13, 6, 236]
+
+
 def alone(message):
     """An interchange of one message."""
     return HEAD + message + END

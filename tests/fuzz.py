@@ -10,7 +10,6 @@ What is found is left in a folder, which is named. The last line is `N tried, M 
 import os
 import random
 import re
-import resource
 import shutil
 import sqlite3
 import subprocess
@@ -25,14 +24,14 @@ from files import NAME
 from http_texts import PHRASES, asking, response
 from hubs import ALPHA, BETA, HUB, KEYS, ORDERS, RETAILER, SECOND, SPELLED, TWO_SUPPLIERS
 from made import upload_of
-from serving import Server, exit_of, lines_of
+from serving import Server, exit_of, limit, lines_of
 
 BATCH = 120
-# bytes of address space: a program that asks for more is refused it. An input has some thousand bytes, so what counts is the
-# program itself, and the open store where there is one
-ROOM, ROOM_OF_STORE = 24 << 20, 48 << 20
-# how long a command may take in all, by the clock beside other work, and how much processor time a small input may take
-SECONDS, OF_SMALL = 20, 1
+# bytes of address space: a program that asks for more is refused it. The program by itself has the first, with the open store of a
+# batch the second, and to that so many times its largest input
+ROOM, ROOM_OF_STORE, TEXTS = 6 << 20, 14 << 20, 4
+# how long a command may take by the clock, beside other work, and how much processor time a command or a server of small inputs may take
+SECONDS, PROCESSOR_SECONDS = 20, 1
 TABLES = ("order", "line", "advice", "pallet", "content", "receipt", "remembered", "mail")
 # what any of the hub's replies to an upload is
 LINE = re.compile(rb"[ -~]{1,14} [ -~]{1,6} (accepted|repeated|refused [BM]\d\d)")
@@ -127,6 +126,11 @@ def is_utf8(data):
     return True
 
 
+def largest_of(texts):
+    """The bytes that are allowed for the largest of these inputs."""
+    return TEXTS * max(map(len, texts))
+
+
 class Found(Exception):
     """Something is wrong, with these bytes."""
 
@@ -135,15 +139,10 @@ class Fuzz:
     def __init__(self, program, folder):
         self.program, self.folder = os.path.abspath(program), folder
 
-    def ran(self, words, cwd, data=b"", small=True):
-        """What a command prints: its status, and its output and error."""
-        room = ROOM_OF_STORE if "--db" in words else ROOM
-
-        def limits():
-            resource.setrlimit(resource.RLIMIT_AS, (room, room))
-            # what takes longer is ended by a signal
-            resource.setrlimit(resource.RLIMIT_CPU, (OF_SMALL, OF_SMALL) if small else (SECONDS, SECONDS))
-
+    def ran(self, words, cwd, data=b"", texts=()):
+        """What a command prints: its status, and its output and error. The texts are files that it reads."""
+        room = (ROOM_OF_STORE if "--db" in words else ROOM) + largest_of([data, *texts])
+        limits = lambda: limit(room, PROCESSOR_SECONDS)
         try:
             ran = subprocess.run([self.program, *words], input=data, capture_output=True, cwd=cwd, timeout=SECONDS, preexec_fn=limits)
         except subprocess.TimeoutExpired as late:
@@ -201,7 +200,7 @@ class Fuzz:
             for name, text in texts.items():
                 with open(os.path.join(files, name), "wb") as file:
                     file.write(text)
-            status, printed, error = self.ran(over("import", who, "--folder", files), folder, small=False)
+            status, printed, error = self.ran(over("import", who, "--folder", files), folder, texts=texts.values())
             replies = self.replies(printed)
             if list(replies) != sorted(texts) or error:
                 raise Found("not each file has a reply", printed, error)
@@ -264,7 +263,7 @@ class Fuzz:
 
     def served(self, requests):
         """What is answered to each request, one connection after another, and the rows that there are then."""
-        with Server(self.program, len(requests), room=ROOM_OF_STORE) as server:
+        with Server(self.program, len(requests), room=ROOM_OF_STORE + largest_of(requests), seconds=PROCESSOR_SECONDS) as server:
             answers = []
             for data in requests:
                 begun = time.monotonic()
@@ -317,7 +316,7 @@ class Fuzz:
         path = os.path.join(self.folder, f"register{draw.random()}")
         with open(path, "wb") as file:
             file.write(data)
-        status, printed, error = self.ran(["check", "--register", path], self.folder)
+        status, printed, error = self.ran(["check", "--register", path], self.folder, texts=[data])
         os.remove(path)
         if not is_utf8(data):
             if (status, printed, error) != (3, b"", b"file\n"):

@@ -7,11 +7,11 @@
   done in part, and the same again with room goes through.
 - Each allocation of the program is refused in turn, command by command, `serve` with an upload among them: it says `memory`, or
   stops, or makes up for it; and the same command with ample memory leaves the rows that it would have left, and says `repeated`
-  of what was done. Of the allocations before the file is open one in so many is refused, but for the first command; all others are.
+  of what was done.
 - A database file is cut at each 512 bytes, has bytes changed all over each page, or is replaced by other files: a named refusal, or
   the right answers; and so an import into it. A file of today has sums of its pages, so no changed byte of a row is answered from.
 
-- A script is played over tables of SQL, with each of its allocations refused in turn.
+- A script is played over tables of SQL, with each of its allocations refused in turn; and so is each test of calls (calls.py).
 
     python3 tests/hostile.py crates/edihub/out/edihub crates/hub_script/out/hub_script [TRIAL..]"""
 import os
@@ -28,6 +28,7 @@ import time
 from collections import Counter
 from concurrent.futures import ThreadPoolExecutor
 
+from calls import calls_refused
 from commands import KEPT, REGISTER, over, told
 from files import NAME, is_whole
 from http_texts import response
@@ -39,8 +40,8 @@ from serving import Server, all_of, free_port, upload
 ORDERS, MOMENTS = 999, 100
 # the bytes of a page of a database file, and how many of them are changed, each in a file of its own
 PAGE, CHANGES = 4096, 12
-# of the allocations before a file is open one in so many is refused, up to so many before the last of them
-EACH, BEFORE_OPEN = 25, 60
+# how many of the kills have to come in the midst of an import or of what a server does, and how many different counts they keep
+IN_THE_MIDST, DIFFERENT = 20, 10
 TABLES = ("order", "line", "advice", "pallet", "content", "receipt", "remembered", "mail")
 STORE_FAULTS = {b"store disk\n", b"store unclean\n", b"store version\n", b"store memory\n"}
 
@@ -118,8 +119,9 @@ def imports_killed(program, top):
         why = tried(place)
         if why:
             return why
-    print(f"an import of {ORDERS} orders killed at {MOMENTS} moments; from {min(kept)} to {max(kept)} of them were kept, {len(set(kept))} different counts")
-    return None
+    midst = sum(0 < count < ORDERS for count in kept)
+    print(f"an import of {ORDERS} orders killed at {MOMENTS} moments, {midst} of them in its midst; from {min(kept)} to {max(kept)} of them were kept, {len(set(kept))} different counts")
+    return None if midst >= IN_THE_MIDST and len(set(kept)) >= DIFFERENT else "the kills did not come in the midst of the import"
 
 
 def servers_killed(program, top):
@@ -163,8 +165,8 @@ def servers_killed(program, top):
         why = tried(place)
         if why:
             return why
-    print(f"a server killed at {MOMENTS} moments; its client had read {min(counts)} to {max(counts)} answers, all of them kept")
-    return None
+    print(f"a server killed at {MOMENTS} moments; its client had read {min(counts)} to {max(counts)} answers, {len(set(counts))} different counts, all of them kept")
+    return None if sum(count > 0 for count in counts) >= IN_THE_MIDST and len(set(counts)) >= DIFFERENT else "the kills did not come while the client uploaded"
 
 
 def one_order(k):
@@ -364,7 +366,7 @@ def memory_refused(program, top):
         whole, allocations = counted(end, words)
         if first not in (None, whole[1]):
             return f"{name}: {whole}"
-        numbers = [k for k in range(1, allocations + 1) if name == "order" or k > opening - BEFORE_OPEN or k % EACH == 0]
+        numbers = range(1, allocations + 1)
         wanted = rows_of(end) if os.path.exists(os.path.join(end, NAME)) else None
 
         def tried(number):
@@ -397,7 +399,7 @@ def memory_refused(program, top):
             return f"{len(wrong)} of {allocations} wrong, first {wrong[0]}"
         counts = ", ".join(f"{count} {kind}" for (kind,), count in Counter(found).most_common())
         own = f", {allocations - opening} of them once the file is open" if over_hub else ""
-        print(f"{name}: {allocations} allocations{own}; {len(numbers)} refused in turn: {counts}", flush=True)
+        print(f"{name}: {allocations} allocations{own}; each refused in turn: {counts}", flush=True)
         base = end
     return None
 
@@ -465,9 +467,9 @@ def script_refused(scripts, top):
     return refusals(scripts, "sql")
 
 
-# what is tried of the program, and of the program that plays scripts
+# what is tried of the program, and of the program that plays scripts and the tests
 TRIALS = (files_damaged, disks_full, memory_refused, serving_refused, imports_killed, servers_killed)
-OF_SCRIPTS = (script_refused,)
+OF_SCRIPTS = (script_refused, calls_refused)
 
 
 def main(program, scripts, *names):

@@ -28,10 +28,17 @@ def free_port():
         return one.getsockname()[1]
 
 
+def limit(room, seconds):
+    """Before a program begins: so many bytes of address space, where that is not 0, and so much processor time, past which a signal ends it."""
+    for what, much in ((resource.RLIMIT_AS, room), (resource.RLIMIT_CPU, seconds)):
+        if much:
+            resource.setrlimit(what, (much, much))
+
+
 class Server:
     """The program, serving so many connections in a folder of its own."""
 
-    def __init__(self, program, count, moment=MOMENT, data=(), folder=None, register=REGISTER, output=None, room=None):
+    def __init__(self, program, count, moment=MOMENT, data=(), folder=None, register=REGISTER, output=None, room=0, seconds=0):
         self.folder = folder or tempfile.mkdtemp()
         for name, it in {REGISTER: TWO_SUPPLIERS.encode(), **dict(data)}.items():
             with open(os.path.join(self.folder, name), "wb") as file:
@@ -39,8 +46,7 @@ class Server:
         self.port = free_port()
         words = ["serve", "--register", register, "--db", NAME, "--port", str(self.port), "--count", str(count)]
         words += ["--moment", moment] if moment else []
-        limits = (lambda: resource.setrlimit(resource.RLIMIT_AS, (room, room))) if room else None
-        how = {"stdout": output or subprocess.PIPE, "stderr": subprocess.PIPE, "preexec_fn": limits}
+        how = {"stdout": output or subprocess.PIPE, "stderr": subprocess.PIPE, "preexec_fn": lambda: limit(room, seconds)}
         self.child = subprocess.Popen([program, *words], cwd=self.folder, **how)
         self.lines = [] if output else [self.child.stdout.readline()]
 

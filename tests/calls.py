@@ -1,0 +1,84 @@
+"""Each allocation of each test of calls refused in turn: the test passes as ever, or it ends in out of memory and in nothing else.
+
+The tests of calls (`crates/*_tests`) take each public call that takes memory once, and compare its answer. A test whose allocation
+is refused is told so by the call, as an error; a wrong answer would show in its comparison."""
+import os
+import subprocess
+from collections import Counter
+from concurrent.futures import ThreadPoolExecutor
+
+from refusals import SHIM
+
+ROOT = os.path.dirname(os.path.dirname(os.path.abspath(__file__)))
+CRATES = ("edi_tests", "http_tests", "judge_tests", "hub_tests", "app_tests")
+# how an error, or what was compared, tells out of memory
+TOLD = ("AllocFailed", "AllocError", "Memory", "OutOfMemory", "memory")
+# how a test ends by an error, and by a comparison
+BY_ERROR, BY_COMPARISON = 101, -6
+# the tests whose own reader or writer takes memory: where that is refused, a read or a write of theirs fails, and is told as failed
+OF_THEIR_OWN = {
+    "responses::responses_are_written",
+}
+# the fewest tests that there are, and the fewest allocations of all of them
+FEWEST_TESTS, FEWEST_ALLOCATIONS = 50, 5_000
+
+
+def program_of(crate):
+    return os.path.join(ROOT, "crates", crate, "out", f"{crate}_tests")
+
+
+def names_of(program):
+    listed = subprocess.run([program, "--list"], capture_output=True, text=True, timeout=60, check=True).stdout
+    return [line.removesuffix(": test") for line in listed.splitlines() if line.endswith(": test")]
+
+
+def ran(program, name, **variables):
+    """The status of a test, and what it says."""
+    how = {"capture_output": True, "text": True, "errors": "replace", "timeout": 60}
+    one = subprocess.run([program, name], env=variables, **how)
+    return one.returncode, one.stdout + one.stderr
+
+
+def outcome(program, name, shim, number):
+    """What becomes of a test where the allocation of this number is refused: nothing where that is wrong."""
+    status, said = ran(program, name, LD_PRELOAD=shim, REFUSE=str(number))
+    if status == 0:
+        return "as ever"
+    found, _, _ = said.partition("\n right:")
+    if status in (BY_ERROR, BY_COMPARISON) and any(word in found for word in TOLD):
+        return "out of memory"
+    return "of the test's own" if status == BY_COMPARISON and name in OF_THEIR_OWN else None
+
+
+def refused_in_turn(program, name, shim, count):
+    """How many of a test's allocations came to what, and the first that came to something wrong."""
+    status, said = ran(program, name, LD_PRELOAD=shim, COUNT=count)
+    if status:
+        return f"{name} with ample memory: {said[:300]}"
+    with open(count, encoding="ascii") as file:
+        numbers = range(1, int(file.read()) + 1)
+    found = [outcome(program, name, shim, number) for number in numbers]
+    if None in found:
+        number = numbers[found.index(None)]
+        return f"{name}, allocation {number} refused: {ran(program, name, LD_PRELOAD=shim, REFUSE=str(number))!r:.400}"
+    return Counter(found)
+
+
+def calls_refused(_, top):
+    shim = os.path.join(top, "refuse.so")
+    subprocess.run(["cc", "-O2", "-shared", "-fPIC", "-o", shim, SHIM, "-ldl"], check=True)
+    tests, all_of_them = 0, 0
+    for crate in CRATES:
+        program = program_of(crate)
+        if not os.path.isfile(program):
+            return f"{crate} was not built"
+        names = names_of(program)
+        with ThreadPoolExecutor(len(os.sched_getaffinity(0))) as pool:
+            found = list(pool.map(lambda it: refused_in_turn(program, it[1], shim, os.path.join(top, f"{crate}{it[0]}")), enumerate(names)))
+        wrong = [it for it in found if isinstance(it, str)]
+        if wrong:
+            return f"{crate}: {len(wrong)} of {len(names)} tests, first {wrong[0]}"
+        counts = sum(found, Counter())
+        print(f"{crate}: {len(names)} tests, {counts.total()} allocations, each refused in turn: {', '.join(f'{count} {kind}' for kind, count in counts.most_common())}", flush=True)
+        tests, all_of_them = tests + len(names), all_of_them + counts.total()
+    return None if tests >= FEWEST_TESTS and all_of_them >= FEWEST_ALLOCATIONS else "too few tests or allocations"
