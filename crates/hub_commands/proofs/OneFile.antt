@@ -13,7 +13,8 @@ use Rattle.edi_envelope.specs.declared.fault.OpenFault.TheVariants.{Token}
 use Rattle.edi_envelope.specs.declared.interchange.Interchange.{Interchange}
 use Rattle.hub_law.specs.declared.reply.Reply.{Reply}
 use Rattle.hub_commands.specs.Files.{Gave, FaultComesOf, OpensSource, IsCalled, IsRead, IsUnread}
-use Rattle.hub_commands.specs.Import.{Looked, Answered, Unread, NoMemory, Of, Ends, BrokenOff, file_line}
+use Rattle.hub_commands.specs.Import.{Looked, Answered, Unread, NoMemory, Of, WasGiven, Ends, BrokenOff}
+use Rattle.hub_commands.specs.Import.{file_line}
 use Rattle.hub_commands.specs.OneFile.{Did, Comes, ReplyComes, FaultComes}
 use Rattle.hub_commands.specs.Output.{Written, Lost}
 use Rattle.hub_commands.specs.declared.files.NamedFile.{NamedFile}
@@ -28,6 +29,10 @@ is_called {B} file named e = subst (λ (f : NextFile B). IsCalled f (string_byte
 abbrev pub of_fault : List ℕ → ReadFault → Looked
 of_fault name Read = Unread name
 of_fault name Memory = NoMemory (Some name)
+
+pub fault_given : (name : List ℕ) (fault : ReadFault) → WasGiven (of_fault name fault)
+fault_given name Read = tt
+fault_given name Memory = tt
 
 module _ {B : Type 0} (remaining : B → Option (List ℕ)) (broken : B → Bool) where
   -- the bytes of a source that was opened

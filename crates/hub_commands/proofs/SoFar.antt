@@ -13,7 +13,7 @@ use Rattle.edi_base.specs.declared.source.ReadFault.{ReadFault}
 use Rattle.edi_base.specs.declared.source.ReadFault.TheVariants.{Read, Memory}
 use Rattle.hub_commands.specs.Files.{Gave, FaultComesOf, GivenAs, Gives}
 use Rattle.hub_commands.specs.Import.{Looked, Answered, Unread, NoMemory, Unprinted, Of, Takes, GoesOn, Ends, Whole, Early}
-use Rattle.hub_commands.specs.Import.{Imported}
+use Rattle.hub_commands.specs.Import.{Imported, StillCome, WasGiven}
 use Rattle.hub_commands.specs.Import.{uploads, replies, import_text, greatest, line_of, text_of, file_status}
 use Rattle.hub_commands.specs.Import as looked_at
 use Rattle.hub_commands.specs.Output.{Written}
@@ -98,7 +98,7 @@ module _ {B : Type 0} (remaining : B → Option (List ℕ)) (broken : B → Bool
 
   -- what is given: none, a file, or want of memory
   pub gives_none : {E : Type 0} (known rest : Option (List (NextFile B))) (r : Result (Option (NextFile B)) E) (o : Option (NextFile B))
-      → Gives known rest r → r ≡ Ok o → o ≡ None → IfSome known (λ files. files ≡ [])
+      → Gives known rest r → r ≡ Ok o → o ≡ None → IfSome known (λ files. (files ≡ []) × (rest ≡ Some []))
   gives_none {E} known rest r o gives is none =
       subst (λ (r : Result (Option (NextFile B)) E). Gives known rest r) (is ∙ ap (λ (o : Option (NextFile B)). Ok o) none) gives
 
@@ -114,6 +114,11 @@ module _ {B : Type 0} (remaining : B → Option (List ℕ)) (broken : B → Bool
       → Gives known rest r → r ≡ Err fault
       → IfSome known (λ files. (file : NextFile B) × (others : List (NextFile B)) × (files ≡ file ∷ others))
   gives_fault {E} known rest r fault gives is = (subst (λ (r : Result (Option (NextFile B)) E). Gives known rest r) is gives).1
+
+  pub gives_again : {E : Type 0} (known rest : Option (List (NextFile B))) (r : Result (Option (NextFile B)) E) (fault : E)
+      → Gives known rest r → r ≡ Err fault → rest ≡ known
+  gives_again {E} known rest r fault gives is =
+      (subst (λ (r : Result (Option (NextFile B)) E). Gives known rest r) is gives).0
 
   -- the first of the files that still come is looked at
   pub taken_more : (known rest later : Option (List (NextFile B))) (looked : List Looked) (given : NextFile B) (one : Looked)
@@ -136,34 +141,65 @@ module _ {B : Type 0} (remaining : B → Option (List ℕ)) (broken : B → Bool
   }
 
   -- memory gives out before the name of the next file is known
-  pub taken_no_memory : (known rest : Option (List (NextFile B))) (looked : List Looked)
+  pub taken_no_memory : (known rest left : Option (List (NextFile B))) (looked : List Looked)
       → Taken remaining broken known rest looked
       → IfSome rest (λ files. (file : NextFile B) × (others : List (NextFile B)) × (files ≡ file ∷ others))
+      → left ≡ rest
       → (others : List (NextFile B)) × IfSome known (λ files. Takes remaining broken files (looked ++ NoMemory None ∷ []) others)
-  taken_no_memory None rest looked t gives = ([], tt)
-  taken_no_memory (Some files) None looked t gives = absurd cc
-  taken_no_memory (Some files) (Some rest) looked t gives = (
-    gives.1,
-    takes_more files looked gives.0 (NoMemory None) gives.1
-        (subst (λ (fs : List (NextFile B)). Takes remaining broken files looked fs)
-        (sym (ap (λ (r : Option (List (NextFile B))). unwrap_or r rest) t.taken.1) ∙ gives.2) t.taken.0)
-        tt,
-  )
+      × IfSome known (λ files. StillCome remaining broken files looked (NoMemory None) others left)
+  taken_no_memory None rest left looked t gives same = ([], tt, tt)
+  taken_no_memory (Some files) None left looked t gives same = absurd cc
+  taken_no_memory (Some files) (Some rest) left looked t gives same =
+      let takes : Takes remaining broken files looked (gives.0 ∷ gives.1) =
+      subst (λ (fs : List (NextFile B)). Takes remaining broken files looked fs)
+      (sym (ap (λ (r : Option (List (NextFile B))). unwrap_or r rest) t.taken.1) ∙ gives.2) t.taken.0 in (
+        gives.1,
+        takes_more files looked gives.0 (NoMemory None) gives.1 takes tt,
+        (gives.0, takes, same ∙ ap (λ (fs : List (NextFile B)). Some fs) gives.2),
+      )
 
   pub taken_known : (known rest : Option (List (NextFile B))) (looked : List Looked) (t : Taken remaining broken known rest looked)
       → IfSome known (λ files. Takes remaining broken files looked t.others)
   taken_known None rest looked t = tt
   taken_known (Some files) rest looked t = t.taken.0
 
-  none_left : (known rest : Option (List (NextFile B))) (looked : List Looked)
+  -- the rest still come behind a file that was given
+  rest_come : (files : List (NextFile B)) (looked : List Looked) (one : Looked) (others : List (NextFile B))
+      (left : Option (List (NextFile B)))
+      → WasGiven one
+      → left ≡ Some others
+      → StillCome remaining broken files looked one others left
+  rest_come files looked (Answered name bytes reply) others left given is = is
+  rest_come files looked (Unread name) others left given is = is
+  rest_come files looked looked_at.Unnamed others left given is = is
+  rest_come files looked (NoMemory (Some name)) others left given is = is
+  rest_come files looked (NoMemory None) others left given is = absurd given
+  rest_come files looked (Unprinted name) others left given is = is
+
+  pub still_known : (known left : Option (List (NextFile B))) (looked : List Looked) (one : Looked)
+      (t : Taken remaining broken known left (looked ++ one ∷ []))
+      → WasGiven one
+      → IfSome known (λ files. StillCome remaining broken files looked one t.others left)
+  still_known None left looked one t given = tt
+  still_known (Some files) left looked one t given = rest_come files looked one t.others left given t.taken.1
+
+  none_come : (known rest left : Option (List (NextFile B))) (looked : List Looked)
       → Taken remaining broken known rest looked
-      → IfSome rest (λ files. files ≡ [])
+      → IfSome rest (λ files. (files ≡ []) × (left ≡ Some []))
+      → IfSome known (λ files. left ≡ Some [])
+  none_come None rest left looked t none = tt
+  none_come (Some files) None left looked t none = absurd cc
+  none_come (Some files) (Some rest) left looked t none = none.1
+
+  none_left : (known rest left : Option (List (NextFile B))) (looked : List Looked)
+      → Taken remaining broken known rest looked
+      → IfSome rest (λ files. (files ≡ []) × (left ≡ Some []))
       → IfSome known (λ files. Takes remaining broken files looked [])
-  none_left None rest looked t none = tt
-  none_left (Some files) None looked t none = absurd cc
-  none_left (Some files) (Some rest) looked t none =
+  none_left None rest left looked t none = tt
+  none_left (Some files) None left looked t none = absurd cc
+  none_left (Some files) (Some rest) left looked t none =
       subst (λ (fs : List (NextFile B)). Takes remaining broken files looked fs)
-      (sym (ap (λ (r : Option (List (NextFile B))). unwrap_or r rest) t.taken.1) ∙ none) t.taken.0
+      (sym (ap (λ (r : Option (List (NextFile B))). unwrap_or r rest) t.taken.1) ∙ none.0) t.taken.0
 
   taken_none : (known : Option (List (NextFile B))) → Taken remaining broken known known []
   taken_none None = record { others = []; taken = tt }
@@ -184,17 +220,24 @@ module _ {B : Type 0} (remaining : B → Option (List ℕ)) (broken : B → Bool
   }
 
   -- all known files were looked at
-  pub whole : (Runs : List Input → List Reply → Type 0) (rest : Option (List (NextFile B))) (new : Option (List ℕ)) (after : Bool)
+  pub whole : (Runs : List Input → List Reply → Type 0) (rest left : Option (List (NextFile B))) (new : Option (List ℕ)) (after : Bool)
       (status : ℕ)
       → SoFar remaining broken Runs asked known rest old new failed after status
-      → IfSome rest (λ files. files ≡ [])
-      → Imported remaining broken Runs asked known old new failed after status
-  whole Runs rest new after status s none = record {
+      → IfSome rest (λ files. (files ≡ []) × (left ≡ Some []))
+      → Imported remaining broken Runs asked known left old new failed after status
+  whole Runs rest left new after status s none = record {
     looked = s.looked;
     rest = [];
-    taken = none_left remaining broken known rest s.looked s.files none;
+    taken = none_left remaining broken known rest left s.looked s.files none;
     ran = s.ran;
-    ended = inl (record { none_left = refl; go_on = s.go_on; written = s.written; status_is = s.status_is });
+    ended =
+        inl (record {
+          none_left = refl;
+          none_come = none_come remaining broken known rest left s.looked s.files none;
+          go_on = s.go_on;
+          written = s.written;
+          status_is = s.status_is;
+        });
   }
 
   -- and then one file more, over a sink and with a status
@@ -228,14 +271,24 @@ module _ {B : Type 0} (remaining : B → Option (List ℕ)) (broken : B → Bool
       lost = broken.lost;
     })
 
-    pub early : (others : List (NextFile B)) → IfSome known (λ files. Takes remaining broken files (s.looked ++ one ∷ []) others)
+    pub early : (left : Option (List (NextFile B))) (others : List (NextFile B))
+        → IfSome known (λ files. Takes remaining broken files (s.looked ++ one ∷ []) others)
+        → IfSome known (λ files. StillCome remaining broken files s.looked one others left)
         → Ends between new middle after [] one
-        → Imported remaining broken After asked known old new failed after 3
-    early others files ends = record {
+        → Imported remaining broken After asked known left old new failed after 3
+    early left others files still ends = record {
       looked = s.looked ++ one ∷ [];
       rest = others;
       taken = files;
       ran = ran;
       ended =
-          inr (record { earlier = s.looked; last = one; are = refl; go_on = s.go_on; ends = ends_more ends; status_is = refl });
+          inr (record {
+            earlier = s.looked;
+            last = one;
+            are = refl;
+            still = still;
+            go_on = s.go_on;
+            ends = ends_more ends;
+            status_is = refl;
+          });
     }

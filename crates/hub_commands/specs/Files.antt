@@ -50,14 +50,14 @@ GivenAs Unnamed Unnamed = ⊤
 GivenAs (Named file) Unnamed = ⊥
 GivenAs Unnamed (Named given) = ⊥
 
--- What is given of files that still come, where these are known: the first of them, or none at their end. Where memory
--- gives out before a name is known, there is such a file, and it still comes.
+-- What is given of files that still come, where these are known: the first of them, or none at their end, and then none
+-- come. Where memory gives out before a name is known, there is such a file, and it still comes.
 abbrev pub Gives : {B E : Type 0} → Option (List (NextFile B)) → Option (List (NextFile B))
     → Result (Option (NextFile B)) E → Type 0
 Gives {B} known rest (Ok (Some given)) =
     IfSome known (λ files. (file : NextFile B) × (others : List (NextFile B)) × (files ≡ file ∷ others)
     × (rest ≡ Some others) × GivenAs file given)
-Gives known rest (Ok None) = IfSome known (λ files. files ≡ [])
+Gives known rest (Ok None) = IfSome known (λ files. (files ≡ []) × (rest ≡ Some []))
 Gives {B} known rest (Err fault) =
     (rest ≡ known)
     × IfSome known (λ files. (file : NextFile B) × (others : List (NextFile B)) × (files ≡ file ∷ others))

@@ -13,8 +13,9 @@ use Rattle.hub_commands.specs.declared.files.NextFile.{NextFile}
 use Rattle.hub_commands.specs.declared.files.NextFile.TheVariants as files
 
 -- What comes of a file. Answered: it has this name and these bytes, which are those that its source was known to give,
--- where these are known, and this is the reply to their upload. Unread: it cannot be read. Unnamed: its name is no UTF-8. NoMemory: memory gave out for
--- its source, or before its name was known. Unprinted: its line could not be written, and it was not uploaded.
+-- where these are known, and this is the reply to their upload. Unread: it cannot be read. Unnamed: its name is no
+-- UTF-8. NoMemory: memory gave out for its source, or before its name was known. Unprinted: its line could not be
+-- written, and it was not uploaded.
 pub data Looked : Type 0 where
   Answered : List ℕ → List ℕ → Reply → Looked
   Unread : List ℕ → Looked
@@ -37,6 +38,27 @@ Takes remaining failed files [] rest = files ≡ rest
 Takes remaining failed [] (one ∷ looked) rest = ⊥
 Takes remaining failed (file ∷ files) (one ∷ looked) rest =
     Of remaining failed file one × Takes remaining failed files looked rest
+
+-- it was given: memory did not give out before its name was known
+abbrev pub WasGiven : Looked → Type 0
+WasGiven (Answered name bytes reply) = ⊤
+WasGiven (Unread name) = ⊤
+WasGiven Unnamed = ⊤
+WasGiven (NoMemory (Some name)) = ⊤
+WasGiven (NoMemory None) = ⊥
+WasGiven (Unprinted name) = ⊤
+
+-- What still comes behind the last that was looked at: the rest of the files, and no others; and before these the last
+-- itself, where memory gave out before its name was known.
+abbrev pub StillCome : {B : Type 0} → (B → Option (List ℕ)) → (B → Bool) → List (NextFile B) → List Looked → Looked
+    → List (NextFile B) → Option (List (NextFile B)) → Type 0
+StillCome remaining failed files earlier (Answered name bytes reply) rest left = left ≡ Some rest
+StillCome remaining failed files earlier (Unread name) rest left = left ≡ Some rest
+StillCome remaining failed files earlier Unnamed rest left = left ≡ Some rest
+StillCome remaining failed files earlier (NoMemory (Some name)) rest left = left ≡ Some rest
+StillCome {B} remaining failed files earlier (NoMemory None) rest left =
+    (file : NextFile B) × Takes remaining failed files earlier (file ∷ rest) × (left ≡ Some (file ∷ rest))
+StillCome remaining failed files earlier (Unprinted name) rest left = left ≡ Some rest
 
 -- the import goes on after it
 abbrev pub GoesOn : Looked → Type 0
@@ -127,30 +149,35 @@ Ends old new failed after before last =
     (Stops last × Written old new failed after (before ++ text_of last))
     ⊎ BrokenOff old new after (before ++ line_of last) (words_of last)
 
--- all known files were looked at
-pub record Whole {B : Type 0} (old new : Option (List ℕ)) (failed after : Bool) (looked : List Looked)
-    (rest : List (NextFile B)) (status : ℕ) : Type 0 where
+-- all known files were looked at, and none come any more
+pub record Whole {B : Type 0} (NoneCome : Type 0) (old new : Option (List ℕ)) (failed after : Bool)
+    (looked : List Looked) (rest : List (NextFile B)) (status : ℕ) : Type 0 where
   pub none_left : rest ≡ []
+  pub none_come : NoneCome
   pub go_on : AllByRecursion GoesOn looked
   pub written : Written old new failed after (import_text looked)
   pub status_is : status ≡ greatest looked
 
--- the import ended before
-pub record Early (old new : Option (List ℕ)) (failed after : Bool) (looked : List Looked)
-    (status : ℕ) : Type 0 where
+-- the import ended before, and these still come behind those that were looked at
+pub record Early (Still : List Looked → Looked → Type 0) (old new : Option (List ℕ)) (failed after : Bool)
+    (looked : List Looked) (status : ℕ) : Type 0 where
   pub earlier : List Looked
   pub last : Looked
   pub are : looked ≡ earlier ++ last ∷ []
+  pub still : Still earlier last
   pub go_on : AllByRecursion GoesOn earlier
   pub ends : Ends old new failed after (import_text earlier) last
   pub status_is : status ≡ 3
 
--- An import. What was looked at are the first of the known files, and their uploads ran with these replies.
+-- An import. What was looked at are the first of the known files, and their uploads ran with these replies. The others
+-- are left, and still come.
 pub record Imported {B : Type 0} (remaining : B → Option (List ℕ)) (broken : B → Bool)
-    (Runs : List Input → List Reply → Type 0) (asked : List ℕ → Input) (known : Option (List (NextFile B)))
+    (Runs : List Input → List Reply → Type 0) (asked : List ℕ → Input) (known left : Option (List (NextFile B)))
     (old new : Option (List ℕ)) (failed after : Bool) (status : ℕ) : Type 0 where
   pub looked : List Looked
   pub rest : List (NextFile B)
   pub taken : IfSome known (λ files. Takes remaining broken files looked rest)
   pub ran : Runs (uploads asked looked) (replies looked)
-  pub ended : Whole old new failed after looked rest status ⊎ Early old new failed after looked status
+  pub ended : Whole (IfSome known (λ files. left ≡ Some [])) old new failed after looked rest status
+      ⊎ Early (λ earlier last. IfSome known (λ files. StillCome remaining broken files earlier last rest left)) old new
+      failed after looked status

@@ -5,7 +5,7 @@ use Rattle.edi_base.specs.declared.source.ReadFault.TheVariants.{Read, Memory}
 use Rattle.hub_law.specs.declared.reply.Outcome.TheVariants.{Stopped}
 use Rattle.hub_law.specs.declared.reply.Reply.{Reply}
 use Rattle.hub_commands.specs.Import.{Looked, Answered, Unread, Unnamed, NoMemory, Unprinted, Of, GoesOn, Ends}
-use Rattle.hub_commands.specs.Import.{text_of, file_status}
+use Rattle.hub_commands.specs.Import.{WasGiven, text_of, file_status}
 use Rattle.hub_commands.specs.Output.{Written, Lost}
 use Rattle.hub_commands.specs.Replies.{status_of}
 use Rattle.hub_commands.specs.declared.files.NextFile.{NextFile}
@@ -24,12 +24,13 @@ Comes old new failed after one (Ok status) =
     GoesOn one × Written old new failed after (text_of one) × (status ≡ file_status one)
 Comes old new failed after one (Err ended) = Ends old new failed after [] one
 
--- one file
+-- one file that was given
 pub record LooksAt {B E : Type 0} (remaining : B → Option (List ℕ)) (broken : B → Bool)
     (Steps : List ℕ → Reply → Type 0) (Stays : Type 0) (file : NextFile B) (old new : Option (List ℕ))
     (failed after : Bool) (result : Result ℕ E) : Type 0 where
   pub one : Looked
   pub is : Of remaining broken file one
+  pub given : WasGiven one
   pub did : Did Steps Stays one
   pub comes : Comes old new failed after one result
 

@@ -124,7 +124,8 @@ fn import_file<S: Store, B: Source + Drop, W: Sink>(
 /// `file NAME` before it is read, and then the reply. A file is opened as it is read, one segment at a time, and no more
 /// than 1,048,577 of its bytes are. One that cannot be read has the line `fault` in place of the reply, and one whose
 /// name is no UTF-8 this line alone; the next file follows. A reply that is stopped ends the import, and so does want of
-/// memory, with the line `stopped`, and a failed write. What was accepted stays accepted.
+/// memory, with the line `stopped`, and a failed write; the files behind the last still come then. What was accepted
+/// stays accepted.
 ///
 /// Answers the exit status, the greatest of all files: of a reply 0, 1 or 3, as `reply_run` has it; 3 for a file that
 /// cannot be read or has no name, for want of memory, and for a failed write.
@@ -141,7 +142,7 @@ pub fn import_run<S: Store, F: Files, W: Sink>(
         (λ inputs replies. S.honest hub.new.1 → Sound hub.old.0.suppliers (S.content hub.old.1) →
         Ran hub.old.0 (S.content hub.old.1) (S.content hub.new.1) (S.left hub.old.1) (S.left hub.new.1) inputs replies)
         (λ bytes. input_of moment caller.now key.now (Upload bytes)) (F.remaining files.old)
-        (W.contents out.old) (W.contents out.new) (W.failed out.old) (W.failed out.new) result }
+        (F.remaining files.new) (W.contents out.old) (W.contents out.new) (W.failed out.old) (W.failed out.new) result }
     ensures register { hub.new.0 ≡ hub.old.0 }
     ensures was_honest { S.honest hub.new.1 → S.honest hub.old.1 }
 {

@@ -2,7 +2,7 @@ use Rattle.std.proofs.Common.{◌≡◌, ℕ, List, refl, ap, inr, string_bytes}
 use Rattle.hub_core.specs.Steps.{input_of}
 use Rattle.hub_law.specs.declared.request.Request.TheVariants.{Upload}
 use Rattle.hub_commands.specs.Import.{Answered, Unprinted, file_line}
-use Rattle.hub_commands.proofs.OneFile.{is_called, bytes_of, of_read, did_upload, of_fault, of_unread, nothing_done}
+use Rattle.hub_commands.proofs.OneFile.{is_called, bytes_of, of_read, did_upload, of_fault, fault_given, of_unread, nothing_done}
 use Rattle.hub_commands.proofs.OneFile.{ended, answered, unread, lost_at_once}
 use Rattle.hub_commands.proofs.Output.{written_as, lost_as}
 use Rattle.hub_commands.proofs.Running.{StepsTo}
@@ -13,6 +13,7 @@ returns-in_err-print_file_line-clause-looks_at g c =
     let name = string_bytes c.in-Named.file.name in record {
       one = Unprinted name;
       is = is_called c.args.file c.in-Named.file c.in-Named.is;
+      given = tt;
       did = refl;
       comes =
           ended (Unprinted name) c.from_residual-in_err-print_file_line.result c.from_residual-in_err-print_file_line.ensures.0
@@ -29,6 +30,7 @@ returns-in-Ok-clause-looks_at g c =
       one = Answered name (bytes_of g.B.Source.remaining g.B.Source.failed source c.in-Ok.upload c.in-Ok.ensures.opens) c.step_opened-reply.result;
       is = of_read g.B.Source.remaining g.B.Source.failed
           c.args.file c.in-Named.file c.in-Ok.upload c.step_opened-reply.result c.in-Named.is c.in-Ok.ensures.opens;
+      given = tt;
       did =
           did_upload g.B.Source.remaining g.B.Source.failed
           (StepsTo g.S.Store.content g.S.Store.honest g.S.Store.left asked hub new) (new ≡ hub) name
@@ -48,6 +50,7 @@ returns-clause-looks_at g c =
       one = of_fault name c.in-Err.fault;
       is = of_unread g.B.Source.remaining g.B.Source.failed
           c.args.file c.in-Named.file c.in-Err.fault c.in-Named.is c.in-Err.ensures.fault;
+      given = fault_given name c.in-Err.fault;
       did =
           nothing_done g.B.Source.remaining g.B.Source.failed
           (StepsTo g.S.Store.content g.S.Store.honest g.S.Store.left asked hub hub) name c.in-Err.fault refl;

@@ -5,8 +5,8 @@ use Rattle.hub_commands.specs.Import.{NoMemory}
 use Rattle.hub_commands.proofs.OneFile.{lost_at_once}
 use Rattle.hub_commands.proofs.Output.{written_or_lost}
 use Rattle.hub_commands.proofs.Running.{RunsTo, runs_more}
-use Rattle.hub_commands.proofs.SoFar.{gives_none, gives_file, gives_fault, taken_more, taken_no_memory, taken_known}
-use Rattle.hub_commands.proofs.SoFar.{so_far_none, so_far_more, whole, early}
+use Rattle.hub_commands.proofs.SoFar.{gives_none, gives_file, gives_fault, gives_again, taken_more, taken_no_memory, taken_known}
+use Rattle.hub_commands.proofs.SoFar.{so_far_none, so_far_more, still_known, whole, early}
 use Rattle.hub_commands.proofs.import.import_run.Goals as goal
 
 pub loop-file-init : goal.loop-file-init
@@ -28,8 +28,8 @@ returns-in-Ok-None-clause-imported g c =
     whole g.F.Bytes.Source.remaining g.F.Bytes.Source.failed
     asked (g.F.Files.remaining c.args.files.now) (g.W.Sink.contents c.args.out.now) (g.W.Sink.failed c.args.out.now)
     (RunsTo g.S.Store.content g.S.Store.honest g.S.Store.left asked c.args.hub.now c.loop-file.hub)
-    (g.F.Files.remaining c.loop-file.files) (g.W.Sink.contents c.loop-file.out) (g.W.Sink.failed c.loop-file.out)
-    c.loop-file.greatest c.loop-file.invariant.so_far
+    (g.F.Files.remaining c.loop-file.files) (g.F.Files.remaining c.next.new.self) (g.W.Sink.contents c.loop-file.out)
+    (g.W.Sink.failed c.loop-file.out) c.loop-file.greatest c.loop-file.invariant.so_far
     (gives_none g.F.Bytes.Source.remaining g.F.Bytes.Source.failed
     (g.F.Files.remaining c.loop-file.files) (g.F.Files.remaining c.next.new.self) c.next.result c.in-Ok-None.field-0
     c.next.ensures.gives c.in-Ok-None.is c.in-Ok-None.field-0-is)
@@ -40,20 +40,23 @@ returns-in-Err-clause-imported g c =
     let between = c.loop-file.hub in
     let known = g.F.Files.remaining c.args.files.now in
     let rest = g.F.Files.remaining c.loop-file.files in
+    let left = g.F.Files.remaining c.next.new.self in
     let s = c.loop-file.invariant.so_far in
     let asked = λ (bytes : List ℕ). input_of c.args.moment c.args.caller.now c.args.key.now (Upload bytes) in
     let ran = runs_more g.S.Store.content g.S.Store.honest g.S.Store.left asked hub.0
     c.steps_are_a_run.ensures.more hub.1 between between s.looked (NoMemory None) c.loop-file.invariant.register
     (λ honest. honest) s.ran refl in
-    let taken = taken_no_memory g.F.Bytes.Source.remaining g.F.Bytes.Source.failed known rest s.looked s.files
+    let taken = taken_no_memory g.F.Bytes.Source.remaining g.F.Bytes.Source.failed known rest left s.looked s.files
     (gives_fault g.F.Bytes.Source.remaining g.F.Bytes.Source.failed
-    rest (g.F.Files.remaining c.next.new.self) c.next.result c.in-Err.field-0 c.next.ensures.gives c.in-Err.is) in
+    rest left c.next.result c.in-Err.field-0 c.next.ensures.gives c.in-Err.is)
+    (gives_again g.F.Bytes.Source.remaining g.F.Bytes.Source.failed
+    rest left c.next.result c.in-Err.field-0 c.next.ensures.gives c.in-Err.is) in
     early g.F.Bytes.Source.remaining g.F.Bytes.Source.failed
     asked known (g.W.Sink.contents c.args.out.now) (g.W.Sink.failed c.args.out.now)
     (RunsTo g.S.Store.content g.S.Store.honest g.S.Store.left asked hub between)
     (RunsTo g.S.Store.content g.S.Store.honest g.S.Store.left asked hub between) rest rest
     (g.W.Sink.contents c.loop-file.out) (g.W.Sink.contents c.print.new.out) (g.W.Sink.failed c.loop-file.out)
-    (g.W.Sink.failed c.print.new.out) c.loop-file.greatest s (NoMemory None) ran taken.0 taken.1
+    (g.W.Sink.failed c.print.new.out) c.loop-file.greatest s (NoMemory None) ran left taken.0 taken.1 taken.2
     (elim (written_or_lost c.print.result c.print.ensures.ok c.print.ensures.err) [
       | inl written ↦ inl (tt, written)
       | inr lost ↦ inr (lost_at_once lost)
@@ -115,5 +118,7 @@ returns-in-Err-import_file-clause-imported g c =
     (RunsTo g.S.Store.content g.S.Store.honest g.S.Store.left asked hub between)
     (RunsTo g.S.Store.content g.S.Store.honest g.S.Store.left asked hub new) rest later
     (g.W.Sink.contents c.loop-file.out) (g.W.Sink.contents c.import_file.new.out) (g.W.Sink.failed c.loop-file.out)
-    (g.W.Sink.failed c.import_file.new.out) c.loop-file.greatest s looks.one ran taken.others
-    (taken_known g.F.Bytes.Source.remaining g.F.Bytes.Source.failed known later (s.looked ++ looks.one ∷ []) taken) looks.comes
+    (g.W.Sink.failed c.import_file.new.out) c.loop-file.greatest s looks.one ran later
+    taken.others
+    (taken_known g.F.Bytes.Source.remaining g.F.Bytes.Source.failed known later (s.looked ++ looks.one ∷ []) taken)
+    (still_known g.F.Bytes.Source.remaining g.F.Bytes.Source.failed known later s.looked looks.one taken looks.given) looks.comes
