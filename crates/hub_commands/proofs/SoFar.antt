@@ -12,7 +12,7 @@ use Rattle.hub_law.specs.declared.request.Input.{Input}
 use Rattle.edi_base.specs.declared.source.ReadFault.{ReadFault}
 use Rattle.edi_base.specs.declared.source.ReadFault.TheVariants.{Read, Memory}
 use Rattle.hub_commands.specs.Files.{Gave, FaultComesOf, GivenAs, Gives}
-use Rattle.hub_commands.specs.Import.{Looked, Answered, Unread, NoMemory, Unprinted, Of, Takes, GoesOn, Ends, Whole, Early}
+use Rattle.hub_commands.specs.Import.{Looked, Answered, Unread, NoMemory, Unprinted, Of, Takes, GoesOn, Ends}
 use Rattle.hub_commands.specs.Import.{Imported, StillCome, WasGiven}
 use Rattle.hub_commands.specs.Import.{uploads, replies, import_text, greatest, line_of, text_of, file_status}
 use Rattle.hub_commands.specs.Import as looked_at

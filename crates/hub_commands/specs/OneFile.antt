@@ -1,5 +1,5 @@
 -- What one file of an import does.
-use Rattle.std.specs.Prelude.{◌≡◌, ◌≢◌, ◌⊎◌, ℕ, Bool, List, [], codes, Option, Some, None, Result, Ok, Err}
+use Rattle.std.specs.Prelude.{◌≡◌, ◌≢◌, ◌⊎◌, ℕ, Bool, List, [], codes, Option, Result, Ok, Err}
 use Rattle.edi_base.specs.declared.source.ReadFault.{ReadFault}
 use Rattle.edi_base.specs.declared.source.ReadFault.TheVariants.{Read, Memory}
 use Rattle.hub_law.specs.declared.reply.Outcome.TheVariants.{Stopped}
