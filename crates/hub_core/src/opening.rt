@@ -50,7 +50,7 @@ fn open_bytes(alloc: Global, bytes: &[u8]) -> Result<Interchange, OpenFault>
 }
 
 /// The interchange that the bytes of an upload are, or the code of their fault.
-pub(crate) fn opened(
+pub(crate) fn opened_upload(
     alloc: Global,
     upload: &[u8],
 ) -> Result<Result<Interchange, &'static str>, MemoryFault>

@@ -10,7 +10,7 @@ ghost use Rattle.hub_core.specs.Steps.{Asked, acts_of};
 ghost use Rattle.hub_core.specs.declared.caller.Caller.TheVariants.{Retailer, Supplier};
 
 use crate::caller::Caller;
-use crate::opening::{address_fault, opened};
+use crate::opening::{address_fault, opened_upload};
 use crate::replies::{denied_reply, refused_upload, unknown_reply};
 use crate::upload::{OpenedUpload, take_messages};
 use edi_envelope::{Interchange, Moment};
@@ -98,7 +98,7 @@ fn upload<S: Store>(
         (S.broken store.old) (S.broken store.new) result }
     ensures was_honest { S.honest store.new → S.honest store.old }
 {
-    let interchange = opened(alloc, bytes)?;
+    let interchange = opened_upload(alloc, bytes)?;
     take_opened(alloc, register, caller, store, moment, interchange)
 }
 

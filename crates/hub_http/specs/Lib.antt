@@ -4,5 +4,5 @@ pub mod Question
 pub mod Refusal
 pub mod Serve
 pub mod Sought
-pub mod Told
+pub mod Wording
 pub mod Upload

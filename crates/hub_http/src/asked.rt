@@ -3,7 +3,7 @@ ghost use Rattle.std.specs.Prelude.{◌≡◌, Some, option_map, IfOk, IsOk, IsF
 ghost use Rattle.http_head.specs.Fields.{values_of};
 ghost use Rattle.http_routes.specs.Routes.{shown};
 ghost use Rattle.hub_http.specs.Asked as spec;
-ghost use Rattle.hub_http.specs.Told.{told_asker, told_result};
+ghost use Rattle.hub_http.specs.Wording.{asker_as, asked_or_refused};
 
 use crate::refusal::Refusal;
 use crate::sought::{Sought, sought_at};
@@ -75,7 +75,7 @@ fn place_in(alloc: Global, target: &str) -> Result<Option<Routed<'_>>, AllocErro
 
 // Who asks with this GLN and this key.
 fn asker_by<'h, S: Store>(hub: &Hub<S>, party: &[u8], key: &'h [u8]) -> Option<Asker<'h>>
-    ensures { option_map told_asker result ≡ spec.asker_by hub.now.0 party.now key.now }
+    ensures { option_map asker_as result ≡ spec.asker_by hub.now.0 party.now key.now }
 {
     hub.has_a_right_register();
     let gln = Gln::parse(party)?;
@@ -85,7 +85,7 @@ fn asker_by<'h, S: Store>(hub: &Hub<S>, party: &[u8], key: &'h [u8]) -> Option<A
 
 // The party of the path, with the one key of the head.
 fn asker_of<'h, S: Store>(hub: &Hub<S>, routed: Routed<'_>, head: &'h Head) -> Option<Asker<'h>>
-    ensures { option_map told_asker result ≡ spec.asker_of hub.now.0 (shown routed.entry).1
+    ensures { option_map asker_as result ≡ spec.asker_of hub.now.0 (shown routed.entry).1
         (values_of spec.key_field head.now.fields) }
 {
     match head.values(b"X-Hub-Key") {
@@ -147,7 +147,7 @@ fn by_asker<'h>(
     gln: Gln,
     key: &'h [u8],
 ) -> Result<Asking<'h>, Refusal>
-    ensures { told_result result ≡ spec.by_asker sought head.now.fields (Some (spec.asker role gln key.now)) }
+    ensures { asked_or_refused result ≡ spec.by_asker sought head.now.fields (Some (spec.asker role gln key.now)) }
 {
     if !sought.is_for(role) {
         return Err(Refusal::Denied);
@@ -168,7 +168,7 @@ fn by_party<'h, S: Store>(
     sought: Sought,
     head: &'h Head,
 ) -> Result<Asking<'h>, Refusal>
-    ensures { told_result result ≡ spec.by_party hub.now.0 head.now (shown routed.entry).1 sought }
+    ensures { asked_or_refused result ≡ spec.by_party hub.now.0 head.now (shown routed.entry).1 sought }
 {
     match asker_of(hub, routed, head) {
         Some(asker) => by_asker(sought, head, asker.role, asker.gln, asker.key),
@@ -182,7 +182,7 @@ fn at_place<'h, S: Store>(
     routed: Routed<'_>,
     head: &'h Head,
 ) -> Result<Asking<'h>, Refusal>
-    ensures { told_result result ≡ spec.at_place hub.now.0 head.now (Some (shown routed.entry)) }
+    ensures { asked_or_refused result ≡ spec.at_place hub.now.0 head.now (Some (shown routed.entry)) }
 {
     let Some(sought) = sought_at(routed) else {
         return Err(Refusal::Unknown);
@@ -199,7 +199,7 @@ pub(crate) fn judge<'h, S: Store>(
     hub: &Hub<S>,
     head: &'h Head,
 ) -> Result<Result<Asking<'h>, Refusal>, AllocError>
-    ensures value { IfOk result (λ asked. told_result asked ≡ spec.asked_by hub.now.0 head.now) }
+    ensures value { IfOk result (λ asked. asked_or_refused asked ≡ spec.asked_by hub.now.0 head.now) }
     ensures single { IsFalse (spec.is_single head.now) → IsOk result }
 {
     if !is_single(head) {
