@@ -10,8 +10,8 @@ use Rattle.hub_http.specs.declared.refusal.Refusal.{Refusal}
 abbrev pub asker_as : AskerHere → Asker
 asker_as asker = record { role = asker.role; gln = asker.gln; key = asker.key.now }
 
-abbrev pub asked_as : Asking → Asked
-asked_as asking = record {
+abbrev pub asking_as : Asking → Asked
+asking_as asking = record {
   sought = asking.sought;
   gln = asking.gln;
   key = asking.key.now;
@@ -19,7 +19,7 @@ asked_as asking = record {
 }
 
 abbrev pub asked_or_refused : Result Asking Refusal → Result Asked Refusal
-asked_or_refused (Ok asking) = Ok (asked_as asking)
+asked_or_refused (Ok asking) = Ok (asking_as asking)
 asked_or_refused (Err refusal) = Err refusal
 
 abbrev pub question_as : Posed → Question

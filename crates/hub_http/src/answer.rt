@@ -9,7 +9,7 @@ ghost use Rattle.hub_http.specs.Answer as spec;
 ghost use Rattle.hub_http.specs.Asked.{asked_by, is_single, longest_body};
 ghost use Rattle.hub_http.specs.Question.{question_of as asked_of, uploading, with_body};
 ghost use Rattle.hub_http.specs.Refusal.{status_of as refusal_status, text_of};
-ghost use Rattle.hub_http.specs.Wording.{asked_as, question_as};
+ghost use Rattle.hub_http.specs.Wording.{asking_as, question_as};
 
 use crate::asked::{Asking, judge};
 use crate::question::{Posed, question_of};
@@ -103,7 +103,7 @@ fn answer_body<S: Store>(
     body: Option<Items<u8>>,
 ) -> Answer
     ensures answers { spec.Answers (spec.Steps S.content S.honest S.left moment hub.old hub.new) (hub.new ≡ hub.old)
-        true (with_body (asked_as asking.now) body) result }
+        true (with_body (asking_as asking.now) body) result }
     ensures register { hub.new.0 ≡ hub.old.0 }
     ensures was_honest { S.honest hub.new.1 → S.honest hub.old.1 }
 {
@@ -125,7 +125,7 @@ fn answer_kept<R: Source, S: Store>(
 ) -> Result<Answer, HeadFault>
     ensures answers { IfOk result (λ answer. IfSome (R.remaining reader.old) (λ left.
         spec.Answers (spec.Steps S.content S.honest S.left moment hub.old hub.new) (hub.new ≡ hub.old) true
-        (with_body (asked_as asking.now) (body_in (asked_as asking.now).size (front.now ++ left))) answer)) }
+        (with_body (asking_as asking.now) (body_in (asking_as asking.now).size (front.now ++ left))) answer)) }
     ensures answers_one { IfOk result (λ answer.
         spec.AnswersOne (spec.Steps S.content S.honest S.left moment hub.old hub.new) (hub.new ≡ hub.old) answer) }
     ensures stepped { spec.OneStep (spec.Steps S.content S.honest S.left moment hub.old hub.new) (hub.new ≡ hub.old) }
@@ -153,7 +153,7 @@ fn ask_opened<S: Store>(
     requires { upload ≢ Err (OpenFault.Token TokenFault.Read) }
     ensures asked { (bytes : List ℕ) → Opens upload (opened bytes) →
         spec.Ends (spec.Steps S.content S.honest S.left moment hub.old hub.new) (hub.new ≡ hub.old)
-        (Ok (uploading (asked_as asking.now) bytes)) result }
+        (Ok (uploading (asking_as asking.now) bytes)) result }
     ensures register { hub.new.0 ≡ hub.old.0 }
     ensures was_honest { S.honest hub.new.1 → S.honest hub.old.1 }
 {
@@ -174,7 +174,7 @@ fn answer_upload<R: Source, S: Store>(
     requires short { asking.now.size ≤ longest_body }
     ensures answers { IfOk result (λ answer. IfSome (R.remaining reader.old) (λ left.
         spec.Answers (spec.Steps S.content S.honest S.left moment hub.old hub.new) (hub.new ≡ hub.old) true
-        (with_body (asked_as asking.now) (body_in (asked_as asking.now).size (front.now ++ left))) answer)) }
+        (with_body (asking_as asking.now) (body_in (asking_as asking.now).size (front.now ++ left))) answer)) }
     ensures answers_one { IfOk result (λ answer.
         spec.AnswersOne (spec.Steps S.content S.honest S.left moment hub.old hub.new) (hub.new ≡ hub.old) answer) }
     ensures stepped { spec.OneStep (spec.Steps S.content S.honest S.left moment hub.old hub.new) (hub.new ≡ hub.old) }
@@ -205,7 +205,7 @@ fn answer_asked<R: Source, S: Store>(
     requires { asking.now.size ≤ longest_body }
     ensures answers { IfOk result (λ answer. IfSome (R.remaining reader.old) (λ left.
         spec.Answers (spec.Steps S.content S.honest S.left moment hub.old hub.new) (hub.new ≡ hub.old) true
-        (with_body (asked_as asking.now) (body_in (asked_as asking.now).size (front.now ++ left))) answer)) }
+        (with_body (asking_as asking.now) (body_in (asking_as asking.now).size (front.now ++ left))) answer)) }
     ensures answers_one { IfOk result (λ answer.
         spec.AnswersOne (spec.Steps S.content S.honest S.left moment hub.old hub.new) (hub.new ≡ hub.old) answer) }
     ensures stepped { spec.OneStep (spec.Steps S.content S.honest S.left moment hub.old hub.new) (hub.new ≡ hub.old) }

@@ -1,7 +1,7 @@
 //! What is asked of the hub.
 ghost use Rattle.std.specs.Prelude.{◌≡◌, IfOk};
 ghost use Rattle.hub_http.specs.Question as spec;
-ghost use Rattle.hub_http.specs.Wording.{asked_as, question_or_refused};
+ghost use Rattle.hub_http.specs.Wording.{asking_as, question_or_refused};
 ghost use Rattle.hub_texts.specs.Cancel.{cancel_of};
 
 use crate::asked::Asking;
@@ -55,7 +55,7 @@ pub(crate) fn question_of<'h>(
     asking: &Asking<'h>,
     body: Option<Items<u8>>,
 ) -> Result<Result<Posed<'h>, Refusal>, MemoryFault>
-    ensures { IfOk result (λ posed. question_or_refused posed ≡ spec.with_body (asked_as asking.now) body) }
+    ensures { IfOk result (λ posed. question_or_refused posed ≡ spec.with_body (asking_as asking.now) body) }
 {
     let Some(body) = body else {
         return Ok(Err(Refusal::BadRequest));

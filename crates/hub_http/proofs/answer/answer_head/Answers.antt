@@ -1,7 +1,7 @@
 use Rattle.std.proofs.Common.{◌≡◌, ◌≤◌, Result, Err, inl, inr, refl, sym, subst}
 use Rattle.hub_http.specs.Answer.{Steps, size_asked}
 use Rattle.hub_http.specs.Asked.{Asked, asked_by, longest_body}
-use Rattle.hub_http.specs.Wording.{asked_as, asked_or_refused}
+use Rattle.hub_http.specs.Wording.{asking_as, asked_or_refused}
 use Rattle.hub_http.specs.declared.asked.Asking.{Asking}
 use Rattle.hub_http.specs.declared.refusal.Refusal.{Refusal}
 use Rattle.hub_http.specs.declared.refusal.Refusal.TheVariants.{BadRequest}
@@ -19,7 +19,7 @@ pub returns-in-Ok-Ok-clause-answers : goal.returns-in-Ok-Ok-clause-answers
 returns-in-Ok-Ok-clause-answers g c =
     answers_head (Steps g.S.Store.content g.S.Store.honest g.S.Store.left c.args.moment c.args.hub.now c.answer_asked.new.hub)
     (c.answer_asked.new.hub ≡ c.args.hub.now) c.args.hub.now.0 (g.R.Source.remaining c.args.reader.now) c.args.head.now
-    (asked_as c.in-Ok-Ok.asking) c.rest.result.now c.answer_asked.result
+    (asking_as c.in-Ok-Ok.asking) c.rest.result.now c.answer_asked.result
     (subst (λ (r : Result Asking Refusal). asked_or_refused r ≡ asked_by c.args.hub.now.0 c.args.head.now) c.in-Ok-Ok.field-0-is
     c.in-Ok-Ok.ensures.value) c.rest.ensures c.answer_asked.ensures.answers
 
