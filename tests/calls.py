@@ -11,14 +11,24 @@ from refusals import SHIM
 
 ROOT = os.path.dirname(os.path.dirname(os.path.abspath(__file__)))
 CRATES = ("edi_tests", "http_tests", "judge_tests", "hub_tests", "app_tests")
-# how an error, or what was compared, tells out of memory
-TOLD = ("AllocFailed", "AllocError", "Memory", "OutOfMemory", "memory")
+# how an error, or what was compared, tells out of memory: by a name, or by the word that the program writes, as bytes
+TOLD = ("AllocFailed", "AllocError", "Memory", "OutOfMemory", "memory", ", ".join(str(byte) for byte in b"memory\n"))
 # how a test ends by an error, and by a comparison
 BY_ERROR, BY_COMPARISON = 101, -6
 # the tests whose own reader or writer takes memory: where that is refused, a read or a write of theirs fails, and is told as failed
 OF_THEIR_OWN = {
+    "app::a_register_is_checked",
+    "app::a_run_reads_writes_and_answers_its_status",
+    "app::an_order_is_shown",
+    "base::a_failed_write_leaves_a_front_of_the_bytes",
+    "base::bytes_that_wait_are_written_in_their_order",
     "responses::responses_are_written",
+    "tokens::a_failed_write_leaves_a_front_of_the_text",
+    "tokens::a_text_longer_than_what_waits_is_written_whole",
+    "tokens::an_order_is_read_and_written_again",
 }
+# those that ask of an answer whether it is the right one, and do not say what else it is
+SAY_NO = {"app::the_text_of_a_register_is_read", "store::lists_answer_each_look_up", "store::rows_under_keys_that_are_there_are_left_out"}
 # the fewest tests that there are, and the fewest allocations of all of them
 FEWEST_TESTS, FEWEST_ALLOCATIONS = 50, 5_000
 
@@ -47,7 +57,9 @@ def outcome(program, name, shim, number):
     found, _, _ = said.partition("\n right:")
     if status in (BY_ERROR, BY_COMPARISON) and any(word in found for word in TOLD):
         return "out of memory"
-    return "of the test's own" if status == BY_COMPARISON and name in OF_THEIR_OWN else None
+    if name in OF_THEIR_OWN and (status == BY_COMPARISON or status == BY_ERROR and "WriteFault" in said):
+        return "of the test's own"
+    return "no, and not why" if name in SAY_NO and status == BY_COMPARISON else None
 
 
 def refused_in_turn(program, name, shim, count):
