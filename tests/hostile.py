@@ -177,7 +177,7 @@ def disks_full(program, top):
     """No file may grow past so many bytes, and a write that would is refused."""
     whole = of_orders(top, 60)
     run(program, IMPORT, whole)
-    wanted, most = rows_of(whole), 2_400_000
+    wanted, most = rows_of(whole), 3_000_000
     counts = {"store disk": 0, "stopped": 0, "whole": 0}
     for limit in range(0, most, most // 120):
         folder = of_orders(top, 60)
