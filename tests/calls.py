@@ -1,4 +1,4 @@
-"""Each allocation of each test of calls refused in turn: the test passes as ever, or it ends in out of memory and in nothing else.
+"""Each allocation of each test of calls refused in turn: the test passes as ever, or it ends in out of memory, but for the tests named below.
 
 The tests of calls (`crates/*_tests`) take each public call that takes memory once, and compare its answer. A test whose allocation
 is refused is told so by the call, as an error; a wrong answer would show in its comparison."""
