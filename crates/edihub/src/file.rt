@@ -59,7 +59,7 @@ fn over_tables<A: Alter + Drop>(
 fn over_file<S: Start>(rt: &HostRuntime, work: Work<'_>, start: S) -> Result<u8, BeginFault> {
     let (register, db) = paths_of(&work);
     let register = register_at(rt, register)?;
-    let tables = SqliteStore::at_path(rt, db, start)?;
+    let tables = SqliteStore::at_path(rt, db, start).map_err(|(fault, _left)| fault)?;
     let (status, tables) = over_tables::<FileStore<FileFrom<S>>>(rt, register, tables, work);
     let _ = tables.into_connection().close();
     status

@@ -6,6 +6,7 @@ use Rattle.sqlite.specs.Command.TheVariants.{CreateTable}
 use Rattle.sqlite.specs.Schema.{Schema}
 use Rattle.sqlite.specs.Table.{Table}
 use Rattle.sqlite.specs.Tree.{Trees}
+use Rattle.sqlite.specs.Effect.{Database, IsDatabase}
 use Rattle.sqlite.specs.Held.{Held, state}
 use Rattle.sqlite.specs.State.{State, Writes, ExecutesInside, Shows, HasCleanDisk, KeepsCommit, IsRolledBack, Survives}
 use Rattle.sqlite.specs.Steps.{FailsToCommit}
@@ -27,10 +28,20 @@ use Rattle.sqlite_value.specs.Order.{Row, column}
 use Rattle.sql_rows.proofs.Inserts.{inserts, cast_null, cast_int}
 use Rattle.hub_tables.specs.Tables.{empty as no_rows}
 use Rattle.hub_schema.specs.Schema.{schema_table, hub_schema, hub_tables, no_schema}
-use Rattle.hub_schema.specs.State.{IsNewHub, StatementLeaves, Makes, ShowsTheSame}
+use Rattle.hub_schema.specs.Rows.{tables_in}
+use Rattle.hub_schema.specs.State.{IsNewHub, IsNumbered, StatementLeaves, Makes, ShowsTheSame}
 use Rattle.hub_schema.proofs.Leaving.{undone_later}
 use Rattle.hub_schema.proofs.Texts.{put_number, put_number_is, put_number_plain}
 use Rattle.hub_schema.specs.Making.{HasMade, Defines, MakesOn, LeavesTables, schema_with}
+
+-- a database with the hub's schema and no rows
+new_hub : (db : Database) → db.schema ≡ hub_schema → IsDatabase db → IsNumbered db.trees → tables_in db.trees ≡ no_rows
+    → IsNewHub db.trees
+new_hub db schema sound numbered rows = record {
+  tables = subst (λ (s : Schema). IsDatabase (record { schema = s; trees = db.trees })) schema sound;
+  numbered = numbered;
+  rows = rows;
+}
 
 still_empty : (tables : List Table) (old new : Trees) → KeepsRows tables old new
     → AllByRecursion (λ t. old t.tree ≡ []) tables → AllByRecursion (λ t. new t.tree ≡ []) tables
@@ -231,7 +242,7 @@ module _ {S : Type 0} (g : Ghosts S) (old mid end : Held S) (idle : old.in_trans
       survives_then (state g old) (state g mid) (state g end) _ _ _ (λ _ db none. absurd none)
       (λ clean db is none.
       let did = made_before makes (clean_before (state g mid) (state g end) _ two clean) none in
-      subst IsNewHub (sym is) (did.hub.numbered, did.tables))
+      subst IsNewHub (sym is) (new_hub (state g mid).now did.hub.schema did.hub.sound did.hub.numbered did.tables))
       (survives_begin g old (state g mid) _ one) two
 
   -- and where it was not

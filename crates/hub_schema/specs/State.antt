@@ -35,9 +35,11 @@ pub record IsHub (s : State) : Type 0 where
   pub ordered : AreOrdered s.now.trees
   pub sound : IsDatabase s.now
 
--- a hub's tables without rows
-abbrev pub IsNewHub : Trees → Type 0
-IsNewHub trees = IsNumbered trees × (tables_in trees ≡ empty)
+-- a hub's tables, each of them, without a row but the schema's number
+pub record IsNewHub (trees : Trees) : Type 0 where
+  pub tables : IsDatabase (record { schema = hub_schema; trees = trees })
+  pub numbered : IsNumbered trees
+  pub rows : tables_in trees ≡ empty
 
 -- the tables become these, in the transaction alone
 pub record Makes (change : Tables → Tables) (old new : State) : Type 0 where

@@ -1,5 +1,6 @@
 -- Connections that pass: what of those that come is taken, and what is added to those that were ended.
-use Rattle.std.proofs.Common.{◌≡◌, List, [], ◌∷◌, ◌++◌, Option, Some, None, refl, sym, ap, ◌∙◌, append_assoc}
+use Rattle.std.proofs.Common.{◌≡◌, ◌||◌, Bool, true, false, IsTrue, List, [], ◌∷◌, ◌++◌, Option, Some, None, refl, sym}
+use Rattle.std.proofs.Common.{ap, ◌∙◌, append_assoc}
 use Rattle.std.specs.Option.{unwrap_or}
 use Rattle.std.proofs.lemmas.Grind.{flat_map-append}
 use Rattle.std.proofs.lemmas.List.{append-nil, map-append}
@@ -12,6 +13,17 @@ some_is {A} {x} {y} e = ap (λ (o : Option (List A)). unwrap_or o x) e
 pub takes_none : {A : Type 0} (known rest : Option (List A)) → rest ≡ known → TakesFirst known rest []
 takes_none None rest e = tt
 takes_none (Some all) rest e = (all, refl, e)
+
+-- a flag that went up
+pub went_up : (old new : Bool) → new ≡ (old || true) → IsTrue new
+went_up true new e = e
+went_up false new e = e
+
+-- those that come stay
+pub takes_still : {A : Type 0} (known rest later : Option (List A)) (xs : List A) → TakesFirst known rest xs → later ≡ rest
+    → TakesFirst known later xs
+takes_still None rest later xs takes e = tt
+takes_still (Some all) rest later xs takes e = (takes.0, takes.1, e ∙ takes.2)
 
 -- first these, and then those
 pub takes_both : {A : Type 0} (known rest later : Option (List A)) (xs ys : List A) → TakesFirst known rest xs

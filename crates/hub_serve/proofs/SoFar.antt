@@ -17,7 +17,7 @@ use Rattle.hub_serve.specs.Line.{ending_status, line_of}
 use Rattle.hub_serve.specs.Output.{Written}
 use Rattle.hub_serve.specs.Serve.{Connection, IsServed, Passes, Serves, Stops, ends_in, greatest, inputs, lines_from}
 use Rattle.hub_serve.specs.Serve.{moments_in, replies, sent_in}
-use Rattle.hub_serve.proofs.Passing.{adds_still, are_first, passes_more, passes_none, takes_both}
+use Rattle.hub_serve.proofs.Passing.{adds_still, are_first, passes_more, passes_none, takes_both, takes_still}
 
 pub record SoFar (Runs : List Input → List Reply → Type 0) (register : RegisterRows) (known rest : Known)
     (old new : Option (List ℕ)) (failed after : Bool) (number status : ℕ) : Type 0 where
@@ -94,7 +94,12 @@ stops_behind : (Over Unknown : Type 0) (coming between rest : Coming) (sent : Li
     → TakesFirst coming between sent
     → Stops Over Unknown between rest []
     → Stops Over Unknown coming rest sent
-stops_behind Over Unknown coming between rest sent first (inl over) = inl over
+stops_behind Over Unknown coming between rest sent first (inl over) =
+    inl (
+      over.0,
+      subst (λ (xs : List (Option (List ℕ))). TakesFirst coming rest xs) (append-nil sent)
+          (takes_both coming between rest sent [] first over.1),
+    )
 stops_behind Over Unknown coming between rest sent first (inr one) =
     inr (one.0, (one.1.0, takes_both coming between rest sent (one.1.0 ∷ []) first one.1.1))
 
@@ -128,11 +133,12 @@ module _ (register : RegisterRows) (known : Known) (Going Over Unknown : Type 0)
   pub cut_short : (Runs After : List Input → List Reply → Type 0) (rest later : Known) (new : Option (List ℕ)) (after : Bool)
       (number status : ℕ) (s : SoFar Runs register known rest old new failed after number status)
       → later.closed ≡ rest.closed
+      → later.moments ≡ rest.moments
       → Stops Over Unknown rest.coming later.coming []
       → number < count
       → After (inputs s.served) (replies s.served)
       → Serves After register known later Going Over Unknown count old new failed after 3
-  cut_short Runs After rest later new after number status s still stopped fewer ran = record {
+  cut_short Runs After rest later new after number status s still moments stopped fewer ran = record {
     served = s.served;
     first = are_first known.coming rest.coming (sent_in s.served) s.passed.clients;
     timed = are_first known.moments rest.moments (moments_in s.served) s.passed.moments;
@@ -142,6 +148,7 @@ module _ (register : RegisterRows) (known : Known) (Going Over Unknown : Type 0)
     ended =
         inr (inl (record {
           stopped = stops_behind Over Unknown known.coming rest.coming later.coming (sent_in s.served) s.passed.clients stopped;
+          moments = takes_still known.moments rest.moments later.moments (moments_in s.served) s.passed.moments moments;
           fewer = subst (λ (n : ℕ). n < count) (sym s.counted) fewer;
           written = s.written;
           status_is = refl;

@@ -1,5 +1,5 @@
 -- Connections that come one after another, and the moments at which they come.
-use Rattle.std.specs.Prelude.{◌≡◌, ⊤, ℕ, Bool, true, false, List, [], ◌∷◌, ◌++◌, Option, Some, None, Result, Ok, Err}
+use Rattle.std.specs.Prelude.{◌≡◌, ℕ, Bool, true, false, List, [], ◌∷◌, ◌++◌, Option, Some, None, Result, Ok, Err}
 use Rattle.std.specs.Prelude.{IfSome, IsFalse}
 use Rattle.hub_serve.specs.declared.connections.NoConnection.{NoConnection}
 use Rattle.hub_serve.specs.declared.connections.NoConnection.TheVariants.{Gone, Over}
@@ -15,16 +15,17 @@ abbrev pub TakesFirst : {A : Type 0} → Option (List A) → Option (List A) →
 TakesFirst {A} known rest first =
     IfSome known (λ all. (others : List A) × (all ≡ first ++ others) × (rest ≡ Some others))
 
--- The next connection: its reader gives what its client sends. Of one that is gone nothing is known.
+-- The next connection: its reader gives what its client sends. Of one that is gone nothing is known. Where no more can
+-- be taken, all still come.
 abbrev pub Takes : {R W : Type 0} → (R → Option (List ℕ)) → Coming → Coming → Result (Sides R W) NoConnection → Type 0
 Takes remaining known rest (Ok sides) = TakesFirst known rest (remaining sides.reader ∷ [])
 Takes remaining known rest (Err Gone) = TakesFirst known rest (None ∷ [])
-Takes remaining known rest (Err Over) = ⊤
+Takes remaining known rest (Err Over) = rest ≡ known
 
--- the next moment
+-- the next moment; where it is not known, all still come
 abbrev pub TakesMoment : Option (List ℕ) → Option (List ℕ) → Option ℕ → Type 0
 TakesMoment known rest (Some moment) = TakesFirst known rest (moment ∷ [])
-TakesMoment known rest None = ⊤
+TakesMoment known rest None = rest ≡ known
 
 -- no more connections can be taken
 abbrev pub is_over : {R : Type 0} → Result R NoConnection → Bool

@@ -31,8 +31,9 @@ pub record ServesOne (Does : Input → Reply → Type 0) (Same : Type 0) (regist
   pub is : IsServed register one
   pub did : Did Does Same one.asked
 
--- the next connection; where there is none, nothing was done, and none was ended
+-- the next connection; where there is none, nothing was done, none was ended, and the moments still come
 abbrev pub ServesNext : {E : Type 0} → (Input → Reply → Type 0) → Type 0 → RegisterRows → Known → Known
     → Result Ending E → Type 0
 ServesNext Does Same register old new (Ok ending) = ServesOne Does Same register old new ending
-ServesNext Does Same register old new (Err none) = Same × (new.closed ≡ old.closed)
+ServesNext Does Same register old new (Err none) =
+    Same × (new.closed ≡ old.closed) × (new.moments ≡ old.moments)

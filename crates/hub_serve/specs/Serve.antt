@@ -132,10 +132,12 @@ pub record Passes (old new : Known) (served : List Connection) : Type 0 where
   pub moments : TakesFirst old.moments new.moments (moments_in served)
   pub closed : Adds old.closed new.closed (ends_in served)
 
--- why no more were served: no more could be taken, or one more was taken, and its moment is not known
+-- why no more were served, and which still come: no more could be taken, and all others do; or one more was taken, its
+-- moment is not known, and those behind it do
 abbrev pub Stops : Type 0 → Type 0 → Coming → Coming → List (Option (List ℕ)) → Type 0
 Stops Over Unknown coming rest sent =
-    Over ⊎ (Unknown × ((bytes : Option (List ℕ)) × TakesFirst coming rest (sent ++ bytes ∷ [])))
+    (Over × TakesFirst coming rest sent)
+    ⊎ (Unknown × ((bytes : Option (List ℕ)) × TakesFirst coming rest (sent ++ bytes ∷ [])))
 
 -- as many connections were served as there were to be, and those behind them still come
 pub record Whole (known rest : Known) (Going : Type 0) (count : ℕ) (old new : Option (List ℕ)) (failed after : Bool)
@@ -146,10 +148,11 @@ pub record Whole (known rest : Known) (Going : Type 0) (count : ℕ) (old new : 
   pub written : Written old new failed after (lines_from 1 served)
   pub status_is : status ≡ greatest served
 
--- fewer were served, for a reason
-pub record CutShort (Stopped : Type 0) (count : ℕ) (old new : Option (List ℕ)) (failed after : Bool)
-    (served : List Connection) (status : ℕ) : Type 0 where
-  pub stopped : Stopped
+-- fewer were served, for a reason; all moments but theirs still come
+pub record CutShort (known rest : Known) (Over Unknown : Type 0) (count : ℕ) (old new : Option (List ℕ))
+    (failed after : Bool) (served : List Connection) (status : ℕ) : Type 0 where
+  pub stopped : Stops Over Unknown known.coming rest.coming (sent_in served)
+  pub moments : TakesFirst known.moments rest.moments (moments_in served)
   pub fewer : length served < count
   pub written : Written old new failed after (lines_from 1 served)
   pub status_is : status ≡ 3
@@ -178,6 +181,5 @@ pub record Serves (Runs : List Input → List Reply → Type 0) (register : Regi
   pub each : AllByRecursion (IsServed register) served
   pub ran : Runs (inputs served) (replies served)
   pub ended : Whole known rest Going count old new failed after served status
-      ⊎ (CutShort (Stops Over Unknown known.coming rest.coming (sent_in served)) count old new failed after served
-      status
+      ⊎ (CutShort known rest Over Unknown count old new failed after served status
       ⊎ Lost known rest Going count old new after served status)

@@ -27,6 +27,7 @@ left_alone g h settled idle up t (inr it) = it.2 ∙ ap tables_in (settled it.0 
 module _ {S X : Type 0} (g : Ghosts S) (was : State) (mid conn : Held S)
     (hub : HasCleanDisk (state g mid) → HoldsHub was.now × IsAsBefore was (state g mid))
     (early : HasCleanDisk (state g conn) → HasCleanDisk (state g mid))
+    (first : HasCleanDisk (state g mid) → HasCleanDisk was)
     (trees : HasCleanDisk (state g conn) → (state g conn).now.trees ≡ (state g mid).committed.trees) where
   pub all_adopted : (r : Result (Stored S) X)
       → IfOk r (λ s. s.fault ≡ None) → IfOk r (λ s. honest g s → content g s ≡ tables_in (state g conn).now.trees)
@@ -38,6 +39,7 @@ module _ {S X : Type 0} (g : Ghosts S) (was : State) (mid conn : Held S)
     rows = λ honest. let it = hub (early (clean honest)) in
         inr (it.0, same honest ∙ ap tables_in (trees (clean honest) ∙ ap (λ d. d.trees) it.1.committed));
     crash = crash;
+    clean = λ honest. first (early (clean honest));
   }
 
 -- once the tables are known to be a hub's, a fault is one of the disk or of memory

@@ -1,3 +1,4 @@
+pub mod File
 pub mod Opening
 pub mod Settling
 pub mod Stored

@@ -33,6 +33,7 @@ pub record Adopts {S : Type 0} (g : Ghosts S) (was : State) (store : Stored S) :
       honest g store → ((was.now.schema ≡ no_schema) × (content g store ≡ empty))
       ⊎ (HoldsHub was.now × (content g store ≡ tables_in was.committed.trees))
   pub crash : honest g store → (t : Tables) → left g store t → t ≡ content g store
+  pub clean : honest g store → HasCleanDisk was
 
 -- after a crash: what it left before, the rows that were committed, or, where there were no tables, a hub's without
 -- rows

@@ -127,21 +127,6 @@ fn numbered<S: Alter + Drop>(
     Ok(SqliteStore::settled(alloc, conn))
 }
 
-/// The store of a connection, as `adopt` has it; with a fault the connection goes.
-pub(crate) fn adopted<S: Alter + Drop>(
-    alloc: Global,
-    conn: Connection<S>,
-) -> Result<SqliteStore<S>, StoreFault>
-    requires idle { conn.in_transaction ≡ false }
-    requires unlimited { conn.step_limit ≡ None }
-    ensures adopts { IfOk result (Adopts S.Store (state S.Store conn)) }
-{
-    match SqliteStore::adopt(alloc, conn) {
-        Ok(store) => Ok(store),
-        Err((_conn, fault)) => Err(fault),
-    }
-}
-
 impl<S: Alter + Drop> SqliteStore<S> {
     /// Takes over a connection in which no transaction is open and no statement is limited. A database without tables
     /// gets those of schema 1. `Version` where it has other tables, or another number of the schema, and only there;

@@ -8,4 +8,5 @@ mod opening;
 mod store;
 
 pub use adopting::Returned;
+pub use file::LeftOfFile;
 pub use store::SqliteStore;

@@ -35,6 +35,7 @@ pub(crate) fn found<S: Alter + Drop>(
     ensures whole { IfOk result (λ store. store.fault ≡ None) }
     ensures rows { IfOk result (λ store. honest S.Store store → content S.Store store ≡ empty) }
     ensures crash { IfOk result (λ store. honest S.Store store → (t : Tables) → left S.Store store t → t ≡ empty) }
+    ensures clean { IfOk result (λ store. honest S.Store store → HasCleanDisk (state S.Store conn)) }
     ensures fails { IfErr result (λ e. (e.1 ≡ StoreFault.Memory) ⊎ (e.1 ≡ StoreFault.Disk)) }
     ensures spared { IfErr result (λ e. SparesConnection S.Store (state S.Store conn) e.0) }
 {

@@ -1,9 +1,18 @@
-use Rattle.std.proofs.Common.{◌≡◌, List, [], ◌∷◌, Option, refl, sym, subst}
+use Rattle.std.proofs.Common.{◌≡◌, inl, List, [], ◌∷◌, Option, refl, sym, subst}
 use Rattle.hub_serve.specs.Connections.{Adds, Closed, Coming, TakesFirst, closed, known}
 use Rattle.hub_serve.specs.One.{DoesTo, ServesOne}
 use Rattle.hub_serve.specs.declared.line.Ending.{Ending}
 use Rattle.hub_serve.proofs.Endings.{failed_so, gone, taken}
+use Rattle.hub_serve.proofs.Passing.{takes_none, went_up}
 use Rattle.hub_serve.proofs.serve.serve_next.Goals as goal
+
+pub returns-in-Err-Over-clause-stopped : goal.returns-in-Err-Over-clause-stopped
+returns-in-Err-Over-clause-stopped g c = inl (
+  went_up (g.L.Connections.failed c.args.connections.now) (g.L.Connections.failed c.next.new.self)
+      (rw c.in-Err-Over.field-0-is at c.in-Err-Over.ensures.flag),
+  takes_none (g.L.Connections.coming c.args.connections.now) (g.L.Connections.coming c.next.new.self)
+      (rw c.in-Err-Over.field-0-is at c.in-Err-Over.ensures.takes),
+)
 
 pub returns-in-Err-Gone-clause-served : goal.returns-in-Err-Gone-clause-served
 returns-in-Err-Gone-clause-served g c =

@@ -43,7 +43,7 @@ returns-in-Err-clause-served g c =
     (known (g.L.Connections.coming c.serve_next.new.connections) (g.L.Connections.closed c.serve_next.new.connections)
     (g.M.Moments.coming c.serve_next.new.moments))
     (g.W.Sink.contents c.loop-number.out) (g.W.Sink.failed c.loop-number.out) c.loop-number.number c.loop-number.greatest s
-    c.in-Err.ensures.served.1 c.in-Err.ensures.stopped fewer
+    c.in-Err.ensures.served.1 c.in-Err.ensures.served.2 c.in-Err.ensures.stopped fewer
     (subst (λ h. RunsTo g.S.Store.content g.S.Store.honest g.S.Store.left hub h (inputs s.served) (replies s.served))
     (sym c.in-Err.ensures.served.0) s.ran)
 

@@ -9,6 +9,7 @@ returns-in-Ok-clause-adopts g c = record {
   whole = c.in-Ok.ensures.whole;
   rows = λ honest. inl (sym c.schema.ensures.value ∙ c.is_no_schema.ensures.0 c.if-is_no_schema.true, c.in-Ok.ensures.rows honest);
   crash = λ honest t h. c.in-Ok.ensures.crash honest t h ∙ sym (c.in-Ok.ensures.rows honest);
+  clean = c.in-Ok.ensures.clean;
 }
 
 pub returns-in-Err-clause-refuses : goal.returns-in-Err-clause-refuses
@@ -32,8 +33,8 @@ returns-in-Err-of_this_version-clause-refuses g c = record {
 pub returns-in-Ok-reopened-clause-adopts : goal.returns-in-Ok-reopened-clause-adopts
 returns-in-Ok-reopened-clause-adopts g c =
     all_adopted g.S.Store (state g.S.Store c.args.conn) c.in-Ok-of_this_version.conn c.in-Ok-reopened.conn
-    c.in-Ok-of_this_version.ensures.hub c.in-Ok-reopened.ensures.clean c.in-Ok-reopened.ensures.rows
-    c.numbered.result c.numbered.ensures.whole c.numbered.ensures.rows c.numbered.ensures.crash c.numbered.ensures.clean
+    c.in-Ok-of_this_version.ensures.hub c.in-Ok-reopened.ensures.clean c.in-Ok-of_this_version.ensures.clean
+    c.in-Ok-reopened.ensures.rows c.numbered.result c.numbered.ensures.whole c.numbered.ensures.rows c.numbered.ensures.crash c.numbered.ensures.clean
 
 pub returns-in-Ok-reopened-clause-refuses : goal.returns-in-Ok-reopened-clause-refuses
 returns-in-Ok-reopened-clause-refuses g c =

@@ -1,0 +1,37 @@
+-- What comes of opening a file, by what it held and the log beside it.
+use Rattle.std.specs.Prelude.{◌≡◌, ◌⊎◌}
+use Rattle.sqlite.specs.Files.{file_state, over_files, IsOpened, IsCleanLeft, LeavesFiles}
+use Rattle.sqlite.specs.Held.{Held}
+use Rattle.sqlite.specs.Start.{FindsIn}
+use Rattle.sqlite.specs.State.{HasCleanDisk}
+use Rattle.sqlite_disk.specs.declared.Disk as disk
+use Rattle.sqlite_disk.specs.declared.Files.{Files as Pair}
+use Rattle.sqlite_store.specs.declared.store.FileStore.{FileStore}
+use Rattle.sqlite_wal.specs.Recovery.{Image}
+use Rattle.hub_store.specs.declared.fault.StoreFault.{StoreFault}
+use Rattle.hub_store.specs.declared.fault.StoreFault.TheVariants.{Memory, Disk}
+use Rattle.hub_sql.specs.Opening.{Adopts, Refuses}
+use Rattle.hub_sql.specs.Stored.{Stored}
+use Rattle.hub_sql.specs.declared.file.LeftOfFile.{LeftOfFile}
+use Rattle.hub_sql.specs.declared.file.LeftOfFile.TheVariants.{Nothing, Files, Returned}
+
+module _ {D : Type 0} {g : disk.Ghosts D} where
+  -- a connection that was opened over files which held this: its rows are theirs
+  pub record IsOver (image : Image) (conn : Held (FileStore D g)) : Type 0 where
+    pub opened : HasCleanDisk (file_state conn) → IsOpened conn
+    pub found : HasCleanDisk (file_state conn) → FindsIn image (file_state conn)
+
+  -- the store of such a connection, as `adopt` makes it
+  abbrev pub AdoptsFiles : Image → Stored (FileStore D g) → Type 0
+  AdoptsFiles image store =
+      (conn : Held (FileStore D g)) × IsOver image conn × Adopts over_files (file_state conn) store
+
+  -- With a fault: no file was opened; or the files could not be read, and what is left of them is what they held, as
+  -- the kit has it; or such a connection comes back, as `adopt` gives it.
+  abbrev pub LeavesFile : (Pair D → Type 0) → Image → StoreFault → LeftOfFile D g → Type 0
+  LeavesFile IsFresh image fault Nothing = (fault ≡ Memory) ⊎ (fault ≡ Disk)
+  LeavesFile IsFresh image fault (Files left) =
+      ((fault ≡ Memory) ⊎ (fault ≡ Disk))
+      × ((files : Pair D) × IsFresh files × (IsCleanLeft left → LeavesFiles files left))
+  LeavesFile IsFresh image fault (Returned back) =
+      (conn : Held (FileStore D g)) × IsOver image conn × Refuses over_files (file_state conn) back fault
