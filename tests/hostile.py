@@ -405,18 +405,22 @@ def memory_refused(program, top):
 
 
 def served_once(program, folder, request, variables):
-    """What comes of `serve` for one connection: its status, lines and standard error, and what the client was sent."""
-    port = free_port()
-    words = ["serve", "--register", REGISTER, "--db", NAME, "--port", str(port), "--count", "1", "--moment", MOMENT]
+    """What comes of `serve` for one connection: its status, lines and standard error, and what the client was sent.
+    Where another program took the port first, it is begun again."""
     how = {"stdout": subprocess.PIPE, "stderr": subprocess.PIPE, "env": {**os.environ, **variables}}
-    child, found = subprocess.Popen([program, *words], cwd=folder, **how), b""
-    first = child.stdout.readline()
-    if first:
-        with socket.create_connection(("127.0.0.1", port), 60) as one:
-            one.sendall(request)
-            one.shutdown(socket.SHUT_WR)
-            found = all_of(one)
-    printed, error = child.communicate(timeout=60)
+    for _ in range(3):
+        port = free_port()
+        words = ["serve", "--register", REGISTER, "--db", NAME, "--port", str(port), "--count", "1", "--moment", MOMENT]
+        child, found = subprocess.Popen([program, *words], cwd=folder, **how), b""
+        first = child.stdout.readline()
+        if first:
+            with socket.create_connection(("127.0.0.1", port), 60) as one:
+                one.sendall(request)
+                one.shutdown(socket.SHUT_WR)
+                found = all_of(one)
+        printed, error = child.communicate(timeout=60)
+        if error != b"listen\n":
+            break
     return child.returncode, (first + printed).replace(str(port).encode(), b"PORT"), error, found
 
 
