@@ -26,8 +26,8 @@ module _ {D : Type 0} {g : disk.Ghosts D} where
   AdoptsFiles image store =
       (conn : Held (FileStore D g)) × IsOver image conn × Adopts over_files (file_state conn) store
 
-  -- With a fault: no file was opened; or the files could not be read, and what is left of them is what they held, as
-  -- the kit has it; or such a connection comes back, as `adopt` gives it.
+  -- With a fault: nothing comes back, and only which fault it may be is said; or the files come back, which could not be
+  -- read, and what is left of them is what they held, as the kit has it; or such a connection, as `adopt` gives it.
   abbrev pub LeavesFile : (Pair D → Type 0) → Image → StoreFault → LeftOfFile D g → Type 0
   LeavesFile IsFresh image fault Nothing = (fault ≡ Memory) ⊎ (fault ≡ Disk)
   LeavesFile IsFresh image fault (Files left) =
