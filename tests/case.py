@@ -1,6 +1,9 @@
 """A case of the built program."""
 from dataclasses import dataclass, field
 
+# past which a program hangs, on however slow a machine
+SECONDS = 600
+
 
 @dataclass
 class Case:

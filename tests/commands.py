@@ -7,7 +7,7 @@ import subprocess
 import tempfile
 
 import files
-from case import Case
+from case import SECONDS, Case
 from envelopes import ORDERS, cut
 from files import NAME, has_rows, is_still, is_whole
 from hubs import ALPHA, BETA, DESPATCH, FIRST_MAIL, HUB, KEYS, RECEIPT, RESPONSE, RETAILER, SECOND, STATUS, TWO_SUPPLIERS
@@ -251,7 +251,7 @@ def killed(program):
         subprocess.run(["cc", "-O2", "-shared", "-fPIC", "-o", shim, SHIM, "-ldl"], check=True)
 
         def imports(folder, **variables):
-            ran = subprocess.run([program, *over("import", RETAILER, "--folder", "in")], cwd=folder, capture_output=True, env=variables, timeout=60)
+            ran = subprocess.run([program, *over("import", RETAILER, "--folder", "in")], cwd=folder, capture_output=True, env=variables, timeout=SECONDS)
             return ran.returncode, ran.stdout.decode()
 
         def replies(words):
@@ -291,7 +291,7 @@ def held_open(program):
         with subprocess.Popen([program, *over("import", RETAILER, "--folder", "in")], cwd=folder, stdout=subprocess.PIPE) as first:
             try:
                 printed = first.stdout.read(1)
-                second = subprocess.run([program, *over("status", ALPHA)], cwd=folder, capture_output=True, timeout=60)
+                second = subprocess.run([program, *over("status", ALPHA)], cwd=folder, capture_output=True, timeout=SECONDS)
                 printed += first.stdout.read()
             finally:
                 first.kill()
@@ -315,7 +315,7 @@ def unreadable(program):
 
         def imports(mode, wanted, *words):
             os.chmod(shut, mode)
-            ran = subprocess.run([own, *over("import", RETAILER, "--folder", "in")], cwd=folder, capture_output=True, timeout=60, **who)
+            ran = subprocess.run([own, *over("import", RETAILER, "--folder", "in")], cwd=folder, capture_output=True, timeout=SECONDS, **who)
             lines = [("fault",) if word == "fault" else (f"interchange U{k} messages 1", f"1 ORDERS {word}") for k, word in enumerate(words)]
             printed = "".join(told(f"file {k:02}.edi", *its) for k, its in enumerate(lines)).encode()
             found = (ran.returncode, ran.stdout, ran.stderr)
@@ -327,7 +327,7 @@ def unreadable(program):
 def day(program):
     """What is wrong with the days of the example, if anything."""
     example = os.path.join(os.path.dirname(os.path.abspath(__file__)), "..", "examples", "day")
-    ran = subprocess.run(["sh", os.path.join(example, "day.sh"), program], capture_output=True, timeout=60)
+    ran = subprocess.run(["sh", os.path.join(example, "day.sh"), program], capture_output=True, timeout=SECONDS)
     with open(os.path.join(example, "printed"), "rb") as file:
         wanted = file.read()
     return None if (ran.returncode, ran.stdout, ran.stderr) == (0, wanted, b"") else f"{ran.returncode}, {ran.stdout!r:.300}, {ran.stderr!r:.100}"

@@ -7,7 +7,7 @@ import subprocess
 import tempfile
 from dataclasses import replace
 
-from case import Case
+from case import SECONDS, Case
 from hubs import ALPHA, DESPATCH, FIRST_MAIL, HUBS, ORDERS, PALLET, RESPONSE, RETAILER, STATUS
 from hubs import Play, accepted, line_status
 
@@ -253,7 +253,7 @@ def held_open(program):
         with open(source, "rb") as script, subprocess.Popen([program, *WORDS], stdin=script, stdout=subprocess.PIPE, cwd=folder) as first:
             try:
                 printed = first.stdout.read(1)
-                second = subprocess.run([program, *WORDS], input=Play().script, capture_output=True, cwd=folder, timeout=60)
+                second = subprocess.run([program, *WORDS], input=Play().script, capture_output=True, cwd=folder, timeout=SECONDS)
                 printed += first.stdout.read()
             finally:
                 first.kill()

@@ -9,6 +9,7 @@ import re
 import subprocess
 from concurrent.futures import ThreadPoolExecutor
 
+from case import SECONDS
 from hubs import Play
 from stops import LOOKS, inputs, looks, script
 
@@ -21,7 +22,7 @@ def runs_of(program):
     """How a program is run: of words and a script its status and what it prints."""
 
     def run(words, text):
-        ran = subprocess.run([program, *words], input=text, capture_output=True, timeout=60)
+        ran = subprocess.run([program, *words], input=text, capture_output=True, timeout=SECONDS)
         return ran.returncode, ran.stdout
 
     return run

@@ -8,6 +8,7 @@ import tempfile
 from collections import Counter
 from concurrent.futures import ThreadPoolExecutor
 
+from case import SECONDS
 from files import NAME, WORDS, is_whole
 from hubs import ALPHA, BETA, KEYS, RETAILER
 from hubs import Play, advice, interchange, message, order, parties, response
@@ -89,7 +90,7 @@ def answers(program, seed):
     """What the three answer."""
     script = script_of(seed)
     with tempfile.TemporaryDirectory() as folder:
-        found = [subprocess.run([program, *words], input=script, capture_output=True, cwd=folder, timeout=60) for words in ([], ["sql"], WORDS)]
+        found = [subprocess.run([program, *words], input=script, capture_output=True, cwd=folder, timeout=SECONDS) for words in ([], ["sql"], WORDS)]
         return found, is_whole(folder)
 
 

@@ -11,6 +11,7 @@ from concurrent.futures import ThreadPoolExecutor
 from dataclasses import dataclass
 
 import http_texts
+from case import SECONDS
 from hubs import ALPHA, BETA, DESPATCH, FIRST_MAIL, ORDERS, OTHER_PALLET, RECEIPT, RESPONSE, RETAILER, SECOND, SECOND_MAIL, SPELLED, STATUS
 from hubs import Play, despatch, interchange, line_status, order, response
 
@@ -133,7 +134,7 @@ def stops_of(output, asked):
 
 def outcome(words, shim, script, asked, number):
     """What becomes of the script where the allocation of this number is refused."""
-    ran = subprocess.run(words, input=script, capture_output=True, env={"LD_PRELOAD": shim, "REFUSE": str(number)}, timeout=60)
+    ran = subprocess.run(words, input=script, capture_output=True, env={"LD_PRELOAD": shim, "REFUSE": str(number)}, timeout=SECONDS)
     if ran.returncode == 3 and ran.stderr == b"memory\n":
         return "script"
     if ran.returncode == 1 and ran.stdout == b"store memory\n":
@@ -148,7 +149,7 @@ def tried(words, folder):
     script, asked = sent_twice()
     shim, count = os.path.join(folder, "refuse.so"), os.path.join(folder, "count")
     subprocess.run(["cc", "-O2", "-shared", "-fPIC", "-o", shim, SHIM, "-ldl"], check=True)
-    whole = subprocess.run(words, input=script, capture_output=True, env={"LD_PRELOAD": shim, "COUNT": count}, timeout=60)
+    whole = subprocess.run(words, input=script, capture_output=True, env={"LD_PRELOAD": shim, "COUNT": count}, timeout=SECONDS)
     if whole.returncode or stops_of(whole.stdout, asked) != 0:
         return f"with ample memory: {whole.stdout!r:.300}"
     with open(count, encoding="ascii") as file:

@@ -10,6 +10,7 @@ import tempfile
 from collections import Counter
 from concurrent.futures import ThreadPoolExecutor
 
+from case import SECONDS
 from files import NAME, WORDS, is_whole
 from hubs import ALPHA, BETA, DESPATCH, ORDERS, OTHER_PALLET, RECEIPT, RESPONSE, RETAILER, SECOND
 from hubs import Play, despatch, interchange, response
@@ -77,7 +78,7 @@ class Stops:
         self.seen = [self.after(number) for number in range(self.count + 1)]
 
     def play(self, text, folder, words=WORDS, **variables):
-        ran = subprocess.run([self.program, *words], input=text, capture_output=True, cwd=folder, env=variables, timeout=60)
+        ran = subprocess.run([self.program, *words], input=text, capture_output=True, cwd=folder, env=variables, timeout=SECONDS)
         return ran.returncode, ran.stdout
 
     def after(self, number):

@@ -1,5 +1,8 @@
-"""`make test`: the gate (rt ci), and then the cases of cases.py, commands.py, hubs.py and files.py on the programs that the gate built.
-The last line is `N passed, M failed` over both. With `--alone`, the cases alone, on the programs that stand."""
+"""`make test`: whether each public function has a wrong body (untried.py); the gate (rt ci), and what each crate took of the processors in it; and
+then, on the two programs that the gate built, the cases of cases.py, commands.py, hubs.py, files.py and connections.py and the trials of
+commands.py, serving.py, files.py, made.py, stops.py, machine.py and refusals.py. The last line is `N passed, M failed` over all.
+
+With `--alone`, all but the gate, on the programs that stand. With `--anew`, nothing that an earlier gate proved is taken over."""
 import os
 import re
 import resource
@@ -16,10 +19,12 @@ import machine
 import made
 import refusals
 import serving
+import spent
 import stops
+import untried
+from case import SECONDS
 
 ROOT = os.path.dirname(os.path.dirname(os.path.abspath(__file__)))
-SECONDS = 60
 
 
 def built(crate):
@@ -41,8 +46,8 @@ TRIALS = [
 ]
 
 
-def gate():
-    """What rt ci counts, its output passed on."""
+def gate(words):
+    """What rt ci counts, its output passed on, with what each crate took behind it."""
     passed, failed = 0, 1
     for program, _ in PROGRAMS:
         if os.path.isfile(program):
@@ -50,10 +55,11 @@ def gate():
     # one job a check, and a check a processor: each job of a check would load what it stands on anew
     one_job_each = {"RT_JOBS": str(len(os.sched_getaffinity(0))), **os.environ}
     try:
-        child = subprocess.Popen(["rt", "ci"], cwd=ROOT, env=one_job_each, stdout=subprocess.PIPE, text=True, errors="replace")
+        child = subprocess.Popen(["rt", "ci", *words], cwd=ROOT, env=one_job_each, stdout=subprocess.PIPE, text=True, errors="replace")
     except OSError as why:
         print(f"rt ci cannot be run: {why}")
         return passed, failed
+    taken = spent.Spent(child.pid)
     for line in child.stdout:
         found = re.fullmatch(r"(\d+) passed, (\d+) failed\n?", line)
         if found:
@@ -62,7 +68,16 @@ def gate():
             print(line, end="", flush=True)
     if child.wait() and not failed:
         failed = 1
+    for line in spent.printed(*taken.end()):
+        print(line)
     return passed, failed
+
+
+def every_function_is_tried():
+    """Whether each public function has a wrong body, as a count of one."""
+    number, lines = untried.check()
+    print(*lines, f"{number} public functions, each with a wrong body or a reason why not" if not lines else "these are untried", sep="\n", flush=True)
+    return (0, 1) if lines else (1, 0)
 
 
 def run(program, case, folder):
@@ -112,11 +127,13 @@ def program_cases(program, of_program):
 
 
 def main(words):
-    if words not in ([], ["--alone"]):
-        print("usage: test.py [--alone]")
+    if words not in ([], ["--alone"], ["--anew"]):
+        print("usage: test.py [--alone | --anew]")
         return 2
-    alone = bool(words)
-    passed, failed = (0, 0) if alone else gate()
+    passed, failed = every_function_is_tried()
+    if words != ["--alone"]:
+        more_passed, more_failed = gate(words)
+        passed, failed = passed + more_passed, failed + more_failed
     for program, of_program in PROGRAMS:
         more_passed, more_failed = program_cases(program, of_program)
         passed, failed = passed + more_passed, failed + more_failed

@@ -1,38 +1,50 @@
-"""`make wrong`: tries the library of wrong bodies and wrong definitions, crates/NAME/wrong/*.edit, on copies of the tree.
+"""`make wrong`: tries each wrong body and wrong definition, crates/NAME/must-fail/*.edit and crates/NAME/wrong/*.edit, on copies of the tree.
 
     python3 tests/wrong.py [CRATE ..]
 
-An edit is written as those of must-fail/ are: lines `file:`, `old:` and `new:`. It is a wrong body, which its own crate has to
-refuse, or, where its first line is `refused by: CRATE`, a wrong definition, which that crate has to refuse: the crates between
-are built with it, each of them proved, and that one is checked.
+An edit has lines `file:`, `old:` and `new:`. It is a wrong body, which its own crate has to refuse, or, where its first line is
+`refused by: CRATE`, a wrong definition, which that crate has to refuse: the crates between are built with it, each of them
+proved, and that one is checked.
 
 Wrong bodies of different functions are tried in one check: each function is proved by itself, over what the others promise, so
-a body is refused where the check says so of its own function. What is not refused so, or only by a proof that names what the
-edit took away, is tried again alone, by `rt must-fail`, and that counts.
+a body is refused where the check says so of its own function. One whose function calls another that is refused waits for the
+next check. What is not refused so, or only by a proof that names what the edit took away, is tried again alone, by `rt must-fail`,
+and that counts.
+
+What was refused is kept in crates/NAME/out/refused, under a sum of the edit and of all that it was tried on, and is not tried
+again: so a run goes on where the last one was stopped.
 
 Prints each edit that is not refused and each that is refused by names alone (which says little of the contract). The last line
-is `N refused, M not`, and the status is 1 where M is not 0."""
+is `N refused, K of them by names alone, M not`, and the status is 1 where M is not 0."""
+import functools
+import hashlib
 import os
 import re
 import shutil
 import subprocess
 import sys
 import tempfile
-from concurrent.futures import ThreadPoolExecutor
+import threading
+import time
+from concurrent.futures import FIRST_COMPLETED, ThreadPoolExecutor, wait
 from dataclasses import dataclass
 
-ROOT = os.path.dirname(os.path.dirname(os.path.abspath(__file__)))
-SOURCES = ("src", "specs", "proofs")
+from functions import ROOT, edits, functions_of, pairs_of, sources
+
+PARTS = ("src", "specs", "proofs")
 # the most memory that a check is taken to need, in bytes
 CHECK_MEMORY = 5 << 30
 # an error of a proof that names what an edit took away
 BY_NAMES = r"(\./)?proofs/.*(has no field|is not in scope|has no `|was not admitted)"
+PLACE = re.compile(r"(?:note: )?(?:\./)?(\S+?):(\d+):\d+: ")
 REFUSED, NAMES_ALONE, NOT_REFUSED = "refused", "refused by names alone", "not refused"
 
 
-@dataclass
+@dataclass(frozen=True)
 class Wrong:
     crate: str
+    # in which folder it stands, and its file's name
+    folder: str
     name: str
     text: str
     # the crate that has to refuse a wrong definition; nothing for a wrong body
@@ -53,36 +65,13 @@ def crates():
 
 def library(crate):
     """The wrong bodies and definitions of a crate, by name."""
-    folder = os.path.join(ROOT, "crates", crate, "wrong")
-    found = []
-    for name in sorted(os.listdir(folder)) if os.path.isdir(folder) else []:
-        if name.endswith(".edit"):
-            with open(os.path.join(folder, name), encoding="utf-8") as file:
-                text = file.read()
+    for folder in ("must-fail", "wrong"):
+        for name, text in edits(crate, folder):
             first, _, rest = text.partition("\n")
             if first.startswith("refused by: "):
-                found.append(Wrong(crate, name, rest, first.removeprefix("refused by: ").strip()))
+                yield Wrong(crate, folder, name, rest, first.removeprefix("refused by: ").strip())
             else:
-                found.append(Wrong(crate, name, text))
-    return found
-
-
-def room_beside():
-    """A folder on the file system of the tree, so that kept work can be shared by links."""
-    return tempfile.TemporaryDirectory(prefix="wrong-", dir=os.path.dirname(ROOT))
-
-
-def copied(room, anew, kept=True):
-    """A copy of the tree, with what its checks kept. Of the crates in `anew` the kept work may be written to; that of the others is shared."""
-    listed = subprocess.run(["git", "ls-files", "-z", "--cached", "--others", "--exclude-standard"], cwd=ROOT, stdout=subprocess.PIPE, text=True, check=True)
-    for path in filter(None, listed.stdout.split("\0")):
-        if os.path.isfile(os.path.join(ROOT, path)):
-            os.makedirs(os.path.dirname(os.path.join(room, path)), exist_ok=True)
-            shutil.copy2(os.path.join(ROOT, path), os.path.join(room, path))
-    for crate in sorted(os.listdir(os.path.join(ROOT, "crates"))) if kept else []:
-        work = os.path.join(ROOT, "crates", crate, "out")
-        if os.path.isdir(work):
-            shutil.copytree(work, os.path.join(room, "crates", crate, "out"), symlinks=True, copy_function=shutil.copy2 if crate in anew else os.link)
+                yield Wrong(crate, folder, name, text)
 
 
 def run(words, folder):
@@ -90,81 +79,67 @@ def run(words, folder):
     return ran.returncode, ran.stdout.rstrip("\n").split("\n")
 
 
-@dataclass(frozen=True)
-class Function:
-    """A function of a crate, by its file, the type or the type and trait whose it is, and its name, with the lines on which it stands."""
+class Kept:
+    """What earlier runs refused, by the sum of all that it was tried on."""
 
-    file: str
-    owner: str
-    name: str
-    lines: range
+    def __init__(self, below):
+        self.below, self.lock, self.known = below, threading.Lock(), {}
+        for crate in below:
+            with open(self.place(crate), encoding="utf-8") if os.path.isfile(self.place(crate)) else open(os.devnull, encoding="utf-8") as lines:
+                self.known.update(line.rstrip("\n").split(" ", 1) for line in lines)
 
-    def modules(self):
-        return [it for it in self.file.removeprefix("src/").removesuffix(".rt").split("/") if it != "lib"]
+    @staticmethod
+    def place(crate):
+        return os.path.join(ROOT, "crates", crate, "out", "refused")
 
-    def is_called(self, crate, path):
-        """Whether this is its name in what a check says, or that of a closure in it."""
-        within = "".join(f"{it}::" for it in self.modules())
-        own = rf"{self.owner}\w*::" if self.owner else ""
-        return bool(re.fullmatch(rf"{crate}::{within}{own}({self.name}|fn::{self.name}::.*)", path))
+    @functools.cache
+    def sum_of(self, crate):
+        """The sum of a crate's text."""
+        total, folder = hashlib.sha256(), os.path.join(ROOT, "crates", crate)
+        for path in sorted(os.path.join(at, name) for part in PARTS for at, _, names in os.walk(os.path.join(folder, part)) for name in names):
+            with open(path, "rb") as file:
+                total.update(repr((os.path.relpath(path, folder), file.read())).encode())
+        return total.hexdigest()
 
-    def has_place(self, file, line):
-        """Whether a place that a check names is in its text or in its proofs."""
-        proofs = "/".join(["proofs", *self.modules(), *([rf"{self.owner}\w*"] if self.owner else []), self.name, ".*"])
-        return file == self.file and line in self.lines or bool(re.fullmatch(proofs, file))
+    @functools.cache
+    def toolchain(self):
+        return run(["version"], ROOT)[1]
 
+    def key(self, wrong):
+        judge = wrong.refused_by or wrong.crate
+        texts = [(it, self.sum_of(it)) for it in sorted(self.below[judge] | {judge})]
+        return hashlib.sha256(repr((wrong, texts, self.toolchain())).encode()).hexdigest()
 
-def owner_of(header):
-    """What the functions of an impl or a trait are called by: its type, and the trait where there is one."""
-    of_trait = re.match(r"impl(?:<[^{]*?>)? (?:\w+::)*(\w+)(?:<.*>)? for (?:&\S* ?)?(\w+)", header)
-    own = re.match(r"impl(?:<[^{]*?>)? (\w+)|(?:pub )?trait (\w+)", header)
-    return of_trait[2] + of_trait[1] if of_trait else (own[1] or own[2]) if own else ""
+    def told(self, wrong):
+        return self.known.get(self.key(wrong))
 
-
-def function_at(file, text, place):
-    """The function around a place of a source file, if there is one."""
-    lines, at = text.split("\n"), text.count("\n", 0, place)
-    header = re.compile(r"( *)(?:pub(?:\(crate\))? )?(?:const )?fn (\w+)")
-    first = next((it for it in range(at, -1, -1) if header.match(lines[it])), None)
-    if first is None:
-        return None
-    indent, name = header.match(lines[first]).groups()
-    last = next((it for it in range(first, len(lines)) if lines[it] == indent + "}"), len(lines))
-    if last < at:
-        return None
-    above = next((lines[it] for it in range(first, -1, -1) if re.match(r"(impl|trait|pub trait)\b", lines[it])), "")
-    return Function(file, owner_of(above) if indent else "", name, range(first + 1, last + 2))
+    def keep(self, wrong, told):
+        with self.lock, open(self.place(wrong.crate), "a", encoding="utf-8") as file:
+            file.write(f"{self.key(wrong)} {told}\n")
 
 
-def pairs_of(text):
-    """The pairs of an edit: file, what stands there, and what stands there instead."""
-    path, old = "", ""
-    for line in text.split("\n"):
-        if line.startswith("file: "):
-            path = line.removeprefix("file: ").strip()
-        elif line.startswith("old: "):
-            old = line.removeprefix("old: ")
-        elif line.startswith("new:"):
-            yield path, old, line.removeprefix("new:").removeprefix(" ")
+def copied(room, anew):
+    """A copy of the tree, with what its checks kept. Of the crates in `anew` the kept work may be written to; that of the others is shared."""
+    listed = subprocess.run(["git", "ls-files", "-z", "--cached", "--others", "--exclude-standard"], cwd=ROOT, stdout=subprocess.PIPE, text=True, check=True)
+    for path in filter(None, listed.stdout.split("\0")):
+        if path.startswith("crates") and "/must-fail/" not in path and "/wrong/" not in path and os.path.isfile(os.path.join(ROOT, path)):
+            os.makedirs(os.path.dirname(os.path.join(room, path)), exist_ok=True)
+            shutil.copy2(os.path.join(ROOT, path), os.path.join(room, path))
+    for crate in os.listdir(os.path.join(ROOT, "crates")):
+        for part in ("rlib", "incremental") if crate in anew else ("rlib",):
+            work = os.path.join(ROOT, "crates", crate, "out", part)
+            if os.path.isdir(work):
+                linked(work, os.path.join(room, "crates", crate, "out", part))
 
 
-def functions_of(wrong, folder):
-    """The functions that an edit touches; none where it touches anything else, or cannot be applied."""
-    found, texts = set(), {}
-    for path, old, new in pairs_of(wrong.text):
-        if path not in texts:
-            if not path.startswith("src/") or not os.path.isfile(os.path.join(folder, path)):
-                return set()
-            with open(os.path.join(folder, path), encoding="utf-8") as file:
-                texts[path] = file.read()
-        if not old or texts[path].count(old) != 1:
-            return set()
-        function = function_at(path, texts[path], texts[path].index(old))
-        if not function:
-            return set()
-        found.add(function)
-        texts[path] = texts[path].replace(old, new)
-    return found
+def linked(folder, to):
+    """A copy of kept work, what was proved by links: a check replaces such a file, and changes none."""
+    shutil.copytree(folder, to, symlinks=True, copy_function=lambda one, other: os.link(one, other) if one.endswith((".oantt", ".a")) else shutil.copy2(one, other))
+
+
+def room_beside():
+    """A folder on the file system of the tree, so that kept work can be shared by links."""
+    return tempfile.TemporaryDirectory(prefix="wrong-", dir=os.path.dirname(ROOT))
 
 
 def different(bodies):
@@ -177,57 +152,69 @@ def different(bodies):
 
 
 def checked_with(room, crate, bodies):
-    """What a check says of a crate with these bodies in place of its own."""
-    folder = os.path.join(room, "crates", crate)
-    kept = {}
-    for path in {path for it in bodies for path, _, _ in pairs_of(it.text)}:
-        with open(os.path.join(folder, path), encoding="utf-8") as file:
-            kept[path] = file.read()
+    """What a check says of a crate with these bodies in place of its own, over what was kept of it as it stands."""
+    folder, texts = os.path.join(room, "crates", crate), sources(crate)
+    work = os.path.join(folder, "out", "incremental")
+    shutil.rmtree(work, ignore_errors=True)
+    linked(os.path.join(ROOT, "crates", crate, "out", "incremental"), work)
     for it in bodies:
         applied(it.text, folder)
     lines = run(["check", "--jobs", "1"], folder)[1]
-    for path, text in kept.items():
+    for path, text in texts.items():
         with open(os.path.join(folder, path), "w", encoding="utf-8") as file:
             file.write(text)
     return lines
 
 
 def refused_together(room, crate, batch):
-    """Those of a batch that one check refuses, each by an error of its own functions, and those whose functions wait for others of it."""
+    """Of a batch: those that one check refuses, each by an error of its own functions; those whose functions wait for others of it; and those
+    that no check can read."""
     lines = checked_with(room, crate, [it for it, _ in batch])
-    refused, waiting = [], []
+    places = [it for it in (PLACE.match(line) for line in lines if not re.match(BY_NAMES, line)) if it]
     if not any(it.startswith("logic=not-proved") for it in lines):
-        return refused, waiting
+        bad = [it for it in batch if any(f.has_place(at[1], int(at[2])) for f in it[1] for at in places)]
+        if bad or len(batch) == 1:
+            return [], [], bad or batch
+        halves = [refused_together(room, crate, half) for half in (batch[: len(batch) // 2], batch[len(batch) // 2 :])]
+        return tuple(one + other for one, other in zip(*halves))
+    refused, waiting = [], []
     unproved = [it for it in (re.match(r"fn (\S+): (?:not proved|no proof)(.*)", line) for line in lines) if it]
-    places = [re.match(r"(?:note: )?(?:\./)?(\S+?):(\d+):\d+: ", line) for line in lines if not re.match(BY_NAMES, line)]
     for it in batch:
         own = [(f, told) for f in it[1] for told in unproved if f.is_called(crate, told[1])]
         if any(re.search("which (is|are) not proved", told[2]) for _, told in own):
             waiting.append(it)
-        elif any(f.has_place(at[1], int(at[2])) for f, _ in own for at in places if at):
+        elif any(f.has_place(at[1], int(at[2])) for f, _ in own for at in places):
             refused.append(it)
-    return refused, waiting
+    return refused, waiting, []
 
 
-def bodies_tried(crate, bodies):
-    """What becomes of a crate's wrong bodies: triples of the edit, the verdict and a line that says why."""
+def bodies_tried(crate, bodies, keep):
+    """What becomes of a crate's wrong bodies: triples of the edit, the verdict and a line that says why. Tells each verdict as it is known."""
     with room_beside() as room:
         copied(room, {crate})
-        folder, done, refused = os.path.join(room, "crates", crate), [], [None]
-        left = [(it, functions) for it, functions in ((it, functions_of(it, folder)) for it in bodies) if functions]
-        while left and refused:
+        texts, done, checks = sources(crate), [], 0
+        left = [(it, functions) for it, functions in ((it, functions_of(it.text, texts)) for it in bodies) if functions]
+        while left:
             batch = different(left)
-            refused, waiting = refused_together(room, crate, batch)
+            refused, waiting, bad = refused_together(room, crate, batch)
+            checks += 1
+            for it, _ in refused:
+                keep(it, REFUSED)
             done += [it for it, _ in refused]
-            left = waiting + [it for it in left if it not in batch]
-        alone = [it for it in bodies if it not in done]
-        return [(it, REFUSED, "") for it in done] + tried_alone(room, crate, alone)
+            again = waiting if refused or waiting else [it for it in batch if it not in bad] if bad else []
+            left = again + [it for it in left if it not in batch]
+            if len(batch) == len(waiting):
+                break
+        alone = tried_alone(room, crate, [it for it in bodies if it not in done])
+        for it, told, _ in alone:
+            if told != NOT_REFUSED:
+                keep(it, told)
+        return [(it, REFUSED, "") for it in done] + alone, checks
 
 
 def tried_alone(room, crate, bodies):
     """The same by `rt must-fail`."""
     folder = os.path.join(room, "crates", crate, "must-fail")
-    shutil.rmtree(folder, ignore_errors=True)
     os.makedirs(folder)
     for it in bodies:
         with open(os.path.join(folder, it.name), "w", encoding="utf-8") as file:
@@ -249,7 +236,7 @@ def verdict(said):
 def applied(text, folder):
     """Applies an edit to a crate's files. Says why it cannot be."""
     for path, old, new in pairs_of(text):
-        if not path.startswith(tuple(f"{it}/" for it in SOURCES)) or not os.path.isfile(os.path.join(folder, path)):
+        if not path.startswith(tuple(f"{it}/" for it in PARTS)) or not os.path.isfile(os.path.join(folder, path)):
             return f"there is no file {path or '(none is named)'}"
         with open(os.path.join(folder, path), encoding="utf-8") as file:
             source = file.read()
@@ -273,22 +260,20 @@ def check_told(lines):
 
 
 def definition_tried(wrong, below):
-    """What becomes of a wrong definition, in a copy of its own."""
+    """What becomes of a wrong definition, in a copy of its own: the verdict and why."""
     between = [it for it in below if it == wrong.crate or wrong.crate in below[it] and it in below[wrong.refused_by]]
     with room_beside() as room:
         copied(room, {*between, wrong.refused_by})
         why = applied(wrong.text, os.path.join(room, "crates", wrong.crate))
         if why:
-            return [(wrong, NOT_REFUSED, why)]
+            return NOT_REFUSED, why
         for crate in between:
             if crate != wrong.refused_by:
-                status, lines = run(["check"], os.path.join(room, "crates", crate))
+                status, lines = run(["lib", "--jobs", "1"], os.path.join(room, "crates", crate))
                 if status:
-                    return [(wrong, NOT_REFUSED, f"{crate} refuses it, and not {wrong.refused_by}: {check_told(lines)[1]}")]
-        status, lines = run(["check"], os.path.join(room, "crates", wrong.refused_by))
-        if not status:
-            return [(wrong, NOT_REFUSED, f"{wrong.refused_by} is still proved")]
-        return [(wrong, *check_told(lines))]
+                    return NOT_REFUSED, f"{crate} refuses it, and not {wrong.refused_by}: {check_told(lines)[1]}"
+        status, lines = run(["check", "--jobs", "1"], os.path.join(room, "crates", wrong.refused_by))
+        return check_told(lines) if status else (NOT_REFUSED, f"{wrong.refused_by} is still proved")
 
 
 def lanes():
@@ -297,31 +282,62 @@ def lanes():
     return max(1, min(os.cpu_count() or 1, free // CHECK_MEMORY))
 
 
+def proved(needed, below):
+    """Proves the libraries that are needed, those of which no check kept work, in their order. Gives those that are not proved as they stand."""
+    left, running, done, failed = [it for it in below if it in needed], {}, set(), []
+    with ThreadPoolExecutor(lanes()) as pool:
+        while left and not failed or running:
+            for crate in [it for it in left if below[it] <= done] if not failed else []:
+                left.remove(crate)
+                running[pool.submit(run, ["lib", "--jobs", "1"], os.path.join(ROOT, "crates", crate))] = crate
+            for it in wait(running, return_when=FIRST_COMPLETED).done:
+                crate = running.pop(it)
+                (failed.append((crate, it.result()[1][-1])) if it.result()[0] else done.add(crate))
+    return failed
+
+
+def counted(told, count):
+    """Counts these, and prints what has to be looked at."""
+    for it, what, why in told:
+        count[what] += 1
+        if what != REFUSED:
+            print(f"{it.crate}/{it.folder}/{it.name}: {what}: {why[:200]}", flush=True)
+
+
 def main(names):
-    below = crates()
+    below, begun = crates(), time.time()
     unknown = [it for it in names if it not in below]
     if unknown:
         print(f"no crate is called {' or '.join(unknown)}")
         return 2
-    wrong = [it for crate in below if not names or crate in names for it in library(crate)]
-    # what no check kept yet is proved first, so that each edit is tried over it
-    for crate in below:
-        if any(it.crate == crate or crate in below[it.refused_by or it.crate] for it in wrong):
-            status, lines = run(["check"], os.path.join(ROOT, "crates", crate))
-            if status:
-                print(f"{crate} is not proved as it stands: {lines[-1]}")
-                return 1
+    kept = Kept(below)
+    every = [it for crate in below if not names or crate in names for it in library(crate)]
+    earlier = [(it, kept.told(it)) for it in every]
+    left = [it for it, told in earlier if not told]
+    judges = {it.refused_by or it.crate for it in left}
+    for crate, why in proved({low for it in judges for low in below[it] | {it}}, below):
+        print(f"{crate} is not proved as it stands: {why}")
+        return 1
     count = {REFUSED: 0, NAMES_ALONE: 0, NOT_REFUSED: 0}
+    counted([(it, told, "by an earlier run") for it, told in earlier if told], count)
+    bodies = {crate: [it for it in left if it.crate == crate and not it.refused_by] for crate in below}
     with ThreadPoolExecutor(lanes()) as pool:
-        bodies = {crate: [it for it in wrong if it.crate == crate and not it.refused_by] for crate in below}
-        waiting = [pool.submit(bodies_tried, crate, its) for crate, its in sorted(bodies.items(), key=lambda it: -len(it[1])) if its]
-        waiting += [pool.submit(definition_tried, it, below) for it in wrong if it.refused_by]
-        for done in waiting:
-            for it, told, why in done.result():
-                count[told] += 1
-                if told != REFUSED:
-                    print(f"{it.crate}/wrong/{it.name}: {told}: {why[:200]}", flush=True)
-    print(f"{count[REFUSED] + count[NAMES_ALONE]} refused, {count[NOT_REFUSED]} not")
+        tasks = {pool.submit(bodies_tried, crate, its, kept.keep): crate for crate, its in sorted(bodies.items(), key=lambda it: -len(it[1])) if its}
+        tasks.update((pool.submit(definition_tried, it, below), it) for it in left if it.refused_by)
+        while tasks:
+            for done in wait(tasks, return_when=FIRST_COMPLETED).done:
+                of = tasks.pop(done)
+                if isinstance(of, Wrong):
+                    told, why = done.result()
+                    counted([(of, told, why)], count)
+                    if told != NOT_REFUSED:
+                        kept.keep(of, told)
+                else:
+                    told, checks = done.result()
+                    counted(told, count)
+                    print(f"{of}: {len(told)} wrong bodies in {checks} checks and {sum(bool(why) for _, _, why in told)} alone, {(time.time() - begun) / 60:.0f} minutes from the start", flush=True)
+    refused = count[REFUSED] + count[NAMES_ALONE]
+    print(f"{refused} refused, {count[NAMES_ALONE]} of them by names alone, {count[NOT_REFUSED]} not")
     return 1 if count[NOT_REFUSED] else 0
 
 
