@@ -14,7 +14,8 @@ import tempfile
 
 from machine import FILES, Machine, shown_after, stopped_script
 from stops import inputs
-from wrong import ROOT, applied, copied
+from functions import ROOT
+from wrong import applied, text_copied
 
 CRATE, EDIT = "hub_writes", "commit_in_two_transactions.edit"
 # the calls of each file that are stopped: some behind the making of the tables
@@ -61,7 +62,7 @@ def main():
     right = True
     for edit in (None, EDIT):
         with tempfile.TemporaryDirectory(prefix="found-", dir=os.path.dirname(ROOT)) as room:
-            copied(room, set(), kept=False)
+            text_copied(room)
             told = found(room, edit)
         print(f"{edit or 'as it stands'}: {told[:300] if told else 'nothing is wrong'}", flush=True)
         right &= bool(told) == bool(edit)

@@ -118,13 +118,18 @@ class Kept:
             file.write(f"{self.key(wrong)} {told}\n")
 
 
-def copied(room, anew):
-    """A copy of the tree, with what its checks kept. Of the crates in `anew` the kept work may be written to; that of the others is shared."""
+def text_copied(room):
+    """A copy of the tree's crates, without their edits."""
     listed = subprocess.run(["git", "ls-files", "-z", "--cached", "--others", "--exclude-standard"], cwd=ROOT, stdout=subprocess.PIPE, text=True, check=True)
     for path in filter(None, listed.stdout.split("\0")):
         if path.startswith("crates") and "/must-fail/" not in path and "/wrong/" not in path and os.path.isfile(os.path.join(ROOT, path)):
             os.makedirs(os.path.dirname(os.path.join(room, path)), exist_ok=True)
             shutil.copy2(os.path.join(ROOT, path), os.path.join(room, path))
+
+
+def copied(room, anew):
+    """The same with the libraries that its checks built, and, of the crates in `anew`, what these kept."""
+    text_copied(room)
     for crate in os.listdir(os.path.join(ROOT, "crates")):
         for part in ("rlib", "incremental") if crate in anew else ("rlib",):
             work = os.path.join(ROOT, "crates", crate, "out", part)

@@ -1,5 +1,6 @@
 -- The order that a message is (ORDERS), or its message fault.
-use Rattle.std.specs.Prelude.{ℕ, ◌==◌, Bool, false, not, ◌&&◌, ◌||◌, List, [], map, is_some, codes, Option, Result}
+use Rattle.std.specs.Prelude.{ℕ, ◌==◌, Bool, false, not, ◌&&◌, ◌||◌, List, [], ◌∷◌, map, find, is_some, codes, Option}
+use Rattle.std.specs.Prelude.{Result}
 use Rattle.std.specs.List.{list_all}
 use Rattle.std.specs.Option.{unwrap_or}
 use Rattle.std.specs.Str.{bytes_eq}
@@ -38,6 +39,18 @@ holds Unit m = false
 holds Control m = not (is_controlled m.segments)
 holds NoLine m = line_count m.segments == 0
 holds Memory m = false
+
+-- the lowest of these faults whose condition holds
+abbrev pub lowest : List MessageFault → RawMessage → Option MessageFault
+lowest among m = find (λ fault. holds fault m) among
+
+-- the faults of no line
+abbrev pub end_faults : List MessageFault
+end_faults = Reference ∷ Unit ∷ Control ∷ NoLine ∷ []
+
+-- the faults of lines, and those behind them
+abbrev pub line_faults : List MessageFault
+line_faults = Line ∷ Quantity ∷ end_faults
 
 abbrev pub line_of : List Segment → OrderLine
 line_of group =

@@ -1,7 +1,11 @@
 //! Orders (ORDERS).
-ghost use Rattle.std.specs.Prelude.{◌≡◌, ◌≢◌, IfOk, IfErr, Ok, Err, true, false, map, is_some};
+ghost use Rattle.std.specs.Prelude.{◌≡◌, ◌≢◌, IfOk, IfErr, Ok, Err, Some, true, false, codes, map, is_some};
 ghost use Rattle.std.specs.List.{list_all};
-ghost use Rattle.edi_base.specs.Seen.{has_number_twice};
+ghost use Rattle.edi_base.specs.Seen.{has_number_twice as twice};
+ghost use Rattle.edi_messages.specs.Fault.{faults};
+ghost use Rattle.edi_messages.specs.Header.{party};
+ghost use Rattle.edi_messages.specs.Lines.{number_or_zero};
+ghost use Rattle.edi_messages.specs.Parts.{line_groups};
 ghost use Rattle.edi_orders.specs.Order as spec;
 
 use edi_base::copied;
@@ -57,6 +61,55 @@ fn order_lines(alloc: Global, items: &[LineItem<'_>]) -> Result<Items<OrderLine>
     Ok(lines)
 }
 
+// Who orders, and of whom.
+#[derive(Drop)]
+struct Heading {
+    buyer: Gln,
+    supplier: Gln,
+}
+
+// What stands before the lines, or the lowest fault of it.
+fn read_heading(message: &RawMessage) -> Result<Heading, MessageFault>
+    ensures said { IfOk result (λ heading. (party (codes "BY") message.now.segments ≡ Some heading.buyer)
+        × (party (codes "SU") message.now.segments ≡ Some heading.supplier)) }
+    ensures ok { IfOk result (λ _. spec.lowest faults message.now ≡ spec.lowest spec.line_faults message.now) }
+    ensures err { IfErr result (λ fault. spec.lowest faults message.now ≡ Some fault) }
+{
+    let segments = message.segments.as_slice();
+    if !is_type(b"ORDERS", message) {
+        return Err(MessageFault::MessageType);
+    }
+    if !begins_as(b"220", segments) {
+        return Err(MessageFault::Beginning);
+    }
+    if function(segments) != b"9".as_slice() {
+        return Err(MessageFault::Function);
+    }
+    if !has_date(segments) {
+        return Err(MessageFault::Date);
+    }
+    let buyer = party(b"BY", segments).ok_or(MessageFault::Parties)?;
+    let supplier = party(b"SU", segments).ok_or(MessageFault::Parties)?;
+    if !has_summary(segments) {
+        return Err(MessageFault::Summary);
+    }
+    Ok(Heading { buyer, supplier })
+}
+
+// The lines, or the lowest fault of them.
+fn read_lines(alloc: Global, message: &RawMessage) -> Result<Items<OrderLine>, MessageFault>
+    ensures said { IfOk result (λ lines. lines ≡ map spec.line_of (line_groups message.now.segments)) }
+    ensures apart { IfOk result (λ _. twice (map number_or_zero (line_groups message.now.segments)) ≡ false) }
+    ensures ok { IfOk result (λ _. spec.lowest spec.line_faults message.now ≡ spec.lowest spec.end_faults message.now) }
+    ensures err { IfErr result (λ fault. fault ≢ MessageFault.Memory → spec.lowest spec.line_faults message.now ≡ Some fault) }
+{
+    let items = line_items(alloc, message.segments.as_slice())?;
+    if has_number_twice(alloc, items.as_slice())? {
+        return Err(MessageFault::Line);
+    }
+    order_lines(alloc, items.as_slice())
+}
+
 impl Order {
     /// The order that a message is: ORDERS of the directory D.01B with BGM 1001 220 and 1225 9, one document date, one
     /// buyer and one supplier, lines each with its own number, an article and a quantity ordered, and one UNS. Else the
@@ -64,32 +117,12 @@ impl Order {
     #[tactic(auto, unfolding(crate::specs::Order::order_of))]
     pub fn read(alloc: Global, message: &RawMessage) -> Result<Order, MessageFault>
         ensures ok { IfOk result (λ order. spec.order_of message.now ≡ Ok order) }
-        ensures apart { IfOk result (λ order. has_number_twice (map (λ line. line.line) order.lines) ≡ false) }
+        ensures apart { IfOk result (λ order. twice (map (λ line. line.line) order.lines) ≡ false) }
         ensures err { IfErr result (λ fault. fault ≢ MessageFault.Memory → spec.order_of message.now ≡ Err fault) }
     {
+        let Heading { buyer, supplier } = read_heading(message)?;
+        let lines = read_lines(alloc, message)?;
         let segments = message.segments.as_slice();
-        if !is_type(b"ORDERS", message) {
-            return Err(MessageFault::MessageType);
-        }
-        if !begins_as(b"220", segments) {
-            return Err(MessageFault::Beginning);
-        }
-        if function(segments) != b"9".as_slice() {
-            return Err(MessageFault::Function);
-        }
-        if !has_date(segments) {
-            return Err(MessageFault::Date);
-        }
-        let buyer = party(b"BY", segments).ok_or(MessageFault::Parties)?;
-        let supplier = party(b"SU", segments).ok_or(MessageFault::Parties)?;
-        if !has_summary(segments) {
-            return Err(MessageFault::Summary);
-        }
-        let items = line_items(alloc, segments)?;
-        if has_number_twice(alloc, items.as_slice())? {
-            return Err(MessageFault::Line);
-        }
-        let lines = order_lines(alloc, items.as_slice())?;
         if !is_controlled(segments) {
             return Err(MessageFault::Control);
         }

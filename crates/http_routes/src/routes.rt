@@ -1,6 +1,6 @@
 //! The seven routes.
 
-ghost use Rattle.std.specs.Prelude.{◌≡◌, IfOk, OnOk, option_map};
+ghost use Rattle.std.specs.Prelude.{◌≡◌, IfOk, option_map};
 ghost use Rattle.http_routes.specs.Routes as spec;
 
 use crate::parts::with_parts;
@@ -36,30 +36,30 @@ pub struct Routed<'p> {
     pub part: Option<&'p [u8]>,
 }
 
-// Adds a route.
-fn add(router: &mut Router<Place>, route: &str, place: Place) -> Result<(), InsertError>
-    ensures { OnOk result (router.new ≡ spec.added route.now place router.old) }
+// The router with one more route. It is handed over and back, so that nothing is left to let go where memory gives out.
+fn with_route(
+    mut router: Router<Place>,
+    route: &str,
+    place: Place,
+) -> Result<Router<Place>, InsertError>
+    ensures { IfOk result (λ with. with ≡ spec.added route.now place router) }
 {
-    router.insert(route, place)
+    router.insert(route, place)?;
+    Ok(router)
 }
 
 // The router of the seven routes.
 fn seven_routes(alloc: Global) -> Result<Router<Place>, InsertError>
     ensures { IfOk result (λ router. router ≡ spec.seven) }
 {
-    let mut router = Router::new(alloc);
-    add(&mut router, "/p/{gln}/interchanges", Place::Interchanges)?;
-    add(&mut router, "/p/{gln}/mail/after/{n}", Place::MailAfter)?;
-    add(&mut router, "/p/{gln}/mail/item/{n}", Place::MailItem)?;
-    add(
-        &mut router,
-        "/p/{gln}/mail/item/{n}/taken",
-        Place::MailTaken,
-    )?;
-    add(&mut router, "/p/{gln}/status", Place::Status)?;
-    add(&mut router, "/p/{gln}/status/{supplier}", Place::StatusOf)?;
-    add(&mut router, "/p/{gln}/cancellations", Place::Cancellations)?;
-    Ok(router)
+    let router = Router::new(alloc);
+    let router = with_route(router, "/p/{gln}/interchanges", Place::Interchanges)?;
+    let router = with_route(router, "/p/{gln}/mail/after/{n}", Place::MailAfter)?;
+    let router = with_route(router, "/p/{gln}/mail/item/{n}", Place::MailItem)?;
+    let router = with_route(router, "/p/{gln}/mail/item/{n}/taken", Place::MailTaken)?;
+    let router = with_route(router, "/p/{gln}/status", Place::Status)?;
+    let router = with_route(router, "/p/{gln}/status/{supplier}", Place::StatusOf)?;
+    with_route(router, "/p/{gln}/cancellations", Place::Cancellations)
 }
 
 /// The place that a path names, with its parts in braces; `None` where it names none of the seven. The path is the
