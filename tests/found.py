@@ -13,7 +13,7 @@ import sys
 import tempfile
 
 from machine import FILES, Machine, shown_after, stopped_script
-from stops import inputs
+from stops import ends
 from functions import ROOT
 from wrong import applied, text_copied
 
@@ -24,7 +24,7 @@ CALLS = range(24, 120, 3)
 
 def asked():
     """What the trial runs the program on: words and a script each."""
-    seen = [((), shown_after(number)) for number in range(len(inputs()) + 1)]
+    seen = [((), shown_after(number)) for number in range(ends()[-1] + 1)]
     return seen + [((which, str(number)), stopped_script(1)) for which in FILES for number in CALLS]
 
 

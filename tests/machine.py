@@ -11,7 +11,7 @@ from concurrent.futures import ThreadPoolExecutor
 
 from case import SECONDS
 from hubs import Play
-from stops import LOOKS, inputs, looks, script
+from stops import LOOKS, ends, inputs, looks, script
 
 FILES = ("stop-file", "stop-log")
 # how many calls of a file are stopped at least behind the making of the tables, and how many are tried at most
@@ -51,26 +51,29 @@ def replies(output):
     return found
 
 
-def shown_after(number):
-    """The script that shows what there is after so many inputs."""
-    return looks(script(number)).script
+def shown_after(acts):
+    """The script that shows what there is after so many acts."""
+    return looks(script(acts)).script
 
 
 def stopped_script(hubs):
     """A hub, opened so often; the inputs, looks once the machine has come back, the inputs again, and looks."""
-    whole = looks(script(len(inputs())).say("mend"))
-    for first, _ in inputs():
-        first(whole)
+    whole = looks(script(ends()[-1]).say("mend"))
+    for it in inputs():
+        it.ask(whole, it.acts(), 0)
     return Play().script * (hubs - 1) + looks(whole).script
 
 
 class Machine:
     def __init__(self, run):
         self.run = run
-        self.count = len(inputs())
-        self.told = replies(script(self.count).printed)
-        # what is seen after each number of inputs, over lists
-        self.seen = [play(run, [], shown_after(number))[number:] for number in range(self.count + 1)]
+        self.count, self.ends = len(inputs()), ends()
+        self.acts = self.ends[-1]
+        self.told = replies(script(self.acts).printed)
+        # what is seen after each number of acts, over lists
+        self.seen = [play(run, [], shown_after(acts))[-LOOKS:] for acts in range(self.acts + 1)]
+        # how often the first of two messages alone was kept
+        self.between = 0
 
     def stopped(self, which, number):
         """What is wrong where the machine stops at the call of this number; the number of inputs answered, less than
@@ -92,14 +95,17 @@ class Machine:
             return f"{words}: told of {told}, then {answers[told:]!r:.300}"
         if front and told < self.count:
             return f"{words}: stopped again, {answers!r:.300}"
-        done = [number for number in range(self.count + 1) if self.seen[number] == rest[:LOOKS] and told <= number <= told + 1]
+        # of the upload that was stopped, what its lines tell of
+        acts = self.ends[told] + sum(line.endswith(b" accepted") for _, body in answers[told : told + 1] for line in body.split(b"\n"))
+        done = [number for number in range(self.acts + 1) if self.seen[number] == rest[:LOOKS] and acts <= number <= acts + 1]
         if not done:
-            return f"{words}: told of {told}, then seen {rest[:LOOKS]!r:.400}"
-        # the last input shows only in a list, so that what is seen may be that of two numbers
-        wanted = [replies(Again(number).printed) for number in done]
+            return f"{words}: told of {acts} acts, then seen {rest[:LOOKS]!r:.400}"
+        self.between += told < self.count and done[0] not in self.ends
+        # the last act shows only in a list, so that what is seen may be that of two numbers
+        wanted = [replies(script(self.acts, done=number).printed) for number in done]
         again = rest[LOOKS : LOOKS + self.count]
         if again not in wanted or rest[LOOKS + self.count :] != self.seen[-1]:
-            return f"{words}: told of {told}, done {done}, sent again {again!r:.400}"
+            return f"{words}: told of {acts} acts, done {done}, sent again {again!r:.400}"
         return told if not front else -1
 
     def tried(self, which):
@@ -118,15 +124,6 @@ class Machine:
         return f"{which}: no run without a stop in {MOST} calls"
 
 
-class Again(Play):
-    """All inputs, of which the first so many are sent again."""
-
-    def __init__(self, number):
-        super().__init__()
-        for place, (first, repeated) in enumerate(inputs()):
-            (repeated if place < number else first)(self)
-
-
 def machine(program):
     """What is wrong where a machine stops at a call of its files, if anything."""
     try:
@@ -135,7 +132,9 @@ def machine(program):
             found = tries.tried(which)
             if isinstance(found, str):
                 return found
-            print(f"{which}: {found[0]} calls stopped in turn, and {found[1]} while the tables were made")
+            print(f"{which}: {found[0]} calls stopped in turn, and {found[1]} while the tables were made; {tries.between} so far between the messages of an upload")
+        if not tries.between:
+            return "no stop between the two messages of an upload"
     except (OSError, subprocess.SubprocessError) as why:
         return f"not tried: {why}"
     return None

@@ -8,7 +8,7 @@ import subprocess
 import tempfile
 from collections import Counter
 from concurrent.futures import ThreadPoolExecutor
-from dataclasses import dataclass
+from dataclasses import dataclass, field
 
 import http_texts
 from case import SECONDS
@@ -24,11 +24,13 @@ FEWEST, MOST_OF_SCRIPT = 1000, 300
 
 @dataclass
 class Asked:
-    """An input that is sent twice: what is answered, what is answered again, and the stops of the first and of the second."""
+    """An input that is sent twice: what is answered, what is answered again, and the stops of the first and of the second in which nothing was
+    done; and of an upload of two messages, the stops behind the first, each with what is answered again."""
 
     first: bytes
     again: bytes
     stops: set
+    between: dict = field(default_factory=dict)
 
 
 def sent_twice():
@@ -52,6 +54,22 @@ def sent_twice():
             f"{head}\nstopped\n".encode(),
         )
 
+    def sends_two(who, reference, kind, text):
+        """An upload of two messages: where it is stopped behind the first, that one is repeated, and the second accepted."""
+        head = f"interchange {reference} messages 2"
+
+        def told(first, second):
+            return answered(lambda: play.upload(who, text, head, f"1 {kind} {first}", f"2 {kind} {second}"))
+
+        def stopped(*lines):
+            body = "".join(f"{it}\n" for it in (head, *lines, "stopped")).encode()
+            return b"stopped %d\n%s" % (len(body), body)
+
+        script, caller = play.script, play.who
+        between = {stopped(f"1 {kind} accepted"): told("repeated", "accepted")}
+        play.script, play.who = script, caller
+        asked.append(Asked(told("accepted", "accepted"), told("repeated", "repeated"), STOPPED | {stopped(), stopped(f"1 {kind} repeated")}, between))
+
     def looks(one):
         twice(one, one)
 
@@ -70,6 +88,7 @@ def sent_twice():
     play.say("run")
     sends(RETAILER, "1004", "ORDERS", interchange(RETAILER, "1004", order("128578", supplier=BETA)))
     play.say("end")
+    sends_two(RETAILER, "1010", "ORDERS", interchange(RETAILER, "1010", order("128579", supplier=BETA), order("128580", supplier=BETA, reference=2)))
     looks(lambda: play.upload(RETAILER, "", "refused E06", outcome="bad"))
     looks(lambda: play.ask(RETAILER, "status", "denied", "denied\n"))
     looks(lambda: play.ask(ALPHA, "item 9", "unknown", "unknown\n"))
@@ -97,7 +116,7 @@ def sent_twice():
     wired(asking("GET", f"{path}/mail/item/1", ALPHA), FIRST_MAIL)
     wired(asking("GET", f"{path}/mail/after/3", ALPHA), "             4 ORDERS 128579\nend\n")
     wired(asking("POST", f"{path}/mail/item/4/taken", ALPHA, ""), "taken\n")
-    wired(asking("GET", f"/p/{RETAILER}/status/{BETA}", RETAILER), line_status("128578", "W", 48, 48, 0, 0, 0) + "\nend\n")
+    wired(asking("GET", f"/p/{RETAILER}/status/{BETA}", RETAILER), "".join(line_status(number, "W", 48, 48, 0, 0, 0) + "\n" for number in ("128578", "128579", "128580")) + "end\n")
     cancel = f"{ALPHA}\nC5\n128579\n1\n7\n"
     wired(asking("POST", f"/p/{RETAILER}/cancellations", RETAILER, cancel), "accepted\n", "repeated\n")
     wired(asking("GET", f"{path}/mail/item/x", ALPHA), "unknown\n", status=404)
@@ -125,7 +144,7 @@ def stops_of(output, asked):
         return None
     stops = 0
     for (first, second), one in zip(found, asked):
-        if first in one.stops and second == one.first or first == one.first and second in one.stops:
+        if first in one.stops and second == one.first or first == one.first and second in one.stops or second == one.between.get(first):
             stops += 1
         elif (first, second) != (one.first, one.again):
             return None

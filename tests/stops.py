@@ -1,47 +1,88 @@
 """A program that ends at each change of its database file or of the log beside it, in turn: what was told of stands afterwards,
-and of the rest at most one whole message more.
+and of the input in which it ended no message in part.
 
-Whatever the file then holds is what the hub had after so many messages, and the same inputs sent again bring it where it
-would have been. Each change is stopped in three ways: at once, with half of a write made, and with all lost that was not
-synced."""
+Whatever the file then holds is what the hub had after so many acts (a message, a cancellation or a taken mark each), and the
+same inputs sent again bring it where it would have been: of an upload of two messages whose first was kept the first is
+repeated, and the second accepted. Each change is stopped in three ways: at once, with half of a write made, and with all lost
+that was not synced."""
 import os
 import subprocess
 import tempfile
 from collections import Counter
 from concurrent.futures import ThreadPoolExecutor
+from dataclasses import dataclass
 
 from case import SECONDS
 from files import NAME, WORDS, is_whole
 from hubs import ALPHA, BETA, DESPATCH, ORDERS, OTHER_PALLET, RECEIPT, RESPONSE, RETAILER, SECOND
-from hubs import Play, despatch, interchange, response
+from hubs import Play, despatch, interchange, order, response
 
 SHIM = os.path.join(os.path.dirname(os.path.abspath(__file__)), "stop.c")
 WAYS = {"at once": {}, "torn": {"TORN": "1"}, "lost": {"LOST": "1"}}
 # how many changes there are at least
 FEWEST = 40
 # how many entries a mailbox has, and one more, and how much is looked at behind the inputs
-MAILS = 4
+MAILS = 5
 LOOKS = 2 * (2 + MAILS)
 
 
+@dataclass
+class Upload:
+    """An upload, by the type of each of its messages and by its text where it has so many of them."""
+
+    who: str
+    reference: str
+    kinds: list
+    texts: list
+
+    def acts(self):
+        return len(self.kinds)
+
+    def ask(self, play, count, done):
+        """Sends its first so many messages, of which some were taken before."""
+        told = (f"{k} {kind} {'repeated' if k <= done else 'accepted'}" for k, kind in enumerate(self.kinds[:count], 1))
+        play.upload(self.who, self.texts[count - 1], f"interchange {self.reference} messages {count}", *told)
+
+
+class Cancellation:
+    def acts(self):
+        return 1
+
+    def ask(self, play, count, done):
+        play.cancel("C1", 1, 10, "repeated" if done else "accepted")
+
+
+class Taken:
+    def acts(self):
+        return 1
+
+    def ask(self, play, count, done):
+        play.take(1)
+
+
 def inputs():
-    """Each input, and how it is answered the first time and again."""
-
-    def sends(who, reference, kind, text):
-        head = f"interchange {reference} messages 1"
-        return tuple(lambda play, told=told: play.upload(who, text, head, f"1 {kind} {told}") for told in ("accepted", "repeated"))
-
+    """All inputs, one after another."""
+    two = [order("128579", supplier=BETA), order("128580", reference=2)]
     return [
-        sends(RETAILER, "1001", "ORDERS", ORDERS),
-        sends(RETAILER, "1002", "ORDERS", SECOND),
-        sends(ALPHA, "S1", "ORDRSP", RESPONSE),
-        sends(ALPHA, "S2", "DESADV", DESPATCH),
-        sends(ALPHA, "S6", "DESADV", interchange(ALPHA, "S6", despatch("DA4", OTHER_PALLET, 12, order="128577"))),
-        sends(ALPHA, "S7", "ORDRSP", interchange(ALPHA, "S7", response("R2", 27, order="128577"))),
-        sends(RETAILER, "1005", "RECADV", RECEIPT),
-        tuple(lambda play, told=told: play.cancel("C1", 1, 10, told) for told in ("accepted", "repeated")),
-        (lambda play: play.take(1), lambda play: play.take(1)),
+        Upload(RETAILER, "1001", ["ORDERS"], [ORDERS]),
+        Upload(RETAILER, "1002", ["ORDERS"], [SECOND]),
+        Upload(ALPHA, "S1", ["ORDRSP"], [RESPONSE]),
+        Upload(ALPHA, "S2", ["DESADV"], [DESPATCH]),
+        Upload(ALPHA, "S6", ["DESADV"], [interchange(ALPHA, "S6", despatch("DA4", OTHER_PALLET, 12, order="128577"))]),
+        Upload(ALPHA, "S7", ["ORDRSP"], [interchange(ALPHA, "S7", response("R2", 27, order="128577"))]),
+        Upload(RETAILER, "1005", ["RECADV"], [RECEIPT]),
+        Upload(RETAILER, "1010", ["ORDERS", "ORDERS"], [interchange(RETAILER, "1010", *two[:count]) for count in (1, 2)]),
+        Cancellation(),
+        Taken(),
     ]
+
+
+def ends():
+    """How many acts there are in all at the end of so many inputs."""
+    found = [0]
+    for it in inputs():
+        found.append(found[-1] + it.acts())
+    return found
 
 
 def looks(play):
@@ -60,11 +101,13 @@ def with_looks(play):
     return play.script
 
 
-def script(count, again=0):
-    """The first inputs, of which some are sent again, and looks."""
+def script(acts, done=0):
+    """What makes so many acts, of which some were done before."""
     play = Play()
-    for place, (first, repeated) in enumerate(inputs()[:count]):
-        (repeated if place < again else first)(play)
+    for it, begun in zip(inputs(), ends()):
+        if begun < acts:
+            count = min(it.acts(), acts - begun)
+            it.ask(play, count, max(0, min(done - begun, count)))
     return play
 
 
@@ -73,9 +116,10 @@ class Stops:
         self.program, self.folder = program, folder
         self.shim = os.path.join(folder, "stop.so")
         subprocess.run(["cc", "-O2", "-shared", "-fPIC", "-o", self.shim, SHIM, "-ldl"], check=True)
-        self.count = len(inputs())
-        # what is seen after each number of inputs, over lists
-        self.seen = [self.after(number) for number in range(self.count + 1)]
+        self.ends = ends()
+        self.acts = self.ends[-1]
+        # what is seen after each number of acts, over lists
+        self.seen = [self.after(number) for number in range(self.acts + 1)]
 
     def play(self, text, folder, words=WORDS, **variables):
         ran = subprocess.run([self.program, *words], input=text, capture_output=True, cwd=folder, env=variables, timeout=SECONDS)
@@ -93,24 +137,26 @@ class Stops:
         """How many changes of the files there are."""
         count = os.path.join(self.folder, "count")
         with tempfile.TemporaryDirectory() as folder:
-            status, output = self.play(script(self.count).script, folder, LD_PRELOAD=self.shim, STOP_FILE=os.path.join(folder, NAME), COUNT=count)
-            if status or output != script(self.count).printed:
+            status, output = self.play(script(self.acts).script, folder, LD_PRELOAD=self.shim, STOP_FILE=os.path.join(folder, NAME), COUNT=count)
+            if status or output != script(self.acts).printed:
                 raise OSError(f"not stopped: {output!r:.300}")
         with open(count, encoding="ascii") as file:
             return int(file.read().split()[0])
 
     def told(self, output):
-        """How many inputs were answered, where each answer is right."""
+        """How many acts were answered, and how many may have been done, where each answer is right."""
         number = 0
-        while number < self.count and output.startswith(script(number + 1).printed):
+        while number < len(self.ends) - 1 and output.startswith(script(self.ends[number + 1]).printed):
             number += 1
-        return number if script(number).printed.startswith(output) or output == script(number).printed else None
+        told, most = self.ends[number], self.ends[min(number + 1, len(self.ends) - 1)]
+        return (told, most) if script(told).printed == output or script(most).printed.startswith(output) else None
 
     def stopped(self, number, way):
-        """What is wrong after a stop at the change of this number, or how many messages more were done than told of."""
+        """What is wrong after a stop at the change of this number, or how many acts more were done than told of, and whether the last of
+        them is in the midst of an upload."""
         with tempfile.TemporaryDirectory() as folder:
             variables = {"LD_PRELOAD": self.shim, "STOP_FILE": os.path.join(folder, NAME), "STOP": str(number), **WAYS[way]}
-            status, output = self.play(script(self.count).script, folder, **variables)
+            status, output = self.play(script(self.acts).script, folder, **variables)
             told = self.told(output)
             if status != 9 or told is None:
                 return f"stopped with {status}, {output!r:.200}"
@@ -118,16 +164,16 @@ class Stops:
                 if name.endswith(".synced"):
                     os.remove(os.path.join(folder, name))
             status, output = self.play(with_looks(Play()), folder)
-            found = [done for done in range(self.count + 1) if self.seen[done] == output]
-            fits = [done for done in found if told <= done <= told + 1]
+            found = [done for done in range(self.acts + 1) if self.seen[done] == output]
+            fits = [done for done in found if told[0] <= done <= told[1]]
             if status or not fits:
-                return f"told of {told}, then found {found}, {output!r:.200}"
-            # the last input shows only in the list, so that a state may be that of two numbers
-            rest = script(self.count, again=fits[0])
+                return f"told of {told[0]}, then found {found}, {output!r:.200}"
+            # the last act shows only in the list, so that a state may be that of two numbers
+            rest = script(self.acts, done=fits[0])
             status, output = self.play(with_looks(rest), folder)
             if status or output != rest.printed + self.seen[-1]:
-                return f"told of {told}, found {fits}, sent again: {output!r:.300}"
-            return is_whole(folder) or fits[0] - told
+                return f"told of {told[0]}, found {fits}, sent again: {output!r:.300}"
+            return is_whole(folder) or (fits[0] - told[0], fits[0] not in self.ends)
 
 
 def tried(program, folder):
@@ -138,9 +184,12 @@ def tried(program, folder):
     turns = [(number, way) for way in WAYS for number in range(1, changes + 1)]
     with ThreadPoolExecutor(len(os.sched_getaffinity(0))) as pool:
         found = list(pool.map(lambda turn: stops.stopped(*turn), turns))
-    wrong = [(turn, it) for turn, it in zip(turns, found) if not isinstance(it, int)]
-    counts = Counter(it for it in found if isinstance(it, int))
-    print(f"{changes} changes of the files stopped in turn, each in {len(WAYS)} ways: {counts[0]} left what was told of, {counts[1]} one message more")
+    wrong = [(turn, it) for turn, it in zip(turns, found) if isinstance(it, str)]
+    counts = Counter(it for it in found if not isinstance(it, str))
+    between = sum(count for (_, is_between), count in counts.items() if is_between)
+    print(f"{changes} changes of the files stopped in turn, each in {len(WAYS)} ways: {counts[0, False]} left what was told of, {between} the first of two messages")
+    if not wrong and not between:
+        return "no stop between the two messages of an upload"
     return f"{len(wrong)} wrong, first {wrong[0]}" if wrong else None
 
 

@@ -34,7 +34,7 @@ fn finish<S: Store>(store: &mut S, verdict: &Verdict, reply: Reply) -> Result<Re
 }
 
 /// Takes a cancellation of the retailer: judges it, and commits what comes of it as one act. The reply is made before.
-/// At a fault no_answer was done.
+/// At a fault nothing was done.
 pub fn take_cancel<S: Store>(
     alloc: Global,
     register: &Register,

@@ -93,7 +93,7 @@ fn only(alloc: Global, change: Change) -> Result<Items<Change>, MemoryFault>
 }
 
 /// Marks a mailbox entry as taken; one that is taken stays so, and is not written again. The reply is made before. At a
-/// fault no_answer was done.
+/// fault nothing was done.
 pub fn take_entry<S: Store>(
     alloc: Global,
     store: &mut S,
