@@ -1,7 +1,6 @@
 -- What is known of an advice that was read, without its definition.
-use Rattle.std.proofs.Common.{◌≡◌, ◌&&◌, not, ℕ, List, [], ◌∷◌, map, true, false, codes, Option, None, Ok, refl, sym, ap, ◌∙◌}
+use Rattle.std.proofs.Common.{◌≡◌, ◌&&◌, not, ℕ, List, [], ◌∷◌, map, true, false, Option, None, Ok, refl, sym, ap, ◌∙◌}
 use Rattle.std.specs.List.{list_all}
-use Rattle.std.specs.Str.{bytes_eq}
 use Rattle.std.proofs.lemmas.Bool.{not-true, not-false, and_parts, and_from}
 use Rattle.std.proofs.lemmas.Simd.{map-map}
 use Rattle.edi_base.specs.Seen.{has_twice}
@@ -9,20 +8,16 @@ use Rattle.edi_segments.specs.declared.segment.Segment.{Segment}
 use Rattle.edi_envelope.specs.declared.interchange.RawMessage.{RawMessage}
 use Rattle.edi_messages.specs.Fault.{faults, unless}
 use Rattle.edi_messages.specs.Parts.{line_groups}
-use Rattle.edi_messages.specs.Header.{is_type, begins_as, function, has_date}
-use Rattle.edi_messages.specs.Summary.{line_count, is_controlled}
 use Rattle.edi_messages.specs.declared.fault.MessageFault.{MessageFault}
-use Rattle.edi_messages.specs.declared.fault.MessageFault.TheVariants.{MessageType, Beginning, Function, Date, Parties}
-use Rattle.edi_messages.specs.declared.fault.MessageFault.TheVariants.{Summary, Line, Quantity, Reference, Unit}
-use Rattle.edi_messages.specs.declared.fault.MessageFault.TheVariants.{Control, NoLine, Memory}
-use Rattle.edi_messages.proofs.Judged.{judged_is, judged_at, judged_when, some_counted}
+use Rattle.edi_messages.specs.declared.fault.MessageFault.TheVariants.{Quantity, Unit}
+use Rattle.edi_messages.proofs.Judged.{judged_is, judged_at}
 use Rattle.edi_goods.specs.Despatch.{holds as despatch_holds, header_order, unit_from as despatch_unit}
 use Rattle.edi_goods.specs.Despatch.{contents_of as despatch_contents, despatch_of, line_faults as despatch_line_faults}
 use Rattle.edi_goods.specs.Despatch.{lowest as despatch_lowest}
-use Rattle.edi_goods.specs.Parties.{has_parties}
 use Rattle.edi_goods.specs.Receipt.{is_received, lines_in_unit, has_sums, has_quantities, holds as receipt_holds}
 use Rattle.edi_goods.specs.Receipt.{unit_from as receipt_unit, contents_of as receipt_contents, receipt_of}
-use Rattle.edi_goods.specs.Units.{read_units, has_lines, has_line_outside, is_unit, has_units, sscc_or_none}
+use Rattle.edi_goods.specs.Receipt.{line_faults as receipt_line_faults, lowest as receipt_lowest}
+use Rattle.edi_goods.specs.Units.{read_units, has_line_outside, is_unit, has_units, sscc_or_none}
 use Rattle.edi_goods.specs.declared.despatch.Despatch.{Despatch}
 use Rattle.edi_goods.specs.declared.despatch.Unit.{Unit as DespatchUnit}
 use Rattle.edi_goods.specs.declared.receipt.Receipt.{Receipt}
@@ -93,36 +88,14 @@ despatch_apart m despatch h =
 
 -- the receiving advice of a message in which no condition holds
 pub receipt_when : (m : RawMessage) (receipt : Receipt)
-    → is_type (codes "RECADV") m ≡ true
-    → begins_as (codes "632") m.segments ≡ true
-    → bytes_eq (function m.segments) (codes "9") ≡ true
-    → has_date m.segments ≡ true
-    → has_parties m.segments ≡ true
-    → list_all has_lines (read_units m.segments) ≡ true
-    → list_all has_quantities (read_units m.segments) ≡ true
-    → has_units m.segments ≡ true
-    → is_controlled m.segments ≡ true
-    → (line_count m.segments ≡ 0 → ⊥)
+    → receipt_lowest faults m ≡ receipt_lowest receipt_line_faults m
+    → receipt_lowest receipt_line_faults m ≡ None
     → receipt_contents m.segments ≡ receipt
     → receipt_of m ≡ Ok receipt
 unfolding receipt_of
-receipt_when m receipt type begun new dated parties lined counted units controlled some same =
-    judged_when (λ fault. receipt_holds fault m) (receipt_contents m.segments) receipt none same
-  where
-    none : (fault : MessageFault) → receipt_holds fault m ≡ false
-    none MessageType = ap not type
-    none Beginning = ap not begun
-    none Function = ap not new
-    none Date = ap not dated
-    none Parties = ap not parties
-    none Summary = refl
-    none Line = ap not lined
-    none Quantity = ap not counted
-    none Reference = refl
-    none Unit = ap not units
-    none Control = ap not controlled
-    none NoLine = some_counted (line_count m.segments) some
-    none Memory = refl
+receipt_when m receipt headed none same =
+    ap (λ (found : Option MessageFault). unless found (receipt_contents m.segments)) (headed ∙ none)
+    ∙ ap (λ (right : Receipt). Ok right) same
 
 -- the despatch advice of a message in which no condition holds
 pub despatch_when : (m : RawMessage) (despatch : Despatch)

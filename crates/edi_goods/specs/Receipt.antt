@@ -1,5 +1,6 @@
 -- The receiving advice that a message is (RECADV), or its message fault.
-use Rattle.std.specs.Prelude.{ℕ, ◌==◌, Bool, false, not, ◌&&◌, ◌||◌, List, [], map, is_some, codes, Option, Result}
+use Rattle.std.specs.Prelude.{ℕ, ◌==◌, Bool, false, not, ◌&&◌, ◌||◌, List, [], ◌∷◌, map, find, is_some, codes, Option}
+use Rattle.std.specs.Prelude.{Result}
 use Rattle.std.specs.List.{list_all}
 use Rattle.std.specs.Option.{unwrap_or}
 use Rattle.std.specs.Str.{bytes_eq}
@@ -88,6 +89,18 @@ holds Unit m = not (has_units m.segments)
 holds Control m = not (is_controlled m.segments)
 holds NoLine m = line_count m.segments == 0
 holds Memory m = false
+
+-- the lowest of these faults whose condition holds
+abbrev pub lowest : List MessageFault → RawMessage → Option MessageFault
+lowest among m = find (λ fault. holds fault m) among
+
+-- the faults of units, and those behind them
+abbrev pub unit_faults : List MessageFault
+unit_faults = Reference ∷ Unit ∷ Control ∷ NoLine ∷ []
+
+-- the faults of lines, and those behind them
+abbrev pub line_faults : List MessageFault
+line_faults = Line ∷ Quantity ∷ unit_faults
 
 abbrev pub unit_from : List Segment → ReceiptUnit
 unit_from unit = record { sscc = sscc_or_none unit; lines = lines_in_unit unit }

@@ -1,13 +1,16 @@
 //! Receiving advices (RECADV).
-ghost use Rattle.std.specs.Prelude.{◌≡◌, ◌≢◌, IfOk, IfErr, Ok, Err, true, false, map};
+ghost use Rattle.std.specs.Prelude.{◌≡◌, ◌≢◌, IfOk, IfErr, Ok, Err, Some, None, true, false, codes, map};
 ghost use Rattle.std.specs.List.{list_all};
 ghost use Rattle.edi_base.specs.Seen.{has_twice};
+ghost use Rattle.edi_messages.specs.Fault.{faults};
+ghost use Rattle.edi_messages.specs.Header.{party};
+ghost use Rattle.edi_goods.specs.Parties.{buyer};
 ghost use Rattle.edi_goods.specs.Receipt as spec;
-ghost use Rattle.edi_goods.specs.Units.{sscc_or_none};
+ghost use Rattle.edi_goods.specs.Units.{has_units, read_units, sscc_or_none};
 
-use crate::parties::read_parties;
+use crate::parties::{Parties, read_parties};
 use crate::received::{ReceivedUnit, received_units};
-use crate::units::{item_units, ssccs};
+use crate::units::{ItemUnit, item_units, ssccs};
 use edi_base::copied;
 use edi_envelope::RawMessage;
 use edi_messages::MessageFault;
@@ -75,6 +78,68 @@ fn units_of(
     Ok(read)
 }
 
+// The parties, or the lowest fault of what stands before the lines.
+fn read_heading(message: &RawMessage) -> Result<Parties, MessageFault>
+    ensures said { IfOk result (λ parties. (parties.buyer ≡ buyer message.now.segments)
+        × (party (codes "SU") message.now.segments ≡ Some parties.supplier)) }
+    ensures ok { IfOk result (λ _. spec.lowest faults message.now ≡ spec.lowest spec.line_faults message.now) }
+    ensures err { IfErr result (λ fault. spec.lowest faults message.now ≡ Some fault) }
+{
+    let segments = message.segments.as_slice();
+    if !is_type(b"RECADV", message) {
+        return Err(MessageFault::MessageType);
+    }
+    if !begins_as(b"632", segments) {
+        return Err(MessageFault::Beginning);
+    }
+    if function(segments) != b"9".as_slice() {
+        return Err(MessageFault::Function);
+    }
+    if !has_date(segments) {
+        return Err(MessageFault::Date);
+    }
+    read_parties(segments)
+}
+
+// The units of the record, or the lowest fault of them and of what is judged behind them.
+fn read_identified(
+    alloc: Global,
+    message: &RawMessage,
+    items: &[ItemUnit<'_>],
+    received: &[ReceivedUnit<'_, '_>],
+) -> Result<Items<ReceiptUnit>, MessageFault>
+    requires items { items.now ≡ read_units message.now.segments }
+    requires received { received.now ≡ read_units message.now.segments }
+    ensures said { IfOk result (λ units. units ≡ map spec.unit_from (read_units message.now.segments)) }
+    ensures units { IfOk result (λ _. has_units message.now.segments ≡ true) }
+    ensures ok { IfOk result (λ _. spec.lowest spec.unit_faults message.now ≡ None) }
+    ensures err { IfErr result (λ fault. fault ≢ MessageFault.Memory → spec.lowest spec.unit_faults message.now ≡ Some fault) }
+{
+    let segments = message.segments.as_slice();
+    let ssccs = ssccs(alloc, items, segments)?;
+    if !is_controlled(segments) {
+        return Err(MessageFault::Control);
+    }
+    if line_count(segments) == 0 {
+        return Err(MessageFault::NoLine);
+    }
+    let units = units_of(alloc, received, ssccs.as_slice())?;
+    Ok(units)
+}
+
+// The units of the record, or the lowest fault of their lines and of what is judged behind these.
+fn read_received(alloc: Global, message: &RawMessage) -> Result<Items<ReceiptUnit>, MessageFault>
+    ensures said { IfOk result (λ units. units ≡ map spec.unit_from (read_units message.now.segments)) }
+    ensures units { IfOk result (λ _. has_units message.now.segments ≡ true) }
+    ensures quantities { IfOk result (λ _. list_all spec.has_quantities (read_units message.now.segments) ≡ true) }
+    ensures ok { IfOk result (λ _. spec.lowest spec.line_faults message.now ≡ None) }
+    ensures err { IfErr result (λ fault. fault ≢ MessageFault.Memory → spec.lowest spec.line_faults message.now ≡ Some fault) }
+{
+    let items = item_units(alloc, message.segments.as_slice())?;
+    let received = received_units(alloc, items.as_slice())?;
+    read_identified(alloc, message, items.as_slice(), received.as_slice())
+}
+
 impl Receipt {
     /// The receiving advice that a message is: RECADV of the directory D.01B with BGM 1001 632 and 1225 9, one document
     /// date, one supplier and at most one buyer, and units with lines, each unit with an identifier and an SSCC of its own,
@@ -87,34 +152,14 @@ impl Receipt {
         ensures sums { IfOk result (λ receipt. list_all (λ unit. spec.has_sums unit.lines) receipt.units ≡ true) }
         ensures err { IfErr result (λ fault. fault ≢ MessageFault.Memory → spec.receipt_of message.now ≡ Err fault) }
     {
-        let segments = message.segments.as_slice();
-        if !is_type(b"RECADV", message) {
-            return Err(MessageFault::MessageType);
-        }
-        if !begins_as(b"632", segments) {
-            return Err(MessageFault::Beginning);
-        }
-        if function(segments) != b"9".as_slice() {
-            return Err(MessageFault::Function);
-        }
-        if !has_date(segments) {
-            return Err(MessageFault::Date);
-        }
-        let parties = read_parties(segments)?;
-        let items = item_units(alloc, segments)?;
-        let received = received_units(alloc, items.as_slice())?;
-        let ssccs = ssccs(alloc, items.as_slice(), segments)?;
-        if !is_controlled(segments) {
-            return Err(MessageFault::Control);
-        }
-        if line_count(segments) == 0 {
-            return Err(MessageFault::NoLine);
-        }
+        let parties = read_heading(message)?;
+        let units = read_received(alloc, message)?;
+        let number = copied(alloc, document_number(message.segments.as_slice()))?;
         Ok(Receipt {
-            number: copied(alloc, document_number(segments))?,
+            number,
             buyer: parties.buyer,
             supplier: parties.supplier,
-            units: units_of(alloc, received.as_slice(), ssccs.as_slice())?,
+            units,
         })
     }
 }

@@ -5,7 +5,7 @@ ghost use Rattle.edi_base.specs.Seen.{has_twice};
 ghost use Rattle.gs1_ids.specs.Sscc.{under_some};
 ghost use Rattle.hub_tables.specs.Tables.{Tables};
 ghost use Rattle.hub_tables.specs.declared.cases.Side.TheVariants.{Supplier};
-ghost use Rattle.hub_tables.specs.declared.change.Change.TheVariants.{Remember};
+ghost use Rattle.hub_tables.specs.declared.change.Change.TheVariants.{AddAdvice, Remember};
 ghost use Rattle.hub_lines.specs.declared.facts.LineFacts.{LineFacts};
 ghost use Rattle.hub_rules.specs.Judging.{joined};
 ghost use Rattle.hub_rules.specs.RepeatRules.{remembered};
@@ -165,6 +165,27 @@ fn judge_units<'a>(
     Ok(Verdict::Accept(changes))
 }
 
+// What comes first of an advice that is taken: it is remembered, and so is its number.
+fn remembered_with_number(
+    alloc: Global,
+    row: &SupplierRow,
+    incoming: IncomingMessage,
+    number: &[u8],
+) -> Result<Items<Change>, MemoryFault>
+    ensures { IfOk result (λ changes.
+        changes ≡ Remember (remembered (rules.referred_by row.now Supplier incoming) incoming.content)
+        ∷ AddAdvice (record { supplier = row.now.gln; number = number.now }) ∷ []) }
+{
+    let advice = AdviceRow {
+        supplier: row.gln,
+        number: copied(alloc, number)?,
+    };
+    let mut changes = Items::new(alloc);
+    changes.push(remember(row.gln, Side::Supplier, incoming))?;
+    changes.push(Change::AddAdvice(advice))?;
+    Ok(changes)
+}
+
 // What comes of a DESADV that is admitted and new, and whose number is not known: it is remembered, and its units are
 // judged.
 fn judge_new(
@@ -181,22 +202,16 @@ fn judge_new(
         verdict ≡ joined (Remember (remembered (rules.referred_by row.now Supplier incoming) incoming.content)
         ∷ []) (despatch_from row.now despatch.now known)) }
 {
+    let changes = remembered_with_number(alloc, row, incoming, despatch.number.as_slice())?;
     let Known {
         orders,
         lines,
         used,
         ..
     } = known;
+    let book = Book::new(alloc, lines)?;
     let orders = orders.as_slice();
     let numbers = OrderNumbers::new(alloc, orders)?;
-    let book = Book::new(alloc, lines)?;
-    let advice = AdviceRow {
-        supplier: row.gln,
-        number: copied(alloc, despatch.number.as_slice())?,
-    };
-    let mut changes = Items::new(alloc);
-    changes.push(remember(row.gln, Side::Supplier, incoming))?;
-    changes.push(Change::AddAdvice(advice))?;
     let used = used.as_slice();
     let verdict = judge_units(alloc, row, despatch, &numbers, used, book, changes)?;
     Ok(verdict)

@@ -1,12 +1,18 @@
 //! Mailbox entries (B16).
-ghost use Rattle.std.specs.Prelude.{◌≡◌, ◌+◌, ◌<◌, false, IfOk};
+ghost use Rattle.std.specs.Prelude.{◌≡◌, ◌+◌, ◌<◌, [], ◌∷◌, false, IfOk};
+ghost use Rattle.hub_tables.specs.declared.cases.Side.TheVariants as sides;
+ghost use Rattle.hub_tables.specs.declared.change.Change.TheVariants.{Remember};
 ghost use Rattle.hub_rules.specs.MailboxRules as mailbox;
+ghost use Rattle.hub_rules.specs.RepeatRules.{remembered};
+ghost use Rattle.hub_rules.specs.Rules.{referred_by};
 
+use crate::remembering::remember;
 use edi_base::{Items, MemoryFault, copied};
 use edi_envelope::LAST_MAIL_NUMBER;
 use gs1_ids::Gln;
+use hub_parties::SupplierRow;
 use hub_rules::IncomingMessage;
-use hub_tables::{Change, Column, MailKind, MailRow};
+use hub_tables::{Change, Column, MailKind, MailRow, Side};
 use std::alloc::Global;
 
 /// Whether a mailbox that has so many entries has no number left for one more.
@@ -40,4 +46,27 @@ pub(crate) fn new_mail(
         body,
         taken: Column::of(false),
     }))
+}
+
+/// What comes first of a message of the retailer that is taken: it is remembered, and mailed to the supplier, whose mailbox has
+/// so many entries.
+pub(crate) fn remembered_and_mailed(
+    alloc: Global,
+    row: &SupplierRow,
+    mails: u64,
+    incoming: IncomingMessage,
+    kind: MailKind,
+    document: &[u8],
+    body: Items<u8>,
+) -> Result<Items<Change>, MemoryFault>
+    requires { mails < LAST_MAIL_NUMBER }
+    ensures { IfOk result (λ changes.
+        changes ≡ Remember (remembered (referred_by row.now sides.Retailer incoming) incoming.content)
+        ∷ mailbox.mail_entry row.now.gln (mails + 1) incoming kind document.now body ∷ []) }
+{
+    let mail = new_mail(alloc, row.gln, mails, &incoming, kind, document, body)?;
+    let mut changes = Items::new(alloc);
+    changes.push(remember(row.gln, Side::Retailer, incoming))?;
+    changes.push(mail)?;
+    Ok(changes)
 }

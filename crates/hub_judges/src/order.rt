@@ -11,16 +11,16 @@ ghost use Rattle.hub_rules.specs.Rules as rules;
 ghost use Rattle.hub_judges.specs.Known.{TellsForOrder};
 
 use crate::known::Known;
-use crate::mail::{is_full, new_mail};
+use crate::mail::{is_full, remembered_and_mailed};
 use crate::party::admitted;
-use crate::remembering::{remember, repeats};
+use crate::remembering::repeats;
 use edi_base::{Items, MemoryFault, copied};
 use edi_envelope::LAST_MAIL_NUMBER;
 use edi_orders::Order;
 use gs1_ids::Gln;
 use hub_parties::SupplierRow;
 use hub_rules::{Code, IncomingMessage, Verdict};
-use hub_tables::{Answered, Change, Column, LineRow, MailKind, OrderRow, Side};
+use hub_tables::{Answered, Change, Column, LineRow, MailKind, OrderRow};
 use std::alloc::Global;
 
 // Puts the lines of a new order after the changes.
@@ -65,18 +65,8 @@ fn new_order(
         ∷ map (new_line row.now.gln order.now.number) order.now.lines) }
 {
     let number = order.number.as_slice();
-    let mail = new_mail(
-        alloc,
-        row.gln,
-        mails,
-        &incoming,
-        MailKind::Orders,
-        number,
-        body,
-    )?;
-    let mut changes = Items::new(alloc);
-    changes.push(remember(row.gln, Side::Retailer, incoming))?;
-    changes.push(mail)?;
+    let kind = MailKind::Orders;
+    let mut changes = remembered_and_mailed(alloc, row, mails, incoming, kind, number, body)?;
     changes.push(Change::AddOrder(OrderRow {
         supplier: row.gln,
         number: copied(alloc, number)?,

@@ -11,16 +11,16 @@ ghost use Rattle.hub_judges.specs.FromFacts.{received, receipts_from};
 ghost use Rattle.hub_judges.specs.Known.{TellsForReceipt};
 
 use crate::known::Known;
-use crate::mail::{is_full, new_mail};
+use crate::mail::{is_full, remembered_and_mailed};
 use crate::party::admitted;
-use crate::remembering::{remember, repeats};
+use crate::remembering::repeats;
 use crate::totals::totals_of;
 use edi_base::{Items, MemoryFault, copied};
 use edi_goods::{Receipt, ReceiptUnit};
 use gs1_ids::Gln;
 use hub_parties::SupplierRow;
 use hub_rules::{Code, IncomingMessage, Verdict};
-use hub_tables::{Arrival, Change, Column, MailKind, PalletRow, ReceiptRow, Side};
+use hub_tables::{Arrival, Change, Column, MailKind, PalletRow, ReceiptRow};
 use std::alloc::Global;
 
 // Puts what is received of the articles of a unit after the changes, each article once, in the order in which they first come.
@@ -120,18 +120,8 @@ pub fn judge_receipt(
         return Ok(Verdict::Refuse(Code::MailboxFull));
     }
     let number = receipt.number.as_slice();
-    let mail = new_mail(
-        alloc,
-        row.gln,
-        known.mails,
-        &incoming,
-        MailKind::Receipt,
-        number,
-        body,
-    )?;
-    let mut changes = Items::new(alloc);
-    changes.push(remember(row.gln, Side::Retailer, incoming))?;
-    changes.push(mail)?;
+    let kind = MailKind::Receipt;
+    let changes = remembered_and_mailed(alloc, row, known.mails, incoming, kind, number, body)?;
     let units = receipt.units.as_slice();
     let pallets = known.pallets.as_slice();
     judge_units(alloc, units, pallets, changes)

@@ -26,11 +26,7 @@ returns c =
     c.as_slice-used.result.now c.in_ok-book.book
     ∙ ap₂ (λ flags lines. units_from s despatch.number known.orders despatch.units flags lines) c.as_slice-used.ensures
     c.in_ok-book.ensures.value in
-    let changes = c.in_ok-push-2.ensures.ok
-    ∙ ap₂ (λ changes number. changes ++ advice number ∷ [])
-    (c.in_ok-push.ensures.ok ∙ ap₂
-    (λ changes change. changes ++ change ∷ []) c.new-changes.ensures c.remember.ensures)
-    (c.in_ok-copied.ensures ∙ c.as_slice.ensures) in
+    let changes = c.in_ok-changes.ensures ∙ ap (λ number. first ++ advice number ∷ []) c.as_slice.ensures in
     c.in_ok-verdict.ensures
     ∙ ap₂ joined changes of_code
     ∙ joined_grouped first (advice despatch.number ∷ []) units

@@ -1,4 +1,4 @@
-use Rattle.std.proofs.Common.{◌≡◌, ◌+◌, List, ◌∷◌, [], ◌++◌, sym, ◌∙◌, ap, ap₂, rules}
+use Rattle.std.proofs.Common.{◌≡◌, ◌+◌, ◌∷◌, [], sym, ◌∙◌, ap, ap₂, rules}
 use Rattle.std.proofs.lemmas.Result.{IfOk-weaker}
 use Rattle.hub_tables.specs.Change.{apply}
 use Rattle.hub_tables.specs.State.{remembered_of}
@@ -26,15 +26,11 @@ returns c =
     let reference = referred_by s sides.Retailer incoming in
     let memory : Change = Remember (remembered reference incoming.content) in
     let entry : Change = mail_entry s.gln (known.mails + 1) incoming kinds.Receipt receipt.number body in
-    let mail : c.in_ok-mail.mail ≡ entry =
-    c.in_ok-mail.ensures
-    ∙ ap (λ number. mail_entry s.gln (known.mails + 1) incoming kinds.Receipt number body) c.as_slice-number.ensures in
-    let changes : c.push-2.new.self ≡ memory ∷ entry ∷ [] =
-    c.in_ok-push-2.ensures.ok
-    ∙ ap₂ (λ (before : List Change) one. before ++ one ∷ []) (c.in_ok-push.ensures.ok
-    ∙ ap₂ (λ (before : List Change) one. before ++ one ∷ []) c.new-changes.ensures c.remember.ensures) mail in
+    let changes : c.in_ok-changes.changes ≡ memory ∷ entry ∷ [] =
+    c.in_ok-changes.ensures
+    ∙ ap (λ number. memory ∷ mail_entry s.gln (known.mails + 1) incoming kinds.Receipt number body ∷ []) c.as_slice-number.ensures in
     IfOk-weaker c.judge_units.result (λ verdict.
-    verdict ≡ joined c.push-2.new.self (receipts_from c.as_slice-units.result.now c.as_slice-pallets.result.now)) _
+    verdict ≡ joined c.in_ok-changes.changes (receipts_from c.as_slice-units.result.now c.as_slice-pallets.result.now)) _
     (λ verdict judged state told.
     let row = remembered_of state sides.Retailer incoming.control incoming.message in
     let fresh : Verdict = joined (memory ∷ []) (judge_new_receipt s.gln incoming body receipt (apply memory state)) in
@@ -51,5 +47,5 @@ returns c =
     (sym c.is_full.ensures.value ∙ c.if-is_full.false) told.mails told.pallets c.requires.apart
     )) c.judge_units.ensures
 
-pub new_mail-requires : goal.new_mail-requires
-new_mail-requires c = search rules
+pub remembered_and_mailed-requires : goal.remembered_and_mailed-requires
+remembered_and_mailed-requires c = search rules
