@@ -29,6 +29,7 @@ class Spent:
     """What the descendants of one process take, from when it is made until it is ended."""
 
     def __init__(self, root):
+        # of each process, by its number and its start: the one above it, what it works on, and its seconds
         self.root, self.seen, self.over = root, {}, threading.Event()
         self.thread = threading.Thread(target=self.watch, daemon=True)
         self.thread.start()
@@ -45,26 +46,29 @@ class Spent:
             except (OSError, ValueError, IndexError):
                 continue
         for pid, (start, parent, seconds) in now.items():
-            at, steps = pid, 0
-            while at in now and at != self.root and steps < 50:
-                at, steps = now[at][1], steps + 1
-            if at != self.root or pid == self.root:
+            if pid == self.root or not self.is_below(pid, now):
                 continue
-            if (pid, start) not in self.seen:
-                try:
-                    work = work_of(pid)
-                except (OSError, ValueError, IndexError):
-                    work = None
-                above = self.seen.get((parent, now[parent][0])) if parent in now else None
-                self.seen[pid, start] = [work or (above[0] if above else None), 0.0]
-            self.seen[pid, start][1] = seconds
+            one = self.seen.setdefault((pid, start), [None, None, 0.0])
+            one[0], one[2] = (parent, now[parent][0]), seconds
+            try:
+                # it is not known before the process has become the program that it runs
+                one[1] = one[1] or work_of(pid)
+            except (OSError, ValueError, IndexError):
+                continue
+
+    def is_below(self, pid, now):
+        while pid in now and pid != self.root:
+            pid = now[pid][1]
+        return pid == self.root
 
     def end(self):
         """Minutes by crate: what its proofs, its tests and its edits took; beside them what no crate is named for."""
         self.over.set()
         self.thread.join()
         table, rest = defaultdict(lambda: {"proofs": 0.0, "tests": 0.0, "edits": 0.0}), 0.0
-        for work, seconds in self.seen.values():
+        for above, work, seconds in self.seen.values():
+            while not work and above in self.seen:
+                above, work, _ = self.seen[above]
             if work:
                 table[work[0]][work[1]] += seconds / 60
             else:

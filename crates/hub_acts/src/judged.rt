@@ -172,10 +172,13 @@ pub(crate) fn judged_for_retailer<S: Store>(
         (UnreadOf (deliver_named register.now (message.now, incoming))) (S.broken store.old) (S.broken store.new) result }
     ensures stays { Stays S.content S.honest S.left store.old store.new }
 {
-    match message.kind.as_slice() {
-        b"ORDERS" => judged_order(alloc, register, store, message, incoming),
-        b"RECADV" => judged_receipt(alloc, register, store, message, incoming),
-        _ => Ok(Judged::Unread(MessageFault::MessageType)),
+    let kind = message.kind.as_slice();
+    if kind == b"ORDERS".as_slice() {
+        judged_order(alloc, register, store, message, incoming)
+    } else if kind == b"RECADV".as_slice() {
+        judged_receipt(alloc, register, store, message, incoming)
+    } else {
+        Ok(Judged::Unread(MessageFault::MessageType))
     }
 }
 
@@ -196,9 +199,12 @@ pub(crate) fn judged_for_supplier<S: Store>(
         (message.now, incoming))) (S.broken store.old) (S.broken store.new) result }
     ensures stays { Stays S.content S.honest S.left store.old store.new }
 {
-    match message.kind.as_slice() {
-        b"ORDRSP" => judged_response(alloc, register, supplier, store, message, incoming),
-        b"DESADV" => judged_despatch(alloc, register, supplier, store, message, incoming),
-        _ => Ok(Judged::Unread(MessageFault::MessageType)),
+    let kind = message.kind.as_slice();
+    if kind == b"ORDRSP".as_slice() {
+        judged_response(alloc, register, supplier, store, message, incoming)
+    } else if kind == b"DESADV".as_slice() {
+        judged_despatch(alloc, register, supplier, store, message, incoming)
+    } else {
+        Ok(Judged::Unread(MessageFault::MessageType))
     }
 }
