@@ -1,12 +1,11 @@
-use crate::doubles::{Dribble, outcome, sink_with_room};
+use crate::doubles::{Dribble, sink_with_room, took_front};
 use edi_base::*;
-use std::alloc::Global;
+use std::alloc::{AllocError, Global};
 use std::io;
 use std::io::{Error, ErrorKind, Read};
-use std::test::*;
 
 /// So many bytes, none of them equal to one beside it.
-fn bytes_of(alloc: Global, size: usize) -> Result<Vec<u8>, Fail> {
+fn bytes_of(alloc: Global, size: usize) -> Result<Vec<u8>, AllocError> {
     let mut bytes = Vec::new(alloc);
     for index in 0..size {
         bytes.push((index % 251) as u8)?;
@@ -14,36 +13,61 @@ fn bytes_of(alloc: Global, size: usize) -> Result<Vec<u8>, Fail> {
     Ok(bytes)
 }
 
-#[test]
-fn items_are_those_of_a_vector(rt: HostRuntime) -> Result<(), Fail> {
-    let mut items = Items::new(rt.alloc());
-    let is_empty = items.is_empty();
+const TWO: &[u8] = b"\x07\x05";
+
+// What is empty, and then has the two bytes.
+fn two_items(alloc: Global) -> Result<(bool, Items<u8>), AllocError> {
+    let mut items = Items::new(alloc);
+    let was_empty = items.is_empty();
     items.push(7u8)?;
     items.push(5)?;
-    let found = (is_empty, items.is_empty(), items.len(), items.as_slice());
-    assert_eq!(rt; found, (true, false, 2, b"\x07\x05".as_slice()));
-    let again = Items::from_vec(items.into_vec());
-    let copy = copied(rt.alloc(), b"\x00\xff")?;
-    let found = (again.as_slice(), copy.as_slice());
-    assert_eq!(rt; found, (b"\x07\x05".as_slice(), b"\x00\xff".as_slice()));
-    Ok(())
+    Ok((was_empty, items))
+}
+
+fn has_two_bytes(items: &Items<u8>) -> bool {
+    !items.is_empty() && items.len() == 2 && items.as_slice() == TWO
+}
+
+fn is_copied(alloc: Global, bytes: &[u8]) -> Result<bool, AllocError> {
+    Ok(copied(alloc, bytes)?.as_slice() == bytes)
 }
 
 #[test]
-fn a_failed_write_leaves_a_front_of_the_bytes(rt: HostRuntime) -> Result<(), Fail> {
+fn items_are_those_of_a_vector(rt: HostRuntime) -> Result<(), AllocError> {
+    assert!(rt; is_copied(rt.alloc(), b"\x00\xff")?);
+    let (was_empty, items) = two_items(rt.alloc())?;
+    assert!(rt; was_empty && has_two_bytes(&items));
+    let again = Items::from_vec(items.into_vec());
+    assert!(rt; again.as_slice() == TWO);
+    Ok(())
+}
+
+// Writes alone, so that what the contract says burdens no test.
+fn write(bytes: &[u8], sink: &mut OfWrite<Dribble>) -> Result<(), WriteFault> {
+    write_bytes(bytes, sink)
+}
+
+fn is_front_written(alloc: Global, bytes: &[u8], room: usize, fails: bool) -> bool {
+    let mut sink = sink_with_room(alloc, room, fails);
+    let wrote = write(bytes, &mut sink);
+    took_front(wrote, sink, bytes, room)
+}
+
+// The same for a writer that fails, and for one that takes nothing.
+fn are_fronts_written(alloc: Global, bytes: &[u8], room: usize) -> bool {
+    is_front_written(alloc, bytes, room, true) && is_front_written(alloc, bytes, room, false)
+}
+
+static ROOMS: [usize; 6] = [0, 1, 100, 254, 255, 256];
+
+#[test]
+fn a_failed_write_leaves_a_front_of_the_bytes(rt: HostRuntime) -> Result<(), AllocError> {
     let bytes = bytes_of(rt.alloc(), 255)?;
-    for room in [0, 1, 100, 254, 255, 256] {
-        for fails in [true, false] {
-            let mut sink = sink_with_room(rt.alloc(), room, fails);
-            let result = write_bytes(&bytes, &mut sink);
-            let (is_ok, failed, written) = outcome(result, sink);
-            let front = bytes.as_slice().get(..room.min(255));
-            assert_eq!(rt;
-                (is_ok, failed, Some(written.as_slice())),
-                (room >= 255, room < 255, front),
-                "room {room}"
-            );
-        }
+    for room in &ROOMS {
+        assert!(rt;
+            are_fronts_written(rt.alloc(), &bytes, *room),
+            "room {room}"
+        );
     }
     Ok(())
 }
@@ -66,22 +90,24 @@ fn put_pieces(bytes: &[u8], sizes: &[usize], out: &mut OfWrite<Dribble>) -> Resu
     buffer.flush(out)
 }
 
-#[test]
-fn bytes_that_wait_are_written_in_their_order(rt: HostRuntime) -> Result<(), Fail> {
-    let bytes = bytes_of(rt.alloc(), 5000)?;
+fn are_pieces_written(alloc: Global, bytes: &[u8], room: usize, fails: bool) -> bool {
     let sizes = [0usize, 1, 1000, 23, 1, 1024, 1025, 600, 500];
-    for room in [0, 1, 1023, 1024, 1025, 4999, 5000, 5001] {
-        for fails in [true, false] {
-            let mut sink = sink_with_room(rt.alloc(), room, fails);
-            let result = put_pieces(&bytes, &sizes, &mut sink);
-            let (is_ok, failed, written) = outcome(result, sink);
-            let front = bytes.as_slice().get(..room.min(5000));
-            assert_eq!(rt;
-                (is_ok, failed, Some(written.as_slice())),
-                (room >= 5000, room < 5000, front),
-                "room {room}"
-            );
-        }
+    let mut sink = sink_with_room(alloc, room, fails);
+    let wrote = put_pieces(bytes, &sizes, &mut sink);
+    took_front(wrote, sink, bytes, room)
+}
+
+fn are_both_written(alloc: Global, bytes: &[u8], room: usize) -> bool {
+    are_pieces_written(alloc, bytes, room, true) && are_pieces_written(alloc, bytes, room, false)
+}
+
+static ROOMS_OF_PIECES: [usize; 8] = [0, 1, 1023, 1024, 1025, 4999, 5000, 5001];
+
+#[test]
+fn bytes_that_wait_are_written_in_their_order(rt: HostRuntime) -> Result<(), AllocError> {
+    let bytes = bytes_of(rt.alloc(), 5000)?;
+    for room in &ROOMS_OF_PIECES {
+        assert!(rt; are_both_written(rt.alloc(), &bytes, *room), "room {room}");
     }
     Ok(())
 }
@@ -106,19 +132,25 @@ impl Read for Drip {
     }
 }
 
-/// What is read of bytes to a limit, what is left of them, and whether the source has failed.
-fn read_front(alloc: Global, bytes: &[u8], limit: usize) -> Result<(Vec<u8>, &[u8], bool), Fail> {
-    let mut source = OfRead::new(bytes);
-    let read = read_to_limit(alloc, &mut source, limit)?;
-    let failed = source.failed();
-    Ok((read, source.into_inner(), failed))
+fn read_front(
+    alloc: Global,
+    source: &mut OfRead<&[u8]>,
+    limit: usize,
+) -> Result<Vec<u8>, ReadFault> {
+    read_to_limit(alloc, source, limit)
 }
 
 // Whether so many of the known bytes are read to a limit, and the rest is left.
-fn front_is_read(alloc: Global, known: &[u8], limit: usize, size: usize) -> Result<bool, Fail> {
-    let (read, left, failed) = read_front(alloc, known, limit)?;
-    let is_split = known.get(..size) == Some(read.as_slice()) && known.get(size..) == Some(left);
-    Ok(is_split && !failed)
+fn is_front_read(
+    alloc: Global,
+    known: &[u8],
+    limit: usize,
+    size: usize,
+) -> Result<bool, ReadFault> {
+    let mut source = OfRead::new(known);
+    let read = read_front(alloc, &mut source, limit)?;
+    let is_front = !source.failed() && known.get(..size) == Some(read.as_slice());
+    Ok(is_front && known.get(size..) == Some(source.into_inner()))
 }
 
 // How many bytes are given, the limit, and how many are read.
@@ -133,11 +165,11 @@ static LIMITS: [(&str, usize, usize, usize); 7] = [
 ];
 
 #[test]
-fn a_source_is_read_to_its_end_or_the_limit(rt: HostRuntime) -> Result<(), Fail> {
+fn a_source_is_read_to_its_end_or_the_limit(rt: HostRuntime) -> Result<(), ReadFault> {
     let long = bytes_of(rt.alloc(), 200_000)?;
     for (what, given, limit, size) in &LIMITS {
-        let known = long.as_slice().get(..*given).ok_or("a front")?;
-        assert!(rt; front_is_read(rt.alloc(), known, *limit, *size)?, "{what}");
+        let known = long.as_slice().get(..*given).unwrap_or_default();
+        assert!(rt; is_front_read(rt.alloc(), known, *limit, *size)?, "{what}");
     }
     Ok(())
 }
@@ -146,31 +178,47 @@ fn read_two(alloc: Global, source: &mut OfRead<Drip>) -> Result<Vec<u8>, ReadFau
     read_to_limit(alloc, source, 2)
 }
 
-#[test]
-fn a_failed_read_is_answered(rt: HostRuntime) -> Result<(), Fail> {
-    let mut source = OfRead::new(Drip { left: 3 });
-    let read = read_two(rt.alloc(), &mut source)?;
-    assert_eq!(rt;
-        (read.as_slice(), source.failed()),
-        (b"aa".as_slice(), false)
-    );
-    let again = read_two(rt.alloc(), &mut source).err();
-    assert_eq!(rt; (again, source.failed()), (Some(ReadFault::Read), true));
-    Ok(())
+// Whether two bytes are read, and the source has not failed.
+fn are_two_read(alloc: Global, source: &mut OfRead<Drip>) -> Result<bool, ReadFault> {
+    Ok(read_two(alloc, source)?.as_slice() == b"aa".as_slice() && !source.failed())
+}
+
+fn fault_of_two(alloc: Global, source: &mut OfRead<Drip>) -> Option<ReadFault> {
+    read_two(alloc, source).err()
 }
 
 #[test]
-fn a_text_comes_again(rt: HostRuntime) -> Result<(), Fail> {
+fn a_failed_read_is_answered(rt: HostRuntime) -> Result<(), ReadFault> {
+    let mut source = OfRead::new(Drip { left: 3 });
+    assert!(rt; are_two_read(rt.alloc(), &mut source)?);
+    // The fault is printed, which may be out of memory.
+    assert_eq!(rt;
+        fault_of_two(rt.alloc(), &mut source),
+        Some(ReadFault::Read)
+    );
+    assert!(rt; source.failed());
+    Ok(())
+}
+
+// Texts in their order, and whether each has not come before.
+static COMING: [(&[u8], bool); 6] = [
+    (b"b", true),
+    (b"a", true),
+    (b"", true),
+    (b"ab", true),
+    (b"a", false),
+    (b"", false),
+];
+
+fn is_new<'a>(seen: &mut Seen<'a>, text: &'a [u8]) -> Result<bool, AllocError> {
+    seen.insert(text)
+}
+
+#[test]
+fn a_text_comes_again(rt: HostRuntime) -> Result<(), AllocError> {
     let mut seen = Seen::new(rt.alloc());
-    for (text, is_new) in [
-        (b"b".as_slice(), true),
-        (b"a", true),
-        (b"", true),
-        (b"ab", true),
-        (b"a", false),
-        (b"", false),
-    ] {
-        assert_eq!(rt; seen.insert(text)?, is_new);
+    for (text, want) in &COMING {
+        assert!(rt; is_new(&mut seen, text)? == *want, "{text:?}");
     }
     Ok(())
 }
@@ -183,11 +231,14 @@ static NUMBERS: [(&str, &[u32], bool); 4] = [
     ("0, 0", &[0, 0], true),
 ];
 
+fn is_told_twice(alloc: Global, numbers: &[u32], want: bool) -> Result<bool, AllocError> {
+    Ok(number_twice(alloc, numbers)? == want)
+}
+
 #[test]
-fn numbers_that_come_twice(rt: HostRuntime) -> Result<(), Fail> {
+fn numbers_that_come_twice(rt: HostRuntime) -> Result<(), AllocError> {
     for (what, numbers, come_twice) in &NUMBERS {
-        let found = number_twice(rt.alloc(), numbers)?;
-        assert_eq!(rt; found, *come_twice, "{what}");
+        assert!(rt; is_told_twice(rt.alloc(), numbers, *come_twice)?, "{what}");
     }
     Ok(())
 }
@@ -229,7 +280,7 @@ static ASKED: [(&str, Asked, &[u8], bool); 13] = [
 #[test]
 fn lengths_and_characters(rt: HostRuntime) {
     for (what, asked, bytes, want) in &ASKED {
-        assert_eq!(rt; holds(*asked, bytes), *want, "{what}");
+        assert!(rt; holds(*asked, bytes) == *want, "{what}");
     }
 }
 
@@ -244,15 +295,14 @@ static DIGITS: [(&str, Option<u32>, Option<u32>); 7] = [
     ("99999999999999999999999999999999999", None, None),
 ];
 
-fn numbers_of(digits: &[u8]) -> (Option<u32>, Option<u32>) {
-    (value_of(digits), count_of(digits))
+fn are_numbers(digits: &[u8], number: Option<u32>, count: Option<u32>) -> bool {
+    value_of(digits) == number && count_of(digits) == count
 }
 
 #[test]
 fn numbers_of_digits(rt: HostRuntime) {
     for (digits, number, count) in &DIGITS {
-        let found = numbers_of(digits.as_bytes());
-        assert_eq!(rt; found, (*number, *count), "{digits}");
+        assert!(rt; are_numbers(digits.as_bytes(), *number, *count), "{digits}");
     }
-    assert_eq!(rt; count_of(b"1x"), None);
+    assert!(rt; count_of(b"1x").is_none());
 }

@@ -44,11 +44,22 @@ pub(crate) fn sink_with_room(alloc: Global, room: usize, fails: bool) -> OfWrite
 }
 
 /// What came of a write: whether it succeeded, whether the sink has failed, and what was taken.
-pub(crate) fn outcome(
-    wrote: Result<(), WriteFault>,
-    sink: OfWrite<Dribble>,
-) -> (bool, bool, Vec<u8>) {
+fn outcome(wrote: Result<(), WriteFault>, sink: OfWrite<Dribble>) -> (bool, bool, Vec<u8>) {
     let failed = sink.failed();
     let Dribble { written, .. } = sink.into_inner();
     (wrote.is_ok(), failed, written)
+}
+
+/// Whether a sink with so much room took the front of a text that it has room for, and it failed, and so did the write, where
+/// that is not the whole text.
+pub(crate) fn took_front(
+    wrote: Result<(), WriteFault>,
+    sink: OfWrite<Dribble>,
+    text: &[u8],
+    room: usize,
+) -> bool {
+    let (is_ok, failed, written) = outcome(wrote, sink);
+    let has_room = room >= text.len();
+    let front = text.get(..room.min(text.len()));
+    is_ok == has_room && failed == !has_room && Some(written.as_slice()) == front
 }

@@ -6,7 +6,7 @@ use edi_tokens::Feeder;
 use std::alloc::Global;
 use std::io;
 use std::io::{Error, ErrorKind, Read};
-use std::test::*;
+use std::test::Fail;
 
 /// A reader that gives so many bytes at a time, and after so many calls is interrupted.
 #[derive(Drop)]
@@ -30,31 +30,38 @@ impl<'a> Read for Pieces<'a> {
     }
 }
 
-type Answer = (usize, &'static str, bool);
+// A text, the number of its messages, and the code of its fault.
+type Row = (&'static [u8], usize, &'static str);
+
+// Opens alone, so that what the contract says burdens no comparison: the number of messages, or the code of the fault.
+fn opened(alloc: Global, feeder: &mut Feeder<OfRead<Pieces>>) -> (usize, &'static str) {
+    match open_feed(alloc, feeder) {
+        Ok(interchange) => (interchange.messages.len(), ""),
+        Err(fault) => (0, fault.code()),
+    }
+}
 
 /// How many messages a text has, or the code of its fault; and whether the reader has failed.
-fn fed(alloc: Global, text: &[u8], size: usize, calls: usize) -> Result<Answer, Fail> {
-    let reader = OfRead::new(Pieces {
-        left: text,
-        size,
-        calls,
-    });
-    let Ok(mut feeder) = Feeder::new(alloc, reader) else {
-        return Err(Fail::new("out of memory"));
-    };
-    let opened = open_feed(alloc, &mut feeder);
-    let failed = feeder.into_reader().failed();
-    Ok(match opened {
-        Ok(interchange) => (interchange.messages.len(), "", failed),
-        Err(fault) => (0, fault.code(), failed),
-    })
+fn fed(alloc: Global, pieces: Pieces) -> Option<(usize, &'static str, bool)> {
+    let mut feeder = Feeder::new(alloc, OfRead::new(pieces)).ok()?;
+    let (messages, code) = opened(alloc, &mut feeder);
+    Some((messages, code, feeder.into_reader().failed()))
+}
+
+// Whether a text in pieces has so many messages or this fault, and its reader has failed where that is the fault.
+fn is_fed(alloc: Global, pieces: Pieces, messages: usize, code: &str) -> Result<bool, Fail> {
+    match fed(alloc, pieces) {
+        None | Some((_, "memory", _)) => Err(Fail::new("out of memory")),
+        Some((count, fault, failed)) => {
+            Ok(count == messages && fault == code && failed == (code == "read"))
+        }
+    }
 }
 
 const ORDERS: &[u8] =
     b"UNA:+.? 'UNB+UNOC:3+5412345000013:14+5412345000006:14+250603:0915+1001'UNH+1+ORDERS:D:01B:UN:EAN010'BGM+220+128576+9'DTM+137:20250603:102'NAD+BY+5412345000013::9'NAD+SU+4012345500004::9'LIN+1++4000862141404:SRV'QTY+21:48'UNS+S'CNT+2:1'UNT+10+1'UNZ+1+1001'";
 
-// Texts, the number of their messages, and the code of their fault.
-static TEXTS: [(&[u8], usize, &str); 9] = [
+static TEXTS: [Row; 9] = [
     (ORDERS, 1, ""),
     (
         b"UNA*|,! ~UNB|UNOC*3|5412345000013*14|5412345000006*14|250603*0915|1001~\r\nUNH|1|ORDERS*D*01B*UN~\r\nUNT|2|1~\r\nUNH|2|DESADV*D*01B*UN~\r\nUNT|2|2~\r\nUNZ|2|1001~\r\n",
@@ -91,24 +98,55 @@ static TEXTS: [(&[u8], usize, &str); 9] = [
     ),
 ];
 
-#[test]
-fn pieces_of_any_size_are_opened_alike(rt: HostRuntime) -> Result<(), Fail> {
-    for (text, messages, code) in &TEXTS {
-        for size in [1, 2, 7, 8192] {
-            let found = fed(rt.alloc(), text, size, usize::MAX)?;
-            assert_eq!(rt; found, (*messages, *code, false), "{size} bytes at a time");
+fn is_row_fed(alloc: Global, row: &Row, size: usize) -> Result<bool, Fail> {
+    let (text, messages, code) = row;
+    let pieces = Pieces {
+        left: text,
+        size,
+        calls: usize::MAX,
+    };
+    is_fed(alloc, pieces, *messages, code)
+}
+
+// The text that is not answered as it has to be in pieces of this size.
+fn wrong_text(alloc: Global, size: usize) -> Result<Option<&'static [u8]>, Fail> {
+    for row in &TEXTS {
+        if !is_row_fed(alloc, row, size)? {
+            return Ok(Some(row.0));
         }
     }
+    Ok(None)
+}
+
+static SIZES: [usize; 4] = [1, 2, 7, 8192];
+
+#[test]
+fn pieces_of_any_size_are_opened_alike(rt: HostRuntime) -> Result<(), Fail> {
+    for size in &SIZES {
+        let wrong = wrong_text(rt.alloc(), *size)?;
+        assert!(rt; wrong.is_none(), "{wrong:?} in {size} bytes at a time");
+    }
     Ok(())
+}
+
+fn is_order_fed(alloc: Global, calls: usize, messages: usize, code: &str) -> Result<bool, Fail> {
+    let pieces = Pieces {
+        left: ORDERS,
+        size: 7,
+        calls,
+    };
+    is_fed(alloc, pieces, messages, code)
 }
 
 #[test]
 fn each_failed_read_is_answered(rt: HostRuntime) -> Result<(), Fail> {
     // 255 bytes are read by 37 calls, and their end by one more.
     for calls in 0..38 {
-        let found = fed(rt.alloc(), ORDERS, 7, calls)?;
-        assert_eq!(rt; found, (0, "read", true), "after {calls} calls");
+        assert!(rt;
+            is_order_fed(rt.alloc(), calls, 0, "read")?,
+            "after {calls} calls"
+        );
     }
-    assert_eq!(rt; fed(rt.alloc(), ORDERS, 7, 38)?, (1, "", false));
+    assert!(rt; is_order_fed(rt.alloc(), 38, 1, "")?);
     Ok(())
 }

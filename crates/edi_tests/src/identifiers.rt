@@ -1,10 +1,11 @@
 use gs1_ids::*;
+use std::alloc::{AllocError, Global};
 use std::cmp::Ordering;
 use std::hash::{DefaultHasher, Hash, Hasher};
 use std::test::Fail;
 
-fn prefix(text: &str) -> Result<Prefix, &'static str> {
-    Prefix::parse(text.as_bytes()).ok_or("no prefix")
+fn prefix(text: &str) -> Option<Prefix> {
+    Prefix::parse(text.as_bytes())
 }
 
 fn hash_of<T: Hash>(value: &T) -> u64 {
@@ -13,8 +14,8 @@ fn hash_of<T: Hash>(value: &T) -> u64 {
     state.finish()
 }
 
-fn order_of<T: Ord>(a: &T, b: &T) -> (Ordering, bool) {
-    (a.cmp(b), a == b)
+fn has_order<T: Ord>(a: &T, b: &T, order: Ordering, is_equal: bool) -> bool {
+    a.cmp(b) == order && (a == b) == is_equal
 }
 
 // Digits, and the check digit that is published after them.
@@ -35,7 +36,7 @@ static CHECK_DIGITS: [(&str, Option<u8>); 11] = [
 #[test]
 fn check_digits_of_published_numbers(rt: HostRuntime) {
     for (digits, want) in &CHECK_DIGITS {
-        assert_eq!(rt; check_digit(digits.as_bytes()), *want, "of {digits}");
+        assert!(rt; check_digit(digits.as_bytes()) == *want, "of {digits}");
     }
 }
 
@@ -81,7 +82,7 @@ static TEXTS: [(Kind, &str, bool); 20] = [
 #[test]
 fn texts_are_read_as_identifiers(rt: HostRuntime) {
     for (kind, text, right) in &TEXTS {
-        assert_eq!(rt; is_read(*kind, text.as_bytes()), *right, "{text}");
+        assert!(rt; is_read(*kind, text.as_bytes()) == *right, "{text}");
     }
 }
 
@@ -103,14 +104,17 @@ static GTINS: [(&str, Option<&[u8; 14]>); 14] = [
     ("", None),
 ];
 
-fn gtin_digits(text: &str) -> Option<[u8; 14]> {
-    Some(*Gtin::parse(text.as_bytes())?.digits())
+fn has_digits(text: &str, want: Option<&[u8; 14]>) -> bool {
+    match Gtin::parse(text.as_bytes()) {
+        Some(gtin) => Some(gtin.digits()) == want,
+        None => want.is_none(),
+    }
 }
 
 #[test]
 fn gtins(rt: HostRuntime) {
     for (text, want) in &GTINS {
-        assert_eq!(rt; gtin_digits(text).as_ref(), *want, "{text}");
+        assert!(rt; has_digits(text, *want), "{text}");
     }
 }
 
@@ -122,43 +126,56 @@ static PREFIXES_OF_AN_SSCC: [(&str, bool); 4] = [
     ("4012346", false),
 ];
 
+fn is_under(digits: &str) -> Option<bool> {
+    let sscc = Sscc::parse(b"340123455000000012")?;
+    Some(sscc.under(&prefix(digits)?))
+}
+
 #[test]
-fn an_sscc_is_under_its_prefixes(rt: HostRuntime) -> Result<(), Fail> {
-    let sscc = Sscc::parse(b"340123455000000012").ok_or("an SSCC")?;
+fn an_sscc_is_under_its_prefixes(rt: HostRuntime) {
     for (digits, want) in &PREFIXES_OF_AN_SSCC {
-        assert_eq!(rt; sscc.under(&prefix(digits)?), *want, "{digits}");
+        assert!(rt; is_under(digits) == Some(*want), "{digits}");
     }
-    Ok(())
+}
+
+fn parsed() -> Option<(Gln, Gtin, Sscc, Prefix)> {
+    let gln = Gln::parse(b"5412345000006")?;
+    let gtin = Gtin::parse(b"036000291452")?;
+    let sscc = Sscc::parse(b"340123455000000012")?;
+    Some((gln, gtin, sscc, prefix("40123")?))
+}
+
+fn are_shown(
+    alloc: Global,
+    (gln, gtin, sscc, prefix): (Gln, Gtin, Sscc, Prefix),
+) -> Result<bool, AllocError> {
+    let shown = format!(in alloc; "{gln} {:>15} {gtin} {sscc} {prefix}", gln)?;
+    let want = "5412345000006   5412345000006 00036000291452 340123455000000012 40123";
+    let has_digits = gln.digits() == b"5412345000006" && sscc.digits() == b"340123455000000012";
+    Ok(has_digits && shown.as_str() == want)
 }
 
 #[test]
 fn identifiers_show_their_digits(rt: HostRuntime) -> Result<(), Fail> {
-    let gln = Gln::parse(b"5412345000006").ok_or("a GLN")?;
-    let gtin = Gtin::parse(b"036000291452").ok_or("a GTIN-12")?;
-    let sscc = Sscc::parse(b"340123455000000012").ok_or("an SSCC")?;
-    let prefix = prefix("40123")?;
-    let shown = format!(in rt.alloc(); "{gln} {:>15} {gtin} {sscc} {prefix}", gln)?;
-    let digits = (gln.digits(), sscc.digits(), shown.as_str());
-    let want = (
-        b"5412345000006",
-        b"340123455000000012",
-        "5412345000006   5412345000006 00036000291452 340123455000000012 40123",
-    );
-    assert_eq!(rt; digits, want);
+    let identifiers = parsed().ok_or("identifiers")?;
+    assert!(rt; are_shown(rt.alloc(), identifiers)?);
     Ok(())
+}
+
+fn are_one_gtin() -> Option<bool> {
+    let short = Gtin::parse(b"036000291452")?;
+    let long = Gtin::parse(b"0036000291452")?;
+    let is_one_hash = hash_of(&short) == hash_of(&long);
+    Some(has_order(&short, &long, Ordering::Equal, true) && is_one_hash)
 }
 
 #[test]
-fn equal_numbers_are_one_gtin(rt: HostRuntime) -> Result<(), Fail> {
-    let short = Gtin::parse(b"036000291452").ok_or("a GTIN-12")?;
-    let long = Gtin::parse(b"0036000291452").ok_or("a GTIN-13")?;
-    let found = (order_of(&short, &long), hash_of(&short) == hash_of(&long));
-    assert_eq!(rt; found, ((Ordering::Equal, true), true));
-    Ok(())
+fn equal_numbers_are_one_gtin(rt: HostRuntime) {
+    assert!(rt; are_one_gtin() == Some(true));
 }
 
 // Two prefixes: whether the first begins the second, their order, and whether they are equal.
-static PAIRS: [(&str, &str, bool, Ordering, bool); 5] = [
+static PAIRS: [Pair; 5] = [
     ("40123", "4012345", true, Ordering::Less, false),
     ("4012345", "40123", false, Ordering::Greater, false),
     ("40123", "40123", true, Ordering::Equal, true),
@@ -166,24 +183,27 @@ static PAIRS: [(&str, &str, bool, Ordering, bool); 5] = [
     ("4012345", "40130", false, Ordering::Less, false),
 ];
 
-// Whether the first prefix begins the second, their order, whether they are equal, and whether their hashes are.
-fn compared(first: &str, second: &str) -> Result<(bool, (Ordering, bool), bool), Fail> {
+type Pair = (&'static str, &'static str, bool, Ordering, bool);
+
+// Whether two prefixes compare so; where they are equal, so are their hashes.
+fn is_compared(pair: &Pair) -> Option<bool> {
+    let (first, second, begins, order, is_equal) = pair;
     let (one, other) = (prefix(first)?, prefix(second)?);
     let is_one_hash = hash_of(&one) == hash_of(&other);
-    Ok((one.begins(&other), order_of(&one, &other), is_one_hash))
+    let is_begun = one.begins(&other) == *begins && (is_one_hash || !*is_equal);
+    Some(is_begun && has_order(&one, &other, *order, *is_equal))
 }
 
 #[test]
-fn prefixes_are_compared_by_their_digits(rt: HostRuntime) -> Result<(), Fail> {
-    for (first, second, begins, order, is_equal) in &PAIRS {
-        let (found, found_order, is_one_hash) = compared(first, second)?;
-        assert_eq!(rt;
-            (found, found_order, is_one_hash || !*is_equal),
-            (*begins, (*order, *is_equal), true),
-            "{first} and {second}"
+fn prefixes_are_compared_by_their_digits(rt: HostRuntime) {
+    for pair in &PAIRS {
+        assert!(rt;
+            is_compared(pair) == Some(true),
+            "{} and {}",
+            pair.0,
+            pair.1
         );
     }
-    Ok(())
 }
 
 // Four prefixes, and the places of the first two of which one begins the other.
@@ -196,24 +216,30 @@ static OVERLAPS: [([&str; 4], Option<(usize, usize)>); 6] = [
     (["4012", "4012", "4012", "4012"], Some((0, 1))),
 ];
 
-fn overlap_of(texts: &[&str; 4]) -> Result<Option<(usize, usize)>, Fail> {
+// The four prefixes that these texts are.
+fn prefixes(texts: &[&str; 4]) -> Option<[Prefix; 4]> {
     let [first, second, third, fourth] = texts;
-    let all = [
+    Some([
         prefix(first)?,
         prefix(second)?,
         prefix(third)?,
         prefix(fourth)?,
-    ];
-    Ok(first_overlap(&all))
+    ])
+}
+
+fn is_first_overlap(texts: &[&str; 4], want: Option<(usize, usize)>) -> bool {
+    match prefixes(texts) {
+        Some(prefixes) => first_overlap(&prefixes) == want,
+        None => false,
+    }
 }
 
 #[test]
-fn first_overlaps(rt: HostRuntime) -> Result<(), Fail> {
+fn first_overlaps(rt: HostRuntime) {
     for (texts, want) in &OVERLAPS {
-        assert_eq!(rt; overlap_of(texts)?, *want, "{texts:?}");
+        assert!(rt; is_first_overlap(texts, *want), "{texts:?}");
     }
-    assert_eq!(rt; first_overlap(&[]), None);
+    assert!(rt; first_overlap(&[]).is_none());
     prefixes_of_one_overlap();
     sscc_has_one_supplier();
-    Ok(())
 }

@@ -1,6 +1,6 @@
-use edi_show::show_text;
+use edi_base::MemoryFault;
+use edi_show::{Shown, show_text};
 use std::alloc::Global;
-use std::test::Fail;
 
 const TEXT: &[u8] =
     b"UNB+UNOC:3+5412345000013:14+5412345000006:14+250603:0915+1001'UNH+1+ORDERS:D:01B:UN:EAN010'BGM+220+128576+9'DTM+137:20250603:102'NAD+BY+5412345000013::9'NAD+SU+4012345500004::9'LIN+1++4000862141404:SRV'QTY+21:48'UNS+S'CNT+2:1'UNT+10+1'UNH+2+ORDERS:D:01B:UN:EAN010'UNT+2+2'UNZ+2+1001'";
@@ -8,23 +8,32 @@ const TEXT: &[u8] =
 const LINES: &[u8] =
     b"service component : element + decimal . release ? terminator '\ninterchange 1001\n  sender 5412345000013\n  recipient 5412345000006\n  prepared 250603 0915\n  messages 2\nmessage 1\n  type ORDERS\n  order 128576\n  buyer 5412345000013\n  supplier 4012345500004\n  line 1 item 04000862141404 ordered 48\nmessage 2\n  type ORDERS\n  refused M02 beginning of the message\n";
 
-// Texts, whether each is refused, and the lines that show it.
-static TEXTS: [(&[u8], bool, &[u8]); 2] = [
+// A text, whether it is refused, and the lines that show it.
+type Row = (&'static [u8], bool, &'static [u8]);
+
+static TEXTS: [Row; 2] = [
     (TEXT, true, LINES),
     (b"UNB", true, b"refused E04 text cut\n"),
 ];
 
-// Whether a text is refused, and the lines that show it.
-fn shown(alloc: Global, text: &[u8]) -> Result<(bool, Vec<u8>), Fail> {
-    let shown = show_text(alloc, text)?;
-    Ok((shown.is_refused(), shown.to_lines(alloc)?))
+fn shown(alloc: Global, text: &[u8]) -> Result<Shown, MemoryFault> {
+    show_text(alloc, text)
+}
+
+fn has_lines(alloc: Global, shown: &Shown, lines: &[u8]) -> Result<bool, MemoryFault> {
+    Ok(shown.to_lines(alloc)?.as_slice() == lines)
+}
+
+fn is_shown(alloc: Global, row: &Row) -> Result<bool, MemoryFault> {
+    let (text, refused, lines) = row;
+    let shown = shown(alloc, text)?;
+    Ok(shown.is_refused() == *refused && has_lines(alloc, &shown, lines)?)
 }
 
 #[test]
-fn a_text_is_shown(rt: HostRuntime) -> Result<(), Fail> {
-    for (text, refused, want) in &TEXTS {
-        let (is_refused, lines) = shown(rt.alloc(), text)?;
-        assert_eq!(rt; (is_refused, lines.as_slice()), (*refused, *want));
+fn a_text_is_shown(rt: HostRuntime) -> Result<(), MemoryFault> {
+    for row in &TEXTS {
+        assert!(rt; is_shown(rt.alloc(), row)?);
     }
     Ok(())
 }

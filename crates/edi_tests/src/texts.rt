@@ -1,7 +1,7 @@
 //! Texts that are read and opened. Each call stands alone here, so that what its contract says burdens no test.
 
 use edi_envelope::{Interchange, RawMessage, open};
-use edi_tokens::{Tokens, read_all};
+use edi_tokens::{Segment, Tokens, body_text, read_all};
 use std::alloc::Global;
 use std::test::Fail;
 
@@ -20,4 +20,9 @@ pub(crate) fn opened(alloc: Global, text: &[u8]) -> Result<Interchange, Fail> {
 pub(crate) fn last_message(alloc: Global, text: &[u8]) -> Result<RawMessage, Fail> {
     let mut messages = opened(alloc, text)?.messages.into_vec();
     Ok(messages.pop().ok_or("a message")?)
+}
+
+/// Whether segments have this canonical text.
+pub(crate) fn has_body(alloc: Global, segments: &[Segment], body: &[u8]) -> Result<bool, Fail> {
+    Ok(body_text(alloc, segments)?.as_slice() == body)
 }

@@ -1,8 +1,8 @@
-use crate::doubles::{Dribble, outcome, sink_with_room};
-use crate::texts::tokens;
+use crate::doubles::{Dribble, sink_with_room, took_front};
+use crate::texts::{has_body, tokens};
 use edi_tokens::*;
-use std::alloc::Global;
-use std::test::*;
+use std::alloc::{AllocError, Global};
+use std::test::Fail;
 
 const ORDERS: &[u8] =
     b"UNA:+.? 'UNB+UNOC:3+5412345000013:14+5412345000006:14+250603:0915+1001'UNH+1+ORDERS:D:01B:UN:EAN010'BGM+220+128576+9'DTM+137:20250603:102'NAD+BY+5412345000013::9'NAD+SU+4012345500004::9'LIN+1++4000862141404:SRV'QTY+21:48'UNS+S'CNT+2:1'UNT+10+1'UNZ+1+1001'";
@@ -14,47 +14,57 @@ const OTHER_SEPARATORS: &[u8] =
 const MESSAGE: &[u8] =
     b"UNH+1+ORDERS:D:01B:UN:EAN010'BGM+220+128576+9'DTM+137:20250603:102'NAD+BY+5412345000013::9'NAD+SU+4012345500004::9'LIN+1++4000862141404:SRV'QTY+21:48'UNS+S'CNT+2:1'UNT+10+1'";
 
-/// The canonical text of what a text is read as.
-fn again(alloc: Global, text: &[u8]) -> Result<Vec<u8>, Fail> {
-    let tokens = tokens(alloc, text)?;
-    Ok(body_text(alloc, tokens.segments.as_slice())?)
+fn write_into(segments: &[Segment], sink: &mut OfWrite<Vec<u8>>) -> Result<(), WriteFault> {
+    write_text(segments, b'.', sink)
 }
 
 /// The text of segments, after a service string.
-fn whole_text(alloc: Global, segments: &[Segment]) -> Result<Vec<u8>, Fail> {
+fn whole_text(alloc: Global, segments: &[Segment]) -> Result<Vec<u8>, WriteFault> {
     let mut sink = OfWrite::new(Vec::new(alloc));
-    write_text(segments, b'.', &mut sink)?;
+    write_into(segments, &mut sink)?;
     Ok(sink.into_inner())
+}
+
+// Whether segments are those of the order, and its text and its message's are written as they were read.
+fn are_of_the_order(alloc: Global, segments: &[Segment]) -> Result<bool, Fail> {
+    let message = segments.get(1..11).ok_or("twelve segments")?;
+    let is_message = has_body(alloc, message, MESSAGE)?;
+    let text = whole_text(alloc, segments)?;
+    let lengths = [segments.len(), message.len(), text.len(), MESSAGE.len()];
+    Ok(is_message && lengths == [12, 10, 255, 173] && text.as_slice() == ORDERS)
 }
 
 #[test]
 fn an_order_is_read_and_written_again(rt: HostRuntime) -> Result<(), Fail> {
     let tokens = tokens(rt.alloc(), ORDERS)?;
-    let segments = tokens.segments.as_slice();
-    let message = segments.get(1..11).ok_or("twelve segments")?;
-    let text = whole_text(rt.alloc(), segments)?;
-    let body = body_text(rt.alloc(), message)?;
-    let lengths = [segments.len(), message.len(), text.len(), body.len()];
-    assert_eq!(rt; lengths, [12, 10, 255, 173]);
-    let found = (text.as_slice(), body.as_slice());
-    assert_eq!(rt; found, (ORDERS, MESSAGE));
+    assert!(rt; are_of_the_order(rt.alloc(), tokens.segments.as_slice())?);
     Ok(())
 }
 
+type Component = (usize, &'static [u8; 3], usize, usize, &'static [u8]);
+
 // Segments of the order, their tags, and what stands at an element and a component.
-static COMPONENTS: [(usize, &[u8; 3], usize, usize, &[u8]); 3] = [
+static COMPONENTS: [Component; 3] = [
     (1, b"UNH", 1, 4, b"EAN010"),
     (5, b"NAD", 1, 1, b""),
     (5, b"NAD", 1, 2, b"9"),
 ];
 
+fn stands_there(segments: &[Segment], there: &Component) -> bool {
+    let (segment, tag, element, component, want) = there;
+    match segments.get(*segment) {
+        Some(segment) => {
+            segment.tag == **tag && segment.component(*element, *component) == *want
+        }
+        None => false,
+    }
+}
+
 #[test]
 fn components_stand_at_their_places(rt: HostRuntime) -> Result<(), Fail> {
     let tokens = tokens(rt.alloc(), ORDERS)?;
-    for (segment, tag, element, component, want) in &COMPONENTS {
-        let segment = tokens.segments.as_slice().get(*segment).ok_or("a segment")?;
-        let found = (&segment.tag, segment.component(*element, *component));
-        assert_eq!(rt; found, (*tag, *want));
+    for there in &COMPONENTS {
+        assert!(rt; stands_there(tokens.segments.as_slice(), there));
     }
     Ok(())
 }
@@ -67,11 +77,14 @@ const OTHERS: Service = Service {
     terminator: b'~',
 };
 
+fn has_service(alloc: Global, text: &[u8], service: Service) -> Result<bool, Fail> {
+    Ok(tokens(alloc, text)?.service == service)
+}
+
 #[test]
 fn each_text_gives_its_service_characters(rt: HostRuntime) -> Result<(), Fail> {
-    let alloc = rt.alloc();
-    assert_eq!(rt; tokens(alloc, ORDERS)?.service, Service::usual());
-    assert_eq!(rt; tokens(alloc, OTHER_SEPARATORS)?.service, OTHERS);
+    assert!(rt; has_service(rt.alloc(), ORDERS, Service::usual())?);
+    assert!(rt; has_service(rt.alloc(), OTHER_SEPARATORS, OTHERS)?);
     Ok(())
 }
 
@@ -96,71 +109,90 @@ static CANONICAL: [(&[u8], &[u8]); 12] = [
     (b"UNA:+.  'FTX+A?:B\xA0\xFF'", b"FTX+A??:B\xA0\xFF'"),
 ];
 
+/// Whether what a text is read as has this canonical text.
+fn is_read_as(alloc: Global, text: &[u8], canonical: &[u8]) -> Result<bool, Fail> {
+    let tokens = tokens(alloc, text)?;
+    has_body(alloc, tokens.segments.as_slice(), canonical)
+}
+
 #[test]
 fn each_text_gives_its_canonical_text(rt: HostRuntime) -> Result<(), Fail> {
-    let found = again(rt.alloc(), OTHER_SEPARATORS)?;
-    assert_eq!(rt; found.as_slice(), &ORDERS[9..]);
+    assert!(rt; is_read_as(rt.alloc(), OTHER_SEPARATORS, &ORDERS[9..])?);
     for (text, canonical) in &CANONICAL {
-        let found = again(rt.alloc(), text)?;
-        assert_eq!(rt; found.as_slice(), *canonical);
+        assert!(rt; is_read_as(rt.alloc(), text, canonical)?);
     }
     Ok(())
 }
 
+// Writes alone, so that what the contract says burdens no test.
 fn write(segments: &[Segment], decimal: u8, sink: &mut OfWrite<Dribble>) -> Result<(), WriteFault> {
     write_text(segments, decimal, sink)
 }
 
-/// Writes segments to a writer with so much room: whether that succeeds, whether the sink has failed, and what is written.
-fn written(
-    alloc: Global,
-    segments: &[Segment],
-    decimal: u8,
-    room: usize,
-    fails: bool,
-) -> (bool, bool, Vec<u8>) {
+/// Whether a writer with so much room gets the front of the order that it has room for, where its segments are written.
+fn is_front_written(alloc: Global, segments: &[Segment], room: usize, fails: bool) -> bool {
     let mut sink = sink_with_room(alloc, room, fails);
-    let wrote = write(segments, decimal, &mut sink);
-    outcome(wrote, sink)
+    let wrote = write(segments, b'.', &mut sink);
+    took_front(wrote, sink, ORDERS, room)
 }
+
+// The same for a writer that fails, and for one that takes nothing.
+fn are_fronts_written(alloc: Global, segments: &[Segment], room: usize) -> bool {
+    is_front_written(alloc, segments, room, true) && is_front_written(alloc, segments, room, false)
+}
+
+static ROOMS: [usize; 9] = [0, 1, 8, 9, 10, 100, 254, 255, 256];
 
 #[test]
 fn a_failed_write_leaves_a_front_of_the_text(rt: HostRuntime) -> Result<(), Fail> {
     let tokens = tokens(rt.alloc(), ORDERS)?;
-    for room in [0, 1, 8, 9, 10, 100, 254, 255, 256] {
-        for fails in [true, false] {
-            let segments = tokens.segments.as_slice();
-            let (is_ok, failed, text) = written(rt.alloc(), segments, b'.', room, fails);
-            let front = &ORDERS[..room.min(ORDERS.len())];
-            assert_eq!(rt;
-                (is_ok, failed, text.as_slice()),
-                (room >= 255, room < 255, front),
-                "room {room}"
-            );
-        }
+    for room in &ROOMS {
+        let segments = tokens.segments.as_slice();
+        assert!(rt;
+            are_fronts_written(rt.alloc(), segments, *room),
+            "room {room}"
+        );
     }
     Ok(())
 }
 
-/// A segment of 8,000 bytes after a line end, and nine orders.
-fn long_text(alloc: Global) -> Result<Vec<u8>, Fail> {
-    let mut text = Vec::from_slice(alloc, b"\r\nFTX+?+")?;
-    text.resize(8001, b'a')?;
+const WITH_COMMA: &[u8] = b"UNA:+,? '";
+
+/// Appends a segment of 8,000 bytes and nine orders.
+fn append_long(text: &mut Vec<u8>) -> Result<(), AllocError> {
+    let length = text.len().saturating_add(7999);
+    text.extend_from_slice(b"FTX+?+")?;
+    text.resize(length, b'a')?;
     text.push(b'\'')?;
     for _ in 0..9u8 {
         text.extend_from_slice(&ORDERS[9..])?;
     }
+    Ok(())
+}
+
+/// A front, a segment of 8,000 bytes, and nine orders.
+fn long_text(alloc: Global, front: &[u8]) -> Result<Vec<u8>, AllocError> {
+    let mut text = Vec::from_slice(alloc, front)?;
+    append_long(&mut text)?;
     Ok(text)
+}
+
+// Whether segments are written as this text, the decimal mark of which is a comma.
+fn is_written(alloc: Global, segments: &[Segment], text: &[u8]) -> bool {
+    let mut sink = sink_with_room(alloc, usize::MAX, false);
+    let wrote = write(segments, b',', &mut sink);
+    took_front(wrote, sink, text, usize::MAX)
+}
+
+fn long_tokens(alloc: Global) -> Result<Tokens, Fail> {
+    let text = long_text(alloc, b"\r\n")?;
+    tokens(alloc, &text)
 }
 
 #[test]
 fn a_text_longer_than_what_waits_is_written_whole(rt: HostRuntime) -> Result<(), Fail> {
-    let text = long_text(rt.alloc())?;
-    let mut want = Vec::from_slice(rt.alloc(), b"UNA:+,? '")?;
-    want.extend_from_slice(text.get(2..).ok_or("a segment")?)?;
-    let tokens = tokens(rt.alloc(), &text)?;
-    let segments = tokens.segments.as_slice();
-    let found = written(rt.alloc(), segments, b',', usize::MAX, false);
-    assert_eq!(rt; found, (true, false, want));
+    let want = long_text(rt.alloc(), WITH_COMMA)?;
+    let tokens = long_tokens(rt.alloc())?;
+    assert!(rt; is_written(rt.alloc(), tokens.segments.as_slice(), &want));
     Ok(())
 }
