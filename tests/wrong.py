@@ -284,7 +284,7 @@ def definition_tried(wrong, below):
 def lanes():
     with open("/proc/meminfo", encoding="ascii") as lines:
         free = next(int(it.split()[1]) for it in lines if it.startswith("MemAvailable:")) << 10
-    return max(1, min(os.cpu_count() or 1, free // CHECK_MEMORY))
+    return max(1, min(len(os.sched_getaffinity(0)), free // CHECK_MEMORY))
 
 
 def proved(needed, below):
