@@ -30,9 +30,9 @@ class Function:
 
     def is_called(self, crate, path):
         """Whether this is its name in what a check says, or that of a closure in it."""
-        within = "".join(f"{it}::" for it in self.modules())
-        own = rf"{self.owner}\w*::" if self.owner else ""
-        return bool(re.fullmatch(rf"{crate}::{within}{own}({self.name}|fn::{self.name}::.*)", path))
+        # a type may stand in another module than its impl
+        within = rf"(?:\w+::)*{self.owner}[\w+]*::" if self.owner else "".join(f"{it}::" for it in self.modules())
+        return bool(re.fullmatch(rf"{crate}::{within}({self.name}|fn::{self.name}::.*)", path))
 
     def has_place(self, file, line):
         """Whether a place that a check names is in its text or in its proofs."""
@@ -65,7 +65,10 @@ def function_from(file, lines, first):
     last = next(ends, len(lines) - 1)
     opening = next((lines[it] for it in range(first, -1, -1) if OPENING.match(lines[it])), "") if indent else ""
     has_body = lines[last] == indent + "}" and lines[last - 1] != indent + "{"
-    return Function(file, owner_of(opening), name, range(first + 1, last + 2), lines[first], opening, has_body)
+    begin = first
+    while begin and lines[begin - 1].startswith(indent + "#["):
+        begin -= 1
+    return Function(file, owner_of(opening), name, range(begin + 1, last + 2), lines[first], opening, has_body)
 
 
 def functions_in(file, text):
