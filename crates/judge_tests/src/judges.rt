@@ -8,15 +8,15 @@ mod told;
 use crate::rising::{ALPHA, ITEM, Line, OTHER_ITEM, gln, gtin, rising};
 use edi_base::{Items, copied};
 use edi_envelope::{Interchange, Moment, RawMessage, open};
-use edi_tokens::{Tokens, read_all};
-use gs1_ids::Prefix;
+use edi_tokens::{MemoryFault, Tokens, read_all};
+use gs1_ids::{Gln, Prefix};
 use hub_judges::Known;
 use hub_parties::{Key, SupplierRow};
 use hub_rules::{IncomingMessage, Verdict};
 use hub_tables::Answered;
 use std::alloc::Global;
 use std::test::Fail;
-use told::told;
+use told::is_told;
 
 const RETAILER: &str = "5412345000013";
 
@@ -29,13 +29,18 @@ const OTHER_CONTENT: &str = "sand";
 // So many entries of a mailbox that none can follow.
 const FULL: u64 = 99_999_999_999_999;
 
+fn prefixes_of_alpha(alloc: Global) -> Result<Items<Prefix>, Fail> {
+    let prefix = Prefix::parse(b"40123455").ok_or("a prefix")?;
+    let mut prefixes = Items::new(alloc);
+    prefixes.push(prefix)?;
+    Ok(prefixes)
+}
+
 // Alpha's row of the register.
 fn alpha(alloc: Global) -> Result<SupplierRow, Fail> {
     let gln = gln(ALPHA)?;
-    let prefix = Prefix::parse(b"40123455").ok_or("a prefix")?;
     let key = Key::parse(b"alpha-key-1").ok_or("a key")?;
-    let mut prefixes = Items::new(alloc);
-    prefixes.push(prefix)?;
+    let prefixes = prefixes_of_alpha(alloc)?;
     Ok(SupplierRow { gln, prefixes, key })
 }
 
@@ -51,6 +56,13 @@ fn delivery(alloc: Global) -> Result<IncomingMessage, Fail> {
     })
 }
 
+// Message 7 of interchange 1001, and the body of its mail.
+fn come(alloc: Global) -> Result<(IncomingMessage, Items<u8>), Fail> {
+    let delivery = delivery(alloc)?;
+    let body = copied(alloc, b"body")?;
+    Ok((delivery, body))
+}
+
 // Lines of three orders that wait.
 const BEFORE: Line = ("128575", 1, [48, 36, 0, 0], Answered::Waiting);
 
@@ -58,15 +70,24 @@ const WAITING: Line = ("128576", 1, [48, 36, 0, 0], Answered::Waiting);
 
 const BEHIND: Line = ("128577", 1, [48, 36, 0, 0], Answered::Waiting);
 
-fn orders_of(alloc: Global, lines: [Line; 3]) -> Result<Items<Items<u8>>, Fail> {
-    let mut orders = Items::new(alloc);
+fn push_orders(
+    orders: &mut Items<Items<u8>>,
+    alloc: Global,
+    lines: [Line; 3],
+) -> Result<(), MemoryFault> {
     for (order, _, _, _) in lines {
         orders.push(copied(alloc, order.as_bytes())?)?;
     }
+    Ok(())
+}
+
+fn orders_of(alloc: Global, lines: [Line; 3]) -> Result<Items<Items<u8>>, MemoryFault> {
+    let mut orders = Items::new(alloc);
+    push_orders(&mut orders, alloc, lines)?;
     Ok(orders)
 }
 
-fn content_of(alloc: Global, remembered: Option<&str>) -> Result<Option<Items<u8>>, Fail> {
+fn content_of(alloc: Global, remembered: Option<&str>) -> Result<Option<Items<u8>>, MemoryFault> {
     Ok(match remembered {
         Some(content) => Some(copied(alloc, content.as_bytes())?),
         None => None,
@@ -95,12 +116,17 @@ fn opened(alloc: Global, text: &[u8]) -> Result<Interchange, Fail> {
     Ok(open(alloc, tokens)?)
 }
 
+// The text of an interchange of a message of these segments, UNT left out.
+fn text_of(alloc: Global, segments: &str) -> Result<String, MemoryFault> {
+    let count = segments.matches("'").count().saturating_add(1);
+    format!(in alloc;
+        "UNB+UNOC:3+5412345000013:14+5412345000006:14+250603:0915+1001'{segments}UNT+{count}+1'UNZ+1+1001'"
+    )
+}
+
 // The message of these segments, UNT left out.
 fn message(alloc: Global, segments: &str) -> Result<RawMessage, Fail> {
-    let count = segments.matches("'").count().saturating_add(1);
-    let text = format!(in alloc;
-        "UNB+UNOC:3+5412345000013:14+5412345000006:14+250603:0915+1001'{segments}UNT+{count}+1'UNZ+1+1001'"
-    )?;
+    let text = text_of(alloc, segments)?;
     let mut messages = opened(alloc, text.as_bytes())?.messages.into_vec();
     Ok(messages.pop().ok_or("a message")?)
 }

@@ -1,8 +1,8 @@
 use crate::rising::{ITEM, Line, OTHER_ITEM, gtin, rising, row};
 use edi_base::{Items, copied};
 use hub_lines::{Book, OrderNumbers, copied_row};
-use hub_tables::Answered;
-use std::alloc::Global;
+use hub_tables::{Answered, LineRow};
+use std::alloc::{AllocError, Global};
 use std::test::Fail;
 
 // Three lines of one item: the only one of order 128575, and two of order 128576.
@@ -17,18 +17,17 @@ fn book(alloc: Global) -> Result<Book, Fail> {
     Ok(Book::new(alloc, lines)?)
 }
 
-fn place_of(
-    book: &Book,
-    order: &[u8],
-    number: Option<u32>,
-    item: &str,
-) -> Result<Option<usize>, Fail> {
+type Place = (&'static [u8; 6], Option<u32>, &'static str, Option<usize>);
+
+// Whether the line that an order, a number and an item name stands there.
+fn is_found(book: &Book, named: &Place) -> Result<bool, Fail> {
+    let (order, number, item, place) = named;
     let item = gtin(item)?;
-    Ok(book.place_of(order, number, &item))
+    Ok(book.place_of(order.as_slice(), *number, &item) == *place)
 }
 
 // An order, a line's number or none, and an item; and the place of the line that they name.
-static PLACES: [(&[u8; 6], Option<u32>, &str, Option<usize>); 9] = [
+static PLACES: [Place; 9] = [
     (b"128575", Some(1), ITEM, Some(0)),
     (b"128576", Some(1), OTHER_ITEM, Some(1)),
     (b"128576", Some(2), ITEM, Some(2)),
@@ -43,25 +42,35 @@ static PLACES: [(&[u8; 6], Option<u32>, &str, Option<usize>); 9] = [
 #[test]
 fn a_book_finds_its_lines(rt: HostRuntime) -> Result<(), Fail> {
     let book = book(rt.alloc())?;
-    for (order, number, item, place) in &PLACES {
-        let found = place_of(&book, *order, *number, item)?;
-        assert_eq!(rt; found, *place, "line {number:?} of {order:?}");
+    for named in &PLACES {
+        assert!(rt;
+            is_found(&book, named)?,
+            "line {:?} of {:?}",
+            named.1,
+            named.0
+        );
     }
     Ok(())
 }
 
-fn orders(alloc: Global) -> Result<Items<Items<u8>>, Fail> {
-    let mut orders = Items::new(alloc);
+fn push_orders(orders: &mut Items<Items<u8>>, alloc: Global) -> Result<(), AllocError> {
     for order in [b"128576", b"128575"] {
         orders.push(copied(alloc, order)?)?;
     }
+    Ok(())
+}
+
+fn orders(alloc: Global) -> Result<Items<Items<u8>>, AllocError> {
+    let mut orders = Items::new(alloc);
+    push_orders(&mut orders, alloc)?;
     Ok(orders)
 }
 
 #[test]
-fn orders_are_asked_for_by_number(rt: HostRuntime) -> Result<(), Fail> {
+fn orders_are_asked_for_by_number(rt: HostRuntime) -> Result<(), AllocError> {
     let orders = orders(rt.alloc())?;
     let numbers = OrderNumbers::new(rt.alloc(), orders.as_slice())?;
+    // No static: what is asked for has to live as long as the orders, and no longer.
     for (what, order, is_there) in [
         ("the second order", b"128575".as_slice(), true),
         ("the first order", b"128576", true),
@@ -69,18 +78,30 @@ fn orders_are_asked_for_by_number(rt: HostRuntime) -> Result<(), Fail> {
         ("the front of an order", b"12857", false),
     ] {
         let found = numbers.has(order);
-        assert_eq!(rt; found, is_there, "{what}");
+        assert!(rt; found == is_there, "{what}");
     }
     Ok(())
+}
+
+fn copy_of(alloc: Global, row: &LineRow) -> Result<LineRow, AllocError> {
+    copied_row(alloc, row)
+}
+
+fn show_alike(alloc: Global, row: &LineRow, copy: &LineRow) -> Result<bool, AllocError> {
+    let shown = format!(in alloc; "{row:?}")?;
+    let copied = format!(in alloc; "{copy:?}")?;
+    Ok(copied.as_str() == shown.as_str())
+}
+
+fn is_copied(alloc: Global, row: &LineRow) -> Result<bool, AllocError> {
+    let copy = copy_of(alloc, row)?;
+    show_alike(alloc, row, &copy)
 }
 
 #[test]
 fn a_copied_row_says_the_same(rt: HostRuntime) -> Result<(), Fail> {
     let line = ("128576", 7, [48, 30, 4, 2], Answered::Changed);
     let row = row(rt.alloc(), line)?;
-    let copy = copied_row(rt.alloc(), &row)?;
-    let shown = format!(in rt.alloc(); "{row:?}")?;
-    let copied = format!(in rt.alloc(); "{copy:?}")?;
-    assert_eq!(rt; copied.as_str(), shown.as_str());
+    assert!(rt; is_copied(rt.alloc(), &row)?);
     Ok(())
 }

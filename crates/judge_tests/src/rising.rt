@@ -1,6 +1,6 @@
 //! Lines that are known, as the book and the judges ask for them.
 
-use edi_base::{Items, copied};
+use edi_base::{Items, MemoryFault, copied};
 use gs1_ids::{Gln, Gtin};
 use hub_lines::KnownLines;
 use hub_tables::{Answered, Column, LineRow};
@@ -42,11 +42,21 @@ pub(crate) fn row(alloc: Global, line: Line) -> Result<LineRow, Fail> {
     })
 }
 
-/// Alpha's three lines of one item, of which the rows have to pass.
-pub(crate) fn rising(alloc: Global, lines: [Line; 3]) -> Result<KnownLines, Fail> {
-    let mut rows = Items::new(alloc);
+fn push_rows(rows: &mut Items<LineRow>, alloc: Global, lines: [Line; 3]) -> Result<(), Fail> {
     for line in lines {
         rows.push(row(alloc, line)?)?;
     }
-    Ok(KnownLines::of_rows(alloc, rows)?.ok_or("rows that pass")?)
+    Ok(())
+}
+
+// Alone, so that what the contract says burdens no other goal.
+fn known_of(alloc: Global, rows: Items<LineRow>) -> Result<Option<KnownLines>, MemoryFault> {
+    KnownLines::of_rows(alloc, rows)
+}
+
+/// Alpha's three lines of one item, of which the rows have to pass.
+pub(crate) fn rising(alloc: Global, lines: [Line; 3]) -> Result<KnownLines, Fail> {
+    let mut rows = Items::new(alloc);
+    push_rows(&mut rows, alloc, lines)?;
+    Ok(known_of(alloc, rows)?.ok_or("rows that pass")?)
 }

@@ -81,8 +81,9 @@ set 4012345500004 128576 1 04000862141404 48 0 12 24 Changed",
 ];
 
 fn cancel(alloc: Global, case: &CancelCase) -> Result<Cancel, Fail> {
+    let supplier = gln(ALPHA)?;
     Ok(Cancel {
-        supplier: gln(ALPHA)?,
+        supplier,
         reference: copied(alloc, b"C1")?,
         order: copied(alloc, case.order.as_bytes())?,
         line: case.line,
@@ -90,24 +91,55 @@ fn cancel(alloc: Global, case: &CancelCase) -> Result<Cancel, Fail> {
     })
 }
 
-// Of the line 24 pieces are open.
-fn verdict(alloc: Global, case: &CancelCase) -> Result<Verdict, Fail> {
-    let row = alpha(alloc)?;
-    let supplier = registered(&row, case.is_registered);
+// What is known where 24 pieces of the line are open.
+fn known_of(alloc: Global, case: &CancelCase) -> Result<Known, Fail> {
     let line = ("128576", 1, [48, 24, 12, 0], Answered::Changed);
-    let known = known(alloc, [BEFORE, line, BEHIND], case.remembered)?;
+    known(alloc, [BEFORE, line, BEHIND], case.remembered)
+}
+
+// Judges alone, so that what the contract says burdens no other goal.
+fn judged(
+    alloc: Global,
+    supplier: Option<&SupplierRow>,
+    known: &Known,
+    content: Items<u8>,
+    cancel: &Cancel,
+) -> Result<Verdict, Fail> {
+    Ok(judge_cancel(alloc, supplier, known, content, cancel)?)
+}
+
+fn verdict_on(
+    alloc: Global,
+    is_registered: bool,
+    known: &Known,
+    cancel: &Cancel,
+) -> Result<Verdict, Fail> {
+    let row = alpha(alloc)?;
     let content = copied(alloc, SAID.as_bytes())?;
+    judged(
+        alloc,
+        registered(&row, is_registered),
+        known,
+        content,
+        cancel,
+    )
+}
+
+fn verdict(alloc: Global, case: &CancelCase) -> Result<Verdict, Fail> {
     let cancel = cancel(alloc, case)?;
-    Ok(judge_cancel(alloc, supplier, &known, content, &cancel)?)
+    let known = known_of(alloc, case)?;
+    verdict_on(alloc, case.is_registered, &known, &cancel)
+}
+
+fn is_judged(alloc: Global, case: &CancelCase) -> Result<bool, Fail> {
+    let verdict = verdict(alloc, case)?;
+    is_told(alloc, &verdict, case.want)
 }
 
 #[test]
 fn cancellations_are_judged(rt: HostRuntime) -> Result<(), Fail> {
-    let alloc = rt.alloc();
     for case in &CASES {
-        let verdict = verdict(alloc, case)?;
-        let told = told(alloc, &verdict)?;
-        assert_eq!(rt; told.as_str(), case.want, "{}", case.name);
+        assert!(rt; is_judged(rt.alloc(), case)?, "{}", case.name);
     }
     Ok(())
 }

@@ -1,8 +1,9 @@
-ghost use Rattle.std.specs.Prelude.{◌≡◌, false, map, IfOk};
+ghost use Rattle.std.specs.Prelude.{◌≡◌, false, length, map, IfOk};
 ghost use Rattle.edi_base.specs.Seen.{has_twice};
 
 use super::*;
 use edi_goods::Despatch;
+use edi_messages::MessageFault;
 use hub_judges::judge_despatch;
 
 // A despatch advice of some units, their lines of an order where they name none; which of the SSCC are used, and what else is
@@ -125,58 +126,89 @@ static CASES: [DespatchCase; 10] = [
     },
 ];
 
-fn despatch(alloc: Global, case: &DespatchCase) -> Result<Despatch, Fail>
-    ensures { IfOk result (λ despatch. has_twice (map (λ unit. unit.sscc) despatch.units) ≡ false) }
-{
+fn despatch_message(alloc: Global, case: &DespatchCase) -> Result<RawMessage, Fail> {
     let segments = format!(in alloc;
         "UNH+1+DESADV:D:01B:UN:EAN007'BGM+351+DA2+9'DTM+137:20250604:102'RFF+ON:{}'NAD+SU+4012345500004::9'{}",
         case.order, case.units
     )?;
-    let message = message(alloc, segments.as_str())?;
-    Ok(Despatch::read(alloc, &message)?)
+    message(alloc, segments.as_str())
+}
+
+fn read_despatch(alloc: Global, message: &RawMessage) -> Result<Despatch, MessageFault>
+    ensures { IfOk result (λ despatch. has_twice (map (λ unit. unit.sscc) despatch.units) ≡ false) }
+{
+    Despatch::read(alloc, message)
+}
+
+fn despatch(alloc: Global, case: &DespatchCase) -> Result<Despatch, Fail>
+    ensures { IfOk result (λ despatch. has_twice (map (λ unit. unit.sscc) despatch.units) ≡ false) }
+{
+    let message = despatch_message(alloc, case)?;
+    Ok(read_despatch(alloc, &message)?)
+}
+
+fn used_of(alloc: Global, case: &DespatchCase) -> Result<Items<bool>, MemoryFault> {
+    Ok(Items::from_vec(Vec::from_slice(alloc, case.used)?))
 }
 
 // What is known: of the line 24 pieces are open.
 fn known_of(alloc: Global, case: &DespatchCase) -> Result<Known, Fail> {
     let line = ("128576", 1, [48, 24, 24, 0], Answered::Changed);
-    let used = Items::from_vec(Vec::from_slice(alloc, case.used)?);
+    let used = used_of(alloc, case)?;
     let mut known = known(alloc, [BEFORE, line, BEHIND], case.remembered)?;
     known.used = used;
     known.number_known = case.is_number_known;
     Ok(known)
 }
 
-// What comes of a despatch advice, where a flag is known of each unit.
+// Judges alone, so that what the contract says burdens no other goal.
 fn judged(
     alloc: Global,
+    retailer: &Gln,
     row: &SupplierRow,
     known: Known,
+    delivery: IncomingMessage,
+    despatch: &Despatch,
+) -> Result<Verdict, Fail>
+    requires each_unit { length known.used ≡ length despatch.now.units }
+    requires apart { has_twice (map (λ unit. unit.sscc) despatch.now.units) ≡ false }
+{
+    Ok(judge_despatch(alloc, retailer, Some(row), known, delivery, despatch)?)
+}
+
+// What comes of a despatch advice, where a flag is known of each unit.
+fn verdict_on(
+    alloc: Global,
+    row: &SupplierRow,
+    case: &DespatchCase,
     despatch: &Despatch,
 ) -> Result<Verdict, Fail>
     requires apart { has_twice (map (λ unit. unit.sscc) despatch.now.units) ≡ false }
 {
+    let retailer = gln(RETAILER)?;
+    let delivery = delivery(alloc)?;
+    let known = known_of(alloc, case)?;
     if known.used.as_slice().len() != despatch.units.as_slice().len() {
         return Err(Fail::new("not a flag for each unit"));
     }
-    let retailer = gln(RETAILER)?;
-    let delivery = delivery(alloc)?;
-    Ok(judge_despatch(alloc, &retailer, Some(row), known, delivery, despatch)?)
+    judged(alloc, &retailer, row, known, delivery, despatch)
 }
 
 fn verdict(alloc: Global, case: &DespatchCase) -> Result<Verdict, Fail> {
     let row = alpha(alloc)?;
     let despatch = despatch(alloc, case)?;
-    let known = known_of(alloc, case)?;
-    judged(alloc, &row, known, &despatch)
+    verdict_on(alloc, &row, case, &despatch)
+}
+
+fn is_judged(alloc: Global, case: &DespatchCase) -> Result<bool, Fail> {
+    let verdict = verdict(alloc, case)?;
+    is_told(alloc, &verdict, case.want)
 }
 
 #[test]
 fn despatches_are_judged(rt: HostRuntime) -> Result<(), Fail> {
-    let alloc = rt.alloc();
     for case in &CASES {
-        let verdict = verdict(alloc, case)?;
-        let told = told(alloc, &verdict)?;
-        assert_eq!(rt; told.as_str(), case.want, "{}", case.name);
+        assert!(rt; is_judged(rt.alloc(), case)?, "{}", case.name);
     }
     Ok(())
 }

@@ -106,10 +106,7 @@ line 4012345500004 128576 2 04000862141411 30 30 0 0 Waiting",
     },
 ];
 
-// Order 128576 of two lines, of these parties.
-fn order(alloc: Global, buyer: &str, supplier: &str) -> Result<Order, Fail> {
-    let (buyer, supplier) = (gln(buyer)?, gln(supplier)?);
-    let mut lines = Items::new(alloc);
+fn push_lines(lines: &mut Items<OrderLine>) -> Result<(), Fail> {
     for (line, item, quantity) in [(7u32, ITEM, 48u32), (2, OTHER_ITEM, 30)] {
         lines.push(OrderLine {
             line,
@@ -117,42 +114,74 @@ fn order(alloc: Global, buyer: &str, supplier: &str) -> Result<Order, Fail> {
             quantity,
         })?;
     }
+    Ok(())
+}
+
+fn lines_of_two(alloc: Global) -> Result<Items<OrderLine>, Fail> {
+    let mut lines = Items::new(alloc);
+    push_lines(&mut lines)?;
+    Ok(lines)
+}
+
+// Order 128576 of two lines, of these parties.
+fn order(alloc: Global, buyer: &str, supplier: &str) -> Result<Order, Fail> {
+    let (buyer, supplier) = (gln(buyer)?, gln(supplier)?);
     Ok(Order {
         number: copied(alloc, b"128576")?,
         buyer,
         supplier,
-        lines,
+        lines: lines_of_two(alloc)?,
     })
 }
 
+// Judges alone, so that what the contract says burdens no other goal.
 fn judged(
     alloc: Global,
+    retailer: &Gln,
     supplier: Option<&SupplierRow>,
+    known: &Known,
+    come: (IncomingMessage, Items<u8>),
+    order: &Order,
+) -> Result<Verdict, Fail> {
+    let (delivery, body) = come;
+    Ok(judge_order(alloc, retailer, supplier, known, delivery, body, order)?)
+}
+
+fn known_of(alloc: Global, case: &OrderCase) -> Result<Known, Fail> {
+    let mut known = known(alloc, [BEFORE, WAITING, BEHIND], case.remembered)?;
+    known.number_known = case.is_number_known;
+    known.mails = case.mails;
+    Ok(known)
+}
+
+fn verdict_on(
+    alloc: Global,
+    case: &OrderCase,
     known: &Known,
     order: &Order,
 ) -> Result<Verdict, Fail> {
     let retailer = gln(RETAILER)?;
-    let delivery = delivery(alloc)?;
-    let body = copied(alloc, b"body")?;
-    Ok(judge_order(alloc, &retailer, supplier, known, delivery, body, order)?)
+    let row = alpha(alloc)?;
+    let come = come(alloc)?;
+    let supplier = registered(&row, case.is_registered);
+    judged(alloc, &retailer, supplier, known, come, order)
 }
 
 fn verdict(alloc: Global, case: &OrderCase) -> Result<Verdict, Fail> {
-    let row = alpha(alloc)?;
     let order = order(alloc, case.buyer, case.supplier)?;
-    let mut known = known(alloc, [BEFORE, WAITING, BEHIND], case.remembered)?;
-    known.number_known = case.is_number_known;
-    known.mails = case.mails;
-    judged(alloc, registered(&row, case.is_registered), &known, &order)
+    let known = known_of(alloc, case)?;
+    verdict_on(alloc, case, &known, &order)
+}
+
+fn is_judged(alloc: Global, case: &OrderCase) -> Result<bool, Fail> {
+    let verdict = verdict(alloc, case)?;
+    is_told(alloc, &verdict, case.want)
 }
 
 #[test]
 fn orders_are_judged(rt: HostRuntime) -> Result<(), Fail> {
-    let alloc = rt.alloc();
     for case in &CASES {
-        let verdict = verdict(alloc, case)?;
-        let told = told(alloc, &verdict)?;
-        assert_eq!(rt; told.as_str(), case.want, "{}", case.name);
+        assert!(rt; is_judged(rt.alloc(), case)?, "{}", case.name);
     }
     Ok(())
 }

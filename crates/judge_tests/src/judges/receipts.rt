@@ -1,10 +1,11 @@
-ghost use Rattle.std.specs.Prelude.{◌≡◌, true, false, map, IfOk};
+ghost use Rattle.std.specs.Prelude.{◌≡◌, true, false, length, map, IfOk};
 ghost use Rattle.std.specs.List.{list_all};
 ghost use Rattle.edi_base.specs.Seen.{has_twice};
 ghost use Rattle.edi_goods.specs.Receipt.{has_sums};
 
 use super::*;
 use edi_goods::Receipt;
+use edi_messages::MessageFault;
 use gs1_ids::Sscc;
 use hub_judges::judge_receipt;
 use hub_tables::{Arrival, Column, PalletRow};
@@ -123,30 +124,56 @@ static CASES: [ReceiptCase; 12] = [
     },
 ];
 
+fn receipt_message(alloc: Global, parties: &str) -> Result<RawMessage, Fail> {
+    let segments = format!(in alloc;
+        "UNH+1+RECADV:D:01B:UN:EAN005'BGM+632+G1+9'DTM+137:20250605:102'{parties}{UNITS}"
+    )?;
+    message(alloc, segments.as_str())
+}
+
+fn read_receipt(alloc: Global, message: &RawMessage) -> Result<Receipt, MessageFault>
+    ensures apart { IfOk result (λ receipt. has_twice (map (λ unit. unit.sscc) receipt.units) ≡ false) }
+    ensures sums { IfOk result (λ receipt. list_all (λ unit. has_sums unit.lines) receipt.units ≡ true) }
+{
+    Receipt::read(alloc, message)
+}
+
 // The receiving advice of both units, with these parties.
 fn receipt(alloc: Global, parties: &str) -> Result<Receipt, Fail>
     ensures apart { IfOk result (λ receipt. has_twice (map (λ unit. unit.sscc) receipt.units) ≡ false) }
     ensures sums { IfOk result (λ receipt. list_all (λ unit. has_sums unit.lines) receipt.units ≡ true) }
 {
-    let segments = format!(in alloc;
-        "UNH+1+RECADV:D:01B:UN:EAN005'BGM+632+G1+9'DTM+137:20250605:102'{parties}{UNITS}"
-    )?;
-    let message = message(alloc, segments.as_str())?;
-    Ok(Receipt::read(alloc, &message)?)
+    let message = receipt_message(alloc, parties)?;
+    Ok(read_receipt(alloc, &message)?)
+}
+
+fn pallet_there(alloc: Global, sscc: &[u8], arrival: Arrival) -> Result<PalletRow, Fail> {
+    let (sscc, supplier) = (Sscc::parse(sscc).ok_or("an SSCC")?, gln(ALPHA)?);
+    Ok(PalletRow {
+        sscc,
+        supplier,
+        advice: copied(alloc, b"DA1")?,
+        received: Column::of(arrival),
+    })
 }
 
 // Alpha's pallet of this SSCC, announced by advice DA1, where it is there.
 fn pallet(alloc: Global, sscc: &[u8], arrival: Option<Arrival>) -> Result<Option<PalletRow>, Fail> {
-    let Some(arrival) = arrival else {
-        return Ok(None);
-    };
-    let sscc = Sscc::parse(sscc).ok_or("an SSCC")?;
-    Ok(Some(PalletRow {
-        sscc,
-        supplier: gln(ALPHA)?,
-        advice: copied(alloc, b"DA1")?,
-        received: Column::of(arrival),
-    }))
+    match arrival {
+        Some(arrival) => Ok(Some(pallet_there(alloc, sscc, arrival)?)),
+        None => Ok(None),
+    }
+}
+
+fn push_pallets(
+    pallets: &mut Items<Option<PalletRow>>,
+    alloc: Global,
+    arrivals: [Option<Arrival>; 2],
+) -> Result<(), Fail> {
+    let [first, second] = arrivals;
+    pallets.push(pallet(alloc, b"340123455000000012", first)?)?;
+    pallets.push(pallet(alloc, b"340123455000000029", second)?)?;
+    Ok(())
 }
 
 // The pallets of both units.
@@ -154,17 +181,32 @@ fn pallets(
     alloc: Global,
     arrivals: [Option<Arrival>; 2],
 ) -> Result<Items<Option<PalletRow>>, Fail> {
-    let [first, second] = arrivals;
     let mut pallets = Items::new(alloc);
-    pallets.push(pallet(alloc, b"340123455000000012", first)?)?;
-    pallets.push(pallet(alloc, b"340123455000000029", second)?)?;
+    push_pallets(&mut pallets, alloc, arrivals)?;
     Ok(pallets)
 }
 
-// What comes of a receiving advice, where a pallet is known of each unit, or that there is none.
+// Judges alone, so that what the contract says burdens no other goal.
 fn judged(
     alloc: Global,
+    retailer: &Gln,
     supplier: Option<&SupplierRow>,
+    known: &Known,
+    come: (IncomingMessage, Items<u8>),
+    receipt: &Receipt,
+) -> Result<Verdict, Fail>
+    requires each_unit { length known.now.pallets ≡ length receipt.now.units }
+    requires apart { has_twice (map (λ unit. unit.sscc) receipt.now.units) ≡ false }
+    requires sums { list_all (λ unit. has_sums unit.lines) receipt.now.units ≡ true }
+{
+    let (delivery, body) = come;
+    Ok(judge_receipt(alloc, retailer, supplier, known, delivery, body, receipt)?)
+}
+
+// What comes of a receiving advice, where a pallet is known of each unit, or that there is none.
+fn verdict_on(
+    alloc: Global,
+    is_registered: bool,
     known: &Known,
     receipt: &Receipt,
 ) -> Result<Verdict, Fail>
@@ -175,32 +217,35 @@ fn judged(
         return Err(Fail::new("not a pallet for each unit"));
     }
     let retailer = gln(RETAILER)?;
-    let delivery = delivery(alloc)?;
-    let body = copied(alloc, b"body")?;
-    Ok(judge_receipt(alloc, &retailer, supplier, known, delivery, body, receipt)?)
+    let row = alpha(alloc)?;
+    let come = come(alloc)?;
+    let supplier = registered(&row, is_registered);
+    judged(alloc, &retailer, supplier, known, come, receipt)
+}
+
+fn known_of(alloc: Global, case: &ReceiptCase) -> Result<Known, Fail> {
+    let pallets = pallets(alloc, case.pallets)?;
+    let mut known = known(alloc, [BEFORE, WAITING, BEHIND], case.remembered)?;
+    known.mails = case.mails;
+    known.pallets = pallets;
+    Ok(known)
 }
 
 fn verdict(alloc: Global, case: &ReceiptCase) -> Result<Verdict, Fail> {
-    let row = alpha(alloc)?;
+    let known = known_of(alloc, case)?;
     let receipt = receipt(alloc, case.parties)?;
-    let mut known = known(alloc, [BEFORE, WAITING, BEHIND], case.remembered)?;
-    known.mails = case.mails;
-    known.pallets = pallets(alloc, case.pallets)?;
-    judged(
-        alloc,
-        registered(&row, case.is_registered),
-        &known,
-        &receipt,
-    )
+    verdict_on(alloc, case.is_registered, &known, &receipt)
+}
+
+fn is_judged(alloc: Global, case: &ReceiptCase) -> Result<bool, Fail> {
+    let verdict = verdict(alloc, case)?;
+    is_told(alloc, &verdict, case.want)
 }
 
 #[test]
 fn receipts_are_judged(rt: HostRuntime) -> Result<(), Fail> {
-    let alloc = rt.alloc();
     for case in &CASES {
-        let verdict = verdict(alloc, case)?;
-        let told = told(alloc, &verdict)?;
-        assert_eq!(rt; told.as_str(), case.want, "{}", case.name);
+        assert!(rt; is_judged(rt.alloc(), case)?, "{}", case.name);
     }
     Ok(())
 }

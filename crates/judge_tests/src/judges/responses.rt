@@ -17,7 +17,7 @@ enum Said {
     AllAccepted,
     AllRefused,
     // Line numbers or none, items and answers.
-    Lines(&'static [(Option<u32>, &'static str, LineAnswer)]),
+    Lines(&'static [SaidLine]),
 }
 
 // Line 1 where it is answered, and a second line of the same order and item.
@@ -207,21 +207,31 @@ set 4012345500004 128576 2 04000862141404 48 36 0 0 Accepted",
     },
 ];
 
-fn answer(alloc: Global, said: &Said) -> Result<Answer, Fail> {
-    let said = match said {
-        Said::AllAccepted => return Ok(Answer::AllAccepted),
-        Said::AllRefused => return Ok(Answer::AllRefused),
-        Said::Lines(said) => said,
-    };
-    let mut lines = Items::new(alloc);
-    for (order_line, item, answer) in *said {
+type SaidLine = (Option<u32>, &'static str, LineAnswer);
+
+fn push_lines(lines: &mut Items<AnswerLine>, said: &[SaidLine]) -> Result<(), Fail> {
+    for (order_line, item, answer) in said {
         lines.push(AnswerLine {
             order_line: *order_line,
             gtin: gtin(item)?,
             answer: *answer,
         })?;
     }
+    Ok(())
+}
+
+fn answer_to_lines(alloc: Global, said: &[SaidLine]) -> Result<Answer, Fail> {
+    let mut lines = Items::new(alloc);
+    push_lines(&mut lines, said)?;
     Ok(Answer::Lines(lines))
+}
+
+fn answer(alloc: Global, said: &Said) -> Result<Answer, Fail> {
+    match said {
+        Said::AllAccepted => Ok(Answer::AllAccepted),
+        Said::AllRefused => Ok(Answer::AllRefused),
+        Said::Lines(said) => answer_to_lines(alloc, said),
+    }
 }
 
 fn response(alloc: Global, case: &ResponseCase) -> Result<Response, Fail> {
@@ -235,31 +245,50 @@ fn response(alloc: Global, case: &ResponseCase) -> Result<Response, Fail> {
     })
 }
 
+// Judges alone, so that what the contract says burdens no other goal.
 fn judged(
     alloc: Global,
+    retailer: &Gln,
     row: &SupplierRow,
     known: Known,
+    delivery: IncomingMessage,
+    response: &Response,
+) -> Result<Verdict, Fail> {
+    Ok(judge_response(alloc, retailer, Some(row), known, delivery, response)?)
+}
+
+fn verdict_on(
+    alloc: Global,
+    row: &SupplierRow,
+    lines: [Line; 3],
     response: &Response,
 ) -> Result<Verdict, Fail> {
     let retailer = gln(RETAILER)?;
     let delivery = delivery(alloc)?;
-    Ok(judge_response(alloc, &retailer, Some(row), known, delivery, response)?)
+    let known = known(alloc, lines, None)?;
+    judged(alloc, &retailer, row, known, delivery, response)
 }
 
 fn verdict(alloc: Global, case: &ResponseCase) -> Result<Verdict, Fail> {
     let row = alpha(alloc)?;
     let response = response(alloc, case)?;
-    let known = known(alloc, *case.lines, None)?;
-    judged(alloc, &row, known, &response)
+    verdict_on(alloc, &row, *case.lines, &response)
+}
+
+// The table, so that its rows do not stand in the proof of the test.
+fn cases() -> &'static [ResponseCase] {
+    &CASES
+}
+
+fn is_judged(alloc: Global, case: &ResponseCase) -> Result<bool, Fail> {
+    let verdict = verdict(alloc, case)?;
+    is_told(alloc, &verdict, case.want)
 }
 
 #[test]
 fn responses_are_judged(rt: HostRuntime) -> Result<(), Fail> {
-    let alloc = rt.alloc();
-    for case in &CASES {
-        let verdict = verdict(alloc, case)?;
-        let told = told(alloc, &verdict)?;
-        assert_eq!(rt; told.as_str(), case.want, "{}", case.name);
+    for case in cases() {
+        assert!(rt; is_judged(rt.alloc(), case)?, "{}", case.name);
     }
     Ok(())
 }

@@ -5,91 +5,126 @@ use gs1_ids::Gln;
 use hub_rules::Verdict;
 use hub_tables::{Change, ContentRow, LineRow, MailRow, PalletRow, ReceiptRow, RememberedRow};
 use std::alloc::Global;
+use std::fmt::Write;
 use std::test::Fail;
 
 fn text(bytes: &Items<u8>) -> Result<&str, Fail> {
     Ok(str::from_utf8(bytes.as_slice())?)
 }
 
-// A line: its key and its item; how much is ordered, open, refused and cancelled; and its answer.
-fn line_told(alloc: Global, change: &str, row: &LineRow) -> Result<String, Fail> {
-    let (number, answer) = (text(&row.number)?, row.answer.case());
-    let key = format!(in alloc; "{} {number} {} {}", row.supplier, row.line, row.gtin)?;
+// How much of a line is ordered, open, refused and cancelled, and its answer.
+fn tell_quantities(out: &mut String, row: &LineRow) -> Result<(), Fail> {
     let quantities = [row.ordered, row.open_qty, row.refused, row.cancelled];
     let [ordered, open, refused, cancelled] = quantities;
-    Ok(format!(in alloc; "{change} {key} {ordered} {open} {refused} {cancelled} {answer:?}")?)
+    let answer = row.answer.case();
+    write!(out, " {ordered} {open} {refused} {cancelled} {answer:?}")?;
+    Ok(())
 }
 
-fn remembered_told(alloc: Global, row: &RememberedRow) -> Result<String, Fail> {
+// A line: its key, its item and its quantities.
+fn tell_line(out: &mut String, change: &str, row: &LineRow) -> Result<(), Fail> {
+    let (supplier, line, item) = (&row.supplier, row.line, &row.gtin);
+    let number = text(&row.number)?;
+    write!(out, "{change} {supplier} {number} {line} {item}")?;
+    tell_quantities(out, row)
+}
+
+fn tell_remembered(out: &mut String, row: &RememberedRow) -> Result<(), Fail> {
     let (supplier, side) = (&row.supplier, row.side.case());
     let (control, message) = (text(&row.control)?, text(&row.message)?);
     let content = text(&row.content)?;
-    Ok(format!(in alloc; "remember {supplier} {side:?} {control}/{message} {content}")?)
+    write!(
+        out,
+        "remember {supplier} {side:?} {control}/{message} {content}"
+    )?;
+    Ok(())
 }
 
-fn mail_told(alloc: Global, row: &MailRow) -> Result<String, Fail> {
+fn tell_mail(out: &mut String, row: &MailRow) -> Result<(), Fail> {
     let (seconds, decimal) = (row.moment.seconds(), row.decimal);
-    let key = format!(in alloc; "{} {} {seconds} {decimal}", row.supplier, row.number)?;
+    write!(
+        out,
+        "mail {} {} {seconds} {decimal}",
+        row.supplier, row.number
+    )?;
     let (kind, taken) = (row.kind.case(), row.taken.case());
     let (document, body) = (text(&row.document)?, text(&row.body)?);
-    Ok(format!(in alloc; "mail {key} {kind:?} {document} {body} {taken}")?)
+    write!(out, " {kind:?} {document} {body} {taken}")?;
+    Ok(())
 }
 
-fn pallet_told(alloc: Global, change: &str, row: &PalletRow) -> Result<String, Fail> {
+fn tell_pallet(out: &mut String, change: &str, row: &PalletRow) -> Result<(), Fail> {
     let (advice, received) = (text(&row.advice)?, row.received.case());
     let (sscc, supplier) = (&row.sscc, &row.supplier);
-    Ok(format!(in alloc; "{change} {sscc} {supplier} {advice} {received:?}")?)
+    write!(out, "{change} {sscc} {supplier} {advice} {received:?}")?;
+    Ok(())
 }
 
-fn receipt_told(alloc: Global, row: &ReceiptRow) -> Result<String, Fail> {
+fn tell_receipt(out: &mut String, row: &ReceiptRow) -> Result<(), Fail> {
     let (accepted, returned, destroyed) = (row.accepted, row.returned, row.destroyed);
     let (sscc, gtin) = (&row.sscc, &row.gtin);
-    Ok(format!(in alloc; "receipt {sscc} {gtin} {accepted} {returned} {destroyed}")?)
+    write!(
+        out,
+        "receipt {sscc} {gtin} {accepted} {returned} {destroyed}"
+    )?;
+    Ok(())
 }
 
-fn content_told(alloc: Global, row: &ContentRow) -> Result<String, Fail> {
+fn tell_content(out: &mut String, row: &ContentRow) -> Result<(), Fail> {
     let (number, line, quantity) = (text(&row.number)?, row.line, row.quantity);
     let (sscc, place) = (&row.sscc, row.place);
-    Ok(format!(in alloc; "content {sscc} {place} {number} {line} {quantity}")?)
+    write!(out, "content {sscc} {place} {number} {line} {quantity}")?;
+    Ok(())
 }
 
 // An order or a despatch advice: its supplier and its number.
-fn document_told(
-    alloc: Global,
+fn tell_document(
+    out: &mut String,
     change: &str,
     supplier: &Gln,
     number: &Items<u8>,
-) -> Result<String, Fail> {
+) -> Result<(), Fail> {
     let number = text(number)?;
-    Ok(format!(in alloc; "{change} {supplier} {number}")?)
+    write!(out, "{change} {supplier} {number}")?;
+    Ok(())
 }
 
-fn change_told(alloc: Global, change: &Change) -> Result<String, Fail> {
+fn tell_change(out: &mut String, change: &Change) -> Result<(), Fail> {
     match change {
-        Change::Remember(row) => remembered_told(alloc, row),
-        Change::AddMail(row) => mail_told(alloc, row),
-        Change::AddOrder(row) => document_told(alloc, "order", &row.supplier, &row.number),
-        Change::AddLine(row) => line_told(alloc, "line", row),
-        Change::SetLine(row) => line_told(alloc, "set", row),
-        Change::AddAdvice(row) => document_told(alloc, "advice", &row.supplier, &row.number),
-        Change::AddPallet(row) => pallet_told(alloc, "pallet", row),
-        Change::SetPallet(row) => pallet_told(alloc, "set", row),
-        Change::AddReceipt(row) => receipt_told(alloc, row),
-        Change::AddContent(row) => content_told(alloc, row),
+        Change::Remember(row) => tell_remembered(out, row),
+        Change::AddMail(row) => tell_mail(out, row),
+        Change::AddOrder(row) => tell_document(out, "order", &row.supplier, &row.number),
+        Change::AddLine(row) => tell_line(out, "line", row),
+        Change::SetLine(row) => tell_line(out, "set", row),
+        Change::AddAdvice(row) => tell_document(out, "advice", &row.supplier, &row.number),
+        Change::AddPallet(row) => tell_pallet(out, "pallet", row),
+        Change::SetPallet(row) => tell_pallet(out, "set", row),
+        Change::AddReceipt(row) => tell_receipt(out, row),
+        Change::AddContent(row) => tell_content(out, row),
         Change::SetMail(_) => Err(Fail::new("no verdict sets a mail")),
     }
 }
 
-/// The code of a refusal; or `accepted`, and each change on a line of its own.
-pub(super) fn told(alloc: Global, verdict: &Verdict) -> Result<String, Fail> {
-    let changes = match verdict {
-        Verdict::Accept(changes) => changes,
-        Verdict::Refuse(code) => return Ok(code.to_string(alloc)?),
-    };
-    let mut told = String::from_str(alloc, "accepted")?;
-    for change in changes.as_slice() {
-        told.push_str("\n")?;
-        told.push_str(change_told(alloc, change)?.as_str())?;
+fn tell_changes(out: &mut String, changes: &[Change]) -> Result<(), Fail> {
+    out.push_str("accepted")?;
+    for change in changes {
+        out.push_str("\n")?;
+        tell_change(out, change)?;
     }
-    Ok(told)
+    Ok(())
+}
+
+// The code of a refusal; or `accepted`, and each change on a line of its own.
+fn tell(out: &mut String, verdict: &Verdict) -> Result<(), Fail> {
+    match verdict {
+        Verdict::Accept(changes) => tell_changes(out, changes.as_slice()),
+        Verdict::Refuse(code) => Ok(write!(out, "{code}")?),
+    }
+}
+
+/// Whether this is told of a verdict.
+pub(super) fn is_told(alloc: Global, verdict: &Verdict, want: &str) -> Result<bool, Fail> {
+    let mut told = String::new(alloc);
+    tell(&mut told, verdict)?;
+    Ok(told.as_str() == want)
 }
