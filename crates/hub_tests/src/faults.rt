@@ -15,6 +15,7 @@ use hub_store::{LastingFault, Store, StoreFault};
 use hub_tables::{Change, OrderRow};
 use hub_trial::TrialStore;
 use std::alloc::Global;
+use std::process::Abort;
 use std::slice;
 use std::test::Fail;
 
@@ -109,25 +110,51 @@ fn order(alloc: Global, supplier: Gln) -> Result<Change, MemoryFault> {
     Ok(Change::AddOrder(OrderRow { supplier, number }))
 }
 
-#[test]
-fn a_fault_for_good_is_told_and_answered_again(rt: HostRuntime) -> Result<(), Fail> {
-    let supplier = Gln::parse(b"4012345500004").ok_or("a GLN")?;
-    let mut list = VecStore::new(rt.alloc());
-    let change = order(rt.alloc(), supplier)?;
-    let done = commit_listed(&mut list, slice::from_ref(&change));
-    assert_eq!(rt; done, Ok(()), "commit");
-    let found = ask_list_twice(&mut list, &supplier, ORDER);
-    assert_eq!(rt; found, (Ok(true), None, Ok(true)), "lists");
-    assert_eq!(rt; fault_of_list(&list), None, "no fault for good");
+// What comes of committing the order. Each call stands alone from here on: its contract is then of no other's goals.
+fn committed(
+    alloc: Global,
+    list: &mut VecStore,
+    supplier: Gln,
+) -> Result<Result<(), StoreFault>, MemoryFault> {
+    let change = order(alloc, supplier)?;
+    Ok(commit_listed(list, slice::from_ref(&change)))
+}
+
+fn on_trial(list: VecStore) -> TrialStore<VecStore> {
+    TrialStore::failing(list, 1, StoreFault::Disk)
+}
+
+fn assert_list(
+    rt: &impl Abort,
+    alloc: Global,
+    list: &mut VecStore,
+    supplier: &Gln,
+) -> Result<(), MemoryFault> {
+    let done = committed(alloc, list, *supplier)?;
+    assert_eq!(*rt; done, Ok(()), "commit");
+    let found = ask_list_twice(list, supplier, ORDER);
+    assert_eq!(*rt; found, (Ok(true), None, Ok(true)), "lists");
+    assert_eq!(*rt; fault_of_list(list), None, "no fault for good");
+    Ok(())
+}
+
+fn assert_trial(rt: &impl Abort, trial: &mut TrialStore<VecStore>, supplier: &Gln) {
+    let found = ask_clean_trial(trial, supplier, ORDER);
+    assert_eq!(*rt; found, Ok(true), "before the fault");
     let (disk, broken) = (StoreFault::Disk, LastingFault::Disk);
-    let mut trial = TrialStore::failing(list, 1, disk);
-    let found = ask_clean_trial(&mut trial, &supplier, ORDER);
-    assert_eq!(rt; found, Ok(true), "before the fault");
-    let found = ask_trial_twice(&mut trial, &supplier, ORDER);
-    assert_eq!(rt;
+    let found = ask_trial_twice(trial, supplier, ORDER);
+    assert_eq!(*rt;
         found,
         (Err(disk), Some(broken), Err(disk)),
         "a disk that fails"
     );
+}
+
+#[test]
+fn a_fault_for_good_is_told_and_answered_again(rt: HostRuntime) -> Result<(), Fail> {
+    let supplier = Gln::parse(b"4012345500004").ok_or("a GLN")?;
+    let mut list = VecStore::new(rt.alloc());
+    assert_list(&rt, rt.alloc(), &mut list, &supplier)?;
+    assert_trial(&rt, &mut on_trial(list), &supplier);
     Ok(())
 }

@@ -1,6 +1,7 @@
 use gs1_ids::Gln;
-use hub_register::{Key, Register, RegisterFault, Role};
+use hub_register::{Key, Register, RegisterFault, Role, SupplierRow};
 use std::alloc::{AllocError, Global};
+use std::process::Abort;
 use std::test::Fail;
 
 const HUB: &str = "5412345000006";
@@ -29,17 +30,20 @@ prefix = \"40123455\"
 key = \"alpha-key-1\"
 ";
 
-// What a register says of a party as a supplier: its GLN, prefix and key, or `none`.
+// The GLN, prefix and key of a supplier.
+fn row_told(alloc: Global, row: &SupplierRow) -> Result<String, AllocError> {
+    let key = str::from_utf8(row.key.bytes()).unwrap_or("no text");
+    match row.prefixes.as_slice() {
+        [prefix] => format!(in alloc; "{} {prefix} {key}", row.gln),
+        _ => format!(in alloc; "{} not one prefix {key}", row.gln),
+    }
+}
+
+// What a register says of a party as a supplier, or `none`.
 fn supplier_told(alloc: Global, register: &Register, gln: &Gln) -> Result<String, AllocError> {
     match register.supplier(gln) {
-        Some(row) => {
-            let key = str::from_utf8(row.key.bytes()).unwrap_or("no text");
-            match row.prefixes.as_slice() {
-                [prefix] => format!(in alloc; "{} {prefix} {key}", row.gln),
-                _ => format!(in alloc; "{} not one prefix {key}", row.gln),
-            }
-        }
-        None => format!(in alloc; "none"),
+        Some(row) => row_told(alloc, row),
+        None => "none".to_string(alloc),
     }
 }
 
@@ -57,6 +61,25 @@ fn register_told(alloc: Global, register: &Register) -> Result<String, AllocErro
     format!(in alloc; "{hub} {retailer} {}", register.supplier_count())
 }
 
+fn assert_told(rt: &impl Abort, alloc: Global, register: &Register) -> Result<(), AllocError> {
+    let told = register_told(alloc, register)?;
+    assert_eq!(*rt; told.as_str(), "5412345000006 5412345000013 2");
+    Ok(())
+}
+
+fn assert_supplier(
+    rt: &impl Abort,
+    alloc: Global,
+    register: &Register,
+    row: &(&str, &str),
+) -> Result<(), Fail> {
+    let (party, want) = row;
+    let gln = gln(party)?;
+    let told = supplier_told(alloc, register, &gln)?;
+    assert_eq!(*rt; told.as_str(), *want, "of {party}");
+    Ok(())
+}
+
 // Parties, and what the register says of each as a supplier.
 static SUPPLIERS: [(&str, &str); 3] = [
     (ALPHA, "4012345500004 40123455 alpha-key-1"),
@@ -64,16 +87,18 @@ static SUPPLIERS: [(&str, &str); 3] = [
     (RETAILER, "none"),
 ];
 
+fn assert_suppliers(rt: &impl Abort, alloc: Global, register: &Register) -> Result<(), Fail> {
+    for row in &SUPPLIERS {
+        assert_supplier(rt, alloc, register, row)?;
+    }
+    Ok(())
+}
+
 #[test]
 fn parties_are_found(rt: HostRuntime) -> Result<(), Fail> {
     let register = register_of_two(rt.alloc())?;
-    let told = register_told(rt.alloc(), &register)?;
-    assert_eq!(rt; told.as_str(), "5412345000006 5412345000013 2");
-    for (party, want) in &SUPPLIERS {
-        let told = supplier_told(rt.alloc(), &register, &gln(party)?)?;
-        assert_eq!(rt; told.as_str(), *want, "of {party}");
-    }
-    Ok(())
+    assert_told(&rt, rt.alloc(), &register)?;
+    assert_suppliers(&rt, rt.alloc(), &register)
 }
 
 // Parties, keys, and as whom the party may ask with the key.
@@ -91,14 +116,18 @@ static ROLES: [(&str, &[u8], Option<Role>); 11] = [
     (HUB, b"retail-key", None),
 ];
 
+fn assert_roles(rt: &impl Abort, register: &Register) -> Result<(), Fail> {
+    for (party, key, role) in &ROLES {
+        let found = register.may(&gln(party)?, key);
+        assert_eq!(*rt; found, *role, "{party} with {key:?}");
+    }
+    Ok(())
+}
+
 #[test]
 fn parties_are_known_by_their_keys(rt: HostRuntime) -> Result<(), Fail> {
     let register = register_of_two(rt.alloc())?;
-    for (party, key, role) in &ROLES {
-        let found = register.may(&gln(party)?, key);
-        assert_eq!(rt; found, *role, "{party} with {key:?}");
-    }
-    Ok(())
+    assert_roles(&rt, &register)
 }
 
 #[test]

@@ -18,6 +18,7 @@ use hub_tables::{
 };
 use hub_trial::TrialStore;
 use std::alloc::Global;
+use std::process::Abort;
 use std::slice;
 use std::test::Fail;
 
@@ -52,7 +53,7 @@ fn ids_of(supplier: &[u8]) -> Option<Ids> {
 }
 
 // A line of order 128575.
-fn line(alloc: Global, ids: Ids, line: u32, open_qty: u32) -> Result<LineRow, MemoryFault> {
+fn line(alloc: Global, ids: &Ids, line: u32, open_qty: u32) -> Result<LineRow, MemoryFault> {
     Ok(LineRow {
         supplier: ids.supplier,
         number: copied(alloc, ORDER)?,
@@ -66,7 +67,7 @@ fn line(alloc: Global, ids: Ids, line: u32, open_qty: u32) -> Result<LineRow, Me
     })
 }
 
-fn mail(alloc: Global, ids: Ids, number: u64) -> Result<MailRow, MemoryFault> {
+fn mail(alloc: Global, ids: &Ids, number: u64) -> Result<MailRow, MemoryFault> {
     Ok(MailRow {
         supplier: ids.supplier,
         number,
@@ -79,59 +80,97 @@ fn mail(alloc: Global, ids: Ids, number: u64) -> Result<MailRow, MemoryFault> {
     })
 }
 
-// An order of two lines, with its mailbox entry, and a second entry.
-fn ordered(alloc: Global, ids: Ids) -> Result<Items<Change>, MemoryFault> {
-    let mut changes = Items::new(alloc);
-    changes.push(Change::Remember(RememberedRow {
+// One change more. What is built so far is handed on as a result: an exit after each row costs the proof far more.
+fn with(
+    changes: Result<Items<Change>, MemoryFault>,
+    change: Result<Change, MemoryFault>,
+) -> Result<Items<Change>, MemoryFault> {
+    let mut changes = changes?;
+    changes.push(change?)?;
+    Ok(changes)
+}
+
+fn remembering(alloc: Global, ids: &Ids) -> Result<Change, MemoryFault> {
+    Ok(Change::Remember(RememberedRow {
         supplier: ids.supplier,
         side: Column::of(Side::Retailer),
         control: copied(alloc, b"1001")?,
         message: copied(alloc, b"7")?,
         content: copied(alloc, SAID)?,
-    }))?;
-    changes.push(Change::AddOrder(OrderRow {
-        supplier: ids.supplier,
-        number: copied(alloc, ORDER)?,
-    }))?;
-    for number in [2, 1] {
-        changes.push(Change::AddLine(line(alloc, ids, number, 48)?))?;
-        changes.push(Change::AddMail(mail(alloc, ids, u64::from(number))?))?;
-    }
-    Ok(changes)
+    }))
 }
 
-// A pallet with one content, and what was received of it.
-fn despatched(alloc: Global, ids: Ids) -> Result<Items<Change>, MemoryFault> {
-    let mut changes = Items::new(alloc);
-    changes.push(Change::AddAdvice(AdviceRow {
+fn adding_order(alloc: Global, ids: &Ids) -> Result<Change, MemoryFault> {
+    Ok(Change::AddOrder(OrderRow {
+        supplier: ids.supplier,
+        number: copied(alloc, ORDER)?,
+    }))
+}
+
+fn adding_line(alloc: Global, ids: &Ids, number: u32) -> Result<Change, MemoryFault> {
+    Ok(Change::AddLine(line(alloc, ids, number, 48)?))
+}
+
+fn adding_mail(alloc: Global, ids: &Ids, number: u64) -> Result<Change, MemoryFault> {
+    Ok(Change::AddMail(mail(alloc, ids, number)?))
+}
+
+// An order of two lines, with its mailbox entry, and a second entry.
+fn ordered(alloc: Global, ids: &Ids) -> Result<Items<Change>, MemoryFault> {
+    let changes = with(Ok(Items::new(alloc)), remembering(alloc, ids));
+    let changes = with(changes, adding_order(alloc, ids));
+    let changes = with(changes, adding_line(alloc, ids, 2));
+    let changes = with(changes, adding_mail(alloc, ids, 2));
+    let changes = with(changes, adding_line(alloc, ids, 1));
+    with(changes, adding_mail(alloc, ids, 1))
+}
+
+fn adding_advice(alloc: Global, ids: &Ids) -> Result<Change, MemoryFault> {
+    Ok(Change::AddAdvice(AdviceRow {
         supplier: ids.supplier,
         number: copied(alloc, b"DES1")?,
-    }))?;
-    changes.push(Change::AddPallet(PalletRow {
+    }))
+}
+
+fn adding_pallet(alloc: Global, ids: &Ids) -> Result<Change, MemoryFault> {
+    Ok(Change::AddPallet(PalletRow {
         sscc: ids.pallet,
         supplier: ids.supplier,
         advice: copied(alloc, b"DES1")?,
         received: Column::of(Arrival::Announced),
-    }))?;
-    changes.push(Change::AddContent(ContentRow {
+    }))
+}
+
+fn adding_content(alloc: Global, ids: &Ids) -> Result<Change, MemoryFault> {
+    Ok(Change::AddContent(ContentRow {
         sscc: ids.pallet,
         place: 1,
         number: copied(alloc, ORDER)?,
         line: 1,
         quantity: 48,
-    }))?;
-    changes.push(Change::AddReceipt(ReceiptRow {
+    }))
+}
+
+fn adding_receipt(ids: &Ids) -> Change {
+    Change::AddReceipt(ReceiptRow {
         sscc: ids.pallet,
         gtin: ids.item,
         accepted: 40,
         returned: 6,
         destroyed: 2,
-    }))?;
-    Ok(changes)
+    })
+}
+
+// A pallet with one content, and what was received of it.
+fn despatched(alloc: Global, ids: &Ids) -> Result<Items<Change>, MemoryFault> {
+    let changes = with(Ok(Items::new(alloc)), adding_advice(alloc, ids));
+    let changes = with(changes, adding_pallet(alloc, ids));
+    let changes = with(changes, adding_content(alloc, ids));
+    with(changes, Ok(adding_receipt(ids)))
 }
 
 // What the look-ups of one supplier gave: of several rows their numbers as digits, and of one row a number of it.
-#[derive(Clone, Copy, Debug, PartialEq, Eq)]
+#[derive(Clone, Copy, Debug, PartialEq)]
 struct Seen {
     remembered: bool,
     order: bool,
@@ -202,20 +241,47 @@ fn entry_numbers(entries: &[MailRow]) -> u64 {
 
 // How many contents there are, and the quantity of the first.
 fn quantity(contents: &[ContentRow]) -> (usize, u32) {
-    let first = contents.first().map_or(0, |content| content.quantity);
-    (contents.len(), first)
+    match contents {
+        [first, ..] => (contents.len(), first.quantity),
+        [] => (0, 0),
+    }
 }
 
 // How many receipts there are, and what was accepted by the first.
 fn accepted(receipts: &[ReceiptRow]) -> (usize, u32) {
-    let first = receipts.first().map_or(0, |receipt| receipt.accepted);
-    (receipts.len(), first)
+    match receipts {
+        [first, ..] => (receipts.len(), first.accepted),
+        [] => (0, 0),
+    }
+}
+
+// Whether this content is remembered.
+fn is_said(content: Option<Items<u8>>) -> bool {
+    match content {
+        Some(content) => content.as_slice() == SAID,
+        None => false,
+    }
+}
+
+// Whether there is a pallet of this number.
+fn is_of(pallet: Option<PalletRow>, sscc: &Sscc) -> bool {
+    match pallet {
+        Some(pallet) => pallet.sscc == *sscc,
+        None => false,
+    }
+}
+
+// The number of an entry.
+fn number_of(entry: Option<MailRow>) -> u64 {
+    match entry {
+        Some(entry) => entry.number,
+        None => 0,
+    }
 }
 
 // The look-ups, each by itself: its contract is then of no other's goals.
 fn is_remembered<S: Store>(store: &mut S, supplier: &Gln) -> Result<bool, StoreFault> {
-    let content = store.remembered(supplier, Side::Retailer, b"1001", b"7")?;
-    Ok(content.map_or(false, |content| content.as_slice() == SAID))
+    Ok(is_said(store.remembered(supplier, Side::Retailer, b"1001", b"7")?))
 }
 
 fn is_known<S: Store>(store: &mut S, supplier: &Gln) -> Result<bool, StoreFault> {
@@ -231,8 +297,7 @@ fn is_advised<S: Store>(store: &mut S, supplier: &Gln) -> Result<bool, StoreFaul
 }
 
 fn is_announced<S: Store>(store: &mut S, supplier: &Gln, sscc: &Sscc) -> Result<bool, StoreFault> {
-    let pallet = store.pallet(supplier, sscc)?;
-    Ok(pallet.map_or(false, |pallet| pallet.sscc == *sscc))
+    Ok(is_of(store.pallet(supplier, sscc)?, sscc))
 }
 
 fn last<S: Store>(store: &mut S, supplier: &Gln) -> Result<u64, StoreFault> {
@@ -240,8 +305,7 @@ fn last<S: Store>(store: &mut S, supplier: &Gln) -> Result<u64, StoreFault> {
 }
 
 fn entry<S: Store>(store: &mut S, supplier: &Gln) -> Result<u64, StoreFault> {
-    let entry = store.mail_item(supplier, 2)?;
-    Ok(entry.map_or(0, |entry| entry.number))
+    Ok(number_of(store.mail_item(supplier, 2)?))
 }
 
 fn untaken<S: Store>(store: &mut S, supplier: &Gln) -> Result<u64, StoreFault> {
@@ -373,14 +437,62 @@ fn commit_all<S: Store>(store: &mut S, changes: Items<Change>) -> Result<(), Sto
     commit(store, changes.as_slice())
 }
 
-fn set_line<S: Store>(store: &mut S, row: LineRow) -> Result<(), StoreFault> {
-    commit(store, slice::from_ref(&Change::SetLine(row)))
+// Whether an order of a supplier is committed, and a pallet.
+fn is_ordered<S: Store>(alloc: Global, store: &mut S, ids: &Ids) -> Result<bool, MemoryFault> {
+    Ok(commit_all(store, ordered(alloc, ids)?).is_ok())
 }
 
-// Whether an order and a pallet of a supplier are committed.
-fn are_added<S: Store>(alloc: Global, store: &mut S, ids: Ids) -> Result<bool, MemoryFault> {
-    let is_ordered = commit_all(store, ordered(alloc, ids)?).is_ok();
-    Ok(is_ordered && commit_all(store, despatched(alloc, ids)?).is_ok())
+fn is_despatched<S: Store>(alloc: Global, store: &mut S, ids: &Ids) -> Result<bool, MemoryFault> {
+    Ok(commit_all(store, despatched(alloc, ids)?).is_ok())
+}
+
+fn are_added<S: Store>(alloc: Global, store: &mut S, ids: &Ids) -> Result<bool, MemoryFault> {
+    Ok(is_ordered(alloc, store, ids)? && is_despatched(alloc, store, ids)?)
+}
+
+// The rows of a supplier are committed.
+fn assert_added<S: Store>(
+    rt: &impl Abort,
+    alloc: Global,
+    store: &mut S,
+    ids: &Ids,
+    what: &str,
+) -> Result<(), MemoryFault> {
+    let done = are_added(alloc, store, ids)?;
+    assert_eq!(*rt; done, true, "{what}");
+    Ok(())
+}
+
+fn assert_seen(rt: &impl Abort, found: Result<Seen, StoreFault>, want: Seen, what: &str) {
+    assert_eq!(*rt; found, Ok(want), "{what}");
+}
+
+// The look-ups of a supplier with rows, and of one without, are counted.
+fn assert_counted(rt: &impl Abort, store: &mut TrialStore<VecStore>, alpha: &Ids, beta: &Ids) {
+    assert_seen(rt, look_ups(store, alpha), ALL, "alpha");
+    assert_seen(rt, look_ups(store, beta), NOTHING, "beta");
+    assert_eq!(*rt; (store.look_ups(), store.commits()), (26, 2), "calls");
+}
+
+// An entry; whether it is there; and the numbers of those that are not taken, after it was.
+static TAKEN: [(u64, bool, u64); 3] = [(1, true, 2), (2, true, 0), (3, false, 0)];
+
+fn assert_taken(rt: &impl Abort, list: &mut VecStore, alpha: &Ids) {
+    for (number, is_there, untaken) in &TAKEN {
+        let taken = is_taken(list, &alpha.supplier, *number);
+        assert_eq!(*rt; taken, Ok(*is_there), "{number}");
+        let found = look_ups(list, alpha);
+        let want = Seen {
+            untaken: *untaken,
+            ..ALL
+        };
+        assert_eq!(*rt; found, Ok(want), "after entry {number} was taken");
+    }
+}
+
+fn assert_used(rt: &impl Abort, list: &mut VecStore, alpha: &Ids) {
+    between_calls(list);
+    assert_eq!(*rt; used_listed(list, &alpha.pallet), true, "used");
 }
 
 #[test]
@@ -388,27 +500,47 @@ fn lists_answer_each_look_up(rt: HostRuntime) -> Result<(), Fail> {
     let alpha = ids_of(ALPHA).ok_or("alpha")?;
     let beta = ids_of(BETA).ok_or("beta")?;
     let mut store = TrialStore::new(VecStore::new(rt.alloc()));
-    let done = are_added(rt.alloc(), &mut store, alpha)?;
-    assert_eq!(rt; done, true, "commits");
-    assert_eq!(rt; look_ups(&mut store, &alpha), Ok(ALL), "alpha");
-    assert_eq!(rt; look_ups(&mut store, &beta), Ok(NOTHING), "beta");
-    assert_eq!(rt; (store.look_ups(), store.commits()), (26, 2), "calls");
+    assert_added(&rt, rt.alloc(), &mut store, &alpha, "commits")?;
+    assert_counted(&rt, &mut store, &alpha, &beta);
     let mut list = store.into_store();
-    for (number, is_there, untaken) in [(1, true, 2), (2, true, 0), (3, false, 0)] {
-        assert_eq!(rt;
-            is_taken(&mut list, &alpha.supplier, number),
-            Ok(is_there),
-            "{number}"
-        );
-        let found = look_ups(&mut list, &alpha);
-        assert_eq!(rt;
-            found,
-            Ok(Seen { untaken, ..ALL }),
-            "after entry {number} was taken"
-        );
+    assert_taken(&rt, &mut list, &alpha);
+    assert_used(&rt, &mut list, &alpha);
+    Ok(())
+}
+
+// The rows are there after they were added, and after they were added again.
+fn assert_added_twice(
+    rt: &impl Abort,
+    alloc: Global,
+    store: &mut VecStore,
+    alpha: &Ids,
+) -> Result<(), MemoryFault> {
+    for round in ["new", "there"] {
+        assert_added(rt, alloc, store, alpha, round)?;
+        assert_seen(rt, look_ups(store, alpha), ALL, round);
     }
-    between_calls(&list);
-    assert_eq!(rt; used_listed(&mut list, &alpha.pallet), true, "used");
+    Ok(())
+}
+
+// What comes of setting a line that is not there.
+fn none_set<S: Store>(
+    alloc: Global,
+    store: &mut S,
+    ids: &Ids,
+) -> Result<Result<(), StoreFault>, MemoryFault> {
+    let change = Change::SetLine(line(alloc, ids, 3, 0)?);
+    Ok(commit(store, slice::from_ref(&change)))
+}
+
+fn assert_none_set(
+    rt: &impl Abort,
+    alloc: Global,
+    store: &mut VecStore,
+    alpha: &Ids,
+) -> Result<(), MemoryFault> {
+    let done = none_set(alloc, store, alpha)?;
+    assert_eq!(*rt; done, Ok(()), "no such line");
+    assert_seen(rt, look_ups(store, alpha), ALL, "no such line");
     Ok(())
 }
 
@@ -416,14 +548,8 @@ fn lists_answer_each_look_up(rt: HostRuntime) -> Result<(), Fail> {
 fn rows_under_keys_that_are_there_are_left_out(rt: HostRuntime) -> Result<(), Fail> {
     let alpha = ids_of(ALPHA).ok_or("alpha")?;
     let mut store = VecStore::new(rt.alloc());
-    for round in ["new", "there"] {
-        let done = are_added(rt.alloc(), &mut store, alpha)?;
-        assert_eq!(rt; done, true, "{round}");
-        assert_eq!(rt; look_ups(&mut store, &alpha), Ok(ALL), "{round}");
-    }
-    let none = line(rt.alloc(), alpha, 3, 0)?;
-    assert_eq!(rt; set_line(&mut store, none), Ok(()), "no such line");
-    assert_eq!(rt; look_ups(&mut store, &alpha), Ok(ALL), "no such line");
+    assert_added_twice(&rt, rt.alloc(), &mut store, &alpha)?;
+    assert_none_set(&rt, rt.alloc(), &mut store, &alpha)?;
     Ok(())
 }
 
@@ -493,15 +619,29 @@ static FAILURES: [(StoreFault, u64, Told); 4] = [
     ),
 ];
 
+// What lists answer that fail in this way.
+fn told_by_lists(
+    alloc: Global,
+    fault: StoreFault,
+    calls: u64,
+    supplier: &Gln,
+    changes: &[Change],
+) -> Option<Told> {
+    let store = failing(VecStore::new(alloc), calls, fault)?;
+    Some(told(store, supplier, changes))
+}
+
+fn assert_failures(rt: &impl Abort, alloc: Global, supplier: &Gln, changes: &[Change]) {
+    for (fault, calls, want) in &FAILURES {
+        let found = told_by_lists(alloc, *fault, *calls, supplier, changes);
+        assert_eq!(*rt; found, Some(*want), "{fault:?} behind {calls} calls");
+    }
+}
+
 #[test]
 fn a_store_that_fails_keeps_its_rows(rt: HostRuntime) -> Result<(), Fail> {
     let alpha = ids_of(ALPHA).ok_or("alpha")?;
-    let changes = ordered(rt.alloc(), alpha)?;
-    for (fault, calls, want) in &FAILURES {
-        let list = VecStore::new(rt.alloc());
-        let store = failing(list, *calls, *fault).ok_or("a fault")?;
-        let found = told(store, &alpha.supplier, changes.as_slice());
-        assert_eq!(rt; found, *want, "{fault:?} behind {calls} calls");
-    }
+    let changes = ordered(rt.alloc(), &alpha)?;
+    assert_failures(&rt, rt.alloc(), &alpha.supplier, changes.as_slice());
     Ok(())
 }

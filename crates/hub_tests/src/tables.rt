@@ -1,25 +1,31 @@
-use hub_tables::{Answered, Arrival, Column, MailKind, Side};
+use hub_tables::{Answered, Arrival, Case, Column, MailKind, Side};
+use std::fmt::Debug;
+use std::process::Abort;
+
+fn assert_kept<C: Case + Copy + Debug + PartialEq>(rt: &impl Abort, cases: &[C]) {
+    for case in cases {
+        assert_eq!(*rt; Column::of(*case).case(), *case);
+    }
+}
+
+static ANSWERS: [Answered; 4] = [
+    Answered::Waiting,
+    Answered::Accepted,
+    Answered::NotAccepted,
+    Answered::Changed,
+];
+
+static SIDES: [Side; 3] = [Side::Retailer, Side::Supplier, Side::Cancellation];
+
+static KINDS: [MailKind; 2] = [MailKind::Orders, MailKind::Receipt];
+
+static ARRIVALS: [Arrival; 2] = [Arrival::Announced, Arrival::Received];
 
 #[test]
 fn columns_keep_their_cases(rt: HostRuntime) {
-    for answer in [
-        Answered::Waiting,
-        Answered::Accepted,
-        Answered::NotAccepted,
-        Answered::Changed,
-    ] {
-        assert_eq!(rt; Column::of(answer).case(), answer);
-    }
-    for side in [Side::Retailer, Side::Supplier, Side::Cancellation] {
-        assert_eq!(rt; Column::of(side).case(), side);
-    }
-    for kind in [MailKind::Orders, MailKind::Receipt] {
-        assert_eq!(rt; Column::of(kind).case(), kind);
-    }
-    for arrival in [Arrival::Announced, Arrival::Received] {
-        assert_eq!(rt; Column::of(arrival).case(), arrival);
-    }
-    for taken in [false, true] {
-        assert_eq!(rt; Column::of(taken).case(), taken);
-    }
+    assert_kept(&rt, &ANSWERS);
+    assert_kept(&rt, &SIDES);
+    assert_kept(&rt, &KINDS);
+    assert_kept(&rt, &ARRIVALS);
+    assert_kept(&rt, &[false, true]);
 }
