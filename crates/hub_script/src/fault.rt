@@ -2,11 +2,10 @@
 use edi_base::{ReadFault, WriteFault};
 use hub_register::RegisterFault;
 use std::alloc::AllocError;
-use std::error::Error;
 use std::fmt;
 
 /// Why a script was not played to its end.
-#[derive(Clone, Copy, Debug)]
+#[derive(Clone, Copy)]
 pub enum ScriptFault {
     /// A line that is none of a script, or bytes that are cut.
     Line,
@@ -28,8 +27,6 @@ impl fmt::Display for ScriptFault {
         }
     }
 }
-
-impl Error for ScriptFault {}
 
 impl From<AllocError> for ScriptFault {
     fn from(_refused: AllocError) -> ScriptFault {

@@ -22,8 +22,10 @@
 //! failed.
 #![tactic(auto)]
 
+mod command;
 mod fault;
 mod opening;
+mod print;
 mod request;
 mod script;
 mod stopping;

@@ -68,7 +68,10 @@ impl<'a, T: Supposed> Opener<SqliteStore<FileStore<FileFrom<T>>>> for InFile<'a>
         &mut self,
         rt: &HostRuntime,
     ) -> Result<SqliteStore<FileStore<FileFrom<T>>>, StoreFault> {
-        SqliteStore::at_path(rt, self.path, T::supposed()).map_err(|(fault, _left)| fault)
+        match SqliteStore::at_path(rt, self.path, T::supposed()) {
+            Ok(store) => Ok(store),
+            Err((fault, _left)) => Err(fault),
+        }
     }
 
     fn again(

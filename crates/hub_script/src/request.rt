@@ -10,6 +10,33 @@ fn number(words: &mut Words<'_>) -> Result<u64, ScriptFault> {
     words.next_number().ok_or(ScriptFault::Line)
 }
 
+fn upload(
+    alloc: Global,
+    words: &mut Words<'_>,
+    script: &mut Script<'_>,
+) -> Result<Option<Request>, ScriptFault> {
+    let bytes = copied(alloc, payload(words, script)?)?;
+    Ok(Some(Request::Upload(bytes)))
+}
+
+fn status_of(words: &mut Words<'_>) -> Result<Option<Request>, ScriptFault> {
+    match words.next_gln() {
+        Some(supplier) => Ok(Some(Request::StatusOf(supplier))),
+        None => Err(ScriptFault::Line),
+    }
+}
+
+fn cancel(
+    alloc: Global,
+    words: &mut Words<'_>,
+    script: &mut Script<'_>,
+) -> Result<Option<Request>, ScriptFault> {
+    match read_cancel(alloc, payload(words, script)?)? {
+        Some(cancel) => Ok(Some(Request::Cancel(cancel))),
+        None => Err(ScriptFault::Line),
+    }
+}
+
 /// The request of a line that begins with this word; none for another word.
 pub fn request_of(
     alloc: Global,
@@ -17,20 +44,16 @@ pub fn request_of(
     words: &mut Words<'_>,
     script: &mut Script<'_>,
 ) -> Result<Option<Request>, ScriptFault> {
-    let request = match word {
-        b"upload" => Request::Upload(copied(alloc, payload(words, script)?)?),
-        b"after" => Request::MailAfter(number(words)?),
-        b"item" => Request::MailItem(number(words)?),
-        b"taken" => Request::MailTaken(number(words)?),
-        b"status" => Request::Status,
-        b"status-of" => Request::StatusOf(words.next_gln().ok_or(ScriptFault::Line)?),
-        b"cancel" => {
-            let body = payload(words, script)?;
-            Request::Cancel(read_cancel(alloc, body)?.ok_or(ScriptFault::Line)?)
-        }
-        _ => return Ok(None),
-    };
-    Ok(Some(request))
+    match word {
+        b"upload" => upload(alloc, words, script),
+        b"after" => Ok(Some(Request::MailAfter(number(words)?))),
+        b"item" => Ok(Some(Request::MailItem(number(words)?))),
+        b"taken" => Ok(Some(Request::MailTaken(number(words)?))),
+        b"status" => Ok(Some(Request::Status)),
+        b"status-of" => status_of(words),
+        b"cancel" => cancel(alloc, words, script),
+        _ => Ok(None),
+    }
 }
 
 /// The bytes after a line, whose number is its next word.

@@ -1,19 +1,21 @@
 //! A hub that is tried by a script.
+use crate::command::Command;
 use crate::fault::ScriptFault;
 use crate::opening::Opener;
+use crate::print::{write_counts, write_fault, write_replies, write_served};
 use crate::request::{payload, request_of};
 use crate::script::{Script, Words};
 use crate::wire::{Incoming, Manner, Outgoing};
-use edi_base::{Items, Sink, copied, write_bytes};
+use edi_base::{Items, Sink, copied};
 use edi_envelope::Moment;
 use gs1_ids::Gln;
-use hub_core::{Hub, Input, Outcome, Reply, Request};
-use hub_http::serve_one;
+use hub_core::{Hub, Input, Reply, Request};
+use hub_http::{IoFault, Served, serve_one};
 use hub_register::Register;
 use hub_store::{Store, StoreFault};
 use hub_trial::TrialStore;
 use std::alloc::Global;
-use std::str;
+use std::{slice, str};
 
 /// Who asks, and when.
 #[derive(Drop)]
@@ -34,40 +36,92 @@ pub struct Trial<S: Store + Drop, O: Opener<S>> {
     quiet: bool,
 }
 
-// How an outcome is printed.
-fn word_of(outcome: Outcome) -> &'static str {
-    match outcome {
-        Outcome::Done => "done",
-        Outcome::Bad => "bad",
-        Outcome::Denied => "denied",
-        Outcome::Unknown => "unknown",
-        Outcome::Stopped => "stopped",
+// How a store fails, at the call after so many others.
+#[derive(Clone, Copy)]
+enum Failure {
+    Memory(u64),
+    Disk(u64),
+}
+
+// How the store of a line fails; not at all where it has no more words.
+fn failure_of(words: &mut Words<'_>) -> Result<Option<Failure>, ScriptFault> {
+    let word = words.next_word();
+    if word.is_empty() {
+        return Ok(None);
+    }
+    let calls = words.next_number();
+    match (word, calls) {
+        (b"memory", Some(calls)) => Ok(Some(Failure::Memory(calls))),
+        (b"disk", Some(calls)) => Ok(Some(Failure::Disk(calls))),
+        _ => Err(ScriptFault::Line),
     }
 }
 
-// How a fault of opening is printed.
-fn word_of_fault(fault: StoreFault) -> &'static str {
-    match fault {
-        StoreFault::Memory => "memory",
-        StoreFault::Disk => "disk",
-        StoreFault::Unclean => "unclean",
-        StoreFault::Version => "version",
+fn store_of<S: Store>(plain: S, failure: Option<Failure>) -> TrialStore<S> {
+    match failure {
+        None => TrialStore::new(plain),
+        Some(Failure::Memory(calls)) => TrialStore::failing(plain, calls, StoreFault::Memory),
+        Some(Failure::Disk(calls)) => TrialStore::failing(plain, calls, StoreFault::Disk),
     }
 }
 
-// The store of a line: plain, or one that fails at the call after so many others.
-fn store_of<S: Store + Drop>(
-    plain: S,
-    words: &mut Words<'_>,
-) -> Result<TrialStore<S>, ScriptFault> {
-    let fault = match words.next_word() {
-        b"" => return Ok(TrialStore::new(plain)),
-        b"memory" => StoreFault::Memory,
-        b"disk" => StoreFault::Disk,
-        _ => return Err(ScriptFault::Line),
+// The register of these bytes.
+fn register_of(alloc: Global, bytes: &[u8]) -> Result<Register, ScriptFault> {
+    let text = str::from_utf8(bytes).map_err(|_| ScriptFault::Register)?;
+    Ok(Register::from_toml(alloc, text)?)
+}
+
+// Who asks from now on, by the words of a line.
+fn caller_of(alloc: Global, words: &mut Words<'_>) -> Result<Caller, ScriptFault> {
+    let seconds = words.next_number().ok_or(ScriptFault::Line)?;
+    let moment = Moment::new(seconds).ok_or(ScriptFault::Line)?;
+    let gln = words.next_gln().ok_or(ScriptFault::Line)?;
+    let key = copied(alloc, words.next_word())?;
+    Ok(Caller { moment, gln, key })
+}
+
+// What whoever asks puts into a run.
+fn input_of(
+    alloc: Global,
+    caller: Option<&Caller>,
+    request: Request,
+) -> Result<Input, ScriptFault> {
+    let Some(caller) = caller else {
+        return Err(ScriptFault::Line);
     };
-    let calls = words.next_number().ok_or(ScriptFault::Line)?;
-    Ok(TrialStore::failing(plain, calls, fault))
+    let key = copied(alloc, caller.key.as_slice())?;
+    Ok(Input {
+        moment: caller.moment,
+        caller: caller.gln,
+        key,
+        request,
+    })
+}
+
+fn put(inputs: &mut Vec<Input>, input: Result<Input, ScriptFault>) -> Result<(), ScriptFault> {
+    match inputs.push(input?) {
+        Ok(()) => Ok(()),
+        Err(_) => Err(ScriptFault::Memory),
+    }
+}
+
+// The calls of a hub, each by itself: its contract is then of no other's goals.
+fn replied<S: Store>(hub: &mut Hub<S>, caller: &Caller, request: Request) -> Reply {
+    hub.step(caller.moment, &caller.gln, caller.key.as_slice(), request)
+}
+
+fn ran<S: Store>(hub: &mut Hub<S>, inputs: &[Input]) -> Result<Items<Reply>, ScriptFault> {
+    Ok(hub.run(inputs)?)
+}
+
+fn served<S: Store>(
+    alloc: Global,
+    hub: &mut Hub<S>,
+    moment: Moment,
+    mut reader: Incoming<'_>,
+    writer: &mut Outgoing,
+) -> Result<Served, IoFault> {
+    serve_one(alloc, hub, moment, &mut reader, writer)
 }
 
 impl<S: Store + Drop, O: Opener<S>> Trial<S, O> {
@@ -110,29 +164,33 @@ impl<S: Store + Drop, O: Opener<S>> Trial<S, O> {
         out: &mut W,
     ) -> Result<(), ScriptFault> {
         let word = words.next_word();
-        if let Some(request) = request_of(self.alloc, word, words, script)? {
-            return self.ask(request, out);
+        match request_of(self.alloc, word, words, script)? {
+            Some(request) => self.ask(request, out),
+            None => self.command(rt, Command::of(word)?, words, script, out),
         }
-        match word {
-            b"hub" => self.make_hub(rt, words, script, out),
-            b"as" => self.set_caller(words),
-            b"run" => {
-                self.run = Some(Vec::new(self.alloc));
+    }
+
+    // Does what a line says that asks nothing.
+    fn command<W: Sink>(
+        &mut self,
+        rt: &HostRuntime,
+        command: Command,
+        words: &mut Words<'_>,
+        script: &mut Script<'_>,
+        out: &mut W,
+    ) -> Result<(), ScriptFault> {
+        match command {
+            Command::Hub => self.make_hub(rt, words, script, out),
+            Command::Caller => self.set_caller(words),
+            Command::Run => self.begin_run(),
+            Command::End => self.make_run(out),
+            Command::Connection => self.serve(words, script, out),
+            Command::Mend => self.mend(rt, out),
+            Command::Counts => self.tell_counts(out),
+            Command::Quiet(quiet) => {
+                self.quiet = quiet;
                 Ok(())
             }
-            b"end" => self.make_run(out),
-            b"connection" => self.serve(words, script, out),
-            b"mend" => self.mend(rt, out),
-            b"counts" => self.tell_counts(out),
-            b"quiet" => {
-                self.quiet = true;
-                Ok(())
-            }
-            b"loud" => {
-                self.quiet = false;
-                Ok(())
-            }
-            _ => Err(ScriptFault::Line),
         }
     }
 
@@ -144,64 +202,79 @@ impl<S: Store + Drop, O: Opener<S>> Trial<S, O> {
         script: &mut Script<'_>,
         out: &mut W,
     ) -> Result<(), ScriptFault> {
-        let text = str::from_utf8(payload(words, script)?).map_err(|_| ScriptFault::Register)?;
-        let register = Register::from_toml(self.alloc, text)?;
+        let register = register_of(self.alloc, payload(words, script)?)?;
         // a file is opened once at a time
         self.hub = None;
         match self.opener.open(rt) {
-            Ok(plain) => {
-                self.hub = Some(Hub::new(self.alloc, register, store_of(plain, words)?));
-                Ok(())
-            }
-            Err(fault) => self.tell_fault(fault, out),
+            Ok(plain) => self.set_hub(register, plain, failure_of(words)),
+            Err(fault) => write_fault(self.alloc, fault, out),
         }
     }
 
-    // Prints that the store could not be opened, and why.
-    fn tell_fault<W: Sink>(&self, fault: StoreFault, out: &mut W) -> Result<(), ScriptFault> {
-        let word = word_of_fault(fault);
-        let line = format!(in self.alloc; "store {word}\n")?;
-        Ok(write_bytes(line.as_bytes(), out)?)
+    // The hub of this register over a store that fails in this way.
+    fn set_hub(
+        &mut self,
+        register: Register,
+        plain: S,
+        failure: Result<Option<Failure>, ScriptFault>,
+    ) -> Result<(), ScriptFault> {
+        let store = store_of(plain, failure?);
+        self.hub = Some(Hub::new(self.alloc, register, store));
+        Ok(())
     }
 
     // Who asks from now on, and when.
     fn set_caller(&mut self, words: &mut Words<'_>) -> Result<(), ScriptFault> {
-        let moment = words
-            .next_number()
-            .and_then(Moment::new)
-            .ok_or(ScriptFault::Line)?;
-        let gln = words.next_gln().ok_or(ScriptFault::Line)?;
-        let key = copied(self.alloc, words.next_word())?;
-        self.caller = Some(Caller { moment, gln, key });
+        self.caller = Some(caller_of(self.alloc, words)?);
         Ok(())
     }
 
     // Asks, or puts what is asked into the run.
     fn ask<W: Sink>(&mut self, request: Request, out: &mut W) -> Result<(), ScriptFault> {
-        let caller = self.caller.as_ref().ok_or(ScriptFault::Line)?;
-        if let Some(inputs) = &mut self.run {
-            let input = Input {
-                moment: caller.moment,
-                caller: caller.gln,
-                key: copied(self.alloc, caller.key.as_slice())?,
-                request,
-            };
-            return inputs.push(input).map_err(|_| ScriptFault::Memory);
+        match &mut self.run {
+            Some(inputs) => put(inputs, input_of(self.alloc, self.caller.as_ref(), request)),
+            None => self.step(request, out),
         }
-        let hub = self.hub.as_mut().ok_or(ScriptFault::Line)?;
-        let reply = hub.step(caller.moment, &caller.gln, caller.key.as_slice(), request);
-        self.tell(&reply, out)
     }
 
-    // Asks all that was put into the run.
-    fn make_run<W: Sink>(&mut self, out: &mut W) -> Result<(), ScriptFault> {
-        let inputs = self.run.take().ok_or(ScriptFault::Line)?;
-        let hub = self.hub.as_mut().ok_or(ScriptFault::Line)?;
-        let replies = hub.run(inputs.as_slice())?;
-        for reply in replies.as_slice() {
-            self.tell(reply, out)?;
-        }
+    // Asks, and prints the reply.
+    fn step<W: Sink>(&mut self, request: Request, out: &mut W) -> Result<(), ScriptFault> {
+        let (Some(hub), Some(caller)) = (&mut self.hub, &self.caller) else {
+            return Err(ScriptFault::Line);
+        };
+        let reply = replied(hub, caller, request);
+        self.tell(slice::from_ref(&reply), out)
+    }
+
+    // A run, of which no input is there yet.
+    fn begin_run(&mut self) -> Result<(), ScriptFault> {
+        self.run = Some(Vec::new(self.alloc));
         Ok(())
+    }
+
+    // Asks all that was put into the run, and prints the replies.
+    fn make_run<W: Sink>(&mut self, out: &mut W) -> Result<(), ScriptFault> {
+        let replies = self.replies()?;
+        self.tell(replies.as_slice(), out)
+    }
+
+    // What all that was put into the run is answered.
+    fn replies(&mut self) -> Result<Items<Reply>, ScriptFault> {
+        let Some(inputs) = self.run.take() else {
+            return Err(ScriptFault::Line);
+        };
+        match &mut self.hub {
+            Some(hub) => ran(hub, inputs.as_slice()),
+            None => Err(ScriptFault::Line),
+        }
+    }
+
+    // Prints replies, unless it is quiet.
+    fn tell<W: Sink>(&self, replies: &[Reply], out: &mut W) -> Result<(), ScriptFault> {
+        if self.quiet {
+            return Ok(());
+        }
+        write_replies(self.alloc, replies, out)
     }
 
     // Serves a connection whose bytes follow, and prints the status that was written, or the fault, and what went out.
@@ -216,61 +289,31 @@ impl<S: Store + Drop, O: Opener<S>> Trial<S, O> {
         let moment = self.caller.as_ref().ok_or(ScriptFault::Line)?.moment;
         let hub = self.hub.as_mut().ok_or(ScriptFault::Line)?;
         let mut writer = Outgoing::new(self.alloc, manner)?;
-        let mut reader = Incoming::new(bytes, manner);
-        let line = match serve_one(self.alloc, hub, moment, &mut reader, &mut writer) {
-            Ok(served) => {
-                let status = served.status;
-                format!(in self.alloc; "served {status}")?
-            }
-            Err(fault) => format!(in self.alloc; "fault {fault}")?,
-        };
-        self.tell_bytes(line.as_str(), writer.bytes(), out)
-    }
-
-    // Prints a line with the number of some bytes, and these.
-    fn tell_bytes<W: Sink>(
-        &self,
-        word: &str,
-        bytes: &[u8],
-        out: &mut W,
-    ) -> Result<(), ScriptFault> {
-        let length = bytes.len();
-        let line = format!(in self.alloc; "{word} {length}\n")?;
-        write_bytes(line.as_bytes(), out)?;
-        Ok(write_bytes(bytes, out)?)
+        let reader = Incoming::new(bytes, manner);
+        let served = served(self.alloc, hub, moment, reader, &mut writer);
+        write_served(self.alloc, served, writer.bytes(), out)
     }
 
     // Opens the store anew, with what it keeps, and no call of it fails.
     fn mend<W: Sink>(&mut self, rt: &HostRuntime, out: &mut W) -> Result<(), ScriptFault> {
-        let hub = self.hub.take().ok_or(ScriptFault::Line)?;
+        let Some(hub) = self.hub.take() else {
+            return Err(ScriptFault::Line);
+        };
         let (register, store) = hub.into_store();
         match self.opener.again(rt, store.into_store()) {
-            Ok(plain) => {
-                self.hub = Some(Hub::new(self.alloc, register, TrialStore::new(plain)));
-                Ok(())
-            }
-            Err(fault) => self.tell_fault(fault, out),
+            Ok(plain) => self.set_hub(register, plain, Ok(None)),
+            Err(fault) => write_fault(self.alloc, fault, out),
         }
     }
 
     // Prints how many look-ups and commits there were since the hub was made or its store opened anew.
     fn tell_counts<W: Sink>(&mut self, out: &mut W) -> Result<(), ScriptFault> {
-        let hub = self.hub.take().ok_or(ScriptFault::Line)?;
+        let Some(hub) = self.hub.take() else {
+            return Err(ScriptFault::Line);
+        };
         let (register, store) = hub.into_store();
         let (look_ups, commits) = (store.look_ups(), store.commits());
         self.hub = Some(Hub::new(self.alloc, register, store));
-        let line = format!(in self.alloc; "look-ups {look_ups} commits {commits}\n")?;
-        Ok(write_bytes(line.as_bytes(), out)?)
-    }
-
-    // Prints a reply: its outcome, whether something was refused, the length of its body, and that.
-    fn tell<W: Sink>(&self, reply: &Reply, out: &mut W) -> Result<(), ScriptFault> {
-        if self.quiet {
-            return Ok(());
-        }
-        let outcome = word_of(reply.outcome);
-        let refused = if reply.refused { " refused" } else { "" };
-        let word = format!(in self.alloc; "{outcome}{refused}")?;
-        self.tell_bytes(word.as_str(), reply.body.as_slice(), out)
+        write_counts(self.alloc, look_ups, commits, out)
     }
 }

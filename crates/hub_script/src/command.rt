@@ -1,0 +1,41 @@
+//! What a line of a script does that asks nothing.
+use crate::fault::ScriptFault;
+
+/// What a line does, by its first word.
+#[derive(Clone, Copy)]
+pub enum Command {
+    /// `hub`
+    Hub,
+    /// `as`
+    Caller,
+    /// `run`
+    Run,
+    /// `end`
+    End,
+    /// `connection`
+    Connection,
+    /// `mend`
+    Mend,
+    /// `counts`
+    Counts,
+    /// `quiet`, or `loud`
+    Quiet(bool),
+}
+
+impl Command {
+    /// The command of this word.
+    pub fn of(word: &[u8]) -> Result<Command, ScriptFault> {
+        match word {
+            b"hub" => Ok(Command::Hub),
+            b"as" => Ok(Command::Caller),
+            b"run" => Ok(Command::Run),
+            b"end" => Ok(Command::End),
+            b"connection" => Ok(Command::Connection),
+            b"mend" => Ok(Command::Mend),
+            b"counts" => Ok(Command::Counts),
+            b"quiet" => Ok(Command::Quiet(true)),
+            b"loud" => Ok(Command::Quiet(false)),
+            _ => Err(ScriptFault::Line),
+        }
+    }
+}

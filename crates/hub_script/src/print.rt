@@ -1,0 +1,107 @@
+//! What a script prints.
+use crate::fault::ScriptFault;
+use edi_base::{Sink, WriteFault, write_bytes};
+use hub_core::{Outcome, Reply};
+use hub_http::{IoFault, Served};
+use hub_store::StoreFault;
+use std::alloc::{AllocError, Global};
+
+// How an outcome is printed.
+fn word_of(outcome: Outcome) -> &'static str {
+    match outcome {
+        Outcome::Done => "done",
+        Outcome::Bad => "bad",
+        Outcome::Denied => "denied",
+        Outcome::Unknown => "unknown",
+        Outcome::Stopped => "stopped",
+    }
+}
+
+// How a fault of opening is printed.
+fn word_of_fault(fault: StoreFault) -> &'static str {
+    match fault {
+        StoreFault::Memory => "memory",
+        StoreFault::Disk => "disk",
+        StoreFault::Unclean => "unclean",
+        StoreFault::Version => "version",
+    }
+}
+
+// The line of a reply.
+fn reply_line(alloc: Global, reply: &Reply) -> Result<String, AllocError> {
+    let outcome = word_of(reply.outcome);
+    let refused = if reply.refused { " refused" } else { "" };
+    let length = reply.body.len();
+    format!(in alloc; "{outcome}{refused} {length}\n")
+}
+
+// The line of a connection that was served, or was not, of which so many bytes went out.
+fn served_line(
+    alloc: Global,
+    served: Result<Served, IoFault>,
+    length: usize,
+) -> Result<String, AllocError> {
+    match served {
+        Ok(served) => {
+            let status = served.status;
+            format!(in alloc; "served {status} {length}\n")
+        }
+        Err(fault) => format!(in alloc; "fault {fault} {length}\n"),
+    }
+}
+
+fn write_both<W: Sink>(line: &[u8], bytes: &[u8], out: &mut W) -> Result<(), WriteFault> {
+    write_bytes(line, out)?;
+    write_bytes(bytes, out)
+}
+
+/// Prints that the store could not be opened, and why.
+pub fn write_fault<W: Sink>(
+    alloc: Global,
+    fault: StoreFault,
+    out: &mut W,
+) -> Result<(), ScriptFault> {
+    let word = word_of_fault(fault);
+    let line = format!(in alloc; "store {word}\n")?;
+    Ok(write_bytes(line.as_bytes(), out)?)
+}
+
+// Prints a reply: its outcome, whether something was refused, the length of its body, and that.
+fn write_reply<W: Sink>(alloc: Global, reply: &Reply, out: &mut W) -> Result<(), ScriptFault> {
+    let line = reply_line(alloc, reply)?;
+    Ok(write_both(line.as_bytes(), reply.body.as_slice(), out)?)
+}
+
+/// Prints replies, one after another.
+pub fn write_replies<W: Sink>(
+    alloc: Global,
+    replies: &[Reply],
+    out: &mut W,
+) -> Result<(), ScriptFault> {
+    for reply in replies {
+        write_reply(alloc, reply, out)?;
+    }
+    Ok(())
+}
+
+/// Prints the status that was written, or the fault, and what went out.
+pub fn write_served<W: Sink>(
+    alloc: Global,
+    served: Result<Served, IoFault>,
+    bytes: &[u8],
+    out: &mut W,
+) -> Result<(), ScriptFault> {
+    let line = served_line(alloc, served, bytes.len())?;
+    Ok(write_both(line.as_bytes(), bytes, out)?)
+}
+
+/// Prints how many look-ups and commits there were.
+pub fn write_counts<W: Sink>(
+    alloc: Global,
+    look_ups: u64,
+    commits: u64,
+    out: &mut W,
+) -> Result<(), ScriptFault> {
+    let line = format!(in alloc; "look-ups {look_ups} commits {commits}\n")?;
+    Ok(write_bytes(line.as_bytes(), out)?)
+}
