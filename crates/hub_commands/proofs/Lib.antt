@@ -2,3 +2,4 @@ mod OneFile
 mod Output
 mod Running
 mod SoFar
+mod Told

@@ -1,5 +1,7 @@
 //! The plain files of a folder.
-ghost use Rattle.std.specs.Prelude.{IfOk, IsSorted, string_cmp};
+ghost use Rattle.std.specs.Prelude.{◌≡◌, IfOk, IsSorted, string_cmp};
+ghost use Rattle.std.specs.List.{list_all};
+ghost use Rattle.hub_commands.specs.Folder.{AreTold, is_plain_byte};
 
 use crate::files::{Files, NamedFile, NextFile};
 use edi_base::{MemoryFault, OfRead, ReadFault};
@@ -12,7 +14,8 @@ use std::rt::Files as FileSystem;
 use std::{fs, io};
 
 /// The plain files of a folder, by the names that it had when it was opened: in the order of the bytes of their names,
-/// and then those whose names are no UTF-8. Contracts see the names that still come, and how many are no UTF-8.
+/// and then those whose names cannot be printed: they are no UTF-8, or have a control byte, with which a name could
+/// forge a line of a reply. Contracts see the names that still come, and how many cannot be printed.
 #[derive(Drop)]
 pub struct Folder<'a, R> {
     system: &'a R,
@@ -24,7 +27,7 @@ pub struct Folder<'a, R> {
 #[derive(Drop)]
 struct Names {
     in_order: VecDeque<String>,
-    // How many are no UTF-8.
+    // How many cannot be printed.
     unnamed: u64,
 }
 
@@ -46,6 +49,13 @@ fn fault_of(error: io::Error) -> ReadFault {
     }
 }
 
+// Whether a name has no control byte.
+fn is_told(name: &str) -> bool
+    ensures { result ≡ list_all is_plain_byte name.now }
+{
+    name.bytes().all(|byte| byte >= 0x20 && byte != 0x7f)
+}
+
 // Whether an entry is a plain file. One of which that cannot be read is taken for one, so that it is told as a fault.
 fn is_plain<R: FileSystem>(entry: &DirEntry<R>) -> bool {
     match entry.file_type() {
@@ -56,7 +66,8 @@ fn is_plain<R: FileSystem>(entry: &DirEntry<R>) -> bool {
 
 // The names of the plain files of a folder. Of an entry whose name is no UTF-8 nothing else is known.
 fn names_of<R: FileSystem + AllocGlobal + Clone + Drop>(system: &R, path: &str) -> io::Result<Names>
-    ensures { IfOk result (λ names. IsSorted string_cmp names.in_order.items) }
+    ensures sorted { IfOk result (λ names. IsSorted string_cmp names.in_order.items) }
+    ensures told { IfOk result (λ names. AreTold names.in_order.items) }
 {
     let alloc = system.alloc();
     let mut names = Vec::new(alloc);
@@ -65,7 +76,12 @@ fn names_of<R: FileSystem + AllocGlobal + Clone + Drop>(system: &R, path: &str) 
         match entry {
             Ok(entry) => {
                 if is_plain(&entry) {
-                    names.push(String::from_str(alloc, entry.file_name())?)?;
+                    let name = String::from_str(alloc, entry.file_name())?;
+                    if is_told(name.as_str()) {
+                        names.push(name)?;
+                    } else {
+                        unnamed = unnamed.saturating_add(1);
+                    }
                 }
             }
             Err(error) if error.kind() == ErrorKind::InvalidFilename => {
@@ -85,7 +101,8 @@ impl<'a, R: FileSystem + AllocGlobal + Clone + Drop> Folder<'a, R> {
     /// The folder at a path. Its plain files alone are taken, and not what lies in folders in it, nor links, pipes or
     /// devices; but whatever has a name that is no UTF-8 is. Their names are read now, and are all in memory.
     pub fn open(system: &'a R, path: &str) -> Result<Self, ReadFault>
-        ensures { IfOk result (λ folder. IsSorted string_cmp folder.0) }
+        ensures sorted { IfOk result (λ folder. IsSorted string_cmp folder.0) }
+        ensures told { IfOk result (λ folder. AreTold folder.0) }
     {
         let names = names_of(system, path).map_err(fault_of)?;
         let path = String::from_str(system.alloc(), path)?;
@@ -96,9 +113,14 @@ impl<'a, R: FileSystem + AllocGlobal + Clone + Drop> Folder<'a, R> {
         })
     }
 
-    // Opens a file of the folder. None of its bytes are read.
+    // Opens a file of the folder, if it is a plain file still: a pipe that took its place would be waited for. None of its
+    // bytes are read.
     fn open_file(&self, alloc: Global, name: &str) -> Result<OfRead<R::File>, ReadFault> {
         let path = format!(in alloc; "{}/{name}", self.path.as_str())?;
+        let kind = fs::symlink_metadata(self.system, path.as_str()).map_err(fault_of)?;
+        if !kind.is_file() {
+            return Err(ReadFault::Read);
+        }
         let file = File::open(self.system, path.as_str()).map_err(fault_of)?;
         Ok(OfRead::new(file))
     }

@@ -4,3 +4,4 @@ pub mod Listening
 pub mod One
 pub mod Output
 pub mod Serve
+pub mod Timed

@@ -15,7 +15,7 @@ use std::net::{
 };
 use std::time::{Clock, Duration, Instant};
 
-/// How many seconds a connection lasts at most.
+/// How many seconds a client has to send its request, and as many again to take the response.
 const WHOLE: u64 = 10;
 
 /// How many seconds is read on at most, once a response was written.
@@ -27,7 +27,9 @@ const LINGER_BYTES: usize = 1_048_576;
 /// How many bytes are read on at once.
 const PIECE: usize = 4096;
 
-/// Connections that come over the network to a listener. Each lasts 10 seconds at most.
+/// Connections that come over the network to a listener. The client of each has 10 seconds to send its request, from
+/// when it was taken, and 10 seconds to take the response, from when that is begun to be written. What the hub does in
+/// between is not its time.
 #[derive(Drop)]
 pub struct Listening<'c, C, L> {
     clock: &'c C,
@@ -77,7 +79,7 @@ fn is_gone(error: &io::Error) -> bool
     )
 }
 
-// The two sides of a connection that began now.
+// The two sides of a connection whose client begins to send now.
 fn sides_of<'c, C: Clock, T: OpenStream + Read + Write + Drop>(
     clock: &'c C,
     stream: T,
@@ -88,8 +90,8 @@ fn sides_of<'c, C: Clock, T: OpenStream + Read + Write + Drop>(
     let whole = Duration::from_secs(WHOLE);
     let other = stream.try_clone()?;
     Ok(Sides {
-        reader: OfRead::new(Timed::new(clock, stream, begun, whole)),
-        writer: OfWrite::new(Timed::new(clock, other, begun, whole)),
+        reader: OfRead::new(Timed::since(clock, stream, begun, whole)),
+        writer: OfWrite::new(Timed::from_first_use(clock, other, whole)),
     })
 }
 
@@ -97,7 +99,7 @@ fn sides_of<'c, C: Clock, T: OpenStream + Read + Write + Drop>(
 fn linger<C: Clock, T: OpenStream + Read + Drop>(clock: &C, stream: T) -> io::Result<()> {
     stream.shutdown(Shutdown::Write)?;
     let whole = Duration::from_secs(LINGER);
-    let mut timed = Timed::new(clock, stream, Instant::now(clock)?, whole);
+    let mut timed = Timed::from_first_use(clock, stream, whole);
     let mut piece = [0u8; PIECE];
     let mut left = LINGER_BYTES;
     while left > 0 {
