@@ -15,6 +15,8 @@ from hubs import OTHER_PALLET, despatch, interchange, line_status, order, respon
 from registers import of_prefixes
 from stops import SHIM
 
+MEDDLE = os.path.join(os.path.dirname(os.path.abspath(__file__)), "meddle.c")
+
 REGISTER = "register.toml"
 MOMENT = "1748942400"
 KEPT = os.path.join(os.path.dirname(os.path.abspath(__file__)), "kept")
@@ -112,13 +114,17 @@ def folder_in_order():
     )
 
 
+# each has a byte with which a name could write a line that looks like a reply, or change a terminal
+FORGED = ("a.edi\n1 ORDERS accepted", "\x1b[2J.edi", "b.edi\x7f", "\t")
+
+
 def make_folder(folder):
-    """What is no plain file, beside one that is, and two names that are no UTF-8."""
+    """What is no plain file, beside one that is; two names that are no UTF-8, and names that have a control byte."""
     base = os.path.join(folder, "in")
     os.mkdir(os.path.join(base, "more"))
     os.symlink("a.edi", os.path.join(base, "link.edi"))
     os.mkfifo(os.path.join(base, "pipe.edi"))
-    for name in (b"\xff.edi", b"a\xc3.edi"):
+    for name in (b"\xff.edi", b"a\xc3.edi", *(it.encode() for it in FORGED)):
         with open(os.path.join(os.fsencode(base), name), "wb") as file:
             file.write(ORDERS.encode())
 
@@ -127,8 +133,8 @@ def what_is_no_file():
     upload = ("a.edi", ORDERS, "interchange 1001 messages 1", "1 ORDERS accepted")
     first = imported(RETAILER, "in", upload)
     first.after = make_folder
-    again = told("file a.edi", "interchange 1001 messages 1", "1 ORDERS repeated", "fault", "fault")
-    return steps("what is no plain file, and names that are no UTF-8", first, step(over("import", RETAILER, "--folder", "in"), again, 3))
+    again = told("file a.edi", "interchange 1001 messages 1", "1 ORDERS repeated", *["fault"] * (2 + len(FORGED)))
+    return steps("what is no plain file, and names that cannot be printed", first, step(over("import", RETAILER, "--folder", "in"), again, 3))
 
 
 def cuts():
@@ -324,6 +330,25 @@ def unreadable(program):
         return imports(0o000, 3, "accepted", "fault", "accepted") or imports(0o400, 0, "repeated", "accepted", "repeated")
 
 
+def meddled(folder):
+    """The library of meddle.c."""
+    shim = os.path.join(folder, "meddle.so")
+    subprocess.run(["cc", "-O2", "-shared", "-fPIC", "-o", shim, MEDDLE, "-ldl"], check=True)
+    return shim
+
+
+def exchanged(program):
+    """What is wrong where a file of a folder becomes a pipe behind its listing, if anything: it is no plain file then, and nobody waits for it."""
+    with tempfile.TemporaryDirectory() as folder:
+        made_folder(folder, 3)
+        variables = {"LD_PRELOAD": meddled(folder), "PIPE": os.path.join(folder, "in", "01.edi")}
+        ran = subprocess.run([program, *over("import", RETAILER, "--folder", "in")], cwd=folder, capture_output=True, env=variables, timeout=SECONDS)
+        lines = [(f"interchange U{k} messages 1", "1 ORDERS accepted") if k != 1 else ("fault",) for k in range(3)]
+        printed = "".join(told(f"file {k:02}.edi", *its) for k, its in enumerate(lines)).encode()
+        found = (ran.returncode, ran.stdout, ran.stderr)
+        return None if found == (3, printed, b"") else f"{found!r:.300}"
+
+
 def day(program):
     """What is wrong with the days of the example, if anything."""
     example = os.path.join(os.path.dirname(os.path.abspath(__file__)), "..", "examples", "day")
@@ -337,5 +362,6 @@ TRIALS = [
     ("an import that is killed and made again", killed),
     ("a file that another command has open", held_open),
     ("a file of a folder that cannot be read", unreadable),
+    ("a file of a folder that has become a pipe", exchanged),
     ("the days of the example", day),
 ]

@@ -14,7 +14,7 @@ from concurrent.futures import ThreadPoolExecutor
 
 import files
 from case import SECONDS
-from commands import REGISTER, told
+from commands import REGISTER, meddled, told
 from files import NAME
 from http_texts import asking, head, response
 from hubs import ALPHA, BETA, DELTA, FIRST_MAIL, HUB, KEYS, MOMENT, ORDERS, RECEIPT, RESPONSE, DESPATCH, RETAILER, SECOND, SECOND_MAIL, STATUS, THIRD_MAIL, TWO_SUPPLIERS
@@ -78,12 +78,12 @@ def limit(room, seconds):
 class Server:
     """The program, serving so many connections in a folder of its own."""
 
-    def __init__(self, program, count, moment=MOMENT, data=(), folder=None, register=REGISTER, output=None, room=0, seconds=0):
+    def __init__(self, program, count, moment=MOMENT, data=(), folder=None, register=REGISTER, output=None, room=0, seconds=0, env=None):
         self.folder = folder or tempfile.mkdtemp()
         for name, it in {REGISTER: TWO_SUPPLIERS.encode(), **dict(data)}.items():
             with open(os.path.join(self.folder, name), "wb") as file:
                 file.write(it)
-        how = {"stdout": output or subprocess.PIPE, "stderr": subprocess.PIPE, "preexec_fn": lambda: limit(room, seconds)}
+        how = {"stdout": output or subprocess.PIPE, "stderr": subprocess.PIPE, "preexec_fn": lambda: limit(room, seconds), "env": env}
         for _ in range(TRIES):
             self.port = free_port()
             words = ["serve", "--register", register, "--db", NAME, "--port", str(self.port), "--count", str(count)]
@@ -555,6 +555,14 @@ def killed(program):
             return why or unlike("again", again.ask(ORDERED[1]), response(200, ORDERED[3].replace("accepted", "repeated")))
 
 
+def late(program):
+    """Commits that take twenty seconds each, by the clock: what they take is not the client's time, which is answered."""
+    with tempfile.TemporaryDirectory() as folder:
+        with Server(program, 2, env={"LD_PRELOAD": meddled(folder), "LATE": "20"}) as server:
+            why = unlike("an order", server.ask(ORDERED[1]), response(200, ORDERED[3])) or unlike("its mail", server.ask(get(ALPHA, "mail/item/1", 200, FIRST_MAIL)[1]), response(200, FIRST_MAIL))
+            return why or unlike("the program", server.end(), (0, lines_of(server.port, [200, 200]), b""))
+
+
 def unsound(program):
     """A row that is none of the kinds stops what asks for it, and all that comes after it, until the program is begun anew."""
     data = {NAME: files.file_of(files.TABLES, files.ROWS, files.SPOILED[0][1])}
@@ -638,6 +646,7 @@ ALL = {
     "a client that sends on what is refused": big_refused,
     "clients that break off": gone,
     "a server that is killed": killed,
+    "commits that take long": late,
     "a row that is none of the kinds": unsound,
     "what is wrong before the first connection": begins,
     "connections by the clock": by_the_clock,
