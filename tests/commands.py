@@ -221,22 +221,24 @@ def broken_output():
     )
 
 
-def kept():
-    """A database file of schema 1 as it was first written: every later program opens it."""
-    with open(os.path.join(KEPT, "schema1.db"), "rb") as file:
+def kept(name, *then):
+    """A database file of schema 1 as it was first written, and its status: every later program opens it."""
+    with open(os.path.join(KEPT, f"{name}.db"), "rb") as file:
         data = file.read()
-    with open(os.path.join(KEPT, "schema1.status"), "r", encoding="ascii") as file:
+    with open(os.path.join(KEPT, f"{name}.status"), "r", encoding="ascii") as file:
         status = file.read()
-    return steps(
-        "a database file that was written once for good",
-        step(over("status", ALPHA), status, files={NAME: data}),
-        mail(ALPHA, "item", 1, FIRST_MAIL),
-        one(RETAILER, "1", "1001", "ORDERS", ORDERS, "repeated"),
-        one(ALPHA, "9", "S2", "DESADV", DESPATCH, "repeated"),
-    )
+    first = step(over("status", ALPHA), status, files={NAME: data})
+    again = one(RETAILER, "1", "1001", "ORDERS", ORDERS, "repeated"), one(ALPHA, "9", "S2", "DESADV", DESPATCH, "repeated")
+    return steps(f"a database file that was written once for good, {name}", first, mail(ALPHA, "item", 1, FIRST_MAIL), *again, *then)
 
 
-COMMANDS = [in_turn(), folder_in_order(), what_is_no_file(), cuts(), long_mailbox(), two_suppliers(), denied(), *begins(), by_the_clock(), broken_output(), kept()]
+def kept_files():
+    """One before any receipt, and one in which a pallet was received."""
+    mails = told("             1 ORDERS 128576", "             2 ORDERS 128577", "             3 RECADV G1", "end")
+    return [kept("schema1"), kept("schema1_received", mail(ALPHA, "after", 0, mails), one(RETAILER, "13", "1005", "RECADV", RECEIPT, "repeated"), status_of(ALPHA, *STATUS))]
+
+
+COMMANDS = [in_turn(), folder_in_order(), what_is_no_file(), cuts(), long_mailbox(), two_suppliers(), denied(), *begins(), by_the_clock(), broken_output(), *kept_files()]
 
 
 def made_folder(folder, count=12):
