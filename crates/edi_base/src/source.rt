@@ -21,12 +21,16 @@ pub trait Source {
     // Whether a read has answered an error so far.
     ghost failed: { Self → Bool };
 
+    // Which source it is, where sources are told apart. It stays the same, whatever is read of it.
+    ghost origin: { Self → ℕ } = { λ _. 0 };
+
     /// Puts the next bytes at the front of the buffer, and says how many. None only at the end, or where
     /// the buffer has no room.
     fn read(&mut self, buffer: &mut [u8]) -> io::Result<usize>
         ensures bound { ReadsAtMost result buffer.new }
         ensures bytes { ReadConsumes (remaining self.old) (remaining self.new) result buffer.new }
-        ensures flag { failed self.new ≡ (failed self.old || is_err result) };
+        ensures flag { failed self.new ≡ (failed self.old || is_err result) }
+        ensures origin { origin self.new ≡ origin self.old };
 }
 
 /// A reader of std, and whether a read has answered an error so far.

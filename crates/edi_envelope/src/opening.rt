@@ -96,6 +96,7 @@ fn read<R: Source>(alloc: Global, lender: &mut Lender, reader: &mut R) -> Result
     ensures bound { TakesOf (R.remaining reader.old) (R.remaining reader.new) (room_of lender.old) (room_of lender.new) }
     ensures ends { AtEnd (R.remaining reader.old) lender.old → AtEnd (R.remaining reader.new) lender.new }
     ensures stops { Stops R.remaining (token_told result) reader.old lender.old reader.new lender.new }
+    ensures origin { R.origin reader.new ≡ R.origin reader.old }
 {
     let mut opening = Opening::new(alloc);
     while lender.advance(reader)? {
@@ -122,6 +123,7 @@ pub fn open_lent<R: Source>(
     ensures ends { AtEnd (R.remaining reader.old) lender.old → AtEnd (R.remaining reader.new) lender.new }
     // The lender stops with the fault that it told, and after any other answer goes on.
     ensures stops { Stops R.remaining (token_told result) reader.old lender.old reader.new lender.new }
+    ensures origin { R.origin reader.new ≡ R.origin reader.old }
 {
     let opening = read(alloc, lender, reader)?;
     let interchange = opening.finish(lender.decimal())?;
@@ -137,6 +139,7 @@ pub fn open_feed<R: Source>(alloc: Global, feeder: &mut Feeder<R>) -> Result<Int
     ensures bound { TakesOf (R.remaining feeder.old.reader) (R.remaining feeder.new.reader) (room_of feeder.old.lender) (room_of feeder.new.lender) }
     ensures ends { AtEnd (R.remaining feeder.old.reader) feeder.old.lender → AtEnd (R.remaining feeder.new.reader) feeder.new.lender }
     ensures stops { Stops R.remaining (token_told result) feeder.old.reader feeder.old.lender feeder.new.reader feeder.new.lender }
+    ensures origin { R.origin feeder.new.reader ≡ R.origin feeder.old.reader }
 {
     open_lent(alloc, &mut feeder.lender, &mut feeder.reader)
 }

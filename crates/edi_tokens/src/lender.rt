@@ -127,6 +127,7 @@ impl Lender {
             Filled (R.remaining reader.new) all lent result self.new }
         ensures some { (lent : List Segment) → Came lent self.old → FillsSome lent result self.new }
         ensures flag { Flags result (R.failed reader.old) (R.failed reader.new) }
+        ensures origin { R.origin reader.new ≡ R.origin reader.old }
         ensures bound { TakesOf (R.remaining reader.old) (R.remaining reader.new) self.old.room self.new.room }
         ensures ends { AtEnd (R.remaining reader.new) self.new }
         ensures fewer { result ≡ Ok true → self.new.room < self.old.room }
@@ -158,6 +159,7 @@ impl Lender {
             Filled (R.remaining reader.new) all lent result self.new }
         ensures some { (lent : List Segment) → Came lent self.old → FillsSome lent result self.new }
         ensures flag { Flags result (R.failed reader.old) (R.failed reader.new) }
+        ensures origin { R.origin reader.new ≡ R.origin reader.old }
         ensures bound { TakesOf (R.remaining reader.old) (R.remaining reader.new) self.old.room self.new.room }
         ensures ends { AtEnd (R.remaining reader.new) self.new }
         ensures fewer { result ≡ Ok true → self.new.room < self.old.room }
@@ -188,6 +190,7 @@ impl Lender {
             Filled (R.remaining reader.new) all lent result self.new }
         ensures some { (lent : List Segment) → Came lent self.old → FillsSome lent result self.new }
         ensures flag { Flags result (R.failed reader.old) (R.failed reader.new) }
+        ensures origin { R.origin reader.new ≡ R.origin reader.old }
         ensures bound { TakesOf (R.remaining reader.old) (R.remaining reader.new) self.old.room self.new.room }
         ensures ends { AtEnd (R.remaining reader.old) self.old → AtEnd (R.remaining reader.new) self.new }
         ensures fewer { result ≡ Ok true → self.new.room < self.old.room }
@@ -211,6 +214,7 @@ impl Lender {
         ensures some { (lent : List Segment) → Came lent self.old → TellsSome lent (answered result self.new) self.new }
         ensures fewer { result ≡ Ok true → unread self.new < unread self.old }
         ensures flag { Flags result (R.failed reader.old) (R.failed reader.new) }
+        ensures origin { R.origin reader.new ≡ R.origin reader.old }
         ensures bound { TakesOf (R.remaining reader.old) (R.remaining reader.new) self.old.room self.new.room }
         ensures ends { AtEnd (R.remaining reader.old) self.old → AtEnd (R.remaining reader.new) self.new }
         ensures going { OnOk result (stopped self.new ≡ None) }
@@ -231,6 +235,7 @@ impl Lender {
     pub fn advance<R: Source>(&mut self, reader: &mut R) -> Result<bool, TokenFault>
         ensures feeds { Feeds (R.remaining reader.old) (R.remaining reader.new) (R.failed reader.old) (R.failed reader.new)
             self.old (answered result self.new) self.new }
+        ensures origin { R.origin reader.new ≡ R.origin reader.old }
         ensures fewer { result ≡ Ok true → unread self.new < unread self.old }
         ensures still { IfSome (stopped self.old) (λ _. reader.new ≡ reader.old) }
     {

@@ -26,6 +26,7 @@ pub struct ReadFailed;
 fn read_front<R: Source>(reader: &mut R, bytes: &mut [u8], room: usize) -> Result<usize, ReadFailed>
     ensures bytes { Reads (R.remaining reader.old) (R.remaining reader.new) result bytes.new room }
     ensures flag { R.failed reader.new ≡ (R.failed reader.old || is_err result) }
+    ensures origin { R.origin reader.new ≡ R.origin reader.old }
 {
     let most = room.min(bytes.len());
     let Ok(count) = reader.read(&mut bytes[..most]) else {
@@ -107,6 +108,7 @@ impl Piece {
     ) -> Result<usize, ReadFailed>
         ensures bytes { Fills (R.remaining reader.old) (R.remaining reader.new) result self.new room }
         ensures flag { R.failed reader.new ≡ (R.failed reader.old || is_err result) }
+        ensures origin { R.origin reader.new ≡ R.origin reader.old }
     {
         self.from = 0;
         self.end = 0;

@@ -1,6 +1,6 @@
 -- Lines and mail texts on their way to writers.
-use Rattle.std.proofs.Common.{subst, ◌≡◌, ℕ, true, false, List, ◌++◌, take, Option, Some, None, Result, Ok, Err, inl, inr}
-use Rattle.std.proofs.Common.{refl, sym, ap, ◌∙◌, append_assoc}
+use Rattle.std.proofs.Common.{subst, ◌≡◌, ℕ, Bool, true, false, List, [], ◌++◌, take, Option, Some, None, Result, Ok, Err, inl, inr}
+use Rattle.std.proofs.Common.{refl, sym, ap, ◌∙◌, append-nil, append_assoc}
 use Rattle.std.specs.Prelude.{◌≢◌, ◌⊎◌, IfSome, OnOk, OnErr, is_ok}
 use Rattle.std.proofs.lemmas.Bool.{true≢false, false≢true}
 use Rattle.std.specs.Io.KnownBytes.{Appends, Consumes}
@@ -8,6 +8,7 @@ use Rattle.std.proofs.KnownBytes.{Appends-trans}
 use Rattle.edi_base.specs.Buffer.{AppendsFront}
 use Rattle.edi_base.specs.declared.source.ReadFault.{ReadFault}
 use Rattle.edi_base.specs.declared.source.ReadFault.TheVariants as read_faults
+use Rattle.hub_app.specs.Exit.{Tells}
 use Rattle.hub_app.specs.Run.{read_limit}
 use Rattle.hub_app.specs.Show.{lines_shown, status_of, Shows, ShowsFront}
 
@@ -40,6 +41,21 @@ front_of_second old mid new first second begun h = (
   ap (λ (t : List ℕ). first ++ t) h.2 ∙ sym (append_assoc first h.0 h.1),
   Appends-trans old mid new first h.0 begun h.3,
 )
+
+-- a line is told, whole or, at a fault of the writer, in front
+pub tells : {E : Type 0} (old new : Option (List ℕ)) (failed : Bool) (line : List ℕ) (written : Result (Unit {0}) E)
+    → OnOk written (Appends old new line)
+    → OnErr written (AppendsFront old new line)
+    → OnErr written (failed ≡ true)
+    → Tells old new failed line
+tells old new failed line (Ok done) whole front up = record {
+  front = (line, [], sym (append-nil line), whole);
+  whole = λ _. whole;
+}
+tells old new failed line (Err fault) whole front up = record {
+  front = front;
+  whole = λ down. absurd (false≢true (sym down ∙ up));
+}
 
 -- where the reader stands
 pub stands : (old new : Option (List ℕ)) (read : List ℕ)

@@ -4,6 +4,8 @@ use Rattle.clap.specs.Words.{App, Rule, Shape, Text, app_of, new_app, new_rule}
 use Rattle.clap.specs.declared.builder.action.ArgAction.TheVariants.{Set}
 use Rattle.clap.specs.declared.builder.command.Command.{Command}
 use Rattle.clap.specs.declared.builder.command.Command.TheViews.{out-Command as fields_of}
+use Rattle.hub_app.specs.declared.program.Choice.{Choice}
+use Rattle.hub_app.specs.declared.program.Choice.TheVariants.{Wanted, Offered}
 
 -- an option with one value, that has to be given or not
 abbrev pub option : Bool → Text → Rule
@@ -27,6 +29,16 @@ with_options name rules = record (new_app name).top { rules = rules }
 -- one option more
 abbrev pub with_option : Shape → Rule → Shape
 with_option shape rule = record shape { rules = shape.rules ++ rule ∷ [] }
+
+-- an option as the program's tables have it
+abbrev pub rule_of_choice : Choice → Rule
+rule_of_choice (Wanted name value help) = wanted name.now
+rule_of_choice (Offered name value help) = offered name.now
+
+-- options of a table more
+abbrev pub with_choices : Shape → List Choice → Shape
+with_choices shape [] = shape
+with_choices shape (choice ∷ choices) = with_choices (with_option shape (rule_of_choice choice)) choices
 
 -- the options of every command over a hub, and more
 abbrev pub over_a_hub : Text → List Rule → Shape

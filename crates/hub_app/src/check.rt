@@ -18,7 +18,7 @@ use std::error::Error;
 use std::fmt;
 
 /// Why the text of a register was not read.
-#[derive(Clone, Copy, Debug, PartialEq, Eq)]
+#[derive(Clone, Copy, Debug)]
 pub enum TextFault {
     /// The source failed, is longer than 1,048,576 bytes, or is no UTF-8.
     File,

@@ -2,7 +2,7 @@
 
 ghost use Rattle.std.specs.Prelude.{◌≡◌, [], false, IfOk};
 ghost use Rattle.clap.specs.Words.{App, Shape, app_of, rule_of, with_subcommand};
-ghost use Rattle.hub_app.specs.Program.{wanted, offered, with_option, with_options, over_a_hub, IsCommand};
+ghost use Rattle.hub_app.specs.Program.{wanted, offered, rule_of_choice, with_choices, with_options, over_a_hub, IsCommand};
 ghost use Rattle.hub_app.specs.Program.{bare, check, relay, show, import, status, mail, cancel, serve, edihub};
 
 use clap::{Arg, ArgAction, Command};
@@ -41,34 +41,36 @@ fn named<'a>(
     Ok(Command::new(alloc, name).about(about).after_help(help))
 }
 
-// What is built so far is handed on as a result: an exit after each option of a command costs its proof far more.
-
-// A command with one option more, that has to be given.
-fn wanting<'a>(
-    command: Result<Command<'a>, AllocError>,
-    alloc: Global,
-    name: &'a str,
-    value: &'a str,
-    help: &'a str,
-) -> Result<Command<'a>, AllocError>
-    ensures { (shape : Shape) → IfOk command.entry (IsCommand shape)
-        → IfOk result (IsCommand (with_option shape (wanted name.now))) }
-{
-    command?.arg(option(alloc, name, value, help))
+// An option with one value, that has to be given or may be left out: its name, how its value is shown, and its help.
+enum Choice {
+    Wanted(&'static str, &'static str, &'static str),
+    Offered(&'static str, &'static str, &'static str),
 }
 
-// The same, where it may be left out.
-fn offering<'a>(
-    command: Result<Command<'a>, AllocError>,
-    alloc: Global,
-    name: &'a str,
-    value: &'a str,
-    help: &'a str,
-) -> Result<Command<'a>, AllocError>
-    ensures { (shape : Shape) → IfOk command.entry (IsCommand shape)
-        → IfOk result (IsCommand (with_option shape (offered name.now))) }
+fn arg_of(alloc: Global, choice: &Choice) -> Arg<'static>
+    ensures rule { rule_of result ≡ rule_of_choice choice.now }
+    ensures local { result.global ≡ false }
 {
-    command?.arg(extra(alloc, name, value, help))
+    match choice {
+        Choice::Wanted(name, value, help) => option(alloc, name, value, help),
+        Choice::Offered(name, value, help) => extra(alloc, name, value, help),
+    }
+}
+
+// A command with these options. What was built so far is taken as a result: each exit of a command costs its proof more.
+fn choosing<'a>(
+    begun: Result<Command<'a>, AllocError>,
+    alloc: Global,
+    choices: &[Choice],
+) -> Result<Command<'a>, AllocError>
+    ensures { (shape : Shape) → IfOk begun.entry (IsCommand shape)
+        → IfOk result (IsCommand (with_choices shape choices.now)) }
+{
+    let mut command = begun?;
+    for choice in choices {
+        command = command.arg(arg_of(alloc, choice))?;
+    }
+    Ok(command)
 }
 
 const RELAY: &str =
@@ -77,32 +79,25 @@ const RELAY: &str =
 const STATUS: &str =
     "Exit status: 0 done; 1 refused, the code stands on standard error; 2 usage error; 3 a failed read or write, or out of memory";
 
-fn relay_command<'a>(alloc: Global) -> Result<Command<'a>, AllocError>
-    ensures { IfOk result (IsCommand relay) }
-{
-    let command = named(alloc, "relay", RELAY, STATUS);
-    let command = wanting(command, alloc, "hub", "GLN", "GLN of the hub, 13 digits");
-    let command = wanting(
-        command,
-        alloc,
-        "owner",
-        "GLN",
-        "GLN of the supplier, 13 digits",
-    );
-    let command = wanting(
-        command,
-        alloc,
+static RELAY_OPTIONS: [Choice; 4] = [
+    Choice::Wanted("hub", "GLN", "GLN of the hub, 13 digits"),
+    Choice::Wanted("owner", "GLN", "GLN of the supplier, 13 digits"),
+    Choice::Wanted(
         "moment",
         "SECONDS",
         "Moment of the mail, in seconds since 1970 began at UTC, at most 4102444799",
-    );
-    wanting(
-        command,
-        alloc,
+    ),
+    Choice::Wanted(
         "number",
         "N",
         "Number of the first mail text, 1 to 99999999999001",
-    )
+    ),
+];
+
+fn relay_command<'a>(alloc: Global) -> Result<Command<'a>, AllocError>
+    ensures { IfOk result (IsCommand relay) }
+{
+    choosing(named(alloc, "relay", RELAY, STATUS), alloc, &RELAY_OPTIONS)
 }
 
 const CHECK: &str =
@@ -132,16 +127,19 @@ Faults, in the order in which they are looked for:
 
 Exit status: 0 a register; 1 a fault; 2 usage error; 3 the file cannot be read, is not UTF-8 or too long, or out of memory";
 
+static CHECK_OPTIONS: [Choice; 1] = [Choice::Wanted(
+    "register",
+    "FILE",
+    "The register, a TOML file",
+)];
+
 fn check_command<'a>(alloc: Global) -> Result<Command<'a>, AllocError>
     ensures { IfOk result (IsCommand check) }
 {
-    let command = named(alloc, "check", CHECK, CHECK_HELP);
-    wanting(
-        command,
+    choosing(
+        named(alloc, "check", CHECK, CHECK_HELP),
         alloc,
-        "register",
-        "FILE",
-        "The register, a TOML file",
+        &CHECK_OPTIONS,
     )
 }
 
@@ -173,6 +171,26 @@ fn show_command<'a>(alloc: Global) -> Result<Command<'a>, AllocError>
     named(alloc, "show", SHOW, SHOW_HELP)
 }
 
+static HUB_OPTIONS: [Choice; 5] = [
+    Choice::Wanted("register", "FILE", "The register, a TOML file"),
+    Choice::Wanted(
+        "db",
+        "FILE",
+        "The hub's database; a new one is made where there is none",
+    ),
+    Choice::Wanted(
+        "as",
+        "GLN",
+        "GLN of the retailer or supplier who asks, 13 digits",
+    ),
+    Choice::Wanted("key", "KEY", "Its key, as the register has it"),
+    Choice::Offered(
+        "moment",
+        "SECONDS",
+        "Moment of the call, in seconds since 1970 began at UTC, at most 4102444799 [default: now]",
+    ),
+];
+
 // A command over the hub that is kept in a database.
 fn hub_command<'a>(
     alloc: Global,
@@ -182,42 +200,7 @@ fn hub_command<'a>(
 ) -> Result<Command<'a>, AllocError>
     ensures { IfOk result (λ command. IsCommand (over_a_hub name.now []) command) }
 {
-    let command = named(alloc, name, about, help);
-    let command = wanting(
-        command,
-        alloc,
-        "register",
-        "FILE",
-        "The register, a TOML file",
-    );
-    let command = wanting(
-        command,
-        alloc,
-        "db",
-        "FILE",
-        "The hub's database; a new one is made where there is none",
-    );
-    let command = wanting(
-        command,
-        alloc,
-        "as",
-        "GLN",
-        "GLN of the retailer or supplier who asks, 13 digits",
-    );
-    let command = wanting(
-        command,
-        alloc,
-        "key",
-        "KEY",
-        "Its key, as the register has it",
-    );
-    offering(
-        command,
-        alloc,
-        "moment",
-        "SECONDS",
-        "Moment of the call, in seconds since 1970 began at UTC, at most 4102444799 [default: now]",
-    )
+    choosing(named(alloc, name, about, help), alloc, &HUB_OPTIONS)
 }
 
 const IMPORT: &str = "Uploads the interchanges in a folder, and prints what becomes of each";
@@ -239,16 +222,19 @@ A message that comes again is 'repeated'. One that is not taken is 'refused' wit
 
 Exit status: 0 all is accepted or repeated; 1 something is refused or denied, or the register has a fault; 2 usage error; 3 a file or the database failed, the hub stopped, or out of memory";
 
+static IMPORT_OPTIONS: [Choice; 1] = [Choice::Wanted(
+    "folder",
+    "FOLDER",
+    "The folder with the interchanges",
+)];
+
 fn import_command<'a>(alloc: Global) -> Result<Command<'a>, AllocError>
     ensures { IfOk result (IsCommand import) }
 {
-    let command = hub_command(alloc, "import", IMPORT, IMPORT_HELP);
-    wanting(
-        command,
+    choosing(
+        hub_command(alloc, "import", IMPORT, IMPORT_HELP),
         alloc,
-        "folder",
-        "FOLDER",
-        "The folder with the interchanges",
+        &IMPORT_OPTIONS,
     )
 }
 
@@ -268,16 +254,19 @@ this; where it is 'unknown', there is no such supplier.
 
 Exit status: 0 done; 1 denied or unknown, or the register has a fault; 2 usage error; 3 a file or the database failed, the hub stopped, or out of memory";
 
+static STATUS_OPTIONS: [Choice; 1] = [Choice::Offered(
+    "of",
+    "GLN",
+    "GLN of the supplier that the retailer asks about, 13 digits",
+)];
+
 fn status_command<'a>(alloc: Global) -> Result<Command<'a>, AllocError>
     ensures { IfOk result (IsCommand status) }
 {
-    let command = hub_command(alloc, "status", REPORT, REPORT_HELP);
-    offering(
-        command,
+    choosing(
+        hub_command(alloc, "status", REPORT, REPORT_HELP),
         alloc,
-        "of",
-        "GLN",
-        "GLN of the supplier that the retailer asks about, 13 digits",
+        &STATUS_OPTIONS,
     )
 }
 
@@ -299,23 +288,18 @@ such entry.
 
 Exit status: 0 done; 1 denied or unknown, or the register has a fault; 2 usage error; 3 a file or the database failed, the hub stopped, or out of memory";
 
+static MAIL_OPTIONS: [Choice; 2] = [
+    Choice::Wanted("do", "WHAT", "What to do: after, item or taken"),
+    Choice::Wanted("n", "N", "Number of an entry, 1 to 14 digits"),
+];
+
 fn mail_command<'a>(alloc: Global) -> Result<Command<'a>, AllocError>
     ensures { IfOk result (IsCommand mail) }
 {
-    let command = hub_command(alloc, "mail", MAIL, MAIL_HELP);
-    let command = wanting(
-        command,
+    choosing(
+        hub_command(alloc, "mail", MAIL, MAIL_HELP),
         alloc,
-        "do",
-        "WHAT",
-        "What to do: after, item or taken",
-    );
-    wanting(
-        command,
-        alloc,
-        "n",
-        "N",
-        "Number of an entry, 1 to 14 digits",
+        &MAIL_OPTIONS,
     )
 }
 
@@ -331,38 +315,29 @@ It prints 'accepted', 'repeated' where this cancellation was accepted before, or
 
 Exit status: 0 accepted or repeated; 1 refused or denied, or the register has a fault; 2 usage error; 3 a file or the database failed, the hub stopped, or out of memory";
 
-fn cancel_command<'a>(alloc: Global) -> Result<Command<'a>, AllocError>
-    ensures { IfOk result (IsCommand cancel) }
-{
-    let command = hub_command(alloc, "cancel", CANCEL, CANCEL_HELP);
-    let command = wanting(
-        command,
-        alloc,
-        "supplier",
-        "GLN",
-        "GLN of the supplier, 13 digits",
-    );
-    let command = wanting(
-        command,
-        alloc,
+static CANCEL_OPTIONS: [Choice; 5] = [
+    Choice::Wanted("supplier", "GLN", "GLN of the supplier, 13 digits"),
+    Choice::Wanted(
         "reference",
         "TEXT",
         "The cancellation's own reference, 1 to 14 printable ASCII characters",
-    );
-    let command = wanting(
-        command,
-        alloc,
+    ),
+    Choice::Wanted(
         "order",
         "TEXT",
         "Order number, 1 to 35 printable ASCII characters",
-    );
-    let command = wanting(command, alloc, "line", "N", "Line number, 1 to 999999");
-    wanting(
-        command,
+    ),
+    Choice::Wanted("line", "N", "Line number, 1 to 999999"),
+    Choice::Wanted("quantity", "N", "Pieces to cancel, 1 to 999999999"),
+];
+
+fn cancel_command<'a>(alloc: Global) -> Result<Command<'a>, AllocError>
+    ensures { IfOk result (IsCommand cancel) }
+{
+    choosing(
+        hub_command(alloc, "cancel", CANCEL, CANCEL_HELP),
         alloc,
-        "quantity",
-        "N",
-        "Pieces to cancel, 1 to 999999999",
+        &CANCEL_OPTIONS,
     )
 }
 
@@ -390,38 +365,29 @@ A request to the hub as it runs, and its answer:
 
 Exit status: 0 all connections were answered 200; 1 one was not, or the register has a fault; 2 usage error; 3 a connection failed or was answered 503, a file or the database failed, the port cannot be listened on, or out of memory";
 
-fn serve_command<'a>(alloc: Global) -> Result<Command<'a>, AllocError>
-    ensures { IfOk result (IsCommand serve) }
-{
-    let command = named(alloc, "serve", SERVE, SERVE_HELP);
-    let command = wanting(
-        command,
-        alloc,
-        "register",
-        "FILE",
-        "The register, a TOML file",
-    );
-    let command = wanting(
-        command,
-        alloc,
+static SERVE_OPTIONS: [Choice; 5] = [
+    Choice::Wanted("register", "FILE", "The register, a TOML file"),
+    Choice::Wanted(
         "db",
         "FILE",
         "The hub's database; a new one is made where there is none",
-    );
-    let command = wanting(command, alloc, "port", "N", "Port to listen on, 1 to 65535");
-    let command = wanting(
-        command,
-        alloc,
-        "count",
-        "N",
-        "How many connections to serve, 1 to 1000000",
-    );
-    offering(
-        command,
-        alloc,
+    ),
+    Choice::Wanted("port", "N", "Port to listen on, 1 to 65535"),
+    Choice::Wanted("count", "N", "How many connections to serve, 1 to 1000000"),
+    Choice::Offered(
         "moment",
         "SECONDS",
         "Moment of every connection, in seconds since 1970 began at UTC, at most 4102444799 [default: when it comes]",
+    ),
+];
+
+fn serve_command<'a>(alloc: Global) -> Result<Command<'a>, AllocError>
+    ensures { IfOk result (IsCommand serve) }
+{
+    choosing(
+        named(alloc, "serve", SERVE, SERVE_HELP),
+        alloc,
+        &SERVE_OPTIONS,
     )
 }
 
@@ -446,7 +412,11 @@ fn commanding<'a>(
         → IfOk command.entry (IsCommand shape)
         → IfOk result (λ program. app_of program ≡ with_subcommand app shape) }
 {
-    program?.subcommand(command?)
+    let program = program?;
+    match command {
+        Ok(command) => program.subcommand(command),
+        Err(refused) => Err(refused),
+    }
 }
 
 /// The program with its commands.

@@ -23,14 +23,14 @@ use std::alloc::{AllocError, Global};
 use std::convert::AsStr;
 
 /// What `check` is asked for.
-#[derive(Debug, Drop)]
+#[derive(Drop)]
 pub struct CheckWords<'a> {
     /// The path of the register's file.
     pub register: &'a str,
 }
 
 /// What is asked of a hub. Numbers of mailbox entries have at most 14 digits.
-#[derive(Debug, Drop)]
+#[derive(Drop)]
 pub enum HubTask<'a> {
     /// To upload the interchanges in this folder.
     Import(&'a str),
@@ -47,7 +47,7 @@ pub enum HubTask<'a> {
 }
 
 /// What a command over a hub is asked for.
-#[derive(Debug, Drop)]
+#[derive(Drop)]
 pub struct HubWords<'a> {
     /// The path of the register's file.
     pub register: &'a str,
@@ -64,7 +64,7 @@ pub struct HubWords<'a> {
 }
 
 /// What `serve` is asked for.
-#[derive(Debug, Drop)]
+#[derive(Drop)]
 pub struct ServeWords<'a> {
     /// The path of the register's file.
     pub register: &'a str,
@@ -89,7 +89,7 @@ pub enum Words<'a> {
 }
 
 /// Why words are not read.
-#[derive(Debug, Drop)]
+#[derive(Drop)]
 pub enum WordsFault {
     /// A text to print: help or the version on standard output, with status 0, or a usage error on standard error, with
     /// status 2.

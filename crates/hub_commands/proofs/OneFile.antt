@@ -12,7 +12,7 @@ use Rattle.edi_envelope.specs.declared.fault.OpenFault.{OpenFault}
 use Rattle.edi_envelope.specs.declared.fault.OpenFault.TheVariants.{Token}
 use Rattle.edi_envelope.specs.declared.interchange.Interchange.{Interchange}
 use Rattle.hub_law.specs.declared.reply.Reply.{Reply}
-use Rattle.hub_commands.specs.Files.{Gave, FaultComesOf, OpensSource, IsCalled, IsRead, IsUnread}
+use Rattle.hub_commands.specs.Files.{Gave, FaultComesOf, OpensSource, IsCalled, IsRead, IsUnread, HasFailed}
 use Rattle.hub_commands.specs.Import.{Looked, Answered, Unread, NoMemory, Of, WasGiven, Ends, BrokenOff}
 use Rattle.hub_commands.specs.Import.{file_line}
 use Rattle.hub_commands.specs.OneFile.{Did, Comes, ReplyComes, FaultComes}
@@ -34,7 +34,16 @@ pub fault_given : (name : List ℕ) (fault : ReadFault) → WasGiven (of_fault n
 fault_given name Read = tt
 fault_given name Memory = tt
 
-module _ {B : Type 0} (remaining : B → Option (List ℕ)) (broken : B → Bool) where
+-- the source of an upload whose read failed
+pub read_failed : {B : Type 0} (origin : B → ℕ) (failed : B → Bool) (source later : B) (upload : Result Interchange OpenFault)
+    → origin later ≡ origin source
+    → Flagged upload (failed source) (failed later)
+    → upload ≡ Err (Token token.Read)
+    → HasFailed origin failed source
+read_failed origin failed source later upload same flag is =
+    (later, same, subst (λ (u : Result Interchange OpenFault). Flagged u (failed source) (failed later)) is flag)
+
+module _ {B : Type 0} (remaining : B → Option (List ℕ)) (broken : B → Type 0) where
   -- the bytes of a source that was opened
   abbrev pub bytes_of : (source : Result B ReadFault) (upload : Result Interchange OpenFault) → OpensSource remaining source upload
       → List ℕ
@@ -70,18 +79,8 @@ module _ {B : Type 0} (remaining : B → Option (List ℕ)) (broken : B → Bool
       subst (λ (given : Result B ReadFault). OpensSource remaining given upload) (sym is)
       (opens_known upload (remaining source) opens some)
 
-  -- the upload of a source whose read failed
-  pub read_failed : (given : Result B ReadFault) (source later : B) (upload : Result Interchange OpenFault)
-      → given ≡ Ok source
-      → upload ≡ Err (Token token.Read)
-      → Flagged upload (broken source) (broken later)
-      → FaultComesOf broken given Read
-  read_failed given source later upload is failed flag =
-      subst (λ (given : Result B ReadFault). FaultComesOf broken given Read) (sym is)
-      (later, subst (λ (u : Result Interchange OpenFault). Flagged u (broken source) (broken later)) failed flag)
-
-  module _ (given : Result B ReadFault) (source later : B) (upload : Result Interchange OpenFault) (is : given ≡ Ok source)
-      (opens : OpensSource remaining given upload) (flag : Flagged upload (broken source) (broken later)) where
+  module _ (given : Result B ReadFault) (source : B) (upload : Result Interchange OpenFault) (is : given ≡ Ok source)
+      (opens : OpensSource remaining given upload) (failed : upload ≡ Err (Token token.Read) → broken source) where
     pub read_opens : (r : Result (Result Interchange OpenFault) ReadFault)
         → IfOk r (λ read. (read ≡ upload) × (read ≢ Err (Token token.Read)))
         → IfOk r (λ upload. OpensSource remaining given upload)
@@ -93,7 +92,8 @@ module _ {B : Type 0} (remaining : B → Option (List ℕ)) (broken : B → Bool
         → IfErr r (FaultComesOf broken given)
     unread_comes (Ok read) err = tt
     unread_comes (Err fault) err =
-        subst (λ (f : ReadFault). FaultComesOf broken given f) (sym err.0) (read_failed given source later upload is err.1 flag)
+        subst (λ (f : ReadFault). FaultComesOf broken given f) (sym err.0)
+        (subst (λ (given : Result B ReadFault). FaultComesOf broken given Read) (sym is) (failed err.1))
 
   pub did_upload : (Steps : List ℕ → Reply → Type 0) (Stays : Type 0) (name : List ℕ) (reply : Reply) (source : Result B ReadFault)
       (upload : Result Interchange OpenFault)

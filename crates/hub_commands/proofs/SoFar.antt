@@ -22,13 +22,13 @@ use Rattle.hub_commands.specs.declared.files.NextFile.TheVariants.{Named, Unname
 use Rattle.hub_commands.proofs.Output.{written_then, written_as}
 
 -- the known files are those that were looked at, and those that still come
-pub record Taken {B : Type 0} (remaining : B → Option (List ℕ)) (broken : B → Bool) (known rest : Option (List (NextFile B)))
+pub record Taken {B : Type 0} (remaining : B → Option (List ℕ)) (broken : B → Type 0) (known rest : Option (List (NextFile B)))
     (looked : List Looked) : Type 0 where
   pub others : List (NextFile B)
   pub taken : IfSome known (λ files. Takes remaining broken files looked others × (rest ≡ Some others))
 
 -- the import goes on after all files that were looked at
-pub record SoFar {B : Type 0} (remaining : B → Option (List ℕ)) (broken : B → Bool) (Runs : List Input → List Reply → Type 0)
+pub record SoFar {B : Type 0} (remaining : B → Option (List ℕ)) (broken : B → Type 0) (Runs : List Input → List Reply → Type 0)
     (asked : List ℕ → Input) (known rest : Option (List (NextFile B))) (old new : Option (List ℕ)) (failed after : Bool)
     (status : ℕ) : Type 0 where
   pub looked : List Looked
@@ -63,7 +63,7 @@ ok_not_err (Err e) x fault is not = absurd cc
 read_not_memory : Read ≢ Memory
 read_not_memory e = absurd cc
 
-module _ {B : Type 0} (remaining : B → Option (List ℕ)) (broken : B → Bool) where
+module _ {B : Type 0} (remaining : B → Option (List ℕ)) (broken : B → Type 0) where
   takes_more : (files : List (NextFile B)) (looked : List Looked) (file : NextFile B) (one : Looked) (others : List (NextFile B))
       → Takes remaining broken files looked (file ∷ others)
       → Of remaining broken file one
@@ -205,7 +205,7 @@ module _ {B : Type 0} (remaining : B → Option (List ℕ)) (broken : B → Bool
   taken_none None = record { others = []; taken = tt }
   taken_none (Some files) = record { others = files; taken = (refl, refl) }
 
-module _ {B : Type 0} (remaining : B → Option (List ℕ)) (broken : B → Bool) (asked : List ℕ → Input)
+module _ {B : Type 0} (remaining : B → Option (List ℕ)) (broken : B → Type 0) (asked : List ℕ → Input)
     (known : Option (List (NextFile B))) (old : Option (List ℕ)) (failed : Bool) where
   -- no file was looked at
   pub so_far_none : (Runs : List Input → List Reply → Type 0) → Runs [] []

@@ -13,11 +13,15 @@ use Rattle.hub_commands.specs.declared.files.NextFile.TheVariants.{Named, Unname
 abbrev pub Gave : {B : Type 0} → (B → Option (List ℕ)) → Result B ReadFault → List ℕ → Type 0
 Gave {B} remaining source bytes = (from : B) × (source ≡ Ok from) × IfSome (remaining from) (λ known. bytes ≡ known)
 
+-- a read of a source failed: it is that source still, and its flag is up
+abbrev pub HasFailed : {B : Type 0} → (B → ℕ) → (B → Bool) → B → Type 0
+HasFailed {B} origin failed source = (later : B) × (origin later ≡ origin source) × (failed later ≡ true)
+
 -- why the bytes of a source are not known: it could not be opened, a read of it failed, or memory gave out
-abbrev pub FaultComesOf : {B : Type 0} → (B → Bool) → Result B ReadFault → ReadFault → Type 0
-FaultComesOf failed (Err why) fault = fault ≡ why
-FaultComesOf {B} failed (Ok source) Read = (later : B) × (failed later ≡ true)
-FaultComesOf failed (Ok source) Memory = ⊤
+abbrev pub FaultComesOf : {B : Type 0} → (B → Type 0) → Result B ReadFault → ReadFault → Type 0
+FaultComesOf broken (Err why) fault = fault ≡ why
+FaultComesOf broken (Ok source) Read = broken source
+FaultComesOf broken (Ok source) Memory = ⊤
 
 -- what an upload is opened as whose bytes are read from a source: those that it is known to give, else some
 abbrev pub OpensSource : {B : Type 0} → (B → Option (List ℕ)) → Result B ReadFault → Result Interchange OpenFault
@@ -37,9 +41,9 @@ IsRead remaining (Named file) name bytes = (string_bytes file.name ≡ name) × 
 IsRead remaining Unnamed name bytes = ⊥
 
 -- the file has this name, and could not be opened, or a read of its source failed
-abbrev pub IsUnread : {B : Type 0} → (B → Bool) → NextFile B → List ℕ → Type 0
-IsUnread failed (Named file) name = (string_bytes file.name ≡ name) × FaultComesOf failed file.source Read
-IsUnread failed Unnamed name = ⊥
+abbrev pub IsUnread : {B : Type 0} → (B → Type 0) → NextFile B → List ℕ → Type 0
+IsUnread broken (Named file) name = (string_bytes file.name ≡ name) × FaultComesOf broken file.source Read
+IsUnread broken Unnamed name = ⊥
 
 -- a file is given as it is; its source is not where memory gives out for it
 abbrev pub GivenAs : {B : Type 0} → NextFile B → NextFile B → Type 0

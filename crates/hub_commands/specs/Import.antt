@@ -24,20 +24,20 @@ pub data Looked : Type 0 where
   Unprinted : List ℕ → Looked
 
 -- that may come of the file
-abbrev pub Of : {B : Type 0} → (B → Option (List ℕ)) → (B → Bool) → NextFile B → Looked → Type 0
-Of remaining failed file (Answered name bytes reply) = IsRead remaining file name bytes
-Of remaining failed file (Unread name) = IsUnread failed file name
-Of remaining failed file Unnamed = file ≡ files.Unnamed
-Of remaining failed file (NoMemory name) = IfSome name (IsCalled file)
-Of remaining failed file (Unprinted name) = IsCalled file name
+abbrev pub Of : {B : Type 0} → (B → Option (List ℕ)) → (B → Type 0) → NextFile B → Looked → Type 0
+Of remaining broken file (Answered name bytes reply) = IsRead remaining file name bytes
+Of remaining broken file (Unread name) = IsUnread broken file name
+Of remaining broken file Unnamed = file ≡ files.Unnamed
+Of remaining broken file (NoMemory name) = IfSome name (IsCalled file)
+Of remaining broken file (Unprinted name) = IsCalled file name
 
 -- it came of the first files, one after another, and the rest still come
-abbrev pub Takes : {B : Type 0} → (B → Option (List ℕ)) → (B → Bool) → List (NextFile B) → List Looked
+abbrev pub Takes : {B : Type 0} → (B → Option (List ℕ)) → (B → Type 0) → List (NextFile B) → List Looked
     → List (NextFile B) → Type 0
-Takes remaining failed files [] rest = files ≡ rest
-Takes remaining failed [] (one ∷ looked) rest = ⊥
-Takes remaining failed (file ∷ files) (one ∷ looked) rest =
-    Of remaining failed file one × Takes remaining failed files looked rest
+Takes remaining broken files [] rest = files ≡ rest
+Takes remaining broken [] (one ∷ looked) rest = ⊥
+Takes remaining broken (file ∷ files) (one ∷ looked) rest =
+    Of remaining broken file one × Takes remaining broken files looked rest
 
 -- it was given: memory did not give out before its name was known
 abbrev pub WasGiven : Looked → Type 0
@@ -50,15 +50,15 @@ WasGiven (Unprinted name) = ⊤
 
 -- What still comes behind the last that was looked at: the rest of the files, and no others; and before these the last
 -- itself, where memory gave out before its name was known.
-abbrev pub StillCome : {B : Type 0} → (B → Option (List ℕ)) → (B → Bool) → List (NextFile B) → List Looked → Looked
+abbrev pub StillCome : {B : Type 0} → (B → Option (List ℕ)) → (B → Type 0) → List (NextFile B) → List Looked → Looked
     → List (NextFile B) → Option (List (NextFile B)) → Type 0
-StillCome remaining failed files earlier (Answered name bytes reply) rest left = left ≡ Some rest
-StillCome remaining failed files earlier (Unread name) rest left = left ≡ Some rest
-StillCome remaining failed files earlier Unnamed rest left = left ≡ Some rest
-StillCome remaining failed files earlier (NoMemory (Some name)) rest left = left ≡ Some rest
-StillCome {B} remaining failed files earlier (NoMemory None) rest left =
-    (file : NextFile B) × Takes remaining failed files earlier (file ∷ rest) × (left ≡ Some (file ∷ rest))
-StillCome remaining failed files earlier (Unprinted name) rest left = left ≡ Some rest
+StillCome remaining broken files earlier (Answered name bytes reply) rest left = left ≡ Some rest
+StillCome remaining broken files earlier (Unread name) rest left = left ≡ Some rest
+StillCome remaining broken files earlier Unnamed rest left = left ≡ Some rest
+StillCome remaining broken files earlier (NoMemory (Some name)) rest left = left ≡ Some rest
+StillCome {B} remaining broken files earlier (NoMemory None) rest left =
+    (file : NextFile B) × Takes remaining broken files earlier (file ∷ rest) × (left ≡ Some (file ∷ rest))
+StillCome remaining broken files earlier (Unprinted name) rest left = left ≡ Some rest
 
 -- the import goes on after it
 abbrev pub GoesOn : Looked → Type 0
@@ -171,7 +171,7 @@ pub record Early (Still : List Looked → Looked → Type 0) (old new : Option (
 
 -- An import. What was looked at are the first of the known files, and their uploads ran with these replies. The others
 -- are left, and still come.
-pub record Imported {B : Type 0} (remaining : B → Option (List ℕ)) (broken : B → Bool)
+pub record Imported {B : Type 0} (remaining : B → Option (List ℕ)) (broken : B → Type 0)
     (Runs : List Input → List Reply → Type 0) (asked : List ℕ → Input) (known left : Option (List (NextFile B)))
     (old new : Option (List ℕ)) (failed after : Bool) (status : ℕ) : Type 0 where
   pub looked : List Looked

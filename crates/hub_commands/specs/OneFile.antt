@@ -25,7 +25,7 @@ Comes old new failed after one (Ok status) =
 Comes old new failed after one (Err ended) = Ends old new failed after [] one
 
 -- one file that was given
-pub record LooksAt {B E : Type 0} (remaining : B → Option (List ℕ)) (broken : B → Bool)
+pub record LooksAt {B E : Type 0} (remaining : B → Option (List ℕ)) (broken : B → Type 0)
     (Steps : List ℕ → Reply → Type 0) (Stays : Type 0) (file : NextFile B) (old new : Option (List ℕ))
     (failed after : Bool) (result : Result ℕ E) : Type 0 where
   pub one : Looked

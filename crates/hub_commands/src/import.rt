@@ -1,7 +1,7 @@
 //! An import of files.
 ghost use Rattle.std.specs.Prelude.{◌≡◌, ◌≢◌, Err, IfOk, IfErr};
 ghost use Rattle.hub_core.specs.Steps.{Stepped, Ran, input_of};
-ghost use Rattle.hub_commands.specs.Files.{OpensSource, FaultComesOf};
+ghost use Rattle.hub_commands.specs.Files.{OpensSource, FaultComesOf, HasFailed};
 ghost use Rattle.hub_commands.specs.Import.{Imported};
 ghost use Rattle.hub_commands.specs.OneFile.{FaultComes, LooksAt, ReplyComes};
 ghost use Rattle.hub_law.specs.declared.request.Request.TheVariants.{Upload};
@@ -76,7 +76,7 @@ fn opened_from<B: Source + Drop>(
 ) -> Result<Result<Interchange, OpenFault>, ReadFault>
     ensures opens { IfOk result (λ upload. OpensSource B.remaining source upload) }
     ensures read { IfOk result (λ upload. upload ≢ Err (OpenFault.Token TokenFault.Read)) }
-    ensures fault { IfErr result (FaultComesOf B.failed source) }
+    ensures fault { IfErr result (FaultComesOf (HasFailed B.origin B.failed) source) }
 {
     let mut source = source?;
     let Ok(mut lender) = Lender::new(alloc) else {
@@ -96,7 +96,7 @@ fn import_file<S: Store, B: Source + Drop, W: Sink>(
     file: NextFile<B>,
     out: &mut W,
 ) -> Result<u8, Ended>
-    ensures looks_at { LooksAt B.remaining B.failed
+    ensures looks_at { LooksAt B.remaining (HasFailed B.origin B.failed)
         (λ bytes reply. S.honest hub.new.1 → Sound hub.old.0.suppliers (S.content hub.old.1) →
         Stepped hub.old.0 (S.content hub.old.1) (S.content hub.new.1) (S.left hub.old.1) (S.left hub.new.1)
         (input_of moment caller.now key.now (Upload bytes)) reply)
@@ -138,7 +138,7 @@ pub fn import_run<S: Store, F: Files, W: Sink>(
     files: &mut F,
     out: &mut W,
 ) -> u8
-    ensures imported { Imported F.Bytes.remaining F.Bytes.failed
+    ensures imported { Imported F.Bytes.remaining (HasFailed F.Bytes.origin F.Bytes.failed)
         (λ inputs replies. S.honest hub.new.1 → Sound hub.old.0.suppliers (S.content hub.old.1) →
         Ran hub.old.0 (S.content hub.old.1) (S.content hub.new.1) (S.left hub.old.1) (S.left hub.new.1) inputs replies)
         (λ bytes. input_of moment caller.now key.now (Upload bytes)) (F.remaining files.old)

@@ -1,12 +1,15 @@
 -- An upload with the code of its fault, as the code has it; and whether memory sufficed to open one.
 use Rattle.std.specs.Borrow.{Bor}
-use Rattle.std.specs.Prelude.{◌≡◌, ◌⊎◌, ⊤, ℕ, List, Result, Ok, Err}
+use Rattle.std.specs.Prelude.{◌≡◌, ◌⊎◌, ⊤, ℕ, List, [], Result, Ok, Err}
 use Rattle.edi_segments.specs.declared.fault.TokenFault.TheVariants as token
 use Rattle.edi_envelope.specs.declared.fault.EnvelopeFault.TheVariants as envelope
 use Rattle.edi_envelope.specs.declared.fault.OpenFault.{OpenFault}
 use Rattle.edi_envelope.specs.declared.fault.OpenFault.TheVariants.{Token, Envelope}
 use Rattle.edi_envelope.specs.declared.interchange.Interchange.{Interchange}
 use Rattle.hub_law.specs.Opening.{Opened}
+use Rattle.hub_law.specs.Replies.{reply, stopped}
+use Rattle.hub_law.specs.declared.reply.Outcome.TheVariants.{Stopped}
+use Rattle.hub_law.specs.declared.reply.Reply.{Reply}
 
 abbrev pub with_code : Result Interchange (Bor (List ℕ)) → Opened
 with_code (Ok interchange) = Ok interchange
@@ -28,3 +31,7 @@ Sufficed (Err fault) = HasCode fault
 abbrev pub RanOut : Result Interchange OpenFault → Type 0
 RanOut (Ok interchange) = ⊥
 RanOut (Err fault) = OfMemory fault
+
+-- the reply to what is stopped before anything was done: the word alone, or nothing where there is no memory for it
+abbrev pub IsStopped : Reply → Type 0
+IsStopped r = (r ≡ stopped) ⊎ (r ≡ reply Stopped [])

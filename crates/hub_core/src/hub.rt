@@ -3,12 +3,11 @@ ghost use Rattle.std.specs.Prelude.{◌≡◌, ◌≢◌, ℕ, List, [], ◌∷�
 ghost use Rattle.edi_envelope.specs.Opened.{opened, Opens};
 ghost use Rattle.hub_parties.specs.Rows.{IsRegister, role_of};
 ghost use Rattle.hub_rules.specs.Sound.{Sound};
-ghost use Rattle.hub_law.specs.declared.reply.Outcome.TheVariants.{Stopped};
 ghost use Rattle.hub_law.specs.declared.reply.Reply.{Reply};
 ghost use Rattle.hub_law.specs.declared.request.Input.{Input};
 ghost use Rattle.hub_law.specs.declared.request.Request.TheVariants.{Upload};
 ghost use Rattle.hub_core.specs.Broken.{Breaks, RunBreaks, does_input};
-ghost use Rattle.hub_core.specs.Opened.{RanOut};
+ghost use Rattle.hub_core.specs.Opened.{IsStopped, RanOut};
 ghost use Rattle.hub_core.specs.Steps.{Stepped, Ran, input_of};
 
 use crate::step;
@@ -126,7 +125,7 @@ impl<S: Store> Hub<S> {
             (S.broken self.old.1) (S.broken self.new.1) result }
         ensures register { self.new.0 ≡ self.old.0 }
         ensures was_honest { S.honest self.new.1 → S.honest self.old.1 }
-        ensures ran_out { RanOut upload → (result.outcome ≡ Stopped) × (self.new ≡ self.old) }
+        ensures ran_out { RanOut upload → IsStopped result × (self.new ≡ self.old) }
     {
         step::step_opened(
             self.alloc,

@@ -13,7 +13,7 @@ ghost use Rattle.hub_law.specs.declared.reply.Outcome.TheVariants.{Stopped};
 ghost use Rattle.hub_law.specs.declared.request.Request.TheVariants.{Upload};
 ghost use Rattle.hub_core.specs.Broken.{Breaks, BreaksAsked, RunBreaks, does_input};
 ghost use Rattle.hub_core.specs.Callers.{IsCaller};
-ghost use Rattle.hub_core.specs.Opened.{RanOut};
+ghost use Rattle.hub_core.specs.Opened.{IsStopped, RanOut};
 ghost use Rattle.hub_core.specs.Steps.{Asked, Stepped, Ran, acts_of, input_of};
 
 use crate::caller::Caller;
@@ -175,7 +175,7 @@ pub(crate) fn step_opened<S: Store>(
         Breaks S.plain (does_input register.now (input_of moment caller.now key.now (Upload bytes)))
         (S.broken store.old) (S.broken store.new) result }
     ensures was_honest { S.honest store.new → S.honest store.old }
-    ensures ran_out { RanOut upload → (result.outcome ≡ Stopped) × (store.new ≡ store.old) }
+    ensures ran_out { RanOut upload → IsStopped result × (store.new ≡ store.old) }
 {
     step_is_own();
     run_is_own();

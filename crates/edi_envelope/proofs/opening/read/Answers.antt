@@ -1,4 +1,4 @@
-use Rattle.std.proofs.Common.{Bool, Result, Ok, ap, ◌∙◌}
+use Rattle.std.proofs.Common.{Bool, Result, Ok, refl, ap, ◌∙◌}
 use Rattle.std.proofs.lemmas.Result.{err_from_is_err_and}
 use Rattle.edi_segments.specs.declared.fault.TokenFault.{TokenFault}
 use Rattle.edi_envelope.proofs.ReadLemmas.{nothing_read, bound_then, fault_told, fault_of_some, end_told, end_of_some, more_read}
@@ -44,6 +44,7 @@ loop-opening-preserved g c = record {
       c.loop-opening.lender _ c.loop-opening.opening c.advance.result c.loop-opening.invariant.read c.advance.ensures.feeds _
       (c.in_ok-advance.was ∙ ap said c.if-branch.true)
       (rw c.lent.ensures at (c.in_ok-copy.ensures c.loop-opening.invariant.read.lent c.loop-opening.invariant.read.stands));
+  origin = c.advance.ensures.origin ∙ c.loop-opening.invariant.origin;
   stays =
       stays_then g.R.Source.remaining c.args.reader.now _ _ _ _ c.args.lender.now _ _ c.advance.result c.advance.ensures.feeds
       c.advance.ensures.still c.loop-opening.invariant.stays;
@@ -89,5 +90,6 @@ loop-opening-init g c = record {
   read =
       nothing_read (g.R.Source.remaining c.args.reader.now) (g.R.Source.failed c.args.reader.now) c.args.lender.now c.new-opening.result
       c.new-opening.ensures;
+  origin = refl;
   stays = stays_still c.args.reader.now c.args.lender.now;
 }

@@ -1,5 +1,4 @@
 use Rattle.hub_app.proofs.program.cancel_command.Goals as goal
 
 pub returns : goal.returns
-returns c =
-    c.wanting.ensures _ (c.wanting-command-4.ensures _ (c.wanting-command-3.ensures _ (c.wanting-command-2.ensures _ (c.wanting-command.ensures _ c.hub_command-command.ensures))))
+returns c = c.choosing.ensures _ c.hub_command.ensures

@@ -1,4 +1,4 @@
 use Rattle.hub_app.proofs.program.import_command.Goals as goal
 
 pub returns : goal.returns
-returns c = c.wanting.ensures _ c.hub_command-command.ensures
+returns c = c.choosing.ensures _ c.hub_command.ensures

@@ -1,3 +1,4 @@
+use Rattle.hub_commands.specs.Files.{HasFailed}
 use Rattle.std.proofs.Common.{◌≡◌, ℕ, List, refl, ap, inr, string_bytes}
 use Rattle.hub_core.specs.Steps.{input_of}
 use Rattle.hub_law.specs.declared.request.Request.TheVariants.{Upload}
@@ -27,17 +28,17 @@ returns-in-Ok-clause-looks_at g c =
     let asked = λ (bytes : List ℕ). input_of c.args.moment c.args.caller.now c.args.key.now (Upload bytes) in
     let hub = c.args.hub.now in
     let new = c.step_opened-reply.new.self in record {
-      one = Answered name (bytes_of g.B.Source.remaining g.B.Source.failed source c.in-Ok.upload c.in-Ok.ensures.opens) c.step_opened-reply.result;
-      is = of_read g.B.Source.remaining g.B.Source.failed
+      one = Answered name (bytes_of g.B.Source.remaining (HasFailed g.B.Source.origin g.B.Source.failed) source c.in-Ok.upload c.in-Ok.ensures.opens) c.step_opened-reply.result;
+      is = of_read g.B.Source.remaining (HasFailed g.B.Source.origin g.B.Source.failed)
           c.args.file c.in-Named.file c.in-Ok.upload c.step_opened-reply.result c.in-Named.is c.in-Ok.ensures.opens;
       given = tt;
       did =
-          did_upload g.B.Source.remaining g.B.Source.failed
+          did_upload g.B.Source.remaining (HasFailed g.B.Source.origin g.B.Source.failed)
           (StepsTo g.S.Store.content g.S.Store.honest g.S.Store.left asked hub new) (new ≡ hub) name
           c.step_opened-reply.result source c.in-Ok.upload c.step_opened-reply.ensures.stepped c.in-Ok.ensures.opens;
       comes =
           answered (g.W.Sink.contents c.print_reply.new.out) (g.W.Sink.failed c.print_reply.new.out) name
-          (bytes_of g.B.Source.remaining g.B.Source.failed source c.in-Ok.upload c.in-Ok.ensures.opens)
+          (bytes_of g.B.Source.remaining (HasFailed g.B.Source.origin g.B.Source.failed) source c.in-Ok.upload c.in-Ok.ensures.opens)
           c.step_opened-reply.result c.print_reply.result
           (written_as (ap file_line c.as_str.ensures.value) c.in_ok-print_file_line.ensures.ok) c.print_reply.ensures;
     }
@@ -48,11 +49,11 @@ returns-clause-looks_at g c =
     let asked = λ (bytes : List ℕ). input_of c.args.moment c.args.caller.now c.args.key.now (Upload bytes) in
     let hub = c.args.hub.now in record {
       one = of_fault name c.in-Err.fault;
-      is = of_unread g.B.Source.remaining g.B.Source.failed
+      is = of_unread g.B.Source.remaining (HasFailed g.B.Source.origin g.B.Source.failed)
           c.args.file c.in-Named.file c.in-Err.fault c.in-Named.is c.in-Err.ensures.fault;
       given = fault_given name c.in-Err.fault;
       did =
-          nothing_done g.B.Source.remaining g.B.Source.failed
+          nothing_done g.B.Source.remaining (HasFailed g.B.Source.origin g.B.Source.failed)
           (StepsTo g.S.Store.content g.S.Store.honest g.S.Store.left asked hub hub) name c.in-Err.fault refl;
       comes =
           unread (g.W.Sink.contents c.print_fault.new.out) (g.W.Sink.failed c.print_fault.new.out) name c.in-Err.fault

@@ -1,3 +1,4 @@
+use Rattle.hub_commands.specs.Files.{HasFailed}
 use Rattle.std.proofs.Common.{ℕ, List, [], ◌∷◌, ◌++◌, None, refl, ◌∙◌, inl, inr}
 use Rattle.hub_core.specs.Steps.{input_of}
 use Rattle.hub_law.specs.declared.request.Request.TheVariants.{Upload}
@@ -16,7 +17,7 @@ loop-file-init g c =
       register = refl;
       was_honest = λ honest. honest;
       so_far =
-          so_far_none g.F.Bytes.Source.remaining g.F.Bytes.Source.failed
+          so_far_none g.F.Bytes.Source.remaining (HasFailed g.F.Bytes.Source.origin g.F.Bytes.Source.failed)
           asked (g.F.Files.remaining c.args.files.now) (g.W.Sink.contents c.args.out.now)
           (g.W.Sink.failed c.args.out.now) (RunsTo g.S.Store.content g.S.Store.honest g.S.Store.left asked hub hub)
           (λ honest sound. c.steps_are_a_run.ensures.none hub.1 sound);
@@ -25,12 +26,12 @@ loop-file-init g c =
 pub returns-in-Ok-None-clause-imported : goal.returns-in-Ok-None-clause-imported
 returns-in-Ok-None-clause-imported g c =
     let asked = λ (bytes : List ℕ). input_of c.args.moment c.args.caller.now c.args.key.now (Upload bytes) in
-    whole g.F.Bytes.Source.remaining g.F.Bytes.Source.failed
+    whole g.F.Bytes.Source.remaining (HasFailed g.F.Bytes.Source.origin g.F.Bytes.Source.failed)
     asked (g.F.Files.remaining c.args.files.now) (g.W.Sink.contents c.args.out.now) (g.W.Sink.failed c.args.out.now)
     (RunsTo g.S.Store.content g.S.Store.honest g.S.Store.left asked c.args.hub.now c.loop-file.hub)
     (g.F.Files.remaining c.loop-file.files) (g.F.Files.remaining c.next.new.self) (g.W.Sink.contents c.loop-file.out)
     (g.W.Sink.failed c.loop-file.out) c.loop-file.greatest c.loop-file.invariant.so_far
-    (gives_none g.F.Bytes.Source.remaining g.F.Bytes.Source.failed
+    (gives_none g.F.Bytes.Source.remaining (HasFailed g.F.Bytes.Source.origin g.F.Bytes.Source.failed)
     (g.F.Files.remaining c.loop-file.files) (g.F.Files.remaining c.next.new.self) c.next.result c.in-Ok-None.field-0
     c.next.ensures.gives c.in-Ok-None.is c.in-Ok-None.field-0-is)
 
@@ -46,12 +47,12 @@ returns-in-Err-clause-imported g c =
     let ran = runs_more g.S.Store.content g.S.Store.honest g.S.Store.left asked hub.0
     c.steps_are_a_run.ensures.more hub.1 between between s.looked (NoMemory None) c.loop-file.invariant.register
     (λ honest. honest) s.ran refl in
-    let taken = taken_no_memory g.F.Bytes.Source.remaining g.F.Bytes.Source.failed known rest left s.looked s.files
-    (gives_fault g.F.Bytes.Source.remaining g.F.Bytes.Source.failed
+    let taken = taken_no_memory g.F.Bytes.Source.remaining (HasFailed g.F.Bytes.Source.origin g.F.Bytes.Source.failed) known rest left s.looked s.files
+    (gives_fault g.F.Bytes.Source.remaining (HasFailed g.F.Bytes.Source.origin g.F.Bytes.Source.failed)
     rest left c.next.result c.in-Err.field-0 c.next.ensures.gives c.in-Err.is)
-    (gives_again g.F.Bytes.Source.remaining g.F.Bytes.Source.failed
+    (gives_again g.F.Bytes.Source.remaining (HasFailed g.F.Bytes.Source.origin g.F.Bytes.Source.failed)
     rest left c.next.result c.in-Err.field-0 c.next.ensures.gives c.in-Err.is) in
-    early g.F.Bytes.Source.remaining g.F.Bytes.Source.failed
+    early g.F.Bytes.Source.remaining (HasFailed g.F.Bytes.Source.origin g.F.Bytes.Source.failed)
     asked known (g.W.Sink.contents c.args.out.now) (g.W.Sink.failed c.args.out.now)
     (RunsTo g.S.Store.content g.S.Store.honest g.S.Store.left asked hub between)
     (RunsTo g.S.Store.content g.S.Store.honest g.S.Store.left asked hub between) rest rest
@@ -80,15 +81,15 @@ loop-file-preserved g c =
       register = c.import_file.ensures.register ∙ c.loop-file.invariant.register;
       was_honest = λ honest. c.loop-file.invariant.was_honest (c.import_file.ensures.was_honest honest);
       so_far =
-          so_far_more g.F.Bytes.Source.remaining g.F.Bytes.Source.failed
+          so_far_more g.F.Bytes.Source.remaining (HasFailed g.F.Bytes.Source.origin g.F.Bytes.Source.failed)
           asked known (g.W.Sink.contents c.args.out.now) (g.W.Sink.failed c.args.out.now)
           (RunsTo g.S.Store.content g.S.Store.honest g.S.Store.left asked hub between)
           (RunsTo g.S.Store.content g.S.Store.honest g.S.Store.left asked hub new) rest later
           (g.W.Sink.contents c.loop-file.out) (g.W.Sink.contents c.import_file.new.out) (g.W.Sink.failed c.loop-file.out)
           (g.W.Sink.failed c.import_file.new.out) c.loop-file.greatest s looks.one ran
-          (taken_more g.F.Bytes.Source.remaining g.F.Bytes.Source.failed
+          (taken_more g.F.Bytes.Source.remaining (HasFailed g.F.Bytes.Source.origin g.F.Bytes.Source.failed)
           known rest later s.looked c.in-Ok-Some.file looks.one s.files
-          (gives_file g.F.Bytes.Source.remaining g.F.Bytes.Source.failed
+          (gives_file g.F.Bytes.Source.remaining (HasFailed g.F.Bytes.Source.origin g.F.Bytes.Source.failed)
           rest later c.next.result c.in-Ok-Some.field-0 c.in-Ok-Some.file c.next.ensures.gives c.in-Ok-Some.is
           c.in-Ok-Some.field-0-is) looks.is) looks.comes.0 looks.comes.1 c.max-greatest.result c.in-Ok.status
           c.max-greatest.ensures looks.comes.2;
@@ -108,17 +109,17 @@ returns-in-Err-import_file-clause-imported g c =
     let ran = runs_more g.S.Store.content g.S.Store.honest g.S.Store.left asked hub.0
     c.steps_are_a_run.ensures.more hub.1 between new s.looked looks.one c.loop-file.invariant.register
     c.import_file.ensures.was_honest s.ran looks.did in
-    let taken = taken_more g.F.Bytes.Source.remaining g.F.Bytes.Source.failed
+    let taken = taken_more g.F.Bytes.Source.remaining (HasFailed g.F.Bytes.Source.origin g.F.Bytes.Source.failed)
     known rest later s.looked c.in-Ok-Some.file looks.one s.files
-    (gives_file g.F.Bytes.Source.remaining g.F.Bytes.Source.failed
+    (gives_file g.F.Bytes.Source.remaining (HasFailed g.F.Bytes.Source.origin g.F.Bytes.Source.failed)
     rest later c.next.result c.in-Ok-Some.field-0 c.in-Ok-Some.file c.next.ensures.gives c.in-Ok-Some.is
     c.in-Ok-Some.field-0-is) looks.is in
-    early g.F.Bytes.Source.remaining g.F.Bytes.Source.failed
+    early g.F.Bytes.Source.remaining (HasFailed g.F.Bytes.Source.origin g.F.Bytes.Source.failed)
     asked known (g.W.Sink.contents c.args.out.now) (g.W.Sink.failed c.args.out.now)
     (RunsTo g.S.Store.content g.S.Store.honest g.S.Store.left asked hub between)
     (RunsTo g.S.Store.content g.S.Store.honest g.S.Store.left asked hub new) rest later
     (g.W.Sink.contents c.loop-file.out) (g.W.Sink.contents c.import_file.new.out) (g.W.Sink.failed c.loop-file.out)
     (g.W.Sink.failed c.import_file.new.out) c.loop-file.greatest s looks.one ran later
     taken.others
-    (taken_known g.F.Bytes.Source.remaining g.F.Bytes.Source.failed known later (s.looked ++ looks.one ∷ []) taken)
-    (still_known g.F.Bytes.Source.remaining g.F.Bytes.Source.failed known later s.looked looks.one taken looks.given) looks.comes
+    (taken_known g.F.Bytes.Source.remaining (HasFailed g.F.Bytes.Source.origin g.F.Bytes.Source.failed) known later (s.looked ++ looks.one ∷ []) taken)
+    (still_known g.F.Bytes.Source.remaining (HasFailed g.F.Bytes.Source.origin g.F.Bytes.Source.failed) known later s.looked looks.one taken looks.given) looks.comes

@@ -1,4 +1,4 @@
-use Rattle.std.proofs.Common.{ap, ◌∙◌}
+use Rattle.std.proofs.Common.{ap, inl, inr, refl, ◌∙◌}
 use Rattle.hub_rules.specs.Laws.{SoundHub}
 use Rattle.hub_law.specs.Replies.{reply}
 use Rattle.hub_law.specs.declared.reply.Outcome.TheVariants.{Stopped}
@@ -38,7 +38,14 @@ returns-clause-stepped g c bytes opens honest sound =
 pub returns-clause-ran_out : goal.returns-clause-ran_out
 returns-clause-ran_out g c out =
     let did = c.answer_opened-answered.ensures.ran_out out in
-    (ap (λ (r : Reply). r.outcome) (where_err c.answer_opened-answered.result did.0 c.replied.ensures.err), did.1)
+    (
+      inl (where_err c.answer_opened-answered.result did.0 c.replied.ensures.err ∙ ap (λ body. reply Stopped body) c.in-Ok.ensures),
+      did.1,
+    )
+
+pub returns-in_default-clause-ran_out : goal.returns-in_default-clause-ran_out
+returns-in_default-clause-ran_out g c out =
+    (inr (c.stopped_with.ensures ∙ ap (λ body. reply Stopped body) c.new.ensures), refl)
 
 pub returns-clause-breaks : goal.returns-clause-breaks
 returns-clause-breaks g c bytes opens =

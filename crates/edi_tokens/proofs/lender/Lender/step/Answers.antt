@@ -87,6 +87,7 @@ loop-self-preserved g c = record {
       (c.in_ok-refill.ensures.some lent
       (subst (λ (b : Bool). FitsSome lent (Ok b) c.take_piece.new.self) c.if-branch.false
       (c.in_ok-take_piece.ensures.some lent (c.loop-self.invariant.some lent came))));
+  origin = c.refill.ensures.origin ∙ c.loop-self.invariant.origin;
   flag = flag g (goal.at.loop-self-preserved g c).In_ok-refill;
   bound = bound g (goal.at.loop-self-preserved g c).After-refill;
   ends = λ old. c.refill.ensures.ends (λ is.
