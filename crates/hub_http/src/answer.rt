@@ -1,6 +1,6 @@
 //! The one answer to a connection.
 ghost use Rattle.std.specs.Prelude.{◌≡◌, ◌≢◌, ◌+◌, ◌++◌, ◌≤◌, ℕ, List, codes, true, Ok, Err, Some, IfOk, IfSome};
-ghost use Rattle.std.specs.Prelude.{OnErr, OnOk};
+ghost use Rattle.std.specs.Prelude.{OnErr, OnOk, IfErr};
 ghost use Rattle.edi_base.specs.Source.{TakesAtMost};
 ghost use Rattle.edi_envelope.specs.Opened.{opened, Opens};
 ghost use Rattle.http_head.specs.Head.{before, longest_head};
@@ -104,6 +104,8 @@ fn answer_body<S: Store>(
 ) -> Answer
     ensures answers { spec.Answers (spec.Steps S.content S.honest S.left moment hub.old hub.new) (hub.new ≡ hub.old)
         true (with_body (asking_as asking.now) body) result }
+    ensures refused { IfErr (with_body (asking_as asking.now) body) (λ refusal.
+        spec.Says (refusal_status refusal) (text_of refusal) result) }
     ensures register { hub.new.0 ≡ hub.old.0 }
     ensures was_honest { S.honest hub.new.1 → S.honest hub.old.1 }
 {

@@ -1,5 +1,5 @@
 //! What is asked of the hub.
-ghost use Rattle.std.specs.Prelude.{◌≡◌, IfOk};
+ghost use Rattle.std.specs.Prelude.{◌≡◌, ◌≢◌, None, IfOk, IsOk, OnErr};
 ghost use Rattle.hub_http.specs.Question as spec;
 ghost use Rattle.hub_http.specs.Wording.{asking_as, question_or_refused};
 ghost use Rattle.hub_texts.specs.Cancel.{cancel_of};
@@ -41,7 +41,8 @@ fn request_for(sought: Sought, body: Items<u8>, cancel: Option<Cancel>) -> Resul
 
 // The cancellation in a body, where one is asked for.
 fn cancel_in(alloc: Global, sought: Sought, body: &[u8]) -> Result<Option<Cancel>, MemoryFault>
-    ensures { IfOk result (λ cancel. sought ≡ Sought.Cancel → cancel ≡ cancel_of body.now) }
+    ensures value { IfOk result (λ cancel. sought ≡ Sought.Cancel → cancel ≡ cancel_of body.now) }
+    ensures memory { OnErr result ((sought ≡ Sought.Cancel) × (cancel_of body.now ≢ None)) }
 {
     match sought {
         Sought::Cancel => read_cancel(alloc, body),
@@ -49,13 +50,15 @@ fn cancel_in(alloc: Global, sought: Sought, body: &[u8]) -> Result<Option<Cancel
     }
 }
 
-/// What is asked of the hub, with the body of the request, or `None` where it is cut; or why nothing is.
+/// What is asked of the hub, with the body of the request, or `None` where it is cut; or why nothing is, and that takes
+/// no memory.
 pub(crate) fn question_of<'h>(
     alloc: Global,
     asking: &Asking<'h>,
     body: Option<Items<u8>>,
 ) -> Result<Result<Posed<'h>, Refusal>, MemoryFault>
-    ensures { IfOk result (λ posed. question_or_refused posed ≡ spec.with_body (asking_as asking.now) body) }
+    ensures value { IfOk result (λ posed. question_or_refused posed ≡ spec.with_body (asking_as asking.now) body) }
+    ensures memory { OnErr result (IsOk (spec.with_body (asking_as asking.now) body)) }
 {
     let Some(body) = body else {
         return Ok(Err(Refusal::BadRequest));

@@ -1,5 +1,5 @@
 //! Cancellations and their texts.
-ghost use Rattle.std.specs.Prelude.{◌≡◌, ◌++◌, ◌∷◌, ◌≤◌, not, [], None, length, IfOk, OnOk};
+ghost use Rattle.std.specs.Prelude.{◌≡◌, ◌≢◌, ◌++◌, ◌∷◌, ◌≤◌, not, [], None, length, IfOk, OnOk, OnErr};
 ghost use Rattle.std.specs.Fmt.{decimal};
 ghost use Rattle.std.specs.Option.{IfSome, IfNone};
 ghost use Rattle.std.specs.List.{slice_split, prefix_len};
@@ -125,9 +125,11 @@ fn is_document_number(bytes: &[u8]) -> bool
 
 // The cancellation of five lines.
 fn cancel_with(alloc: Global, fields: &Fields<'_>) -> Result<Option<Cancel>, MemoryFault>
-    ensures { IfOk result (λ found.
+    ensures value { IfOk result (λ found.
         found ≡ spec.cancel_with fields.now.supplier.now fields.now.reference.now fields.now.order.now
         (spec.positive 6 fields.now.line.now) (spec.positive 9 fields.now.quantity.now)) }
+    ensures memory { OnErr result (spec.cancel_with fields.now.supplier.now fields.now.reference.now fields.now.order.now
+        (spec.positive 6 fields.now.line.now) (spec.positive 9 fields.now.quantity.now) ≢ None) }
 {
     let Some(line) = positive(6, fields.line) else {
         return Ok(None);
@@ -151,9 +153,11 @@ fn cancel_with(alloc: Global, fields: &Fields<'_>) -> Result<Option<Cancel>, Mem
 }
 
 /// The cancellation that a body says: supplier, reference, order number, line number and quantity, five lines that each
-/// end with a line feed. `None` where one of them is against its limits, or the body is anything else.
+/// end with a line feed. `None` where one of them is against its limits, or the body is anything else, and that takes no
+/// memory.
 pub fn read_cancel(alloc: Global, body: &[u8]) -> Result<Option<Cancel>, MemoryFault>
-    ensures { IfOk result (λ found. found ≡ cancel_of body.now) }
+    ensures value { IfOk result (λ found. found ≡ cancel_of body.now) }
+    ensures memory { OnErr result (cancel_of body.now ≢ None) }
 {
     match fields_of(body) {
         Some(fields) => cancel_with(alloc, &fields),
