@@ -21,16 +21,17 @@ use hub_rules::Cancel;
 use hub_texts::read_cancel;
 use std::alloc::{AllocError, Global};
 use std::convert::AsStr;
+use std::fmt;
 
 /// What `check` is asked for.
-#[derive(Drop)]
+#[derive(Debug, Drop)]
 pub struct CheckWords<'a> {
     /// The path of the register's file.
     pub register: &'a str,
 }
 
 /// What is asked of a hub. Numbers of mailbox entries have at most 14 digits.
-#[derive(Drop)]
+#[derive(Debug, Drop)]
 pub enum HubTask<'a> {
     /// To upload the interchanges in this folder.
     Import(&'a str),
@@ -46,7 +47,7 @@ pub enum HubTask<'a> {
     Cancel(Cancel),
 }
 
-/// What a command over a hub is asked for.
+/// What a command over a hub is asked for. `Debug` does not show the key.
 #[derive(Drop)]
 pub struct HubWords<'a> {
     /// The path of the register's file.
@@ -63,8 +64,30 @@ pub struct HubWords<'a> {
     pub task: HubTask<'a>,
 }
 
+// What `Debug` shows of a key.
+struct UnshownKey;
+
+impl fmt::Debug for UnshownKey {
+    fn fmt<W: fmt::Write>(&self, f: &mut fmt::Formatter<W>) -> fmt::Result {
+        f.write_str("Key(..)")
+    }
+}
+
+impl fmt::Debug for HubWords<'_> {
+    fn fmt<W: fmt::Write>(&self, f: &mut fmt::Formatter<W>) -> fmt::Result {
+        f.debug_struct("HubWords")
+            .field("register", &self.register)
+            .field("db", &self.db)
+            .field("caller", &self.caller)
+            .field("key", &UnshownKey)
+            .field("moment", &self.moment)
+            .field("task", &self.task)
+            .finish()
+    }
+}
+
 /// What `serve` is asked for.
-#[derive(Drop)]
+#[derive(Debug, Drop)]
 pub struct ServeWords<'a> {
     /// The path of the register's file.
     pub register: &'a str,
@@ -79,7 +102,7 @@ pub struct ServeWords<'a> {
 }
 
 /// What the words ask for: a command with its options.
-#[derive(Drop)]
+#[derive(Debug, Drop)]
 pub enum Words<'a> {
     Check(CheckWords<'a>),
     Relay(RelayWords),
@@ -89,7 +112,7 @@ pub enum Words<'a> {
 }
 
 /// Why words are not read.
-#[derive(Drop)]
+#[derive(Debug, Drop)]
 pub enum WordsFault {
     /// A text to print: help or the version on standard output, with status 0, or a usage error on standard error, with
     /// status 2.

@@ -3,6 +3,7 @@ use edi_base::Items;
 use edi_envelope::Moment;
 use gs1_ids::Gln;
 use hub_rules::Cancel;
+use std::fmt;
 
 /// What a supplier or the retailer asks.
 #[derive(Debug, Drop)]
@@ -23,8 +24,8 @@ pub enum Request {
     Cancel(Cancel),
 }
 
-/// A request, with who asks it and when.
-#[derive(Debug, Drop)]
+/// A request, with who asks it and when. `Debug` does not show the key.
+#[derive(Drop)]
 pub struct Input {
     /// When it is asked.
     pub moment: Moment,
@@ -34,4 +35,24 @@ pub struct Input {
     pub key: Items<u8>,
     /// What is asked.
     pub request: Request,
+}
+
+// What `Debug` shows of a key.
+struct UnshownKey;
+
+impl fmt::Debug for UnshownKey {
+    fn fmt<W: fmt::Write>(&self, f: &mut fmt::Formatter<W>) -> fmt::Result {
+        f.write_str("Key(..)")
+    }
+}
+
+impl fmt::Debug for Input {
+    fn fmt<W: fmt::Write>(&self, f: &mut fmt::Formatter<W>) -> fmt::Result {
+        f.debug_struct("Input")
+            .field("moment", &self.moment)
+            .field("caller", &self.caller)
+            .field("key", &UnshownKey)
+            .field("request", &self.request)
+            .finish()
+    }
 }
