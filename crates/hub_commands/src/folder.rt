@@ -1,5 +1,6 @@
 //! The plain files of a folder.
-ghost use Rattle.std.specs.Prelude.{◌≡◌, IfOk, IsSorted, string_cmp};
+ghost use Rattle.std.specs.Prelude.{◌≡◌, ◌≢◌, ◌↔◌, false, IfOk, IsErr, IsOk, IsTrue, OnErr, IsSorted, string_cmp};
+ghost use Rattle.std.specs.Fs.{IsFile, file_type};
 ghost use Rattle.std.specs.List.{list_all};
 ghost use Rattle.hub_commands.specs.Folder.{AreTold, is_plain_byte};
 
@@ -7,7 +8,7 @@ use crate::files::{Files, NamedFile, NextFile};
 use edi_base::{MemoryFault, OfRead, ReadFault};
 use std::alloc::Global;
 use std::collections::VecDeque;
-use std::fs::{DirEntry, File};
+use std::fs::{File, FileType, Metadata};
 use std::io::ErrorKind;
 use std::marker::Model;
 use std::rt::Files as FileSystem;
@@ -40,13 +41,21 @@ impl<'a, R> Model for Folder<'a, R> {
     ghost view = { λ folder. (folder.names.in_order.items, folder.names.unnamed) };
 }
 
-// Why something was not read.
-fn fault_of(error: io::Error) -> ReadFault {
-    if error.kind() == ErrorKind::OutOfMemory {
+// Why something was not read, where the system says this.
+fn fault_of_kind(kind: ErrorKind) -> ReadFault
+    ensures memory { kind ≡ ErrorKind.OutOfMemory → result ≡ ReadFault.Memory }
+    ensures other { kind ≢ ErrorKind.OutOfMemory → result ≡ ReadFault.Read }
+{
+    if kind == ErrorKind::OutOfMemory {
         ReadFault::Memory
     } else {
         ReadFault::Read
     }
+}
+
+// Why something was not read.
+fn fault_of(error: io::Error) -> ReadFault {
+    fault_of_kind(error.kind())
 }
 
 // Whether a name has no control byte.
@@ -56,11 +65,28 @@ fn is_told(name: &str) -> bool
     name.bytes().all(|byte| byte >= 0x20 && byte != 0x7f)
 }
 
-// Whether an entry is a plain file. One of which that cannot be read is taken for one, so that it is told as a fault.
-fn is_plain<R: FileSystem>(entry: &DirEntry<R>) -> bool {
-    match entry.file_type() {
+// Whether an entry of this kind is a plain file. One of which that cannot be read is taken for one, so that it is told as
+// a fault.
+fn is_plain(kind: io::Result<FileType>) -> bool
+    ensures known { IfOk kind (λ kind. IsTrue result ↔ IsFile kind) }
+    ensures unknown { OnErr kind (IsTrue result) }
+{
+    match kind {
         Ok(kind) => kind.is_file(),
         Err(_) => true,
+    }
+}
+
+// Whether what stands under a name now, behind the listing, is a plain file; or why it is not read.
+fn still_plain(found: io::Result<Metadata>) -> Result<(), ReadFault>
+    ensures known { IfOk found (λ found. IsOk result ↔ IsFile (file_type found)) }
+    ensures unknown { OnErr found (IsErr result) }
+{
+    let found = found.map_err(fault_of)?;
+    if found.is_file() {
+        Ok(())
+    } else {
+        Err(ReadFault::Read)
     }
 }
 
@@ -75,7 +101,7 @@ fn names_of<R: FileSystem + AllocGlobal + Clone + Drop>(system: &R, path: &str) 
     for entry in fs::read_dir(system, path)? {
         match entry {
             Ok(entry) => {
-                if is_plain(&entry) {
+                if is_plain(entry.file_type()) {
                     let name = String::from_str(alloc, entry.file_name())?;
                     if is_told(name.as_str()) {
                         names.push(name)?;
@@ -115,12 +141,11 @@ impl<'a, R: FileSystem + AllocGlobal + Clone + Drop> Folder<'a, R> {
 
     // Opens a file of the folder, if it is a plain file still: a pipe that took its place would be waited for. None of its
     // bytes are read.
-    fn open_file(&self, alloc: Global, name: &str) -> Result<OfRead<R::File>, ReadFault> {
+    fn open_file(&self, alloc: Global, name: &str) -> Result<OfRead<R::File>, ReadFault>
+        ensures { IfOk result (λ source. source.1 ≡ false) }
+    {
         let path = format!(in alloc; "{}/{name}", self.path.as_str())?;
-        let kind = fs::symlink_metadata(self.system, path.as_str()).map_err(fault_of)?;
-        if !kind.is_file() {
-            return Err(ReadFault::Read);
-        }
+        still_plain(fs::symlink_metadata(self.system, path.as_str()))?;
         let file = File::open(self.system, path.as_str()).map_err(fault_of)?;
         Ok(OfRead::new(file))
     }
