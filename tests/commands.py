@@ -157,6 +157,66 @@ def long_mailbox():
     )
 
 
+def long_reply():
+    """A reply that is longer than a head of HTTP, and than each buffer on its way."""
+    orders = [order(str(2000 + k), reference=k) for k in range(1, 601)]
+    upload = ("in.edi", interchange(RETAILER, "1001", *orders), "interchange 1001 messages 600")
+    return steps(
+        "a reply of 600 lines, twice",
+        *(imported(RETAILER, "in", (*upload, *(f"{k} ORDERS {word}" for k in range(1, 601)))) for word in ("accepted", "repeated")),
+    )
+
+
+def too_long():
+    """A text of a byte too many is refused, and the next file comes; one of as many as a text may have is taken."""
+    padded = lambda length: ORDERS + "\n" * (length - len(ORDERS))
+    return steps(
+        "a file past the limit of a text",
+        imported(
+            RETAILER,
+            "in",
+            ("a.edi", padded(1_048_577), "refused E01"),
+            ("b.edi", padded(1_048_576), "interchange 1001 messages 1", "1 ORDERS accepted"),
+            ("c.edi", SECOND, "interchange 1002 messages 1", "1 ORDERS accepted"),
+            status=1,
+        ),
+    )
+
+
+def own_file():
+    """The database file is its owner's alone, however open the folder is; one that is there keeps its mode."""
+
+    def has_mode(mode):
+        return lambda folder: None if (found := os.stat(os.path.join(folder, NAME)).st_mode & 0o777) == mode else f"mode {found:o}"
+
+    def opened(folder):
+        os.chmod(os.path.join(folder, NAME), 0o640)
+
+    first, again = status_of(ALPHA), status_of(ALPHA)
+    first.after = lambda folder: has_mode(0o600)(folder) or opened(folder)
+    again.after = has_mode(0o640)
+    return steps("the mode of a database file", first, again)
+
+
+def sums_of_pages():
+    """A new file keeps a sum of each page, by which a byte that has changed is found."""
+
+    def changed(folder):
+        path = os.path.join(folder, NAME)
+        with open(path, "r+b") as file:
+            data = file.read()
+            # how many bytes of each page are kept for its sum
+            if data[20] != 8:
+                return f"{data[20]} bytes of a page are no row's"
+            file.seek(data.index(b"128576"))
+            file.write(b"128577")
+        return None
+
+    first = one(RETAILER, "1", "1001", "ORDERS", ORDERS)
+    first.after = changed
+    return steps("a byte of a page that has changed", first, step(over("status", ALPHA), "", 3, "store disk\n"))
+
+
 def two_suppliers():
     alike = line_status("128576", "W", 48, 48, 0, 0, 0)
     return steps(
@@ -238,7 +298,7 @@ def kept_files():
     return [kept("schema1"), kept("schema1_received", mail(ALPHA, "after", 0, mails), one(RETAILER, "13", "1005", "RECADV", RECEIPT, "repeated"), status_of(ALPHA, *STATUS))]
 
 
-COMMANDS = [in_turn(), folder_in_order(), what_is_no_file(), cuts(), long_mailbox(), two_suppliers(), denied(), *begins(), by_the_clock(), broken_output(), *kept_files()]
+COMMANDS = [in_turn(), folder_in_order(), what_is_no_file(), cuts(), long_mailbox(), long_reply(), too_long(), own_file(), sums_of_pages(), two_suppliers(), denied(), *begins(), by_the_clock(), broken_output(), *kept_files()]
 
 
 def made_folder(folder, count=12):
@@ -351,6 +411,38 @@ def exchanged(program):
         return None if found == (3, printed, b"") else f"{found!r:.300}"
 
 
+def meddled_import(program, *words, **variables):
+    """What an import of three orders ends with, prints and says on standard error, over the library of meddle.c with these variables."""
+    with tempfile.TemporaryDirectory() as folder:
+        made_folder(folder, 3)
+        ran = subprocess.run([program, *over("import", RETAILER, "--folder", "in", *words)], cwd=folder, capture_output=True, env={"LD_PRELOAD": meddled(folder), **variables}, timeout=SECONDS)
+        return ran.returncode, ran.stdout, ran.stderr
+
+
+def hidden(program):
+    """What is wrong where a folder cannot be read to its end, or one of its files cannot be looked at, if anything: neither is passed over."""
+    lines = [(f"interchange U{k} messages 1", "1 ORDERS accepted") if k != 1 else ("fault",) for k in range(3)]
+    printed = "".join(told(f"file {k:02}.edi", *its) for k, its in enumerate(lines)).encode()
+    for variables, wanted in (({"LISTING": "1"}, (3, b"", b"file\n")), ({"ENTRY": "01.edi"}, (3, printed, b""))):
+        found = meddled_import(program, **variables)
+        if found != wanted:
+            return f"{variables}: {found!r:.300}"
+    return None
+
+
+def few_reads(program):
+    """What is wrong with how often standard input is read, if anything: not once for a few bytes each."""
+    with tempfile.TemporaryDirectory() as folder:
+        text, count = ORDERS + "\n" * (1_048_576 - len(ORDERS)), os.path.join(folder, "count")
+        words = ["relay", "--hub", HUB, "--owner", ALPHA, "--moment", MOMENT, "--number", "1"]
+        ran = subprocess.run([program, *words], cwd=folder, input=text.encode(), capture_output=True, env={"LD_PRELOAD": meddled(folder), "READS": count}, timeout=SECONDS)
+        with open(count, encoding="ascii") as file:
+            reads = int(file.read())
+        if ran.returncode:
+            return f"{ran.returncode}, {ran.stderr!r:.100}"
+        return None if reads <= len(text) // 1024 else f"{reads} reads of {len(text)} bytes"
+
+
 def day(program):
     """What is wrong with the days of the example, if anything."""
     example = os.path.join(os.path.dirname(os.path.abspath(__file__)), "..", "examples", "day")
@@ -365,5 +457,7 @@ TRIALS = [
     ("a file that another command has open", held_open),
     ("a file of a folder that cannot be read", unreadable),
     ("a file of a folder that has become a pipe", exchanged),
+    ("a folder that cannot be read on, and a file of it that cannot be looked at", hidden),
+    ("how often standard input is read", few_reads),
     ("the days of the example", day),
 ]

@@ -571,6 +571,21 @@ def unsound(program):
     return served(program, asked, data=data) or served(program, [list_of_other], data=data)
 
 
+def for_this_machine(program):
+    """It listens on 127.0.0.1 and on no other address; and its files are their owner's alone, however open the folder is."""
+    with Server(program, 1) as server:
+        found = set()
+        for name in ("tcp", "tcp6"):
+            with open(f"/proc/net/{name}", encoding="ascii") as table:
+                rows = [line.split() for line in table][1:]
+            # of the sockets that listen (0A), the address and the port
+            found |= {row[1] for row in rows if row[3] == "0A" and int(row[1].rpartition(":")[2], 16) == server.port}
+        modes = {name: os.stat(os.path.join(server.folder, name)).st_mode & 0o777 for name in os.listdir(server.folder) if name.startswith(NAME)}
+        server.ask(ORDERED[1])
+        why = unlike("addresses", found, {f"0100007F:{server.port:04X}"}) or unlike("modes", modes, {NAME: 0o600, f"{NAME}-wal": 0o600})
+        return why or unlike("the program", server.end(), (0, lines_of(server.port, [200]), b""))
+
+
 def begins(program):
     """What is wrong before the first connection, in the order register, store, port: the first is told alone."""
     wrong = of_prefixes("4012345", "40123455")
@@ -648,6 +663,7 @@ ALL = {
     "a server that is killed": killed,
     "commits that take long": late,
     "a row that is none of the kinds": unsound,
+    "an address and files of its own": for_this_machine,
     "what is wrong before the first connection": begins,
     "connections by the clock": by_the_clock,
     "curl": by_curl,

@@ -12,7 +12,8 @@ use sqlite::Alter;
 use sqlite_disk::{Start, Unknown};
 use sqlite_std_file::FileFrom;
 use sqlite_store::FileStore;
-use std::fs::File;
+use std::fs::{File, OpenOptions};
+use std::os::unix::fs::OpenOptionsExt;
 
 /// What is to be done with the hub.
 #[derive(Drop)]
@@ -38,6 +39,18 @@ fn register_at(rt: &HostRuntime, path: &str) -> Result<Register, BeginFault> {
     Ok(Register::from_toml(rt.alloc(), text.as_str())?)
 }
 
+// Who may read and write a database file that is made: its owner alone. The log beside it is given the same mode.
+const OWNER_ALONE: u32 = 0o600;
+
+// Makes an empty database file, where nothing stands at the path. Opening it tells why none could be made.
+fn make_missing(rt: &HostRuntime, path: &str) {
+    let _ = OpenOptions::new()
+        .write(true)
+        .create_new(true)
+        .mode(OWNER_ALONE)
+        .open(rt, path);
+}
+
 // Does the work over these tables, and gives them back, also where nothing was done.
 fn over_tables<A: Alter + Drop>(
     rt: &HostRuntime,
@@ -59,6 +72,7 @@ fn over_tables<A: Alter + Drop>(
 fn over_file<S: Start>(rt: &HostRuntime, work: Work<'_>, start: S) -> Result<u8, BeginFault> {
     let (register, db) = paths_of(&work);
     let register = register_at(rt, register)?;
+    make_missing(rt, db);
     let tables = SqliteStore::at_path(rt, db, start).map_err(|(fault, _left)| fault)?;
     let (status, tables) = over_tables::<FileStore<FileFrom<S>>>(rt, register, tables, work);
     let _ = tables.into_connection().close();
