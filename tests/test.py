@@ -1,6 +1,6 @@
 """`make test`: whether each public function has a wrong body (untried.py); the gate (rt ci), and what each crate took of the processors in it; and
 then, on the two programs that the gate built, the cases of cases.py, commands.py, hubs.py, files.py and connections.py and the trials of
-commands.py, serving.py, files.py, made.py, stops.py, machine.py and refusals.py. The last line is `N passed, M failed` over all.
+commands.py, told.py, serving.py, files.py, made.py, stops.py, machine.py and refusals.py. The last line is `N passed, M failed` over all.
 
 With `--alone`, all but the gate, on the programs that stand. With `--anew`, nothing that an earlier gate proved is taken over."""
 import os
@@ -21,6 +21,7 @@ import refusals
 import serving
 import spent
 import stops
+import told
 import untried
 from case import SECONDS
 
@@ -37,7 +38,7 @@ PROGRAMS = [(built("edihub"), cases.CASES + commands.COMMANDS), (built("hub_scri
 
 # what is tried on a program many times over: each says what is wrong, if anything
 TRIALS = [
-    *((built("edihub"), *trial) for trial in commands.TRIALS + serving.TRIALS),
+    *((built("edihub"), *trial) for trial in commands.TRIALS + told.TRIALS + serving.TRIALS),
     (built("hub_script"), "a file that another program holds open", files.held_open),
     (built("hub_script"), "made runs", made.made_runs),
     (built("hub_script"), "changes of files stopped in turn", stops.stops),

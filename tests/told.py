@@ -1,0 +1,117 @@
+"""Each line of the table of docs/OPERATING.md that says what stands behind a status 3 has a trial here, which shows that it comes as the table
+says, and where. A line without a trial is a failure, and so is a trial without a line."""
+import os
+import re
+import subprocess
+import tempfile
+
+import files
+import refusals
+from case import SECONDS
+from commands import made_folder, meddled, over
+from files import NAME
+from hubs import ALPHA, RETAILER
+
+GUIDE = os.path.join(os.path.dirname(os.path.dirname(os.path.abspath(__file__))), "docs", "OPERATING.md")
+# where standard error cannot be written either, nothing is printed
+NOTHING = "nothing"
+
+
+def lines_of_the_table():
+    """The lines of the table, with where each stands."""
+    with open(GUIDE, encoding="utf-8") as file:
+        table = file.read().partition("What stands behind a status 3:")[2].partition("\n\n**")[0]
+    rows = [[cell.strip() for cell in row.strip("|").split("|")] for row in table.splitlines() if row.startswith("|")][2:]
+    for line, where, _ in rows:
+        for word in [NOTHING] if line == NOTHING else re.findall("`([^`]+)`", line):
+            yield word, where
+
+
+class Tried:
+    """A command over a hub in a folder of its own: an import of three orders, or another."""
+
+    def __init__(self, program, top):
+        self.program, self.top = program, top
+
+    def run(self, *words, data=(), env=None, error=subprocess.PIPE):
+        with tempfile.TemporaryDirectory(dir=self.top) as folder:
+            made_folder(folder, 3)
+            for name, it in dict(data).items():
+                with open(os.path.join(folder, name), "wb") as file:
+                    file.write(it)
+            words = words or over("import", RETAILER, "--folder", "in")
+            ran = subprocess.run([self.program, *words], cwd=folder, stdout=subprocess.PIPE, stderr=error, env=env, timeout=SECONDS)
+            return ran.returncode, ran.stdout, ran.stderr or b""
+
+    def of_memory(self, wanted):
+        """What comes of the import where one allocation is refused: the first such that says this on standard error."""
+        shim = os.path.join(self.top, "refuse.so")
+        subprocess.run(["cc", "-O2", "-shared", "-fPIC", "-o", shim, refusals.SHIM, "-ldl"], check=True)
+        for number in range(1, refusals.FEWEST):
+            found = self.run(env={"LD_PRELOAD": shim, "REFUSE": str(number)})
+            if found[2] == wanted:
+                return found
+        return found
+
+
+def stopped(tried):
+    spoiled = files.file_of(files.TABLES, files.ROWS, files.SPOILED[0][1])
+    return tried.run(*over("status", ALPHA), data={NAME: spoiled}) == (3, b"stopped\n", b"")
+
+
+def fault(tried):
+    status, printed, error = tried.run(env={"LD_PRELOAD": meddled(tried.top), "ENTRY": "01.edi"})
+    return (status, error) == (3, b"") and b"file 01.edi\nfault\nfile 02.edi\ninterchange U2" in printed
+
+
+def file(tried):
+    no_register = tried.run(*over("status", ALPHA, register="none.toml"))
+    no_folder = tried.run(*over("import", RETAILER, "--folder", "none"))
+    return no_register == no_folder == (3, b"", b"file\n")
+
+
+def store_disk(tried):
+    return tried.run(data={NAME: b"no database\n" * 1000}) == (3, b"", b"store disk\n")
+
+
+def store_version(tried):
+    nine = files.file_of(files.TABLES, files.ROWS, "UPDATE schema SET number = 9")
+    return tried.run(data={NAME: nine}) == (3, b"", b"store version\n")
+
+
+def clock(tried):
+    """A clock from before 1970."""
+    words = over("import", RETAILER, "--folder", "in", moment=None)
+    return tried.run(*words, env={"LD_PRELOAD": meddled(tried.top), "NOW": "-5"}) == (3, b"", b"clock\n")
+
+
+def nothing(tried):
+    with open("/dev/full", "wb") as full:
+        return tried.run(*over("status", ALPHA, register="none.toml"), error=full) == (3, b"", b"")
+
+
+# each line, where the table says that it stands, and whether it comes so
+LINES = {
+    "stopped": ("standard output, last", stopped),
+    "fault": ("standard output, behind `file NAME`", fault),
+    "file": ("standard error", file),
+    "store disk": ("standard error", store_disk),
+    "store version": ("standard error", store_version),
+    "store memory": ("standard error", lambda tried: tried.of_memory(b"store memory\n") == (3, b"", b"store memory\n")),
+    "clock": ("standard error", clock),
+    "memory": ("standard error", lambda tried: tried.of_memory(b"memory\n") == (3, b"", b"memory\n")),
+    NOTHING: ("", nothing),
+}
+
+
+def each_line(program):
+    """What is wrong with a line of the table, if anything."""
+    table = dict(lines_of_the_table())
+    if table != {line: where for line, (where, _) in LINES.items()}:
+        return f"the table has {table}"
+    with tempfile.TemporaryDirectory() as top:
+        wrong = [line for line, (_, comes) in LINES.items() if not comes(Tried(program, top))]
+    return f"these do not come as the table says: {wrong}" if wrong else None
+
+
+TRIALS = [("each line behind a status 3", each_line)]
