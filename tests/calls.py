@@ -12,7 +12,7 @@ from refusals import SHIM
 ROOT = os.path.dirname(os.path.dirname(os.path.abspath(__file__)))
 CRATES = ("edi_tests", "http_tests", "judge_tests", "hub_tests", "app_tests")
 # how an error, or what was compared, tells out of memory: by a name, or by the word that the program writes, as bytes
-TOLD = ("AllocFailed", "AllocError", "Memory", "OutOfMemory", "memory", ", ".join(str(byte) for byte in b"memory\n"))
+TOLD = ("AllocFailed", "AllocError", "Memory", "OutOfMemory", "memory", *(", ".join(str(byte) for byte in word) for word in (b"memory\n", b"stopped\n")))
 # how a test ends by an error, and by a comparison
 BY_ERROR, BY_COMPARISON = 101, -6
 # the tests whose own reader or writer takes memory: where that is refused, a read or a write of theirs fails, and is told as failed
@@ -22,6 +22,7 @@ OF_THEIR_OWN = {
     "app::an_order_is_shown",
     "base::a_failed_write_leaves_a_front_of_the_bytes",
     "base::bytes_that_wait_are_written_in_their_order",
+    "import::files_come_one_after_another",
     "responses::responses_are_written",
     "tokens::a_failed_write_leaves_a_front_of_the_text",
     "tokens::a_text_longer_than_what_waits_is_written_whole",

@@ -3,3 +3,5 @@
 
 #[cfg(test)]
 mod app;
+#[cfg(test)]
+mod words;

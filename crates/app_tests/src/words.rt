@@ -1,0 +1,160 @@
+use hub_app::{HubTask, HubWords, Words, WordsFault, read_words};
+use std::alloc::{AllocError, Global};
+use std::test::Fail;
+
+// Words, parted by blanks, and what they are read as; or, where they are refused, the exit status.
+#[derive(Drop)]
+struct Row {
+    words: &'static str,
+    told: &'static str,
+}
+
+static ROWS: [Row; 17] = [
+    Row {
+        words: "edihub check --register r.toml",
+        told: "check r.toml",
+    },
+    Row {
+        words: "edihub relay --hub 5412345000006 --owner 4012345500004 --moment 1748942400 --number 1",
+        told: "relay",
+    },
+    Row {
+        words: "edihub show",
+        told: "show",
+    },
+    Row {
+        words: "edihub import --register r.toml --db h.db --as 4012345500004 --key alpha-key-1 --folder in",
+        told: "r.toml h.db 4012345500004 alpha-key-1 now import in",
+    },
+    Row {
+        words: "edihub status --db h.db --key alpha-key-1 --as 4012345500004 --register r.toml --moment 0",
+        told: "r.toml h.db 4012345500004 alpha-key-1 then status",
+    },
+    Row {
+        words: "edihub status --register r --db h --as 5412345000013 --key retail-key --of 4012345500004",
+        told: "r h 5412345000013 retail-key now status of 4012345500004",
+    },
+    Row {
+        words: "edihub mail --register r --db h --as 4012345500004 --key alpha-key-1 --do after --n 0",
+        told: "r h 4012345500004 alpha-key-1 now after 0",
+    },
+    Row {
+        words: "edihub mail --register r --db h --as 4012345500004 --key alpha-key-1 --do item --n 00000000000012",
+        told: "r h 4012345500004 alpha-key-1 now item 12",
+    },
+    Row {
+        words: "edihub mail --register r --db h --as 4012345500004 --key alpha-key-1 --do taken --n 99999999999999",
+        told: "r h 4012345500004 alpha-key-1 now taken 99999999999999",
+    },
+    Row {
+        words: "edihub cancel --register r --db h --as 5412345000013 --key retail-key --supplier 4012345500004 --reference C1 --order 128576 --line 01 --quantity 10",
+        told: "r h 5412345000013 retail-key now cancel of 4012345500004 line 1 quantity 10",
+    },
+    Row {
+        words: "edihub serve --register r --db h --port 8080 --count 1000000",
+        told: "serve r h 8080 1000000",
+    },
+    Row {
+        words: "edihub serve --register r --db h --port 0 --count 1",
+        told: "status 2",
+    },
+    Row {
+        words: "edihub mail --register r --db h --as 4012345500004 --key alpha-key-1 --do item --n 000000000000001",
+        told: "status 2",
+    },
+    Row {
+        words: "edihub status --register r --db h --as 4012345500005 --key alpha-key-1",
+        told: "status 2",
+    },
+    Row {
+        words: "edihub import --register r --db h --as 4012345500004 --key alpha-key-1",
+        told: "status 2",
+    },
+    Row {
+        words: "edihub",
+        told: "status 2",
+    },
+    Row {
+        words: "edihub import --help",
+        told: "status 0",
+    },
+];
+
+// What is asked of a hub.
+fn task_told(alloc: Global, task: &HubTask<'_>) -> Result<String, AllocError> {
+    match task {
+        HubTask::Import(folder) => format!(in alloc; "import {folder}"),
+        HubTask::Status(None) => String::from_str(alloc, "status"),
+        HubTask::Status(Some(supplier)) => format!(in alloc; "status of {supplier}"),
+        HubTask::MailAfter(number) => format!(in alloc; "after {number}"),
+        HubTask::MailItem(number) => format!(in alloc; "item {number}"),
+        HubTask::MailTaken(number) => format!(in alloc; "taken {number}"),
+        HubTask::Cancel(cancel) => format!(in alloc;
+            "cancel of {} line {} quantity {}",
+            cancel.supplier, cancel.line, cancel.quantity
+        ),
+    }
+}
+
+// With what a hub is asked, and what.
+fn hub_words_told(alloc: Global, words: &HubWords<'_>) -> Result<String, AllocError> {
+    let when = if words.moment.is_none() {
+        "now"
+    } else {
+        "then"
+    };
+    let task = task_told(alloc, &words.task)?;
+    format!(in alloc;
+        "{} {} {} {} {when} {task}",
+        words.register, words.db, words.caller, words.key
+    )
+}
+
+fn words_told(alloc: Global, words: &Words<'_>) -> Result<String, AllocError> {
+    match words {
+        Words::Check(words) => format!(in alloc; "check {}", words.register),
+        Words::Relay(_) => String::from_str(alloc, "relay"),
+        Words::Show => String::from_str(alloc, "show"),
+        Words::Hub(words) => hub_words_told(alloc, words),
+        Words::Serve(words) => format!(in alloc;
+            "serve {} {} {} {}",
+            words.register, words.db, words.port, words.count
+        ),
+    }
+}
+
+// What words are read as.
+fn told(alloc: Global, text: &str) -> Result<String, AllocError> {
+    let words = text.split(' ').collect::<Vec<&str>>(alloc)?;
+    match read_words(alloc, words.as_slice()) {
+        Ok(words) => words_told(alloc, &words),
+        Err(WordsFault::Told(error)) => format!(in alloc; "status {}", error.exit_code()),
+        Err(WordsFault::Memory) => Err(AllocError),
+    }
+}
+
+#[test]
+fn words_are_read(rt: HostRuntime) -> Result<(), Fail> {
+    for row in &ROWS {
+        let told = told(rt.alloc(), row.words)?;
+        assert_eq!(rt; told.as_str(), row.told, "{}", row.words);
+    }
+    Ok(())
+}
+
+// What `Debug` shows of the words of a command over a hub.
+fn debug_of(alloc: Global, text: &str) -> Result<String, AllocError> {
+    let words = text.split(' ').collect::<Vec<&str>>(alloc)?;
+    match read_words(alloc, words.as_slice()) {
+        Ok(words) => format!(in alloc; "{words:?}"),
+        Err(_) => Err(AllocError),
+    }
+}
+
+#[test]
+fn a_key_is_not_shown(rt: HostRuntime) -> Result<(), Fail> {
+    let shown = debug_of(rt.alloc(), ROWS[3].words)?;
+    assert!(rt; shown.contains("key: Key(..)"));
+    assert!(rt; !shown.contains("alpha-key-1"));
+    Ok(())
+}
