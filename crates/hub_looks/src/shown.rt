@@ -1,8 +1,9 @@
-//! Rows of an answer as rows of the hub. A query shows all columns of a row, in their order.
+//! Rows of an answer as rows of the hub. A query shows all columns of a row, in their order; for a list of a mailbox, number,
+//! kind and document alone.
 ghost use Rattle.std.specs.Prelude.{◌≡◌, Bool, false, IsTrue, IfOk, IfSome, Err, map, slice_get};
 ghost use Rattle.std.specs.List.{list_all};
-ghost use Rattle.hub_store.specs.Clean.{clean_line, clean_pallet, clean_content, clean_receipt, clean_mail};
-ghost use Rattle.hub_looks.specs.Shown.{shown_line, shown_pallet, shown_content, shown_receipt, shown_mail};
+ghost use Rattle.hub_store.specs.Clean.{clean_line, clean_pallet, clean_content, clean_receipt, clean_mail, clean_head};
+ghost use Rattle.hub_looks.specs.Shown.{shown_line, shown_pallet, shown_content, shown_receipt, shown_mail, shown_head};
 ghost use Rattle.sqlite_value.specs.Order.{Row as Values};
 
 use crate::cells::{
@@ -11,7 +12,7 @@ use crate::cells::{
 };
 use edi_base::{GREATEST, Items};
 use edi_envelope::LAST_MAIL_NUMBER;
-use hub_store::StoreFault;
+use hub_store::{MailHead, StoreFault};
 use hub_tables::{ContentRow, LineRow, MailRow, PalletRow, ReceiptRow};
 use sqlite::Row;
 use std::alloc::Global;
@@ -151,6 +152,24 @@ impl Shown for MailRow {
             document,
             body,
             taken,
+        })
+    }
+}
+
+impl Shown for MailHead {
+    ghost shown = { shown_head };
+
+    ghost clean = { clean_head };
+
+    #[tactic(auto, using(crate::proofs::Unclean::first_fails, crate::proofs::Unclean::later_fails))]
+    fn of_row(row: &Row) -> Result<Self, StoreFault> {
+        let number = within_at(row, 0, 1, LAST_MAIL_NUMBER)?;
+        let kind = kind_at(row, 1)?;
+        let document = document_at(row, 2)?;
+        Ok(MailHead {
+            number,
+            kind,
+            document,
         })
     }
 }

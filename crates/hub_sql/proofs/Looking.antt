@@ -27,6 +27,12 @@ on_ok_of : {X E P : Type 0} (found : Result X E) (x : X) → found ≡ Ok x → 
 on_ok_of (Ok y) x e h = h
 on_ok_of (Err f) x e h = cc
 
+-- what is true of a value that was found is true of it as it is handed on
+pub handed_on : {X : Type 0} (P : X → Type 0) (found result : Result X StoreFault) → IfOk found P → IfOk result (λ x. found ≡ Ok x)
+    → IfOk result P
+handed_on P found (Ok x) holds is = ok_of P found x is holds
+handed_on P found (Err f) holds is = tt
+
 -- how a call fails that a store made while it had no fault
 pub failed : {X : Type 0} (before after : Option LastingFault) (result : Result X StoreFault) → before ≡ None
     → after ≡ broken_after None result
