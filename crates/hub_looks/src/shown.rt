@@ -1,6 +1,6 @@
 //! Rows of an answer as rows of the hub. A query shows all columns of a row, in their order; for a list of a mailbox, number,
 //! kind and document alone.
-ghost use Rattle.std.specs.Prelude.{◌≡◌, Bool, false, IsTrue, IfOk, IfSome, Err, map, slice_get};
+ghost use Rattle.std.specs.Prelude.{◌≡◌, ◌⊎◌, Bool, false, IsTrue, IfOk, IfErr, IfSome, Err, map, slice_get};
 ghost use Rattle.std.specs.List.{list_all};
 ghost use Rattle.hub_store.specs.Clean.{clean_line, clean_pallet, clean_content, clean_receipt, clean_mail, clean_head};
 ghost use Rattle.hub_looks.specs.Shown.{shown_line, shown_pallet, shown_content, shown_receipt, shown_mail, shown_head};
@@ -28,7 +28,8 @@ pub(crate) trait Shown: Drop {
     /// The row, where it is of the kind.
     fn of_row(row: &Row) -> Result<Self, StoreFault>
         ensures ok { IfOk result (λ x. (x ≡ shown row.now) × IsTrue (clean x)) }
-        ensures unclean { result ≡ Err StoreFault.Unclean → clean (shown row.now) ≡ false };
+        ensures unclean { result ≡ Err StoreFault.Unclean → clean (shown row.now) ≡ false }
+        ensures fails { IfErr result (λ fault. (fault ≡ StoreFault.Memory) ⊎ (fault ≡ StoreFault.Unclean)) };
 }
 
 // The greatest number of a line, and of a place on a pallet.
@@ -207,6 +208,7 @@ pub(crate) fn all_shown<T: Shown>(alloc: Global, rows: &[Row]) -> Result<Items<T
     ensures ok { IfOk result (λ items. items ≡ map T.shown rows.now) }
     ensures clean { IfOk result (λ items. IsTrue (list_all T.clean items)) }
     ensures unclean { result ≡ Err StoreFault.Unclean → list_all T.clean (map T.shown rows.now) ≡ false }
+    ensures fails { IfErr result (λ fault. (fault ≡ StoreFault.Memory) ⊎ (fault ≡ StoreFault.Unclean)) }
 {
     let mut items = Items::new(alloc);
     'rows: for row in rows {
@@ -223,6 +225,7 @@ pub(crate) fn first_shown<T: Shown>(rows: &[Row]) -> Result<Option<T>, StoreFaul
     ensures ok { IfOk result (λ first. first ≡ slice_get (map T.shown rows.now) 0) }
     ensures clean { IfOk result (λ first. IfSome first (λ x. IsTrue (T.clean x))) }
     ensures unclean { result ≡ Err StoreFault.Unclean → list_all T.clean (map T.shown rows.now) ≡ false }
+    ensures fails { IfErr result (λ fault. (fault ≡ StoreFault.Memory) ⊎ (fault ≡ StoreFault.Unclean)) }
 {
     match rows.first() {
         Some(row) => Ok(Some(T::of_row(row)?)),

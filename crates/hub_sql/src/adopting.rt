@@ -11,7 +11,7 @@ ghost use Rattle.hub_schema.specs.State.{AreOrdered, IsNumbered};
 ghost use Rattle.hub_sql.specs.Opening.{Adopts, Refuses, HoldsHub, IsAsBefore, SparesConnection, SparesStore};
 ghost use Rattle.hub_sql.specs.Stored.{content, left, honest};
 
-use crate::opening::{fault_of, found};
+use crate::opening::{fault_by, found};
 use crate::store::SqliteStore;
 use hub_looks::is_numbered;
 use hub_schema::{is_hub_schema, is_no_schema};
@@ -64,7 +64,7 @@ fn reopened<S: Alter + Drop>(
     }
     match Connection::over(alloc, store) {
         Ok(conn) => Ok(conn),
-        Err((error, store)) => Err((fault_of(&error), store)),
+        Err((error, store)) => Err((fault_by(&error), store)),
     }
 }
 
