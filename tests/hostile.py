@@ -46,7 +46,7 @@ PAGE, CHANGES = 4096, 12
 # how many of the kills have to come in the midst of an import or of what a server does, and how many different counts they keep
 IN_THE_MIDST, DIFFERENT = 20, 10
 TABLES = ("order", "line", "advice", "pallet", "content", "receipt", "remembered", "mail")
-STORE_FAULTS = {b"store disk\n", b"store unclean\n", b"store version\n", b"store memory\n"}
+STORE_FAULTS = {b"store disk\n", b"store version\n", b"store memory\n"}
 
 
 def new_folder(top):

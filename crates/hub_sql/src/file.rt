@@ -29,8 +29,8 @@ pub enum LeftOfFile<D: Disk + Drop> {
 
 impl<S: Start> SqliteStore<FileStore<FileFrom<S>>> {
     /// Opens the file, or makes it, with a log beside it. `Disk` also where another program has it open, or where it is
-    /// no database; `Version` where it has other tables than a hub's. No committed row is lost with a fault, and what
-    /// is left comes with it. `start` says what a crash may have done to the file.
+    /// no database; `Version` where it has other tables than a hub's; never `Unclean`. No committed row is lost with a
+    /// fault, and what is left comes with it. `start` says what a crash may have done to the file.
     pub fn at_path(
         rt: &HostRuntime,
         path: &str,
