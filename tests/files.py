@@ -201,7 +201,7 @@ SPOILED = [
     ("a content of nothing", "UPDATE content SET quantity = 0", "status"),
     ("a content at place 0", "UPDATE content SET place = 0", "status"),
     ("an entry of no type", "UPDATE mail SET kind = 0", "after 0"),
-    ("an entry with another decimal mark", "UPDATE mail SET decimal = 45", "after 0"),
+    ("an entry with another decimal mark", "UPDATE mail SET decimal = 45", "item 1"),
     ("an entry later than 2099", "UPDATE mail SET moment = 4102444800", "item 1"),
     ("an entry that is half taken", "UPDATE mail SET taken = 2", "item 1"),
     ("an entry below zero", "UPDATE mail SET number = -1", "after 0"),
@@ -214,6 +214,11 @@ def spoiled(name, change, line):
     play = Play().ask(ALPHA, line, "stopped", "stopped\n").ask(ALPHA, "taken 1", "stopped", "stopped\n")
     play.ask(ALPHA, "upload", "stopped", "interchange S1 messages 1\nstopped\n", RESPONSE)
     return of_file(f"a stored row that is none: {name}", play, data, is_still(data))
+
+
+def half_shown():
+    """An entry is listed by what a list shows of it, and stops whom it belongs to when it is asked for."""
+    return Play().list(0, (1, "ORDERS", "128576")).ask(ALPHA, "item 1", "stopped", "stopped\n").ask(ALPHA, "after 0", "stopped", "stopped\n")
 
 
 def of_another():
@@ -235,6 +240,7 @@ FILES = [
     not_opened("a file that is no database", "disk", b"no database\n" * 1000),
     not_opened("half of a file", "disk", file_of()[: len(file_of()) // 2]),
     *(spoiled(*row) for row in SPOILED),
+    of_file("an entry that is none beside what a list shows", half_shown(), file_of(TABLES, ROWS, "UPDATE mail SET decimal = 45")),
     of_file("a row that is none stops whom it belongs to, and then all", of_another(), file_of(TABLES, ROWS, SPOILED[0][1])),
     Case("a folder that is not there", ["file", "none/hub.db"], told("disk").script, told("disk").printed),
 ]

@@ -11,6 +11,8 @@
 - A database file is cut at each 512 bytes, has bytes changed all over each page, or is replaced by other files: a named refusal, or
   the right answers; and so an import into it. A file of today has sums of its pages, so no changed byte of a row is answered from.
 
+- A mailbox of 101 entries of a megabyte each is listed by a server that may take four megabytes beside its open store, and no more.
+
 - A script is played over tables of SQL, with each of its allocations refused in turn; and so is each test of calls (calls.py).
 
     python3 tests/hostile.py crates/edihub/out/edihub crates/hub_script/out/hub_script [TRIAL..]"""
@@ -30,20 +32,21 @@ from concurrent.futures import ThreadPoolExecutor
 
 from calls import calls_refused
 from commands import KEPT, REGISTER, over, told
-from files import NAME, is_whole
+from files import NAME, TABLES as CREATED, file_of, is_whole
 from http_texts import response
 from hubs import ALPHA, BETA, DESPATCH, HUB, MOMENT, ORDERS as ORDER, RECEIPT, RESPONSE, RETAILER, SECOND, SPELLED, TWO_SUPPLIERS, interchange, order
 from refusals import SHIM, refusals
 from registers import of_prefixes
-from serving import Server, all_of, free_port, upload
+from serving import Server, all_of, free_port, get, listed, upload
 
+HEAP = os.path.join(os.path.dirname(os.path.abspath(__file__)), "heap.c")
 ORDERS, MOMENTS = 999, 100
 # the bytes of a page of a database file, and how many of them are changed, each in a file of its own
 PAGE, CHANGES = 4096, 12
 # how many of the kills have to come in the midst of an import or of what a server does, and how many different counts they keep
 IN_THE_MIDST, DIFFERENT = 20, 10
 TABLES = ("order", "line", "advice", "pallet", "content", "receipt", "remembered", "mail")
-STORE_FAULTS = {b"store disk\n", b"store unclean\n", b"store version\n", b"store memory\n"}
+STORE_FAULTS = {b"store disk\n", b"store version\n", b"store memory\n"}
 
 
 def new_folder(top):
@@ -467,12 +470,36 @@ def serving_refused(program, top):
     return None
 
 
+def listed_in_little(program, top):
+    """From some moment on a server may take so many bytes beside what it holds: a list of large entries goes through, and one of them alone does not."""
+    shim, many, large = os.path.join(top, "heap.so"), 101, 1_000_000
+    subprocess.run(["cc", "-O2", "-shared", "-fPIC", "-o", shim, HEAP, "-ldl"], check=True)
+    entry = (ALPHA.encode(), 1748942400, ord("."), ord("O"))
+    mail = [(entry[0], k, *entry[1:], b"%d" % k, b"x" * large, 0) for k in range(1, many + 1)]
+    data = {NAME: file_of(CREATED, {"schema": [(1,)], "mail": mail})}
+    of_all = get(ALPHA, "mail/after/0", 200, listed(*((k, "ORDERS", k) for k in range(1, many)), last="more"))
+    of_one = get(ALPHA, "mail/item/1", 503, "stopped\n")
+    for room, asked in ((4 << 20, of_all), (large, of_one)):
+        with Server(program, 2, data=data, env={"LD_PRELOAD": shim, "ROOM": str(room)}) as server:
+            # what the store keeps for its queries is there once it was asked
+            none = get(BETA, "mail/after/0", 200, "end\n")
+            if server.ask(none[1]) != response(200, none[3]):
+                return "the list of an empty mailbox"
+            server.child.send_signal(signal.SIGUSR1)
+            name, request, status, body = asked
+            found = server.ask(request)
+        if found != response(status, body):
+            return f"{name} within {room} bytes: {found!r:.300}"
+    print(f"a mailbox of {many} entries of {large} bytes listed within {4 << 20} bytes beside the open store")
+    return None
+
+
 def script_refused(scripts, top):
     return refusals(scripts, "sql")
 
 
 # what is tried of the program, and of the program that plays scripts and the tests
-TRIALS = (files_damaged, disks_full, memory_refused, serving_refused, imports_killed, servers_killed)
+TRIALS = (files_damaged, disks_full, memory_refused, serving_refused, listed_in_little, imports_killed, servers_killed)
 OF_SCRIPTS = (script_refused, calls_refused)
 
 

@@ -57,8 +57,8 @@ pub fn mailbox_list<S: Store>(
     ensures fails { FailsWith S.plain ⊥ no_answer (S.broken store.old) (S.broken store.new) result }
     ensures stays { Stays S.content S.honest S.left store.old store.new }
 {
-    let entries = store.mail_after(supplier, number, LISTED_AND_ONE)?;
-    let text = list_text(alloc, entries.as_slice())?;
+    let heads = store.mail_after(supplier, number, LISTED_AND_ONE)?;
+    let text = list_text(alloc, heads.as_slice())?;
     Ok(done_reply(text))
 }
 

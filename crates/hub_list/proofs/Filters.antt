@@ -1,5 +1,5 @@
 -- Filters of filters.
-use Rattle.std.proofs.Common.{◌≡◌, ℕ, zero, suc, ◌+◌, ◌-◌, ◌<◌, ◌==◌, Bool, true, false, cond, ◌&&◌, ◌||◌, not, inl}
+use Rattle.std.proofs.Common.{◌≡◌, ℕ, zero, suc, ◌+◌, ◌-◌, ◌<◌, ◌≤◌, ◌==◌, Bool, true, false, cond, ◌&&◌, ◌||◌, not, inl}
 use Rattle.std.proofs.Common.{inr, List, [], ◌∷◌, length, filter, find, map, take, drop, get_or, slice_get, Option}
 use Rattle.std.proofs.Common.{Some, None, refl, sym, ap, ap₂, ◌∙◌, arith}
 use Rattle.std.specs.List.{AllByRecursion, list_any, last_or, filter_map, cons_option}
@@ -206,6 +206,12 @@ any_of_map p key (x ∷ xs) = ap (λ v. p (key x) || v) (any_of_map p key xs)
 pub filter_true : {X : Type 0} (xs : List X) → filter (λ x. true) xs ≡ xs
 filter_true [] = refl
 filter_true (x ∷ xs) = ap (λ ys. x ∷ ys) (filter_true xs)
+
+-- a front is no longer than was asked for
+pub take_within : {X : Type 0} (n : ℕ) (xs : List X) → length (take n xs) ≤ n
+take_within zero xs = omega arith
+take_within (suc n) [] = omega arith
+take_within (suc n) (x ∷ xs) = omega (arith, take_within n xs)
 
 pub take_of_map : {X K : Type 0} (key : X → K) (n : ℕ) (xs : List X) → take n (map key xs) ≡ map key (take n xs)
 take_of_map key zero xs = refl

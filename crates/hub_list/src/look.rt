@@ -1,5 +1,5 @@
 //! Look-ups in lists of rows, of which each rises by its key.
-ghost use Rattle.std.specs.Prelude.{◌≡◌, ◌==◌, ◌&&◌, true, None, filter, find, take, slice_get, option_map, nat_lt, not, IfOk};
+ghost use Rattle.std.specs.Prelude.{◌≡◌, ◌≤◌, ◌==◌, ◌&&◌, true, None, filter, find, length, map, take, slice_get, option_map, nat_lt, not, IfOk};
 ghost use Rattle.std.specs.List.{list_any, last_or, filter_map};
 ghost use Rattle.std.specs.Option.{unwrap_or};
 ghost use Rattle.hub_tables.specs.Cases.{side_letter};
@@ -8,6 +8,7 @@ ghost use Rattle.hub_tables.specs.Rows.{mail_cmp};
 ghost use Rattle.hub_tables.specs.Sets.{Rises};
 ghost use Rattle.hub_tables.specs.State.{is_taken};
 ghost use Rattle.hub_tables.specs.Tables.{holds};
+ghost use Rattle.hub_store.specs.Heads.{head_of};
 ghost use Rattle.hub_list.specs.Index.{IsIndex, entry_cmp, entry_key, is_untaken, owned_cmp, owned_key};
 
 use crate::index::{EntryKey, PalletKey};
@@ -16,8 +17,10 @@ use crate::search::rows_at;
 use edi_base::{Items, MemoryFault, copied};
 use gs1_ids::{Gln, Sscc};
 use hub_rows::Row;
+use hub_store::MailHead;
 use hub_tables::{
-    AdviceRow, ContentRow, LineRow, MailRow, OrderRow, PalletRow, ReceiptRow, RememberedRow, Side,
+    AdviceRow, Column, ContentRow, LineRow, MailRow, OrderRow, PalletRow, ReceiptRow,
+    RememberedRow, Side,
 };
 use std::alloc::Global;
 
@@ -58,6 +61,36 @@ fn copies_at<T: Row, K: Key<T>>(
         }
     }
     Ok(found)
+}
+
+// What a list shows of a mailbox entry.
+fn head(alloc: Global, entry: &MailRow) -> Result<MailHead, MemoryFault>
+    ensures { IfOk result (λ head. head ≡ head_of entry.now) }
+{
+    Ok(MailHead {
+        number: entry.number,
+        kind: Column::of(entry.kind.case()),
+        document: copied(alloc, entry.document.as_slice())?,
+    })
+}
+
+// What a list shows of the entries that keys look for, of the first for each.
+fn heads_at(
+    alloc: Global,
+    mail: &[MailRow],
+    keys: &[EntryKey],
+) -> Result<Items<MailHead>, MemoryFault>
+    requires { Rises mail_cmp mail.now }
+    ensures { IfOk result (λ heads. heads ≡ map head_of (filter_map (λ key. find (λ row.
+        same row.supplier key.supplier && (row.number == key.number)) mail.now) keys.now)) }
+{
+    let mut heads = Items::new(alloc);
+    for key in keys {
+        if let Some(entry) = rows_at(mail, key).first() {
+            heads.push(head(alloc, entry)?)?;
+        }
+    }
+    Ok(heads)
 }
 
 /// The content that is remembered of a side of a supplier under two references.
@@ -254,20 +287,22 @@ pub(crate) fn entry_with(
     first_copy(alloc, rows_at(mail, &key))
 }
 
-/// The first so many entries above a number in a supplier's mailbox that are not taken, by an index of these.
-pub(crate) fn entries_after(
+/// What a list shows of the first so many entries above a number in a supplier's mailbox that are not taken, by an index of
+/// these.
+pub(crate) fn heads_after(
     alloc: Global,
     mail: &[MailRow],
     untaken: &[EntryKey],
     above: &Above<'_>,
     limit: usize,
-) -> Result<Items<MailRow>, MemoryFault>
+) -> Result<Items<MailHead>, MemoryFault>
     requires mail { Rises mail_cmp mail.now }
     requires untaken { IsIndex entry_cmp (λ key. key.supplier) entry_key is_untaken untaken.now mail.now }
-    ensures { IfOk result (λ found.
-        found ≡ take limit (filter (λ entry. nat_lt above.now.number entry.number
-        && not (is_taken entry)) (filter (λ row. same row.supplier above.now.supplier.now) mail.now))) }
+    ensures heads { IfOk result (λ heads.
+        heads ≡ take limit (map head_of (filter (λ entry. nat_lt above.now.number entry.number
+        && not (is_taken entry)) (filter (λ row. same row.supplier above.now.supplier.now) mail.now)))) }
+    ensures limit { IfOk result (λ heads. length heads ≤ limit) }
 {
     let keys = rows_at(untaken, above);
-    copies_at(alloc, mail, &keys[..limit.min(keys.len())])
+    heads_at(alloc, mail, &keys[..limit.min(keys.len())])
 }

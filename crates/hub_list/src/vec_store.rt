@@ -7,7 +7,7 @@ use crate::lists::{Lists, apply_each, copies_of, take_room};
 use crate::look;
 use edi_base::Items;
 use gs1_ids::{Gln, Sscc};
-use hub_store::{LastingFault, Store, StoreFault};
+use hub_store::{LastingFault, MailHead, Store, StoreFault};
 use hub_tables::{Change, ContentRow, LineRow, MailRow, PalletRow, ReceiptRow, Side};
 use std::alloc::Global;
 use std::marker::Model;
@@ -127,11 +127,11 @@ impl Store for VecStore {
         supplier: &Gln,
         number: u64,
         limit: usize,
-    ) -> Result<Items<MailRow>, StoreFault> {
+    ) -> Result<Items<MailHead>, StoreFault> {
         let mail = self.lists.mail.as_slice();
         let untaken = self.lists.untaken.as_slice();
         let above = Above { supplier, number };
-        Ok(look::entries_after(self.alloc, mail, untaken, &above, limit)?)
+        Ok(look::heads_after(self.alloc, mail, untaken, &above, limit)?)
     }
 
     fn all_lines(&mut self, supplier: &Gln) -> Result<Items<LineRow>, StoreFault> {

@@ -1,15 +1,18 @@
 -- What a query does, from its clauses.
-use Rattle.std.proofs.Common.{Vec, Result, Ok, Err, IfOk, ◌≡◌, ◌⊎◌, inl, inr, ℕ, false, List, IsTrue, IsSome}
+use Rattle.std.proofs.Common.{Vec, Result, Ok, Err, IfOk, IfErr, ◌≡◌, ◌⊎◌, inl, inr, ℕ, false, List, IsTrue, IsSome}
 use Rattle.std.proofs.Common.{refl, sym, ◌∙◌, subst, true≢false}
 use Rattle.std.specs.declared.alloc.Global.{Global}
 use Rattle.sqlite_value.specs.Order.{Row}
 use Rattle.sqlite.specs.declared.error.Error.{Error}
+use Rattle.sqlite.specs.declared.error.Error.TheVariants.{SqliteFailure}
+use Rattle.sqlite.specs.declared.error.ErrorCode.TheVariants as code
 use Rattle.sqlite.specs.Clock.{timed}
 use Rattle.sqlite.specs.State.{State, HasCleanDisk, Shown, ShowsRows, FailsToQuery, FailsToShow, IsNotRun, IsUnchanged}
 use Rattle.sqlite.specs.State.{IsRolledBack, Survives, CommitsShowing}
 use Rattle.sqlite.proofs.StateLemmas.{survives_weaker}
 use Rattle.hub_store.specs.declared.fault.StoreFault.{StoreFault}
 use Rattle.hub_store.specs.declared.fault.StoreFault.TheVariants.{Memory, Disk, Unclean}
+use Rattle.hub_schema.specs.Faults.{fault_of}
 use Rattle.hub_schema.proofs.Leaving.{unchanged, rolled_back, spared}
 use Rattle.hub_looks.specs.Asks.{OnlyReads, Asks}
 
@@ -48,6 +51,7 @@ module _ (text : List ℕ) (params : Row) (old new : State) (mode : old.in_trans
   asked_ok rows shown = record {
     reads = λ clean. (rows.items, shown clean, refl);
     spoils = λ clean e. absurd cc;
+    disk = λ clean e. absurd cc;
     kept = λ clean plain. (shown_same text params old new rows.items plain (shown clean)).0.committed_is;
     same = λ clean plain. let it = (shown_same text params old new rows.items plain (shown clean)).0 in
         (it.was_open, it.is_open, it.now_is);
@@ -58,13 +62,14 @@ module _ (text : List ℕ) (params : Row) (old new : State) (mode : old.in_trans
     survives = survives;
   }
 
-  pub asked_err : (e : Error) (fault : StoreFault) → (fault ≡ Memory) ⊎ (fault ≡ Disk)
+  pub asked_err : (e : Error) (fault : StoreFault) → fault ≡ fault_of e
       → (HasCleanDisk new → FailsToQuery text params old new e)
       → (old.in_transaction ≡ false → IsTrue old.is_open → old.now ≡ old.committed)
       → Asks {X = Vec Row Global} Rows (λ _. ⊥) text params old new (Err fault)
-  asked_err e fault other fails settled = record {
+  asked_err e fault is fails settled = record {
     reads = λ clean. tt;
-    spoils = λ clean e. absurd (elim other [ inl memory ↦ cc | inr disk ↦ cc ]);
+    spoils = λ clean h. absurd (never_unclean e (sym is ∙ told_is fault Unclean h));
+    disk = λ clean h. (e, fails clean, sym is ∙ told_is fault Disk h);
     same = λ clean plain. tt;
     kept = λ clean plain. tt;
     stays = λ clean idle plain up. elim (failed_same text params old new e plain (fails clean)) [
@@ -81,6 +86,13 @@ module _ (text : List ℕ) (params : Row) (old new : State) (mode : old.in_trans
     mode = mode;
     survives = survives;
   }
+    where
+      never_unclean : (e : Error) → fault_of e ≡ Unclean → ⊥
+      never_unclean (SqliteFailure code.OutOfMemory) h = cc
+      never_unclean _ h = cc
+
+      told_is : (a b : StoreFault) → ◌≡◌ {A = Result (Vec Row Global) StoreFault} (Err a) (Err b) → a ≡ b
+      told_is a b h = cc
 
 -- an answer of which more is true
 pub reads_more : {X : Type 0} {Reads : List Row → X → Type 0} {Spoil : List Row → Type 0} {text : List ℕ} {params : Row} {old new : State}
@@ -89,6 +101,7 @@ pub reads_more : {X : Type 0} {Reads : List Row → X → Type 0} {Spoil : List 
 reads_more More (Ok x) more asks = record {
   reads = λ clean. let h = asks.reads clean in (h.0, h.1, (h.2, more));
   spoils = asks.spoils;
+  disk = asks.disk;
   same = asks.same;
   kept = asks.kept;
   stays = asks.stays;
@@ -99,6 +112,7 @@ reads_more More (Ok x) more asks = record {
 reads_more More (Err fault) more asks = record {
   reads = λ clean. tt;
   spoils = asks.spoils;
+  disk = asks.disk;
   same = asks.same;
   kept = asks.kept;
   stays = asks.stays;
@@ -110,10 +124,11 @@ reads_more More (Err fault) more asks = record {
 -- what is made of the rows of an answer
 pub asked_more : {X : Type 0} (Reads : List Row → X → Type 0) (Spoil : List Row → Type 0) (text : List ℕ) (params : Row) (old new : State)
     (rows : Vec Row Global) (result : Result X StoreFault) → Asks {X = Vec Row Global} Rows (λ _. ⊥) text params old new (Ok rows)
-    → IfOk result (λ x. Reads rows.items x) → (result ≡ Err Unclean → Spoil rows.items) → Asks Reads Spoil text params old new result
-asked_more Reads Spoil text params old new rows (Ok x) asks right wrong = record {
+    → IfOk result (λ x. Reads rows.items x) → (result ≡ Err Unclean → Spoil rows.items) → IfErr result (λ fault. (fault ≡ Memory) ⊎ (fault ≡ Unclean)) → Asks Reads Spoil text params old new result
+asked_more Reads Spoil text params old new rows (Ok x) asks right wrong other = record {
   reads = λ clean. let h = asks.reads clean in (h.0, h.1, subst (λ rs. Reads rs x) h.2 right);
   spoils = λ clean e. absurd cc;
+  disk = λ clean e. absurd cc;
   same = asks.same;
   kept = asks.kept;
   stays = asks.stays;
@@ -121,9 +136,10 @@ asked_more Reads Spoil text params old new rows (Ok x) asks right wrong = record
   mode = asks.mode;
   survives = asks.survives;
 }
-asked_more Reads Spoil text params old new rows (Err fault) asks right wrong = record {
+asked_more Reads Spoil text params old new rows (Err fault) asks right wrong other = record {
   reads = λ clean. tt;
   spoils = λ clean e. let h = asks.reads clean in (h.0, h.1, subst Spoil h.2 (wrong e));
+  disk = λ clean e. absurd (elim other [ inl memory ↦ cc | inr unclean ↦ cc ]);
   same = λ clean plain. tt;
   kept = λ clean plain. tt;
   stays = asks.stays;

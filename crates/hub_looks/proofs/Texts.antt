@@ -178,11 +178,15 @@ entry_selects = record { first = refl; plain = (refl, refl); unlisted = refl; is
 abbrev pub untaken_test : Term
 untaken_test = op2 (Compare Ne Binary) (col 1 8) one
 
+abbrev pub head_columns : List Term
+head_columns = col 1 2 ∷ col 1 5 ∷ col 1 6 ∷ []
+
 abbrev pub after_text : List ℕ
-after_text = codes "SELECT supplier, number, moment, decimal, kind, document, body, taken FROM mail WHERE supplier = ?1 AND number > ?2 AND taken <> 1 ORDER BY supplier, number LIMIT ?3"
+after_text = codes "SELECT number, kind, document FROM mail WHERE supplier = ?1 AND number > ?2 AND taken <> 1 ORDER BY supplier, number LIMIT ?3"
 
 pub after_selects : Selects after_text
-    (some_of 16 (given_at 1 0 ∷ above_test ∷ untaken_test ∷ []) mail_columns (rising 1 ∷ rising 2 ∷ []) (col 0 2)) mail_names
+    (some_of 16 (given_at 1 0 ∷ above_test ∷ untaken_test ∷ []) head_columns (rising 1 ∷ rising 2 ∷ []) (col 0 2))
+    (codes "number" ∷ codes "kind" ∷ codes "document" ∷ [])
 unfolding understood everything
 after_selects = record { first = refl; plain = (refl, refl); unlisted = refl; is = refl }
 

@@ -4,20 +4,25 @@ use Rattle.sqlite_value.specs.Order.{Row}
 use Rattle.sqlite_schema.specs.declared.schema.Schema.{Schema}
 use Rattle.sqlite_resolve.specs.declared.compiled.Compiled.{Compiled}
 use Rattle.sqlite.specs.Listing.{understood}
-use Rattle.sqlite.specs.State.{State, HasCleanDisk, Shown, Survives, CommitsShowing}
+use Rattle.sqlite.specs.State.{State, HasCleanDisk, Shown, FailsToQuery, Survives, CommitsShowing}
+use Rattle.sqlite.specs.declared.error.Error.{Error}
 use Rattle.hub_store.specs.declared.fault.StoreFault.{StoreFault}
-use Rattle.hub_store.specs.declared.fault.StoreFault.TheVariants.{Unclean}
+use Rattle.hub_store.specs.declared.fault.StoreFault.TheVariants.{Disk, Unclean}
+use Rattle.hub_schema.specs.Faults.{fault_of}
 use Rattle.hub_schema.specs.State.{Spares}
 
 -- a statement that writes nothing, under any schema
 abbrev pub OnlyReads : List ℕ → Type 0
 OnlyReads text = (schema : Schema) (c : Compiled) → understood schema text ≡ Ok c → c.returning ≡ None
 
--- the answer reads the rows that are shown, which spoil it where it is `Unclean`
+-- the answer reads the rows that are shown, which spoil it where it is `Unclean`; a fault of the disk is told only where
+-- the query failed by an error that is one, and not for want of memory
 pub record Asks {X : Type 0} (Reads : List Row → X → Type 0) (Spoil : List Row → Type 0) (text : List ℕ) (params : Row)
     (old new : State) (result : Result X StoreFault) : Type 0 where
   pub reads : HasCleanDisk new → IfOk result (λ x. (rows : List Row) × Shown text params old new rows × Reads rows x)
   pub spoils : HasCleanDisk new → result ≡ Err Unclean → (rows : List Row) × Shown text params old new rows × Spoil rows
+  pub disk :
+      HasCleanDisk new → result ≡ Err Disk → (e : Error) × FailsToQuery text params old new e × (fault_of e ≡ Disk)
   pub same :
       HasCleanDisk new → OnlyReads text → OnOk result (IsTrue old.is_open × IsTrue new.is_open × (new.now ≡ old.now))
   pub kept : HasCleanDisk new → OnlyReads text → OnOk result (new.committed ≡ old.committed)

@@ -7,6 +7,7 @@ use Rattle.hub_tables.specs.declared.rows.PalletRow.{PalletRow}
 use Rattle.hub_tables.specs.declared.rows.ContentRow.{ContentRow}
 use Rattle.hub_tables.specs.declared.rows.ReceiptRow.{ReceiptRow}
 use Rattle.hub_tables.specs.declared.rows.MailRow.{MailRow}
+use Rattle.hub_store.specs.declared.mail.MailHead.{MailHead}
 use Rattle.hub_schema.specs.Cells.{bytes_in, number_in}
 use Rattle.hub_schema.specs.Rows.{line_in, pallet_in, content_in, receipt_in, mail_in}
 
@@ -24,6 +25,14 @@ shown_receipt row = receipt_in (Null ∷ row)
 
 abbrev pub shown_mail : Row → MailRow
 shown_mail row = mail_in (Null ∷ row)
+
+-- number, kind and document of an entry
+abbrev pub shown_head : Row → MailHead
+shown_head row = record {
+  number = number_in (column row 0);
+  kind = number_in (column row 1);
+  document = bytes_in (column row 2);
+}
 
 -- of one column of bytes
 abbrev pub shown_bytes : Row → List ℕ

@@ -3,6 +3,7 @@ ghost use Rattle.std.specs.Prelude.{◌≡◌, ◌⊎◌, ◌==◌, false, not, 
 ghost use Rattle.std.specs.List.{list_all};
 ghost use Rattle.sqlite.specs.Held.{state};
 ghost use Rattle.sqlite.specs.Values.{bound};
+ghost use Rattle.hub_schema.specs.Faults.{fault_of};
 ghost use Rattle.hub_looks.specs.Asks.{Asks};
 
 use crate::shown::{Shown, all_shown, first_shown};
@@ -13,8 +14,9 @@ use sqlite::{Alter, Connection, Error, ErrorCode, Row};
 use std::alloc::Global;
 
 // Out of memory, or a fault of the disk for all else.
-fn fault_of(error: &Error) -> StoreFault
-    ensures { (result ≡ StoreFault.Memory) ⊎ (result ≡ StoreFault.Disk) }
+fn fault_by(error: &Error) -> StoreFault
+    ensures exact { result ≡ fault_of error.now }
+    ensures either { (result ≡ StoreFault.Memory) ⊎ (result ≡ StoreFault.Disk) }
 {
     match error {
         Error::SqliteFailure(ErrorCode::OutOfMemory) => StoreFault::Memory,
@@ -34,7 +36,7 @@ pub(crate) fn ask<S: Alter>(
     let _ = conn.is_autocommit();
     match conn.query_all(text, params) {
         Ok(rows) => Ok(rows),
-        Err(error) => Err(fault_of(&error)),
+        Err(error) => Err(fault_by(&error)),
     }
 }
 

@@ -1,5 +1,5 @@
 //! Cells of a row as values of the hub.
-ghost use Rattle.std.specs.Prelude.{◌≡◌, ◌≢◌, ◌≤◌, ◌^◌, ◌∷◌, [], false, Err, nat_le, IfOk, IsTrue};
+ghost use Rattle.std.specs.Prelude.{◌≡◌, ◌≢◌, ◌⊎◌, ◌≤◌, ◌^◌, ◌∷◌, [], false, Err, nat_le, IfOk, IfErr, IsTrue};
 ghost use Rattle.edi_segments.specs.Service.{is_decimal};
 ghost use Rattle.edi_moment.specs.Moment.{last_moment};
 ghost use Rattle.gs1_ids.specs.Digits.{is_key};
@@ -17,7 +17,8 @@ use sqlite::{Error, ErrorCode, Row};
 
 // Out of memory, or a row that is none of the kinds.
 fn unread(error: &Error) -> StoreFault
-    ensures { result ≡ StoreFault.Unclean → error.now ≢ Error.SqliteFailure ErrorCode.OutOfMemory }
+    ensures unclean { result ≡ StoreFault.Unclean → error.now ≢ Error.SqliteFailure ErrorCode.OutOfMemory }
+    ensures which { (result ≡ StoreFault.Memory) ⊎ (result ≡ StoreFault.Unclean) }
 {
     match error {
         Error::SqliteFailure(ErrorCode::OutOfMemory) => StoreFault::Memory,
@@ -38,6 +39,7 @@ pub(crate) fn bytes_at(row: &Row, at: usize) -> Result<Items<u8>, StoreFault>
     ensures ok { IfOk result (λ bytes. bytes ≡ bytes_in (column row.now at)) }
     ensures right { IfOk result (λ bytes. IsTrue (are_bytes bytes)) }
     ensures unclean { result ≡ Err StoreFault.Unclean → bytes_in (column row.now at) ≡ 256 ∷ [] }
+    ensures fails { IfErr result (λ fault. (fault ≡ StoreFault.Memory) ⊎ (fault ≡ StoreFault.Unclean)) }
 {
     match row.get::<Vec<u8>>(at) {
         Ok(bytes) => Ok(items_of(bytes)),
@@ -49,6 +51,7 @@ pub(crate) fn bytes_at(row: &Row, at: usize) -> Result<Items<u8>, StoreFault>
 pub(crate) fn number_at(row: &Row, at: usize) -> Result<u64, StoreFault>
     ensures ok { IfOk result (λ number. number ≡ number_in (column row.now at)) }
     ensures unclean { result ≡ Err StoreFault.Unclean → 2 ^ 64 ≤ number_in (column row.now at) }
+    ensures fails { IfErr result (λ fault. (fault ≡ StoreFault.Memory) ⊎ (fault ≡ StoreFault.Unclean)) }
 {
     match row.get::<u64>(at) {
         Ok(number) => Ok(number),
@@ -61,6 +64,7 @@ pub(crate) fn within_at(row: &Row, at: usize, low: u64, high: u64) -> Result<u64
     ensures ok { IfOk result (λ number. number ≡ number_in (column row.now at)) }
     ensures right { IfOk result (λ number. IsTrue (is_within low high number)) }
     ensures unclean { result ≡ Err StoreFault.Unclean → is_within low high (number_in (column row.now at)) ≡ false }
+    ensures fails { IfErr result (λ fault. (fault ≡ StoreFault.Memory) ⊎ (fault ≡ StoreFault.Unclean)) }
 {
     let number = number_at(row, at)?;
     if number < low || high < number {
@@ -74,6 +78,7 @@ pub(crate) fn document_at(row: &Row, at: usize) -> Result<Items<u8>, StoreFault>
     ensures ok { IfOk result (λ number. number ≡ bytes_in (column row.now at)) }
     ensures right { IfOk result (λ number. IsTrue (is_number number)) }
     ensures unclean { result ≡ Err StoreFault.Unclean → is_number (bytes_in (column row.now at)) ≡ false }
+    ensures fails { IfErr result (λ fault. (fault ≡ StoreFault.Memory) ⊎ (fault ≡ StoreFault.Unclean)) }
 {
     let number = bytes_at(row, at)?;
     if !has_length(1, 35, number.as_slice()) || !all_printable(number.as_slice()) {
@@ -87,6 +92,7 @@ pub(crate) fn gln_at(row: &Row, at: usize) -> Result<Gln, StoreFault>
     ensures ok { IfOk result (λ gln. gln ≡ bytes_in (column row.now at)) }
     ensures right { IfOk result (λ gln. IsTrue (is_gln gln)) }
     ensures unclean { result ≡ Err StoreFault.Unclean → is_gln (bytes_in (column row.now at)) ≡ false }
+    ensures fails { IfErr result (λ fault. (fault ≡ StoreFault.Memory) ⊎ (fault ≡ StoreFault.Unclean)) }
 {
     let digits = bytes_at(row, at)?;
     match Gln::parse(digits.as_slice()) {
@@ -100,6 +106,7 @@ pub(crate) fn sscc_at(row: &Row, at: usize) -> Result<Sscc, StoreFault>
     ensures ok { IfOk result (λ sscc. sscc ≡ bytes_in (column row.now at)) }
     ensures right { IfOk result (λ sscc. IsTrue (is_key 18 sscc)) }
     ensures unclean { result ≡ Err StoreFault.Unclean → is_key 18 (bytes_in (column row.now at)) ≡ false }
+    ensures fails { IfErr result (λ fault. (fault ≡ StoreFault.Memory) ⊎ (fault ≡ StoreFault.Unclean)) }
 {
     let digits = bytes_at(row, at)?;
     match Sscc::parse(digits.as_slice()) {
@@ -113,6 +120,7 @@ pub(crate) fn gtin_at(row: &Row, at: usize) -> Result<Gtin, StoreFault>
     ensures ok { IfOk result (λ gtin. gtin ≡ bytes_in (column row.now at)) }
     ensures right { IfOk result (λ gtin. IsTrue (is_key 14 gtin)) }
     ensures unclean { result ≡ Err StoreFault.Unclean → is_key 14 (bytes_in (column row.now at)) ≡ false }
+    ensures fails { IfErr result (λ fault. (fault ≡ StoreFault.Memory) ⊎ (fault ≡ StoreFault.Unclean)) }
 {
     let digits = bytes_at(row, at)?;
     if digits.len() != 14 {
@@ -129,6 +137,7 @@ pub(crate) fn answer_at(row: &Row, at: usize) -> Result<Column<Answered>, StoreF
     ensures ok { IfOk result (λ answer. answer ≡ number_in (column row.now at)) }
     ensures right { IfOk result (λ answer. IsTrue (is_answer answer)) }
     ensures unclean { result ≡ Err StoreFault.Unclean → is_answer (number_in (column row.now at)) ≡ false }
+    ensures fails { IfErr result (λ fault. (fault ≡ StoreFault.Memory) ⊎ (fault ≡ StoreFault.Unclean)) }
 {
     match number_at(row, at)? {
         0x57 => Ok(Column::of(Answered::Waiting)),
@@ -144,6 +153,7 @@ pub(crate) fn arrival_at(row: &Row, at: usize) -> Result<Column<Arrival>, StoreF
     ensures ok { IfOk result (λ arrival. arrival ≡ number_in (column row.now at)) }
     ensures right { IfOk result (λ arrival. IsTrue (is_arrival arrival)) }
     ensures unclean { result ≡ Err StoreFault.Unclean → is_arrival (number_in (column row.now at)) ≡ false }
+    ensures fails { IfErr result (λ fault. (fault ≡ StoreFault.Memory) ⊎ (fault ≡ StoreFault.Unclean)) }
 {
     match number_at(row, at)? {
         0 => Ok(Column::of(Arrival::Announced)),
@@ -157,6 +167,7 @@ pub(crate) fn kind_at(row: &Row, at: usize) -> Result<Column<MailKind>, StoreFau
     ensures ok { IfOk result (λ kind. kind ≡ number_in (column row.now at)) }
     ensures right { IfOk result (λ kind. IsTrue (is_kind kind)) }
     ensures unclean { result ≡ Err StoreFault.Unclean → is_kind (number_in (column row.now at)) ≡ false }
+    ensures fails { IfErr result (λ fault. (fault ≡ StoreFault.Memory) ⊎ (fault ≡ StoreFault.Unclean)) }
 {
     match number_at(row, at)? {
         0x4f => Ok(Column::of(MailKind::Orders)),
@@ -170,6 +181,7 @@ pub(crate) fn truth_at(row: &Row, at: usize) -> Result<Column<bool>, StoreFault>
     ensures ok { IfOk result (λ truth. truth ≡ number_in (column row.now at)) }
     ensures right { IfOk result (λ truth. IsTrue (is_truth truth)) }
     ensures unclean { result ≡ Err StoreFault.Unclean → is_truth (number_in (column row.now at)) ≡ false }
+    ensures fails { IfErr result (λ fault. (fault ≡ StoreFault.Memory) ⊎ (fault ≡ StoreFault.Unclean)) }
 {
     match number_at(row, at)? {
         0 => Ok(Column::of(false)),
@@ -183,6 +195,7 @@ pub(crate) fn decimal_at(row: &Row, at: usize) -> Result<u8, StoreFault>
     ensures ok { IfOk result (λ decimal. decimal ≡ number_in (column row.now at)) }
     ensures right { IfOk result (λ decimal. IsTrue (is_decimal decimal)) }
     ensures unclean { result ≡ Err StoreFault.Unclean → is_decimal (number_in (column row.now at)) ≡ false }
+    ensures fails { IfErr result (λ fault. (fault ≡ StoreFault.Memory) ⊎ (fault ≡ StoreFault.Unclean)) }
 {
     match number_at(row, at)? {
         46 => Ok(46),
@@ -196,6 +209,7 @@ pub(crate) fn moment_at(row: &Row, at: usize) -> Result<Moment, StoreFault>
     ensures ok { IfOk result (λ moment. moment ≡ number_in (column row.now at)) }
     ensures right { IfOk result (λ moment. moment ≤ last_moment) }
     ensures unclean { result ≡ Err StoreFault.Unclean → nat_le (number_in (column row.now at)) last_moment ≡ false }
+    ensures fails { IfErr result (λ fault. (fault ≡ StoreFault.Memory) ⊎ (fault ≡ StoreFault.Unclean)) }
 {
     match Moment::new(number_at(row, at)?) {
         Some(moment) => Ok(moment),

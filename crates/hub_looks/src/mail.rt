@@ -1,10 +1,11 @@
 //! Look-ups in mailboxes.
-ghost use Rattle.std.specs.Prelude.{◌≡◌, ◌<◌, ◌≤◌, ◌^◌, ◌&&◌, ◌⊎◌, pos, negsuc, not, filter, take, None, option_map, IsTrue, IfOk, IfSome};
+ghost use Rattle.std.specs.Prelude.{◌≡◌, ◌<◌, ◌≤◌, ◌^◌, ◌&&◌, ◌⊎◌, pos, negsuc, not, filter, length, map, take, None, option_map, IsTrue, IfOk, IfSome};
 ghost use Rattle.std.specs.List.{list_all, list_any, last_or};
 ghost use Rattle.std.specs.Option.{unwrap_or};
 ghost use Rattle.sqlite.specs.Held.{state};
 ghost use Rattle.edi_envelope.specs.Mail.{last_number};
-ghost use Rattle.hub_store.specs.Clean.{clean_mail, is_within};
+ghost use Rattle.hub_store.specs.Clean.{clean_head, clean_mail, is_within};
+ghost use Rattle.hub_store.specs.Heads.{head_of};
 ghost use Rattle.hub_schema.specs.State.{LooksUp};
 ghost use Rattle.hub_tables.specs.State.{entry_at, is_taken, untaken_after, last_mail as last};
 ghost use Rattle.hub_tables.specs.Tables.{view};
@@ -18,7 +19,7 @@ use crate::ask::{first_of, has_row, rows_of};
 use edi_base::Items;
 use edi_envelope::LAST_MAIL_NUMBER;
 use gs1_ids::Gln;
-use hub_store::StoreFault;
+use hub_store::{MailHead, StoreFault};
 use hub_tables::MailRow;
 use sqlite::types::ValueRef;
 use sqlite::{Alter, Connection};
@@ -99,7 +100,7 @@ pub fn mail_item<S: Alter>(
 
 // The most rows of an answer, as a parameter; a number that is none sets no limit.
 fn most_rows<'a>(limit: usize) -> ValueRef<'a>
-    ensures { (owned result ≡ Int (pos limit)) ⊎ (owned result ≡ Int (negsuc 0)) }
+    ensures { (owned result ≡ Int (pos limit)) ⊎ ((2 ^ 63 ≤ limit) × (owned result ≡ Int (negsuc 0))) }
 {
     match i64::try_from(limit) {
         Ok(most) => ValueRef::Int(most),
@@ -107,32 +108,33 @@ fn most_rows<'a>(limit: usize) -> ValueRef<'a>
     }
 }
 
-// The first of the entries.
-fn first_entries(entries: Items<MailRow>, limit: usize) -> Items<MailRow>
-    ensures { result ≡ take limit entries }
+// The first of them.
+fn first_heads(heads: Items<MailHead>, limit: usize) -> Items<MailHead>
+    ensures first { result ≡ take limit heads }
+    ensures limit { length result ≤ limit }
 {
-    let mut entries = entries.into_vec();
-    entries.truncate(limit);
-    Items::from_vec(entries)
+    let mut heads = heads.into_vec();
+    heads.truncate(limit);
+    Items::from_vec(heads)
 }
 
-// The entries above a number that are not taken, by number: so many of them, or all.
-fn entries_above<S: Alter>(
+// What a list shows of the entries above a number that are not taken, by number: of so many of them, or of all.
+fn heads_above<S: Alter>(
     conn: &mut Connection<S>,
     alloc: Global,
     supplier: &Gln,
     number: u64,
     most: ValueRef<'_>,
-) -> Result<Items<MailRow>, StoreFault>
+) -> Result<Items<MailHead>, StoreFault>
     requires { number < 2 ^ 63 }
-    ensures looks { LooksUp (λ t. limited (as_count (bound_value (owned most.entry))) (filter (λ entry. is_above number entry.number && not (is_taken entry)) (view supplier.now t).mail)) (state S.Store conn.old) (state S.Store conn.new) result }
-    ensures clean { IfOk result (λ entries. IsTrue (list_all clean_mail entries)) }
+    ensures looks { LooksUp (λ t. limited (as_count (bound_value (owned most.entry))) (map head_of (filter (λ entry. is_above number entry.number && not (is_taken entry)) (view supplier.now t).mail))) (state S.Store conn.old) (state S.Store conn.new) result }
+    ensures clean { IfOk result (λ heads. IsTrue (list_all clean_head heads)) }
 {
     let bound = signed(number);
     rows_of(
         conn,
         alloc,
-        "SELECT supplier, number, moment, decimal, kind, document, body, taken FROM mail WHERE supplier = ?1 AND number > ?2 AND taken <> 1 ORDER BY supplier, number LIMIT ?3",
+        "SELECT number, kind, document FROM mail WHERE supplier = ?1 AND number > ?2 AND taken <> 1 ORDER BY supplier, number LIMIT ?3",
         &[ValueRef::Blob(supplier.digits()), bound, most],
     )
 }
@@ -145,14 +147,15 @@ fn first_above<S: Alter>(
     supplier: &Gln,
     number: u64,
     limit: usize,
-) -> Result<Items<MailRow>, StoreFault>
+) -> Result<Items<MailHead>, StoreFault>
     requires { number < 2 ^ 63 }
-    ensures looks { LooksUp (λ t. take limit (filter (λ entry. is_above number entry.number && not (is_taken entry)) (view supplier.now t).mail)) (state S.Store conn.old) (state S.Store conn.new) result }
-    ensures clean { IfOk result (λ entries. IsTrue (list_all clean_mail entries)) }
+    ensures looks { LooksUp (λ t. take limit (map head_of (filter (λ entry. is_above number entry.number && not (is_taken entry)) (view supplier.now t).mail))) (state S.Store conn.old) (state S.Store conn.new) result }
+    ensures clean { IfOk result (λ heads. IsTrue (list_all clean_head heads)) }
+    ensures limit { IfOk result (λ heads. length heads ≤ limit) }
 {
     let most = most_rows(limit);
-    let entries = entries_above(conn, alloc, supplier, number, most)?;
-    Ok(first_entries(entries, limit))
+    let heads = heads_above(conn, alloc, supplier, number, most)?;
+    Ok(first_heads(heads, limit))
 }
 
 // The first of them, above any number.
@@ -162,9 +165,10 @@ fn untaken_above<S: Alter>(
     supplier: &Gln,
     number: u64,
     limit: usize,
-) -> Result<Items<MailRow>, StoreFault>
-    ensures looks { LooksUp (λ t. take limit (filter (λ entry. is_above number entry.number && not (is_taken entry)) (view supplier.now t).mail)) (state S.Store conn.old) (state S.Store conn.new) result }
-    ensures clean { IfOk result (λ entries. IsTrue (list_all clean_mail entries)) }
+) -> Result<Items<MailHead>, StoreFault>
+    ensures looks { LooksUp (λ t. take limit (map head_of (filter (λ entry. is_above number entry.number && not (is_taken entry)) (view supplier.now t).mail))) (state S.Store conn.old) (state S.Store conn.new) result }
+    ensures clean { IfOk result (λ heads. IsTrue (list_all clean_head heads)) }
+    ensures limit { IfOk result (λ heads. length heads ≤ limit) }
 {
     if number <= LAST_MAIL_NUMBER {
         return first_above(conn, alloc, supplier, number, limit);
@@ -176,16 +180,18 @@ fn untaken_above<S: Alter>(
     Ok(Items::new(alloc))
 }
 
-/// The mailbox entries above a number that are not taken, by number: the first so many of them.
+/// What a list shows of the mailbox entries above a number that are not taken, by number: of the first so many of them.
+/// No body is read.
 pub fn mail_after<S: Alter>(
     conn: &mut Connection<S>,
     alloc: Global,
     supplier: &Gln,
     number: u64,
     limit: usize,
-) -> Result<Items<MailRow>, StoreFault>
-    ensures looks { LooksUp (λ t. take limit (untaken_after (view supplier.now t) number)) (state S.Store conn.old) (state S.Store conn.new) result }
-    ensures clean { IfOk result (λ entries. IsTrue (list_all clean_mail entries)) }
+) -> Result<Items<MailHead>, StoreFault>
+    ensures looks { LooksUp (λ t. take limit (map head_of (untaken_after (view supplier.now t) number))) (state S.Store conn.old) (state S.Store conn.new) result }
+    ensures clean { IfOk result (λ heads. IsTrue (list_all clean_head heads)) }
+    ensures limit { IfOk result (λ heads. length heads ≤ limit) }
 {
     let low = has_low(conn, supplier)?;
     if low {

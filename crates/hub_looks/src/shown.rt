@@ -1,8 +1,9 @@
-//! Rows of an answer as rows of the hub. A query shows all columns of a row, in their order.
-ghost use Rattle.std.specs.Prelude.{◌≡◌, Bool, false, IsTrue, IfOk, IfSome, Err, map, slice_get};
+//! Rows of an answer as rows of the hub. A query shows all columns of a row, in their order; for a list of a mailbox, number,
+//! kind and document alone.
+ghost use Rattle.std.specs.Prelude.{◌≡◌, ◌⊎◌, Bool, false, IsTrue, IfOk, IfErr, IfSome, Err, map, slice_get};
 ghost use Rattle.std.specs.List.{list_all};
-ghost use Rattle.hub_store.specs.Clean.{clean_line, clean_pallet, clean_content, clean_receipt, clean_mail};
-ghost use Rattle.hub_looks.specs.Shown.{shown_line, shown_pallet, shown_content, shown_receipt, shown_mail};
+ghost use Rattle.hub_store.specs.Clean.{clean_line, clean_pallet, clean_content, clean_receipt, clean_mail, clean_head};
+ghost use Rattle.hub_looks.specs.Shown.{shown_line, shown_pallet, shown_content, shown_receipt, shown_mail, shown_head};
 ghost use Rattle.sqlite_value.specs.Order.{Row as Values};
 
 use crate::cells::{
@@ -11,7 +12,7 @@ use crate::cells::{
 };
 use edi_base::{GREATEST, Items};
 use edi_envelope::LAST_MAIL_NUMBER;
-use hub_store::StoreFault;
+use hub_store::{MailHead, StoreFault};
 use hub_tables::{ContentRow, LineRow, MailRow, PalletRow, ReceiptRow};
 use sqlite::Row;
 use std::alloc::Global;
@@ -27,7 +28,8 @@ pub(crate) trait Shown: Drop {
     /// The row, where it is of the kind.
     fn of_row(row: &Row) -> Result<Self, StoreFault>
         ensures ok { IfOk result (λ x. (x ≡ shown row.now) × IsTrue (clean x)) }
-        ensures unclean { result ≡ Err StoreFault.Unclean → clean (shown row.now) ≡ false };
+        ensures unclean { result ≡ Err StoreFault.Unclean → clean (shown row.now) ≡ false }
+        ensures fails { IfErr result (λ fault. (fault ≡ StoreFault.Memory) ⊎ (fault ≡ StoreFault.Unclean)) };
 }
 
 // The greatest number of a line, and of a place on a pallet.
@@ -155,6 +157,24 @@ impl Shown for MailRow {
     }
 }
 
+impl Shown for MailHead {
+    ghost shown = { shown_head };
+
+    ghost clean = { clean_head };
+
+    #[tactic(auto, using(crate::proofs::Unclean::first_fails, crate::proofs::Unclean::later_fails))]
+    fn of_row(row: &Row) -> Result<Self, StoreFault> {
+        let number = within_at(row, 0, 1, LAST_MAIL_NUMBER)?;
+        let kind = kind_at(row, 1)?;
+        let document = document_at(row, 2)?;
+        Ok(MailHead {
+            number,
+            kind,
+            document,
+        })
+    }
+}
+
 impl Shown for Items<u8> {
     ghost use Rattle.hub_store.specs.Clean.{are_bytes};
     ghost use Rattle.hub_looks.specs.Shown.{shown_bytes};
@@ -188,6 +208,7 @@ pub(crate) fn all_shown<T: Shown>(alloc: Global, rows: &[Row]) -> Result<Items<T
     ensures ok { IfOk result (λ items. items ≡ map T.shown rows.now) }
     ensures clean { IfOk result (λ items. IsTrue (list_all T.clean items)) }
     ensures unclean { result ≡ Err StoreFault.Unclean → list_all T.clean (map T.shown rows.now) ≡ false }
+    ensures fails { IfErr result (λ fault. (fault ≡ StoreFault.Memory) ⊎ (fault ≡ StoreFault.Unclean)) }
 {
     let mut items = Items::new(alloc);
     'rows: for row in rows {
@@ -204,6 +225,7 @@ pub(crate) fn first_shown<T: Shown>(rows: &[Row]) -> Result<Option<T>, StoreFaul
     ensures ok { IfOk result (λ first. first ≡ slice_get (map T.shown rows.now) 0) }
     ensures clean { IfOk result (λ first. IfSome first (λ x. IsTrue (T.clean x))) }
     ensures unclean { result ≡ Err StoreFault.Unclean → list_all T.clean (map T.shown rows.now) ≡ false }
+    ensures fails { IfErr result (λ fault. (fault ≡ StoreFault.Memory) ⊎ (fault ≡ StoreFault.Unclean)) }
 {
     match rows.first() {
         Some(row) => Ok(Some(T::of_row(row)?)),

@@ -1,4 +1,5 @@
 pub mod Cells
+pub mod Faults
 pub mod Making
 pub mod Rows
 pub mod Schema

@@ -49,6 +49,7 @@ module _ {S : Type 0} (g : Ghosts S) (was : State) (has : was.now.schema ≡ hub
   refused_later back fault which spared = record {
     version = λ is. absurd (elim which [ inl memory ↦ cc | inr disk ↦ cc ]);
     other = λ none hub. absurd (hub has);
+    unclean = λ is. absurd (elim which [ inl memory ↦ cc | inr disk ↦ cc ]);
     spared = spared;
   }
 
@@ -64,5 +65,6 @@ pub refused_bare : {S : Type 0} (g : Ghosts S) (was : State) (conn : Held S) (fa
 refused_bare g was conn fault none which spared = record {
   version = λ is. absurd (elim which [ inl memory ↦ cc | inr disk ↦ cc ]);
   other = λ other hub. absurd (other none);
+  unclean = λ is. absurd (elim which [ inl memory ↦ cc | inr disk ↦ cc ]);
   spared = spared;
 }

@@ -31,10 +31,10 @@ module _ {S : Type 0} (g : Ghosts S) (old new : Stored S) (settled : IsSettled g
 
   -- the rows before
   before_is : honest g new → IsTrue (state g old.held).is_open → tables_in (state g old.held).now.trees ≡ content g old
-  before_is clean o = settled.rows whole (back clean) o
+  before_is clean o = settled.rows (back clean) o
 
   held_before : honest g new → Holds (state g old.held)
-  held_before clean o = settled.hub whole (back clean) o
+  held_before clean o = settled.hub (back clean) o
 
   -- all changes are made
   module _ (did : Done (Ok (tt {0}))) (past : new.past ≡ old.past ++ (new.held, true) ∷ []) where
@@ -60,8 +60,8 @@ module _ {S : Type 0} (g : Ghosts S) (old new : Stored S) (settled : IsSettled g
     made_settles = record {
       idle = did.mode;
       schema = λ none clean. (did.done clean (held_before clean)).1.schema;
-      hub = λ none clean o. (did.done clean (held_before clean)).1;
-      rows = λ none clean o. sym content_after;
+      hub = λ clean o. (did.done clean (held_before clean)).1;
+      rows = λ clean o. sym content_after;
     }
 
   -- none is

@@ -27,6 +27,12 @@ on_ok_of : {X E P : Type 0} (found : Result X E) (x : X) → found ≡ Ok x → 
 on_ok_of (Ok y) x e h = h
 on_ok_of (Err f) x e h = cc
 
+-- what is true of a value that was found is true of it as it is handed on
+pub handed_on : {X : Type 0} (P : X → Type 0) (found result : Result X StoreFault) → IfOk found P → IfOk result (λ x. found ≡ Ok x)
+    → IfOk result P
+handed_on P found (Ok x) holds is = ok_of P found x is holds
+handed_on P found (Err f) holds is = tt
+
 -- how a call fails that a store made while it had no fault
 pub failed : {X : Type 0} (before after : Option LastingFault) (result : Result X StoreFault) → before ≡ None
     → after ≡ broken_after None result
@@ -49,7 +55,7 @@ module _ {S : Type 0} (g : Ghosts S) (old new : Stored S) (settled : IsSettled g
   same_content = ap (λ p. rows_in g (last_or None p)) past
 
   holds : honest g old → Holds (state g old.held)
-  holds clean o = settled.hub whole clean o
+  holds clean o = settled.hub clean o
 
   -- rows and schema are those that were, where the connection still shows them
   pub still : new.held.in_transaction ≡ false → (honest g new → new.fault ≡ None → new.held.schema ≡ hub_schema)
@@ -60,9 +66,9 @@ module _ {S : Type 0} (g : Ghosts S) (old new : Stored S) (settled : IsSettled g
   still idle schema back shows = record {
     idle = idle;
     schema = λ none clean. schema clean none;
-    hub = λ none clean o. let was = shows clean o in hub_moved (state g old.held) (state g new.held) was.1
-        (settled.hub whole (back clean) was.0);
-    rows = λ none clean o. let was = shows clean o in ap (λ d. tables_in d.trees) was.1 ∙ settled.rows whole
+    hub = λ clean o. let was = shows clean o in hub_moved (state g old.held) (state g new.held) was.1
+        (settled.hub (back clean) was.0);
+    rows = λ clean o. let was = shows clean o in ap (λ d. tables_in d.trees) was.1 ∙ settled.rows
         (back clean) was.0 ∙ sym same_content;
   }
 
@@ -86,7 +92,7 @@ module _ {S : Type 0} (g : Ghosts S) (old new : Stored S) (settled : IsSettled g
       was_honest = back;
       unclean = λ clean none is.
           let it = looks.unclean clean (holds (back clean)) (makes.unclean is) in
-          ap are_clean (sym (settled.rows whole (back clean) it.0)) ∙ it.1;
+          ap are_clean (sym (settled.rows (back clean) it.0)) ∙ it.1;
     }
       where
         go : (r : Result X StoreFault) → IfOk r (λ x. found ≡ Ok x) → honest g new → IfOk r
@@ -95,7 +101,7 @@ module _ {S : Type 0} (g : Ghosts S) (old new : Stored S) (settled : IsSettled g
             let shown = on_ok_of found x is (looks.same clean) in
             ok_of (λ y. y ≡ answer (tables_in (state g old.held).now.trees)) found x is
             (looks.answers clean (holds (back clean)))
-            ∙ ap answer (settled.rows whole (back clean) shown.0)
+            ∙ ap answer (settled.rows (back clean) shown.0)
         go (Err f) is clean = tt
 
     pub look_fails : Fails false old.fault new.fault result

@@ -8,7 +8,7 @@ use Rattle.sqlite_trees.specs.View.{IsClean}
 use Rattle.sqlite_trees.specs.declared.store.Store.{Ghosts}
 use Rattle.hub_tables.specs.Tables.{Tables, empty}
 use Rattle.hub_store.specs.declared.fault.StoreFault.{StoreFault}
-use Rattle.hub_store.specs.declared.fault.StoreFault.TheVariants.{Version}
+use Rattle.hub_store.specs.declared.fault.StoreFault.TheVariants.{Unclean, Version}
 use Rattle.hub_schema.specs.Rows.{tables_in}
 use Rattle.hub_schema.specs.Schema.{no_schema, hub_schema}
 use Rattle.hub_schema.specs.State.{IsNumbered, IsNewHub}
@@ -66,11 +66,13 @@ IsSpared g was (Connection conn) = SparesConnection g was conn
 IsSpared g was (Store store) = SparesStore g was store
 
 -- `Version` comes with the connection as it was, and only where it has tables that are not a hub's of that number;
--- where they are of another schema, no other fault comes
+-- where they are of another schema, no other fault comes. `Unclean` never comes: of the rows the schema's number alone is
+-- read, and a number that is none is another than the hub's.
 pub record Refuses {S : Type 0} (g : Ghosts S) (was : State) (back : Returned S) (fault : StoreFault) : Type 0 where
   pub version :
       fault ≡ Version → (conn : Held S) × (back ≡ Connection conn)
       × (HasCleanDisk (state g conn) →
       (was.now.schema ≢ no_schema) × (¬ HoldsHub was.now) × IsAsBefore was (state g conn))
   pub other : was.now.schema ≢ no_schema → was.now.schema ≢ hub_schema → fault ≡ Version
+  pub unclean : fault ≢ Unclean
   pub spared : IsSpared g was back

@@ -44,12 +44,12 @@ module _ {S : Type 0} (g : Ghosts S) where
   abbrev pub left : Stored S → Tables → Type 0
   left s t = (t ≡ content s) ⊎ ((trees : Trees) × (state g s.held).may_leave trees × (t ≡ tables_in trees))
 
-  -- what is true of each store: while no fault is for good, its schema is the hub's, and where it is open, its rows
-  -- are the content
+  -- what is true of each store: where it is open, also after a fault for good, it has the hub's tables, whose rows are
+  -- the content; and while no fault is for good, its schema is the hub's
   pub record IsSettled (s : Stored S) : Type 0 where
     pub idle : s.held.in_transaction ≡ false
     pub schema : s.fault ≡ None → HasCleanDisk (state g s.held) → s.held.schema ≡ hub_schema
-    pub hub : s.fault ≡ None → HasCleanDisk (state g s.held) → IsTrue (state g s.held).is_open → IsHub (state g s.held)
+    pub hub : HasCleanDisk (state g s.held) → IsTrue (state g s.held).is_open → IsHub (state g s.held)
     pub rows :
-        s.fault ≡ None → HasCleanDisk (state g s.held) → IsTrue (state g s.held).is_open →
+        HasCleanDisk (state g s.held) → IsTrue (state g s.held).is_open →
         tables_in (state g s.held).now.trees ≡ content s

@@ -7,11 +7,11 @@ ghost use Rattle.sqlite_trees.specs.declared.store.Shape.TheVariants as shape;
 ghost use Rattle.hub_tables.specs.Tables.{Tables};
 ghost use Rattle.hub_schema.specs.Rows.{tables_in};
 ghost use Rattle.hub_schema.specs.Schema.{hub_schema};
-ghost use Rattle.hub_schema.specs.State.{AreOrdered, IsNumbered};
+ghost use Rattle.hub_schema.specs.State.{AreOrdered, IsNumbered, IsHub};
 ghost use Rattle.hub_sql.specs.Opening.{Adopts, Refuses, HoldsHub, IsAsBefore, SparesConnection, SparesStore};
 ghost use Rattle.hub_sql.specs.Stored.{content, left, honest};
 
-use crate::opening::{fault_of, found};
+use crate::opening::{fault_by, found};
 use crate::store::SqliteStore;
 use hub_looks::is_numbered;
 use hub_schema::{is_hub_schema, is_no_schema};
@@ -64,7 +64,7 @@ fn reopened<S: Alter + Drop>(
     }
     match Connection::over(alloc, store) {
         Ok(conn) => Ok(conn),
-        Err((error, store)) => Err((fault_of(&error), store)),
+        Err((error, store)) => Err((fault_by(&error), store)),
     }
 }
 
@@ -89,6 +89,7 @@ fn of_this_version<S: Alter + Drop>(
     ensures clean { IfOk result (λ c. HasCleanDisk (state S.Store c) → HasCleanDisk (state S.Store conn)) }
     ensures refuses { IfErr result (λ e. e.1 ≡ StoreFault.Version → HasCleanDisk (state S.Store e.0) → ¬ HoldsHub (state S.Store conn).now × IsAsBefore (state S.Store conn) (state S.Store e.0)) }
     ensures other { IfErr result (λ e. conn.schema ≢ hub_schema → e.1 ≡ StoreFault.Version) }
+    ensures unclean { IfErr result (λ e. e.1 ≢ StoreFault.Unclean) }
     ensures spared { IfErr result (λ e. SparesConnection S.Store (state S.Store conn) e.0) }
 {
     let _was_idle = conn.is_autocommit();
@@ -131,6 +132,7 @@ impl<S: Alter + Drop> SqliteStore<S> {
     /// Takes over a connection in which no transaction is open and no statement is limited. A database without tables
     /// gets those of schema 1. `Version` where it has other tables, or another number of the schema, and only there;
     /// the connection that comes back with it is as it was. With any other fault no row is lost that was committed.
+    /// `Unclean` never comes: a row that is none of the kinds shows when it is looked up.
     pub fn adopt(
         alloc: Global,
         conn: Connection<S>,
@@ -156,9 +158,13 @@ impl<S: Alter + Drop> SqliteStore<S> {
         }
     }
 
-    /// Gives the connection back.
+    /// Gives the connection back. Where it is not shut it has the hub's tables with the rows of the content, also after
+    /// a fault for good.
     pub fn into_connection(self) -> Connection<S>
-        ensures { result ≡ self.held }
+        ensures held { result ≡ self.held }
+        ensures idle { result.in_transaction ≡ false }
+        ensures hub { HasCleanDisk (state S.Store result) → IsTrue (state S.Store result).is_open → IsHub (state S.Store result) }
+        ensures rows { HasCleanDisk (state S.Store result) → IsTrue (state S.Store result).is_open → tables_in (state S.Store result).now.trees ≡ content S.Store self }
     {
         let SqliteStore {
             conn,

@@ -6,7 +6,7 @@ ghost use Rattle.std.proofs.lemmas.Bool.{false≢true};
 use crate::store::{SqliteStore, again, settle};
 use edi_base::Items;
 use gs1_ids::{Gln, Sscc};
-use hub_store::{LastingFault, Store, StoreFault};
+use hub_store::{LastingFault, MailHead, Store, StoreFault};
 use hub_tables::{Change, ContentRow, LineRow, MailRow, PalletRow, ReceiptRow, Side};
 use sqlite::Alter;
 
@@ -100,7 +100,7 @@ impl<S: Alter> Store for SqliteStore<S> {
         supplier: &Gln,
         number: u64,
         limit: usize,
-    ) -> Result<Items<MailRow>, StoreFault> {
+    ) -> Result<Items<MailHead>, StoreFault> {
         if let Some(lasting) = self.fault {
             return Err(again(lasting));
         }

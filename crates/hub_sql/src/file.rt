@@ -5,7 +5,7 @@ ghost use Rattle.sqlite_wal.specs.Files.{image_at};
 ghost use Rattle.hub_sql.specs.File.{AdoptsFiles, LeavesFile};
 
 use crate::adopting::Returned;
-use crate::opening::fault_of;
+use crate::opening::fault_by;
 use crate::store::SqliteStore;
 use hub_store::StoreFault;
 use sqlite::{Connection, Leftover};
@@ -29,8 +29,8 @@ pub enum LeftOfFile<D: Disk + Drop> {
 
 impl<S: Start> SqliteStore<FileStore<FileFrom<S>>> {
     /// Opens the file, or makes it, with a log beside it. `Disk` also where another program has it open, or where it is
-    /// no database; `Version` where it has other tables than a hub's. No committed row is lost with a fault, and what
-    /// is left comes with it. `start` says what a crash may have done to the file.
+    /// no database; `Version` where it has other tables than a hub's; never `Unclean`. No committed row is lost with a
+    /// fault, and what is left comes with it. `start` says what a crash may have done to the file.
     pub fn at_path(
         rt: &HostRuntime,
         path: &str,
@@ -42,8 +42,8 @@ impl<S: Start> SqliteStore<FileStore<FileFrom<S>>> {
     {
         let conn = match Connection::open_from(rt, path, NEW_HAS_SUMS, start) {
             Ok(conn) => conn,
-            Err((error, None)) => return Err((fault_of(&error), LeftOfFile::Nothing)),
-            Err((error, Some(left))) => return Err((fault_of(&error), LeftOfFile::Files(left))),
+            Err((error, None)) => return Err((fault_by(&error), LeftOfFile::Nothing)),
+            Err((error, Some(left))) => return Err((fault_by(&error), LeftOfFile::Files(left))),
         };
         match SqliteStore::adopt(rt.alloc(), conn) {
             Ok(store) => Ok(store),

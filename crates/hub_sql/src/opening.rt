@@ -3,6 +3,7 @@ ghost use Rattle.std.specs.Prelude.{◌≡◌, ◌⊎◌, false, None, IfOk, IfE
 ghost use Rattle.sqlite.specs.Held.{state};
 ghost use Rattle.sqlite.specs.State.{HasCleanDisk};
 ghost use Rattle.sqlite.specs.Steps.{over_memory};
+ghost use Rattle.hub_schema.specs.Faults.{fault_of};
 ghost use Rattle.hub_schema.specs.Schema.{no_schema};
 ghost use Rattle.hub_tables.specs.Tables.{Tables, empty};
 ghost use Rattle.hub_sql.specs.Opening.{SparesConnection};
@@ -16,8 +17,9 @@ use sqlite_trees::memory::MemStore;
 use std::alloc::Global;
 
 /// Out of memory, or a fault of the disk for all else.
-pub(crate) fn fault_of(error: &Error) -> StoreFault
-    ensures { (result ≡ StoreFault.Memory) ⊎ (result ≡ StoreFault.Disk) }
+pub(crate) fn fault_by(error: &Error) -> StoreFault
+    ensures exact { result ≡ fault_of error.now }
+    ensures either { (result ≡ StoreFault.Memory) ⊎ (result ≡ StoreFault.Disk) }
 {
     match error {
         Error::SqliteFailure(ErrorCode::OutOfMemory) => StoreFault::Memory,
@@ -43,7 +45,7 @@ pub(crate) fn found<S: Alter + Drop>(
     match make_schema(&mut conn) {
         Ok(()) => Ok(SqliteStore::settled(alloc, conn)),
         Err(error) => {
-            let fault = fault_of(&error);
+            let fault = fault_by(&error);
             Err((conn, fault))
         }
     }

@@ -24,6 +24,7 @@ use Rattle.hub_tables.specs.declared.rows.ContentRow.{ContentRow}
 use Rattle.hub_tables.specs.declared.rows.ReceiptRow.{ReceiptRow}
 use Rattle.hub_tables.specs.declared.rows.RememberedRow.{RememberedRow}
 use Rattle.hub_tables.specs.declared.rows.MailRow.{MailRow}
+use Rattle.hub_store.specs.declared.mail.MailHead.{MailHead}
 
 -- Values.
 
@@ -104,6 +105,10 @@ clean_mail row =
     is_gln row.supplier && (is_within 1 last_number row.number && (nat_le row.moment last_moment
     && (is_decimal row.decimal
     && (is_kind row.kind && (is_number row.document && (are_bytes row.body && is_truth row.taken))))))
+
+-- what a list shows of an entry
+abbrev pub clean_head : MailHead → Bool
+clean_head head = is_within 1 last_number head.number && (is_kind head.kind && is_number head.document)
 
 -- each row is of its kind
 abbrev pub are_clean : Tables → Bool

@@ -1,12 +1,14 @@
 //! What every store answers.
-ghost use Rattle.std.specs.Prelude.{◌≡◌, ◌≢◌, IsTrue, IsOk, Bool, [], take, Option};
+ghost use Rattle.std.specs.Prelude.{◌≡◌, ◌≢◌, ◌≤◌, IsTrue, IsOk, IfOk, Bool, [], length, map, take, Option};
 ghost use Rattle.hub_tables.specs.State.{knows_order, knows_advice, lines_of, pallet_of, contents_of, receipts_of, entry_at, untaken_after};
 ghost use Rattle.hub_tables.specs.State.{last_mail, remembered_content};
 ghost use Rattle.hub_tables.specs.Tables.{Tables, view, has_pallet};
 ghost use Rattle.hub_store.specs.Calls.{Fails, Looks, Commits};
+ghost use Rattle.hub_store.specs.Heads.{head_of};
 ghost use Rattle.hub_store.specs.declared.fault.LastingFault.{LastingFault as Lasting};
 
 use crate::fault::{LastingFault, StoreFault};
+use crate::mail::MailHead;
 use edi_base::Items;
 use gs1_ids::{Gln, Sscc};
 use hub_tables::{Change, ContentRow, LineRow, MailRow, PalletRow, ReceiptRow, Side};
@@ -86,15 +88,17 @@ pub trait Store {
         ensures looks { Looks content honest left broken self.old self.new (entry_at (view supplier.now (content self.old)) number) result }
         ensures fails { Fails plain (broken self.old) (broken self.new) result };
 
-    /// The mailbox entries above a number that are not taken, by number: the first so many of them.
+    /// What a list shows of the mailbox entries above a number that are not taken, by number: of the first so many of
+    /// them, and of no more whatever is below the store.
     fn mail_after(
         &mut self,
         supplier: &Gln,
         number: u64,
         limit: usize,
-    ) -> Result<Items<MailRow>, StoreFault>
+    ) -> Result<Items<MailHead>, StoreFault>
         ensures looks { Looks content honest left broken self.old self.new
-            (take limit (untaken_after (view supplier.now (content self.old)) number)) result }
+            (take limit (map head_of (untaken_after (view supplier.now (content self.old)) number))) result }
+        ensures limit { IfOk result (λ heads. length heads ≤ limit) }
         ensures fails { Fails plain (broken self.old) (broken self.new) result };
 
     /// The lines of all orders of the supplier, by order number and line number.

@@ -11,7 +11,7 @@ use edi_base::{Items, MemoryFault, copied};
 use edi_envelope::Moment;
 use gs1_ids::{Gln, Gtin, Sscc};
 use hub_list::VecStore;
-use hub_store::{LastingFault, Store, StoreFault};
+use hub_store::{LastingFault, MailHead, Store, StoreFault};
 use hub_tables::{
     AdviceRow, Answered, Arrival, Change, Column, ContentRow, LineRow, MailKind, MailRow, OrderRow,
     PalletRow, ReceiptRow, RememberedRow, Side,
@@ -231,10 +231,10 @@ fn line_numbers(lines: &[LineRow]) -> u64 {
 }
 
 // The numbers of entries, one after another.
-fn entry_numbers(entries: &[MailRow]) -> u64 {
+fn entry_numbers(heads: &[MailHead]) -> u64 {
     let mut digits = 0_u64;
-    for entry in entries {
-        digits = digits.wrapping_mul(10).wrapping_add(entry.number);
+    for head in heads {
+        digits = digits.wrapping_mul(10).wrapping_add(head.number);
     }
     digits
 }

@@ -6,3 +6,4 @@ pub mod Number
 pub mod Pallets
 pub mod Decision
 pub mod Totals
+pub mod Heads

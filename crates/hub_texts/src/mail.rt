@@ -1,15 +1,18 @@
 //! Mailbox entries, and lists of them.
-ghost use Rattle.std.specs.Prelude.{◌≡◌, ◌+◌, ◌++◌, List, codes, length, nat_lt, take, if◌then◌else◌, IfOk, OnOk};
+ghost use Rattle.std.specs.Prelude.{◌≡◌, ◌+◌, ◌++◌, List, codes, length, map, nat_lt, take, if◌then◌else◌, IfOk, OnOk};
 ghost use Rattle.std.specs.List.{flat_map};
 ghost use Rattle.edi_moment.specs.Moment.{date_text, time_text};
 ghost use Rattle.hub_tables.specs.declared.rows.MailRow.{MailRow};
+ghost use Rattle.hub_store.specs.Heads.{head_of};
 ghost use Rattle.hub_law.specs.MailText as spec;
+ghost use Rattle.hub_texts.specs.Heads.{head_line};
 
 use crate::fields::{put_end, put_first_number, put_line, put_next};
 use edi_base::{Items, MemoryFault};
 use edi_envelope::{Moment, date_digits, time_digits};
 use edi_tokens::service_string;
 use gs1_ids::Gln;
+use hub_store::MailHead;
 use hub_tables::{MailKind, MailRow};
 use itoa::Buffer;
 use std::alloc::Global;
@@ -21,65 +24,65 @@ pub const LIST_LIMIT: usize = 100;
 const FRAME: usize = 114;
 
 // The type of an entry's message.
-fn type_of(entry: &MailRow) -> &'static str
-    ensures { result.now ≡ spec.type_of entry.now.kind }
+fn type_of(head: &MailHead) -> &'static str
+    ensures { result.now ≡ spec.type_of head.now.kind }
 {
-    match entry.kind.case() {
+    match head.kind.case() {
         MailKind::Orders => "ORDERS",
         MailKind::Receipt => "RECADV",
     }
 }
 
 // Appends the line of an entry.
-fn put_entry(out: &mut Vec<u8>, entry: &MailRow) -> Result<(), MemoryFault>
-    ensures { OnOk result (out.new.items ≡ out.old.items ++ spec.entry_line entry.now) }
+fn put_head(out: &mut Vec<u8>, head: &MailHead) -> Result<(), MemoryFault>
+    ensures { OnOk result (out.new.items ≡ out.old.items ++ head_line head.now) }
 {
-    put_first_number(out, 14, entry.number)?;
-    put_next(out, type_of(entry).as_bytes())?;
-    put_next(out, entry.document.as_slice())?;
+    put_first_number(out, 14, head.number)?;
+    put_next(out, type_of(head).as_bytes())?;
+    put_next(out, head.document.as_slice())?;
     put_end(out)?;
     Ok(())
 }
 
 // Appends the lines of entries.
-fn put_entries(out: &mut Vec<u8>, entries: &[MailRow]) -> Result<(), MemoryFault>
-    ensures { OnOk result (out.new.items ≡ out.old.items ++ flat_map spec.entry_line entries.now) }
+fn put_heads(out: &mut Vec<u8>, heads: &[MailHead]) -> Result<(), MemoryFault>
+    ensures { OnOk result (out.new.items ≡ out.old.items ++ flat_map head_line heads.now) }
 {
-    for entry in entries {
-        put_entry(out, entry)?;
+    for head in heads {
+        put_head(out, head)?;
     }
     Ok(())
 }
 
 // The entries that a list has.
-fn listed(entries: &[MailRow]) -> &[MailRow]
-    ensures { result.now ≡ take spec.list_limit entries.now }
+fn listed(heads: &[MailHead]) -> &[MailHead]
+    ensures { result.now ≡ take spec.list_limit heads.now }
 {
-    if entries.len() > LIST_LIMIT {
-        &entries[..LIST_LIMIT]
+    if heads.len() > LIST_LIMIT {
+        &heads[..LIST_LIMIT]
     } else {
-        entries
+        heads
     }
 }
 
 // The word that ends a list.
-fn last_word(entries: &[MailRow]) -> &'static str
-    ensures { result.now ≡ (if nat_lt spec.list_limit (length entries.now) then codes "more" else codes "end") }
+fn last_word(heads: &[MailHead]) -> &'static str
+    ensures { result.now ≡ (if nat_lt spec.list_limit (length heads.now) then codes "more" else codes "end") }
 {
-    if entries.len() > LIST_LIMIT {
+    if heads.len() > LIST_LIMIT {
         "more"
     } else {
         "end"
     }
 }
 
-/// The list of the entries of a mailbox that are not taken, by the first of them: one more than a list has.
-pub fn list_text(alloc: Global, entries: &[MailRow]) -> Result<Items<u8>, MemoryFault>
-    ensures { IfOk result (λ text. (all : List MailRow) → take (spec.list_limit + 1) all ≡ entries.now → text ≡ spec.list_text all) }
+/// The list of the entries of a mailbox that are not taken, by what it shows of the first of them: one more than a list has.
+pub fn list_text(alloc: Global, heads: &[MailHead]) -> Result<Items<u8>, MemoryFault>
+    ensures { IfOk result (λ text. (all : List MailRow) → take (spec.list_limit + 1) (map head_of all) ≡ heads.now → text ≡ spec.list_text all) }
 {
     let mut out = Vec::new(alloc);
-    put_entries(&mut out, listed(entries))?;
-    put_line(&mut out, last_word(entries).as_bytes())?;
+    put_heads(&mut out, listed(heads))?;
+    put_line(&mut out, last_word(heads).as_bytes())?;
     Ok(Items::from_vec(out))
 }
 

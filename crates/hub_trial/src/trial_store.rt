@@ -5,7 +5,7 @@ ghost use Rattle.hub_store.specs.declared.fault.StoreFault.TheVariants.{Unclean,
 use crate::gate::{Gate, Stop};
 use edi_base::Items;
 use gs1_ids::{Gln, Sscc};
-use hub_store::{LastingFault, Store, StoreFault};
+use hub_store::{LastingFault, MailHead, Store, StoreFault};
 use hub_tables::{Change, ContentRow, LineRow, MailRow, PalletRow, ReceiptRow, Side};
 use std::marker::Model;
 
@@ -175,7 +175,7 @@ impl<S: Store> Store for TrialStore<S> {
         supplier: &Gln,
         number: u64,
         limit: usize,
-    ) -> Result<Items<MailRow>, StoreFault> {
+    ) -> Result<Items<MailHead>, StoreFault> {
         self.gate.look_up()?;
         let found = self.store.mail_after(supplier, number, limit);
         self.gate.seen(&found);

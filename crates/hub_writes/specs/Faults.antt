@@ -1,4 +1,4 @@
--- What an error of SQL means for the hub.
+-- What an error of SQL means for a change.
 use Rattle.std.specs.Prelude.{ℕ, ◌==◌, if◌then◌else◌, Result, Ok, Err}
 use Rattle.sqlite.specs.declared.error.Error.{Error}
 use Rattle.sqlite.specs.declared.error.Error.TheVariants.{SqliteFailure}
@@ -6,11 +6,7 @@ use Rattle.sqlite.specs.declared.error.ErrorCode.TheVariants as code
 use Rattle.sqlite_schema.specs.declared.schema.Constraint.TheVariants.{Unique}
 use Rattle.hub_store.specs.declared.fault.StoreFault.{StoreFault}
 use Rattle.hub_store.specs.declared.fault.StoreFault.TheVariants.{Memory, Disk, Unclean}
-
--- out of memory, and all else is a fault of the disk
-abbrev pub fault_of : Error → StoreFault
-fault_of (SqliteFailure code.OutOfMemory) = Memory
-fault_of _ = Disk
+pub use Rattle.hub_schema.specs.Faults.{fault_of}
 
 -- a row whose key is there does not fit
 abbrev pub refusal_of : Error → StoreFault

@@ -12,5 +12,5 @@ returns-in-Ok-clause-asks g c =
 pub returns-in-Err-clause-asks : goal.returns-in-Err-clause-asks
 returns-in-Err-clause-asks g c =
     asked_err c.args.text.now (bound c.args.params.now) (state g.S.Store c.args.conn.now) (state g.S.Store c.query_all.new.self)
-    c.query_all.ensures.mode c.query_all.ensures.survives c.in-Err.error c.fault_of.result c.fault_of.ensures c.in-Err.ensures.err
+    c.query_all.ensures.mode c.query_all.ensures.survives c.in-Err.error c.fault_by.result c.fault_by.ensures.exact c.in-Err.ensures.err
     (λ idle. c.is_autocommit.ensures.settled (c.is_autocommit.ensures.value ∙ ap not idle))

@@ -11,4 +11,4 @@ returns-clause-asks g c =
     (λ rows. list_all g.T.Shown.clean (map g.T.Shown.shown rows) ≡ false) c.args.text.now (bound c.args.params.now)
     (state g.S.Store c.args.conn.now) (state g.S.Store c.ask.new.conn) c.in_ok-rows.rows c.first_shown.result
     c.in_ok-rows.ensures.asks (rw c.as_slice.ensures.value at c.first_shown.ensures.ok)
-    (rw c.as_slice.ensures.value at c.first_shown.ensures.unclean)
+    (rw c.as_slice.ensures.value at c.first_shown.ensures.unclean) c.first_shown.ensures.fails

@@ -5,6 +5,6 @@ use Rattle.hub_looks.proofs.mail.first_above.Goals as goal
 
 pub returns-clause-looks : goal.returns-clause-looks
 returns-clause-looks g c =
-    first_look (state g.S.Store c.args.conn.now) (state g.S.Store c.entries_above.new.conn) c.args.supplier.now c.args.number
-    (owned c.most_rows-most.result) c.args.limit c.most_rows-most.ensures c.in_ok-entries.entries
-    c.first_entries.result c.first_entries.ensures c.in_ok-entries.ensures.looks
+    first_look (state g.S.Store c.args.conn.now) (state g.S.Store c.heads_above.new.conn) c.args.supplier.now c.args.number
+    (owned c.most_rows-most.result) c.args.limit c.most_rows-most.ensures c.in_ok-heads.heads
+    c.first_heads.result c.first_heads.ensures.first c.in_ok-heads.ensures.looks

@@ -1,13 +1,14 @@
-use Rattle.std.proofs.Common.{take}
+use Rattle.std.proofs.Common.{map, take}
 use Rattle.sqlite.specs.Held.{state}
 use Rattle.hub_tables.specs.State.{untaken_after}
 use Rattle.hub_tables.specs.Tables.{view}
+use Rattle.hub_store.specs.Heads.{head_of}
 use Rattle.hub_looks.proofs.OfUntaken.{after_look, low_entry}
 use Rattle.hub_looks.proofs.mail.mail_after.Goals as goal
 
 pub returns-then-low-clause-looks : goal.returns-then-low-clause-looks
 returns-then-low-clause-looks g c =
-    low_entry (λ t. take c.args.limit (untaken_after (view c.args.supplier.now t) c.args.number)) (state g.S.Store c.args.conn.now)
+    low_entry (λ t. take c.args.limit (map head_of (untaken_after (view c.args.supplier.now t) c.args.number))) (state g.S.Store c.args.conn.now)
     (state g.S.Store c.has_low.new.conn)
     c.args.supplier.now c.in_ok-low.low c.if-low.true c.in_ok-low.ensures.looks
 

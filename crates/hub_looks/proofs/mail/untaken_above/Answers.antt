@@ -1,14 +1,15 @@
-use Rattle.std.proofs.Common.{arith, filter, take}
+use Rattle.std.proofs.Common.{arith, filter, map, take}
 use Rattle.std.proofs.lemmas.Bool.Decides.{nat_tests}
 use Rattle.sqlite.specs.Held.{state}
 use Rattle.hub_tables.specs.Tables.{view}
+use Rattle.hub_store.specs.Heads.{head_of}
 use Rattle.hub_looks.proofs.OfMail.{past_entry}
 use Rattle.hub_looks.proofs.OfUntaken.{wanted, none_above}
 use Rattle.hub_looks.proofs.mail.untaken_above.Goals as goal
 
 pub returns-then-above-clause-looks : goal.returns-then-above-clause-looks
 returns-then-above-clause-looks g c =
-    past_entry (λ t. take c.args.limit (filter (wanted c.args.number) (view c.args.supplier.now t).mail))
+    past_entry (λ t. take c.args.limit (map head_of (filter (wanted c.args.number) (view c.args.supplier.now t).mail)))
     (state g.S.Store c.args.conn.now) (state g.S.Store c.has_above.new.conn)
     c.args.supplier.now c.in_ok-above.above c.if-above.true c.in_ok-above.ensures.looks
 

@@ -27,6 +27,7 @@ returns-in-Err-of_this_version-clause-refuses g c = record {
         (λ none. true≢false (sym (c.is_no_schema.ensures.1 (c.schema.ensures.value ∙ none)) ∙ c.if-is_no_schema.false), it.0, it.1),
   );
   other = λ none hub. c.in-Err-of_this_version.ensures.other hub;
+  unclean = c.in-Err-of_this_version.ensures.unclean;
   spared = c.in-Err-of_this_version.ensures.spared;
 }
 

@@ -2,7 +2,7 @@ use Rattle.sqlite.specs.Held.{state}
 use Rattle.sqlite.specs.Values.{bound_value}
 use Rattle.sqlite_value.specs.Value.{owned}
 use Rattle.hub_looks.proofs.OfUntaken.{untaken_look}
-use Rattle.hub_looks.proofs.mail.entries_above.Goals as goal
+use Rattle.hub_looks.proofs.mail.heads_above.Goals as goal
 
 pub returns-clause-looks : goal.returns-clause-looks
 returns-clause-looks g c =

@@ -1,4 +1,4 @@
-use Rattle.std.proofs.Common.{◌≡◌, ◌∙◌, ◌==◌, ◌&&◌, List, IfOk, map, find, filter, take, length, sym, subst, ap, rules}
+use Rattle.std.proofs.Common.{◌≡◌, ◌≤◌, ◌∙◌, ◌==◌, ◌&&◌, ℕ, List, Result, Ok, Err, IfOk, map, find, filter, take, length, sym, subst, ap, rules}
 use Rattle.std.specs.Prelude.{nat_lt, min}
 use Rattle.std.specs.List.{filter_map}
 use Rattle.std.specs.Ordering.{nat_cmp}
@@ -9,14 +9,16 @@ use Rattle.hub_tables.specs.declared.rows.MailRow.{MailRow}
 use Rattle.hub_tables.proofs.KindOrders.{mail_total}
 use Rattle.hub_tables.proofs.Lists.{all_filter}
 use Rattle.hub_list.specs.Index.{entry_key, is_untaken}
+use Rattle.hub_store.specs.Heads.{head_of}
+use Rattle.hub_store.specs.declared.mail.MailHead.{MailHead}
 use Rattle.hub_rows.specs.Alike.{both, same_bytes, same_numbers}
 use Rattle.hub_list.specs.declared.index.EntryKey.{EntryKey}
-use Rattle.hub_list.proofs.Filters.{all_taken, filter_both, filter_of_map, filter_swap, take_of_map}
+use Rattle.hub_list.proofs.Filters.{all_taken, filter_both, filter_of_map, filter_swap, take_of_map, take_within}
 use Rattle.hub_list.proofs.Indexing.{Again, all_again, found_again}
-use Rattle.hub_list.proofs.look.entries_after.Goals as goal
+use Rattle.hub_list.proofs.look.heads_after.Goals as goal
 
-pub returns : goal.returns
-returns c =
+pub returns-clause-heads : goal.returns-clause-heads
+returns-clause-heads c =
     let gln = c.args.above.now.supplier.now in
     let number = c.args.above.now.number in
     let limit = c.args.limit in
@@ -47,5 +49,15 @@ returns c =
     (all_filter (Again mail_total entry_key wanted exact mail) from mail
     (all_again mail_total entry_key wanted exact mail c.requires.mail))) in
     let again = found_again mail_total entry_key wanted exact mail (take limit rows) all in
-    subst (λ (found_rows : List MailRow). IfOk c.copies_at.result (λ found. found ≡ found_rows))
-    (ap (filter_map (λ (key : EntryKey). find (wanted key) mail)) asked ∙ again) c.copies_at.ensures
+    subst (λ (heads : List MailHead). IfOk c.heads_at.result (λ found. found ≡ heads))
+    (ap (map head_of) (ap (filter_map (λ (key : EntryKey). find (wanted key) mail)) asked ∙ again)
+    ∙ sym (take_of_map head_of limit rows)) c.heads_at.ensures
+
+-- a front is no longer than was asked for
+within : {E : Type 0} (r : Result (List MailHead) E) (limit : ℕ) (heads : List MailHead) → IfOk r (λ found. found ≡ take limit heads)
+    → IfOk r (λ found. length found ≤ limit)
+within (Ok found) limit heads is = subst (λ rows. length rows ≤ limit) (sym is) (take_within limit heads)
+within (Err fault) limit heads is = tt
+
+pub returns-clause-limit : goal.returns-clause-limit
+returns-clause-limit c = within c.heads_at.result c.args.limit _ (returns-clause-heads c)
