@@ -357,7 +357,9 @@ def refused_whole(case):
     code = case.error.decode().removeprefix("refused ").removesuffix("\n")
     of_text = code in ("E01", "E02", "E03", "E04", "E05", "E20")
     lines = shown.refusal_of_text(code) if of_text else shown.refusal(code)
-    return show(case.name, case.input, lines if case.input.strip() else ["refused E06 frame of the interchange"], 1)
+    if case.input.strip() in (b"", b"UNA:+.? '"):
+        lines = ["refused E06 frame of the interchange"]
+    return show(case.name, case.input, lines, 1)
 
 
 ALL_TYPES = [

@@ -62,7 +62,7 @@ class Interchange:
 
 
 # in the place of a number that a case leaves open: what shows each fault stands in tests/places.py
-ANY = "*"
+ANY = "{any}"
 
 
 def refusal(code, segment=ANY):

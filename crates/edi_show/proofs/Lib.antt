@@ -1,3 +1,4 @@
+mod Examples
 pub mod Mapped
 pub mod Repeats
 pub mod Stopping
