@@ -11,8 +11,8 @@ use Rattle.edi_goods.specs.Receipt.{receipt_of}
 use Rattle.edi_show.specs.declared.content.Content.{Content}
 use Rattle.edi_show.specs.declared.content.Content.TheVariants.{Order, Response, Despatch, Receipt, Refused}
 use Rattle.edi_show.specs.declared.content.ShownMessage.{ShownMessage}
-use Rattle.edi_show.specs.OrderPlaces.{order_place, response_place}
-use Rattle.edi_show.specs.GoodsPlaces.{despatch_place, receipt_place}
+use Rattle.edi_places.specs.Orders.{order_place, response_place}
+use Rattle.edi_places.specs.Goods.{despatch_place, receipt_place}
 
 -- the record that is read of a message, or its fault with the segment that shows it, by its number in the interchange
 abbrev pub content_from : {X : Type 0} → (X → Content) → (MessageFault → ℕ) → Result X MessageFault → Content

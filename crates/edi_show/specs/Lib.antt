@@ -1,14 +1,8 @@
 pub mod Content
-pub mod Counting
-pub mod EnvelopePlaces
 pub mod Fault
 pub mod Goods
-pub mod GoodsPlaces
-pub mod HeaderPlaces
 pub mod Lines
 pub mod Messages
-pub mod OrderPlaces
 pub mod Orders
 pub mod Shown
 pub mod Text
-pub mod TextPlaces

@@ -12,8 +12,8 @@ use Rattle.edi_show.specs.declared.fault.WholeFault.TheVariants.{Token, Envelope
 use Rattle.edi_show.specs.declared.shown.Shown.{Shown}
 use Rattle.edi_show.specs.declared.shown.Shown.TheVariants as shown
 use Rattle.edi_show.specs.Content.{shown_messages, is_refused_message}
-use Rattle.edi_show.specs.EnvelopePlaces.{envelope_place}
-use Rattle.edi_show.specs.TextPlaces.{place_in}
+use Rattle.edi_places.specs.Envelope.{envelope_place}
+use Rattle.edi_places.specs.Text.{text_place}
 
 -- The interchange of a text, or its fault with the segment that shows it. UNB stands before the messages.
 abbrev pub shown_interchange : Tokens → Result Interchange EnvelopeFault → Shown
@@ -28,7 +28,7 @@ abbrev pub shown_tokens : Tokens → Shown
 shown_tokens tokens = shown_interchange tokens (interchange_of tokens)
 
 abbrev pub shown_read : List ℕ → Result Tokens TokenFault → Shown
-shown_read bytes (Err fault) = shown.Refused (Token fault (place_in bytes))
+shown_read bytes (Err fault) = shown.Refused (Token fault (text_place bytes))
 shown_read bytes (Ok tokens) = shown_tokens tokens
 
 -- what the bytes say

@@ -11,7 +11,7 @@ use Rattle.edi_show.specs.declared.shown.ShownInterchange.{ShownInterchange}
 use Rattle.edi_show.specs.Fault.{whole_code, whole_words}
 use Rattle.edi_show.specs.Lines.{line, segment_text}
 use Rattle.edi_show.specs.Messages.{messages_lines}
-use Rattle.edi_show.specs.declared.text_places.TextPlace.{TextPlace}
+use Rattle.edi_places.specs.declared.text.TextPlace.{TextPlace}
 
 -- a name and a character
 unfoldable pub mark_text : List ℕ → ℕ → List ℕ

@@ -6,17 +6,15 @@ ghost use Rattle.edi_goods.specs.Despatch.{despatch_of};
 ghost use Rattle.edi_goods.specs.Receipt.{receipt_of};
 ghost use Rattle.edi_show.specs.declared.content.Content.TheVariants as contents;
 ghost use Rattle.edi_show.specs.Content as spec;
-ghost use Rattle.edi_show.specs.GoodsPlaces as goods;
-ghost use Rattle.edi_show.specs.OrderPlaces as orders;
+ghost use Rattle.edi_places.specs.Goods as goods;
+ghost use Rattle.edi_places.specs.Orders as orders;
 
-use crate::counting::sum;
-use crate::goods_places::{despatch_place, receipt_place};
-use crate::order_places::{order_place, response_place};
 use edi_base::copied;
 use edi_envelope::RawMessage;
 use edi_goods::{Despatch, Receipt};
 use edi_messages::MessageFault;
 use edi_orders::{Order, Response};
+use edi_places::{despatch_place, order_place, receipt_place, response_place};
 use edi_tokens::{Items, MemoryFault};
 use std::alloc::{AllocError, Global};
 
@@ -45,6 +43,13 @@ pub struct ShownMessage {
     pub kind: Items<u8>,
     /// What the message says.
     pub content: Content,
+}
+
+// The sum of two numbers of segments. No memory has as many as would be too many to count.
+fn sum(one: usize, other: usize) -> Result<usize, MemoryFault>
+    ensures { IfOk result (λ sum. sum ≡ one + other) }
+{
+    one.checked_add(other).ok_or(AllocError)
 }
 
 // What an order says, behind so many segments.

@@ -2,9 +2,9 @@
 ghost use Rattle.std.specs.Prelude.{◌≡◌};
 ghost use Rattle.edi_show.specs.Fault as spec;
 
-use crate::text_places::TextPlace;
 use edi_envelope::EnvelopeFault;
 use edi_messages::MessageFault;
+use edi_places::TextPlace;
 use edi_tokens::TokenFault;
 
 /// Why a text is refused as a whole.

@@ -3,14 +3,13 @@ ghost use Rattle.std.specs.Prelude.{◌≡◌, IfOk, Ok};
 ghost use Rattle.std.specs.List.{list_any};
 ghost use Rattle.edi_segments.specs.Reading.{tokens_of};
 ghost use Rattle.edi_show.specs.Content.{is_refused_message};
-ghost use Rattle.edi_show.specs.EnvelopePlaces.{envelope_place};
+ghost use Rattle.edi_places.specs.Envelope.{envelope_place};
 ghost use Rattle.edi_show.specs.Shown as spec;
 
 use crate::content::{ShownMessage, shown_messages};
-use crate::envelope_places::envelope_place;
 use crate::fault::WholeFault;
-use crate::text_places::place_in;
 use edi_envelope::{EnvelopeFault, Head, open};
+use edi_places::{envelope_place, text_place};
 use edi_tokens::{
     Items, MemoryFault, Segment, Service, TokenFault, Tokens, read_all, reading_is_the_grammar,
 };
@@ -88,7 +87,7 @@ pub fn show_text(alloc: Global, text: &[u8]) -> Result<Shown, MemoryFault>
         Ok(tokens) => shown_tokens(alloc, text, tokens),
         Err(TokenFault::Memory) => Err(AllocError),
         Err(fault) => {
-            let place = place_in(alloc, text)?;
+            let place = text_place(alloc, text)?;
             Ok(Shown::Refused(WholeFault::Token(fault, place)))
         }
     }

@@ -6,8 +6,8 @@ use crate::fault::WholeFault;
 use crate::lines::put_line;
 use crate::messages::put_messages;
 use crate::shown::{Shown, ShownInterchange};
-use crate::text_places::TextPlace;
 use edi_envelope::Head;
+use edi_places::TextPlace;
 use edi_tokens::{MemoryFault, Service};
 use std::alloc::Global;
 
