@@ -6,6 +6,7 @@ sys.path.insert(0, os.path.join(os.path.dirname(os.path.abspath(__file__)), ".."
 import goods
 import loads
 import orders
+import places
 import shown
 from case import Case
 from envelopes import ENVELOPES, HEAD, MESSAGE, ORDERS, cut
@@ -347,13 +348,18 @@ TEXT_CASES = [refused(name, source, code) for name, source, code in TEXTS]
 def show(name, source, lines, status=0, **more):
     """A case of `show` whose lines stand here in full."""
     source = source if isinstance(source, bytes) else source.encode()
-    return Case(f"show: {name}", ["show"], source, "".join(line + "\n" for line in lines).encode(), status=status, **more)
+    output = shown.wanted("".join(line + "\n" for line in lines).encode())
+    return Case(f"show: {name}", ["show"], source, output, status=status, **more)
 
 
 def refused_whole(case):
-    """The case of `show` for a case of `relay` that is refused."""
+    """The case of `show` for a case of `relay` that is refused, where what shows the fault is left open."""
     code = case.error.decode().removeprefix("refused ").removesuffix("\n")
-    return show(case.name, case.input, shown.refusal(code), 1)
+    of_text = code in ("E01", "E02", "E03", "E04", "E05", "E20")
+    lines = shown.refusal_of_text(code) if of_text else shown.refusal(code)
+    if case.input.strip() in (b"", b"UNA:+.? '"):
+        lines = ["refused E06 frame of the interchange"]
+    return show(case.name, case.input, lines, 1)
 
 
 ALL_TYPES = [
@@ -364,12 +370,6 @@ ALL_TYPES = [
 ]
 
 
-def in_a_row(*parts, marks=""):
-    """An interchange of these messages, each from UNH up to where UNT stands, numbered from 1."""
-    body = "".join(shown.closed(part.replace("UNH+1+", f"UNH+{number}+"), number) for number, part in enumerate(parts, 1))
-    return f"{marks}{shown.HEAD}{body}UNZ+{len(parts)}+1001'"
-
-
 ALL_LINES = """\
 service component : element + decimal . release ? terminator '
 interchange 1001
@@ -378,12 +378,14 @@ interchange 1001
   prepared 250603 0915
   messages 4
 message 1
+  reference 1
   type ORDERS
   order 128576
   buyer 5412345000013
   supplier 4012345500004
   line 1 item 04000862141404 ordered 48
 message 2
+  reference 2
   type ORDRSP
   response AB128
   buyer 5412345000013
@@ -391,6 +393,7 @@ message 2
   answers 128576
   line - item 04000862141404 changed 36
 message 3
+  reference 3
   type DESADV
   despatch DA1
   buyer 5412345000013
@@ -398,6 +401,7 @@ message 3
   unit 340123455000000012
     item 04000862141404 despatched 12 line - order 128576
 message 4
+  reference 4
   type RECADV
   receipt G1
   buyer 5412345000013
@@ -410,7 +414,7 @@ message 4
 def said(name, parts, messages, marks="", line=shown.USUAL_MARKS):
     """A case of several messages, and the lines of each."""
     kinds = [shown.kind_of(part) for part in parts]
-    return shown.shown(name, in_a_row(*parts, marks=marks), shown.Interchange(service=line, kinds=kinds), messages)
+    return shown.shown(name, shown.in_a_row(*parts, marks=marks), shown.Interchange(service=line, kinds=kinds), messages)
 
 
 # A right message of each type from BGM on, as the header names the supplier.
@@ -443,7 +447,7 @@ NAMED = [
 ]
 
 SHOW = [
-    show("all four types", in_a_row(*ALL_TYPES), ALL_LINES),
+    show("all four types", shown.in_a_row(*ALL_TYPES), ALL_LINES),
     said(
         "one of three messages is refused",
         [ALL_TYPES[0], shown.edited(ALL_TYPES[1], "QTY+113:36'", "QTY+113:3x'"), ALL_TYPES[2]],
@@ -459,10 +463,10 @@ SHOW = [
     said("another decimal mark", ALL_TYPES[:1], [orders.order()], "UNA:+,? '", shown.USUAL_MARKS.replace("decimal .", "decimal ,")),
     said("no message", [], []),
     said("a type that is none of the four", [ALL_TYPES[0].replace("ORDERS", "INVOIC")], [shown.refusal("M01")]),
-    show("a sender of other bytes", in_a_row().replace(RETAILER, "caf\xe9 1"), [*ALL_LINES[:2], "  sender caf\xe9 1", *ALL_LINES[3:5], "  messages 0"]),
+    show("a sender of other bytes", shown.in_a_row().replace(RETAILER, "caf\xe9 1"), [*ALL_LINES[:2], "  sender caf\xe9 1", *ALL_LINES[3:5], "  messages 0"]),
     *(refused_whole(case) for case in RELAY + CUTS if case.words[:1] == ["relay"] and case.status == 1),
     Case("show: a failed read", ["show"], input_is_folder=True, error=b"file\n", status=3),
-    Case("show: a failed write", ["show"], in_a_row(*ALL_TYPES).encode(), output_to="/dev/full", error=b"file\n", status=3),
+    Case("show: a failed write", ["show"], shown.in_a_row(*ALL_TYPES).encode(), output_to="/dev/full", error=b"file\n", status=3),
     *(
         Case(f"show: out of memory, {mib} MiB in all", ["show"], loads.many_orders(TEXT_LIMIT), error=b"memory\n", status=3, memory=mib << 20)
         for mib in (5, 6, 8, 10, 12, 16)
@@ -473,4 +477,4 @@ SHOW = [
     wrong_words("an option for show", ["show", "--hub", HUB]),
 ]
 
-CASES = RELAY + CUTS + MEMORY + EXAMPLES + CHECK + HUB_WORDS + SERVE_WORDS + REGISTER_CASES + ENVELOPE_CASES + TEXT_CASES + SHOW + orders.CASES + goods.CASES
+CASES = RELAY + CUTS + MEMORY + EXAMPLES + CHECK + HUB_WORDS + SERVE_WORDS + REGISTER_CASES + ENVELOPE_CASES + TEXT_CASES + SHOW + orders.CASES + goods.CASES + places.CASES

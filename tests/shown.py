@@ -1,4 +1,5 @@
 """Cases of `show`: an interchange, and the lines that say what it says."""
+import re
 from dataclasses import dataclass, field
 
 from case import Case
@@ -60,9 +61,26 @@ class Interchange:
         ]
 
 
-def refusal(code):
-    """The lines of a message that is refused."""
-    return [f"refused {code} {NAMES[code]}"]
+# in the place of a number that a case leaves open: what shows each fault stands in tests/places.py
+ANY = "{any}"
+
+
+def refusal(code, segment=ANY):
+    """The lines of a message, or of an interchange, that is refused, with the segment that shows it."""
+    return [f"refused {code} {NAMES[code]} at segment {segment}"]
+
+
+def refusal_of_text(code, offset=ANY, line=ANY, segment=ANY):
+    """The same of a text that spells no segments."""
+    return [f"refused {code} {NAMES[code]} at offset {offset} line {line} segment {segment}"]
+
+
+def wanted(output):
+    """What a case compares with: the output, or a test of it where it leaves a number open."""
+    if ANY.encode() not in output:
+        return output
+    pattern = re.compile(re.escape(output).replace(re.escape(ANY.encode()), rb"(?:[1-9][0-9]*|0)"), re.DOTALL)
+    return lambda it: pattern.fullmatch(it) is not None
 
 
 def is_refused(lines):
@@ -70,17 +88,17 @@ def is_refused(lines):
 
 
 def shown_lines(interchange, messages):
-    """All lines, those of each message behind its number and its type."""
+    """All lines, those of each message behind its number, its reference, which is this number here, and its type."""
     lines = interchange.lines()
     for number, (kind, message) in enumerate(zip(interchange.kinds, messages), 1):
-        lines += [f"message {number}", f"  type {kind}", *(f"  {line}" for line in message)]
+        lines += [f"message {number}", f"  reference {number}", f"  type {kind}", *(f"  {line}" for line in message)]
     return "".join(line + "\n" for line in lines).encode()
 
 
 def shown(name, text, interchange, messages):
     """A case: the text is an interchange, and its messages say these lines."""
     status = 1 if any(is_refused(lines) for lines in messages) else 0
-    return Case(f"show: {name}", ["show"], text.encode(), shown_lines(interchange, messages), status=status)
+    return Case(f"show: {name}", ["show"], text.encode(), wanted(shown_lines(interchange, messages)), status=status)
 
 
 def closed(segments, number=1):
@@ -91,6 +109,12 @@ def closed(segments, number=1):
 def of_one(segments, service=""):
     """The interchange of one message."""
     return f"{service}{HEAD}{closed(segments)}UNZ+1+1001'"
+
+
+def in_a_row(*parts, marks=""):
+    """An interchange of these messages, each from UNH up to where UNT stands, numbered from 1."""
+    body = "".join(closed(part.replace("UNH+1+", f"UNH+{number}+"), number) for number, part in enumerate(parts, 1))
+    return f"{marks}{HEAD}{body}UNZ+{len(parts)}+1001'"
 
 
 def kind_of(segments):

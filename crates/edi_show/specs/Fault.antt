@@ -53,9 +53,9 @@ message_words message.Memory = codes "memory"
 
 -- the code and the words of a fault of the whole
 abbrev pub whole_code : WholeFault → List ℕ
-whole_code (Token fault) = token_code fault
-whole_code (Envelope fault) = envelope_code fault
+whole_code (Token fault place) = token_code fault
+whole_code (Envelope fault place) = envelope_code fault
 
 abbrev pub whole_words : WholeFault → List ℕ
-whole_words (Token fault) = token_words fault
-whole_words (Envelope fault) = envelope_words fault
+whole_words (Token fault place) = token_words fault
+whole_words (Envelope fault place) = envelope_words fault

@@ -6,6 +6,10 @@ use Rattle.std.specs.Fmt.{decimal}
 unfoldable pub line : List ℕ → List ℕ → List ℕ
 line name value = name ++ (value ++ codes "\n")
 
+-- the segment that shows a fault, by its number, and the end of the line
+abbrev pub segment_text : ℕ → List ℕ
+segment_text number = codes " at segment " ++ (decimal number ++ codes "\n")
+
 -- the first lines of a message
 unfoldable pub head_lines : List ℕ → List ℕ → List ℕ → List ℕ → List ℕ
 head_lines name number buyer supplier =

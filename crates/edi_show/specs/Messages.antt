@@ -8,24 +8,26 @@ use Rattle.edi_show.specs.declared.content.Content.TheVariants.{Order, Response,
 use Rattle.edi_show.specs.declared.content.ShownMessage.{ShownMessage}
 use Rattle.edi_show.specs.Fault.{message_words}
 use Rattle.edi_show.specs.Goods.{despatch_lines, receipt_lines}
-use Rattle.edi_show.specs.Lines.{line}
+use Rattle.edi_show.specs.Lines.{line, segment_text}
 use Rattle.edi_show.specs.Orders.{order_lines, response_lines}
 
--- the line of a message that is refused
-unfoldable pub message_fault_line : MessageFault → List ℕ
-message_fault_line fault = codes "  refused " ++ (code_text fault ++ (codes " " ++ (message_words fault ++ codes "\n")))
+-- the line of a message that is refused, with the segment that shows it
+unfoldable pub message_fault_line : MessageFault → ℕ → List ℕ
+message_fault_line fault place =
+    codes "  refused " ++ (code_text fault ++ (codes " " ++ (message_words fault ++ segment_text place)))
 
 abbrev pub content_lines : Content → List ℕ
 content_lines (Order order) = order_lines order
 content_lines (Response response) = response_lines response
 content_lines (Despatch despatch) = despatch_lines despatch
 content_lines (Receipt receipt) = receipt_lines receipt
-content_lines (Refused fault) = message_fault_line fault
+content_lines (Refused fault place) = message_fault_line fault place
 
 unfoldable pub message_lines : ℕ → ShownMessage → List ℕ
 message_lines number message =
     (codes "message " ++ (decimal number ++ codes "\n"))
-    ++ (line (codes "  type ") message.kind ++ content_lines message.content)
+    ++ (line (codes "  reference ") message.reference
+    ++ (line (codes "  type ") message.kind ++ content_lines message.content))
 
 -- the messages in their order, numbered from a number on
 abbrev pub messages_lines : ℕ → List ShownMessage → List ℕ

@@ -1,7 +1,7 @@
 -- What the bytes of a text say.
-use Rattle.std.specs.Prelude.{ℕ, Bool, true, List, map, Result, Ok, Err}
+use Rattle.std.specs.Prelude.{ℕ, Bool, true, List, [], Result, Ok, Err}
 use Rattle.std.specs.List.{list_any}
-use Rattle.edi_segments.specs.declared.segment.Service.{Service}
+use Rattle.edi_segments.specs.declared.segment.Segment.{Segment}
 use Rattle.edi_segments.specs.declared.segment.Tokens.{Tokens}
 use Rattle.edi_segments.specs.declared.fault.TokenFault.{TokenFault}
 use Rattle.edi_segments.specs.Reading.{tokens_of}
@@ -11,27 +11,34 @@ use Rattle.edi_envelope.specs.Interchange.{interchange_of}
 use Rattle.edi_show.specs.declared.fault.WholeFault.TheVariants.{Token, Envelope}
 use Rattle.edi_show.specs.declared.shown.Shown.{Shown}
 use Rattle.edi_show.specs.declared.shown.Shown.TheVariants as shown
-use Rattle.edi_show.specs.Content.{shown_message, is_refused_message}
+use Rattle.edi_show.specs.Content.{shown_messages, is_refused_message}
+use Rattle.edi_places.specs.Envelope.{envelope_place}
+use Rattle.edi_places.specs.Text.{text_place}
 
--- an interchange in these service characters, or its fault
-abbrev pub shown_interchange : Service → Result Interchange EnvelopeFault → Shown
-shown_interchange service (Err fault) = shown.Refused (Envelope fault)
-shown_interchange service (Ok interchange) = shown.Interchange (record {
-  service = service;
+-- The interchange of a text, or its fault with the segment that shows it. UNB stands before the messages.
+abbrev pub shown_interchange : Tokens → Result Interchange EnvelopeFault → Shown
+shown_interchange tokens (Err fault) = shown.Refused (Envelope fault (envelope_place fault tokens.segments))
+shown_interchange tokens (Ok interchange) = shown.Interchange (record {
+  service = tokens.service;
   head = interchange.head;
-  messages = map shown_message interchange.messages;
+  messages = shown_messages 1 interchange.messages;
 })
 
 abbrev pub shown_tokens : Tokens → Shown
-shown_tokens tokens = shown_interchange tokens.service (interchange_of tokens)
+shown_tokens tokens = shown_interchange tokens (interchange_of tokens)
 
-abbrev pub shown_read : Result Tokens TokenFault → Shown
-shown_read (Err fault) = shown.Refused (Token fault)
-shown_read (Ok tokens) = shown_tokens tokens
+abbrev pub shown_read : List ℕ → Result Tokens TokenFault → Shown
+shown_read bytes (Err fault) = shown.Refused (Token fault (text_place bytes))
+shown_read bytes (Ok tokens) = shown_tokens tokens
 
 -- what the bytes say
 abbrev pub shown_of : List ℕ → Shown
-shown_of bytes = shown_read (tokens_of bytes)
+shown_of bytes = shown_read bytes (tokens_of bytes)
+
+-- the segments that a text spells; none where it spells none
+abbrev pub segments_in : Result Tokens TokenFault → List Segment
+segments_in (Err fault) = []
+segments_in (Ok tokens) = tokens.segments
 
 -- the whole is refused, or one of the messages
 abbrev pub is_refused : Shown → Bool

@@ -4,12 +4,14 @@ use Rattle.std.specs.Fmt.{decimal}
 use Rattle.edi_segments.specs.declared.segment.Service.{Service}
 use Rattle.edi_envelope.specs.declared.interchange.Head.{Head}
 use Rattle.edi_show.specs.declared.fault.WholeFault.{WholeFault}
+use Rattle.edi_show.specs.declared.fault.WholeFault.TheVariants.{Token, Envelope}
 use Rattle.edi_show.specs.declared.shown.Shown.{Shown}
 use Rattle.edi_show.specs.declared.shown.Shown.TheVariants.{Refused, Interchange}
 use Rattle.edi_show.specs.declared.shown.ShownInterchange.{ShownInterchange}
 use Rattle.edi_show.specs.Fault.{whole_code, whole_words}
-use Rattle.edi_show.specs.Lines.{line}
+use Rattle.edi_show.specs.Lines.{line, segment_text}
 use Rattle.edi_show.specs.Messages.{messages_lines}
+use Rattle.edi_places.specs.declared.text.TextPlace.{TextPlace}
 
 -- a name and a character
 unfoldable pub mark_text : List ℕ → ℕ → List ℕ
@@ -54,9 +56,21 @@ interchange_lines interchange =
     ++ (header_lines interchange.head ++ (count_line (length interchange.messages)
     ++ messages_lines 1 interchange.messages))
 
+-- the byte that shows a fault, or the end of the text: its offset, its line and the number of its segment
+abbrev pub place_text : TextPlace → List ℕ
+place_text place =
+    codes " at offset " ++ (decimal place.offset ++ (codes " line " ++ (decimal place.line
+    ++ (codes " segment " ++ (decimal place.segment ++ codes "\n")))))
+
+-- what shows the fault; nothing where there is no segment
+abbrev pub whole_place : WholeFault → List ℕ
+whole_place (Token fault place) = place_text place
+whole_place (Envelope fault (Some number)) = segment_text number
+whole_place (Envelope fault None) = codes "\n"
+
 -- the one line of a text that is refused as a whole
 unfoldable pub whole_fault_line : WholeFault → List ℕ
-whole_fault_line fault = codes "refused " ++ (whole_code fault ++ (codes " " ++ (whole_words fault ++ codes "\n")))
+whole_fault_line fault = codes "refused " ++ (whole_code fault ++ (codes " " ++ (whole_words fault ++ whole_place fault)))
 
 abbrev pub shown_lines : Shown → List ℕ
 shown_lines (Refused fault) = whole_fault_line fault

@@ -4,15 +4,17 @@ ghost use Rattle.edi_show.specs.Fault as spec;
 
 use edi_envelope::EnvelopeFault;
 use edi_messages::MessageFault;
+use edi_places::TextPlace;
 use edi_tokens::TokenFault;
 
 /// Why a text is refused as a whole.
 #[derive(Clone, Copy, Debug, PartialEq, Eq)]
 pub enum WholeFault {
-    /// The text spells no segments.
-    Token(TokenFault),
-    /// The segments are no interchange.
-    Envelope(EnvelopeFault),
+    /// The text spells no segments: its fault, and the byte that shows it or the end of the text.
+    Token(TokenFault, TextPlace),
+    /// The segments are no interchange: the fault, and the number of the segment that shows it, UNB counted as 1; none
+    /// where there is no segment.
+    Envelope(EnvelopeFault, Option<usize>),
 }
 
 // The name of a fault of a text.
@@ -79,8 +81,8 @@ impl WholeFault {
         ensures { result.now ≡ spec.whole_code self }
     {
         match self {
-            WholeFault::Token(fault) => fault.code(),
-            WholeFault::Envelope(fault) => fault.code(),
+            WholeFault::Token(fault, _) => fault.code(),
+            WholeFault::Envelope(fault, _) => fault.code(),
         }
     }
 
@@ -89,8 +91,8 @@ impl WholeFault {
         ensures { result.now ≡ spec.whole_words self }
     {
         match self {
-            WholeFault::Token(fault) => token_words(fault),
-            WholeFault::Envelope(fault) => envelope_words(fault),
+            WholeFault::Token(fault, _) => token_words(fault),
+            WholeFault::Envelope(fault, _) => envelope_words(fault),
         }
     }
 }

@@ -1,5 +1,5 @@
 //! What an interchange says, as a value and in plain lines: its service characters, its header, and each message as a
-//! record or with its fault.
+//! record or with its fault and what shows it.
 #![tactic(auto)]
 
 mod content;
@@ -12,5 +12,6 @@ mod shown;
 mod text;
 
 pub use content::{Content, ShownMessage};
+pub use edi_places::TextPlace;
 pub use fault::WholeFault;
 pub use shown::{Shown, ShownInterchange, show_text};

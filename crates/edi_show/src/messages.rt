@@ -13,12 +13,17 @@ use std::alloc::Global;
 
 // Appends the line of a message that is refused.
 #[tactic(auto, unfolding(crate::specs::Messages::message_fault_line))]
-fn put_fault(alloc: Global, out: &mut Vec<u8>, fault: MessageFault) -> Result<(), MemoryFault>
-    ensures { OnOk result (out.new.items ≡ out.old.items ++ spec.message_fault_line fault) }
+fn put_fault(
+    alloc: Global,
+    out: &mut Vec<u8>,
+    fault: MessageFault,
+    place: usize,
+) -> Result<(), MemoryFault>
+    ensures { OnOk result (out.new.items ≡ out.old.items ++ spec.message_fault_line fault place) }
 {
     let code = fault.code();
     let words = message_words(fault);
-    let text = format!(in alloc; "  refused {code} {words}\n")?;
+    let text = format!(in alloc; "  refused {code} {words} at segment {place}\n")?;
     out.extend_from_slice(text.as_bytes())?;
     Ok(())
 }
@@ -32,7 +37,7 @@ fn put_content(alloc: Global, out: &mut Vec<u8>, content: &Content) -> Result<()
         Content::Response(response) => put_response(alloc, out, response),
         Content::Despatch(despatch) => put_despatch(alloc, out, despatch),
         Content::Receipt(receipt) => put_receipt(alloc, out, receipt),
-        Content::Refused(fault) => put_fault(alloc, out, *fault),
+        Content::Refused(fault, place) => put_fault(alloc, out, *fault, *place),
     }
 }
 
@@ -48,6 +53,7 @@ fn put_message(
 {
     let text = format!(in alloc; "message {number}\n")?;
     out.extend_from_slice(text.as_bytes())?;
+    put_line(out, b"  reference ", message.reference.as_slice())?;
     put_line(out, b"  type ", message.kind.as_slice())?;
     put_content(alloc, out, &message.content)?;
     Ok(())

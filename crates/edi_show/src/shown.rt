@@ -1,14 +1,17 @@
 //! What the text of an interchange says.
-ghost use Rattle.std.specs.Prelude.{◌≡◌, IfOk};
+ghost use Rattle.std.specs.Prelude.{◌≡◌, IfOk, Ok};
 ghost use Rattle.std.specs.List.{list_any};
+ghost use Rattle.edi_segments.specs.Reading.{tokens_of};
 ghost use Rattle.edi_show.specs.Content.{is_refused_message};
+ghost use Rattle.edi_places.specs.Envelope.{envelope_place};
 ghost use Rattle.edi_show.specs.Shown as spec;
 
 use crate::content::{ShownMessage, shown_messages};
 use crate::fault::WholeFault;
 use edi_envelope::{EnvelopeFault, Head, open};
+use edi_places::{envelope_place, text_place};
 use edi_tokens::{
-    Items, MemoryFault, Service, TokenFault, Tokens, read_all, reading_is_the_grammar,
+    Items, MemoryFault, Segment, Service, TokenFault, Tokens, read_all, reading_is_the_grammar,
 };
 use std::alloc::{AllocError, Global};
 
@@ -32,15 +35,37 @@ pub struct ShownInterchange {
     pub messages: Items<ShownMessage>,
 }
 
+// The segments of a text, read once more; none where it spells none.
+fn segments_of(alloc: Global, text: &[u8]) -> Result<Items<Segment>, MemoryFault>
+    ensures { IfOk result (λ segments. segments ≡ spec.segments_in (tokens_of text.now)) }
+{
+    match read_all(alloc, text) {
+        Ok(tokens) => Ok(tokens.segments),
+        Err(TokenFault::Memory) => Err(AllocError),
+        Err(_) => Ok(Items::new(alloc)),
+    }
+}
+
+// The fault of an interchange, with the segment of its text that shows it.
+fn refused(alloc: Global, text: &[u8], fault: EnvelopeFault) -> Result<Shown, MemoryFault>
+    ensures { IfOk result (λ shown. shown ≡ Shown.Refused (WholeFault.Envelope fault
+        (envelope_place fault (spec.segments_in (tokens_of text.now))))) }
+{
+    let segments = segments_of(alloc, text)?;
+    let place = envelope_place(alloc, fault, segments.as_slice())?;
+    Ok(Shown::Refused(WholeFault::Envelope(fault, place)))
+}
+
 // What the segments of a text say.
-fn shown_tokens(alloc: Global, tokens: Tokens) -> Result<Shown, MemoryFault>
+fn shown_tokens(alloc: Global, text: &[u8], tokens: Tokens) -> Result<Shown, MemoryFault>
+    requires { tokens_of text.now ≡ Ok tokens }
     ensures { IfOk result (λ shown. shown ≡ spec.shown_tokens tokens) }
 {
     let service = tokens.service;
     let interchange = match open(alloc, tokens) {
         Ok(interchange) => interchange,
         Err(EnvelopeFault::Memory) => return Err(AllocError),
-        Err(fault) => return Ok(Shown::Refused(WholeFault::Envelope(fault))),
+        Err(fault) => return refused(alloc, text, fault),
     };
     let messages = shown_messages(alloc, interchange.messages.as_slice())?;
     Ok(Shown::Interchange(ShownInterchange {
@@ -52,15 +77,19 @@ fn shown_tokens(alloc: Global, tokens: Tokens) -> Result<Shown, MemoryFault>
 
 /// What a text says: the service characters, the header and each message of an interchange; or why the text is refused
 /// as a whole, by the fault that its earliest byte shows, or else by the lowest fault of the interchange. A message that
-/// is refused has the lowest of its faults; the others are as if it were not there.
+/// is refused has the lowest of its faults; the others are as if it were not there. Each fault comes with the place that
+/// shows it. A text that is refused is read twice.
 pub fn show_text(alloc: Global, text: &[u8]) -> Result<Shown, MemoryFault>
     ensures { IfOk result (λ shown. shown ≡ spec.shown_of text.now) }
 {
     reading_is_the_grammar();
     match read_all(alloc, text) {
-        Ok(tokens) => shown_tokens(alloc, tokens),
+        Ok(tokens) => shown_tokens(alloc, text, tokens),
         Err(TokenFault::Memory) => Err(AllocError),
-        Err(fault) => Ok(Shown::Refused(WholeFault::Token(fault))),
+        Err(fault) => {
+            let place = text_place(alloc, text)?;
+            Ok(Shown::Refused(WholeFault::Token(fault, place)))
+        }
     }
 }
 

@@ -1,5 +1,5 @@
 //! What a text says, in lines.
-ghost use Rattle.std.specs.Prelude.{◌≡◌, ◌++◌, OnOk, IfOk};
+ghost use Rattle.std.specs.Prelude.{◌≡◌, ◌++◌, OnOk, IfOk, string_bytes};
 ghost use Rattle.edi_show.specs.Text as spec;
 
 use crate::fault::WholeFault;
@@ -7,6 +7,7 @@ use crate::lines::put_line;
 use crate::messages::put_messages;
 use crate::shown::{Shown, ShownInterchange};
 use edi_envelope::Head;
+use edi_places::TextPlace;
 use edi_tokens::{MemoryFault, Service};
 use std::alloc::Global;
 
@@ -114,6 +115,24 @@ fn put_interchange(
     Ok(())
 }
 
+// What shows a fault of the whole, and the end of its line.
+fn place_text(alloc: Global, fault: WholeFault) -> Result<String, MemoryFault>
+    ensures { IfOk result (λ text. string_bytes text ≡ spec.whole_place fault) }
+{
+    match fault {
+        WholeFault::Token(_, place) => {
+            let TextPlace {
+                offset,
+                line,
+                segment,
+            } = place;
+            format!(in alloc; " at offset {offset} line {line} segment {segment}\n")
+        }
+        WholeFault::Envelope(_, Some(place)) => format!(in alloc; " at segment {place}\n"),
+        WholeFault::Envelope(_, None) => String::from_str(alloc, "\n"),
+    }
+}
+
 // Appends the line of a text that is refused as a whole.
 #[tactic(auto, unfolding(crate::specs::Text::whole_fault_line))]
 fn put_fault(alloc: Global, out: &mut Vec<u8>, fault: WholeFault) -> Result<(), MemoryFault>
@@ -121,7 +140,8 @@ fn put_fault(alloc: Global, out: &mut Vec<u8>, fault: WholeFault) -> Result<(), 
 {
     let code = fault.code();
     let words = fault.words();
-    let text = format!(in alloc; "refused {code} {words}\n")?;
+    let place = place_text(alloc, fault)?;
+    let text = format!(in alloc; "refused {code} {words}{place}")?;
     out.extend_from_slice(text.as_bytes())?;
     Ok(())
 }
@@ -138,8 +158,8 @@ fn put_shown(alloc: Global, out: &mut Vec<u8>, shown: &Shown) -> Result<(), Memo
 
 impl Shown {
     /// What the text says, in lines that each end with a line feed. A text that is refused as a whole is one line,
-    /// `refused`, its code and its name in words. An interchange is its service characters, its header and its messages;
-    /// what belongs to one of them stands two blanks further in. Numbers and references stand as their bytes.
+    /// `refused`, its code, its name in words, and what shows it. An interchange is its service characters, its header and
+    /// its messages; what belongs to one of them stands two blanks further in. Numbers and references stand as their bytes.
     pub fn to_lines(&self, alloc: Global) -> Result<Vec<u8>, MemoryFault>
         ensures { IfOk result (λ lines. lines.items ≡ spec.shown_lines self.now) }
     {

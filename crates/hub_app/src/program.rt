@@ -154,14 +154,16 @@ const SHOW_HELP: &str = "Of an interchange with one order it prints:
     prepared 250603 0915
     messages 1
   message 1
+    reference 1
     type ORDERS
     order 128576
     buyer 5412345000013
     supplier 4012345500004
     line 1 item 04000862141404 ordered 48
 
-A message that is refused has one line behind its type, as 'refused M08 quantity'. Where the whole
-is refused, one line is all, as 'refused E12 count of segments'.
+A message that is refused has one line behind its type, as 'refused M08 quantity at segment 9'.
+Where the whole is refused, one line is all, as 'refused E12 count of segments at segment 9', or
+'refused E03 byte in a segment at offset 122 line 4 segment 7'. Segments are counted from UNB as 1.
 
 Exit status: 0 nothing is refused; 1 the text, the interchange or a message is refused; 2 usage error; 3 a failed read or write, or out of memory";
 

@@ -1,0 +1,4 @@
+mod Examples
+pub mod Mapped
+pub mod Repeats
+pub mod Stopping

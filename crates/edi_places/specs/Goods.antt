@@ -1,0 +1,147 @@
+-- The segment that shows a fault of a despatch advice or of a receiving advice, by its number: UNH is counted as 1.
+use Rattle.std.specs.Prelude.{ℕ, ◌+◌, Bool, false, not, ◌&&◌, ◌||◌, if◌then◌else◌, List, [], ◌∷◌, drop, is_some, codes}
+use Rattle.std.specs.List.{list_any, prefix_len}
+use Rattle.edi_base.specs.Seen.{is_among}
+use Rattle.edi_segments.specs.declared.segment.Segment.{Segment}
+use Rattle.edi_envelope.specs.Segments.{first_segment}
+use Rattle.edi_messages.specs.Parts.{is_lin, is_cps, group_of, is_qualified}
+use Rattle.edi_messages.specs.Lines.{is_line}
+use Rattle.edi_messages.specs.declared.fault.MessageFault.{MessageFault}
+use Rattle.edi_messages.specs.declared.fault.MessageFault.TheVariants.{Beginning, Function, Date, Parties}
+use Rattle.edi_messages.specs.declared.fault.MessageFault.TheVariants.{Line, Quantity, Reference, Unit}
+use Rattle.edi_messages.specs.declared.fault.MessageFault.TheVariants.{Control}
+use Rattle.edi_goods.specs.Units.{unit_of, head, has_identifier, sscc, sscc_or_none, has_line_outside}
+use Rattle.edi_goods.specs.Despatch.{despatched, inherits, has_header_reference_or_none, is_referred}
+use Rattle.edi_goods.specs.Receipt.{is_once_or_none, is_received}
+use Rattle.edi_places.specs.Counting.{up_to, shown_by, number_from}
+use Rattle.edi_places.specs.Header.{beginning_place, date_place, goods_parties_place, reference_place, control_place}
+use Rattle.edi_places.specs.Orders.{quantity_in, reference_in}
+
+-- how many segments stand before the first CPS
+abbrev pub outside : List Segment → ℕ
+outside message = prefix_len (λ segment. not (is_cps segment)) message
+
+-- the conditions of a line group of a despatch advice, whose header has a reference or none
+abbrev pub despatch_shows : MessageFault → Bool → List Segment → Bool
+despatch_shows Line inherited group = not (is_line group)
+despatch_shows Quantity inherited group = not (is_some (despatched group))
+despatch_shows Reference inherited group = not (is_referred inherited group)
+despatch_shows _ inherited group = false
+
+-- the segment of such a line group that shows it
+abbrev pub despatch_number : MessageFault → List Segment → ℕ
+despatch_number Quantity group = quantity_in (codes "12") group
+despatch_number Reference group = reference_in group
+despatch_number _ group = 1
+
+abbrev pub begins_wrong_despatch : MessageFault → Bool → List Segment → Bool
+begins_wrong_despatch fault inherited segments =
+    is_lin (first_segment segments) && despatch_shows fault inherited (group_of segments)
+
+abbrev pub number_of_despatch : MessageFault → Bool → List Segment → ℕ
+number_of_despatch fault inherited segments =
+    number_from (begins_wrong_despatch fault inherited) (λ rest. despatch_number fault (group_of rest)) segments
+
+-- of the first such line group of a unit
+abbrev pub despatch_group_place : MessageFault → Bool → List Segment → ℕ
+despatch_group_place fault inherited message =
+    outside message + number_of_despatch fault inherited (drop (outside message) message)
+
+-- the conditions of a line group of a receiving advice
+abbrev pub receipt_shows : MessageFault → List Segment → Bool
+receipt_shows Line group = not (is_line group)
+receipt_shows Quantity group = not (is_received group)
+receipt_shows _ group = false
+
+-- the quantity of the first kind that is wrong, in the order of the kinds; LIN where there is none of them
+abbrev pub received_in : List Segment → ℕ
+received_in group =
+    if not (is_once_or_none (codes "194") group) then quantity_in (codes "194") group
+    else if not (is_once_or_none (codes "195") group) then quantity_in (codes "195") group
+    else quantity_in (codes "196") group
+
+abbrev pub receipt_number : MessageFault → List Segment → ℕ
+receipt_number Quantity group = received_in group
+receipt_number _ group = 1
+
+abbrev pub begins_wrong_receipt : MessageFault → List Segment → Bool
+begins_wrong_receipt fault segments = is_lin (first_segment segments) && receipt_shows fault (group_of segments)
+
+abbrev pub number_of_receipt : MessageFault → List Segment → ℕ
+number_of_receipt fault segments =
+    number_from (begins_wrong_receipt fault) (λ rest. receipt_number fault (group_of rest)) segments
+
+abbrev pub receipt_group_place : MessageFault → List Segment → ℕ
+receipt_group_place fault message = outside message + number_of_receipt fault (drop (outside message) message)
+
+-- the GIN with 7405 BJ of a unit: the second in its head, else the one that there is, else CPS
+abbrev pub sscc_in : List Segment → ℕ
+sscc_in unit = shown_by (is_qualified (codes "GIN") (codes "BJ")) 1 (head unit)
+
+-- a unit has an SSCC, which is none of those that have come
+abbrev pub is_new_unit : List (List ℕ) → List Segment → Bool
+is_new_unit come unit = is_some (sscc unit) && not (is_among (sscc_or_none unit) come)
+
+-- a unit that is read begins here
+abbrev pub begins_unit : List Segment → Bool
+begins_unit segments = is_cps (first_segment segments) && list_any is_lin (unit_of segments)
+
+-- such a unit without an identifier, or without an SSCC of its own
+abbrev pub begins_wrong_unit : List (List ℕ) → List Segment → Bool
+begins_wrong_unit come segments =
+    begins_unit segments && not (has_identifier (unit_of segments) && is_new_unit come (unit_of segments))
+
+abbrev pub ssccs_with : List (List ℕ) → List Segment → List (List ℕ)
+ssccs_with come segments = if begins_unit segments then sscc_or_none (unit_of segments) ∷ come else come
+
+-- CPS where it has no identifier, else GIN
+abbrev pub unit_number : List Segment → ℕ
+unit_number unit = if has_identifier unit then sscc_in unit else 1
+
+-- of the first such unit, where these SSCC have come before
+abbrev pub up_to_unit : List (List ℕ) → List Segment → ℕ
+up_to_unit come [] = 0
+up_to_unit come (segment ∷ rest) =
+    if begins_wrong_unit come (segment ∷ rest) then unit_number (unit_of (segment ∷ rest))
+    else 1 + up_to_unit (ssccs_with come (segment ∷ rest)) rest
+
+-- a LIN before the first CPS, else of such a unit
+abbrev pub unit_place : List Segment → ℕ
+unit_place message = if has_line_outside message then up_to is_lin message else up_to_unit [] message
+
+-- the segment that shows each fault of a despatch advice
+abbrev pub despatch_place : MessageFault → List Segment → ℕ
+despatch_place Beginning message = beginning_place message
+despatch_place Function message = 2
+despatch_place Date message = date_place message
+despatch_place Parties message = goods_parties_place message
+despatch_place Line message = despatch_group_place Line (inherits message) message
+despatch_place Quantity message = despatch_group_place Quantity (inherits message) message
+despatch_place Reference message =
+    if has_header_reference_or_none message then despatch_group_place Reference (inherits message) message
+    else reference_place message
+despatch_place Unit message = unit_place message
+despatch_place Control message = control_place message
+despatch_place _ message = 1
+
+-- there is such a line group
+abbrev pub has_wrong_receipt : MessageFault → List Segment → Bool
+has_wrong_receipt fault [] = false
+has_wrong_receipt fault (segment ∷ rest) = begins_wrong_receipt fault (segment ∷ rest) || has_wrong_receipt fault rest
+
+-- the same of a quantity; UNH where each line group is valid, since no one segment shows a sum that is too great
+abbrev pub receipt_quantity_place : List Segment → ℕ
+receipt_quantity_place message =
+    if has_wrong_receipt Quantity (drop (outside message) message) then receipt_group_place Quantity message else 1
+
+-- the segment that shows each fault of a receiving advice
+abbrev pub receipt_place : MessageFault → List Segment → ℕ
+receipt_place Beginning message = beginning_place message
+receipt_place Function message = 2
+receipt_place Date message = date_place message
+receipt_place Parties message = goods_parties_place message
+receipt_place Line message = receipt_group_place Line message
+receipt_place Quantity message = receipt_quantity_place message
+receipt_place Unit message = unit_place message
+receipt_place Control message = control_place message
+receipt_place _ message = 1

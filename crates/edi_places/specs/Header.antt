@@ -1,0 +1,49 @@
+-- The segment that shows a fault of a message outside of its lines, by its number: UNH is counted as 1.
+use Rattle.std.specs.Prelude.{ℕ, ◌+◌, ◌&&◌, if◌then◌else◌, List, drop, is_some, codes}
+use Rattle.std.specs.List.{list_any}
+use Rattle.edi_segments.specs.declared.segment.Segment.{Segment}
+use Rattle.edi_messages.specs.Parts.{header, is_qualified, is_lin, is_uns}
+use Rattle.edi_messages.specs.Header.{is_bgm, beginning, party}
+use Rattle.edi_goods.specs.Parties.{has_buyer_or_none}
+use Rattle.edi_places.specs.Counting.{up_to, second_or_first, shown_by}
+
+-- the other BGM where BGM follows UNH, else the segment after UNH
+abbrev pub beginning_place : List Segment → ℕ
+beginning_place message =
+    if is_bgm (beginning message) && list_any is_bgm (drop 2 message) then 2 + up_to is_bgm (drop 2 message) else 2
+
+-- of what has to stand once in the header: the second, else the one that there is, else UNH
+abbrev pub header_place : List ℕ → List ℕ → List Segment → ℕ
+header_place tag qualifier message = 1 + shown_by (is_qualified tag qualifier) 0 (header message)
+
+abbrev pub date_place : List Segment → ℕ
+date_place message = header_place (codes "DTM") (codes "137") message
+
+-- NAD of the buyer where it is wrong, else NAD of the supplier
+abbrev pub parties_place : List Segment → ℕ
+parties_place message =
+    if is_some (party (codes "BY") message) then header_place (codes "NAD") (codes "SU") message
+    else header_place (codes "NAD") (codes "BY") message
+
+-- the same where the buyer may be left out
+abbrev pub goods_parties_place : List Segment → ℕ
+goods_parties_place message =
+    if has_buyer_or_none message then header_place (codes "NAD") (codes "SU") message
+    else header_place (codes "NAD") (codes "BY") message
+
+abbrev pub reference_place : List Segment → ℕ
+reference_place message = header_place (codes "RFF") (codes "ON") message
+
+-- behind the first UNS, whose number is given: another UNS, else a LIN, else the first UNS itself
+abbrev pub behind_section : ℕ → List Segment → ℕ
+behind_section first message =
+    if list_any is_uns (drop first message) then first + up_to is_uns (drop first message)
+    else second_or_first is_lin first message
+
+-- the same, and UNH where there is no UNS
+abbrev pub summary_place : List Segment → ℕ
+summary_place message = if list_any is_uns message then behind_section (up_to is_uns message) message else 1
+
+-- the second CNT with 6069 2, else the one that there is
+abbrev pub control_place : List Segment → ℕ
+control_place message = shown_by (is_qualified (codes "CNT") (codes "2")) 1 message

@@ -1,0 +1,6 @@
+pub mod Counting
+pub mod Envelope
+pub mod Goods
+pub mod Header
+pub mod Orders
+pub mod Text

@@ -1,0 +1,110 @@
+-- The segment that shows a fault of an order or of a response, by its number: UNH is counted as 1.
+use Rattle.std.specs.Prelude.{ℕ, ◌+◌, Bool, false, not, ◌&&◌, nat_eq, if◌then◌else◌, List, [], ◌∷◌, is_some, codes}
+use Rattle.std.specs.Prelude.{Option, Some, None}
+use Rattle.edi_base.specs.Seen.{comes_among}
+use Rattle.edi_segments.specs.declared.segment.Segment.{Segment}
+use Rattle.edi_envelope.specs.Segments.{first_segment}
+use Rattle.edi_messages.specs.Parts.{is_lin, group_of, is_qualified, has_qualified}
+use Rattle.edi_messages.specs.Lines.{is_line, number_or_zero}
+use Rattle.edi_messages.specs.References.{order}
+use Rattle.edi_messages.specs.declared.fault.MessageFault.{MessageFault}
+use Rattle.edi_messages.specs.declared.fault.MessageFault.TheVariants.{Beginning, Function, Date, Parties}
+use Rattle.edi_messages.specs.declared.fault.MessageFault.TheVariants.{Summary, Line, Quantity, Reference}
+use Rattle.edi_messages.specs.declared.fault.MessageFault.TheVariants.{Control}
+use Rattle.edi_orders.specs.Order.{ordered}
+use Rattle.edi_orders.specs.Response.{action, line_answer, is_referred}
+use Rattle.edi_places.specs.Counting.{shown_by, number_from}
+use Rattle.edi_places.specs.Header.{beginning_place, date_place, parties_place, reference_place, summary_place, control_place}
+
+-- of a kind that has to stand once in a line group: the second, else the one that there is, else LIN
+abbrev pub quantity_in : List ℕ → List Segment → ℕ
+quantity_in kind group = shown_by (is_qualified (codes "QTY") kind) 1 group
+
+abbrev pub reference_in : List Segment → ℕ
+reference_in group = shown_by (is_qualified (codes "RFF") (codes "ON")) 1 group
+
+-- a LIN is valid, and its line number, 0 where it is not
+abbrev pub is_lin_valid : Segment → Bool
+is_lin_valid lin = is_line (lin ∷ [])
+
+abbrev pub lin_number : Segment → ℕ
+lin_number lin = number_or_zero (lin ∷ [])
+
+-- a LIN that is wrong, or has one of the numbers that have come
+abbrev pub shows_line : List ℕ → Segment → Bool
+shows_line come segment =
+    is_lin segment && not (is_lin_valid segment && not (comes_among nat_eq (lin_number segment) come))
+
+abbrev pub numbers_with : List ℕ → Segment → List ℕ
+numbers_with come segment = if is_lin segment then lin_number segment ∷ come else come
+
+-- the first of them, where these numbers have come before
+abbrev pub up_to_line : List ℕ → List Segment → ℕ
+up_to_line come [] = 0
+up_to_line come (segment ∷ rest) =
+    if shows_line come segment then 1 else 1 + up_to_line (numbers_with come segment) rest
+
+-- a line group whose quantity ordered is wrong begins here
+abbrev pub begins_unordered : List Segment → Bool
+begins_unordered segments = is_lin (first_segment segments) && not (is_some (ordered (group_of segments)))
+
+abbrev pub ordered_place : List Segment → ℕ
+ordered_place message =
+    number_from begins_unordered (λ segments. quantity_in (codes "21") (group_of segments)) message
+
+-- the segment that shows each fault of an order
+abbrev pub order_place : MessageFault → List Segment → ℕ
+order_place Beginning message = beginning_place message
+order_place Function message = 2
+order_place Date message = date_place message
+order_place Parties message = parties_place message
+order_place Summary message = summary_place message
+order_place Line message = up_to_line [] message
+order_place Quantity message = ordered_place message
+order_place Control message = control_place message
+order_place _ message = 1
+
+-- the conditions of a line group of a response to this order
+abbrev pub response_shows : MessageFault → List ℕ → List Segment → Bool
+response_shows Line order group = not (is_line group && is_some (action group))
+response_shows Quantity order group = not (is_some (line_answer group))
+response_shows Reference order group = not (is_referred (Some order) group)
+response_shows _ order group = false
+
+-- the quantity of a line that is changed
+abbrev pub changed_in : List Segment → ℕ
+changed_in group =
+    if has_qualified (codes "QTY") (codes "113") group then quantity_in (codes "113") group else quantity_in (codes "21") group
+
+-- the segment of such a line group that shows it
+abbrev pub response_number : MessageFault → List Segment → ℕ
+response_number Quantity group = changed_in group
+response_number Reference group = reference_in group
+response_number _ group = 1
+
+abbrev pub begins_wrong_response : MessageFault → List ℕ → List Segment → Bool
+begins_wrong_response fault order segments =
+    is_lin (first_segment segments) && response_shows fault order (group_of segments)
+
+-- of the first such line group
+abbrev pub response_group_place : MessageFault → List ℕ → List Segment → ℕ
+response_group_place fault order message =
+    number_from (begins_wrong_response fault order) (λ segments. response_number fault (group_of segments)) message
+
+-- of the header where it names no order, else of a line group
+abbrev pub response_reference_place : Option (List ℕ) → List Segment → ℕ
+response_reference_place None message = reference_place message
+response_reference_place (Some order) message = response_group_place Reference order message
+
+-- the segment that shows each fault of a response
+abbrev pub response_place : MessageFault → List Segment → ℕ
+response_place Beginning message = beginning_place message
+response_place Function message = 2
+response_place Date message = date_place message
+response_place Parties message = parties_place message
+response_place Summary message = summary_place message
+response_place Line message = response_group_place Line [] message
+response_place Quantity message = response_group_place Quantity [] message
+response_place Reference message = response_reference_place (order message) message
+response_place Control message = control_place message
+response_place _ message = 1

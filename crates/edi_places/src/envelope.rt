@@ -1,0 +1,290 @@
+//! The segment that shows the fault of an interchange, by its number: UNB is counted as 1.
+ghost use Rattle.std.specs.Prelude.{◌≡◌, ◌≤◌, ◌+◌, [], IfOk, false, length};
+ghost use Rattle.std.specs.List.{list_all, list_any};
+ghost use Rattle.edi_envelope.specs.Segments.{component, first_segment, last_segment};
+ghost use Rattle.edi_envelope.specs.Interchange as interchange;
+ghost use Rattle.edi_envelope.specs.Judge as judge;
+ghost use Rattle.edi_envelope.specs.Limits as limits;
+ghost use Rattle.edi_envelope.specs.Message as messages;
+ghost use Rattle.edi_places.specs.Counting.{up_to};
+ghost use Rattle.edi_places.specs.Envelope as spec;
+
+use crate::counting::up_to_tag;
+use edi_base::{Seen, all_printable, count_of, has_length, is_count_of};
+use edi_envelope::EnvelopeFault;
+use edi_tokens::{Items, MemoryFault, Segment};
+use std::alloc::Global;
+
+/// An interchange has at most so many messages.
+const MOST_MESSAGES: usize = 999;
+
+// Whether a segment stands at an end of the interchange alone.
+fn is_outer(segment: &Segment) -> bool
+    ensures { result ≡ judge.is_outer segment.now }
+{
+    segment.tag == *b"UNB" || segment.tag == *b"UNZ"
+}
+
+// The first UNB or UNZ; how many segments there are, where there is none.
+fn up_to_outer(segments: &[Segment]) -> usize
+    ensures within { result ≤ length segments.now }
+    ensures value { result ≡ up_to judge.is_outer segments.now }
+{
+    for (place, segment) in segments.iter().enumerate() {
+        if is_outer(segment) {
+            return place + 1;
+        }
+    }
+    segments.len()
+}
+
+// The segment that shows a wrong frame of the interchange.
+fn frame_place(segments: &[Segment]) -> Option<usize>
+    ensures { result ≡ spec.frame_place segments.now }
+{
+    let (first, rest) = segments.split_first()?;
+    if first.tag != *b"UNB" {
+        return Some(1);
+    }
+    Some(1 + up_to_outer(rest))
+}
+
+// Whether a segment may stand in a row of messages, where one is begun or none is.
+fn may_stand(begun: bool, segment: &Segment) -> bool
+    ensures { result ≡ spec.may_stand begun segment.now }
+{
+    let tag = segment.tag;
+    if !begun {
+        return tag == *b"UNH";
+    }
+    tag == *b"UNT"
+        || !(tag == *b"UNH" || tag == *b"UNT" || tag == *b"UNG" || tag == *b"UNE" || tag == *b"UNZ")
+}
+
+// The first segment at which messages cannot go on.
+fn up_to_break(segments: &[Segment]) -> usize
+    ensures within { result ≤ length segments.now }
+    ensures value { result ≡ spec.up_to_break false segments.now }
+{
+    let mut begun = false;
+    for (place, segment) in segments.iter().enumerate() {
+        if !may_stand(begun, segment) {
+            return place + 1;
+        }
+        begun = segment.tag != *b"UNT";
+    }
+    segments.len()
+}
+
+// The segment after UNB at which messages cannot go on.
+fn row_place(segments: &[Segment]) -> usize
+    ensures { result ≡ spec.row_place segments.now }
+{
+    match segments.split_first() {
+        Some((_, rest)) => 1 + up_to_break(rest),
+        None => 0,
+    }
+}
+
+// The segments of a message, UNH to UNT.
+fn message_at(segments: &[Segment]) -> &[Segment]
+    ensures { result.now ≡ spec.message_at segments.now }
+{
+    let (message, _) = segments.split_at(up_to_tag(b"UNT", segments));
+    message
+}
+
+// Whether no byte is past 0x7E.
+fn all_seven_bit(bytes: &[u8]) -> bool
+    ensures { result ≡ list_all limits.is_seven_bit bytes.now }
+{
+    bytes.iter().all(|b| *b <= 0x7e)
+}
+
+// Whether these are so many bytes, none past 0x7E.
+fn is_identifier(low: usize, high: usize, bytes: &[u8]) -> bool
+    ensures { result ≡ limits.is_identifier low high bytes.now }
+{
+    has_length(low, high, bytes) && all_seven_bit(bytes)
+}
+
+// Whether UNH's reference and message identifier are within their limits.
+fn has_identity(unh: &Segment) -> bool
+    ensures { result ≡ judge.has_identity unh.now }
+{
+    let reference = unh.component(0, 0);
+    has_length(1, 14, reference)
+        && all_printable(reference)
+        && is_identifier(1, 6, unh.component(1, 0))
+        && is_identifier(1, 3, unh.component(1, 1))
+        && is_identifier(1, 3, unh.component(1, 2))
+        && is_identifier(1, 3, unh.component(1, 3))
+        && is_identifier(0, 6, unh.component(1, 4))
+}
+
+// Whether the first segment has an identity.
+fn is_identified(segments: &[Segment]) -> bool
+    ensures { result ≡ judge.has_identity (first_segment segments.now) }
+{
+    match segments.first() {
+        Some(unh) => has_identity(unh),
+        None => false,
+    }
+}
+
+// A component of the last segment, that of element 1 or 2 which stands first.
+fn last_component(segments: &[Segment], element: usize) -> &[u8]
+    ensures { result.now ≡ component (last_segment segments.now) element 0 }
+{
+    match segments.last() {
+        Some(segment) => segment.component(element, 0),
+        None => &[],
+    }
+}
+
+// The message reference number in UNH.
+fn reference_of(message: &[Segment]) -> &[u8]
+    ensures { result.now ≡ messages.reference_of message.now }
+{
+    match message.first() {
+        Some(unh) => unh.component(0, 0),
+        None => &[],
+    }
+}
+
+// Whether UNH and UNT are within their limits.
+fn is_within_limits(message: &[Segment]) -> bool
+    ensures { result ≡ messages.is_within_limits message.now }
+{
+    is_identified(message) && count_of(last_component(message, 0)).is_some()
+}
+
+// Whether a condition of one message holds.
+fn shows(fault: EnvelopeFault, message: &[Segment]) -> bool
+    ensures { result ≡ spec.shows fault message.now }
+{
+    match fault {
+        EnvelopeFault::MessageHeader => !is_within_limits(message),
+        EnvelopeFault::SegmentCount => !is_count_of(last_component(message, 0), message.len()),
+        EnvelopeFault::MessageReference => last_component(message, 1) != reference_of(message),
+        _ => false,
+    }
+}
+
+// The segment of a message that shows its condition.
+fn number_in(fault: EnvelopeFault, segments: &[Segment]) -> usize
+    ensures within { result ≤ length segments.now + 1 }
+    ensures value { result ≡ spec.number_in fault segments.now }
+{
+    if fault == EnvelopeFault::MessageHeader && !is_identified(segments) {
+        1
+    } else {
+        up_to_tag(b"UNT", segments)
+    }
+}
+
+// The segment that shows a condition of one message, of the first of which it holds.
+fn message_place(fault: EnvelopeFault, segments: &[Segment]) -> usize
+    ensures { result ≡ spec.message_place fault segments.now }
+{
+    for (place, segment) in segments.iter().enumerate() {
+        let rest = &segments[place..];
+        if segment.tag == *b"UNH" && shows(fault, message_at(rest)) {
+            return place + number_in(fault, rest);
+        }
+    }
+    segments.len()
+}
+
+// The first UNH whose reference an earlier one has.
+fn up_to_repeat(alloc: Global, segments: &[Segment]) -> Result<usize, MemoryFault>
+    ensures { IfOk result (λ place. place ≡ spec.up_to_repeat [] segments.now) }
+{
+    let mut seen = Seen::new(alloc);
+    for (place, segment) in segments.iter().enumerate() {
+        if segment.tag == *b"UNH" && !seen.insert(segment.component(0, 0))? {
+            return Ok(place + 1);
+        }
+    }
+    Ok(segments.len())
+}
+
+// The UNH before which there are so many.
+fn up_to_message(before: usize, segments: &[Segment]) -> usize
+    ensures { result ≡ spec.up_to_message before segments.now }
+{
+    let mut before = before;
+    for (place, segment) in segments.iter().enumerate() {
+        if segment.tag == *b"UNH" {
+            if before == 0 {
+                return place + 1;
+            }
+            before -= 1;
+        }
+    }
+    segments.len()
+}
+
+// Whether a byte from 0xA0 on is among the bytes.
+fn has_high(bytes: &[u8]) -> bool
+    ensures { result ≡ interchange.has_high bytes.now }
+{
+    bytes.iter().any(|b| *b >= 0xa0)
+}
+
+// Whether a component has a byte from 0xA0 on.
+fn has_high_component(components: &[Items<u8>]) -> bool
+    ensures { result ≡ list_any interchange.has_high components.now }
+{
+    components
+        .iter()
+        .any(|component| has_high(component.as_slice()))
+}
+
+// Whether a segment has a byte from 0xA0 on in its data.
+fn has_high_data(segment: &Segment) -> bool
+    ensures { result ≡ interchange.has_high_data segment.now }
+{
+    let elements = segment.elements.as_slice();
+    elements
+        .iter()
+        .any(|element| has_high_component(element.as_slice()))
+}
+
+// The first segment with a byte from 0xA0 on.
+fn up_to_high(segments: &[Segment]) -> usize
+    ensures { result ≡ up_to interchange.has_high_data segments.now }
+{
+    for (place, segment) in segments.iter().enumerate() {
+        if has_high_data(segment) {
+            return place + 1;
+        }
+    }
+    segments.len()
+}
+
+/// The number of the segment that shows the fault of an interchange (ISO 9735, structures), of all its segments, UNB
+/// counted as 1; none where there is no segment. Of another list of segments it is some number. Out of memory, where the
+/// references of messages are compared.
+pub fn envelope_place(
+    alloc: Global,
+    fault: EnvelopeFault,
+    segments: &[Segment],
+) -> Result<Option<usize>, MemoryFault>
+    ensures { IfOk result (λ place. place ≡ spec.envelope_place fault segments.now) }
+{
+    let place = match fault {
+        EnvelopeFault::InterchangeFrame => return Ok(frame_place(segments)),
+        EnvelopeFault::Memory => return Ok(None),
+        EnvelopeFault::InterchangeHeader | EnvelopeFault::TestIndicator => 1,
+        EnvelopeFault::MessageFrame => row_place(segments),
+        EnvelopeFault::MessageHeader
+        | EnvelopeFault::SegmentCount
+        | EnvelopeFault::MessageReference => message_place(fault, segments),
+        EnvelopeFault::MessageCount | EnvelopeFault::ControlReference => segments.len(),
+        EnvelopeFault::RepeatedReference => up_to_repeat(alloc, segments)?,
+        EnvelopeFault::TooManyMessages => up_to_message(MOST_MESSAGES, segments),
+        EnvelopeFault::CharacterSet => up_to_high(segments),
+    };
+    Ok(Some(place))
+}

@@ -1,0 +1,105 @@
+//! The segment that shows a fault of a message outside of its lines, by its number: UNH is counted as 1.
+ghost use Rattle.std.specs.Prelude.{◌≡◌, ◌≤◌, length};
+ghost use Rattle.edi_goods.specs.Parties.{has_buyer_or_none};
+ghost use Rattle.edi_places.specs.Header as spec;
+
+use crate::counting::{has_tag, second_or_first, shown_by, up_to_tag};
+use edi_messages::header::party;
+use edi_messages::parts::{has_qualified, header};
+use edi_tokens::Segment;
+
+/// The segment that shows a wrong beginning: the other BGM, else the segment after UNH.
+pub(crate) fn beginning_place(message: &[Segment]) -> usize
+    ensures { result ≡ spec.beginning_place message.now }
+{
+    if message.len() <= 2 {
+        return 2;
+    }
+    let rest = &message[2..];
+    if message[1].tag == *b"BGM" && has_tag(b"BGM", rest) {
+        2 + up_to_tag(b"BGM", rest)
+    } else {
+        2
+    }
+}
+
+// Of what has to stand once in the header: the second, else the one that there is, else UNH.
+fn header_place(tag: &[u8; 3], qualifier: &[u8], message: &[Segment]) -> usize
+    ensures { result ≡ spec.header_place tag.now qualifier.now message.now }
+{
+    1 + shown_by(tag, qualifier, 0, header(message))
+}
+
+/// The DTM that shows a wrong document date, else UNH.
+pub(crate) fn date_place(message: &[Segment]) -> usize
+    ensures { result ≡ spec.date_place message.now }
+{
+    header_place(b"DTM", b"137", message)
+}
+
+/// The NAD that shows a wrong buyer, or else a wrong supplier, else UNH.
+pub(crate) fn parties_place(message: &[Segment]) -> usize
+    ensures { result ≡ spec.parties_place message.now }
+{
+    if party(b"BY", message).is_some() {
+        header_place(b"NAD", b"SU", message)
+    } else {
+        header_place(b"NAD", b"BY", message)
+    }
+}
+
+// Whether the header names a buyer, or has none.
+fn has_buyer_or_none(message: &[Segment]) -> bool
+    ensures { result ≡ has_buyer_or_none message.now }
+{
+    !has_qualified(b"NAD", b"BY", header(message)) || party(b"BY", message).is_some()
+}
+
+/// The same where the buyer may be left out.
+pub(crate) fn goods_parties_place(message: &[Segment]) -> usize
+    ensures { result ≡ spec.goods_parties_place message.now }
+{
+    if has_buyer_or_none(message) {
+        header_place(b"NAD", b"SU", message)
+    } else {
+        header_place(b"NAD", b"BY", message)
+    }
+}
+
+/// The RFF that shows a wrong reference of the header, else UNH.
+pub(crate) fn reference_place(message: &[Segment]) -> usize
+    ensures { result ≡ spec.reference_place message.now }
+{
+    header_place(b"RFF", b"ON", message)
+}
+
+// What shows a wrong summary behind the first UNS, whose number is given.
+fn behind_section(first: usize, message: &[Segment]) -> usize
+    requires { first ≤ length message.now }
+    ensures { result ≡ spec.behind_section first message.now }
+{
+    let rest = &message[first..];
+    if has_tag(b"UNS", rest) {
+        first + up_to_tag(b"UNS", rest)
+    } else {
+        second_or_first(b"LIN", first, message)
+    }
+}
+
+/// The second UNS, else a LIN behind the one that there is, else this one, else UNH.
+pub(crate) fn summary_place(message: &[Segment]) -> usize
+    ensures { result ≡ spec.summary_place message.now }
+{
+    if has_tag(b"UNS", message) {
+        behind_section(up_to_tag(b"UNS", message), message)
+    } else {
+        1
+    }
+}
+
+/// The CNT that shows a wrong number of lines.
+pub(crate) fn control_place(message: &[Segment]) -> usize
+    ensures { result ≡ spec.control_place message.now }
+{
+    shown_by(b"CNT", b"2", 1, message)
+}

@@ -1,0 +1,16 @@
+//! Which byte of a text shows its fault, and which segment that of an interchange or of a message, by its number.
+#![tactic(auto)]
+
+mod counting;
+mod envelope;
+mod goods;
+mod groups;
+mod header;
+mod numbers;
+mod orders;
+mod text;
+
+pub use envelope::envelope_place;
+pub use goods::{despatch_place, receipt_place};
+pub use orders::{order_place, response_place};
+pub use text::{TextPlace, text_place};
