@@ -37,8 +37,7 @@ returns-clause-stepped g c bytes opens honest sound =
 
 pub returns-clause-ran_out : goal.returns-clause-ran_out
 returns-clause-ran_out g c out =
-    let did = c.answer_opened-answered.ensures.ran_out out in
-    (
+    let did = c.answer_opened-answered.ensures.ran_out out in (
       inl (where_err c.answer_opened-answered.result did.0 c.replied.ensures.err ∙ ap (λ body. reply Stopped body) c.in-Ok.ensures),
       did.1,
     )
