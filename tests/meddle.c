@@ -4,16 +4,14 @@
    it is, and it cannot be looked at. Where READS names a file, how often standard input was read is written there at the end. */
 #define _GNU_SOURCE
 #include <dirent.h>
-#include <dlfcn.h>
 #include <errno.h>
 #include <stdio.h>
 #include <stdlib.h>
 #include <string.h>
 #include <sys/stat.h>
+#include <sys/syscall.h>
 #include <time.h>
 #include <unistd.h>
-
-#define REAL(name) ((__typeof__(&name))dlsym(RTLD_NEXT, #name))
 
 static long passed;
 
@@ -24,15 +22,15 @@ static int late(int result) {
 }
 
 int fsync(int fd) {
-    return late(REAL(fsync)(fd));
+    return late(syscall(SYS_fsync, fd));
 }
 
 int fdatasync(int fd) {
-    return late(REAL(fdatasync)(fd));
+    return late(syscall(SYS_fdatasync, fd));
 }
 
 int clock_gettime(clockid_t clock, struct timespec *now) {
-    int result = REAL(clock_gettime)(clock, now);
+    int result = syscall(SYS_clock_gettime, clock, now);
     const char *seconds = getenv("NOW");
     if (clock == CLOCK_MONOTONIC) now->tv_sec += passed;
     if (clock == CLOCK_REALTIME && seconds) now->tv_sec = atol(seconds);
@@ -47,7 +45,7 @@ ssize_t write(int fd, const void *bytes, size_t length) {
         unlink(path);
         mkfifo(path, 0600);
     }
-    return REAL(write)(fd, bytes, length);
+    return syscall(SYS_write, fd, bytes, length);
 }
 
 static int fault(void) {
@@ -58,7 +56,7 @@ static int fault(void) {
 ssize_t getdents64(int fd, void *buffer, size_t length) {
     static int calls;
     if (getenv("LISTING") && calls++) return fault();
-    ssize_t taken = REAL(getdents64)(fd, buffer, length);
+    ssize_t taken = syscall(SYS_getdents64, fd, buffer, length);
     const char *name = getenv("ENTRY");
     for (ssize_t at = 0; name && at < taken;) {
         struct dirent64 *entry = (struct dirent64 *)((char *)buffer + at);
@@ -71,14 +69,14 @@ ssize_t getdents64(int fd, void *buffer, size_t length) {
 int statx(int folder, const char *path, int flags, unsigned mask, struct statx *found) {
     const char *name = getenv("ENTRY"), *last = strrchr(path, '/');
     if (name && !strcmp(last ? last + 1 : path, name)) return fault();
-    return REAL(statx)(folder, path, flags, mask, found);
+    return syscall(SYS_statx, folder, path, flags, mask, found);
 }
 
 static long reads;
 
 ssize_t read(int fd, void *bytes, size_t length) {
     if (!fd) reads++;
-    return REAL(read)(fd, bytes, length);
+    return syscall(SYS_read, fd, bytes, length);
 }
 
 __attribute__((destructor)) static void tell(void) {
