@@ -1,4 +1,5 @@
 mod Examples
 pub mod Mapped
 pub mod Repeats
+pub mod Showing
 pub mod Stopping
