@@ -27,11 +27,14 @@ fn words() -> Option<RelayWords>
     )
 }
 
+fn becomes_mail(alloc: Global) -> Result<bool, Fail> {
+    let words = words().ok_or("words")?;
+    Ok(relay_text(alloc, ORDERS, &words)?.as_slice() == MAIL)
+}
+
 #[test]
 fn an_order_becomes_its_mail(rt: HostRuntime) -> Result<(), Fail> {
-    let words = words().ok_or("words")?;
-    let mail = relay_text(rt.alloc(), ORDERS, &words)?;
-    assert_eq!(rt; mail.as_slice(), MAIL);
+    assert!(rt; becomes_mail(rt.alloc())?);
     Ok(())
 }
 
@@ -91,6 +94,17 @@ fn room_for(alloc: Global, room: usize, answers_error: bool) -> Slow {
         room,
         answers_error,
     }
+}
+
+// Whether this was answered: a status, what was printed and what was reported of a fault. Out of memory is an error.
+fn is_answered(found: (u8, &Slow, &Slow), want: (u8, Option<&[u8]>, &[u8])) -> Result<bool, Fail> {
+    let (status, out, err) = found;
+    let (wanted, printed, told) = want;
+    if err.taken.as_slice() == b"memory\n".as_slice() {
+        return Err(Fail::new("out of memory"));
+    }
+    let is_told = err.taken.as_slice() == told;
+    Ok(status == wanted && is_told && Some(out.taken.as_slice()) == printed)
 }
 
 // A run of `relay`: how much of the order is read, and whether the next read fails; how many bytes the writers take, and
@@ -194,30 +208,40 @@ static RUNS: [Run; 10] = [
     },
 ];
 
-// The status of a run of `relay`, what it prints and what it reports of a fault.
-fn relayed(alloc: Global, run: &Run) -> Result<(u8, Vec<u8>, Vec<u8>), Fail> {
+// Relays alone, so that what the contract says burdens no other goal.
+fn relay(
+    alloc: Global,
+    words: &RelayWords,
+    input: &mut Brittle<'_>,
+    out: &mut Slow,
+    err: &mut Slow,
+) -> u8
+    requires { AreRelayWords words.now }
+{
+    relay_run(alloc, words, input, out, err)
+}
+
+fn is_relayed(alloc: Global, run: &Run) -> Result<bool, Fail> {
     let words = words().ok_or("words")?;
     let left = ORDERS.get(..run.length).ok_or("a front")?;
     let fails = run.read_fails;
     let mut out = room_for(alloc, run.room, run.write_fails);
     let mut err = room_for(alloc, run.error_room, false);
-    let status = relay_run(
+    let status = relay(
         alloc,
         &words,
         &mut Brittle { left, fails },
         &mut out,
         &mut err,
     );
-    Ok((status, out.taken, err.taken))
+    let want = (run.status, MAIL.get(..run.printed), run.told.as_bytes());
+    is_answered((status, &out, &err), want)
 }
 
 #[test]
 fn a_run_reads_writes_and_answers_its_status(rt: HostRuntime) -> Result<(), Fail> {
     for run in &RUNS {
-        let (status, printed, told) = relayed(rt.alloc(), run)?;
-        let found = (status, Some(printed.as_slice()), told.as_slice());
-        let want = (run.status, MAIL.get(..run.printed), run.told.as_bytes());
-        assert_eq!(rt; found, want, "{}", run.name);
+        assert!(rt; is_relayed(rt.alloc(), run)?, "{}", run.name);
     }
     Ok(())
 }
@@ -251,29 +275,30 @@ static SHOW_RUNS: [ShowRun; 8] = [
     (200, false, 20, false, 3, CUT_SHOWN, 20, "file\n"),
 ];
 
-// The status of a run of `show` over what an input gives, what it prints and what it reports of a fault.
-fn shown(alloc: Global, mut input: Brittle<'_>, mut out: Slow) -> (u8, Vec<u8>, Vec<u8>) {
+// Shows alone, so that what the contract says burdens no other goal.
+fn show(alloc: Global, input: &mut Brittle<'_>, out: &mut Slow, err: &mut Slow) -> u8 {
+    show_run(alloc, input, out, err)
+}
+
+fn is_shown(alloc: Global, run: &ShowRun) -> Result<bool, Fail> {
+    let (length, fails, room, write_fails, status, lines, printed, told) = *run;
+    let left = ORDERS.get(..length).ok_or("a front")?;
+    let mut out = room_for(alloc, room, write_fails);
     let mut err = room_for(alloc, usize::MAX, false);
-    let status = show_run(alloc, &mut input, &mut out, &mut err);
-    (status, out.taken, err.taken)
+    let answered = show(alloc, &mut Brittle { left, fails }, &mut out, &mut err);
+    let want = (status, lines.get(..printed), told.as_bytes());
+    is_answered((answered, &out, &err), want)
 }
 
 #[test]
 fn an_order_is_shown(rt: HostRuntime) -> Result<(), Fail> {
-    for (length, fails, room, write_fails, status, lines, printed, told) in &SHOW_RUNS {
-        let left = ORDERS.get(..*length).ok_or("a front")?;
-        let out = room_for(rt.alloc(), *room, *write_fails);
-        let (answered, taken, fault) = shown(
-            rt.alloc(),
-            Brittle {
-                left,
-                fails: *fails,
-            },
-            out,
+    for run in &SHOW_RUNS {
+        assert!(rt;
+            is_shown(rt.alloc(), run)?,
+            "{} bytes, room for {}",
+            run.0,
+            run.2
         );
-        let found = (answered, Some(taken.as_slice()), fault.as_slice());
-        let want = (*status, lines.get(..*printed), told.as_bytes());
-        assert_eq!(rt; found, want, "{length} bytes, room for {room}");
     }
     Ok(())
 }
@@ -283,7 +308,9 @@ const REGISTER: &str =
 
 // Texts of a register, how many bytes the output takes, and whether the next write fails; the status, what is
 // printed, and what is reported of a fault.
-static CHECKS: [(&str, usize, bool, u8, &str, &str); 5] = [
+type CheckRun = (&'static str, usize, bool, u8, &'static str, &'static str);
+
+static CHECKS: [CheckRun; 5] = [
     (REGISTER, usize::MAX, false, 0, "ok 1 suppliers\n", ""),
     ("hub = 1", usize::MAX, false, 1, "fault text\n", ""),
     (REGISTER, 0, true, 3, "", "file\n"),
@@ -291,48 +318,61 @@ static CHECKS: [(&str, usize, bool, u8, &str, &str); 5] = [
     (REGISTER, 15, true, 0, "ok 1 suppliers\n", ""),
 ];
 
-// The status of a run of `check` over a register, what it prints and what it reports of a fault.
-fn checked(alloc: Global, text: &str, mut out: Slow) -> (u8, Vec<u8>, Vec<u8>) {
+// Checks alone, so that what the contract says burdens no other goal.
+fn check(alloc: Global, text: &str, out: &mut Slow, err: &mut Slow) -> u8 {
+    check_run(alloc, text, out, err)
+}
+
+fn is_checked(alloc: Global, run: &CheckRun) -> Result<bool, Fail> {
+    let (text, room, write_fails, status, printed, told) = *run;
+    let mut out = room_for(alloc, room, write_fails);
     let mut err = room_for(alloc, usize::MAX, false);
-    let status = check_run(alloc, text, &mut out, &mut err);
-    (status, out.taken, err.taken)
+    let answered = check(alloc, text, &mut out, &mut err);
+    let want = (status, Some(printed.as_bytes()), told.as_bytes());
+    is_answered((answered, &out, &err), want)
 }
 
 #[test]
-fn a_register_is_checked(rt: HostRuntime) {
-    for (text, room, write_fails, status, printed, told) in &CHECKS {
-        let out = room_for(rt.alloc(), *room, *write_fails);
-        let (answered, taken, fault) = checked(rt.alloc(), text, out);
-        let found = (answered, taken.as_slice(), fault.as_slice());
-        let want = (*status, printed.as_bytes(), told.as_bytes());
-        assert_eq!(rt; found, want, "with room for {room}");
+fn a_register_is_checked(rt: HostRuntime) -> Result<(), Fail> {
+    for run in &CHECKS {
+        assert!(rt; is_checked(rt.alloc(), run)?, "with room for {}", run.1);
+    }
+    Ok(())
+}
+
+fn register_text(alloc: Global, input: &mut Brittle<'_>) -> Result<String, TextFault> {
+    read_register_text(alloc, input)
+}
+
+// Whether an input is read as the text of a register, or is the fault of a file.
+fn is_read_as(alloc: Global, left: &[u8], fails: bool, is_read: bool) -> Result<bool, Fail> {
+    match register_text(alloc, &mut Brittle { left, fails }) {
+        Ok(text) => Ok(is_read && text.as_bytes() == left),
+        Err(TextFault::File) => Ok(!is_read),
+        Err(TextFault::Memory) => Err(Fail::new("out of memory")),
     }
 }
 
-// What a register is read as: its bytes, or the name of the fault.
-fn register_told(alloc: Global, mut input: Brittle<'_>) -> Result<Vec<u8>, Fail> {
-    Ok(match read_register_text(alloc, &mut input) {
-        Ok(text) => text.into_bytes(),
-        Err(TextFault::File) => Vec::from_slice(alloc, b"file")?,
-        Err(TextFault::Memory) => Vec::from_slice(alloc, b"memory")?,
-    })
+// Whether the longest text is read, and a longer one is not.
+fn is_limit_kept(alloc: Global) -> Result<bool, Fail> {
+    let longer = Vec::from_elem(alloc, b'\n', 1_048_577)?;
+    let is_read = is_read_as(alloc, &longer[1..], false, true)?;
+    let is_fault = is_read_as(alloc, &longer, false, false)?;
+    Ok(is_read && is_fault)
 }
+
+const NO_TEXT: &[u8] = b"hub = \"\xff\"";
 
 #[test]
 fn the_text_of_a_register_is_read(rt: HostRuntime) -> Result<(), Fail> {
-    let alloc = rt.alloc();
-    let longest = Vec::from_elem(alloc, b'\n', 1_048_577)?;
-    let front = REGISTER.as_bytes().get(..40).ok_or("a front")?;
-    for (name, left, fails, is_read) in [
-        ("a register", REGISTER.as_bytes(), false, true),
-        ("the longest text", &longest[1..], false, true),
-        ("a longer text", &longest, false, false),
-        ("no text", b"hub = \"\xff\"", false, false),
-        ("a read that fails", front, true, false),
-    ] {
-        let want = if is_read { left } else { b"file" };
-        let found = register_told(alloc, Brittle { left, fails })?;
-        assert!(rt; found.as_slice() == want, "{name}");
-    }
+    let text = REGISTER.as_bytes();
+    let front = text.get(..40).ok_or("a front")?;
+    assert!(rt; is_read_as(rt.alloc(), text, false, true)?, "a register");
+    assert!(rt; is_read_as(rt.alloc(), NO_TEXT, false, false)?, "no text");
+    assert!(rt;
+        is_read_as(rt.alloc(), front, true, false)?,
+        "a read that fails"
+    );
+    assert!(rt; is_limit_kept(rt.alloc())?, "the longest text");
     Ok(())
 }

@@ -32,13 +32,18 @@ fn is_copied(alloc: Global, bytes: &[u8]) -> Result<bool, AllocError> {
     Ok(copied(alloc, bytes)?.as_slice() == bytes)
 }
 
+// Whether the two bytes are kept, and given back.
+fn are_two_kept(alloc: Global) -> Result<bool, AllocError> {
+    let (was_empty, items) = two_items(alloc)?;
+    let are_kept = was_empty && has_two_bytes(&items);
+    let again = Items::from_vec(items.into_vec());
+    Ok(are_kept && again.as_slice() == TWO)
+}
+
 #[test]
 fn items_are_those_of_a_vector(rt: HostRuntime) -> Result<(), AllocError> {
     assert!(rt; is_copied(rt.alloc(), b"\x00\xff")?);
-    let (was_empty, items) = two_items(rt.alloc())?;
-    assert!(rt; was_empty && has_two_bytes(&items));
-    let again = Items::from_vec(items.into_vec());
-    assert!(rt; again.as_slice() == TWO);
+    assert!(rt; are_two_kept(rt.alloc())?);
     Ok(())
 }
 
@@ -140,21 +145,20 @@ fn read_front(
     read_to_limit(alloc, source, limit)
 }
 
-// Whether so many of the known bytes are read to a limit, and the rest is left.
-fn is_front_read(
-    alloc: Global,
-    known: &[u8],
-    limit: usize,
-    size: usize,
-) -> Result<bool, ReadFault> {
+// How many bytes are given, the limit, and how many are read.
+type Limit = (&'static str, usize, usize, usize);
+
+// Whether so many of the given bytes are read to the limit, and the rest is left.
+fn is_front_read(alloc: Global, long: &[u8], row: &Limit) -> Result<bool, ReadFault> {
+    let (_, given, limit, size) = *row;
+    let known = long.get(..given).unwrap_or_default();
     let mut source = OfRead::new(known);
     let read = read_front(alloc, &mut source, limit)?;
     let is_front = !source.failed() && known.get(..size) == Some(read.as_slice());
     Ok(is_front && known.get(size..) == Some(source.into_inner()))
 }
 
-// How many bytes are given, the limit, and how many are read.
-static LIMITS: [(&str, usize, usize, usize); 7] = [
+static LIMITS: [Limit; 7] = [
     ("nothing", 255, 0, 0),
     ("one byte", 255, 1, 1),
     ("all but one", 255, 254, 254),
@@ -167,9 +171,8 @@ static LIMITS: [(&str, usize, usize, usize); 7] = [
 #[test]
 fn a_source_is_read_to_its_end_or_the_limit(rt: HostRuntime) -> Result<(), ReadFault> {
     let long = bytes_of(rt.alloc(), 200_000)?;
-    for (what, given, limit, size) in &LIMITS {
-        let known = long.as_slice().get(..*given).unwrap_or_default();
-        assert!(rt; is_front_read(rt.alloc(), known, *limit, *size)?, "{what}");
+    for row in &LIMITS {
+        assert!(rt; is_front_read(rt.alloc(), &long, row)?, "{}", row.0);
     }
     Ok(())
 }

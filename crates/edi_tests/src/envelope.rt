@@ -1,5 +1,8 @@
-use crate::texts::{has_body, opened};
-use edi_base::Items;
+ghost use Rattle.std.specs.Prelude.{◌≤◌};
+ghost use Rattle.edi_envelope.specs.Mail.{last_number};
+
+use crate::texts::{has_body, last_message, opened};
+use edi_base::{Items, MemoryFault};
 use edi_envelope::{Head, Interchange, Moment, RawMessage, wrap};
 use edi_tokens::Segment;
 use std::alloc::Global;
@@ -57,23 +60,25 @@ fn has_fields(message: &RawMessage, want: &[&[u8]; 6]) -> bool {
     fields == *want
 }
 
-fn is_message(alloc: Global, message: Option<&RawMessage>, told: &Told) -> Result<bool, Fail> {
+fn is_message(alloc: Global, message: &RawMessage, told: &Told) -> Result<bool, Fail> {
     let (fields, text) = told;
-    let message = message.ok_or("a message")?;
-    Ok(has_fields(message, fields) && has_body(alloc, message.segments.as_slice(), text)?)
+    let is_text = has_body(alloc, message.segments.as_slice(), text)?;
+    Ok(is_text && has_fields(message, fields))
 }
 
 // Whether the messages are those that are told of, in their order.
 fn are_messages(alloc: Global, messages: &[RawMessage]) -> Result<bool, Fail> {
-    let [order, despatch] = &MESSAGES;
-    let is_order = is_message(alloc, messages.first(), order)?;
-    let is_despatch = is_message(alloc, messages.get(1), despatch)?;
-    Ok(messages.len() == 2 && is_order && is_despatch)
+    let ([order, despatch], [first, second]) = (&MESSAGES, messages) else {
+        return Ok(false);
+    };
+    let is_order = is_message(alloc, first, order)?;
+    let is_despatch = is_message(alloc, second, despatch)?;
+    Ok(is_order && is_despatch)
 }
 
 fn is_the_interchange(alloc: Global, interchange: &Interchange) -> Result<bool, Fail> {
-    let is_head = interchange.decimal == b',' && is_the_head(&interchange.head);
-    Ok(is_head && are_messages(alloc, interchange.messages.as_slice())?)
+    let are_messages = are_messages(alloc, interchange.messages.as_slice())?;
+    Ok(are_messages && interchange.decimal == b',' && is_the_head(&interchange.head))
 }
 
 fn is_opened(alloc: Global) -> Result<bool, Fail> {
@@ -94,40 +99,30 @@ const RELAYED: &[u8] =
 const MAIL: &[u8] =
     b"UNB+UNOC:3+5412345000006:14+4012345500004:14+250603:0920+99999999999999'UNH+1:x+ORDERS:D:01B:UN:EAN010'BGM+220+128576+9'UNT+3+1:y'UNZ+1+99999999999999'";
 
-// The message of an interchange that has no other.
-fn only_message(interchange: &Interchange) -> Option<&RawMessage> {
-    match interchange.messages.as_slice() {
-        [message] => Some(message),
-        _ => None,
-    }
-}
-
 const LAST_NUMBER: u64 = 99_999_999_999_999;
 
-// The mail of this number that the message of an interchange becomes at a moment.
+// The mail of this number that a message becomes at a moment.
 fn mail(
     alloc: Global,
     moment: Moment,
     number: u64,
-    interchange: &Interchange,
-) -> Result<Items<Segment>, Fail> {
-    if number == 0 || number > LAST_NUMBER {
-        return Err(Fail::new("not the number of a mail"));
-    }
+    message: &RawMessage,
+) -> Result<Items<Segment>, MemoryFault>
+    requires number { (1 ≤ number) × (number ≤ last_number) }
+{
     let (hub, owner) = (b"5412345000006", b"4012345500004");
-    let message = only_message(interchange).ok_or("one message")?;
-    Ok(wrap(alloc, hub, owner, moment, number, message)?)
+    wrap(alloc, hub, owner, moment, number, message)
 }
 
-fn becomes_mail(alloc: Global, interchange: &Interchange) -> Result<bool, Fail> {
+fn becomes_mail(alloc: Global, message: &RawMessage) -> Result<bool, Fail> {
     let moment = Moment::new(1_748_942_400).ok_or("a moment")?;
-    let mail = mail(alloc, moment, LAST_NUMBER, interchange)?;
+    let mail = mail(alloc, moment, LAST_NUMBER, message)?;
     has_body(alloc, mail.as_slice(), MAIL)
 }
 
 fn is_wrapped(alloc: Global) -> Result<bool, Fail> {
-    let interchange = opened(alloc, RELAYED)?;
-    becomes_mail(alloc, &interchange)
+    let message = last_message(alloc, RELAYED)?;
+    becomes_mail(alloc, &message)
 }
 
 #[test]
@@ -160,16 +155,18 @@ fn has_date(mail: &[Segment], want: &[&[u8]; 2]) -> bool {
     }
 }
 
-fn becomes_dated(alloc: Global, interchange: &Interchange, dated: &Dated) -> Result<bool, Fail> {
+fn becomes_dated(alloc: Global, message: &RawMessage, dated: &Dated) -> Result<bool, Fail> {
     let (seconds, want) = dated;
-    let moment = Moment::new(*seconds).ok_or("a moment")?;
-    let mail = mail(alloc, moment, 1, interchange)?;
+    let Some(moment) = Moment::new(*seconds) else {
+        return Ok(false);
+    };
+    let mail = mail(alloc, moment, 1, message)?;
     Ok(moment.seconds() == *seconds && has_date(mail.as_slice(), want))
 }
 
 fn is_dated(alloc: Global, dated: &Dated) -> Result<bool, Fail> {
-    let interchange = opened(alloc, RELAYED)?;
-    becomes_dated(alloc, &interchange, dated)
+    let message = last_message(alloc, RELAYED)?;
+    becomes_dated(alloc, &message, dated)
 }
 
 #[test]

@@ -3,10 +3,9 @@
 use edi_base::OfRead;
 use edi_envelope::open_feed;
 use edi_tokens::Feeder;
-use std::alloc::Global;
+use std::alloc::{AllocError, Global};
 use std::io;
 use std::io::{Error, ErrorKind, Read};
-use std::test::Fail;
 
 /// A reader that gives so many bytes at a time, and after so many calls is interrupted.
 #[derive(Drop)]
@@ -42,20 +41,21 @@ fn opened(alloc: Global, feeder: &mut Feeder<OfRead<Pieces>>) -> (usize, &'stati
 }
 
 /// How many messages a text has, or the code of its fault; and whether the reader has failed.
-fn fed(alloc: Global, pieces: Pieces) -> Option<(usize, &'static str, bool)> {
-    let mut feeder = Feeder::new(alloc, OfRead::new(pieces)).ok()?;
+fn fed(alloc: Global, pieces: Pieces) -> Result<(usize, &'static str, bool), AllocError> {
+    let Ok(mut feeder) = Feeder::new(alloc, OfRead::new(pieces)) else {
+        return Err(AllocError);
+    };
     let (messages, code) = opened(alloc, &mut feeder);
-    Some((messages, code, feeder.into_reader().failed()))
+    Ok((messages, code, feeder.into_reader().failed()))
 }
 
 // Whether a text in pieces has so many messages or this fault, and its reader has failed where that is the fault.
-fn is_fed(alloc: Global, pieces: Pieces, messages: usize, code: &str) -> Result<bool, Fail> {
-    match fed(alloc, pieces) {
-        None | Some((_, "memory", _)) => Err(Fail::new("out of memory")),
-        Some((count, fault, failed)) => {
-            Ok(count == messages && fault == code && failed == (code == "read"))
-        }
+fn is_fed(alloc: Global, pieces: Pieces, messages: usize, code: &str) -> Result<bool, AllocError> {
+    let (count, fault, failed) = fed(alloc, pieces)?;
+    if fault == "memory" {
+        return Err(AllocError);
     }
+    Ok(count == messages && fault == code && failed == (code == "read"))
 }
 
 const ORDERS: &[u8] =
@@ -98,7 +98,7 @@ static TEXTS: [Row; 9] = [
     ),
 ];
 
-fn is_row_fed(alloc: Global, row: &Row, size: usize) -> Result<bool, Fail> {
+fn is_row_fed(alloc: Global, row: &Row, size: usize) -> Result<bool, AllocError> {
     let (text, messages, code) = row;
     let pieces = Pieces {
         left: text,
@@ -109,7 +109,7 @@ fn is_row_fed(alloc: Global, row: &Row, size: usize) -> Result<bool, Fail> {
 }
 
 // The text that is not answered as it has to be in pieces of this size.
-fn wrong_text(alloc: Global, size: usize) -> Result<Option<&'static [u8]>, Fail> {
+fn wrong_text(alloc: Global, size: usize) -> Result<Option<&'static [u8]>, AllocError> {
     for row in &TEXTS {
         if !is_row_fed(alloc, row, size)? {
             return Ok(Some(row.0));
@@ -121,7 +121,7 @@ fn wrong_text(alloc: Global, size: usize) -> Result<Option<&'static [u8]>, Fail>
 static SIZES: [usize; 4] = [1, 2, 7, 8192];
 
 #[test]
-fn pieces_of_any_size_are_opened_alike(rt: HostRuntime) -> Result<(), Fail> {
+fn pieces_of_any_size_are_opened_alike(rt: HostRuntime) -> Result<(), AllocError> {
     for size in &SIZES {
         let wrong = wrong_text(rt.alloc(), *size)?;
         assert!(rt; wrong.is_none(), "{wrong:?} in {size} bytes at a time");
@@ -129,24 +129,27 @@ fn pieces_of_any_size_are_opened_alike(rt: HostRuntime) -> Result<(), Fail> {
     Ok(())
 }
 
-fn is_order_fed(alloc: Global, calls: usize, messages: usize, code: &str) -> Result<bool, Fail> {
+// 255 bytes are read by 37 calls, and their end by one more.
+const ENOUGH_CALLS: usize = 38;
+
+fn is_order_fed(alloc: Global, calls: usize) -> Result<bool, AllocError> {
     let pieces = Pieces {
         left: ORDERS,
         size: 7,
         calls,
     };
+    let (messages, code) = if calls < ENOUGH_CALLS {
+        (0, "read")
+    } else {
+        (1, "")
+    };
     is_fed(alloc, pieces, messages, code)
 }
 
 #[test]
-fn each_failed_read_is_answered(rt: HostRuntime) -> Result<(), Fail> {
-    // 255 bytes are read by 37 calls, and their end by one more.
-    for calls in 0..38 {
-        assert!(rt;
-            is_order_fed(rt.alloc(), calls, 0, "read")?,
-            "after {calls} calls"
-        );
+fn each_failed_read_is_answered(rt: HostRuntime) -> Result<(), AllocError> {
+    for calls in 0..ENOUGH_CALLS + 1 {
+        assert!(rt; is_order_fed(rt.alloc(), calls)?, "after {calls} calls");
     }
-    assert!(rt; is_order_fed(rt.alloc(), 38, 1, "")?);
     Ok(())
 }

@@ -138,18 +138,18 @@ fn an_sscc_is_under_its_prefixes(rt: HostRuntime) {
     }
 }
 
-fn parsed() -> Option<(Gln, Gtin, Sscc, Prefix)> {
+type Identifiers = (Gln, Gtin, Sscc, Prefix);
+
+fn parsed() -> Option<Identifiers> {
     let gln = Gln::parse(b"5412345000006")?;
     let gtin = Gtin::parse(b"036000291452")?;
     let sscc = Sscc::parse(b"340123455000000012")?;
     Some((gln, gtin, sscc, prefix("40123")?))
 }
 
-fn are_shown(
-    alloc: Global,
-    (gln, gtin, sscc, prefix): (Gln, Gtin, Sscc, Prefix),
-) -> Result<bool, AllocError> {
-    let shown = format!(in alloc; "{gln} {:>15} {gtin} {sscc} {prefix}", gln)?;
+fn are_shown(alloc: Global, identifiers: &Identifiers) -> Result<bool, AllocError> {
+    let (gln, gtin, sscc, prefix) = identifiers;
+    let shown = format!(in alloc; "{gln} {gln:>15} {gtin} {sscc} {prefix}")?;
     let want = "5412345000006   5412345000006 00036000291452 340123455000000012 40123";
     let has_digits = gln.digits() == b"5412345000006" && sscc.digits() == b"340123455000000012";
     Ok(has_digits && shown.as_str() == want)
@@ -158,7 +158,7 @@ fn are_shown(
 #[test]
 fn identifiers_show_their_digits(rt: HostRuntime) -> Result<(), Fail> {
     let identifiers = parsed().ok_or("identifiers")?;
-    assert!(rt; are_shown(rt.alloc(), identifiers)?);
+    assert!(rt; are_shown(rt.alloc(), &identifiers)?);
     Ok(())
 }
 

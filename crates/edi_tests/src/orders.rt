@@ -1,57 +1,54 @@
-use crate::texts::opened;
-use edi_envelope::Interchange;
+use crate::texts::last_message;
+use edi_envelope::RawMessage;
 use edi_orders::{Answer, AnswerLine, LineAnswer, Order, OrderLine, Response};
 use std::alloc::Global;
 use std::test::Fail;
 
-// An order and a response to it.
-const TEXT: &[u8] =
-    b"UNB+UNOC:3+5412345000013:14+5412345000006:14+250603:0915+1001'UNH+1+ORDERS:D:01B:UN:EAN010'BGM+220+128576+9'DTM+137:20250603:102'NAD+BY+5412345000013::9'NAD+SU+4012345500004::9'LIN+1++4000862141404:SRV'QTY+21:48'UNS+S'CNT+2:1'UNT+10+1'UNH+2+ORDRSP:D:01B:UN:EAN009'BGM+231+R1+4'DTM+137:20250603:102'RFF+ON:128576'NAD+BY+5412345000013::9'NAD+SU+4012345500004::9'LIN+1+3+4000862141404:SRV'QTY+113:36'UNS+S'UNT+10+2'UNZ+2+1001'";
+const ORDER: &[u8] =
+    b"UNB+UNOC:3+5412345000013:14+5412345000006:14+250603:0915+1001'UNH+1+ORDERS:D:01B:UN:EAN010'BGM+220+128576+9'DTM+137:20250603:102'NAD+BY+5412345000013::9'NAD+SU+4012345500004::9'LIN+1++4000862141404:SRV'QTY+21:48'UNS+S'CNT+2:1'UNT+10+1'UNZ+1+1001'";
+
+// A response to it.
+const RESPONSE: &[u8] =
+    b"UNB+UNOC:3+5412345000013:14+5412345000006:14+250603:0915+1001'UNH+2+ORDRSP:D:01B:UN:EAN009'BGM+231+R1+4'DTM+137:20250603:102'RFF+ON:128576'NAD+BY+5412345000013::9'NAD+SU+4012345500004::9'LIN+1+3+4000862141404:SRV'QTY+113:36'UNS+S'UNT+10+2'UNZ+1+1001'";
 
 // Each reader stands alone, so that what its contract says burdens no comparison.
-fn read_order(alloc: Global, interchange: &Interchange) -> Result<Order, Fail> {
-    let message = interchange.messages.as_slice().first().ok_or("an order")?;
+fn read_order(alloc: Global, message: &RawMessage) -> Result<Order, Fail> {
     Ok(Order::read(alloc, message)?)
 }
 
-fn first_order(alloc: Global) -> Result<Order, Fail> {
-    let interchange = opened(alloc, TEXT)?;
-    read_order(alloc, &interchange)
-}
-
-fn is_the_order(order: &Order) -> bool {
-    order.buyer.digits() == b"5412345000013"
-        && order.supplier.digits() == b"4012345500004"
-        && order.number.as_slice() == b"128576".as_slice()
+fn order(alloc: Global) -> Result<Order, Fail> {
+    let message = last_message(alloc, ORDER)?;
+    read_order(alloc, &message)
 }
 
 fn is_the_line(line: &OrderLine) -> bool {
     line.line == 1 && line.gtin.digits() == b"04000862141404" && line.quantity == 48
 }
 
+fn is_the_order(order: &Order) -> bool {
+    let is_headed = order.buyer.digits() == b"5412345000013"
+        && order.supplier.digits() == b"4012345500004"
+        && order.number.as_slice() == b"128576".as_slice();
+    match order.lines.as_slice() {
+        [line] => is_headed && is_the_line(line),
+        _ => false,
+    }
+}
+
 #[test]
 fn an_order_is_read(rt: HostRuntime) -> Result<(), Fail> {
-    let order = first_order(rt.alloc())?;
+    let order = order(rt.alloc())?;
     assert!(rt; is_the_order(&order));
-    assert!(rt; order.lines.as_slice().first().is_some_and(is_the_line));
     Ok(())
 }
 
-fn read_response(alloc: Global, interchange: &Interchange) -> Result<Response, Fail> {
-    let message = interchange.messages.as_slice().get(1).ok_or("a response")?;
+fn read_response(alloc: Global, message: &RawMessage) -> Result<Response, Fail> {
     Ok(Response::read(alloc, message)?)
 }
 
-fn second_response(alloc: Global) -> Result<Response, Fail> {
-    let interchange = opened(alloc, TEXT)?;
-    read_response(alloc, &interchange)
-}
-
-fn is_the_response(response: &Response) -> bool {
-    response.buyer.digits() == b"5412345000013"
-        && response.supplier.digits() == b"4012345500004"
-        && response.number.as_slice() == b"R1".as_slice()
-        && response.order.as_slice() == b"128576".as_slice()
+fn response(alloc: Global) -> Result<Response, Fail> {
+    let message = last_message(alloc, RESPONSE)?;
+    read_response(alloc, &message)
 }
 
 fn is_the_line_answer(line: &AnswerLine) -> bool {
@@ -60,16 +57,26 @@ fn is_the_line_answer(line: &AnswerLine) -> bool {
 }
 
 fn is_the_answer(answer: &Answer) -> bool {
-    match answer {
-        Answer::Lines(lines) => lines.as_slice().first().is_some_and(is_the_line_answer),
+    let Answer::Lines(lines) = answer else {
+        return false;
+    };
+    match lines.as_slice() {
+        [line] => is_the_line_answer(line),
         _ => false,
     }
 }
 
+fn is_the_response(response: &Response) -> bool {
+    response.buyer.digits() == b"5412345000013"
+        && response.supplier.digits() == b"4012345500004"
+        && response.number.as_slice() == b"R1".as_slice()
+        && response.order.as_slice() == b"128576".as_slice()
+        && is_the_answer(&response.answer)
+}
+
 #[test]
 fn a_response_is_read(rt: HostRuntime) -> Result<(), Fail> {
-    let response = second_response(rt.alloc())?;
+    let response = response(rt.alloc())?;
     assert!(rt; is_the_response(&response));
-    assert!(rt; is_the_answer(&response.answer));
     Ok(())
 }

@@ -29,14 +29,15 @@ fn shown(alloc: Global, text: &[u8]) -> Result<Shown, MemoryFault> {
     show_text(alloc, text)
 }
 
-fn has_lines(alloc: Global, shown: &Shown, lines: &[u8]) -> Result<bool, MemoryFault> {
-    Ok(shown.to_lines(alloc)?.as_slice() == lines)
+fn has_lines(alloc: Global, shown: &Shown, row: &Row) -> Result<bool, MemoryFault> {
+    let (_, refused, lines) = row;
+    let is_refused = shown.is_refused();
+    Ok(shown.to_lines(alloc)?.as_slice() == *lines && is_refused == *refused)
 }
 
 fn is_shown(alloc: Global, row: &Row) -> Result<bool, MemoryFault> {
-    let (text, refused, lines) = row;
-    let shown = shown(alloc, text)?;
-    Ok(shown.is_refused() == *refused && has_lines(alloc, &shown, lines)?)
+    let shown = shown(alloc, row.0)?;
+    has_lines(alloc, &shown, row)
 }
 
 #[test]

@@ -1,8 +1,7 @@
 use crate::steps::{Steps, in_steps, left_of};
 use edi_base::{Items, OfRead, ReadFault};
 use http_head::{Head, HeadFault, Values, read_body, read_head};
-use std::alloc::Global;
-use std::test::*;
+use std::alloc::{AllocError, Global};
 
 // A head: its start, a piece that comes so many times, its end; and what it says, where it is one: its method, its
 // target, and the values of its fields `X-Key`.
@@ -15,7 +14,7 @@ type Row = (
     Option<(&'static [u8], &'static str, Key)>,
 );
 
-#[derive(Clone, Copy, Debug, PartialEq, Eq)]
+#[derive(Clone, Copy)]
 enum Key {
     Absent,
     One(&'static [u8]),
@@ -204,14 +203,15 @@ static HEADS: [Row; 27] = [
     ("nothing of a head", b"", b"\x00", 1, b"", None),
 ];
 
-/// The bytes of a row, without those behind it.
-fn made(alloc: Global, row: &Row) -> Result<Vec<u8>, Fail> {
+/// The bytes of a row, and those behind it.
+fn made(alloc: Global, row: &Row) -> Result<Vec<u8>, AllocError> {
     let (_, start, piece, times, end, _) = *row;
     let mut bytes = Vec::from_slice(alloc, start)?;
     for _ in 0..times {
         bytes.extend_from_slice(piece)?;
     }
     bytes.extend_from_slice(end)?;
+    bytes.extend_from_slice(BEHIND)?;
     Ok(bytes)
 }
 
@@ -248,25 +248,26 @@ fn is_head_of(head: &Head, row: &Row, step: usize, size: usize, taken: usize) ->
         && BEHIND.starts_with(head.rest())
 }
 
+// Whether the row's bytes are read in steps as the row says, and no more of them than a head may have.
+fn is_read(bytes: &[u8], row: &Row, step: usize) -> bool {
+    let size = bytes.len().saturating_sub(BEHIND.len());
+    let (result, taken, failed) = read(bytes, step, 20_000);
+    let is_right = match &result {
+        Ok(Some(head)) => is_head_of(head, row, step, size, taken),
+        Ok(None) => row.5.is_none(),
+        Err(_) => false,
+    };
+    is_right && !failed && taken <= 8192
+}
+
+static STEPS: [usize; 4] = [1, 5, 4096, 10_000];
+
 #[test]
-fn heads_are_read(rt: HostRuntime) -> Result<(), Fail> {
+fn heads_are_read(rt: HostRuntime) -> Result<(), AllocError> {
     for row in &HEADS {
-        let mut bytes = made(rt.alloc(), row)?;
-        let size = bytes.len();
-        bytes.extend_from_slice(BEHIND)?;
-        for step in [1, 5, 4096, 10_000] {
-            let (result, taken, failed) = read(&bytes, step, 20_000);
-            let is_right = match &result {
-                Ok(Some(head)) => is_head_of(head, row, step, size, taken),
-                Ok(None) => row.5.is_none(),
-                Err(_) => false,
-            };
-            assert_eq!(rt;
-                (is_right, failed, taken <= 8192),
-                (true, false, true),
-                "{} by {step}",
-                row.0
-            );
+        let bytes = made(rt.alloc(), row)?;
+        for step in &STEPS {
+            assert!(rt; is_read(&bytes, row, *step), "{} by {step}", row.0);
         }
     }
     Ok(())
@@ -274,30 +275,36 @@ fn heads_are_read(rt: HostRuntime) -> Result<(), Fail> {
 
 const WHOLE: &[u8] = b"GET /a HTTP/1.1\r\nX-Key: k\r\n\r\n";
 
+// Whether a head is none where it is cut, and takes all that is there.
+fn is_none_cut_at(end: usize) -> bool {
+    let Some(front) = WHOLE.get(..end) else {
+        return false;
+    };
+    let (cut, taken, failed) = read(front, 3, 20_000);
+    let is_whole = matches!(&cut, Ok(Some(_)));
+    is_whole == (end == WHOLE.len()) && cut.is_ok() && taken == end && !failed
+}
+
+// Whether a read that fails there is a fault, and nothing behind it is taken.
+fn is_fault_failed_at(end: usize) -> bool {
+    let (broken, taken, failed) = read(WHOLE, 1, end);
+    let is_whole = matches!(&broken, Ok(Some(_)));
+    let fails = end < WHOLE.len();
+    is_whole == !fails && broken.is_err() == fails && taken == end && failed == fails
+}
+
 #[test]
 fn cut_heads_are_none_and_failed_reads_are_faults(rt: HostRuntime) {
-    let size = WHOLE.len();
-    for end in 0..size + 1 {
-        let (cut, taken, failed) = read(&WHOLE[..end], 3, 20_000);
-        let found = (matches!(&cut, Ok(Some(_))), cut.is_err(), taken, failed);
-        assert_eq!(rt; found, (end == size, false, end, false), "cut at {end}");
-        let (broken, taken, failed) = read(WHOLE, 1, end);
-        let found = (
-            matches!(&broken, Ok(Some(_))),
-            broken.is_err(),
-            taken,
-            failed,
-        );
-        assert_eq!(rt;
-            found,
-            (end == size, end < size, end, end < size),
-            "failed at {end}"
-        );
+    for end in 0..WHOLE.len() + 1 {
+        assert!(rt; is_none_cut_at(end), "cut at {end}");
+        assert!(rt; is_fault_failed_at(end), "failed at {end}");
     }
 }
 
 // The front that was read with the head, what the source has left, how many bytes the body has, and the body.
-static BODIES: [(&[u8], &[u8], usize, Option<&[u8]>); 10] = [
+type BodyRow = (&'static [u8], &'static [u8], usize, Option<&'static [u8]>);
+
+static BODIES: [BodyRow; 10] = [
     (b"", b"", 0, Some(b"")),
     (b"ab", b"cd", 0, Some(b"")),
     (b"ab", b"cd", 1, Some(b"a")),
@@ -319,34 +326,67 @@ fn body(
     read_body(alloc, source, front, size)
 }
 
+fn has_bytes(read: &Option<Items<u8>>, want: Option<&[u8]>) -> bool {
+    match (read, want) {
+        (Some(body), Some(bytes)) => body.as_slice() == bytes,
+        (None, None) => true,
+        _ => false,
+    }
+}
+
+fn is_body(
+    alloc: Global,
+    source: &mut OfRead<Steps<'_>>,
+    row: &BodyRow,
+) -> Result<bool, ReadFault> {
+    let (front, _, size, want) = row;
+    let read = body(alloc, source, front, *size)?;
+    Ok(has_bytes(&read, *want))
+}
+
+// Whether the source has given what the front lacks of the body, and has not failed.
+fn is_left(source: OfRead<Steps<'_>>, row: &BodyRow) -> bool {
+    let (front, behind, size, _) = row;
+    let lacks = size.saturating_sub(front.len()).min(behind.len());
+    let (left, failed) = left_of(source);
+    !failed && Some(left) == behind.get(lacks..)
+}
+
+fn is_body_read(alloc: Global, row: &BodyRow, step: usize) -> Result<bool, ReadFault> {
+    let mut source = in_steps(row.1, step, 100);
+    let is_body = is_body(alloc, &mut source, row)?;
+    Ok(is_body && is_left(source, row))
+}
+
+// Whether the body is a fault where the read of its last byte fails.
+fn is_fault_before_the_last(alloc: Global, row: &BodyRow) -> Result<bool, ReadFault> {
+    let (front, behind, size, _) = row;
+    let lacks = size.saturating_sub(front.len());
+    let is_fault = lacks > 0 && lacks <= behind.len() + 1;
+    let mut source = in_steps(behind, 1, lacks.saturating_sub(1));
+    match body(alloc, &mut source, front, *size) {
+        Ok(_) => Ok(!is_fault && !source.failed()),
+        Err(ReadFault::Read) => Ok(is_fault && source.failed()),
+        Err(ReadFault::Memory) => Err(ReadFault::Memory),
+    }
+}
+
+static BODY_STEPS: [usize; 3] = [1, 2, 100];
+
 #[test]
-fn bodies_are_read(rt: HostRuntime) -> Result<(), Fail> {
-    for (front, behind, size, want) in &BODIES {
-        let lacks = size.saturating_sub(front.len());
-        for step in [1, 2, 100] {
-            let mut source = in_steps(behind, step, 100);
-            let read = body(rt.alloc(), &mut source, front, *size)?;
-            let (left, failed) = left_of(source);
-            let found = (
-                read.as_ref().map(|body| body.as_slice()),
-                Some(left),
-                failed,
+fn bodies_are_read(rt: HostRuntime) -> Result<(), ReadFault> {
+    for row in &BODIES {
+        for step in &BODY_STEPS {
+            assert!(rt;
+                is_body_read(rt.alloc(), row, *step)?,
+                "{} bytes by {step}",
+                row.2
             );
-            let want = (*want, behind.get(lacks.min(behind.len())..), false);
-            assert_eq!(rt; found, want, "{size} bytes by {step}");
         }
-        let mut source = in_steps(behind, 1, lacks.saturating_sub(1));
-        let fault = body(rt.alloc(), &mut source, front, *size).err();
-        let is_fault = lacks > 0 && lacks <= behind.len() + 1;
-        let want = if is_fault {
-            Some(ReadFault::Read)
-        } else {
-            None
-        };
-        assert_eq!(rt;
-            (fault, source.failed()),
-            (want, is_fault),
-            "{size} bytes, failed before the last"
+        assert!(rt;
+            is_fault_before_the_last(rt.alloc(), row)?,
+            "{} bytes, failed before the last",
+            row.2
         );
     }
     Ok(())

@@ -9,7 +9,9 @@ fn found(alloc: Global, path: &str) -> Result<Found<'_>, Fail> {
     Ok(routed.map(|routed| (routed.place, routed.party, routed.part)))
 }
 
-static PATHS: [(&str, Option<(Place, &[u8], Option<&[u8]>)>); 28] = [
+type Row = (&'static str, Found<'static>);
+
+static PATHS: [Row; 28] = [
     (
         "/p/4012345500004/interchanges",
         Some((Place::Interchanges, b"4012345500004", None)),
@@ -69,11 +71,14 @@ static PATHS: [(&str, Option<(Place, &[u8], Option<&[u8]>)>); 28] = [
     ("http://hub/p/a/status", None),
 ];
 
+fn is_found(alloc: Global, row: &Row) -> Result<bool, Fail> {
+    Ok(found(alloc, row.0)? == row.1)
+}
+
 #[test]
 fn paths_and_near_misses(rt: HostRuntime) -> Result<(), Fail> {
-    for (path, want) in &PATHS {
-        let found = found(rt.alloc(), path)?;
-        assert_eq!(rt; found, *want, "{path}");
+    for row in &PATHS {
+        assert!(rt; is_found(rt.alloc(), row)?, "{}", row.0);
     }
     Ok(())
 }

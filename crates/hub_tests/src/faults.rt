@@ -110,14 +110,25 @@ fn order(alloc: Global, supplier: Gln) -> Result<Change, MemoryFault> {
     Ok(Change::AddOrder(OrderRow { supplier, number }))
 }
 
-// What comes of committing the order. Each call stands alone from here on: its contract is then of no other's goals.
-fn committed(
-    alloc: Global,
-    list: &mut VecStore,
-    supplier: Gln,
-) -> Result<Result<(), StoreFault>, MemoryFault> {
+// Commits the order. Each call stands alone from here on: its contract is then of no other's goals.
+fn commit_order(alloc: Global, list: &mut VecStore, supplier: Gln) -> Result<(), StoreFault> {
     let change = order(alloc, supplier)?;
-    Ok(commit_listed(list, slice::from_ref(&change)))
+    commit_listed(list, slice::from_ref(&change))
+}
+
+fn is_listed(list: &mut VecStore, supplier: &Gln) -> Result<bool, StoreFault> {
+    let (first, fault, second) = ask_list_twice(list, supplier, ORDER);
+    Ok(first? && second? && fault.is_none())
+}
+
+fn is_clean(trial: &mut TrialStore<VecStore>, supplier: &Gln) -> Result<bool, StoreFault> {
+    ask_clean_trial(trial, supplier, ORDER)
+}
+
+fn is_broken(trial: &mut TrialStore<VecStore>, supplier: &Gln) -> bool {
+    let (first, fault, second) = ask_trial_twice(trial, supplier, ORDER);
+    let disk = Err(StoreFault::Disk);
+    first == disk && second == disk && fault == Some(LastingFault::Disk)
 }
 
 fn on_trial(list: VecStore) -> TrialStore<VecStore> {
@@ -129,32 +140,31 @@ fn assert_list(
     alloc: Global,
     list: &mut VecStore,
     supplier: &Gln,
-) -> Result<(), MemoryFault> {
-    let done = committed(alloc, list, *supplier)?;
-    assert_eq!(*rt; done, Ok(()), "commit");
-    let found = ask_list_twice(list, supplier, ORDER);
-    assert_eq!(*rt; found, (Ok(true), None, Ok(true)), "lists");
-    assert_eq!(*rt; fault_of_list(list), None, "no fault for good");
+) -> Result<(), StoreFault> {
+    commit_order(alloc, list, *supplier)?;
+    assert!(*rt; is_listed(list, supplier)?, "lists");
+    assert!(*rt; fault_of_list(list).is_none(), "no fault for good");
     Ok(())
 }
 
-fn assert_trial(rt: &impl Abort, trial: &mut TrialStore<VecStore>, supplier: &Gln) {
-    let found = ask_clean_trial(trial, supplier, ORDER);
-    assert_eq!(*rt; found, Ok(true), "before the fault");
-    let (disk, broken) = (StoreFault::Disk, LastingFault::Disk);
-    let found = ask_trial_twice(trial, supplier, ORDER);
-    assert_eq!(*rt;
-        found,
-        (Err(disk), Some(broken), Err(disk)),
-        "a disk that fails"
-    );
+fn assert_trial(
+    rt: &impl Abort,
+    trial: &mut TrialStore<VecStore>,
+    supplier: &Gln,
+) -> Result<(), StoreFault> {
+    assert!(*rt; is_clean(trial, supplier)?, "before the fault");
+    assert!(*rt; is_broken(trial, supplier), "a disk that fails");
+    Ok(())
+}
+
+fn assert_faults(rt: &impl Abort, alloc: Global, supplier: &Gln) -> Result<(), StoreFault> {
+    let mut list = VecStore::new(alloc);
+    assert_list(rt, alloc, &mut list, supplier)?;
+    assert_trial(rt, &mut on_trial(list), supplier)
 }
 
 #[test]
 fn a_fault_for_good_is_told_and_answered_again(rt: HostRuntime) -> Result<(), Fail> {
     let supplier = Gln::parse(b"4012345500004").ok_or("a GLN")?;
-    let mut list = VecStore::new(rt.alloc());
-    assert_list(&rt, rt.alloc(), &mut list, &supplier)?;
-    assert_trial(&rt, &mut on_trial(list), &supplier);
-    Ok(())
+    Ok(assert_faults(&rt, rt.alloc(), &supplier)?)
 }

@@ -61,35 +61,32 @@ fn register_told(alloc: Global, register: &Register) -> Result<String, AllocErro
     format!(in alloc; "{hub} {retailer} {}", register.supplier_count())
 }
 
-fn assert_told(rt: &impl Abort, alloc: Global, register: &Register) -> Result<(), AllocError> {
-    let told = register_told(alloc, register)?;
-    assert_eq!(*rt; told.as_str(), "5412345000006 5412345000013 2");
-    Ok(())
-}
-
-fn assert_supplier(
-    rt: &impl Abort,
-    alloc: Global,
-    register: &Register,
-    row: &(&str, &str),
-) -> Result<(), Fail> {
-    let (party, want) = row;
-    let gln = gln(party)?;
-    let told = supplier_told(alloc, register, &gln)?;
-    assert_eq!(*rt; told.as_str(), *want, "of {party}");
-    Ok(())
+fn is_the_register(alloc: Global, register: &Register) -> Result<bool, AllocError> {
+    Ok(register_told(alloc, register)?.as_str() == "5412345000006 5412345000013 2")
 }
 
 // Parties, and what the register says of each as a supplier.
-static SUPPLIERS: [(&str, &str); 3] = [
+type Supplier = (&'static str, &'static str);
+
+static SUPPLIERS: [Supplier; 3] = [
     (ALPHA, "4012345500004 40123455 alpha-key-1"),
     (GAMMA, "none"),
     (RETAILER, "none"),
 ];
 
+fn is_supplier(alloc: Global, register: &Register, row: &Supplier) -> Result<bool, Fail> {
+    let (party, want) = row;
+    let gln = gln(party)?;
+    Ok(supplier_told(alloc, register, &gln)?.as_str() == *want)
+}
+
 fn assert_suppliers(rt: &impl Abort, alloc: Global, register: &Register) -> Result<(), Fail> {
+    assert!(*rt;
+        is_the_register(alloc, register)?,
+        "the hub and the retailer"
+    );
     for row in &SUPPLIERS {
-        assert_supplier(rt, alloc, register, row)?;
+        assert!(*rt; is_supplier(alloc, register, row)?, "of {}", row.0);
     }
     Ok(())
 }
@@ -97,12 +94,13 @@ fn assert_suppliers(rt: &impl Abort, alloc: Global, register: &Register) -> Resu
 #[test]
 fn parties_are_found(rt: HostRuntime) -> Result<(), Fail> {
     let register = register_of_two(rt.alloc())?;
-    assert_told(&rt, rt.alloc(), &register)?;
     assert_suppliers(&rt, rt.alloc(), &register)
 }
 
 // Parties, keys, and as whom the party may ask with the key.
-static ROLES: [(&str, &[u8], Option<Role>); 11] = [
+type Asking = (&'static str, &'static [u8], Option<Role>);
+
+static ROLES: [Asking; 11] = [
     (ALPHA, b"alpha-key-1", Some(Role::Supplier)),
     (RETAILER, b"retail-key", Some(Role::Retailer)),
     (ALPHA, b"beta-key-1", None),
@@ -116,10 +114,19 @@ static ROLES: [(&str, &[u8], Option<Role>); 11] = [
     (HUB, b"retail-key", None),
 ];
 
+fn is_role(register: &Register, asking: &Asking) -> Result<bool, Fail> {
+    let (party, key, role) = asking;
+    Ok(register.may(&gln(party)?, key) == *role)
+}
+
 fn assert_roles(rt: &impl Abort, register: &Register) -> Result<(), Fail> {
-    for (party, key, role) in &ROLES {
-        let found = register.may(&gln(party)?, key);
-        assert_eq!(*rt; found, *role, "{party} with {key:?}");
+    for asking in &ROLES {
+        assert!(*rt;
+            is_role(register, asking)?,
+            "{} with {:?}",
+            asking.0,
+            asking.1
+        );
     }
     Ok(())
 }
@@ -128,6 +135,10 @@ fn assert_roles(rt: &impl Abort, register: &Register) -> Result<(), Fail> {
 fn parties_are_known_by_their_keys(rt: HostRuntime) -> Result<(), Fail> {
     let register = register_of_two(rt.alloc())?;
     assert_roles(&rt, &register)
+}
+
+fn is_key(text: &[u8]) -> bool {
+    Key::parse(text).is_some()
 }
 
 #[test]
@@ -142,15 +153,18 @@ fn keys_of_8_to_64_visible_bytes(rt: HostRuntime) {
         (true, &longest[..64]),
         (false, &longest),
     ] {
-        assert_eq!(rt; Key::parse(text).is_some(), is_party_key, "{text:?}");
+        assert!(rt; is_key(text) == is_party_key, "{text:?}");
     }
+}
+
+fn are_shown(alloc: Global, key: &Key, fault: RegisterFault) -> Result<bool, AllocError> {
+    let shown = format!(in alloc; "{key:?}, {fault}")?;
+    Ok(shown.as_str() == "Key(..), overlap 12 345")
 }
 
 #[test]
 fn a_key_is_not_shown(rt: HostRuntime) -> Result<(), Fail> {
     let key = Key::parse(b"alpha-key-1").ok_or("a key")?;
-    let fault = RegisterFault::Overlap(12, 345);
-    let shown = format!(in rt.alloc(); "{key:?}, {fault}")?;
-    assert_eq!(rt; shown.as_str(), "Key(..), overlap 12 345");
+    assert!(rt; are_shown(rt.alloc(), &key, RegisterFault::Overlap(12, 345))?);
     Ok(())
 }

@@ -170,7 +170,7 @@ fn despatched(alloc: Global, ids: &Ids) -> Result<Items<Change>, MemoryFault> {
 }
 
 // What the look-ups of one supplier gave: of several rows their numbers as digits, and of one row a number of it.
-#[derive(Clone, Copy, Debug, PartialEq)]
+#[derive(Clone, Copy, PartialEq)]
 struct Seen {
     remembered: bool,
     order: bool,
@@ -437,75 +437,77 @@ fn commit_all<S: Store>(store: &mut S, changes: Items<Change>) -> Result<(), Sto
     commit(store, changes.as_slice())
 }
 
-// Whether an order of a supplier is committed, and a pallet.
-fn is_ordered<S: Store>(alloc: Global, store: &mut S, ids: &Ids) -> Result<bool, MemoryFault> {
-    Ok(commit_all(store, ordered(alloc, ids)?).is_ok())
+// Commits an order of a supplier, and a pallet.
+fn add<S: Store>(alloc: Global, store: &mut S, ids: &Ids) -> Result<(), StoreFault> {
+    commit_all(store, ordered(alloc, ids)?)?;
+    commit_all(store, despatched(alloc, ids)?)
 }
 
-fn is_despatched<S: Store>(alloc: Global, store: &mut S, ids: &Ids) -> Result<bool, MemoryFault> {
-    Ok(commit_all(store, despatched(alloc, ids)?).is_ok())
+// Whether the look-ups of a supplier give this.
+fn is_seen<S: Store>(store: &mut S, ids: &Ids, want: &Seen) -> Result<bool, StoreFault> {
+    Ok(look_ups(store, ids)? == *want)
 }
 
-fn are_added<S: Store>(alloc: Global, store: &mut S, ids: &Ids) -> Result<bool, MemoryFault> {
-    Ok(is_ordered(alloc, store, ids)? && is_despatched(alloc, store, ids)?)
-}
-
-// The rows of a supplier are committed.
-fn assert_added<S: Store>(
-    rt: &impl Abort,
-    alloc: Global,
-    store: &mut S,
-    ids: &Ids,
-    what: &str,
-) -> Result<(), MemoryFault> {
-    let done = are_added(alloc, store, ids)?;
-    assert_eq!(*rt; done, true, "{what}");
-    Ok(())
-}
-
-fn assert_seen(rt: &impl Abort, found: Result<Seen, StoreFault>, want: Seen, what: &str) {
-    assert_eq!(*rt; found, Ok(want), "{what}");
+fn has_counted(store: &TrialStore<VecStore>) -> bool {
+    store.look_ups() == 26 && store.commits() == 2
 }
 
 // The look-ups of a supplier with rows, and of one without, are counted.
-fn assert_counted(rt: &impl Abort, store: &mut TrialStore<VecStore>, alpha: &Ids, beta: &Ids) {
-    assert_seen(rt, look_ups(store, alpha), ALL, "alpha");
-    assert_seen(rt, look_ups(store, beta), NOTHING, "beta");
-    assert_eq!(*rt; (store.look_ups(), store.commits()), (26, 2), "calls");
+fn assert_counted(
+    rt: &impl Abort,
+    alloc: Global,
+    store: &mut TrialStore<VecStore>,
+    alpha: &Ids,
+    beta: &Ids,
+) -> Result<(), StoreFault> {
+    add(alloc, store, alpha)?;
+    assert!(*rt; is_seen(store, alpha, &ALL)?, "alpha");
+    assert!(*rt; is_seen(store, beta, &NOTHING)?, "beta");
+    assert!(*rt; has_counted(store), "calls");
+    Ok(())
 }
 
 // An entry; whether it is there; and the numbers of those that are not taken, after it was.
-static TAKEN: [(u64, bool, u64); 3] = [(1, true, 2), (2, true, 0), (3, false, 0)];
+type Entry = (u64, bool, u64);
 
-fn assert_taken(rt: &impl Abort, list: &mut VecStore, alpha: &Ids) {
-    for (number, is_there, untaken) in &TAKEN {
-        let taken = is_taken(list, &alpha.supplier, *number);
-        assert_eq!(*rt; taken, Ok(*is_there), "{number}");
-        let found = look_ups(list, alpha);
-        let want = Seen {
-            untaken: *untaken,
-            ..ALL
-        };
-        assert_eq!(*rt; found, Ok(want), "after entry {number} was taken");
-    }
+static ENTRIES: [Entry; 3] = [(1, true, 2), (2, true, 0), (3, false, 0)];
+
+fn is_taken_so(list: &mut VecStore, alpha: &Ids, entry: &Entry) -> Result<bool, StoreFault> {
+    let (number, is_there, untaken) = *entry;
+    let want = Seen { untaken, ..ALL };
+    let is_right = is_taken(list, &alpha.supplier, number)? == is_there;
+    Ok(is_right && is_seen(list, alpha, &want)?)
 }
 
 fn assert_used(rt: &impl Abort, list: &mut VecStore, alpha: &Ids) {
     between_calls(list);
-    assert_eq!(*rt; used_listed(list, &alpha.pallet), true, "used");
+    assert!(*rt; used_listed(list, &alpha.pallet), "used");
+}
+
+fn assert_taken(rt: &impl Abort, list: &mut VecStore, alpha: &Ids) -> Result<(), StoreFault> {
+    for entry in &ENTRIES {
+        assert!(*rt; is_taken_so(list, alpha, entry)?, "entry {}", entry.0);
+    }
+    assert_used(rt, list, alpha);
+    Ok(())
+}
+
+fn assert_look_ups(
+    rt: &impl Abort,
+    alloc: Global,
+    alpha: &Ids,
+    beta: &Ids,
+) -> Result<(), StoreFault> {
+    let mut store = TrialStore::new(VecStore::new(alloc));
+    assert_counted(rt, alloc, &mut store, alpha, beta)?;
+    assert_taken(rt, &mut store.into_store(), alpha)
 }
 
 #[test]
 fn lists_answer_each_look_up(rt: HostRuntime) -> Result<(), Fail> {
     let alpha = ids_of(ALPHA).ok_or("alpha")?;
     let beta = ids_of(BETA).ok_or("beta")?;
-    let mut store = TrialStore::new(VecStore::new(rt.alloc()));
-    assert_added(&rt, rt.alloc(), &mut store, &alpha, "commits")?;
-    assert_counted(&rt, &mut store, &alpha, &beta);
-    let mut list = store.into_store();
-    assert_taken(&rt, &mut list, &alpha);
-    assert_used(&rt, &mut list, &alpha);
-    Ok(())
+    Ok(assert_look_ups(&rt, rt.alloc(), &alpha, &beta)?)
 }
 
 // The rows are there after they were added, and after they were added again.
@@ -514,22 +516,24 @@ fn assert_added_twice(
     alloc: Global,
     store: &mut VecStore,
     alpha: &Ids,
-) -> Result<(), MemoryFault> {
+) -> Result<(), StoreFault> {
     for round in ["new", "there"] {
-        assert_added(rt, alloc, store, alpha, round)?;
-        assert_seen(rt, look_ups(store, alpha), ALL, round);
+        add(alloc, store, alpha)?;
+        assert!(*rt; is_seen(store, alpha, &ALL)?, "{round}");
     }
     Ok(())
 }
 
-// What comes of setting a line that is not there.
-fn none_set<S: Store>(
-    alloc: Global,
-    store: &mut S,
-    ids: &Ids,
-) -> Result<Result<(), StoreFault>, MemoryFault> {
-    let change = Change::SetLine(line(alloc, ids, 3, 0)?);
-    Ok(commit(store, slice::from_ref(&change)))
+fn setting_none(alloc: Global, ids: &Ids) -> Result<Change, MemoryFault> {
+    Ok(Change::SetLine(line(alloc, ids, 3, 0)?))
+}
+
+// Sets a line that is not there.
+fn set_none<S: Store>(alloc: Global, store: &mut S, ids: &Ids) -> Result<(), StoreFault> {
+    commit_all(
+        store,
+        with(Ok(Items::new(alloc)), setting_none(alloc, ids))?,
+    )
 }
 
 fn assert_none_set(
@@ -537,20 +541,22 @@ fn assert_none_set(
     alloc: Global,
     store: &mut VecStore,
     alpha: &Ids,
-) -> Result<(), MemoryFault> {
-    let done = none_set(alloc, store, alpha)?;
-    assert_eq!(*rt; done, Ok(()), "no such line");
-    assert_seen(rt, look_ups(store, alpha), ALL, "no such line");
+) -> Result<(), StoreFault> {
+    set_none(alloc, store, alpha)?;
+    assert!(*rt; is_seen(store, alpha, &ALL)?, "no such line");
     Ok(())
+}
+
+fn assert_left_out(rt: &impl Abort, alloc: Global, alpha: &Ids) -> Result<(), StoreFault> {
+    let mut store = VecStore::new(alloc);
+    assert_added_twice(rt, alloc, &mut store, alpha)?;
+    assert_none_set(rt, alloc, &mut store, alpha)
 }
 
 #[test]
 fn rows_under_keys_that_are_there_are_left_out(rt: HostRuntime) -> Result<(), Fail> {
     let alpha = ids_of(ALPHA).ok_or("alpha")?;
-    let mut store = VecStore::new(rt.alloc());
-    assert_added_twice(&rt, rt.alloc(), &mut store, &alpha)?;
-    assert_none_set(&rt, rt.alloc(), &mut store, &alpha)?;
-    Ok(())
+    Ok(assert_left_out(&rt, rt.alloc(), &alpha)?)
 }
 
 fn failing<S: Store + Drop>(store: S, calls: u64, fault: StoreFault) -> Option<TrialStore<S>> {
@@ -596,7 +602,9 @@ const DISK: StoreFault = StoreFault::Disk;
 const BROKEN: Option<LastingFault> = Some(LastingFault::Disk);
 
 // A fault, and behind how many calls it comes; and what is answered then.
-static FAILURES: [(StoreFault, u64, Told); 4] = [
+type Failure = (StoreFault, u64, Told);
+
+static FAILURES: [Failure; 4] = [
     (
         MEMORY,
         0,
@@ -631,17 +639,57 @@ fn told_by_lists(
     Some(told(store, supplier, changes))
 }
 
-fn assert_failures(rt: &impl Abort, alloc: Global, supplier: &Gln, changes: &[Change]) {
-    for (fault, calls, want) in &FAILURES {
-        let found = told_by_lists(alloc, *fault, *calls, supplier, changes);
-        assert_eq!(*rt; found, Some(*want), "{fault:?} behind {calls} calls");
+// Whether this is answered. Where it is a fault, and none was wanted, that is told.
+fn is_answer<T: PartialEq + Copy>(
+    found: Result<T, StoreFault>,
+    want: Result<T, StoreFault>,
+) -> Result<bool, StoreFault> {
+    match (found, want) {
+        (Err(fault), Ok(_)) => Err(fault),
+        (found, want) => Ok(found == want),
     }
+}
+
+fn are_answers(found: Told, want: &Told) -> Result<bool, StoreFault> {
+    let (done, first, second, lasting, around) = found;
+    let is_done = is_answer(done, want.0)?;
+    let are_known = is_answer(first, want.1)? && is_answer(second, want.2)?;
+    Ok(is_done && are_known && lasting == want.3 && around == want.4)
+}
+
+fn is_told(
+    alloc: Global,
+    failure: &Failure,
+    supplier: &Gln,
+    changes: &[Change],
+) -> Result<bool, StoreFault> {
+    let (fault, calls, want) = failure;
+    match told_by_lists(alloc, *fault, *calls, supplier, changes) {
+        Some(found) => are_answers(found, want),
+        None => Ok(false),
+    }
+}
+
+fn assert_failures(
+    rt: &impl Abort,
+    alloc: Global,
+    supplier: &Gln,
+    changes: &[Change],
+) -> Result<(), StoreFault> {
+    for failure in &FAILURES {
+        assert!(*rt;
+            is_told(alloc, failure, supplier, changes)?,
+            "{:?} behind {} calls",
+            failure.0,
+            failure.1
+        );
+    }
+    Ok(())
 }
 
 #[test]
 fn a_store_that_fails_keeps_its_rows(rt: HostRuntime) -> Result<(), Fail> {
     let alpha = ids_of(ALPHA).ok_or("alpha")?;
     let changes = ordered(rt.alloc(), &alpha)?;
-    assert_failures(&rt, rt.alloc(), &alpha.supplier, changes.as_slice());
-    Ok(())
+    Ok(assert_failures(&rt, rt.alloc(), &alpha.supplier, changes.as_slice())?)
 }
