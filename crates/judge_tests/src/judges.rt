@@ -56,11 +56,28 @@ fn delivery(alloc: Global) -> Result<IncomingMessage, Fail> {
     })
 }
 
-// Message 7 of interchange 1001, and the body of its mail.
-fn come(alloc: Global) -> Result<(IncomingMessage, Items<u8>), Fail> {
-    let delivery = delivery(alloc)?;
-    let body = copied(alloc, b"body")?;
-    Ok((delivery, body))
+// What each judge asks for: the retailer, alpha's row, and message 7 of interchange 1001 with the body of its mail.
+#[derive(Drop)]
+struct Setting {
+    retailer: Gln,
+    row: SupplierRow,
+    delivery: IncomingMessage,
+    body: Items<u8>,
+}
+
+impl Setting {
+    fn new(alloc: Global) -> Result<Setting, Fail> {
+        let retailer = gln(RETAILER)?;
+        let body = copied(alloc, b"body")?;
+        let row = alpha(alloc)?;
+        let delivery = delivery(alloc)?;
+        Ok(Setting {
+            retailer,
+            row,
+            delivery,
+            body,
+        })
+    }
 }
 
 // Lines of three orders that wait.

@@ -132,8 +132,7 @@ fn verdict(alloc: Global, case: &CancelCase) -> Result<Verdict, Fail> {
 }
 
 fn is_judged(alloc: Global, case: &CancelCase) -> Result<bool, Fail> {
-    let verdict = verdict(alloc, case)?;
-    is_told(alloc, &verdict, case.want)
+    is_told(alloc, verdict(alloc, case), case.want)
 }
 
 #[test]

@@ -3,7 +3,6 @@ ghost use Rattle.edi_base.specs.Seen.{has_twice};
 
 use super::*;
 use edi_goods::Despatch;
-use edi_messages::MessageFault;
 use hub_judges::judge_despatch;
 
 // A despatch advice of some units, their lines of an order where they name none; which of the SSCC are used, and what else is
@@ -134,17 +133,17 @@ fn despatch_message(alloc: Global, case: &DespatchCase) -> Result<RawMessage, Fa
     message(alloc, segments.as_str())
 }
 
-fn read_despatch(alloc: Global, message: &RawMessage) -> Result<Despatch, MessageFault>
+fn read_despatch(alloc: Global, message: &RawMessage) -> Result<Despatch, Fail>
     ensures { IfOk result (λ despatch. has_twice (map (λ unit. unit.sscc) despatch.units) ≡ false) }
 {
-    Despatch::read(alloc, message)
+    Ok(Despatch::read(alloc, message)?)
 }
 
 fn despatch(alloc: Global, case: &DespatchCase) -> Result<Despatch, Fail>
     ensures { IfOk result (λ despatch. has_twice (map (λ unit. unit.sscc) despatch.units) ≡ false) }
 {
     let message = despatch_message(alloc, case)?;
-    Ok(read_despatch(alloc, &message)?)
+    read_despatch(alloc, &message)
 }
 
 fn used_of(alloc: Global, case: &DespatchCase) -> Result<Items<bool>, MemoryFault> {
@@ -164,45 +163,41 @@ fn known_of(alloc: Global, case: &DespatchCase) -> Result<Known, Fail> {
 // Judges alone, so that what the contract says burdens no other goal.
 fn judged(
     alloc: Global,
-    retailer: &Gln,
-    row: &SupplierRow,
+    setting: Setting,
     known: Known,
-    delivery: IncomingMessage,
     despatch: &Despatch,
 ) -> Result<Verdict, Fail>
     requires each_unit { length known.used ≡ length despatch.now.units }
     requires apart { has_twice (map (λ unit. unit.sscc) despatch.now.units) ≡ false }
 {
-    Ok(judge_despatch(alloc, retailer, Some(row), known, delivery, despatch)?)
+    let Setting {
+        retailer,
+        row,
+        delivery,
+        ..
+    } = setting;
+    Ok(judge_despatch(alloc, &retailer, Some(&row), known, delivery, despatch)?)
 }
 
 // What comes of a despatch advice, where a flag is known of each unit.
-fn verdict_on(
-    alloc: Global,
-    row: &SupplierRow,
-    case: &DespatchCase,
-    despatch: &Despatch,
-) -> Result<Verdict, Fail>
+fn verdict_on(alloc: Global, known: Known, despatch: &Despatch) -> Result<Verdict, Fail>
     requires apart { has_twice (map (λ unit. unit.sscc) despatch.now.units) ≡ false }
 {
-    let retailer = gln(RETAILER)?;
-    let delivery = delivery(alloc)?;
-    let known = known_of(alloc, case)?;
     if known.used.as_slice().len() != despatch.units.as_slice().len() {
         return Err(Fail::new("not a flag for each unit"));
     }
-    judged(alloc, &retailer, row, known, delivery, despatch)
+    let setting = Setting::new(alloc)?;
+    judged(alloc, setting, known, despatch)
 }
 
 fn verdict(alloc: Global, case: &DespatchCase) -> Result<Verdict, Fail> {
-    let row = alpha(alloc)?;
     let despatch = despatch(alloc, case)?;
-    verdict_on(alloc, &row, case, &despatch)
+    let known = known_of(alloc, case)?;
+    verdict_on(alloc, known, &despatch)
 }
 
 fn is_judged(alloc: Global, case: &DespatchCase) -> Result<bool, Fail> {
-    let verdict = verdict(alloc, case)?;
-    is_told(alloc, &verdict, case.want)
+    is_told(alloc, verdict(alloc, case), case.want)
 }
 
 #[test]

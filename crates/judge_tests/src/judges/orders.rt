@@ -137,14 +137,19 @@ fn order(alloc: Global, buyer: &str, supplier: &str) -> Result<Order, Fail> {
 // Judges alone, so that what the contract says burdens no other goal.
 fn judged(
     alloc: Global,
-    retailer: &Gln,
-    supplier: Option<&SupplierRow>,
+    setting: Setting,
+    case: &OrderCase,
     known: &Known,
-    come: (IncomingMessage, Items<u8>),
     order: &Order,
 ) -> Result<Verdict, Fail> {
-    let (delivery, body) = come;
-    Ok(judge_order(alloc, retailer, supplier, known, delivery, body, order)?)
+    let Setting {
+        retailer,
+        row,
+        delivery,
+        body,
+    } = setting;
+    let supplier = registered(&row, case.is_registered);
+    Ok(judge_order(alloc, &retailer, supplier, known, delivery, body, order)?)
 }
 
 fn known_of(alloc: Global, case: &OrderCase) -> Result<Known, Fail> {
@@ -154,28 +159,15 @@ fn known_of(alloc: Global, case: &OrderCase) -> Result<Known, Fail> {
     Ok(known)
 }
 
-fn verdict_on(
-    alloc: Global,
-    case: &OrderCase,
-    known: &Known,
-    order: &Order,
-) -> Result<Verdict, Fail> {
-    let retailer = gln(RETAILER)?;
-    let row = alpha(alloc)?;
-    let come = come(alloc)?;
-    let supplier = registered(&row, case.is_registered);
-    judged(alloc, &retailer, supplier, known, come, order)
-}
-
 fn verdict(alloc: Global, case: &OrderCase) -> Result<Verdict, Fail> {
     let order = order(alloc, case.buyer, case.supplier)?;
+    let setting = Setting::new(alloc)?;
     let known = known_of(alloc, case)?;
-    verdict_on(alloc, case, &known, &order)
+    judged(alloc, setting, case, &known, &order)
 }
 
 fn is_judged(alloc: Global, case: &OrderCase) -> Result<bool, Fail> {
-    let verdict = verdict(alloc, case)?;
-    is_told(alloc, &verdict, case.want)
+    is_told(alloc, verdict(alloc, case), case.want)
 }
 
 #[test]

@@ -5,7 +5,6 @@ ghost use Rattle.edi_goods.specs.Receipt.{has_sums};
 
 use super::*;
 use edi_goods::Receipt;
-use edi_messages::MessageFault;
 use gs1_ids::Sscc;
 use hub_judges::judge_receipt;
 use hub_tables::{Arrival, Column, PalletRow};
@@ -131,11 +130,11 @@ fn receipt_message(alloc: Global, parties: &str) -> Result<RawMessage, Fail> {
     message(alloc, segments.as_str())
 }
 
-fn read_receipt(alloc: Global, message: &RawMessage) -> Result<Receipt, MessageFault>
+fn read_receipt(alloc: Global, message: &RawMessage) -> Result<Receipt, Fail>
     ensures apart { IfOk result (λ receipt. has_twice (map (λ unit. unit.sscc) receipt.units) ≡ false) }
     ensures sums { IfOk result (λ receipt. list_all (λ unit. has_sums unit.lines) receipt.units ≡ true) }
 {
-    Receipt::read(alloc, message)
+    Ok(Receipt::read(alloc, message)?)
 }
 
 // The receiving advice of both units, with these parties.
@@ -144,7 +143,7 @@ fn receipt(alloc: Global, parties: &str) -> Result<Receipt, Fail>
     ensures sums { IfOk result (λ receipt. list_all (λ unit. has_sums unit.lines) receipt.units ≡ true) }
 {
     let message = receipt_message(alloc, parties)?;
-    Ok(read_receipt(alloc, &message)?)
+    read_receipt(alloc, &message)
 }
 
 fn pallet_there(alloc: Global, sscc: &[u8], arrival: Arrival) -> Result<PalletRow, Fail> {
@@ -189,18 +188,23 @@ fn pallets(
 // Judges alone, so that what the contract says burdens no other goal.
 fn judged(
     alloc: Global,
-    retailer: &Gln,
-    supplier: Option<&SupplierRow>,
+    setting: Setting,
+    is_registered: bool,
     known: &Known,
-    come: (IncomingMessage, Items<u8>),
     receipt: &Receipt,
 ) -> Result<Verdict, Fail>
     requires each_unit { length known.now.pallets ≡ length receipt.now.units }
     requires apart { has_twice (map (λ unit. unit.sscc) receipt.now.units) ≡ false }
     requires sums { list_all (λ unit. has_sums unit.lines) receipt.now.units ≡ true }
 {
-    let (delivery, body) = come;
-    Ok(judge_receipt(alloc, retailer, supplier, known, delivery, body, receipt)?)
+    let Setting {
+        retailer,
+        row,
+        delivery,
+        body,
+    } = setting;
+    let supplier = registered(&row, is_registered);
+    Ok(judge_receipt(alloc, &retailer, supplier, known, delivery, body, receipt)?)
 }
 
 // What comes of a receiving advice, where a pallet is known of each unit, or that there is none.
@@ -216,11 +220,8 @@ fn verdict_on(
     if known.pallets.as_slice().len() != receipt.units.as_slice().len() {
         return Err(Fail::new("not a pallet for each unit"));
     }
-    let retailer = gln(RETAILER)?;
-    let row = alpha(alloc)?;
-    let come = come(alloc)?;
-    let supplier = registered(&row, is_registered);
-    judged(alloc, &retailer, supplier, known, come, receipt)
+    let setting = Setting::new(alloc)?;
+    judged(alloc, setting, is_registered, known, receipt)
 }
 
 fn known_of(alloc: Global, case: &ReceiptCase) -> Result<Known, Fail> {
@@ -238,8 +239,7 @@ fn verdict(alloc: Global, case: &ReceiptCase) -> Result<Verdict, Fail> {
 }
 
 fn is_judged(alloc: Global, case: &ReceiptCase) -> Result<bool, Fail> {
-    let verdict = verdict(alloc, case)?;
-    is_told(alloc, &verdict, case.want)
+    is_told(alloc, verdict(alloc, case), case.want)
 }
 
 #[test]

@@ -248,31 +248,28 @@ fn response(alloc: Global, case: &ResponseCase) -> Result<Response, Fail> {
 // Judges alone, so that what the contract says burdens no other goal.
 fn judged(
     alloc: Global,
-    retailer: &Gln,
-    row: &SupplierRow,
+    setting: Setting,
     known: Known,
-    delivery: IncomingMessage,
     response: &Response,
 ) -> Result<Verdict, Fail> {
-    Ok(judge_response(alloc, retailer, Some(row), known, delivery, response)?)
+    let Setting {
+        retailer,
+        row,
+        delivery,
+        ..
+    } = setting;
+    Ok(judge_response(alloc, &retailer, Some(&row), known, delivery, response)?)
 }
 
-fn verdict_on(
-    alloc: Global,
-    row: &SupplierRow,
-    lines: [Line; 3],
-    response: &Response,
-) -> Result<Verdict, Fail> {
-    let retailer = gln(RETAILER)?;
-    let delivery = delivery(alloc)?;
-    let known = known(alloc, lines, None)?;
-    judged(alloc, &retailer, row, known, delivery, response)
+fn verdict_on(alloc: Global, case: &ResponseCase, response: &Response) -> Result<Verdict, Fail> {
+    let setting = Setting::new(alloc)?;
+    let known = known(alloc, *case.lines, None)?;
+    judged(alloc, setting, known, response)
 }
 
 fn verdict(alloc: Global, case: &ResponseCase) -> Result<Verdict, Fail> {
-    let row = alpha(alloc)?;
     let response = response(alloc, case)?;
-    verdict_on(alloc, &row, *case.lines, &response)
+    verdict_on(alloc, case, &response)
 }
 
 // The table, so that its rows do not stand in the proof of the test.
@@ -281,8 +278,7 @@ fn cases() -> &'static [ResponseCase] {
 }
 
 fn is_judged(alloc: Global, case: &ResponseCase) -> Result<bool, Fail> {
-    let verdict = verdict(alloc, case)?;
-    is_told(alloc, &verdict, case.want)
+    is_told(alloc, verdict(alloc, case), case.want)
 }
 
 #[test]
