@@ -247,9 +247,9 @@ fn a_run_reads_writes_and_answers_its_status(rt: HostRuntime) -> Result<(), Fail
 }
 
 const SHOWN: &[u8] =
-    b"service component : element + decimal . release ? terminator '\ninterchange 1001\n  sender 5412345000013\n  recipient 5412345000006\n  prepared 250603 0915\n  messages 1\nmessage 1\n  type ORDERS\n  order 128576\n  buyer 5412345000013\n  supplier 4012345500004\n  line 1 item 04000862141404 ordered 48\n";
+    b"service component : element + decimal . release ? terminator '\ninterchange 1001\n  sender 5412345000013\n  recipient 5412345000006\n  prepared 250603 0915\n  messages 1\nmessage 1\n  reference 1\n  type ORDERS\n  order 128576\n  buyer 5412345000013\n  supplier 4012345500004\n  line 1 item 04000862141404 ordered 48\n";
 
-const CUT_SHOWN: &[u8] = b"refused E04 text cut\n";
+const CUT_SHOWN: &[u8] = b"refused E04 text cut at offset 200 line 1 segment 7\n";
 
 // Runs of `show` over a front of the order: whether the read after it fails, how many bytes the output takes, and whether the
 // next write fails; the status, what is printed of which lines, and what is reported of a fault.
@@ -265,14 +265,14 @@ type ShowRun = (
 );
 
 static SHOW_RUNS: [ShowRun; 8] = [
-    (255, false, usize::MAX, false, 0, SHOWN, 291, ""),
-    (200, false, usize::MAX, false, 1, CUT_SHOWN, 21, ""),
+    (255, false, usize::MAX, false, 0, SHOWN, 305, ""),
+    (200, false, usize::MAX, false, 1, CUT_SHOWN, 52, ""),
     (255, true, usize::MAX, false, 3, SHOWN, 0, "file\n"),
     (255, false, 0, true, 3, SHOWN, 0, "file\n"),
     (255, false, 100, true, 3, SHOWN, 100, "file\n"),
-    (255, false, 290, false, 3, SHOWN, 290, "file\n"),
-    (255, false, 291, true, 0, SHOWN, 291, ""),
-    (200, false, 20, false, 3, CUT_SHOWN, 20, "file\n"),
+    (255, false, 304, false, 3, SHOWN, 304, "file\n"),
+    (255, false, 305, true, 0, SHOWN, 305, ""),
+    (200, false, 51, false, 3, CUT_SHOWN, 51, "file\n"),
 ];
 
 // Shows alone, so that what the contract says burdens no other goal.
@@ -361,18 +361,28 @@ fn is_limit_kept(alloc: Global) -> Result<bool, Fail> {
     Ok(is_read && is_fault)
 }
 
-const NO_TEXT: &[u8] = b"hub = \"\xff\"";
+// What an input gives, whether the read after it fails, and whether it is read as the text of a register.
+static TEXTS: [(&str, &[u8], bool, bool); 3] = [
+    (
+        "a register",
+        b"hub = \"5412345000006\"\nretailer = { gln = \"5412345000013\", key = \"retail-key\" }\n[[supplier]]\ngln = \"4012345500004\"\nprefix = \"40123455\"\nkey = \"alpha-key-1\"\n",
+        false,
+        true,
+    ),
+    ("no text", b"hub = \"\xff\"", false, false),
+    (
+        "a read that fails",
+        b"hub = \"5412345000006\"\nretailer = { gln =",
+        true,
+        false,
+    ),
+];
 
 #[test]
 fn the_text_of_a_register_is_read(rt: HostRuntime) -> Result<(), Fail> {
-    let text = REGISTER.as_bytes();
-    let front = text.get(..40).ok_or("a front")?;
-    assert!(rt; is_read_as(rt.alloc(), text, false, true)?, "a register");
-    assert!(rt; is_read_as(rt.alloc(), NO_TEXT, false, false)?, "no text");
-    assert!(rt;
-        is_read_as(rt.alloc(), front, true, false)?,
-        "a read that fails"
-    );
+    for (name, left, fails, is_read) in &TEXTS {
+        assert!(rt; is_read_as(rt.alloc(), left, *fails, *is_read)?, "{name}");
+    }
     assert!(rt; is_limit_kept(rt.alloc())?, "the longest text");
     Ok(())
 }
