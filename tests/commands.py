@@ -183,19 +183,20 @@ def too_long():
     )
 
 
-def own_file():
-    """The database file is its owner's alone, however open the folder is; one that is there keeps its mode."""
-
-    def has_mode(mode):
-        return lambda folder: None if (found := os.stat(os.path.join(folder, NAME)).st_mode & 0o777) == mode else f"mode {found:o}"
+def kept_mode():
+    """A database file that is there keeps the mode that somebody gave it."""
 
     def opened(folder):
         os.chmod(os.path.join(folder, NAME), 0o640)
 
-    first, again = status_of(ALPHA), status_of(ALPHA)
-    first.after = lambda folder: has_mode(0o600)(folder) or opened(folder)
-    again.after = has_mode(0o640)
-    return steps("the mode of a database file", first, again)
+    first, again = one(RETAILER, "1", "1001", "ORDERS", ORDERS), status_of(ALPHA, line_status("128576", "W", 48, 48, 0, 0, 0))
+    first.after = opened
+    again.after = lambda folder: None if (found := mode_of(folder)) == 0o640 else f"mode {found:o}"
+    return steps("the mode of a database file that is there", first, again)
+
+
+def mode_of(folder):
+    return os.stat(os.path.join(folder, NAME)).st_mode & 0o777
 
 
 def sums_of_pages():
@@ -298,7 +299,7 @@ def kept_files():
     return [kept("schema1"), kept("schema1_received", mail(ALPHA, "after", 0, mails), one(RETAILER, "13", "1005", "RECADV", RECEIPT, "repeated"), status_of(ALPHA, *STATUS))]
 
 
-COMMANDS = [in_turn(), folder_in_order(), what_is_no_file(), cuts(), long_mailbox(), long_reply(), too_long(), own_file(), sums_of_pages(), two_suppliers(), denied(), *begins(), by_the_clock(), broken_output(), *kept_files()]
+COMMANDS = [in_turn(), folder_in_order(), what_is_no_file(), cuts(), long_mailbox(), long_reply(), too_long(), kept_mode(), sums_of_pages(), two_suppliers(), denied(), *begins(), by_the_clock(), broken_output(), *kept_files()]
 
 
 def made_folder(folder, count=12):
@@ -419,6 +420,17 @@ def meddled_import(program, *words, **variables):
         return ran.returncode, ran.stdout, ran.stderr
 
 
+def own_file(program):
+    """What is wrong with the mode of a database file that an import makes, if anything: it is its owner's alone, whatever the umask."""
+    for mask in (0o000, 0o022, 0o077):
+        with tempfile.TemporaryDirectory() as folder:
+            made_folder(folder, 1)
+            ran = subprocess.run([program, *over("import", RETAILER, "--folder", "in")], cwd=folder, capture_output=True, umask=mask, timeout=SECONDS)
+            if ran.returncode or mode_of(folder) != 0o600:
+                return f"umask {mask:o}: {ran.returncode}, mode {mode_of(folder):o}"
+    return None
+
+
 def hidden(program):
     """What is wrong where a folder cannot be read to its end, or one of its files cannot be looked at, if anything: neither is passed over."""
     lines = [(f"interchange U{k} messages 1", "1 ORDERS accepted") if k != 1 else ("fault",) for k in range(3)]
@@ -440,7 +452,7 @@ def few_reads(program):
             reads = int(file.read())
         if ran.returncode:
             return f"{ran.returncode}, {ran.stderr!r:.100}"
-        return None if reads <= len(text) // 1024 else f"{reads} reads of {len(text)} bytes"
+        return None if 0 < reads <= len(text) // 1024 else f"{reads} reads of {len(text)} bytes"
 
 
 def day(program):
@@ -457,6 +469,7 @@ TRIALS = [
     ("a file that another command has open", held_open),
     ("a file of a folder that cannot be read", unreadable),
     ("a file of a folder that has become a pipe", exchanged),
+    ("a database file that is made", own_file),
     ("a folder that cannot be read on, and a file of it that cannot be looked at", hidden),
     ("how often standard input is read", few_reads),
     ("the days of the example", day),
