@@ -53,6 +53,8 @@ def gate(words):
     for program, _ in PROGRAMS:
         if os.path.isfile(program):
             os.remove(program)
+    # a kit whose gate takes nothing over has no such word
+    words = [it for it in words if it in subprocess.run(["rt", "help"], stdout=subprocess.PIPE, text=True, errors="replace").stdout]
     # one job a check, and a check a processor: each job of a check would load what it stands on anew
     one_job_each = {"RT_JOBS": str(len(os.sched_getaffinity(0))), **os.environ}
     try:

@@ -12,7 +12,7 @@ next check. What is not refused so, or only by a proof that names what the edit 
 and that counts.
 
 What was refused is kept in crates/NAME/out/refused, under a sum of the edit and of all that it was tried on, and is not tried
-again: so a run goes on where the last one was stopped.
+again, and of what a library was proved in crates/NAME/out/proved: so a run goes on where the last one was stopped.
 
 Prints each edit that is not refused and each that is refused by names alone (which says little of the contract). The last line
 is `N refused, K of them by names alone, M not`, and the status is 1 where M is not 0."""
@@ -37,6 +37,8 @@ CHECK_MEMORY = 5 << 30
 # an error of a proof that names what an edit took away
 BY_NAMES = r"(\./)?proofs/.*(has no field|is not in scope|has no `|was not admitted)"
 PLACE = re.compile(r"(?:note: )?(?:\./)?(\S+?):(\d+):\d+: ")
+# one crate's proved work is taken over at a time, and not while it is copied
+TAKEN_OVER = threading.Lock()
 REFUSED, NAMES_ALONE, NOT_REFUSED = "refused", "refused by names alone", "not refused"
 
 
@@ -105,10 +107,28 @@ class Kept:
     def toolchain(self):
         return run(["version"], ROOT)[1]
 
+    def texts(self, crate):
+        """What a crate is proved of: its text, and that of all below it."""
+        return [(it, self.sum_of(it)) for it in sorted(self.below[crate] | {crate})]
+
     def key(self, wrong):
-        judge = wrong.refused_by or wrong.crate
-        texts = [(it, self.sum_of(it)) for it in sorted(self.below[judge] | {judge})]
-        return hashlib.sha256(repr((wrong, texts, self.toolchain())).encode()).hexdigest()
+        return hashlib.sha256(repr((wrong, self.texts(wrong.refused_by or wrong.crate), self.toolchain())).encode()).hexdigest()
+
+    def library(self, crate):
+        """The file that says of what the crate's library was proved, and what it says where that is the crate as it stands."""
+        return os.path.join(ROOT, "crates", crate, "out", "proved"), hashlib.sha256(repr((self.texts(crate), self.toolchain())).encode()).hexdigest()
+
+    def is_proved(self, crate):
+        path, sum_now = self.library(crate)
+        if not os.path.isfile(path):
+            return False
+        with open(path, encoding="ascii") as file:
+            return file.read() == sum_now
+
+    def keep_proved(self, crate):
+        path, sum_now = self.library(crate)
+        with open(path, "w", encoding="ascii") as file:
+            file.write(sum_now)
 
     def told(self, wrong):
         return self.known.get(self.key(wrong))
@@ -133,8 +153,9 @@ def copied(room, anew):
     for crate in os.listdir(os.path.join(ROOT, "crates")):
         for part in ("rlib", "incremental") if crate in anew else ("rlib",):
             work = os.path.join(ROOT, "crates", crate, "out", part)
-            if os.path.isdir(work):
-                linked(work, os.path.join(room, "crates", crate, "out", part))
+            with TAKEN_OVER:
+                if os.path.isdir(work):
+                    linked(work, os.path.join(room, "crates", crate, "out", part))
 
 
 def linked(folder, to):
@@ -287,18 +308,18 @@ def lanes():
     return max(1, min(len(os.sched_getaffinity(0)), free // CHECK_MEMORY))
 
 
-def proved(needed, below):
-    """Proves the libraries that are needed, those of which no check kept work, in their order. Gives those that are not proved as they stand."""
-    left, running, done, failed = [it for it in below if it in needed], {}, set(), []
-    with ThreadPoolExecutor(lanes()) as pool:
-        while left and not failed or running:
-            for crate in [it for it in left if below[it] <= done] if not failed else []:
-                left.remove(crate)
-                running[pool.submit(run, ["lib", "--jobs", "1"], os.path.join(ROOT, "crates", crate))] = crate
-            for it in wait(running, return_when=FIRST_COMPLETED).done:
-                crate = running.pop(it)
-                (failed.append((crate, it.result()[1][-1])) if it.result()[0] else done.add(crate))
-    return failed
+def library_proved(crate):
+    """Proves a crate's library in a copy of the tree, since a check locks all that it stands on, and takes over the work. Says why it is not proved."""
+    with room_beside() as room:
+        copied(room, {crate})
+        status, lines = run(["lib", "--jobs", "1"], os.path.join(room, "crates", crate))
+        for part in ("rlib", "incremental") if not status else ():
+            work = os.path.join(ROOT, "crates", crate, "out", part)
+            os.makedirs(os.path.dirname(work), exist_ok=True)
+            with TAKEN_OVER:
+                shutil.rmtree(work, ignore_errors=True)
+                os.rename(os.path.join(room, "crates", crate, "out", part), work)
+        return lines[-1] if status else ""
 
 
 def counted(told, count):
@@ -309,8 +330,71 @@ def counted(told, count):
             print(f"{it.crate}/{it.folder}/{it.name}: {what}: {why[:200]}", flush=True)
 
 
+class Tried:
+    """The run: libraries are proved and edits tried as many at a time as there are lanes, each once what it stands on is proved."""
+
+    def __init__(self, left, below, kept):
+        self.below, self.kept, self.begun, self.proving, self.proved = below, kept, time.time(), set(), set()
+        self.libraries = [it for it in below if any(it == judge or it in below[judge] for judge in {wrong.refused_by or wrong.crate for wrong in left})]
+        bodies = {crate: [it for it in left if it.crate == crate and not it.refused_by] for crate in below}
+        # each with the crate that refuses: the bodies of a crate, or one definition
+        self.tries = [(crate, its) for crate, its in sorted(bodies.items(), key=lambda it: -len(it[1])) if its] + [(it.refused_by, it) for it in left if it.refused_by]
+        self.count = {REFUSED: 0, NAMES_ALONE: 0, NOT_REFUSED: 0}
+
+    def next(self, lanes_left):
+        """What can begin now: a library before all else, since others wait for it, and so a lane is left for them."""
+        crate = next((it for it in self.libraries if self.below[it] <= self.proved), None)
+        if crate:
+            self.libraries.remove(crate)
+            self.proving.add(crate)
+            return self.library, crate
+        ready = next((it for it in self.tries if it[0] in self.proved), None)
+        if ready and lanes_left > (1 if self.libraries and not self.proving else 0):
+            self.tries.remove(ready)
+            return (self.definition if isinstance(ready[1], Wrong) else self.bodies), ready[1]
+        return None
+
+    # Each gives the edits with what became of them, a line to print, and why nothing more can be tried.
+
+    def library(self, crate):
+        why = "" if self.kept.is_proved(crate) else library_proved(crate)
+        if why:
+            return [], "", f"{crate} is not proved as it stands: {why}"
+        self.kept.keep_proved(crate)
+        self.proved.add(crate)
+        self.proving.remove(crate)
+        return [], "", ""
+
+    def bodies(self, its):
+        told, checks = bodies_tried(its[0].crate, its, self.kept.keep)
+        minutes = (time.time() - self.begun) / 60
+        alone = sum(bool(why) for _, _, why in told)
+        return told, f"{its[0].crate}: {len(told)} wrong bodies in {checks} checks and {alone} alone, {minutes:.0f} minutes from the start", ""
+
+    def definition(self, it):
+        told, why = definition_tried(it, self.below)
+        if told != NOT_REFUSED:
+            self.kept.keep(it, told)
+        return [(it, told, why)], "", ""
+
+    def run(self):
+        """Tries all. Gives why it cannot, where a crate is not proved as it stands."""
+        running, failed, most = set(), "", lanes()
+        with ThreadPoolExecutor(most) as pool:
+            while True:
+                while len(running) < most and not failed and (task := self.next(most - len(running))):
+                    running.add(pool.submit(*task))
+                if not running:
+                    return failed
+                done, running = wait(running, return_when=FIRST_COMPLETED)
+                for told, line, why in (it.result() for it in done):
+                    counted(told, self.count)
+                    failed = failed or why
+                    print(line, end="\n" if line else "", flush=True)
+
+
 def main(names):
-    below, begun = crates(), time.time()
+    below = crates()
     unknown = [it for it in names if it not in below]
     if unknown:
         print(f"no crate is called {' or '.join(unknown)}")
@@ -318,32 +402,15 @@ def main(names):
     kept = Kept(below)
     every = [it for crate in below if not names or crate in names for it in library(crate)]
     earlier = [(it, kept.told(it)) for it in every]
-    left = [it for it, told in earlier if not told]
-    judges = {it.refused_by or it.crate for it in left}
-    for crate, why in proved({low for it in judges for low in below[it] | {it}}, below):
-        print(f"{crate} is not proved as it stands: {why}")
+    tried = Tried([it for it, told in earlier if not told], below, kept)
+    counted([(it, told, "by an earlier run") for it, told in earlier if told], tried.count)
+    why = tried.run()
+    if why:
+        print(why)
         return 1
-    count = {REFUSED: 0, NAMES_ALONE: 0, NOT_REFUSED: 0}
-    counted([(it, told, "by an earlier run") for it, told in earlier if told], count)
-    bodies = {crate: [it for it in left if it.crate == crate and not it.refused_by] for crate in below}
-    with ThreadPoolExecutor(lanes()) as pool:
-        tasks = {pool.submit(bodies_tried, crate, its, kept.keep): crate for crate, its in sorted(bodies.items(), key=lambda it: -len(it[1])) if its}
-        tasks.update((pool.submit(definition_tried, it, below), it) for it in left if it.refused_by)
-        while tasks:
-            for done in wait(tasks, return_when=FIRST_COMPLETED).done:
-                of = tasks.pop(done)
-                if isinstance(of, Wrong):
-                    told, why = done.result()
-                    counted([(of, told, why)], count)
-                    if told != NOT_REFUSED:
-                        kept.keep(of, told)
-                else:
-                    told, checks = done.result()
-                    counted(told, count)
-                    print(f"{of}: {len(told)} wrong bodies in {checks} checks and {sum(bool(why) for _, _, why in told)} alone, {(time.time() - begun) / 60:.0f} minutes from the start", flush=True)
-    refused = count[REFUSED] + count[NAMES_ALONE]
-    print(f"{refused} refused, {count[NAMES_ALONE]} of them by names alone, {count[NOT_REFUSED]} not")
-    return 1 if count[NOT_REFUSED] else 0
+    refused = tried.count[REFUSED] + tried.count[NAMES_ALONE]
+    print(f"{refused} refused, {tried.count[NAMES_ALONE]} of them by names alone, {tried.count[NOT_REFUSED]} not")
+    return 1 if tried.count[NOT_REFUSED] else 0
 
 
 if __name__ == "__main__":
