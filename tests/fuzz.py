@@ -327,6 +327,25 @@ class Fuzz:
             raise Found(f"check ends with {status}", data, printed, error)
         return 1
 
+    def prefixes(self, draw):
+        """Suppliers with lists of prefixes, of few digits, so that some begin others."""
+        suppliers = [["".join(draw.choice("01") for _ in range(draw.choice((4, 5, 6, 7, 8, 12)))) for _ in range(draw.choice((1, 1, 2, 3, 8)))] for _ in range(draw.randrange(5))]
+        for prefixes in suppliers:
+            if draw.randrange(6):
+                prefixes[:] = dict.fromkeys(prefixes)
+            if draw.randrange(12) == 0:
+                prefixes[:] = draw.choice(([], prefixes * 2, prefixes + ["012"], prefixes + ["0123456789012"], prefixes + ["01234x"], [f"2{it:04}" for it in range(9)]))
+        text = registers.of_prefixes(*suppliers).encode()
+        path = os.path.join(self.folder, f"register{draw.random()}")
+        with open(path, "wb") as file:
+            file.write(text)
+        answer = self.ran(["check", "--register", path], self.folder, texts=[text])
+        os.remove(path)
+        want = registers.verdict_on_prefixes(suppliers)
+        if answer != (0 if want.startswith("ok") else 1, want.encode() + b"\n", b""):
+            raise Found(f"check does not say {want}", text, *answer[1:])
+        return 1
+
     def words(self, draw):
         """Words with one dropped, doubled, exchanged or changed: no input is there, so nothing is done."""
         made = draw.choice((
@@ -364,7 +383,7 @@ class Fuzz:
         elif seed % 8 == 5:
             some = [self.requests]
         else:
-            some = [draw.choice((self.shown, self.shown, self.register, self.words)) for _ in range(BATCH)]
+            some = [draw.choice((self.shown, self.shown, self.register, self.prefixes, self.words)) for _ in range(BATCH)]
         tried, found = 0, []
         for one in some:
             try:

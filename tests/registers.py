@@ -1,18 +1,40 @@
 """Registers, and what `edihub check` says of each."""
+import re
 
 HUB, RETAILER = "5412345000006", "5412345000013"
 ALPHA, BETA, GAMMA, DELTA = "4012345500004", "8712345000004", "7612345000008", "3512345000005"
 
 
+def written(prefix):
+    """A prefix as a string of TOML, or a list of prefixes as an array of them."""
+    return f'"{prefix}"' if isinstance(prefix, str) else "[" + ", ".join(f'"{it}"' for it in prefix) + "]"
+
+
 def register(*suppliers, hub=HUB, retailer=RETAILER, key="retail-key"):
-    """The text of a register. A supplier is its GLN, its prefix and its key."""
-    entries = (f'\n[[supplier]]\ngln = "{gln}"\nprefix = "{prefix}"\nkey = "{secret}"\n' for gln, prefix, secret in suppliers)
+    """The text of a register. A supplier is its GLN, its prefix or a list of them, and its key."""
+    entries = (f'\n[[supplier]]\ngln = "{gln}"\nprefix = {written(prefix)}\nkey = "{secret}"\n' for gln, prefix, secret in suppliers)
     return f'hub = "{hub}"\n\n[retailer]\ngln = "{retailer}"\nkey = "{key}"\n' + "".join(entries)
 
 
 def of_prefixes(*prefixes):
-    """A register of suppliers with these prefixes."""
+    """A register of suppliers with these prefixes, each a string or a list of strings."""
     return register(*((gln, prefix, f"key-of-{gln}") for gln, prefix in zip((ALPHA, BETA, GAMMA, DELTA), prefixes)))
+
+
+def are_prefixes_of_one(prefixes):
+    """Whether these can be the prefixes of a supplier."""
+    return 1 <= len(prefixes) <= 8 and len(set(prefixes)) == len(prefixes) and all(re.fullmatch("[0-9]{4,12}", it) for it in prefixes)
+
+
+def verdict_on_prefixes(suppliers):
+    """What `edihub check` prints of suppliers in which nothing but their lists of prefixes can be wrong."""
+    if not all(are_prefixes_of_one(it) for it in suppliers):
+        return "fault prefix"
+    for j in range(len(suppliers)):
+        for k in range(j + 1, len(suppliers)):
+            if any(p.startswith(q) or q.startswith(p) for p in suppliers[j] for q in suppliers[k]):
+                return f"fault overlap {j + 1} {k + 1}"
+    return f"ok {len(suppliers)} suppliers"
 
 
 def gln(number):
@@ -26,6 +48,9 @@ def crowd(count):
     """A register of so many suppliers, all of them right."""
     return register(*((gln(number), f"4{number:07}", f"key-{number:04}") for number in range(count)))
 
+
+# Eight prefixes, of which none begins another.
+EIGHT = [f"4012345{last}" for last in range(8)]
 
 # The head of a register whose retailer is an inline table, and the start of a supplier's entry.
 INLINE = f'hub = "{HUB}"\nretailer = {{ gln = "{RETAILER}", key = "retail-key" }}'
@@ -70,7 +95,33 @@ REGISTERS = [
     ("a hub twice", f'hub = "{HUB}"\n{INLINE}', "text"),
     ("a supplier that is a text", f'{INLINE}\nsupplier = "{ALPHA}"', "text"),
     ("a supplier that is a table", f'{INLINE}\n[supplier]\ngln = "{ALPHA}"\nprefix = "40123455"\nkey = "alpha-key-1"', "text"),
-    ("a supplier with a list of prefixes", f'{INLINE}{ENTRY}prefix = ["40123455"]\nkey = "alpha-key-1"', "text"),
+    ("a supplier with a list of one prefix", f'{INLINE}{ENTRY}prefix = ["40123455"]\nkey = "alpha-key-1"', "ok 1"),
+    ("lists of prefixes beside one", of_prefixes(["40123455", "5012"], "8712345", ["7612", "3512", "9999999"]), "ok 3"),
+    ("an empty list of prefixes", of_prefixes("40123455", []), "prefix"),
+    ("eight prefixes", of_prefixes(EIGHT), "ok 1"),
+    ("nine prefixes", of_prefixes(EIGHT + ["8712345"]), "prefix"),
+    ("a hundred prefixes", of_prefixes([f"40{number:05}" for number in range(100)]), "prefix"),
+    ("two equal prefixes of a supplier", of_prefixes(["4012345", "8712345", "4012345"]), "prefix"),
+    ("prefixes of a supplier that begin one another", of_prefixes(["4012345", "40123455", "4012"]), "ok 1"),
+    ("prefixes of a supplier that begin one another, the shortest first", of_prefixes(["4012", "4012345", "40123455"], "8712345"), "ok 2"),
+    ("an overlap of later prefixes", of_prefixes(["8712345", "40123455"], "7612345", ["3512345", "9999", "4012"]), "overlap 1 3"),
+    ("an overlap of later prefixes, the longer one last", of_prefixes(["8712345", "4012"], ["3512345", "9999", "40123455"]), "overlap 1 2"),
+    ("equal prefixes of two suppliers, in lists", of_prefixes(["3512345", "4012345"], ["4012345", "8712345"]), "overlap 1 2"),
+    ("the least overlap, though a later one has the lesser prefixes", of_prefixes(["9999"], ["8712", "4012"], ["4012345", "5012"], ["99991"]), "overlap 1 4"),
+    ("three digits in a list", of_prefixes(["4012345", "401"]), "prefix"),
+    ("thirteen digits in a list", of_prefixes(["4012345", "4012345678901"]), "prefix"),
+    ("a letter in a list", of_prefixes(["4012345", "401234x"]), "prefix"),
+    ("two equal prefixes of a supplier, before an overlap", of_prefixes("4012345", ["4012345", "8712345", "8712345"]), "prefix"),
+    ("nine prefixes, behind a short key", register((ALPHA, "8712345", "short"), (BETA, EIGHT + ["5012"], "beta-key-1")), "prefix"),
+    ("a short key beside an overlap of later prefixes", register((ALPHA, ["8712345", "4012"], "short"), (BETA, ["3512345", "4012"], "beta-key-1")), "key"),
+    ("an empty list of prefixes, of a GLN that comes twice", register((ALPHA, [], "alpha-key-1"), (ALPHA, "8712345", "beta-key-1")), "twice"),
+    ("a number in a list of prefixes", f'{INLINE}{ENTRY}prefix = ["40123455", 5012]\nkey = "alpha-key-1"', "text"),
+    ("a list in a list of prefixes", f'{INLINE}{ENTRY}prefix = [["40123455"]]\nkey = "alpha-key-1"', "text"),
+    ("a table for a prefix", f'{INLINE}{ENTRY}prefix = {{ first = "40123455" }}\nkey = "alpha-key-1"', "text"),
+    ("a number for a prefix", f'{INLINE}{ENTRY}prefix = 40123455\nkey = "alpha-key-1"', "text"),
+    ("a supplier without a prefix", f'{INLINE}{ENTRY}key = "alpha-key-1"', "text"),
+    ("a number in the last list, before a wrong GLN", of_prefixes(["40123455"], ["8712345"]).replace(ALPHA, "1").replace('"8712345"', "8712345"), "text"),
+    ("a list of prefixes over lines", f'{INLINE}{ENTRY}prefix = [\n  "40123455", # first\n  "5012",\n]\nkey = "alpha-key-1"', "ok 1"),
     ("a supplier without a key", f'{INLINE}{ENTRY}prefix = "40123455"', "text"),
     ("a retailer with a key of six bytes", INLINE.replace("retail-key", "retail"), "key"),
     ("a hub with a wrong check digit", INLINE.replace(HUB, "5412345000007"), "gln"),

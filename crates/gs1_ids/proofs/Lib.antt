@@ -1,6 +1,7 @@
 pub mod CheckDigits
 pub mod Decided
 pub mod FilledFields
+pub mod FirstPairs
 pub mod Overlaps
 pub mod Prefixes
 pub mod StoredPrefixes

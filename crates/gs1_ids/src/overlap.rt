@@ -1,6 +1,8 @@
 //! Prefixes that overlap.
-ghost use Rattle.std.specs.Prelude.{◌≡◌, ◌↔◌, [], ◌∷◌, map, position, IsNone, IfSome};
-ghost use Rattle.gs1_ids.specs.Overlap.{first_overlap_of, IsFirstOverlap, PrefixFree, PrefixesOfOneOverlap, SsccHasOneSupplier};
+ghost use Rattle.std.specs.Prelude.{◌≡◌, ◌↔◌, false, [], ◌∷◌, map, position, IsNone, IfSome};
+ghost use Rattle.std.specs.List.{list_any};
+ghost use Rattle.gs1_ids.specs.Overlap.{first_overlap_of, IsFirstOverlap, AreApart, PrefixFree, PrefixesOfOneOverlap, SsccHasOneSupplier};
+ghost use Rattle.gs1_ids.specs.Overlap as spec;
 ghost use Rattle.gs1_ids.specs.Prefix.{overlap};
 
 use crate::prefix::Prefix;
@@ -27,6 +29,28 @@ pub fn first_overlap(prefixes: &[Prefix]) -> Option<(usize, usize)>
         }
     }
     None
+}
+
+// Whether `prefix` and one of `others` overlap.
+fn overlaps_one(prefix: &Prefix, others: &[Prefix]) -> bool
+    ensures { result ≡ list_any (overlap prefix.now) others.now }
+{
+    others.iter().any(|other| prefix.overlaps(other))
+}
+
+// Whether one of `prefixes` and one of `others` overlap.
+fn some_overlaps(prefixes: &[Prefix], others: &[Prefix]) -> bool
+    ensures { result ≡ spec.overlap_some prefixes.now others.now }
+{
+    prefixes.iter().any(|prefix| overlaps_one(prefix, others))
+}
+
+/// Whether one of our prefixes and one of theirs overlap: one of the two begins the other, as equal ones do.
+pub fn overlap_some(ours: &[Prefix], theirs: &[Prefix]) -> bool
+    ensures value { result ≡ spec.overlap_some ours.now theirs.now }
+    ensures apart { (result ≡ false) ↔ AreApart ours.now theirs.now }
+{
+    some_overlaps(ours, theirs)
 }
 
 /// Two prefixes that both begin one list of digits begin one another.

@@ -10,8 +10,7 @@ use Rattle.edi_orders.specs.declared.response.Response.{Response}
 use Rattle.edi_goods.specs.Despatch.{despatch_of}
 use Rattle.edi_goods.specs.declared.despatch.Despatch.{Despatch}
 use Rattle.edi_goods.specs.declared.despatch.Unit.{Unit}
-use Rattle.hub_tables.specs.Keys.{bytes_cmp}
-use Rattle.hub_tables.specs.Sets.{Rises}
+use Rattle.hub_parties.specs.KeyOrder.{bytes_cmp, Rises}
 use Rattle.hub_tables.specs.State.{lines_of}
 use Rattle.hub_tables.specs.Tables.{Tables}
 use Rattle.hub_lines.specs.KnownLines.{AreUnclean}

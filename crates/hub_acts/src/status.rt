@@ -1,7 +1,7 @@
 //! The status report of a supplier.
 ghost use Rattle.std.specs.Prelude.{◌≡◌, ◌⊎◌, ◌++◌, true, None, Err, IfOk, IfErr};
 ghost use Rattle.std.specs.List.{flat_map};
-ghost use Rattle.hub_tables.specs.Sets.{Rises};
+ghost use Rattle.hub_parties.specs.KeyOrder.{Rises};
 ghost use Rattle.hub_tables.specs.State.{contents_of, receipts_of};
 ghost use Rattle.hub_tables.specs.Tables.{Tables, view};
 ghost use Rattle.hub_store.specs.Clean.{are_clean};

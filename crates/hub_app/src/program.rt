@@ -116,14 +116,16 @@ const CHECK_HELP: &str = "The register is a TOML file of at most 1048576 bytes:
   prefix = \"40123455\"
   key = \"alpha-key-1\"
 
+A supplier with several prefixes, eight at most, has them as a list: prefix = [\"40123455\", \"4012399\"]
+
 Faults, in the order in which they are looked for:
-  text         no TOML, or an entry is missing or no string
+  text         no TOML, or an entry is missing or no string, or of prefix no list of strings either
   many         more than 1000 suppliers
   gln          a GLN is not 13 digits, or its check digit is wrong
   twice        two GLNs are equal
-  prefix       a prefix is not 4 to 12 digits
+  prefix       a supplier has no prefix, more than 8 or two equal ones, or one is not 4 to 12 digits
   key          a key is not 8 to 64 visible characters
-  overlap I J  the prefix of supplier I begins that of supplier J, or the other way round
+  overlap I J  a prefix of supplier I begins one of supplier J, or the other way round
 
 Exit status: 0 a register; 1 a fault; 2 usage error; 3 the file cannot be read, is not UTF-8 or too long, or out of memory";
 

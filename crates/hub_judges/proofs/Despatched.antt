@@ -12,7 +12,7 @@ use Rattle.edi_goods.specs.declared.despatch.DespatchLine.{DespatchLine}
 use Rattle.edi_goods.specs.declared.despatch.Unit.{Unit}
 use Rattle.hub_parties.specs.declared.row.SupplierRow.{SupplierRow}
 use Rattle.hub_tables.specs.Change.{apply, apply_all}
-use Rattle.hub_tables.specs.Keys.{put}
+use Rattle.hub_parties.specs.KeyOrder.{put}
 use Rattle.hub_tables.specs.Rows.{same, pallet_cmp}
 use Rattle.hub_tables.specs.State.{knows_order, knows_advice}
 use Rattle.hub_tables.specs.Tables.{Tables, has_pallet}

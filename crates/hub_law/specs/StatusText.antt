@@ -4,7 +4,7 @@ use Rattle.std.specs.Prelude.{option_map}
 use Rattle.std.specs.Fmt.{decimal}
 use Rattle.std.specs.List.{flat_map, list_any}
 use Rattle.std.specs.Option.{unwrap_or}
-use Rattle.hub_tables.specs.Keys.{bytes_cmp, put}
+use Rattle.hub_parties.specs.KeyOrder.{bytes_cmp, put}
 use Rattle.hub_tables.specs.Rows.{same}
 use Rattle.hub_tables.specs.State.{line_of, despatched, contents_of, receipts_of, is_announced}
 use Rattle.hub_tables.specs.Tables.{Tables}

@@ -7,7 +7,7 @@ use Rattle.std.proofs.lemmas.List.Folds.{list_any_at}
 use Rattle.std.proofs.lemmas.List.Elements.{recursion_from_All, filter_passes}
 use Rattle.std.proofs.lemmas.Option.{same_Some, slice_get-get_or, slice_get_within}
 use Rattle.hub_tables.specs.Rows.{same}
-use Rattle.hub_tables.specs.Sets.{Rises}
+use Rattle.hub_parties.specs.KeyOrder.{Rises}
 use Rattle.hub_tables.specs.State.{the_only}
 use Rattle.hub_tables.proofs.Lists.{decide, same_if, filter_alike, all_filter}
 use Rattle.hub_lines.specs.Book.{facts_cmp, facts_of}

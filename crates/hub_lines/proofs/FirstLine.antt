@@ -11,9 +11,8 @@ use Rattle.std.proofs.lemmas.Cmp.{on_total, nat_list_cmp_total}
 use Rattle.std.proofs.lemmas.Map.Entries.{option_filter}
 use Rattle.std.proofs.lemmas.Map.Text.{is_eq-slice_cmp}
 use Rattle.std.proofs.lemmas.Option.{cond_some, same_Some}
-use Rattle.hub_tables.specs.Keys.{bytes_cmp, InOrder}
+use Rattle.hub_parties.specs.KeyOrder.{bytes_cmp, InOrder, Rises}
 use Rattle.hub_tables.specs.Rows.{same}
-use Rattle.hub_tables.specs.Sets.{Rises}
 use Rattle.hub_tables.proofs.Lists.{same_is, same_if, all_weaker}
 use Rattle.hub_lines.specs.Book.{facts_cmp}
 use Rattle.hub_lines.specs.Key.{LineKey, key_of, keys_of, is_below, place_from}

@@ -11,7 +11,7 @@ use Rattle.std.proofs.lemmas.Cmp.{alike_right}
 use Rattle.std.proofs.lemmas.List.Elements.{All-from_recursion, All-get_or}
 use Rattle.std.proofs.lemmas.List.Sums.{prefix_len_is}
 use Rattle.std.proofs.lemmas.Map.Entries.{option_filter}
-use Rattle.hub_tables.specs.Keys.{InOrder}
+use Rattle.hub_parties.specs.KeyOrder.{InOrder}
 use Rattle.hub_tables.proofs.Lists.{all_weaker}
 
 pub find_none : {X : Type 0} (p : X → Bool) (xs : List X) → AllByRecursion (λ x. p x ≡ false) xs → find p xs ≡ None

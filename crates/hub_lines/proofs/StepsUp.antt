@@ -8,7 +8,7 @@ use Rattle.std.specs.Ordering.{is_lt}
 use Rattle.std.proofs.lemmas.Bool.{and_parts}
 use Rattle.std.proofs.lemmas.Cmp.{on_total, then_total, nat_cmp_total, nat_list_cmp_total}
 use Rattle.hub_tables.proofs.Lists.{all_weaker}
-use Rattle.hub_tables.specs.Sets.{Rises}
+use Rattle.hub_parties.specs.KeyOrder.{Rises}
 use Rattle.hub_tables.specs.declared.rows.LineRow.{LineRow}
 use Rattle.hub_lines.specs.Book.{facts_cmp, place_cmp, rows}
 use Rattle.hub_lines.specs.KnownLines.{steps_up}

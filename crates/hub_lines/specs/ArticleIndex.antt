@@ -3,9 +3,8 @@ use Rattle.std.specs.Prelude.{◌≡◌, ℕ, ◌+◌, ◌==◌, Bool, ◌&&◌,
 use Rattle.std.specs.BTreeMap.{BTreeMap, get}
 use Rattle.std.specs.declared.cmp.Ordering.{Ordering}
 use Rattle.std.specs.Ordering.{nat_cmp, ordering_then}
-use Rattle.hub_tables.specs.Keys.{bytes_cmp}
+use Rattle.hub_parties.specs.KeyOrder.{bytes_cmp, Rises}
 use Rattle.hub_tables.specs.Rows.{same}
-use Rattle.hub_tables.specs.Sets.{Rises}
 use Rattle.hub_lines.specs.Book.{facts_cmp}
 use Rattle.hub_lines.specs.Key.{LineKey, keys_of, place_from}
 use Rattle.hub_lines.specs.declared.by_article.ArticleLines.{ArticleLines}

@@ -2,7 +2,7 @@
 use Rattle.std.specs.Prelude.{ℕ, Bool, List, map}
 use Rattle.std.specs.List.{prefix_len}
 use Rattle.std.specs.Ordering.{nat_cmp, ordering_then, is_lt}
-use Rattle.hub_tables.specs.Keys.{bytes_cmp}
+use Rattle.hub_parties.specs.KeyOrder.{bytes_cmp}
 use Rattle.hub_lines.specs.declared.facts.LineFacts.{LineFacts}
 
 -- the keys of a line: the order number, the line number, and the article

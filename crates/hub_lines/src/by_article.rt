@@ -3,7 +3,7 @@ ghost use Rattle.std.specs.Prelude.{◌≡◌, ◌<◌, None, filter, length, sl
 ghost use Rattle.std.specs.BTreeMap.{get};
 ghost use Rattle.std.specs.Option.{IfSome, IfNone};
 ghost use Rattle.hub_tables.specs.Rows.{same};
-ghost use Rattle.hub_tables.specs.Sets.{Rises};
+ghost use Rattle.hub_parties.specs.KeyOrder.{Rises};
 ghost use Rattle.hub_tables.specs.State.{the_only};
 ghost use Rattle.hub_lines.specs.Book.{facts_cmp, facts_of};
 ghost use Rattle.hub_lines.specs.ArticleIndex.{IsArticleIndex, article_cmp, one_more};

@@ -2,7 +2,7 @@
 ghost use Rattle.std.specs.Prelude.{◌≡◌, ◌<◌, ◌==◌, ◌&&◌, None, length, slice_get, find};
 ghost use Rattle.std.specs.Option.{IfSome, IfNone};
 ghost use Rattle.hub_tables.specs.Rows.{same};
-ghost use Rattle.hub_tables.specs.Sets.{Rises};
+ghost use Rattle.hub_parties.specs.KeyOrder.{Rises};
 ghost use Rattle.hub_lines.specs.Book.{facts_cmp, facts_of};
 ghost use Rattle.hub_lines.specs.Key.{key_of, keys_of, is_below, place_from};
 ghost use Rattle.hub_lines.specs.declared.facts.LineFacts.{LineFacts};

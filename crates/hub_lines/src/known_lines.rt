@@ -2,7 +2,7 @@
 ghost use Rattle.std.specs.Prelude.{◌≡◌, ◌∷◌, ◌++◌, [], false, IfOk, OnOk};
 ghost use Rattle.std.specs.List.{AllByRecursion, list_all};
 ghost use Rattle.std.specs.Option.{IfSome, IfNone};
-ghost use Rattle.hub_tables.specs.Sets.{Rises};
+ghost use Rattle.hub_parties.specs.KeyOrder.{Rises};
 ghost use Rattle.hub_lines.specs.Book.{facts_cmp, rows, IsCovered};
 ghost use Rattle.hub_lines.specs.KnownLines.{AddsUp, AreUnclean, is_covered};
 

@@ -1,7 +1,7 @@
 //! Rows of lines that rise by order number and line number.
 ghost use Rattle.std.specs.Prelude.{◌≡◌, true, None};
 ghost use Rattle.std.specs.Ordering.{is_lt};
-ghost use Rattle.hub_tables.specs.Sets.{Rises};
+ghost use Rattle.hub_parties.specs.KeyOrder.{Rises};
 ghost use Rattle.hub_lines.specs.Book.{place_cmp};
 ghost use Rattle.hub_lines.specs.KnownLines.{steps_up};
 

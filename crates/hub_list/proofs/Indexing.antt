@@ -7,9 +7,8 @@ use Rattle.std.specs.declared.cmp.Ordering.TheVariants.{Less, Equal, Greater}
 use Rattle.std.specs.Ordering.{is_eq, is_gt, is_lt}
 use Rattle.std.specs.Cmp.{IsTotalOrder}
 use Rattle.std.proofs.lemmas.Cmp.{tied_itself}
-use Rattle.hub_tables.specs.Keys.{InOrder, put, replace}
+use Rattle.hub_parties.specs.KeyOrder.{InOrder, put, replace, Rises}
 use Rattle.hub_tables.specs.Rows.{same}
-use Rattle.hub_tables.specs.Sets.{Rises}
 use Rattle.hub_tables.proofs.KeyOrder.{filter_put_in, filter_put_out, in_order_filter, put_first}
 use Rattle.hub_tables.proofs.Lists.{decide, same_is, same_if, all_filter, all_weaker, all_passes, filter_alike}
 use Rattle.hub_tables.proofs.Lists.{filter_none}

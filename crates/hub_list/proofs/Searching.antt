@@ -9,7 +9,7 @@ use Rattle.std.specs.Ordering.{is_lt, is_le, is_eq, is_gt}
 use Rattle.std.proofs.lemmas.List.Elements.{All-from_recursion, All-get_or}
 use Rattle.std.proofs.lemmas.List.Sums.{prefix_len_is}
 use Rattle.std.proofs.lemmas.List.{take_all, length-drop}
-use Rattle.hub_tables.specs.Sets.{Rises}
+use Rattle.hub_parties.specs.KeyOrder.{Rises}
 use Rattle.hub_tables.proofs.Lists.{all_weaker, filter_none}
 use Rattle.hub_list.proofs.Filters.{all_taken}
 use Rattle.hub_list.specs.Search.{may_precede, KeepsPlaces, Parted}

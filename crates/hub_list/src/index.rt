@@ -2,8 +2,7 @@
 ghost use Rattle.std.specs.Prelude.{◌≡◌, ℕ, ◌+◌, ◌<◌, ◌≤◌, Bool, true, false, if◌then◌else◌, refl, List, vec_len, vec_capacity};
 ghost use Rattle.std.specs.List.{list_any};
 ghost use Rattle.std.specs.Ordering.{is_eq};
-ghost use Rattle.hub_tables.specs.Keys.{put, replace};
-ghost use Rattle.hub_tables.specs.Sets.{Rises};
+ghost use Rattle.hub_parties.specs.KeyOrder.{put, replace, Rises};
 ghost use Rattle.hub_list.specs.Index.{IsIndex};
 
 use crate::key::SameKey;

@@ -4,7 +4,7 @@ ghost use Rattle.std.specs.Ordering.{nat_cmp, ordering_then, is_eq};
 ghost use Rattle.std.specs.declared.cmp.Ordering.{Ordering as Order};
 ghost use Rattle.std.proofs.lemmas.Cmp.{nat_cmp_total, nat_list_cmp_total};
 ghost use Rattle.hub_tables.specs.Cases.{side_letter};
-ghost use Rattle.hub_tables.specs.Keys.{bytes_cmp};
+ghost use Rattle.hub_parties.specs.KeyOrder.{bytes_cmp};
 ghost use Rattle.hub_tables.specs.Rows.{same};
 ghost use Rattle.hub_rows.specs.Alike.{same_bytes, same_numbers, both};
 ghost use Rattle.hub_list.specs.Places.{above, is_above, first_part, then_part, by_key, above_kept};

@@ -5,7 +5,7 @@ ghost use Rattle.std.specs.Option.{unwrap_or};
 ghost use Rattle.hub_tables.specs.Cases.{side_letter};
 ghost use Rattle.hub_tables.specs.Rows.{same, order_cmp, line_cmp, advice_cmp, pallet_cmp, content_cmp, receipt_cmp, remembered_cmp};
 ghost use Rattle.hub_tables.specs.Rows.{mail_cmp};
-ghost use Rattle.hub_tables.specs.Sets.{Rises};
+ghost use Rattle.hub_parties.specs.KeyOrder.{Rises};
 ghost use Rattle.hub_tables.specs.State.{is_taken};
 ghost use Rattle.hub_tables.specs.Tables.{holds};
 ghost use Rattle.hub_store.specs.Heads.{head_of};

@@ -2,8 +2,7 @@
 ghost use Rattle.std.specs.Prelude.{◌≡◌, ◌+◌, ◌<◌, ◌≤◌, false, not, filter, vec_len, vec_capacity};
 ghost use Rattle.std.specs.List.{insert, list_any};
 ghost use Rattle.std.specs.Ordering.{is_eq};
-ghost use Rattle.hub_tables.specs.Keys.{put, replace};
-ghost use Rattle.hub_tables.specs.Sets.{Rises};
+ghost use Rattle.hub_parties.specs.KeyOrder.{put, replace, Rises};
 
 use crate::key::SameKey;
 use crate::search::{count_below, rows_at};

@@ -13,7 +13,7 @@ use Rattle.sqlite_value.specs.Order.{Row}
 use Rattle.sqlite_sql.specs.Term.{Term, eval_all}
 use Rattle.sqlite_sql.specs.Query.{sort_cmp}
 use Rattle.sql_rows.proofs.Answers.{every_shuffled, map_twice}
-use Rattle.hub_tables.specs.Sets.{Rises}
+use Rattle.hub_parties.specs.KeyOrder.{Rises}
 use Rattle.hub_tables.proofs.Lists.{all_filter}
 use Rattle.hub_schema.specs.Rows.{in_key_order}
 use Rattle.hub_schema.proofs.InKeyOrder.{listed_filter}

@@ -54,8 +54,7 @@ use Rattle.edi_moment.specs.Moment.{last_moment}
 use Rattle.edi_segments.specs.Service.{is_decimal}
 use Rattle.gs1_ids.specs.Gln.{is_gln}
 use Rattle.std.specs.Prelude.{nat_le}
-use Rattle.hub_tables.specs.Keys.{bytes_cmp}
-use Rattle.hub_tables.specs.Sets.{Rises}
+use Rattle.hub_parties.specs.KeyOrder.{bytes_cmp, Rises}
 use Rattle.hub_tables.specs.State.{last_mail}
 use Rattle.hub_looks.specs.Shown.{shown_number}
 use Rattle.hub_looks.proofs.Listing.{sources_moved}

@@ -12,7 +12,7 @@ use Rattle.sqlite_value.specs.Order.{value_cmp}
 use Rattle.sqlite_value.proofs.OrderLemmas.{value_cmp-Blob, value_cmp-Int}
 use Rattle.sqlite_schema.specs.declared.schema.Kind.TheVariants as kind
 use Rattle.sql_rows.specs.Cells.{IsOf}
-use Rattle.hub_tables.specs.Keys.{bytes_cmp}
+use Rattle.hub_parties.specs.KeyOrder.{bytes_cmp}
 use Rattle.hub_schema.specs.Cells.{bytes_in, natural, number_in}
 
 pub then_none : (o : Ordering) → ordering_then o Equal ≡ o

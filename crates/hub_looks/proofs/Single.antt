@@ -9,11 +9,10 @@ use Rattle.std.specs.Ordering.{is_eq, nat_cmp, ordering_then}
 use Rattle.std.proofs.lemmas.Bool.{cases_Bool}
 use Rattle.std.proofs.lemmas.Bool.Decides.{nat_tests}
 use Rattle.std.proofs.lemmas.Map.Text.{is_eq-slice_cmp}
-use Rattle.hub_tables.specs.Keys.{bytes_cmp}
+use Rattle.hub_parties.specs.KeyOrder.{bytes_cmp, Rises}
 use Rattle.hub_tables.specs.Rows.{same}
 use Rattle.std.proofs.lemmas.List.Sorted.{length_permutation}
 use Rattle.sqlite.proofs.Callers.{one_permutation}
-use Rattle.hub_tables.specs.Sets.{Rises}
 use Rattle.hub_tables.proofs.Lists.{all_passes, all_weaker, same_is, same_if}
 use Rattle.hub_looks.proofs.Listing.{filter_both, all_clean, clean_all}
 use Rattle.hub_looks.proofs.Sorting.{rises_filter}

@@ -13,8 +13,8 @@ use Rattle.std.proofs.lemmas.List.Sorted.{IsPermutation-sym, IsPermutation-trans
 use Rattle.std.proofs.lemmas.List.Sorted.{IsPermutation-middle, IsPermutation-append_right}
 use Rattle.std.proofs.lemmas.Map.Keys.{IsDistinct-IsPermutation}
 use Rattle.sql_rows.proofs.Answers.{at_map, length_map}
-use Rattle.hub_tables.specs.Keys.{put}
-use Rattle.hub_tables.specs.Sets.{Rises, Has}
+use Rattle.hub_parties.specs.KeyOrder.{put, Rises}
+use Rattle.hub_tables.specs.Sets.{Has}
 use Rattle.hub_tables.proofs.Lists.{all_filter}
 use Rattle.hub_tables.proofs.Sets.{one_list}
 use Rattle.hub_schema.specs.Rows.{in_key_order}

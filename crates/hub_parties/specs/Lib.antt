@@ -1,2 +1,4 @@
 pub mod Key
+pub mod KeyOrder
+pub mod Prefixes
 pub mod Rows

@@ -1,13 +1,14 @@
 -- The rows of a register: the hub's GLN, the retailer with its key, and the suppliers; how one is found, and who asks.
 use Rattle.std.specs.Prelude.{◌≡◌, ℕ, ◌≤◌, false, ◌&&◌, if◌then◌else◌, IsTrue, List, ◌∷◌, length, map, find, Option}
 use Rattle.std.specs.Prelude.{Some, None}
-use Rattle.std.specs.List.{list_all, flat_map}
+use Rattle.std.specs.List.{list_all}
 use Rattle.std.specs.Str.{bytes_eq}
 use Rattle.edi_base.specs.Seen.{has_twice}
 use Rattle.gs1_ids.specs.Gln.{is_gln}
 use Rattle.gs1_ids.specs.Overlap.{PrefixFree}
-use Rattle.gs1_ids.specs.Prefix.{is_prefix}
 use Rattle.hub_parties.specs.Key.{is_party_key}
+use Rattle.hub_parties.specs.KeyOrder.{bytes_cmp, Rises}
+use Rattle.hub_parties.specs.Prefixes.{are_company_prefixes}
 use Rattle.hub_parties.specs.declared.role.Role.{Role}
 use Rattle.hub_parties.specs.declared.role.Role.TheVariants.{Retailer, Supplier}
 use Rattle.hub_parties.specs.declared.row.SupplierRow.{SupplierRow}
@@ -38,10 +39,6 @@ company_prefixes suppliers = map (λ supplier. supplier.prefixes) suppliers
 abbrev pub glns : RegisterRows → List (List ℕ)
 glns rows = rows.hub ∷ rows.retailer ∷ map (λ row. row.gln) rows.suppliers
 
--- every prefix, in the order of the suppliers
-abbrev pub prefixes : RegisterRows → List (List ℕ)
-prefixes rows = flat_map (λ row. row.prefixes) rows.suppliers
-
 -- every key, the retailer's first
 abbrev pub keys : RegisterRows → List (List ℕ)
 keys rows = rows.retailer_key ∷ map (λ row. row.key) rows.suppliers
@@ -66,11 +63,12 @@ role_of rows gln key = role_by rows (row_of rows gln) gln key
 abbrev pub most_suppliers : ℕ
 most_suppliers = 1000
 
--- what every register keeps
+-- what every register keeps: its suppliers stand by their GLNs
 pub record IsRegister (rows : RegisterRows) : Type 0 where
   pub few : length rows.suppliers ≤ most_suppliers
   pub glns_right : IsTrue (list_all is_gln (glns rows))
   pub glns_apart : has_twice (glns rows) ≡ false
-  pub prefixes_right : IsTrue (list_all is_prefix (prefixes rows))
+  pub prefixes_right : IsTrue (list_all are_company_prefixes (company_prefixes rows.suppliers))
   pub keys_right : IsTrue (list_all is_party_key (keys rows))
   pub prefixes_free : PrefixFree (company_prefixes rows.suppliers)
+  pub suppliers_rise : Rises bytes_cmp (map (λ row. row.gln) rows.suppliers)

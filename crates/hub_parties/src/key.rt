@@ -55,6 +55,15 @@ impl Key {
         Some(Key { bytes })
     }
 
+    /// The same key.
+    pub fn copy(&self) -> Self
+        ensures { result ≡ self.now }
+    {
+        let mut bytes = ArrayVec::new();
+        bytes.try_extend_from_slice(self.bytes()).unwrap();
+        Key { bytes }
+    }
+
     /// The bytes, 8 to 64 of them.
     pub fn bytes(&self) -> &[u8]
         ensures value { result.now ≡ self.now }

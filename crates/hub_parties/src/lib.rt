@@ -2,9 +2,13 @@
 #![tactic(auto)]
 
 mod key;
+mod overlap;
+mod prefixes;
 mod role;
 mod row;
 
 pub use key::Key;
+pub use overlap::first_overlap;
+pub use prefixes::CompanyPrefixes;
 pub use role::Role;
 pub use row::SupplierRow;

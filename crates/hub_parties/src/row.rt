@@ -1,6 +1,10 @@
+ghost use Rattle.std.specs.Prelude.{◌≡◌, IfOk};
+
 use crate::key::Key;
-use edi_base::Items;
-use gs1_ids::{Gln, Prefix};
+use crate::prefixes::CompanyPrefixes;
+use edi_base::MemoryFault;
+use gs1_ids::Gln;
+use std::alloc::Global;
 
 /// A supplier's row of a register.
 #[derive(Debug, Drop)]
@@ -8,7 +12,20 @@ pub struct SupplierRow {
     /// The supplier's GLN.
     pub gln: Gln,
     /// The GS1 company prefixes under which the supplier numbers its logistic units.
-    pub prefixes: Items<Prefix>,
+    pub prefixes: CompanyPrefixes,
     /// The key by which the supplier is known to the hub.
     pub key: Key,
+}
+
+impl SupplierRow {
+    /// The same row.
+    pub fn copy(&self, alloc: Global) -> Result<Self, MemoryFault>
+        ensures { IfOk result (λ copy. copy ≡ self.now) }
+    {
+        Ok(SupplierRow {
+            gln: self.gln,
+            prefixes: self.prefixes.copy(alloc)?,
+            key: self.key.copy(),
+        })
+    }
 }

@@ -6,3 +6,4 @@ pub mod PrefixFree
 pub mod Readings
 pub mod Rest
 pub mod Right
+pub mod SortedPrefixes

@@ -1,10 +1,12 @@
 -- What holds of rows holds of them in the order of their GLNs.
-use Rattle.std.proofs.Common.{◌≡◌, ◌+◌, ◌≤◌, Bool, true, ◌&&◌, List, [], ◌∷◌, length, map, Ordering, refl, ap₂, arith}
+use Rattle.std.proofs.Common.{◌≡◌, ℕ, ◌+◌, ◌≤◌, Bool, true, ◌&&◌, List, [], ◌∷◌, length, map, Ordering, refl, ap, ap₂, ◌∙◌, arith}
 use Rattle.std.specs.List.{list_all, AllByRecursion}
 use Rattle.std.specs.Cmp.Lexicographic.{slice_cmp}
-use Rattle.std.specs.Ordering.{nat_cmp, match_ordering}
+use Rattle.std.specs.Ordering.{nat_cmp, match_ordering, ordering_reverse}
 use Rattle.std.specs.declared.cmp.Ordering.TheVariants.{Less, Equal, Greater}
 use Rattle.std.proofs.lemmas.Bool.{and_parts}
+use Rattle.std.proofs.lemmas.Cmp.{nat_list_cmp_total}
+use Rattle.hub_parties.specs.KeyOrder.{bytes_cmp, Rises}
 use Rattle.hub_parties.specs.declared.row.SupplierRow.{SupplierRow}
 use Rattle.hub_register.specs.InOrder.{put, put_all}
 
@@ -59,6 +61,53 @@ module _ (P : SupplierRow → Type 0) where
   pub every-put_all : (rows done : List SupplierRow) → AllByRecursion P rows → AllByRecursion P done → AllByRecursion P (put_all rows done)
   every-put_all [] done waiting put = put
   every-put_all (row ∷ rows) done waiting put = every-put_all rows _ waiting.1 (every-put row done waiting.0 put)
+
+-- rows of rising GLNs
+abbrev gln_cmp : SupplierRow → SupplierRow → Ordering
+gln_cmp r s = bytes_cmp r.gln s.gln
+
+weaker : (P Q : SupplierRow → Type 0) → ((r : SupplierRow) → P r → Q r) → (rows : List SupplierRow) → AllByRecursion P rows → AllByRecursion Q rows
+weaker P Q so [] h = tt
+weaker P Q so (r ∷ rs) h = (so r h.0, weaker P Q so rs h.1)
+
+rises-case : (o : Ordering) (row r : SupplierRow) (rs : List SupplierRow)
+    → gln_cmp row r ≡ o
+    → Rises gln_cmp (r ∷ rs)
+    → Rises gln_cmp (put row rs)
+    → Rises gln_cmp (match_ordering o (row ∷ r ∷ rs) (row ∷ rs) (r ∷ put row rs))
+rises-case Less row r rs e h ih = (
+  (e, weaker (λ s. gln_cmp r s ≡ Less) (λ s. gln_cmp row s ≡ Less) (λ s after. nat_list_cmp_total.trans row.gln r.gln s.gln e after) rs h.0),
+  h,
+)
+rises-case Equal row r rs e h ih = (
+  weaker (λ s. gln_cmp r s ≡ Less) (λ s. gln_cmp row s ≡ Less) (λ s after. nat_list_cmp_total.congr row.gln r.gln s.gln e ∙ after) rs h.0,
+  h.1,
+)
+rises-case Greater row r rs e h ih = (
+  every-put (λ s. gln_cmp r s ≡ Less) row rs (nat_list_cmp_total.antisymm r.gln row.gln ∙ ap ordering_reverse e) h.0,
+  ih,
+)
+
+rises-put : (row : SupplierRow) (rows : List SupplierRow) → Rises gln_cmp rows → Rises gln_cmp (put row rows)
+rises-put row [] h = (tt, tt)
+rises-put row (r ∷ rs) h = rises-case (gln_cmp row r) row r rs refl h (rises-put row rs h.1)
+
+rises-put_all : (rows done : List SupplierRow) → Rises gln_cmp done → Rises gln_cmp (put_all rows done)
+rises-put_all [] done h = h
+rises-put_all (row ∷ rows) done h = rises-put_all rows (put row done) (rises-put row done h)
+
+below_all : (gln : List ℕ) (rows : List SupplierRow)
+    → AllByRecursion (λ s. bytes_cmp gln s.gln ≡ Less) rows
+    → AllByRecursion (λ other. bytes_cmp gln other ≡ Less) (map (λ row. row.gln) rows)
+below_all gln [] h = tt
+below_all gln (r ∷ rs) h = (h.0, below_all gln rs h.1)
+
+glns_rise : (rows : List SupplierRow) → Rises gln_cmp rows → Rises bytes_cmp (map (λ row. row.gln) rows)
+glns_rise [] h = tt
+glns_rise (r ∷ rs) h = (below_all r.gln rs h.0, glns_rise rs h.1)
+
+pub rise_in_order : (rows : List SupplierRow) → Rises bytes_cmp (map (λ row. row.gln) (put_all rows []))
+rise_in_order rows = glns_rise (put_all rows []) (rises-put_all rows [] tt)
 
 -- a relation of every two rows
 module _ (R : SupplierRow → SupplierRow → Type 0) where

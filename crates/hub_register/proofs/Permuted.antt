@@ -12,19 +12,20 @@ use Rattle.std.proofs.lemmas.List.Sorted.{IsPermutation-sym, IsPermutation-appen
 use Rattle.std.proofs.lemmas.Map.Text.{is_eq-slice_cmp}
 use Rattle.edi_base.specs.Seen.{is_among, has_twice}
 use Rattle.gs1_ids.specs.Gln.{is_gln}
-use Rattle.gs1_ids.specs.Overlap.{first_overlap_of}
-use Rattle.gs1_ids.specs.Prefix.{is_prefix}
+use Rattle.gs1_ids.specs.Overlap.{first_overlap_between}
 use Rattle.hub_parties.specs.Key.{is_party_key}
-use Rattle.hub_parties.specs.Rows.{RegisterRows, glns, prefixes, keys, most_suppliers}
+use Rattle.hub_parties.specs.Prefixes.{are_company_prefixes, by_bytes}
+use Rattle.hub_parties.specs.Rows.{RegisterRows, glns, company_prefixes, keys, most_suppliers}
 use Rattle.hub_parties.specs.declared.row.SupplierRow.{SupplierRow}
 use Rattle.hub_register.specs.Document.{rows_of_text}
 use Rattle.hub_register.specs.Fault.{fault_of}
 use Rattle.hub_register.specs.Register.{register_of_rows, judged, HasRows, RegisterHasItsRows}
-use Rattle.hub_register.specs.InOrder.{put, put_all, in_gln_order}
+use Rattle.hub_register.specs.InOrder.{put, put_all, with_sorted_prefixes, in_gln_order}
 use Rattle.hub_register.specs.declared.fault.RegisterFault.{RegisterFault}
 use Rattle.hub_register.specs.declared.fault.RegisterFault.TheVariants.{Many, Gln, Twice, Prefix, Key, Overlap}
 use Rattle.hub_register.proofs.Ordered.{every-put, Apart}
 use Rattle.hub_register.proofs.Right.{Differ, differ-turned, differ}
+use Rattle.hub_register.proofs.SortedPrefixes.{same_glns, each_the_same}
 
 -- a row at its place is the row and the others, where none of them has its GLN
 put-case : (o : Ordering) (row r : SupplierRow) (rs more : List SupplierRow) → is_eq o ≡ false → IsPermutation (row ∷ rs) more
@@ -78,11 +79,15 @@ third false true c f g h rest e = cc
 third false false true f g h rest e = cc
 third false false false f g h rest e = refl
 
-ordered : (rows : RegisterRows) → has_twice (glns rows) ≡ false → IsPermutation rows.suppliers (put_all rows.suppliers [])
+ordered : (rows : RegisterRows)
+    → has_twice (glns rows) ≡ false
+    → IsPermutation (map with_sorted_prefixes rows.suppliers) (in_gln_order rows).suppliers
 ordered rows once =
+    let suppliers = map with_sorted_prefixes rows.suppliers in
     let first = or_parts (is_among rows.hub (rows.retailer ∷ map (λ r. r.gln) rows.suppliers)) _ once in
     let second = or_parts (is_among rows.retailer (map (λ r. r.gln) rows.suppliers)) _ first.1 in
-    rw (with_nothing rows.suppliers) at (put_all-permutes rows.suppliers [] (differ rows.suppliers second.1) (none rows.suppliers))
+    let apart : has_twice (map (λ r. r.gln) suppliers) ≡ false = ap has_twice (same_glns rows.suppliers) ∙ second.1 in
+    rw (with_nothing suppliers) at (put_all-permutes suppliers [] (differ suppliers apart) (none suppliers))
 
 by_fault : (rows register : RegisterRows) (fault : Option RegisterFault)
     → fault_of rows ≡ fault
@@ -92,11 +97,11 @@ by_fault rows register None right e =
     let same : in_gln_order rows ≡ register = cc in
     let once : has_twice (glns rows) ≡ false =
     third (nat_lt most_suppliers (length rows.suppliers)) (not (list_all is_gln (glns rows))) (has_twice (glns rows)) Many Gln Twice
-    (if not (list_all is_prefix (prefixes rows))
+    (if not (list_all (λ row. are_company_prefixes (by_bytes row.prefixes)) rows.suppliers)
     then Some Prefix
     else if not (list_all is_party_key (keys rows))
     then Some Key
-    else option_map (λ places. Overlap (places.0 + 1) (places.1 + 1)) (first_overlap_of (prefixes rows)))
+    else option_map (λ places. Overlap (places.0 + 1) (places.1 + 1)) (first_overlap_between (company_prefixes rows.suppliers)))
     right in
     record {
       right = right;
@@ -104,6 +109,7 @@ by_fault rows register None right e =
       retailer = sym (ap (λ (r : RegisterRows). r.retailer) same);
       retailer_key = sym (ap (λ (r : RegisterRows). r.retailer_key) same);
       suppliers = rw (← same) (ordered rows once);
+      same_prefixes = each_the_same rows.suppliers;
     }
 by_fault rows register (Some fault) right e = cc
 

@@ -1,11 +1,10 @@
--- Rows that are read one after another.
+-- What is read one after another.
 use Rattle.std.proofs.Common.{◌≡◌, List, [], ◌++◌, Option, Some, None, option_map, refl}
-use Rattle.hub_parties.specs.declared.row.SupplierRow.{SupplierRow}
 
--- rows that were read, and those of the rest
-abbrev pub after : List SupplierRow → Option (List SupplierRow) → Option (List SupplierRow)
-after done rest = option_map (λ rows. done ++ rows) rest
+-- what was read, and what the rest says
+abbrev pub after : {X : Type 0} → List X → Option (List X) → Option (List X)
+after done rest = option_map (λ more. done ++ more) rest
 
-pub after-nothing : (rest : Option (List SupplierRow)) → after [] rest ≡ rest
+pub after-nothing : {X : Type 0} (rest : Option (List X)) → after [] rest ≡ rest
 after-nothing None = refl
-after-nothing (Some rows) = refl
+after-nothing (Some more) = refl

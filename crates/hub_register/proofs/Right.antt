@@ -1,22 +1,25 @@
 -- Rows that no fault stands against are those of a register, in the order of their GLNs too.
-use Rattle.std.proofs.Common.{◌≡◌, ℕ, suc, ◌≤◌, Bool, true, false, ◌&&◌, List, [], ◌∷◌, ◌++◌, length, get_or, map, refl}
-use Rattle.std.proofs.Common.{sym, ap, ap₂, ◌∙◌, arith, All}
-use Rattle.std.specs.List.{list_all, flat_map, AllByRecursion}
+use Rattle.std.proofs.Common.{◌≡◌, ℕ, suc, ◌≤◌, true, false, ◌&&◌, List, [], ◌∷◌, length, get_or, map, refl}
+use Rattle.std.proofs.Common.{ap, ap₂, ◌∙◌, arith, All, None}
+use Rattle.std.specs.List.{list_all, AllByRecursion}
 use Rattle.std.specs.Str.{bytes_eq}
 use Rattle.std.proofs.lemmas.Bool.{and_parts, or_parts, or_from}
+use Rattle.std.proofs.lemmas.List.{length-map}
 use Rattle.std.proofs.lemmas.List.Elements.{All-cons, All-nil}
 use Rattle.std.proofs.lemmas.List.Kept.{AllPairs-cons}
 use Rattle.std.proofs.Math.Bool.{or_comm}
 use Rattle.edi_base.specs.Seen.{is_among, has_twice}
 use Rattle.edi_base.proofs.Twice.{bytes_eq-sym}
-use Rattle.gs1_ids.specs.Overlap.{AreApart, PrefixFree}
-use Rattle.gs1_ids.specs.Prefix.{begins, is_prefix}
+use Rattle.gs1_ids.specs.Overlap.{AreApart, PrefixFree, first_overlap_between}
+use Rattle.gs1_ids.specs.Prefix.{begins}
 use Rattle.gs1_ids.specs.Gln.{is_gln}
 use Rattle.hub_parties.specs.Key.{is_party_key}
-use Rattle.hub_parties.specs.Rows.{RegisterRows, IsRegister, company_prefixes, prefixes, glns, keys, most_suppliers}
+use Rattle.hub_parties.specs.Prefixes.{are_company_prefixes, by_bytes}
+use Rattle.hub_parties.specs.Rows.{RegisterRows, IsRegister, company_prefixes, glns, keys, most_suppliers}
 use Rattle.hub_parties.specs.declared.row.SupplierRow.{SupplierRow}
-use Rattle.hub_register.specs.InOrder.{put_all, in_gln_order}
-use Rattle.hub_register.proofs.Ordered.{length-put_all, all-put_all, every-put_all, Apart, apart_in_order}
+use Rattle.hub_register.specs.InOrder.{put_all, with_sorted_prefixes, in_gln_order}
+use Rattle.hub_register.proofs.Ordered.{length-put_all, all-put_all, every-put_all, Apart, apart_in_order, rise_in_order}
+use Rattle.hub_register.proofs.SortedPrefixes.{same_glns, same_keys, all_sorted, sorted_free}
 
 -- GLNs that differ
 abbrev pub Differ : SupplierRow → SupplierRow → Type 0
@@ -92,48 +95,41 @@ prefix_free (r ∷ rows) h = AllPairs-cons AreApart r.prefixes (company_prefixes
 pub free_in_order : (rows : List SupplierRow) → PrefixFree (company_prefixes rows) → PrefixFree (company_prefixes (put_all rows []))
 free_in_order rows h = prefix_free (put_all rows []) (apart_in_order Free free-turned rows (free rows h))
 
--- a test of every prefix is one of the prefixes of each supplier
-all_joined : (p : List ℕ → Bool) (xs ys : List (List ℕ)) → list_all p (xs ++ ys) ≡ (list_all p xs && list_all p ys)
-all_joined p [] ys = refl
-all_joined p (x ∷ xs) ys =
-    elim (p x) as (λ v. (v && list_all p (xs ++ ys)) ≡ ((v && list_all p xs) && list_all p ys))
-    [ true ↦ all_joined p xs ys | false ↦ refl ]
-
-all_flat : (p : List ℕ → Bool) (rows : List SupplierRow)
-    → list_all p (flat_map (λ r. r.prefixes) rows) ≡ list_all (list_all p) (company_prefixes rows)
-all_flat p [] = refl
-all_flat p (r ∷ rows) =
-    all_joined p r.prefixes (flat_map (λ r. r.prefixes) rows) ∙ ap (λ rest. list_all p r.prefixes && rest) (all_flat p rows)
-
 pub register_right : (rows : RegisterRows)
     → length rows.suppliers ≤ most_suppliers
     → list_all is_gln (glns rows) ≡ true
     → has_twice (glns rows) ≡ false
-    → list_all is_prefix (prefixes rows) ≡ true
+    → list_all (λ row. are_company_prefixes (by_bytes row.prefixes)) rows.suppliers ≡ true
     → list_all is_party_key (keys rows) ≡ true
-    → PrefixFree (company_prefixes rows.suppliers) → IsRegister (in_gln_order rows)
+    → first_overlap_between (company_prefixes rows.suppliers) ≡ None
+    → IsRegister (in_gln_order rows)
 register_right rows few right apart prefix key none =
+    let suppliers = map with_sorted_prefixes rows.suppliers in
     let hub = and_parts (is_gln rows.hub) _ right in
     let retailer = and_parts (is_gln rows.retailer) _ hub.1 in
     let secret = and_parts (is_party_key rows.retailer_key) _ key in
     record {
-      few = omega (arith, length-put_all rows.suppliers [], few);
+      few = omega (arith, length-put_all suppliers [], length-map rows.suppliers with_sorted_prefixes, few);
       glns_right =
           ap₂ (λ a b. a && b) hub.0
-          (ap₂ (λ a b. a && b) retailer.0 (all-put_all (λ r. r.gln) is_gln rows.suppliers [] retailer.1 refl));
-      glns_apart = glns-apart rows.hub rows.retailer rows.suppliers apart;
+          (ap₂ (λ a b. a && b) retailer.0
+          (all-put_all (λ r. r.gln) is_gln suppliers [] (ap (list_all is_gln) (same_glns rows.suppliers) ∙ retailer.1) refl));
+      glns_apart =
+          glns-apart rows.hub rows.retailer suppliers
+          (ap (λ rest. has_twice (rows.hub ∷ rows.retailer ∷ rest)) (same_glns rows.suppliers) ∙ apart);
       prefixes_right =
-          all_flat is_prefix (put_all rows.suppliers [])
-          ∙ all-put_all (λ r. r.prefixes) (list_all is_prefix) rows.suppliers []
-          (sym (all_flat is_prefix rows.suppliers) ∙ prefix) refl;
-      keys_right = ap₂ (λ a b. a && b) secret.0 (all-put_all (λ r. r.key) is_party_key rows.suppliers [] secret.1 refl);
-      prefixes_free = free_in_order rows.suppliers none;
+          all-put_all (λ r. r.prefixes) are_company_prefixes suppliers [] (all_sorted rows.suppliers ∙ prefix) refl;
+      keys_right =
+          ap₂ (λ a b. a && b) secret.0
+          (all-put_all (λ r. r.key) is_party_key suppliers [] (ap (list_all is_party_key) (same_keys rows.suppliers) ∙ secret.1) refl);
+      prefixes_free = free_in_order suppliers (sorted_free rows.suppliers none);
+      suppliers_rise = rise_in_order suppliers;
     }
 
 pub same_rows : (hub retailer key : List ℕ) (suppliers : List SupplierRow) (rows : RegisterRows)
     → hub ≡ rows.hub
     → retailer ≡ rows.retailer
     → key ≡ rows.retailer_key
-    → suppliers ≡ put_all rows.suppliers []
+    → suppliers ≡ put_all (map with_sorted_prefixes rows.suppliers) []
     → in_gln_order rows ≡ record { hub = hub; retailer = retailer; retailer_key = key; suppliers = suppliers }
 same_rows hub retailer key suppliers rows a b c d = rw (a, b, c, d)

@@ -1,6 +1,7 @@
 -- What the text of a register says (TOML 1.1): at the top a string `hub`; a table `retailer` with the strings `gln` and
--- `key`; and `supplier`, an array of tables, each with the strings `gln`, `prefix` and `key`. Other keys are ignored.
-use Rattle.toml.specs.Data.{Data, Items, no_items, item, Members, get_member, as_str, as_array, as_table}
+-- `key`; and `supplier`, an array of tables, each with the strings `gln` and `key`, and with `prefix`, a string or an array
+-- of strings. Other keys are ignored.
+use Rattle.toml.specs.Data.{Data, Items, no_items, item, Members, get_member, string, array, as_str, as_array, as_table}
 use Rattle.toml.specs.Parse.{parse_document}
 use Rattle.std.specs.Prelude.{ℕ, codes, List, [], ◌∷◌, Option, Some, None, option_map, option_and_then}
 use Rattle.hub_parties.specs.Rows.{RegisterRows}
@@ -18,16 +19,31 @@ string_at key table = get_member key table >>= as_str
 abbrev pub table_at : List ℕ → Members → Option Members
 table_at name table = get_member name table >>= as_table
 
--- the row of a supplier, of which a text gives one prefix
-abbrev pub row_with : List ℕ → List ℕ → List ℕ → SupplierRow
-row_with gln prefix key = record { gln = gln; prefixes = prefix ∷ []; key = key }
+-- the strings of an array, in their order
+abbrev pub strings_in : Items → Option (List (List ℕ))
+strings_in no_items = Some []
+strings_in (item value values) = as_str value >>= (λ text. option_map (λ texts. text ∷ texts) (strings_in values))
+
+-- the prefixes that a value says: a string is one, an array has any number of them
+abbrev pub prefixes_from : Data → Option (List (List ℕ))
+prefixes_from (string text) = Some (text ∷ [])
+prefixes_from (array values) = strings_in values
+prefixes_from value = None
+
+-- the prefixes at a key of a table
+abbrev pub prefixes_at : List ℕ → Members → Option (List (List ℕ))
+prefixes_at key table = get_member key table >>= prefixes_from
+
+-- the row of a supplier, with its prefixes as the text has them
+abbrev pub row_with : List ℕ → List (List ℕ) → List ℕ → SupplierRow
+row_with gln prefixes key = record { gln = gln; prefixes = prefixes; key = key }
 
 -- the same from its table
 abbrev pub supplier_in : Members → Option SupplierRow
 supplier_in table =
     string_at (codes "gln") table >>= (λ gln.
-    string_at (codes "prefix") table >>= (λ prefix.
-    option_map (row_with gln prefix) (string_at (codes "key") table)))
+    string_at (codes "key") table >>= (λ key.
+    option_map (λ prefixes. row_with gln prefixes key) (prefixes_at (codes "prefix") table)))
 
 -- the same from what stands for it in their array
 abbrev pub supplier_from : Data → Option SupplierRow

@@ -1,13 +1,17 @@
 -- The rows that the borrowed strings of a document are.
-use Rattle.std.specs.Prelude.{map}
+use Rattle.std.specs.Borrow.{Bor}
+use Rattle.std.specs.Prelude.{ℕ, List, map}
 use Rattle.hub_parties.specs.Rows.{RegisterRows}
 use Rattle.hub_parties.specs.declared.row.SupplierRow.{SupplierRow}
 use Rattle.hub_register.specs.Document.{row_with}
 use Rattle.hub_register.specs.declared.document.Document.{Document}
 use Rattle.hub_register.specs.declared.document.Entry.{Entry}
 
+abbrev pub texts_of : List (Bor (List ℕ)) → List (List ℕ)
+texts_of texts = map (λ text. text.now) texts
+
 abbrev pub row_in : Entry → SupplierRow
-row_in entry = row_with entry.gln.now entry.prefix.now entry.key.now
+row_in entry = row_with entry.gln.now (texts_of entry.prefixes.items) entry.key.now
 
 abbrev pub rows_from : Document → RegisterRows
 rows_from document = record {

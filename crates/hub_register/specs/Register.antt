@@ -1,10 +1,10 @@
 -- The register that a text writes, or the fault of the text.
-use Rattle.std.specs.Prelude.{◌≡◌, ℕ, List, IsPermutation, Option, Some, None, Result, Ok, Err}
+use Rattle.std.specs.Prelude.{◌≡◌, ℕ, List, map, All, IsPermutation, Option, Some, None, Result, Ok, Err}
 use Rattle.gs1_ids.specs.Overlap.{PrefixFree}
 use Rattle.hub_parties.specs.Rows.{RegisterRows, company_prefixes}
 use Rattle.hub_register.specs.Document.{rows_of_text}
 use Rattle.hub_register.specs.Fault.{fault_of}
-use Rattle.hub_register.specs.InOrder.{in_gln_order}
+use Rattle.hub_register.specs.InOrder.{in_gln_order, with_sorted_prefixes}
 use Rattle.hub_register.specs.declared.fault.RegisterFault.{RegisterFault}
 use Rattle.hub_register.specs.declared.fault.RegisterFault.TheVariants.{Text}
 
@@ -21,13 +21,14 @@ register_of_rows (Some rows) = judged rows (fault_of rows)
 abbrev pub register_of : List ℕ → Result RegisterRows RegisterFault
 register_of text = register_of_rows (rows_of_text text)
 
--- a register has the rows of its text, each once, and nothing stands against them
+-- a register has the rows of its text, each once and with the same prefixes, and nothing stands against them
 pub record HasRows (rows register : RegisterRows) : Type 0 where
   pub right : fault_of rows ≡ None
   pub hub : register.hub ≡ rows.hub
   pub retailer : register.retailer ≡ rows.retailer
   pub retailer_key : register.retailer_key ≡ rows.retailer_key
-  pub suppliers : IsPermutation rows.suppliers register.suppliers
+  pub suppliers : IsPermutation (map with_sorted_prefixes rows.suppliers) register.suppliers
+  pub same_prefixes : All (λ row. IsPermutation row.prefixes (with_sorted_prefixes row).prefixes) rows.suppliers
 
 abbrev pub RegisterHasItsRows : Type 0
 RegisterHasItsRows = (text : List ℕ) (register : RegisterRows) → register_of text ≡ Ok register

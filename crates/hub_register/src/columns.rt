@@ -2,21 +2,22 @@
 
 ghost use Rattle.std.specs.Prelude.{◌≡◌, ◌≢◌, true, false, [], IfOk, IfErr, OnOk, map};
 ghost use Rattle.std.specs.BTreeMap.{keys, values};
-ghost use Rattle.std.specs.List.{list_all, flat_map};
+ghost use Rattle.std.specs.List.{list_all};
 ghost use Rattle.edi_base.specs.Seen as twice;
 ghost use Rattle.gs1_ids.specs.Gln.{is_gln};
 ghost use Rattle.gs1_ids.specs.Prefix.{is_prefix};
 ghost use Rattle.hub_parties.specs.Key.{is_party_key};
+ghost use Rattle.hub_parties.specs.Prefixes.{are_company_prefixes, by_bytes};
 ghost use Rattle.hub_parties.specs.Rows as spec;
-ghost use Rattle.hub_register.specs.Entries.{row_in, rows_from};
+ghost use Rattle.hub_register.specs.Entries.{row_in, rows_from, texts_of};
 ghost use Rattle.hub_register.specs.Document.{row_with};
-ghost use Rattle.hub_register.specs.InOrder.{put, put_all};
+ghost use Rattle.hub_register.specs.InOrder.{put, put_all, with_sorted_prefixes};
 
 use crate::document::{Document, Entry};
 use crate::fault::RegisterFault;
-use edi_base::{Items, Seen};
+use edi_base::Seen;
 use gs1_ids::{Gln, Prefix};
-use hub_parties::{Key, SupplierRow};
+use hub_parties::{CompanyPrefixes, Key, SupplierRow};
 use std::alloc::Global;
 use std::collections::BTreeMap;
 
@@ -72,27 +73,59 @@ pub(crate) fn has_twice(alloc: Global, glns: &[Gln]) -> Result<bool, RegisterFau
     Ok(false)
 }
 
-/// The prefixes of the suppliers.
-pub(crate) fn prefixes(alloc: Global, entries: &[Entry<'_>]) -> Result<Vec<Prefix>, RegisterFault>
-    ensures ok { IfOk result (λ prefixes. (prefixes.items ≡ flat_map (λ row. row.prefixes) (map row_in entries.now))
-        × (list_all is_prefix (flat_map (λ row. row.prefixes) (map row_in entries.now)) ≡ true)) }
-    ensures err { IfErr result (λ fault. fault ≢ RegisterFault.Memory → (fault ≡ RegisterFault.Prefix)
-        × (list_all is_prefix (flat_map (λ row. row.prefixes) (map row_in entries.now)) ≡ false)) }
+// The prefixes that texts write.
+fn prefixes_of(alloc: Global, texts: &[&str]) -> Result<Vec<Prefix>, RegisterFault>
+    ensures ok { IfOk result (λ prefixes. prefixes.items ≡ texts_of texts.now) }
+    ensures err { IfErr result (λ fault. fault ≢ RegisterFault.Memory →
+        (fault ≡ RegisterFault.Prefix) × (list_all is_prefix (texts_of texts.now) ≡ false)) }
 {
     let mut prefixes = Vec::new(alloc);
-    for entry in entries {
-        prefixes.push(prefix_of(entry.prefix)?)?;
+    for text in texts {
+        prefixes.push(prefix_of(text)?)?;
     }
     Ok(prefixes)
 }
 
-// The row of a supplier with one prefix.
-fn row_by(alloc: Global, gln: Gln, prefix: Prefix, key: Key) -> Result<SupplierRow, RegisterFault>
-    ensures ok { IfOk result (λ row. row ≡ row_with gln prefix key) }
+// The prefixes of a supplier.
+fn company_prefixes(alloc: Global, texts: &[&str]) -> Result<CompanyPrefixes, RegisterFault>
+    ensures ok { IfOk result (λ held. (held ≡ by_bytes (texts_of texts.now))
+        × (are_company_prefixes (by_bytes (texts_of texts.now)) ≡ true)) }
+    ensures err { IfErr result (λ fault. fault ≢ RegisterFault.Memory →
+        (fault ≡ RegisterFault.Prefix) × (are_company_prefixes (by_bytes (texts_of texts.now)) ≡ false)) }
+{
+    let prefixes = prefixes_of(alloc, texts)?;
+    let found = CompanyPrefixes::of(alloc, prefixes.as_slice())?;
+    found.ok_or(RegisterFault::Prefix)
+}
+
+/// The prefixes of each supplier.
+pub(crate) fn prefixes(
+    alloc: Global,
+    entries: &[Entry<'_>],
+) -> Result<Vec<CompanyPrefixes>, RegisterFault>
+    ensures ok { IfOk result (λ prefixes. (prefixes.items ≡ map (λ row. by_bytes row.prefixes) (map row_in entries.now))
+        × (list_all (λ row. are_company_prefixes (by_bytes row.prefixes)) (map row_in entries.now) ≡ true)) }
+    ensures err { IfErr result (λ fault. fault ≢ RegisterFault.Memory → (fault ≡ RegisterFault.Prefix)
+        × (list_all (λ row. are_company_prefixes (by_bytes row.prefixes)) (map row_in entries.now) ≡ false)) }
+{
+    let mut prefixes = Vec::new(alloc);
+    for entry in entries {
+        prefixes.push(company_prefixes(alloc, entry.prefixes.as_slice())?)?;
+    }
+    Ok(prefixes)
+}
+
+// The row of a supplier.
+fn row_by(
+    alloc: Global,
+    gln: Gln,
+    prefixes: &CompanyPrefixes,
+    key: Key,
+) -> Result<SupplierRow, RegisterFault>
+    ensures ok { IfOk result (λ row. row ≡ row_with gln prefixes.now key) }
     ensures err { IfErr result (λ fault. fault ≡ RegisterFault.Memory) }
 {
-    let mut prefixes = Items::new(alloc);
-    prefixes.push(prefix)?;
+    let prefixes = prefixes.copy(alloc)?;
     Ok(SupplierRow { gln, prefixes, key })
 }
 
@@ -100,12 +133,12 @@ fn row_by(alloc: Global, gln: Gln, prefix: Prefix, key: Key) -> Result<SupplierR
 fn put_supplier(
     alloc: Global,
     gln: Gln,
-    prefix: Prefix,
+    prefixes: &CompanyPrefixes,
     key: &str,
     suppliers: &mut BTreeMap<Gln, SupplierRow>,
 ) -> Result<(), RegisterFault>
     requires { keys suppliers.old ≡ map (λ row. row.gln) (values suppliers.old) }
-    ensures rows { OnOk result (values suppliers.new ≡ put (row_with gln prefix key.now) (values suppliers.old)) }
+    ensures rows { OnOk result (values suppliers.new ≡ put (row_with gln prefixes.now key.now) (values suppliers.old)) }
     ensures at_gln { OnOk result (keys suppliers.new ≡ map (λ row. row.gln) (values suppliers.new)) }
     ensures key { OnOk result (is_party_key key.now ≡ true) }
     ensures err { IfErr result (λ fault. fault ≢ RegisterFault.Memory →
@@ -114,7 +147,7 @@ fn put_supplier(
     let Some(key) = Key::parse(key.as_bytes()) else {
         return Err(RegisterFault::Key);
     };
-    let row = row_by(alloc, gln, prefix, key)?;
+    let row = row_by(alloc, gln, prefixes, key)?;
     suppliers.insert(gln, row)?;
     Ok(())
 }
@@ -124,11 +157,11 @@ pub(crate) fn suppliers(
     alloc: Global,
     entries: &[Entry<'_>],
     glns: &[Gln],
-    prefixes: &[Prefix],
+    prefixes: &[CompanyPrefixes],
 ) -> Result<BTreeMap<Gln, SupplierRow>, RegisterFault>
     requires glns { glns.now ≡ map (λ row. row.gln) (map row_in entries.now) }
-    requires prefixes { prefixes.now ≡ flat_map (λ row. row.prefixes) (map row_in entries.now) }
-    ensures rows { IfOk result (λ suppliers. values suppliers ≡ put_all (map row_in entries.now) []) }
+    requires prefixes { prefixes.now ≡ map (λ row. by_bytes row.prefixes) (map row_in entries.now) }
+    ensures rows { IfOk result (λ suppliers. values suppliers ≡ put_all (map with_sorted_prefixes (map row_in entries.now)) []) }
     ensures at_gln { IfOk result (λ suppliers. keys suppliers ≡ map (λ row. row.gln) (values suppliers)) }
     ensures keys { IfOk result (λ suppliers. list_all is_party_key (map (λ row. row.key) (map row_in entries.now)) ≡ true) }
     ensures err { IfErr result (λ fault. fault ≢ RegisterFault.Memory → (fault ≡ RegisterFault.Key)
@@ -137,8 +170,7 @@ pub(crate) fn suppliers(
     let mut suppliers = BTreeMap::new(alloc);
     for (place, entry) in entries.iter().enumerate() {
         let gln = glns[place];
-        let prefix = prefixes[place];
-        put_supplier(alloc, gln, prefix, entry.key, &mut suppliers)?;
+        put_supplier(alloc, gln, &prefixes[place], entry.key, &mut suppliers)?;
     }
     Ok(suppliers)
 }

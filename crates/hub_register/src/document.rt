@@ -1,20 +1,20 @@
 //! The strings that the text of a register holds, before they are judged.
 
-ghost use Rattle.toml.specs.Data.{get_member};
+ghost use Rattle.toml.specs.Data.{get_member, as_str};
 ghost use Rattle.toml.specs.View.{table_view, items_view, view};
 ghost use Rattle.std.specs.Prelude.{◌≡◌, ◌≢◌, ◌∷◌, ◌++◌, [], Some, None, IfOk, IfErr, OnOk, map, option_map, codes};
 ghost use Rattle.hub_register.specs.Document as spec;
-ghost use Rattle.hub_register.specs.Entries.{row_in, rows_from};
+ghost use Rattle.hub_register.specs.Entries.{row_in, rows_from, texts_of};
 
 use crate::fault::RegisterFault;
 use std::alloc::Global;
 use toml::{Table, Value};
 
 /// A supplier's table.
-#[derive(Clone, Copy, Drop)]
+#[derive(Drop)]
 pub(crate) struct Entry<'a> {
     pub(crate) gln: &'a str,
-    pub(crate) prefix: &'a str,
+    pub(crate) prefixes: Vec<&'a str>,
     pub(crate) key: &'a str,
 }
 
@@ -48,18 +48,86 @@ fn table_at<'a>(table: &'a Table, key: &str) -> Option<&'a Table>
     value_at(table, key)?.as_table()
 }
 
-// The strings of a supplier's table.
-fn entry_in<'a>(table: &'a Table) -> Option<Entry<'a>>
-    ensures { option_map row_in result ≡ spec.supplier_in (table_view table.now) }
+// Puts the string that a value is after others.
+fn put_string<'a>(value: &'a Value, texts: &mut Vec<&'a str>) -> Result<(), RegisterFault>
+    ensures ok { OnOk result (option_map (λ text. texts_of texts.old.items ++ text ∷ [])
+        (as_str (view value.now)) ≡ Some (texts_of texts.new.items)) }
+    ensures err { IfErr result (λ fault. fault ≢ RegisterFault.Memory →
+        (fault ≡ RegisterFault.Text) × (as_str (view value.now) ≡ None)) }
 {
-    let gln = string_at(table, "gln")?;
-    let prefix = string_at(table, "prefix")?;
-    let key = string_at(table, "key")?;
-    Some(Entry { gln, prefix, key })
+    let Some(text) = value.as_str() else {
+        return Err(RegisterFault::Text);
+    };
+    texts.push(text)?;
+    Ok(())
+}
+
+// The strings of an array.
+fn strings_in<'a>(alloc: Global, values: &'a [Value]) -> Result<Vec<&'a str>, RegisterFault>
+    ensures ok { IfOk result (λ texts. spec.strings_in (items_view values.now) ≡ Some (texts_of texts.items)) }
+    ensures err { IfErr result (λ fault. fault ≢ RegisterFault.Memory →
+        (fault ≡ RegisterFault.Text) × (spec.strings_in (items_view values.now) ≡ None)) }
+{
+    let mut texts = Vec::new(alloc);
+    for value in values {
+        put_string(value, &mut texts)?;
+    }
+    Ok(texts)
+}
+
+// One string alone.
+fn one_string<'a>(alloc: Global, text: &'a str) -> Result<Vec<&'a str>, RegisterFault>
+    ensures ok { IfOk result (λ texts. texts_of texts.items ≡ text.now ∷ []) }
+    ensures err { IfErr result (λ fault. fault ≡ RegisterFault.Memory) }
+{
+    let mut texts = Vec::new(alloc);
+    texts.push(text)?;
+    Ok(texts)
+}
+
+// The prefixes that a value says: a string is one, an array has any number of them.
+fn prefixes_from<'a>(alloc: Global, value: &'a Value) -> Result<Vec<&'a str>, RegisterFault>
+    ensures ok { IfOk result (λ texts. spec.prefixes_from (view value.now) ≡ Some (texts_of texts.items)) }
+    ensures err { IfErr result (λ fault. fault ≢ RegisterFault.Memory →
+        (fault ≡ RegisterFault.Text) × (spec.prefixes_from (view value.now) ≡ None)) }
+{
+    match value {
+        Value::String(text) => one_string(alloc, text.as_str()),
+        Value::Array(values) => strings_in(alloc, values.as_slice()),
+        _ => Err(RegisterFault::Text),
+    }
+}
+
+// The prefixes at the key `prefix` of a table.
+fn prefixes_in<'a>(alloc: Global, table: &'a Table) -> Result<Vec<&'a str>, RegisterFault>
+    ensures ok { IfOk result (λ texts. spec.prefixes_at (codes "prefix") (table_view table.now) ≡ Some (texts_of texts.items)) }
+    ensures err { IfErr result (λ fault. fault ≢ RegisterFault.Memory →
+        (fault ≡ RegisterFault.Text) × (spec.prefixes_at (codes "prefix") (table_view table.now) ≡ None)) }
+{
+    let Some(value) = value_at(table, "prefix") else {
+        return Err(RegisterFault::Text);
+    };
+    prefixes_from(alloc, value)
+}
+
+// The strings of a supplier's table.
+fn entry_in<'a>(alloc: Global, table: &'a Table) -> Result<Entry<'a>, RegisterFault>
+    ensures ok { IfOk result (λ entry. spec.supplier_in (table_view table.now) ≡ Some (row_in entry)) }
+    ensures err { IfErr result (λ fault. fault ≢ RegisterFault.Memory →
+        (fault ≡ RegisterFault.Text) × (spec.supplier_in (table_view table.now) ≡ None)) }
+{
+    let gln = string_at(table, "gln").ok_or(RegisterFault::Text)?;
+    let key = string_at(table, "key").ok_or(RegisterFault::Text)?;
+    let prefixes = prefixes_in(alloc, table)?;
+    Ok(Entry { gln, prefixes, key })
 }
 
 // Puts the strings of a supplier's table after others.
-fn put_entry<'a>(value: &'a Value, entries: &mut Vec<Entry<'a>>) -> Result<(), RegisterFault>
+fn put_entry<'a>(
+    alloc: Global,
+    value: &'a Value,
+    entries: &mut Vec<Entry<'a>>,
+) -> Result<(), RegisterFault>
     ensures ok { OnOk result (option_map (λ row. map row_in entries.old.items ++ row ∷ [])
         (spec.supplier_from (view value.now)) ≡ Some (map row_in entries.new.items)) }
     ensures err { IfErr result (λ fault. fault ≢ RegisterFault.Memory →
@@ -68,9 +136,7 @@ fn put_entry<'a>(value: &'a Value, entries: &mut Vec<Entry<'a>>) -> Result<(), R
     let Some(table) = value.as_table() else {
         return Err(RegisterFault::Text);
     };
-    let Some(entry) = entry_in(table) else {
-        return Err(RegisterFault::Text);
-    };
+    let entry = entry_in(alloc, table)?;
     entries.push(entry)?;
     Ok(())
 }
@@ -83,7 +149,7 @@ fn entries_in<'a>(alloc: Global, values: &'a [Value]) -> Result<Vec<Entry<'a>>, 
 {
     let mut entries = Vec::new(alloc);
     for value in values {
-        put_entry(value, &mut entries)?;
+        put_entry(alloc, value, &mut entries)?;
     }
     Ok(entries)
 }

@@ -13,11 +13,11 @@ pub enum RegisterFault {
     Gln,
     /// Two GLNs are equal.
     Twice,
-    /// A prefix is not 4 to 12 digits.
+    /// A supplier has no prefix, more than eight, or two equal ones, or a prefix is not 4 to 12 digits.
     Prefix,
     /// A key is not 8 to 64 bytes of 0x21 to 0x7E.
     Key,
-    /// The prefixes of two suppliers overlap: one begins the other. Their places among the suppliers, from 1.
+    /// Two suppliers overlap: a prefix of one begins a prefix of the other. Their places among the suppliers, from 1.
     Overlap(usize, usize),
     /// Out of memory.
     Memory,

@@ -6,7 +6,7 @@ ghost use Rattle.std.specs.List.{list_all};
 ghost use Rattle.std.specs.Option.{IfNone};
 ghost use Rattle.std.specs.Str.{bytes_eq};
 ghost use Rattle.gs1_ids.specs.Gln.{is_gln};
-ghost use Rattle.gs1_ids.specs.Overlap.{first_overlap_of, PrefixFree};
+ghost use Rattle.gs1_ids.specs.Overlap.{first_overlap_between, PrefixFree};
 ghost use Rattle.hub_parties.specs.Rows as spec;
 ghost use Rattle.hub_parties.specs.Rows.{IsRegister, most_suppliers, rows_by, row_of, role_of};
 ghost use Rattle.hub_register.specs.Entries.{rows_from};
@@ -17,8 +17,8 @@ ghost use Rattle.hub_register.specs.Register.{register_of, register_of_rows, Reg
 use crate::columns;
 use crate::document::Document;
 use crate::fault::RegisterFault;
-use gs1_ids::{Gln, Prefix, first_overlap};
-use hub_parties::{Key, Role, SupplierRow};
+use gs1_ids::Gln;
+use hub_parties::{CompanyPrefixes, Key, Role, SupplierRow, first_overlap};
 use std::alloc::Global;
 use std::collections::BTreeMap;
 use std::marker::Model;
@@ -82,12 +82,12 @@ fn glns_of(alloc: Global, document: &Document<'_>) -> Result<Vec<Gln>, RegisterF
     Ok(glns)
 }
 
-// The fault of prefixes of which one begins another. Its places count from 1.
-fn overlap_in(prefixes: &[Prefix]) -> Option<RegisterFault>
-    ensures value { result ≡ option_map (λ places. Overlap (places.0 + 1) (places.1 + 1)) (first_overlap_of prefixes.now) }
-    ensures free { IfNone result (PrefixFree (map (λ prefix. prefix ∷ []) prefixes.now)) }
+// The fault of suppliers of which a prefix of one begins one of another. Its places count from 1.
+fn overlap_in(suppliers: &[CompanyPrefixes]) -> Option<RegisterFault>
+    ensures value { result ≡ option_map (λ places. Overlap (places.0 + 1) (places.1 + 1)) (first_overlap_between suppliers.now) }
+    ensures free { IfNone result (PrefixFree suppliers.now) }
 {
-    match first_overlap(prefixes) {
+    match first_overlap(suppliers) {
         Some((first, second)) => Some(RegisterFault::Overlap(first + 1, second + 1)),
         None => None,
     }
@@ -105,9 +105,10 @@ fn judge(alloc: Global, document: &Document<'_>) -> Result<Register, RegisterFau
         return Err(RegisterFault::Twice);
     }
     let prefixes = columns::prefixes(alloc, entries)?;
+    let prefixes = prefixes.as_slice();
     let retailer_key = columns::key_of(document.retailer_key)?;
-    let suppliers = columns::suppliers(alloc, entries, &glns[2..], prefixes.as_slice())?;
-    if let Some(fault) = overlap_in(prefixes.as_slice()) {
+    let suppliers = columns::suppliers(alloc, entries, &glns[2..], prefixes)?;
+    if let Some(fault) = overlap_in(prefixes) {
         return Err(fault);
     }
     Ok(assembled(glns[0], glns[1], retailer_key, suppliers))
@@ -139,8 +140,8 @@ fn is_key(key: &Key, bytes: &[u8]) -> bool
 
 impl Register {
     /// The register that a TOML text writes: a string `hub`, a table `retailer` with the strings `gln` and `key`, and
-    /// any number of tables `supplier`, each with the strings `gln`, `prefix` and `key`. Else the first fault of the
-    /// text, in the order of `RegisterFault`, wherever in the list it stands.
+    /// any number of tables `supplier`, each with the strings `gln` and `key` and with `prefix`, a string or an array of
+    /// strings. Else the first fault of the text, in the order of `RegisterFault`, wherever in the list it stands.
     pub fn from_toml(alloc: Global, text: &str) -> Result<Register, RegisterFault>
         ensures ok { IfOk result (λ register. register_of text.now ≡ Ok register) }
         ensures err { IfErr result (λ fault. fault ≢ RegisterFault.Memory → register_of text.now ≡ Err fault) }

@@ -4,7 +4,7 @@ use Rattle.std.specs.Cmp.{both_tied, unsigned_tied}
 use Rattle.std.specs.Ordering.{nat_cmp, ordering_then, is_eq}
 use Rattle.std.specs.declared.cmp.Ordering.{Ordering}
 use Rattle.std.proofs.lemmas.Map.Text.{is_eq-slice_cmp}
-use Rattle.hub_tables.specs.Keys.{bytes_cmp}
+use Rattle.hub_parties.specs.KeyOrder.{bytes_cmp}
 use Rattle.hub_tables.specs.Rows.{same}
 
 pub same_bytes : (xs ys : List ℕ) → is_eq (bytes_cmp xs ys) ≡ same xs ys

@@ -261,7 +261,7 @@ pub trait Settable: Row {
 }
 
 impl Settable for LineRow {
-    ghost use Rattle.hub_tables.specs.Keys.{bytes_cmp};
+    ghost use Rattle.hub_parties.specs.KeyOrder.{bytes_cmp};
     ghost use Rattle.hub_tables.specs.Rows.{same_line};
     ghost use Rattle.hub_rows.specs.Alike.{both, same_bytes, same_numbers};
 
@@ -292,7 +292,7 @@ impl Settable for PalletRow {
 }
 
 impl Settable for MailRow {
-    ghost use Rattle.hub_tables.specs.Keys.{bytes_cmp};
+    ghost use Rattle.hub_parties.specs.KeyOrder.{bytes_cmp};
     ghost use Rattle.hub_tables.specs.Rows.{same_mail};
     ghost use Rattle.hub_rows.specs.Alike.{both, same_bytes, same_numbers};
 

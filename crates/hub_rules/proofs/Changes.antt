@@ -8,7 +8,7 @@ use Rattle.gs1_ids.specs.Sscc.{under_some}
 use Rattle.gs1_ids.specs.Overlap.{PrefixFree}
 use Rattle.hub_parties.specs.Rows.{company_prefixes, supplier_row}
 use Rattle.hub_parties.specs.declared.row.SupplierRow.{SupplierRow}
-use Rattle.hub_tables.specs.Keys.{put, replace}
+use Rattle.hub_parties.specs.KeyOrder.{put, replace}
 use Rattle.hub_tables.specs.Rows.{same, order_cmp, line_cmp, advice_cmp, pallet_cmp, content_cmp, receipt_cmp}
 use Rattle.hub_tables.specs.Rows.{remembered_cmp, mail_cmp, same_line, same_pallet, same_mail}
 use Rattle.hub_tables.specs.Tables.{Tables, has_pallet, holds, view}

@@ -5,7 +5,7 @@ use Rattle.std.proofs.lemmas.Bool.{and_parts}
 use Rattle.std.proofs.lemmas.Bool.Decides.{nat_tests}
 use Rattle.edi_base.proofs.Twice.{bytes_eq-sym, nat_eq-sym}
 use Rattle.hub_tables.specs.Change.{apply}
-use Rattle.hub_tables.specs.Keys.{InOrder}
+use Rattle.hub_parties.specs.KeyOrder.{InOrder}
 use Rattle.hub_tables.specs.Rows.{same, order_cmp, line_cmp, advice_cmp, pallet_cmp, content_cmp, receipt_cmp}
 use Rattle.hub_tables.specs.Rows.{remembered_cmp, same_line, same_pallet}
 use Rattle.hub_tables.specs.State.{knows_order, names, despatched}

@@ -10,7 +10,7 @@ use Rattle.edi_goods.specs.declared.despatch.Unit.{Unit as PalletUnit}
 use Rattle.hub_parties.specs.declared.row.SupplierRow.{SupplierRow}
 use Rattle.hub_tables.specs.Cases.{arrival_number}
 use Rattle.hub_tables.specs.Change.{apply}
-use Rattle.hub_tables.specs.Keys.{put}
+use Rattle.hub_parties.specs.KeyOrder.{put}
 use Rattle.hub_tables.specs.Rows.{same, pallet_cmp, content_cmp}
 use Rattle.hub_tables.specs.State.{knows_order, knows_advice, line_of, despatched}
 use Rattle.hub_tables.specs.Tables.{Tables, has_pallet}

@@ -9,7 +9,7 @@ use Rattle.std.proofs.lemmas.Bool.{and_parts, or_parts, or_cases, or_left, or_ri
 use Rattle.std.proofs.lemmas.Bool.Decides.{nat_tests}
 use Rattle.std.proofs.lemmas.Cmp.{tied_itself, nat_list_cmp_total}
 use Rattle.edi_base.proofs.Twice.{bytes_eq-sym}
-use Rattle.hub_tables.specs.Keys.{InOrder, put, replace, bytes_cmp}
+use Rattle.hub_parties.specs.KeyOrder.{InOrder, put, replace, bytes_cmp}
 use Rattle.hub_tables.specs.Rows.{same, content_cmp, receipt_cmp, mail_cmp, same_pallet}
 use Rattle.hub_tables.specs.declared.rows.ContentRow.{ContentRow}
 use Rattle.hub_tables.specs.declared.rows.MailRow.{MailRow}

@@ -8,7 +8,7 @@ use Rattle.std.proofs.lemmas.Bool.{and_from, or_parts}
 use Rattle.std.proofs.lemmas.Bool.Decides.{nat_tests}
 use Rattle.hub_tables.specs.Cases.{side_letter}
 use Rattle.hub_tables.specs.Change.{apply, apply_all}
-use Rattle.hub_tables.specs.Keys.{put}
+use Rattle.hub_parties.specs.KeyOrder.{put}
 use Rattle.hub_tables.specs.Rows.{same, remembered_cmp}
 use Rattle.hub_tables.specs.Sets.{Has}
 use Rattle.hub_tables.specs.State.{remembered_of}

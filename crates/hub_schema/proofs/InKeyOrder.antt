@@ -7,8 +7,8 @@ use Rattle.std.specs.declared.cmp.Ordering.{Ordering}
 use Rattle.std.specs.declared.cmp.Ordering.TheVariants.{Less, Equal, Greater}
 use Rattle.std.specs.Ordering.{is_gt, is_eq, ordering_reverse}
 use Rattle.std.specs.Cmp.{IsTotalOrder}
-use Rattle.hub_tables.specs.Keys.{InOrder, put}
-use Rattle.hub_tables.specs.Sets.{Rises, Has, SameSet}
+use Rattle.hub_parties.specs.KeyOrder.{InOrder, put, Rises}
+use Rattle.hub_tables.specs.Sets.{Has, SameSet}
 use Rattle.hub_tables.proofs.KeyOrder.{any_put, in_order_put, filter_put_in, filter_put_out}
 use Rattle.hub_tables.proofs.Lists.{decide}
 use Rattle.hub_tables.proofs.Setting.{rises_put}

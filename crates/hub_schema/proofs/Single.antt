@@ -28,10 +28,10 @@ use Rattle.sql_rows.proofs.Cells.{all_cells_of}
 use Rattle.sqlite_sql.specs.Ops.{binary}
 use Rattle.sqlite_rules.specs.Edit.{id_in}
 use Rattle.sqlite_rules.proofs.TableLemmas.{int_is}
-use Rattle.hub_tables.specs.Keys.{bytes_cmp}
+use Rattle.hub_parties.specs.KeyOrder.{bytes_cmp, Rises}
 use Rattle.hub_tables.specs.Rows.{order_cmp, line_cmp, advice_cmp, pallet_cmp, content_cmp, receipt_cmp, remembered_cmp}
 use Rattle.hub_tables.specs.Rows.{mail_cmp}
-use Rattle.hub_tables.specs.Sets.{Rises, Rising}
+use Rattle.hub_tables.specs.Sets.{Rising}
 use Rattle.hub_tables.proofs.KindOrders.{order_total, line_total, advice_total, pallet_total, content_total}
 use Rattle.hub_tables.proofs.KindOrders.{receipt_total, remembered_total, mail_total}
 use Rattle.hub_schema.specs.Rows.{order_in, line_in, advice_in, pallet_in, content_in, receipt_in, remembered_in}

@@ -8,7 +8,7 @@ use Rattle.std.specs.Ordering.{is_gt, ordering_reverse}
 use Rattle.std.specs.Cmp.{IsTotalOrder}
 use Rattle.std.proofs.lemmas.Cmp.{upto}
 use Rattle.std.proofs.lemmas.List.Sums.{sum_by-cons}
-use Rattle.hub_tables.specs.Keys.{InOrder, put}
+use Rattle.hub_parties.specs.KeyOrder.{InOrder, put}
 use Rattle.hub_tables.proofs.Lists.{decide, all_filter, all_weaker}
 
 -- Without any order.

@@ -7,7 +7,8 @@ use Rattle.std.specs.Ordering.{ordering_reverse}
 use Rattle.std.specs.Cmp.{IsTotalOrder}
 use Rattle.std.proofs.lemmas.Cmp.{tied_itself}
 use Rattle.hub_tables.specs.Tables.{Tables}
-use Rattle.hub_tables.specs.Sets.{Rises, Has, SameSet, Rising, SameRows}
+use Rattle.hub_parties.specs.KeyOrder.{Rises}
+use Rattle.hub_tables.specs.Sets.{Has, SameSet, Rising, SameRows}
 use Rattle.hub_tables.proofs.KindOrders.{order_total, line_total, advice_total, pallet_total, content_total, receipt_total}
 use Rattle.hub_tables.proofs.KindOrders.{remembered_total, mail_total}
 

@@ -6,8 +6,7 @@ use Rattle.std.specs.declared.cmp.Ordering.{Ordering}
 use Rattle.std.specs.declared.cmp.Ordering.TheVariants.{Less, Equal, Greater}
 use Rattle.std.specs.Ordering.{is_lt, is_eq, is_gt, ordering_reverse}
 use Rattle.std.specs.Cmp.{IsTotalOrder}
-use Rattle.hub_tables.specs.Keys.{put, replace}
-use Rattle.hub_tables.specs.Sets.{Rises}
+use Rattle.hub_parties.specs.KeyOrder.{put, replace, Rises}
 use Rattle.hub_tables.proofs.Lists.{all_weaker}
 
 pub equal_is : (o : Ordering) → is_eq o ≡ true → o ≡ Equal

@@ -1,6 +1,6 @@
 -- What changes do to tables.
 use Rattle.std.specs.Prelude.{List, [], ◌∷◌}
-use Rattle.hub_tables.specs.Keys.{put, replace}
+use Rattle.hub_parties.specs.KeyOrder.{put, replace}
 use Rattle.hub_tables.specs.Rows.{order_cmp, line_cmp, advice_cmp, pallet_cmp, content_cmp, receipt_cmp, remembered_cmp}
 use Rattle.hub_tables.specs.Rows.{mail_cmp, same_line, same_pallet, same_mail}
 use Rattle.hub_tables.specs.Tables.{Tables}

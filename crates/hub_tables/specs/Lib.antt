@@ -1,6 +1,5 @@
 pub mod Cases
 pub mod Change
-pub mod Keys
 pub mod Rows
 pub mod Sets
 pub mod State

@@ -3,7 +3,7 @@ use Rattle.std.specs.Prelude.{ℕ, ◌==◌, Bool, ◌&&◌, List}
 use Rattle.std.specs.Str.{bytes_eq}
 use Rattle.std.specs.declared.cmp.Ordering.{Ordering}
 use Rattle.std.specs.Ordering.{nat_cmp, ordering_then}
-use Rattle.hub_tables.specs.Keys.{bytes_cmp}
+use Rattle.hub_parties.specs.KeyOrder.{bytes_cmp}
 use Rattle.hub_tables.specs.declared.rows.OrderRow.{OrderRow}
 use Rattle.hub_tables.specs.declared.rows.LineRow.{LineRow}
 use Rattle.hub_tables.specs.declared.rows.AdviceRow.{AdviceRow}

@@ -1,16 +1,9 @@
 -- Tables as sets of rows.
-use Rattle.std.specs.Prelude.{◌≡◌, ◌⊎◌, List, [], ◌∷◌, ⊤}
-use Rattle.std.specs.List.{AllByRecursion}
-use Rattle.std.specs.declared.cmp.Ordering.{Ordering}
-use Rattle.std.specs.declared.cmp.Ordering.TheVariants.{Less}
+use Rattle.std.specs.Prelude.{◌≡◌, ◌⊎◌, List, [], ◌∷◌}
+use Rattle.hub_parties.specs.KeyOrder.{Rises}
 use Rattle.hub_tables.specs.Rows.{order_cmp, line_cmp, advice_cmp, pallet_cmp, content_cmp, receipt_cmp, remembered_cmp}
 use Rattle.hub_tables.specs.Rows.{mail_cmp}
 use Rattle.hub_tables.specs.Tables.{Tables}
-
--- each key is below those after it
-abbrev pub Rises : {X : Type 0} → (X → X → Ordering) → List X → Type 0
-Rises cmp [] = ⊤
-Rises cmp (x ∷ xs) = AllByRecursion (λ y. cmp x y ≡ Less) xs × Rises cmp xs
 
 -- the row is one of the list
 abbrev pub Has : {X : Type 0} → List X → X → Type 0

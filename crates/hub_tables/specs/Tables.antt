@@ -2,7 +2,7 @@
 -- rows in the order of their keys, so that equal sets are equal values. A supplier's state has the same shape.
 use Rattle.std.specs.Prelude.{ℕ, Bool, ◌&&◌, List, [], filter}
 use Rattle.std.specs.List.{list_any}
-use Rattle.hub_tables.specs.Keys.{InOrder}
+use Rattle.hub_parties.specs.KeyOrder.{InOrder}
 use Rattle.hub_tables.specs.Rows.{same, order_cmp, line_cmp, advice_cmp, pallet_cmp, content_cmp, receipt_cmp}
 use Rattle.hub_tables.specs.Rows.{remembered_cmp, mail_cmp}
 use Rattle.hub_tables.specs.declared.rows.OrderRow.{OrderRow}

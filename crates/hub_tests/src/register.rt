@@ -12,7 +12,7 @@ const ALPHA: &str = "4012345500004";
 
 const GAMMA: &str = "7612345000008";
 
-// The register of two suppliers, the one with the greater GLN first.
+// The register of two suppliers, the one with the greater GLN first, and with the greater prefix of the other first.
 const OF_TWO: &str = "hub = \"5412345000006\"
 
 [retailer]
@@ -26,16 +26,16 @@ key = \"beta-key-1\"
 
 [[supplier]]
 gln = \"4012345500004\"
-prefix = \"40123455\"
+prefix = [\"40123455\", \"4012\"]
 key = \"alpha-key-1\"
 ";
 
-// The GLN, prefix and key of a supplier.
+// The GLN, the two prefixes and the key of a supplier.
 fn row_told(alloc: Global, row: &SupplierRow) -> Result<String, AllocError> {
     let key = str::from_utf8(row.key.bytes()).unwrap_or("no text");
     match row.prefixes.as_slice() {
-        [prefix] => format!(in alloc; "{} {prefix} {key}", row.gln),
-        _ => format!(in alloc; "{} not one prefix {key}", row.gln),
+        [first, second] => format!(in alloc; "{} {first} {second} {key}", row.gln),
+        _ => format!(in alloc; "{} not two prefixes {key}", row.gln),
     }
 }
 
@@ -69,7 +69,7 @@ fn is_the_register(alloc: Global, register: &Register) -> Result<bool, AllocErro
 type Supplier = (&'static str, &'static str);
 
 static SUPPLIERS: [Supplier; 3] = [
-    (ALPHA, "4012345500004 40123455 alpha-key-1"),
+    (ALPHA, "4012345500004 4012 40123455 alpha-key-1"),
     (GAMMA, "none"),
     (RETAILER, "none"),
 ];

@@ -8,9 +8,8 @@ use Rattle.std.specs.Cmp.{IsTotalOrder, both_tied}
 use Rattle.std.proofs.lemmas.Cmp.{on_total, then_total, nat_cmp_total, nat_list_cmp_total}
 use Rattle.std.proofs.lemmas.Map.Entries.{option_filter}
 use Rattle.std.proofs.lemmas.Map.Text.{is_eq-slice_cmp}
-use Rattle.hub_tables.specs.Keys.{bytes_cmp, InOrder}
+use Rattle.hub_parties.specs.KeyOrder.{bytes_cmp, InOrder, Rises}
 use Rattle.hub_tables.specs.Rows.{same}
-use Rattle.hub_tables.specs.Sets.{Rises}
 use Rattle.hub_tables.specs.declared.rows.ContentRow.{ContentRow}
 use Rattle.hub_tables.specs.declared.rows.LineRow.{LineRow}
 use Rattle.hub_tables.proofs.Lists.{all_weaker}

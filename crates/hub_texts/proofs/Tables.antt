@@ -12,9 +12,8 @@ use Rattle.std.proofs.lemmas.Cmp.{nat_list_cmp_total}
 use Rattle.std.proofs.lemmas.List.{drop_more}
 use Rattle.std.proofs.lemmas.List.Sums.{sum_by-cons}
 use Rattle.std.proofs.lemmas.Map.Text.{is_eq-slice_cmp}
-use Rattle.hub_tables.specs.Keys.{bytes_cmp, put}
+use Rattle.hub_parties.specs.KeyOrder.{bytes_cmp, put, Rises}
 use Rattle.hub_tables.specs.Rows.{same}
-use Rattle.hub_tables.specs.Sets.{Rises}
 use Rattle.hub_tables.specs.declared.rows.ContentRow.{ContentRow}
 use Rattle.hub_tables.specs.declared.rows.LineRow.{LineRow}
 use Rattle.hub_tables.specs.declared.rows.ReceiptRow.{ReceiptRow}

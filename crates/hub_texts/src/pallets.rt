@@ -2,7 +2,7 @@
 ghost use Rattle.std.specs.Prelude.{◌≡◌, ◌+◌, ◌++◌, ◌∷◌, Err, IfOk, OnOk};
 ghost use Rattle.std.specs.Fmt.{decimal};
 ghost use Rattle.std.specs.List.{flat_map};
-ghost use Rattle.hub_tables.specs.Sets.{Rises};
+ghost use Rattle.hub_parties.specs.KeyOrder.{Rises};
 ghost use Rattle.hub_tables.specs.State.{is_announced, contents_of, receipts_of};
 ghost use Rattle.hub_tables.specs.Tables.{Tables};
 ghost use Rattle.hub_lines.specs.Book.{place_cmp};

@@ -1,8 +1,7 @@
 //! What is announced and received of the articles on a pallet.
 ghost use Rattle.std.specs.Prelude.{◌≡◌, ◌+◌, ◌^◌, ◌≤◌, List, [], Err, sum_by, IfOk, IfErr, OnOk, OnErr};
 ghost use Rattle.std.specs.BTreeMap.{insert_entry};
-ghost use Rattle.hub_tables.specs.Keys.{bytes_cmp};
-ghost use Rattle.hub_tables.specs.Sets.{Rises};
+ghost use Rattle.hub_parties.specs.KeyOrder.{bytes_cmp, Rises};
 ghost use Rattle.hub_tables.specs.declared.rows.LineRow.{LineRow};
 ghost use Rattle.hub_lines.specs.Book.{place_cmp};
 ghost use Rattle.hub_texts.specs.Totals as spec;

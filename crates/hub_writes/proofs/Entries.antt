@@ -34,7 +34,7 @@ use Rattle.sql_rows.proofs.Rowids.{put_next}
 use Rattle.sql_rows.proofs.Unique.{keeps_unique}
 use Rattle.sql_rows.proofs.Updates.{one_table, passes, show, sets}
 use Rattle.hub_tables.specs.Change.{apply_all}
-use Rattle.hub_tables.specs.Keys.{put, replace}
+use Rattle.hub_parties.specs.KeyOrder.{put, replace}
 use Rattle.hub_tables.specs.Rows.{same, mail_cmp, same_mail}
 use Rattle.hub_tables.specs.Sets.{Rising}
 use Rattle.hub_tables.specs.declared.change.Change.TheVariants.{AddMail, SetMail}

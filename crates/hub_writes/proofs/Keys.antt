@@ -17,8 +17,7 @@ use Rattle.sqlite_value.specs.Order.{Row}
 use Rattle.sqlite_schema.specs.Rules.{agree, equal}
 use Rattle.sql_rows.proofs.Answers.{same_bytes, same_int}
 use Rattle.sql_rows.proofs.Unique.{IsNew}
-use Rattle.hub_tables.specs.Keys.{put}
-use Rattle.hub_tables.specs.Sets.{Rises}
+use Rattle.hub_parties.specs.KeyOrder.{put, Rises}
 use Rattle.hub_tables.proofs.Back.{rises_put_back}
 use Rattle.hub_tables.proofs.Lists.{decide, same_is}
 use Rattle.hub_tables.proofs.Setting.{not_put}

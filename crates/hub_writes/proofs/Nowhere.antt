@@ -2,7 +2,7 @@
 use Rattle.std.proofs.Common.{◌&&◌, ◌||◌, ◌≡◌, Bool, cond, true, false, List, [], ◌∷◌, ap, ap₂, refl}
 use Rattle.std.specs.List.{list_any}
 use Rattle.hub_tables.specs.Change.{apply_all}
-use Rattle.hub_tables.specs.Keys.{replace}
+use Rattle.hub_parties.specs.KeyOrder.{replace}
 use Rattle.hub_tables.specs.Rows.{same_line, same_pallet, same_mail}
 use Rattle.hub_tables.specs.Tables.{Tables}
 use Rattle.hub_tables.specs.declared.change.Change.{Change}

@@ -27,7 +27,7 @@ use Rattle.sql_rows.proofs.Refusals.{not_unique, refused}
 use Rattle.sql_rows.proofs.Rowids.{put_next}
 use Rattle.sql_rows.proofs.Unique.{keeps_unique}
 use Rattle.hub_tables.specs.Change.{apply_all}
-use Rattle.hub_tables.specs.Keys.{put}
+use Rattle.hub_parties.specs.KeyOrder.{put}
 use Rattle.hub_tables.specs.Rows.{receipt_cmp}
 use Rattle.hub_tables.specs.Sets.{Rising}
 use Rattle.hub_tables.specs.declared.change.Change.TheVariants.{AddReceipt}

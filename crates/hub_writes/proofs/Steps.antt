@@ -16,7 +16,7 @@ use Rattle.sql_rows.proofs.Transactions.{kept_still, survives_still, kept_then, 
 use Rattle.std.specs.List.{list_any}
 use Rattle.std.proofs.lemmas.Bool.{and_parts}
 use Rattle.std.proofs.lemmas.Bool.Decides.{nat_tests}
-use Rattle.hub_tables.specs.Keys.{replace}
+use Rattle.hub_parties.specs.KeyOrder.{replace}
 use Rattle.hub_tables.specs.Rows.{same, same_mail, content_cmp, mail_cmp}
 use Rattle.hub_tables.specs.declared.change.Change.TheVariants.{AddOrder, AddLine, SetLine, AddAdvice, AddPallet}
 use Rattle.hub_tables.specs.declared.change.Change.TheVariants.{SetPallet, AddContent, AddReceipt, Remember, AddMail}

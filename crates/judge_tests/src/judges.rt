@@ -11,7 +11,7 @@ use edi_envelope::{Interchange, Moment, RawMessage, open};
 use edi_tokens::{MemoryFault, Tokens, read_all};
 use gs1_ids::{Gln, Prefix};
 use hub_judges::Known;
-use hub_parties::{Key, SupplierRow};
+use hub_parties::{CompanyPrefixes, Key, SupplierRow};
 use hub_rules::{IncomingMessage, Verdict};
 use hub_tables::Answered;
 use std::alloc::Global;
@@ -29,11 +29,10 @@ const OTHER_CONTENT: &str = "sand";
 // So many entries of a mailbox that none can follow.
 const FULL: u64 = 99_999_999_999_999;
 
-fn prefixes_of_alpha(alloc: Global) -> Result<Items<Prefix>, Fail> {
+fn prefixes_of_alpha(alloc: Global) -> Result<CompanyPrefixes, Fail> {
     let prefix = Prefix::parse(b"40123455").ok_or("a prefix")?;
-    let mut prefixes = Items::new(alloc);
-    prefixes.push(prefix)?;
-    Ok(prefixes)
+    let prefixes = CompanyPrefixes::of(alloc, &[prefix])?;
+    Ok(prefixes.ok_or("prefixes of a supplier")?)
 }
 
 // Alpha's row of the register.

@@ -1,6 +1,6 @@
 use Rattle.std.proofs.Common.{◌≡◌, ℕ, ◌<◌, drop}
 use Rattle.gs1_ids.specs.Overlap.{OverlapAt, first_overlap_of}
-use Rattle.gs1_ids.proofs.Overlaps.{moved_by}
+use Rattle.gs1_ids.proofs.FirstPairs.{moved_by}
 use Rattle.gs1_ids.proofs.overlap.first_overlap.Given as goal
 
 -- no place passed so far overlaps a later one, so the first overlap is that of the rest

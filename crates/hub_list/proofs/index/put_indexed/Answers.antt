@@ -1,7 +1,7 @@
 use Rattle.std.proofs.Common.{◌≡◌, ◌∙◌, true, false, sym, subst, rules}
 use Rattle.std.specs.List.{list_any}
 use Rattle.std.specs.Ordering.{is_eq}
-use Rattle.hub_tables.specs.Keys.{put}
+use Rattle.hub_parties.specs.KeyOrder.{put}
 use Rattle.hub_list.specs.Index.{IsIndex}
 use Rattle.hub_list.proofs.Indexing.{not_listed, put_kept}
 use Rattle.hub_tables.proofs.Setting.{not_put}

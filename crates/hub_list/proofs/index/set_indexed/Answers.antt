@@ -1,7 +1,7 @@
 use Rattle.std.proofs.Common.{◌≡◌, ◌∙◌, not, filter, slice_get, Some, None, sym, subst, ap, if◌then◌else◌, rules}
 use Rattle.std.specs.List.{list_any}
 use Rattle.std.specs.Ordering.{is_eq}
-use Rattle.hub_tables.specs.Keys.{put, replace}
+use Rattle.hub_parties.specs.KeyOrder.{put, replace}
 use Rattle.hub_list.specs.Index.{IsIndex}
 use Rattle.hub_list.proofs.Filters.{none_first}
 use Rattle.hub_list.proofs.Indexing.{key_is_new, set_kept}

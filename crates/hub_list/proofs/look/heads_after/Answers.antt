@@ -3,7 +3,7 @@ use Rattle.std.specs.Prelude.{nat_lt, min}
 use Rattle.std.specs.List.{filter_map}
 use Rattle.std.specs.Ordering.{nat_cmp}
 use Rattle.std.proofs.lemmas.List.{take_min}
-use Rattle.hub_tables.specs.Keys.{bytes_cmp}
+use Rattle.hub_parties.specs.KeyOrder.{bytes_cmp}
 use Rattle.hub_tables.specs.Rows.{same}
 use Rattle.hub_tables.specs.declared.rows.MailRow.{MailRow}
 use Rattle.hub_tables.proofs.KindOrders.{mail_total}

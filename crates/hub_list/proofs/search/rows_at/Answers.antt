@@ -1,7 +1,7 @@
 use Rattle.std.proofs.Common.{◌∙◌, sym, ap, subst, take, drop, filter}
 use Rattle.std.specs.List.{prefix_len}
 use Rattle.std.specs.Ordering.{is_le}
-use Rattle.hub_tables.specs.Sets.{Rises}
+use Rattle.hub_parties.specs.KeyOrder.{Rises}
 use Rattle.hub_list.proofs.Searching.{parted, at_place, rest_is, rises_drop}
 use Rattle.hub_list.proofs.search.rows_at.Goals as goal
 

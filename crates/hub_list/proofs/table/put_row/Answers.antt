@@ -1,8 +1,7 @@
 use Rattle.std.proofs.Common.{◌≡◌, ◌∙◌, true, false, sym, ap, subst, rules}
 use Rattle.std.specs.List.{insert, list_any}
 use Rattle.std.specs.Ordering.{is_eq}
-use Rattle.hub_tables.specs.Keys.{put}
-use Rattle.hub_tables.specs.Sets.{Rises}
+use Rattle.hub_parties.specs.KeyOrder.{put, Rises}
 use Rattle.hub_tables.proofs.Setting.{rises_put, put_is_insert, not_put}
 use Rattle.hub_list.proofs.table.put_row.Goals as goal
 

@@ -2,7 +2,7 @@ use Rattle.std.proofs.Common.{◌≡◌, ◌∙◌, ◌<◌, true, false, length
 use Rattle.std.specs.List.{list_any, prefix_len}
 use Rattle.std.specs.Prelude.{slice_set}
 use Rattle.std.specs.Ordering.{is_lt, is_eq}
-use Rattle.hub_tables.specs.Sets.{Rises}
+use Rattle.hub_parties.specs.KeyOrder.{Rises}
 use Rattle.hub_tables.proofs.Setting.{found_within, replace_none, replace_found, rises_set}
 use Rattle.hub_list.proofs.table.set_row.Goals as goal
 

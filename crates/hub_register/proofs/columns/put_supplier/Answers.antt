@@ -9,20 +9,20 @@ pub returns-clause-rows : goal.returns-clause-rows
 returns-clause-rows c =
     let gln = c.args.gln in
     let entries = c.args.suppliers.now.entries in
-    let row : SupplierRow = row_with gln c.args.prefix c.args.key.now in
+    let row : SupplierRow = row_with gln c.args.prefixes.now c.args.key.now in
     let key : c.in-Some.key ≡ c.args.key.now = search rules in
     let entered = c.in_ok-insert.ensures.entries
-    ∙ ap (insert_entry by_gln entries gln) (c.in_ok-row.ensures.ok ∙ ap (row_with gln c.args.prefix) key) in
+    ∙ ap (insert_entry by_gln entries gln) (c.in_ok-row.ensures.ok ∙ ap (row_with gln c.args.prefixes.now) key) in
     ap (map (λ e. e.1)) entered ∙ put-insert entries row c.requires
 
 pub returns-clause-at_gln : goal.returns-clause-at_gln
 returns-clause-at_gln c =
     let gln = c.args.gln in
     let entries = c.args.suppliers.now.entries in
-    let row : SupplierRow = row_with gln c.args.prefix c.args.key.now in
+    let row : SupplierRow = row_with gln c.args.prefixes.now c.args.key.now in
     let key : c.in-Some.key ≡ c.args.key.now = search rules in
     let entered = c.in_ok-insert.ensures.entries
-    ∙ ap (insert_entry by_gln entries gln) (c.in_ok-row.ensures.ok ∙ ap (row_with gln c.args.prefix) key) in
+    ∙ ap (insert_entry by_gln entries gln) (c.in_ok-row.ensures.ok ∙ ap (row_with gln c.args.prefixes.now) key) in
     rw entered (at-insert entries row c.requires)
 
 pub returns-in_default-clause-rows : goal.returns-in_default-clause-rows

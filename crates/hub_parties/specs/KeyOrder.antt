@@ -2,6 +2,7 @@
 use Rattle.std.specs.Prelude.{◌≡◌, ℕ, Bool, false, List, [], ◌∷◌, map, if◌then◌else◌, ⊤}
 use Rattle.std.specs.List.{AllByRecursion}
 use Rattle.std.specs.declared.cmp.Ordering.{Ordering}
+use Rattle.std.specs.declared.cmp.Ordering.TheVariants.{Less}
 use Rattle.std.specs.Ordering.{nat_cmp, is_gt}
 use Rattle.std.specs.Cmp.Lexicographic.{slice_cmp}
 
@@ -22,3 +23,8 @@ put cmp x (y ∷ ys) = if is_gt (cmp y x) then x ∷ y ∷ ys else y ∷ put cmp
 -- the rows, each that passes with the new one in its place
 abbrev pub replace : {X : Type 0} → (X → Bool) → X → List X → List X
 replace at row rows = map (λ old. if at old then row else old) rows
+
+-- each key is below those after it
+abbrev pub Rises : {X : Type 0} → (X → X → Ordering) → List X → Type 0
+Rises cmp [] = ⊤
+Rises cmp (x ∷ xs) = AllByRecursion (λ y. cmp x y ≡ Less) xs × Rises cmp xs

@@ -1,0 +1,2 @@
+pub mod ByBytes
+pub mod Placed
