@@ -43,6 +43,9 @@ impl VecStore {
         VecStore {
             alloc,
             lists: Lists {
+                hubs: Vec::new(alloc),
+                keys: Vec::new(alloc),
+                prefixes: Vec::new(alloc),
                 orders: Vec::new(alloc),
                 lines: Vec::new(alloc),
                 advices: Vec::new(alloc),

@@ -1,5 +1,6 @@
 mod Examples
 pub mod Inserted
+pub mod Leaving
 pub mod Ordered
 pub mod Permuted
 pub mod PrefixFree

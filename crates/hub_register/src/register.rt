@@ -1,26 +1,29 @@
 ghost use Rattle.toml.specs.Parse.{parse_document};
 ghost use Rattle.toml.specs.View.{table_view};
-ghost use Rattle.std.specs.Prelude.{◌≡◌, ◌≢◌, ◌+◌, ◌∷◌, [], true, false, nat_lt, IfOk, IfErr, Ok, Err, Some, None, length, map, option_map, option_copied};
+ghost use Rattle.std.specs.Prelude.{◌≡◌, ◌≢◌, ◌+◌, ◌∷◌, [], true, false, nat_lt, nat_le, IfOk, IfErr, OnOk, OnErr, Ok, Err, Some, None, length, map, option_map, option_copied};
 ghost use Rattle.std.specs.BTreeMap.{keys, values};
-ghost use Rattle.std.specs.List.{list_all};
+ghost use Rattle.std.specs.List.{list_all, list_any};
 ghost use Rattle.std.specs.Option.{IfNone};
 ghost use Rattle.std.specs.Str.{bytes_eq};
 ghost use Rattle.gs1_ids.specs.Gln.{is_gln};
-ghost use Rattle.gs1_ids.specs.Overlap.{first_overlap_between, PrefixFree};
+ghost use Rattle.gs1_ids.specs.Overlap.{first_overlap_between, overlap_some, PrefixFree};
 ghost use Rattle.hub_parties.specs.Rows as spec;
 ghost use Rattle.hub_parties.specs.Rows.{IsRegister, most_suppliers, rows_by, row_of, role_of};
 ghost use Rattle.hub_register.specs.Entries.{rows_from};
 ghost use Rattle.hub_register.specs.Fault.{fault_of};
+ghost use Rattle.hub_register.specs.Joined.{joined_by, left_by};
 ghost use Rattle.hub_register.specs.declared.fault.RegisterFault.TheVariants.{Overlap};
 ghost use Rattle.hub_register.specs.Register.{register_of, register_of_rows, RegisterHasItsRows, RegisterIsPrefixFree};
 
 use crate::columns;
 use crate::document::Document;
 use crate::fault::RegisterFault;
-use gs1_ids::Gln;
+use edi_base::MemoryFault;
+use gs1_ids::{Gln, overlap_some};
 use hub_parties::{CompanyPrefixes, Key, Role, SupplierRow, first_overlap};
 use std::alloc::Global;
 use std::collections::BTreeMap;
+use std::collections::btree_map::Values;
 use std::marker::Model;
 use toml::Table;
 
@@ -182,6 +185,62 @@ impl Register {
         ensures register { IsRegister self.now }
     {
         self.suppliers.get(gln)
+    }
+
+    /// The rows of the suppliers, by their GLNs.
+    pub fn suppliers(&self) -> Values<'_, Gln, SupplierRow>
+        ensures value { result ≡ self.now.suppliers }
+        ensures register { IsRegister self.now }
+    {
+        self.suppliers.values()
+    }
+
+    /// Whether the GLN is the hub's, the retailer's or a supplier's.
+    pub fn knows(&self, gln: &Gln) -> bool
+        ensures { result ≡ list_any (bytes_eq gln.now) (spec.glns self.now) }
+    {
+        *gln == self.hub || *gln == self.retailer || self.has_supplier(gln)
+    }
+
+    // Whether the GLN is a supplier's.
+    fn has_supplier(&self, gln: &Gln) -> bool
+        ensures { result ≡ list_any (bytes_eq gln.now) (map (λ row. row.gln) self.now.suppliers) }
+    {
+        self.supplier(gln).is_some()
+    }
+
+    /// Whether one of these prefixes begins a prefix of a supplier, or is begun by it.
+    pub fn overlaps(&self, prefixes: &CompanyPrefixes) -> bool
+        ensures { result ≡ list_any (λ other. overlap_some prefixes.now other.prefixes) self.now.suppliers }
+    {
+        self.suppliers
+            .values()
+            .any(|other| overlap_some(prefixes.as_slice(), other.prefixes.as_slice()))
+    }
+
+    /// Whether there are as many suppliers as may be.
+    pub fn is_full(&self) -> bool
+        ensures { result ≡ nat_le most_suppliers (length self.now.suppliers) }
+    {
+        MOST_SUPPLIERS <= self.suppliers.len()
+    }
+
+    /// Takes a supplier in. Where memory is refused, the register stays as it is.
+    pub fn join(&mut self, row: SupplierRow) -> Result<(), MemoryFault>
+        requires { IsRegister (joined_by row self.old) }
+        ensures ok { OnOk result (self.new ≡ joined_by row self.old) }
+        ensures err { OnErr result (self.new ≡ self.old) }
+    {
+        self.suppliers.insert(row.gln, row)?;
+        Ok(())
+    }
+
+    /// Lets the supplier with a GLN go, as if it had never joined. Takes no memory.
+    pub fn leave(&mut self, gln: &Gln)
+        requires { IsRegister (left_by gln.now self.old) }
+        ensures { self.new ≡ left_by gln.now self.old }
+    {
+        self.suppliers.remove(gln);
     }
 
     /// The side of a caller: the retailer's or a supplier's GLN, with that party's own key. `None` where the two do

@@ -81,9 +81,9 @@ number_put old new (Ok count) has h =
     let w : Writes old new _ _ _ [] count =
     runs_as put_number [] old new hub_schema has.schema _ put_number_is put_number_plain count h.0 in
     let did = inserts hub_schema 0 0 _ _ _ _ _ refl (λ _ _. refl) old new [] _ _ _ count has.schema w in
-    let row : Row = Int (next_rowid (db 0)) ∷ Int (pos 1) ∷ [] in
-    let edit : edited db (edit_of db schema_table [] Chosen 0 ((Null ∷ Int (pos 1) ∷ []) ∷ [])) ≡ put_row row (db 0) =
-    rw (cast_null, cast_int (pos 1)) in
+    let row : Row = Int (next_rowid (db 0)) ∷ Int (pos 2) ∷ [] in
+    let edit : edited db (edit_of db schema_table [] Chosen 0 ((Null ∷ Int (pos 2) ∷ []) ∷ [])) ≡ put_row row (db 0) =
+    rw (cast_null, cast_int (pos 2)) in
     let first : new.now.trees 0 ≡ row ∷ [] = did.step.rows ∙ edit ∙ ap (put_row row) has.empty.0 in
     let rest = did.step.tables.1 in
     let orders : new.now.trees 1 ≡ [] = rest.0 (λ e. absurd (omega (arith, e))) ∙ has.empty.1.0 in
@@ -97,6 +97,12 @@ number_put old new (Ok count) has h =
     rest.1.1.1.1.1.1.0 (λ e. absurd (omega (arith, e))) ∙ has.empty.1.1.1.1.1.1.1.0 in
     let mail : new.now.trees 16 ≡ [] =
     rest.1.1.1.1.1.1.1.0 (λ e. absurd (omega (arith, e))) ∙ has.empty.1.1.1.1.1.1.1.1.0 in
+    let hubs : new.now.trees 18 ≡ [] =
+    rest.1.1.1.1.1.1.1.1.0 (λ e. absurd (omega (arith, e))) ∙ has.empty.1.1.1.1.1.1.1.1.1.0 in
+    let keys : new.now.trees 20 ≡ [] =
+    rest.1.1.1.1.1.1.1.1.1.0 (λ e. absurd (omega (arith, e))) ∙ has.empty.1.1.1.1.1.1.1.1.1.1.0 in
+    let prefixes : new.now.trees 22 ≡ [] =
+    rest.1.1.1.1.1.1.1.1.1.1.0 (λ e. absurd (omega (arith, e))) ∙ has.empty.1.1.1.1.1.1.1.1.1.1.1.0 in
     let bare = λ (rows : List Row) (none : rows ≡ []). subst (IsShaped Rows) (sym none) (tt, tt) in
     record {
       hub = record {
@@ -114,7 +120,7 @@ number_put old new (Ok count) has h =
                   bare _ pallets,
                   (
                     bare _ contents,
-                    (bare _ receipts, (bare _ remembered, (bare _ mail, tt))),
+                    (bare _ receipts, (bare _ remembered, (bare _ mail, (bare _ hubs, (bare _ keys, (bare _ prefixes, tt)))))),
                   ),
                 ),
               ),
@@ -123,7 +129,7 @@ number_put old new (Ok count) has h =
         );
         sound = w.sound;
       };
-      tables = rw (orders, lines, advices, pallets, contents, receipts, remembered, mail);
+      tables = rw (hubs, keys, prefixes, orders, lines, advices, pallets, contents, receipts, remembered, mail);
       committed = (subst (λ b. Shows old new new.now (if b then old.committed else new.now) b) has.mode
           w.shown).committed_is;
       mode = w.shown.mode ∙ has.mode;

@@ -22,11 +22,13 @@ use Rattle.hub_schema.specs.Schema.{hub_schema}
 
 -- the row numbers of each table rise
 abbrev pub AreOrdered : Trees → Type 0
-AreOrdered trees = AllByRecursion (λ tree. IsShaped Table (trees tree)) (0 ∷ 1 ∷ 3 ∷ 5 ∷ 7 ∷ 10 ∷ 12 ∷ 14 ∷ 16 ∷ [])
+AreOrdered trees =
+    AllByRecursion (λ tree. IsShaped Table (trees tree))
+    (0 ∷ 1 ∷ 3 ∷ 5 ∷ 7 ∷ 10 ∷ 12 ∷ 14 ∷ 16 ∷ 18 ∷ 20 ∷ 22 ∷ [])
 
--- the one row of the table with the schema's number, which is 1
+-- the one row of the table with the schema's number, which is 2
 abbrev pub IsNumbered : Trees → Type 0
-IsNumbered trees = map (λ row. column row 1) (trees 0) ≡ Int (pos 1) ∷ []
+IsNumbered trees = map (λ row. column row 1) (trees 0) ≡ Int (pos 2) ∷ []
 
 -- the connection holds the tables of a hub
 pub record IsHub (s : State) : Type 0 where

@@ -8,7 +8,8 @@ ghost use Rattle.sqlite.specs.Held.{state};
 ghost use Rattle.hub_tables.specs.Tables.{empty};
 ghost use Rattle.sqlite_catalog.specs.Change.{created};
 ghost use Rattle.hub_schema.specs.Making.{HasMade, Defines, MakesOn, LeavesTables, schema_with};
-ghost use Rattle.hub_schema.specs.Schema.{no_schema, hub_schema, hub_tables, schema_table, order_table, line_table, advice_table, pallet_table, content_table};
+ghost use Rattle.hub_schema.specs.Schema.{no_schema, hub_schema, hub_tables, traffic_tables};
+ghost use Rattle.hub_schema.specs.Schema.{schema_table, order_table, line_table, advice_table, pallet_table, content_table};
 ghost use Rattle.hub_schema.specs.Rows.{tables_in};
 ghost use Rattle.hub_schema.specs.State.{IsHub, IsNewHub, StatementLeaves, Makes, ShowsTheSame};
 
@@ -85,7 +86,10 @@ fn make_pallets<S: Alter>(tx: &mut Transaction<'_, S>) -> Result<(), Error>
 fn make_messages<S: Alter>(tx: &mut Transaction<'_, S>) -> Result<(), Error>
     ensures same_reference { tx.new.conn.ghost_name ≡ tx.old.conn.ghost_name }
     ensures makes { HasCleanDisk (state S.Store tx.new.conn.now) →
-        HasMade (schema_with (schema_table ∷ order_table ∷ line_table ∷ advice_table ∷ pallet_table ∷ content_table ∷ [])) (state S.Store tx.old.conn.now) → OnOk result (MakesOn (hub_schema) (state S.Store tx.old.conn.now) (state S.Store tx.new.conn.now)) }
+        HasMade (schema_with
+        (schema_table ∷ order_table ∷ line_table ∷ advice_table ∷ pallet_table ∷ content_table ∷ []))
+        (state S.Store tx.old.conn.now) → OnOk result (MakesOn (schema_with traffic_tables)
+        (state S.Store tx.old.conn.now) (state S.Store tx.new.conn.now)) }
     ensures kept { HasCleanDisk (state S.Store tx.new.conn.now) →
         KeepsCommit (state S.Store tx.old.conn.now) (state S.Store tx.new.conn.now) }
     ensures survives { Survives (state S.Store tx.old.conn.now) (state S.Store tx.new.conn.now) (λ _. ⊥) }
@@ -108,6 +112,33 @@ fn make_messages<S: Alter>(tx: &mut Transaction<'_, S>) -> Result<(), Error>
     Ok(())
 }
 
+// The tables of the register. KEY is a word of SQL too, so a column of that name stands in quotes.
+fn make_parties<S: Alter>(tx: &mut Transaction<'_, S>) -> Result<(), Error>
+    ensures same_reference { tx.new.conn.ghost_name ≡ tx.old.conn.ghost_name }
+    ensures makes { HasCleanDisk (state S.Store tx.new.conn.now) →
+        HasMade (schema_with traffic_tables) (state S.Store tx.old.conn.now) →
+        OnOk result (MakesOn (hub_schema) (state S.Store tx.old.conn.now) (state S.Store tx.new.conn.now)) }
+    ensures kept { HasCleanDisk (state S.Store tx.new.conn.now) →
+        KeepsCommit (state S.Store tx.old.conn.now) (state S.Store tx.new.conn.now) }
+    ensures survives { Survives (state S.Store tx.old.conn.now) (state S.Store tx.new.conn.now) (λ _. ⊥) }
+    ensures leaves { LeavesTables traffic_tables (state S.Store tx.old.conn.now) (state S.Store tx.new.conn.now)
+        result }
+{
+    create(
+        tx,
+        "CREATE TABLE hub (hub BLOB NOT NULL, retailer BLOB NOT NULL, \"key\" BLOB NOT NULL, PRIMARY KEY (hub)) STRICT",
+    )?;
+    create(
+        tx,
+        "CREATE TABLE supplier (supplier BLOB NOT NULL, \"key\" BLOB NOT NULL, PRIMARY KEY (supplier)) STRICT",
+    )?;
+    create(
+        tx,
+        "CREATE TABLE prefix (prefix BLOB NOT NULL, supplier BLOB NOT NULL, PRIMARY KEY (prefix)) STRICT",
+    )?;
+    Ok(())
+}
+
 // Puts the number of the schema into its table.
 fn put_number<S: Alter>(tx: &mut Transaction<'_, S>) -> Result<usize, Error>
     ensures same_reference { tx.new.conn.ghost_name ≡ tx.old.conn.ghost_name }
@@ -118,10 +149,10 @@ fn put_number<S: Alter>(tx: &mut Transaction<'_, S>) -> Result<usize, Error>
     ensures survives { Survives (state S.Store tx.old.conn.now) (state S.Store tx.new.conn.now) (λ _. ⊥) }
     ensures leaves { LeavesTables hub_tables (state S.Store tx.old.conn.now) (state S.Store tx.new.conn.now) result }
 {
-    tx.execute("INSERT INTO schema (number) VALUES (1)", &[])
+    tx.execute("INSERT INTO schema (number) VALUES (2)", &[])
 }
 
-/// Makes the tables of schema 1 in a database that has none, without rows but the one with the schema's number.
+/// Makes the tables of schema 2 in a database that has none, without rows but the one with the schema's number.
 pub fn make_tables<S: Alter>(tx: &mut Transaction<'_, S>) -> Result<(), Error>
     ensures same_reference { tx.new.conn.ghost_name ≡ tx.old.conn.ghost_name }
     ensures makes { HasCleanDisk (state S.Store tx.new.conn.now) → HasMade no_schema (state S.Store tx.old.conn.now) →
@@ -134,6 +165,7 @@ pub fn make_tables<S: Alter>(tx: &mut Transaction<'_, S>) -> Result<(), Error>
     make_orders(tx)?;
     make_pallets(tx)?;
     make_messages(tx)?;
+    make_parties(tx)?;
     put_number(tx)?;
     Ok(())
 }

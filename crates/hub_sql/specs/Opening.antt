@@ -16,7 +16,7 @@ use Rattle.hub_sql.specs.Stored.{Stored, content, left, honest}
 use Rattle.hub_sql.specs.declared.adopting.Returned.{Returned}
 use Rattle.hub_sql.specs.declared.adopting.Returned.TheVariants.{Connection, Store}
 
--- the tables are a hub's, and their number is 1
+-- the tables are a hub's, and their number is 2
 abbrev pub HoldsHub : Database → Type 0
 HoldsHub db = (db.schema ≡ hub_schema) × IsNumbered db.trees
 

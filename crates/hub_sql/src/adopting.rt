@@ -29,7 +29,8 @@ fn is_table<S: Alter>(store: &S, tree: u32) -> bool
 
 // Whether each of the hub's tables stands there.
 fn has_tables<S: Alter>(store: &S) -> bool
-    ensures { IsTrue result → AllByRecursion (λ tree. (S.Store.view store.now).shape tree ≡ shape.Table) (0 ∷ 1 ∷ 3 ∷ 5 ∷ 7 ∷ 10 ∷ 12 ∷ 14 ∷ 16 ∷ []) }
+    ensures { IsTrue result → AllByRecursion (λ tree. (S.Store.view store.now).shape tree ≡ shape.Table)
+        (0 ∷ 1 ∷ 3 ∷ 5 ∷ 7 ∷ 10 ∷ 12 ∷ 14 ∷ 16 ∷ 18 ∷ 20 ∷ 22 ∷ []) }
 {
     is_table(store, 0)
         && is_table(store, 1)
@@ -40,6 +41,9 @@ fn has_tables<S: Alter>(store: &S) -> bool
         && is_table(store, 12)
         && is_table(store, 14)
         && is_table(store, 16)
+        && is_table(store, 18)
+        && is_table(store, 20)
+        && is_table(store, 22)
 }
 
 // The connection again, once what is below it has told that it is whole, and that the hub's tables stand there.
@@ -77,7 +81,7 @@ pub enum Returned<S: Alter> {
     Store(S),
 }
 
-// The connection, where its tables are the hub's and their number is 1.
+// The connection, where its tables are the hub's and their number is 2.
 fn of_this_version<S: Alter + Drop>(
     mut conn: Connection<S>,
 ) -> Result<Connection<S>, (Connection<S>, StoreFault)>
@@ -130,7 +134,7 @@ fn numbered<S: Alter + Drop>(
 
 impl<S: Alter + Drop> SqliteStore<S> {
     /// Takes over a connection in which no transaction is open and no statement is limited. A database without tables
-    /// gets those of schema 1. `Version` where it has other tables, or another number of the schema, and only there;
+    /// gets those of schema 2. `Version` where it has other tables, or another number of the schema, and only there;
     /// the connection that comes back with it is as it was. With any other fault no row is lost that was committed.
     /// `Unclean` never comes: a row that is none of the kinds shows when it is looked up.
     pub fn adopt(
