@@ -7,18 +7,18 @@ PROVED = crates/edihub/out/edihub
 run: edihub
 	./edihub $(RELAY) < examples/orders.edi
 
-# Some days of one retailer with two suppliers, over a database file in a temporary folder.
+# Some days of one retailer with two suppliers and a third that joins, over a database file in a temporary folder.
 day: edihub
 	sh examples/day/day.sh ./edihub
 
-# The hub of the example register on port 8080 of 127.0.0.1, over a database file in a temporary folder, for 1,000
+# A hub founded with the example register, on port 8080 of 127.0.0.1, over a database file in a temporary folder, for 1,000
 # connections; ^C ends it. `make serve PORT=8081 COUNT=10` takes another port, and as many connections.
 PORT = 8080
 COUNT = 1000
 
 serve: edihub
-	folder=$$(mktemp -d) && trap 'rm -rf "$$folder"' EXIT && trap : INT && \
-		./edihub serve --register examples/register.toml --db "$$folder/hub.db" --port $(PORT) --count $(COUNT) || case $$? in 1|3|130) ;; *) exit 1 ;; esac
+	folder=$$(mktemp -d) && trap 'rm -rf "$$folder"' EXIT && ./edihub init --register examples/register.toml --db "$$folder/hub.db" && trap : INT && \
+		{ ./edihub serve --db "$$folder/hub.db" --port $(PORT) --count $(COUNT) || case $$? in 1|3|130) ;; *) exit 1 ;; esac; }
 
 # Proves and builds the program. With no change since, nothing is proved again.
 edihub:

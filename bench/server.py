@@ -96,7 +96,7 @@ def main(script, plain, edihub):
     script, plain, edihub = (os.path.abspath(it) for it in (script, plain, edihub))
     too_much = False
     words = {
-        edihub: lambda port, count: [edihub, "serve", "--register", "register.toml", "--db", "hub.db", "--port", str(port), "--count", str(count)],
+        edihub: lambda port, count: [edihub, "serve", "--db", "hub.db", "--port", str(port), "--count", str(count)],
         plain: lambda port, count: [plain, "register.toml", "hub.db", str(port), str(count)],
     }
     with tempfile.TemporaryDirectory() as top:

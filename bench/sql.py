@@ -13,7 +13,6 @@ import sys
 import tempfile
 
 from hub import ALPHA, RETAILER, Play, begun, despatch, interchange, order, sent, since_first
-from hubs import TWO_SUPPLIERS
 
 ROUNDS, MESSAGES = 5, 600
 LINES = (10, 1_000, 100_000)
@@ -134,12 +133,10 @@ def importing(edihub, folder, uploads, top):
     """A copy of the folder with these uploads as files to import, and the words that import them."""
     into = copied(folder, top)
     os.mkdir(os.path.join(into, "in"))
-    with open(os.path.join(into, "register.toml"), "w", encoding="ascii") as file:
-        file.write(TWO_SUPPLIERS)
     for k, text in enumerate(uploads):
         with open(os.path.join(into, "in", f"{k:03}.edi"), "w", encoding="ascii") as file:
             file.write(text)
-    words = ["--register", "register.toml", "--db", "hub.db", "--as", RETAILER, "--key", "retail-key", "--folder", "in"]
+    words = ["--db", "hub.db", "--as", RETAILER, "--key", "retail-key", "--folder", "in"]
     return into, [edihub, "import", *words]
 
 

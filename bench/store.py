@@ -10,7 +10,7 @@ import sys
 import tempfile
 
 ROOT = os.path.dirname(os.path.dirname(os.path.abspath(__file__)))
-NEEDS = "edi_base edi_segments edi_tokens edi_moment edi_envelope gs1_ids hub_tables hub_store hub_rows hub_list".split()
+NEEDS = "edi_base edi_segments edi_tokens edi_moment edi_envelope gs1_ids hub_parties hub_register hub_tables hub_founding hub_store hub_rows hub_list".split()
 MOST_GROWTH = 5
 LINE = re.compile(r"^(over|\w[^:]*:) (\d+)$", re.M)
 

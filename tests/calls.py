@@ -30,8 +30,9 @@ OF_THEIR_OWN = {
 }
 # those that ask of an answer whether it is the right one, and do not say what else it is
 SAY_NO = {"app::the_text_of_a_register_is_read", "store::lists_answer_each_look_up", "store::rows_under_keys_that_are_there_are_left_out"}
-# the fewest tests that there are, and the fewest allocations of all of them
-FEWEST_TESTS, FEWEST_ALLOCATIONS = 50, 5_000
+# the fewest tests that there are, and the fewest allocations of all of them; and how many of one test are refused at most: of a test with more,
+# some, all over it
+FEWEST_TESTS, FEWEST_ALLOCATIONS, MOST_OF_ONE = 50, 5_000, 3_000
 
 
 def program_of(crate):
@@ -69,7 +70,8 @@ def refused_in_turn(program, name, shim, count):
     if status:
         return f"{name} with ample memory: {said[:300]}"
     with open(count, encoding="ascii") as file:
-        numbers = range(1, int(file.read()) + 1)
+        allocations = int(file.read())
+    numbers = range(1, allocations + 1, 1 + allocations // MOST_OF_ONE)
     found = [outcome(program, name, shim, number) for number in numbers]
     if None in found:
         number = numbers[found.index(None)]

@@ -10,7 +10,7 @@ import places
 import shown
 from case import Case
 from envelopes import ENVELOPES, HEAD, MESSAGE, ORDERS, cut
-from registers import ALPHA, BETA, HUB, REGISTERS, RETAILER, of_prefixes, register
+from registers import ALPHA, BETA, GAMMA, HUB, REGISTERS, RETAILER, of_prefixes, register
 from texts import TEXT_LIMIT, TEXTS
 
 OWNER = ALPHA
@@ -153,7 +153,7 @@ CUTS = [refused(f"the order cut to {length} bytes", ORDERS[:length], cut(length)
 
 # so little memory in all that the mail texts of an interchange of 1 MiB cannot be held, and a little more
 MEMORY = [
-    *(Case(f"out of memory, {mib} MiB in all", relay(), loads.many_orders(TEXT_LIMIT), error=b"memory\n", status=3, memory=mib << 20) for mib in (5, 6)),
+    *(Case(f"out of memory, {mib} MiB in all", relay(), loads.many_orders(TEXT_LIMIT), error=b"memory\n", status=3, memory=mib << 20) for mib in (6, 7)),
     Case("an interchange of 1 MiB in 10 MiB in all", relay(), loads.many_orders(TEXT_LIMIT), output=lambda it: it.count(b"'UNZ+1+") == 999, memory=10 << 20),
 ]
 
@@ -236,13 +236,19 @@ CHECK = [
     wrong_words("a word too many for check", [*CHECK_WORDS, "more"]),
     *(
         Case(f"out of memory for a register, {mib} MiB in all", CHECK_WORDS, error=b"memory\n", status=3, memory=mib << 20, files={"register.toml": register(*[("", "", "")] * 15000).encode()})
-        for mib in (5, 6, 8)
+        for mib in (6, 7, 8)
     ),
 ]
 
+def is_empty(folder):
+    """The command left no file."""
+    found = os.listdir(folder)
+    return f"there are {found}" if found else None
+
+
 def over_a_hub(command, *more, **words):
     """The words of a command over a hub; an option is left out by None."""
-    named = {"register": "register.toml", "db": "hub.db", "as": RETAILER, "key": "retail-key", **words}
+    named = {"db": "hub.db", "as": RETAILER, "key": "retail-key", **words}
     options = [word for name, value in named.items() if value is not None for word in (f"--{name}", value)]
     return [command, *options, *more]
 
@@ -254,18 +260,21 @@ def hub_words(command, **more):
         "status": {"of": ALPHA},
         "mail": {"do": "after", "n": "0"},
         "cancel": {"supplier": ALPHA, "reference": "C1", "order": "128576", "line": "1", "quantity": "10"},
+        "join": {"supplier": GAMMA, "supplier-key": "gamma-key-1", "prefixes": "7612345,7612346"},
     }
     return over_a_hub(command, **{**own[command], **more})
 
 
-OVER_A_HUB = ("import", "status", "mail", "cancel")
+OVER_A_HUB = ("import", "status", "mail", "cancel", "join")
 WANTED = {
-    **{command: ("register", "db", "as", "key") for command in OVER_A_HUB},
-    "import": ("register", "db", "as", "key", "folder"),
-    "mail": ("register", "db", "as", "key", "do", "n"),
-    "cancel": ("register", "db", "as", "key", "supplier", "reference", "order", "line", "quantity"),
+    "import": ("db", "as", "key", "folder"),
+    "status": ("db", "as", "key"),
+    "mail": ("db", "as", "key", "do", "n"),
+    "cancel": ("db", "as", "key", "supplier", "reference", "order", "line", "quantity"),
+    "join": ("db", "as", "key", "supplier", "supplier-key", "prefixes"),
 }
 FIFTEEN = "0" * 14 + "1"
+NINE = [f"761234{last}" for last in range(1, 10)]
 # each option, and the values that are against its limits
 WRONG = {
     "as": ("12", "5412345000014", "541234500001x", " 5412345000013", ""),
@@ -278,12 +287,23 @@ WRONG = {
     "order": ("1" * 36, "128\n576", "\u20ac", ""),
     "line": ("0", "0000000", "1000000", "+1", "1\n", ""),
     "quantity": ("0", "1000000000", "0000000001", "+1", "1.0", "1\n2", ""),
+    "supplier-key": ("gamma-k", "k" * 65, "gamma key 1", "gamma\tkey", "schl\u00fcssel", ""),
+    "prefixes": (
+        "", ",", "761", "7612345678901", "761234x", "7612345,", ",7612345", "7612345,,7612346", "7612345, 7612346", "7612345;7612346",
+        "7612345,761", "7612345,7612345", "7612,7612345,7612", ",".join(NINE), ",".join(NINE * 100), "7612345\n",
+    ),
 }
 HAS = {
     "import": ("as", "moment"),
     "status": ("as", "moment", "of"),
     "mail": ("as", "moment", "do", "n"),
     "cancel": ("as", "moment", "supplier", "reference", "order", "line", "quantity"),
+    "join": ("as", "moment", "supplier", "supplier-key", "prefixes"),
+}
+# values of `join` at their limits, after which the database is looked for
+RIGHT_TO_JOIN = {
+    "supplier-key": ("gamma-k1", "k" * 64, "!~345678"),
+    "prefixes": ("7612", "761234567890", "7612345,7612,76123456", ",".join(NINE[:8])),
 }
 HUB_WORDS = [
     *(wrong_words(f"no words for {command}", [command]) for command in OVER_A_HUB),
@@ -296,6 +316,12 @@ HUB_WORDS = [
     ),
     *(wrong_words(f"{command} with --key twice", [*hub_words(command), "--key", "retail-key"]) for command in OVER_A_HUB),
     *(wrong_words(f"{command} with a word too many", [*hub_words(command), "more"]) for command in OVER_A_HUB),
+    *(wrong_words(f"{command} with a register", [*hub_words(command), "--register", "register.toml"]) for command in OVER_A_HUB),
+    *(
+        Case(f"join with --{name} {value!r}, and no database", hub_words("join", **{name: value}), error=b"store version\n", status=3, after=is_empty)
+        for name, values in RIGHT_TO_JOIN.items()
+        for value in values
+    ),
     wrong_words("a key that begins with -, parted", hub_words("status", key="-x")),
     wrong_words("the option of another command", hub_words("status", folder="out")),
     *(
@@ -304,12 +330,14 @@ HUB_WORDS = [
     ),
     *(Case(f"the help of the program names {command}", ["--help"], output=lambda it, command=command: command.encode() in it) for command in OVER_A_HUB),
     Case("the help of status shows both ways to ask", ["status", "--help"], output=lambda it: b"--of 4012345500004" in it and b"--as 4012345500004" in it),
+    Case("the help of join shows how a supplier is let in", ["join", "--help"], output=lambda it: b"--prefixes 7612345,7612346" in it and b"B18" in it and b"B19" in it and b"B20" in it),
+    *(Case(f"the help of {command} names no register", [command, "--help"], output=lambda it: b"register" not in it) for command in (*OVER_A_HUB, "serve")),
     Case("the help of mail has its three steps", ["mail", "--help"], output=lambda it: all(b"--do " + what in it for what in (b"after", b"item", b"taken"))),
 ]
 
 def serve_words(**more):
     """Words of `serve` that are right, but for these; an option is left out by None."""
-    named = {"register": "register.toml", "db": "hub.db", "port": "8080", "count": "1", **more}
+    named = {"db": "hub.db", "port": "8080", "count": "1", **more}
     return ["serve", *(word for name, value in named.items() if value is not None for word in (f"--{name}", value))]
 
 
@@ -319,22 +347,35 @@ WRONG_TO_SERVE = {
     "count": ("0", "1000001", "99999999999999", FIFTEEN, "+5", "1.0", "all", ""),
     "moment": WRONG["moment"],
 }
-# values at the limits, after which the register is looked for
+# values at the limits, after which the database is looked for
 RIGHT_TO_SERVE = {"port": ("1", "65535", "00000000000080"), "count": ("1", "1000000", "00000001000000"), "moment": ("0", "4102444799")}
 SERVE_WORDS = [
     wrong_words("no words for serve", ["serve"]),
-    *(wrong_words(f"serve without --{name}", serve_words(**{name: None})) for name in ("register", "db", "port", "count")),
+    *(wrong_words(f"serve without --{name}", serve_words(**{name: None})) for name in ("db", "port", "count")),
     *(wrong_words(f"serve with --{name} {value!r}", serve_words(**{name: value})) for name, values in WRONG_TO_SERVE.items() for value in values),
     *(
-        Case(f"serve with --{name} {value!r}, and no register", serve_words(**{name: value}), error=b"file\n", status=3)
+        Case(f"serve with --{name} {value!r}, and no database", serve_words(**{name: value}), error=b"store version\n", status=3, after=is_empty)
         for name, values in RIGHT_TO_SERVE.items()
         for value in values
     ),
     *(wrong_words(f"serve with --{name} twice", [*serve_words(), f"--{name}", "1"]) for name in ("port", "count")),
     wrong_words("serve with a word too many", [*serve_words(), "more"]),
     wrong_words("serve for a caller", [*serve_words(), "--as", RETAILER]),
+    wrong_words("serve with a register", [*serve_words(), "--register", "register.toml"]),
     Case("the help of serve", ["serve", "--help"], output=lambda it: b"Usage: edihub serve" in it and b"--port" in it and b"connection 3 fault" in it and b"Exit status: 0" in it),
     Case("the help of the program names serve", ["--help"], output=lambda it: b"serve" in it),
+]
+
+INIT_WORDS = ["init", "--register", "register.toml", "--db", "hub.db"]
+INIT_CASES = [
+    wrong_words("no words for init", ["init"]),
+    wrong_words("init without --register", ["init", "--db", "hub.db"]),
+    wrong_words("init without --db", ["init", "--register", "register.toml"]),
+    *(wrong_words(f"init with --{name} twice", [*INIT_WORDS, f"--{name}", "other"]) for name in ("register", "db")),
+    *(wrong_words(f"init with --{name}", [*INIT_WORDS, f"--{name}", value]) for name, value in (("as", RETAILER), ("key", "retail-key"), ("moment", "0"))),
+    wrong_words("init with a word too many", [*INIT_WORDS, "more"]),
+    Case("the help of init", ["init", "--help"], output=lambda it: b"Usage: edihub init" in it and b"--register" in it and b"--db" in it and b"Exit status: 0" in it),
+    Case("the help of the program names init", ["--help"], output=lambda it: b"init" in it),
 ]
 
 REGISTER_CASES = [checked(name, source, f"{verdict} suppliers") if verdict.startswith("ok") else faulty(name, source, verdict) for name, source, verdict in REGISTERS]
@@ -471,7 +512,7 @@ SHOW = [
     Case("show: a failed write", ["show"], shown.in_a_row(*ALL_TYPES).encode(), output_to="/dev/full", error=b"file\n", status=3),
     *(
         Case(f"show: out of memory, {mib} MiB in all", ["show"], loads.many_orders(TEXT_LIMIT), error=b"memory\n", status=3, memory=mib << 20)
-        for mib in (5, 6, 8, 10, 12, 16)
+        for mib in (6, 7, 8, 10, 12, 16)
     ),
     Case("the help of show", ["show", "--help"], output=lambda it: b"Usage: edihub show" in it and b"refused M08 quantity" in it),
     Case("the help of the program names show", ["--help"], output=lambda it: b"show" in it),
@@ -479,4 +520,4 @@ SHOW = [
     wrong_words("an option for show", ["show", "--hub", HUB]),
 ]
 
-CASES = RELAY + CUTS + MEMORY + EXAMPLES + CHECK + HUB_WORDS + SERVE_WORDS + REGISTER_CASES + ENVELOPE_CASES + TEXT_CASES + SHOW + orders.CASES + goods.CASES + places.CASES
+CASES = RELAY + CUTS + MEMORY + EXAMPLES + CHECK + HUB_WORDS + SERVE_WORDS + INIT_CASES + REGISTER_CASES + ENVELOPE_CASES + TEXT_CASES + SHOW + orders.CASES + goods.CASES + places.CASES

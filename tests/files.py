@@ -8,14 +8,15 @@ import tempfile
 from dataclasses import replace
 
 from case import SECONDS, Case
-from hubs import ALPHA, DESPATCH, FIRST_MAIL, HUBS, ORDERS, PALLET, RESPONSE, RETAILER, STATUS
+from hubs import ALPHA, BETA, DESPATCH, FIRST_MAIL, HUB, HUBS, KEYS, ORDERS, PALLET, RESPONSE, RETAILER, STATUS
 from hubs import Play, accepted, line_status
+from registers import DELTA, GAMMA, gln
 
 NAME = "hub.db"
 WORDS = ["file", NAME]
 
-# The tables of schema 1, as every file has them.
-TABLES = """
+# The tables of schema 1, which knew no register.
+OLD_TABLES = """
 CREATE TABLE schema (number INTEGER NOT NULL) STRICT;
 CREATE TABLE "order" (supplier BLOB NOT NULL, number BLOB NOT NULL, PRIMARY KEY (supplier, number)) STRICT;
 CREATE TABLE line (supplier BLOB NOT NULL, number BLOB NOT NULL, line INTEGER NOT NULL, gtin BLOB NOT NULL, ordered INTEGER NOT NULL, open_qty INTEGER NOT NULL, refused INTEGER NOT NULL, cancelled INTEGER NOT NULL, answer INTEGER NOT NULL, PRIMARY KEY (supplier, number, line)) STRICT;
@@ -27,7 +28,22 @@ CREATE TABLE remembered (supplier BLOB NOT NULL, side INTEGER NOT NULL, control 
 CREATE TABLE mail (supplier BLOB NOT NULL, number INTEGER NOT NULL, moment INTEGER NOT NULL, decimal INTEGER NOT NULL, kind INTEGER NOT NULL, document BLOB NOT NULL, body BLOB NOT NULL, taken INTEGER NOT NULL, PRIMARY KEY (supplier, number)) STRICT;
 """
 
-# What stands in them after the first order, its changed answer and its despatch.
+# Those of schema 2, as every file has them.
+TABLES = OLD_TABLES + """
+CREATE TABLE hub (hub BLOB NOT NULL, retailer BLOB NOT NULL, "key" BLOB NOT NULL, PRIMARY KEY (hub)) STRICT;
+CREATE TABLE supplier (supplier BLOB NOT NULL, "key" BLOB NOT NULL, PRIMARY KEY (supplier)) STRICT;
+CREATE TABLE prefix (prefix BLOB NOT NULL, supplier BLOB NOT NULL, PRIMARY KEY (prefix)) STRICT;
+"""
+
+# What stands in them of the register of two suppliers.
+REGISTERED = {
+    "schema": [(2,)],
+    "hub": [(HUB.encode(), RETAILER.encode(), KEYS[RETAILER].encode())],
+    "supplier": [(it.encode(), KEYS[it].encode()) for it in (ALPHA, BETA)],
+    "prefix": [(b"40123455", ALPHA.encode()), (b"8712345", BETA.encode())],
+}
+
+# And then after the first order, its changed answer and its despatch.
 SUPPLIER, NUMBER, ITEM = ALPHA.encode(), b"128576", b"04000862141404"
 BODY = FIRST_MAIL[FIRST_MAIL.index("UNH") : FIRST_MAIL.index("UNZ")].encode()
 
@@ -37,7 +53,7 @@ def canonical(interchange):
     return interchange[interchange.index("UNH") : interchange.index("UNZ")].encode()
 
 
-ROWS = {
+OLD_ROWS = {
     "schema": [(1,)],
     '"order"': [(SUPPLIER, NUMBER)],
     "line": [(SUPPLIER, NUMBER, 1, ITEM, 48, 24, 12, 0, ord("C"))],
@@ -52,6 +68,7 @@ ROWS = {
     ],
     "mail": [(SUPPLIER, 1, 1748942400, ord("."), ord("O"), NUMBER, BODY, 0)],
 }
+ROWS = {**OLD_ROWS, **REGISTERED}
 
 
 def file_of(tables=TABLES, rows=ROWS, *changes):
@@ -168,7 +185,11 @@ OTHERS = [
     ("a schema of number 9", file_of(TABLES, ROWS, "UPDATE schema SET number = 9")),
     ("a schema of number 0", file_of(TABLES, ROWS, "UPDATE schema SET number = 0")),
     ("a schema without its number", file_of(TABLES, ROWS, "DELETE FROM schema")),
-    ("a schema with two numbers", file_of(TABLES, ROWS, "INSERT INTO schema VALUES (1)")),
+    ("a schema with two numbers", file_of(TABLES, ROWS, "INSERT INTO schema VALUES (2)")),
+    ("the tables and the number of schema 1", file_of(OLD_TABLES, OLD_ROWS)),
+    ("the tables of schema 1 and number 2", file_of(OLD_TABLES, {**OLD_ROWS, "schema": [(2,)]})),
+    ("the tables of schema 2 and number 1", file_of(TABLES, {**ROWS, "schema": [(1,)]})),
+    ("no table of prefixes", file_of(TABLES, ROWS, "DROP TABLE prefix")),
     ("tables without that of the number", file_of(without("CREATE TABLE schema (number INTEGER NOT NULL) STRICT;"), {})),
     ("one table of something else", file_of("CREATE TABLE note (text TEXT);", {})),
     ("a table more", file_of(TABLES + "CREATE TABLE note (text TEXT);", ROWS)),
@@ -179,6 +200,31 @@ OTHERS = [
     ("a column less", file_of(TABLES.replace(", cancelled INTEGER NOT NULL", ""), {"schema": ROWS["schema"]})),
     ("pallets without their second key", file_of(TABLES.replace(", UNIQUE (supplier, sscc)", ""), ROWS)),
     ("a table that is not strict", file_of(TABLES.replace("PRIMARY KEY (sscc, gtin)) STRICT", "PRIMARY KEY (sscc, gtin))"), ROWS)),
+]
+
+CROWD = [gln(number).encode() for number in range(1001)]
+OF_CROWD = {"supplier": [(it, b"a-key-of-many") for it in CROWD], "prefix": [(b"%08d" % place, it) for place, it in enumerate(CROWD)]}
+# Rows of the parties that are those of no register.
+NO_REGISTERS = [
+    ("no row of the hub", "DELETE FROM hub"),
+    ("a second row of the hub", f"INSERT INTO hub VALUES (x'{GAMMA.encode().hex()}', x'{DELTA.encode().hex()}', x'{b'retail-key'.hex()}')"),
+    ("a hub with a wrong check digit", "UPDATE hub SET hub = CAST('5412345000007' AS BLOB)"),
+    ("a retailer that is the hub", "UPDATE hub SET retailer = hub"),
+    ("a retailer with a key of seven bytes", "UPDATE hub SET \"key\" = CAST('retail7' AS BLOB)"),
+    ("a supplier that is the retailer", f"UPDATE supplier SET supplier = CAST('{RETAILER}' AS BLOB) WHERE supplier = CAST('{BETA}' AS BLOB); UPDATE prefix SET supplier = CAST('{RETAILER}' AS BLOB) WHERE supplier = CAST('{BETA}' AS BLOB)"),
+    ("a supplier with a key of 65 bytes", f"UPDATE supplier SET \"key\" = CAST('{'k' * 65}' AS BLOB)"),
+    ("a supplier with a blank in its key", "UPDATE supplier SET \"key\" = CAST('alpha key' AS BLOB)"),
+    ("a supplier with a wrong check digit", f"UPDATE supplier SET supplier = CAST('4012345500005' AS BLOB) WHERE supplier = CAST('{ALPHA}' AS BLOB); UPDATE prefix SET supplier = CAST('4012345500005' AS BLOB) WHERE supplier = CAST('{ALPHA}' AS BLOB)"),
+    ("a supplier without a prefix", f"DELETE FROM prefix WHERE supplier = CAST('{BETA}' AS BLOB)"),
+    ("a supplier with nine prefixes", *(f"INSERT INTO prefix VALUES (CAST('9999{last}' AS BLOB), CAST('{BETA}' AS BLOB))" for last in range(8))),
+    ("a prefix of no supplier", f"DELETE FROM supplier WHERE supplier = CAST('{BETA}' AS BLOB)"),
+    ("a prefix of three digits", f"UPDATE prefix SET prefix = CAST('871' AS BLOB) WHERE supplier = CAST('{BETA}' AS BLOB)"),
+    ("a prefix with a letter", f"UPDATE prefix SET prefix = CAST('871234x' AS BLOB) WHERE supplier = CAST('{BETA}' AS BLOB)"),
+    ("a prefix that begins another supplier's", f"UPDATE prefix SET prefix = CAST('4012' AS BLOB) WHERE supplier = CAST('{BETA}' AS BLOB)"),
+]
+UNCLEAN = [
+    *((name, file_of(TABLES, ROWS, *"; ".join(changes).split("; "))) for name, *changes in NO_REGISTERS),
+    ("1,001 suppliers", file_of(TABLES, {**REGISTERED, **OF_CROWD})),
 ]
 
 # A cell of a row that is none of the kinds, and what is asked that meets it.
@@ -234,9 +280,10 @@ FILES = [
     Case("a file that is opened again", WORDS, opened_anew().script, opened_anew().printed, after=has_rows(ROWS)),
     of_file("a file that SQLite wrote", looked_at(Play()), file_of(), has_rows(ROWS)),
     of_file("a file that SQLite wrote with a log", looked_at(Play()), file_of(TABLES, ROWS, "PRAGMA journal_mode = WAL"), has_rows(ROWS)),
-    of_file("a file without tables", Play().status(), file_of("", {}), has_rows({"schema": [(1,)], "line": []})),
-    of_file("an empty file", Play().status(), b"", has_rows({"schema": [(1,)], "line": []})),
+    of_file("a file without tables", Play().status(), file_of("", {}), has_rows({**REGISTERED, "line": []})),
+    of_file("an empty file", Play().status(), b"", has_rows({**REGISTERED, "line": []})),
     *(not_opened(f"a file with {name}", "version", data) for name, data in OTHERS),
+    *(not_opened(f"a file with {name}", "unclean", data) for name, data in UNCLEAN),
     not_opened("a file that is no database", "disk", b"no database\n" * 1000),
     not_opened("half of a file", "disk", file_of()[: len(file_of()) // 2]),
     *(spoiled(*row) for row in SPOILED),

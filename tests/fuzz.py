@@ -1,6 +1,7 @@
 """`make fuzz SEED=1 NUMBER=100000`: inputs made right and then changed, by bytes, segments and messages, through the built program.
 
-Interchanges go in by folders (`import`), over HTTP (`serve`), and by `show` and `relay`; registers by `check`; and lists of words.
+Interchanges go in by folders (`import`), over HTTP (`serve`), and by `show` and `relay`; registers by `check`; suppliers by `join`; and
+lists of words.
 Each answer has a form that docs/FORMATS.md names; no program ends by a signal, takes a second of processor time for a small input,
 or more memory than its bound; the rows of the file grow by what was accepted and by nothing else: the accepted inputs alone make
 the same file, by import and over HTTP.
@@ -19,10 +20,10 @@ import time
 from concurrent.futures import ThreadPoolExecutor
 
 import registers
-from commands import MOMENT, REGISTER, over
+from commands import MOMENT, found as found_hub, over
 from files import NAME
 from http_texts import PHRASES, asking, response
-from hubs import ALPHA, BETA, HUB, KEYS, ORDERS, RETAILER, SECOND, SPELLED, TWO_SUPPLIERS
+from hubs import ALPHA, BETA, HUB, KEYS, ORDERS, RETAILER, SECOND, SPELLED
 from made import upload_of
 from serving import Server, exit_of, limit, lines_of
 
@@ -32,7 +33,7 @@ BATCH = 120
 ROOM, ROOM_OF_STORE, TEXTS = 6 << 20, 14 << 20, 4
 # how long a command may take by the clock, beside other work, and how much processor time a command or a server of small inputs may take
 SECONDS, PROCESSOR_SECONDS = 20, 1
-TABLES = ("order", "line", "advice", "pallet", "content", "receipt", "remembered", "mail")
+TABLES = ("order", "line", "advice", "pallet", "content", "receipt", "remembered", "mail", "hub", "supplier", "prefix")
 # what any of the hub's replies to an upload is
 LINE = re.compile(rb"[ -~]{1,14} [ -~]{1,6} (accepted|repeated|refused [BM]\d\d)")
 HEAD = re.compile(rb"interchange ([ -~]{1,14}) messages (\d{1,3})")
@@ -129,6 +130,16 @@ def is_utf8(data):
 def largest_of(texts):
     """The bytes that are allowed for the largest of these inputs."""
     return TEXTS * max(map(len, texts))
+
+
+def some_prefixes(draw):
+    """Prefixes of few digits, so that some begin others; now and then such as no supplier can have."""
+    made = ["".join(draw.choice("01") for _ in range(draw.choice((4, 5, 6, 7, 8, 12)))) for _ in range(draw.choice((1, 1, 2, 3, 8)))]
+    if draw.randrange(6):
+        made = list(dict.fromkeys(made))
+    if draw.randrange(12) == 0:
+        made = draw.choice(([], made * 2, made + ["012"], made + ["0123456789012"], made + ["01234x"], [f"2{it:04}" for it in range(9)]))
+    return made
 
 
 class Found(Exception):
@@ -228,8 +239,7 @@ class Fuzz:
             for name in ("all", "accepted"):
                 folder = os.path.join(top, name)
                 os.mkdir(folder)
-                with open(os.path.join(folder, REGISTER), "w", encoding="ascii") as file:
-                    file.write(TWO_SUPPLIERS)
+                found_hub(self.program, folder)
                 turns, accepted = self.imported(folder, turns)
                 found.append(self.rows(folder))
                 if len(found[-1]["remembered"]) != accepted:
@@ -328,13 +338,8 @@ class Fuzz:
         return 1
 
     def prefixes(self, draw):
-        """Suppliers with lists of prefixes, of few digits, so that some begin others."""
-        suppliers = [["".join(draw.choice("01") for _ in range(draw.choice((4, 5, 6, 7, 8, 12)))) for _ in range(draw.choice((1, 1, 2, 3, 8)))] for _ in range(draw.randrange(5))]
-        for prefixes in suppliers:
-            if draw.randrange(6):
-                prefixes[:] = dict.fromkeys(prefixes)
-            if draw.randrange(12) == 0:
-                prefixes[:] = draw.choice(([], prefixes * 2, prefixes + ["012"], prefixes + ["0123456789012"], prefixes + ["01234x"], [f"2{it:04}" for it in range(9)]))
+        """Suppliers with lists of prefixes."""
+        suppliers = [some_prefixes(draw) for _ in range(draw.randrange(5))]
         text = registers.of_prefixes(*suppliers).encode()
         path = os.path.join(self.folder, f"register{draw.random()}")
         with open(path, "wb") as file:
@@ -346,13 +351,43 @@ class Fuzz:
             raise Found(f"check does not say {want}", text, *answer[1:])
         return 1
 
+    def joins(self, draw):
+        """A hub, and suppliers that join it one after another. What each is answered is computed beside, and so are the rows that there are then."""
+        rows, joins = {}, 5
+        for number in range(draw.randrange(4)):
+            prefixes = some_prefixes(draw)
+            if registers.are_prefixes_of_one(prefixes) and not any(registers.overlap(prefixes, its) for its in rows.values()):
+                rows[registers.gln(number)] = prefixes
+        with tempfile.TemporaryDirectory() as folder:
+            found_hub(self.program, folder, registers.register(*((who, its, f"key-of-{who}") for who, its in rows.items())))
+            for _ in range(joins):
+                who, prefixes = draw.choice((HUB, RETAILER, *map(registers.gln, range(8)))), some_prefixes(draw)
+                words = over("join", RETAILER, "--supplier", who, "--supplier-key", f"key-of-{who}", "--prefixes", ",".join(prefixes))
+                status, printed, error = self.ran(words, folder)
+                if not registers.are_prefixes_of_one(prefixes):
+                    want = (2, b"")
+                elif who in (HUB, RETAILER, *rows):
+                    want = (1, b"refused B18\n")
+                elif any(registers.overlap(prefixes, its) for its in rows.values()):
+                    want = (1, b"refused B19\n")
+                else:
+                    want, rows[who] = (0, b"accepted\n"), prefixes
+                if (status, printed) != want or bool(error) != (status == 2):
+                    raise Found(f"join does not end with {want}", words, rows, status, printed, error)
+            found = self.rows(folder)
+            keys, held = sorted((who.encode(), f"key-of-{who}".encode()) for who in rows), sorted((it.encode(), who.encode()) for who, its in rows.items() for it in its)
+            if found["supplier"] != keys or found["prefix"] != held:
+                raise Found("other suppliers are in the file", rows, found["supplier"], found["prefix"])
+        return joins
+
     def words(self, draw):
         """Words with one dropped, doubled, exchanged or changed: no input is there, so nothing is done."""
         made = draw.choice((
             ["relay", "--hub", HUB, "--owner", ALPHA, "--moment", MOMENT, "--number", "1"], ["show"], ["check", "--register", "none"],
             over("import", RETAILER, "--folder", "none"), over("status", ALPHA), over("status", RETAILER, "--of", ALPHA), over("mail", ALPHA, "--do", "after", "--n", "0"),
             over("cancel", RETAILER, "--supplier", ALPHA, "--reference", "C1", "--order", "1", "--line", "1", "--quantity", "1"),
-            ["serve", "--register", "none", "--db", NAME, "--port", "0", "--count", "0"],
+            over("join", RETAILER, "--supplier", registers.GAMMA, "--supplier-key", "gamma-key-1", "--prefixes", "7612345,7612346"), ["init", "--register", "none", "--db", NAME],
+            ["serve", "--db", NAME, "--port", "0", "--count", "0"],
         ))
         words = list(made)
         for _ in range(draw.choice((1, 2))):
@@ -383,7 +418,7 @@ class Fuzz:
         elif seed % 8 == 5:
             some = [self.requests]
         else:
-            some = [draw.choice((self.shown, self.shown, self.register, self.prefixes, self.words)) for _ in range(BATCH)]
+            some = [draw.choice((self.shown, self.shown, self.register, self.prefixes, self.joins, self.words)) for _ in range(BATCH)]
         tried, found = 0, []
         for one in some:
             try:

@@ -1,9 +1,10 @@
 """`make hostile`: hostile use of the built program, for minutes.
 
+- A founding is killed at 100 moments and made again: either nothing was founded, or all of it is there.
 - An import of 999 orders is killed at 100 moments spread over it and made again to its end: mailbox, status and every table are
   those of one that nobody disturbed, and SQLite finds the file whole after each kill.
 - `serve` is killed at 100 moments while a client uploads: every answer that the client had read is kept.
-- The disk is full: a file may not grow past some size. Each command ends with its named fault or `stopped`, status 3, nothing is
+- The disk is full: a file may not grow past some size. Each command, a founding too, ends with its named fault or `stopped`, status 3, nothing is
   done in part, and the same again with room goes through.
 - Each allocation of the program is refused in turn, command by command, `serve` with an upload among them: it says `memory`, or
   stops, or makes up for it; and the same command with ample memory leaves the rows that it would have left, and says `repeated`
@@ -31,12 +32,12 @@ from collections import Counter
 from concurrent.futures import ThreadPoolExecutor
 
 from calls import calls_refused
-from commands import KEPT, REGISTER, over, told
-from files import NAME, TABLES as CREATED, file_of, is_whole
+from commands import REGISTER, found as found_hub, init, over, told
+from files import NAME, REGISTERED, TABLES as CREATED, file_of, is_whole
 from http_texts import response
 from hubs import ALPHA, BETA, DESPATCH, HUB, MOMENT, ORDERS as ORDER, RECEIPT, RESPONSE, RETAILER, SECOND, SPELLED, TWO_SUPPLIERS, interchange, order
 from refusals import SHIM, refusals
-from registers import of_prefixes
+from registers import GAMMA, of_prefixes
 from serving import Server, all_of, free_port, get, listed, upload
 
 HEAP = os.path.join(os.path.dirname(os.path.abspath(__file__)), "heap.c")
@@ -45,20 +46,28 @@ ORDERS, MOMENTS = 999, 100
 PAGE, CHANGES = 4096, 12
 # how many of the kills have to come in the midst of an import or of what a server does, and how many different counts they keep
 IN_THE_MIDST, DIFFERENT = 20, 10
-TABLES = ("order", "line", "advice", "pallet", "content", "receipt", "remembered", "mail")
-STORE_FAULTS = {b"store disk\n", b"store version\n", b"store memory\n"}
+TABLES = ("order", "line", "advice", "pallet", "content", "receipt", "remembered", "mail", "hub", "supplier", "prefix")
+STORE_FAULTS = {b"store disk\n", b"store version\n", b"store unclean\n", b"store memory\n"}
 
 
-def new_folder(top):
+def bare_folder(top):
+    """A folder with a register, and no hub yet."""
     folder = tempfile.mkdtemp(dir=top)
     with open(os.path.join(folder, REGISTER), "w", encoding="ascii") as file:
         file.write(TWO_SUPPLIERS)
     return folder
 
 
-def of_orders(top, count=ORDERS):
-    """A folder of so many orders in one interchange, not imported yet."""
-    folder = new_folder(top)
+def new_folder(program, top):
+    """A folder with a founded hub."""
+    folder = tempfile.mkdtemp(dir=top)
+    found_hub(program, folder)
+    return folder
+
+
+def of_orders(program, top, count=ORDERS):
+    """A folder with a founded hub, and so many orders in one interchange, not imported yet."""
+    folder = new_folder(program, top)
     os.mkdir(os.path.join(folder, "in"))
     with open(os.path.join(folder, "in", "a.edi"), "w", encoding="ascii") as file:
         file.write(interchange(RETAILER, "U1", *(order(str(k), reference=k) for k in range(1, count + 1))))
@@ -70,15 +79,6 @@ def rows_of(folder):
     found = {table: sorted(base.execute(f'SELECT * FROM "{table}"').fetchall()) for table in TABLES}
     base.close()
     return found
-
-
-def is_made(folder):
-    """Whether a database file is there whose making has ended: only then does its first byte stand, and SQLite knows it."""
-    path = os.path.join(folder, NAME)
-    if not os.path.exists(path):
-        return False
-    with open(path, "rb") as file:
-        return file.read(1) != b"\0"
 
 
 def run(program, words, folder, **how):
@@ -95,8 +95,44 @@ def looks(program, folder):
     return [run(program, words, folder) for words in LOOKS]
 
 
+def is_made(folder):
+    """Whether a database file is there whose making has ended: only then does its first byte stand, and SQLite knows it."""
+    path = os.path.join(folder, NAME)
+    if not os.path.exists(path):
+        return False
+    with open(path, "rb") as file:
+        return file.read(1) != b"\0"
+
+
+FOUNDED, KNOWN = (0, b"ok 2 suppliers\n", b""), (3, b"", b"store version\n")
+
+
+def foundings_killed(program, top):
+    whole = bare_folder(top)
+    begun = time.monotonic()
+    if run(program, init(), whole) != FOUNDED:
+        return "the founding that nobody disturbs fails"
+    length, wanted, counts = time.monotonic() - begun, rows_of(whole), Counter()
+    for place in range(MOMENTS):
+        folder = bare_folder(top)
+        child = subprocess.Popen([program, *init()], cwd=folder, stdout=subprocess.PIPE)
+        time.sleep(length * place / MOMENTS)
+        child.kill()
+        printed = child.communicate()[0]
+        if is_made(folder) and is_whole(shutil.copytree(folder, folder + "looked")):
+            return f"killed at {place}: {is_whole(folder + 'looked')}"
+        again = run(program, init(), folder)
+        if again != KNOWN and (again != FOUNDED or printed):
+            return f"killed at {place}, then: {again!r:.300}"
+        if rows_of(folder) != wanted or is_whole(folder) or run(program, over("status", ALPHA), folder) != (0, b"end\n", b""):
+            return f"killed at {place}, then other rows"
+        counts["founded" if again == KNOWN else "not founded"] += 1
+    print(f"a founding killed at {MOMENTS} moments: " + ", ".join(f"{count} {word}" for word, count in counts.most_common()))
+    return None
+
+
 def imports_killed(program, top):
-    whole = of_orders(top)
+    whole = of_orders(program, top)
     begun = time.monotonic()
     if run(program, IMPORT, whole)[0]:
         return "the import that nobody disturbs fails"
@@ -104,12 +140,12 @@ def imports_killed(program, top):
     kept = []
 
     def tried(place):
-        folder = of_orders(top)
+        folder = of_orders(program, top)
         child = subprocess.Popen([program, *IMPORT], cwd=folder, stdout=subprocess.PIPE)
         time.sleep(length * place / MOMENTS)
         child.kill()
         child.communicate()
-        if is_made(folder) and is_whole(shutil.copytree(folder, folder + "looked")):
+        if is_whole(shutil.copytree(folder, folder + "looked")):
             return f"killed at {place}: {is_whole(folder + 'looked')}"
         status, printed, error = run(program, IMPORT, folder)
         words = [line.rsplit(b" ", 1)[-1] for line in printed.split(b"\n")[2:-1]]
@@ -131,7 +167,7 @@ def servers_killed(program, top):
     counts = []
 
     def tried(place):
-        folder = new_folder(top)
+        folder = new_folder(program, top)
         read, asked = 0, 0
         with Server(program, 100_000, folder=folder) as server:
             until = time.monotonic() + 0.005 + 0.3 * place / MOMENTS
@@ -152,7 +188,7 @@ def servers_killed(program, top):
                 except OSError:
                     pass
             server.child.wait()
-            if is_made(folder) and is_whole(shutil.copytree(folder, folder + "looked")):
+            if is_whole(shutil.copytree(folder, folder + "looked")):
                 return f"killed at {place}: {is_whole(folder + 'looked')}"
             with Server(program, asked, folder=folder) as again:
                 for k in range(asked):
@@ -178,17 +214,24 @@ def one_order(k):
 
 def disks_full(program, top):
     """No file may grow past so many bytes, and a write that would is refused."""
-    whole = of_orders(top, 60)
+    whole, bare = of_orders(program, top, 60), bare_folder(top)
     run(program, IMPORT, whole)
-    wanted, most = rows_of(whole), 3_000_000
+    run(program, init(), bare)
+    wanted, founded, most = rows_of(whole), rows_of(bare), 3_000_000
     counts = {"store disk": 0, "stopped": 0, "whole": 0}
+    foundings = {"store disk": 0, "whole": 0}
     for limit in range(0, most, most // 120):
-        folder = of_orders(top, 60)
+        folder = of_orders(program, top, 60)
 
         def little():
             signal.signal(signal.SIGXFSZ, signal.SIG_IGN)
             resource.setrlimit(resource.RLIMIT_FSIZE, (limit, resource.RLIM_INFINITY))
 
+        bare = bare_folder(top)
+        ran, again = run(program, init(), bare, preexec_fn=little), run(program, init(), bare)
+        if (ran, again) not in (((3, b"", b"store disk\n"), FOUNDED), (FOUNDED, KNOWN)) or rows_of(bare) != founded:
+            return f"a founding at {limit} bytes: {ran!r:.200}, then with room: {again!r:.200}"
+        foundings["whole" if ran == FOUNDED else "store disk"] += 1
         status, printed, error = run(program, IMPORT, folder, preexec_fn=little)
         if (status, printed, error) == (3, b"", b"store disk\n"):
             counts["store disk"] += 1
@@ -206,9 +249,9 @@ def disks_full(program, top):
             return f"at {limit} bytes {done} were done, then with room: {status}, {error!r}, {again[:200]!r}"
         if rows_of(folder) != wanted or is_whole(folder):
             return f"at {limit} bytes, then with room: other rows"
-    if 0 in counts.values():
-        return f"not each end: {counts}"
-    print("a disk that is full: " + ", ".join(f"{count} ended {word}" for word, count in counts.items()))
+    if 0 in counts.values() or 0 in foundings.values():
+        return f"not each end: {counts}, {foundings}"
+    print("a disk that is full: " + ", ".join(f"{count} imports ended {word}" for word, count in counts.items()) + ", " + ", ".join(f"{count} foundings {word}" for word, count in foundings.items()))
     return None
 
 
@@ -232,18 +275,12 @@ def damaged(data):
 
 def file_of_today(program, top):
     """A file as the program makes it now, of some orders and what came of them."""
-    folder = of_orders(top, 30)
-    for name, words, data, _, _ in steps()[:7]:
+    folder = of_orders(program, top, 30)
+    for name, words, data, _, _ in steps()[:8]:
         put(folder, data)
         run(program, words, folder)
     run(program, IMPORT, folder)
     with open(os.path.join(folder, NAME), "rb") as file:
-        return file.read()
-
-
-def kept_file():
-    """A file of an earlier program, without sums of its pages."""
-    with open(os.path.join(KEPT, "schema1.db"), "rb") as file:
         return file.read()
 
 
@@ -256,7 +293,7 @@ def put(folder, data):
 
 def with_file(top, data):
     """A folder with this database file, and an order to be imported."""
-    folder = new_folder(top)
+    folder = bare_folder(top)
     put(folder, {"new/new.edi": interchange(RETAILER, "U7", order("700", quantity="7"))})
     with open(os.path.join(folder, NAME), "wb") as file:
         file.write(data)
@@ -269,10 +306,9 @@ DAMAGED_LOOKS = [*LOOKS[:3], over("status", RETAILER, "--of", ALPHA), over("impo
 def file_damaged(program, top, data, has_sums):
     """What comes of a file in each way of damage, as numbers of each kind; or what is wrong."""
     wanted = [run(program, it, with_file(top, data)) for it in DAMAGED_LOOKS]
-    empty = [run(program, it, with_file(top, b"")) for it in DAMAGED_LOOKS]
     counts = Counter()
 
-    def kind_of(found, right, none, what, bytes_of_file):
+    def kind_of(found, right):
         if found == right:
             # of a file with sums a changed byte that is used is found; one that is not used changes no answer
             return "right"
@@ -280,18 +316,16 @@ def file_damaged(program, top, data, has_sums):
             return "refused"
         if found[0] == 3 and found[1].endswith(b"stopped\n") and not found[2]:
             return "stopped"
-        if found == none and (not bytes_of_file or what == "zeros"):
-            return "empty"
         # without sums a changed row may be another right one, which nobody can tell: it has to be a reply at least
         return None if has_sums else "unseen" if found[0] in (0, 1) and not found[2] else None
 
     def tried(one):
         what, bytes_of_file = one
         kinds = []
-        for it, right, none in zip(DAMAGED_LOOKS, wanted, empty):
+        for it, right in zip(DAMAGED_LOOKS, wanted):
             folder = with_file(top, bytes_of_file)
             found = run(program, it, folder)
-            kinds.append(kind_of(found, right, none, what, bytes_of_file))
+            kinds.append(kind_of(found, right))
             if kinds[-1] is None:
                 return f"{what}: {it[0]}: {found!r:.300}"
             shutil.rmtree(folder)
@@ -306,7 +340,7 @@ def file_damaged(program, top, data, has_sums):
 
 
 def files_damaged(program, top):
-    for name, data, has_sums in (("of today", file_of_today(program, top), True), ("without sums", kept_file(), False)):
+    for name, data, has_sums in (("of today", file_of_today(program, top), True), ("that SQLite made, without sums", file_of(), False)):
         counts = file_damaged(program, top, data, has_sums)
         if isinstance(counts, str):
             return f"a file {name}, {counts}"
@@ -324,6 +358,8 @@ def steps():
     def sends(name, who, reference, kind, text):
         return imports(name, who, text, f"interchange {reference} messages 1", f"1 {kind} accepted")
 
+    # a join is not remembered, so that the same again is refused
+    join = over("join", RETAILER, "--supplier", GAMMA, "--supplier-key", "gamma-key-1", "--prefixes", "7612345,7612346")
     cancel = over("cancel", RETAILER, "--supplier", ALPHA, "--reference", "C1", "--order", "128576", "--line", "1", "--quantity", "10")
     relay = ["relay", "--hub", HUB, "--owner", ALPHA, "--moment", "1748942400", "--number", "1"]
     both = of_prefixes("4012345", "40123455")
@@ -331,6 +367,7 @@ def steps():
         sends("order", RETAILER, "1001", "ORDERS", ORDER),
         imports("spelled", RETAILER, SPELLED, "interchange 1001 messages 1", "1 ORDERS repeated"),
         sends("second", RETAILER, "1002", "ORDERS", SECOND),
+        ("join", join, {}, b"accepted\n", (1, b"refused B18\n", b"")),
         sends("answer", ALPHA, "S1", "ORDRSP", RESPONSE),
         sends("despatch", ALPHA, "S2", "DESADV", DESPATCH),
         sends("receipt", RETAILER, "1005", "RECADV", RECEIPT),
@@ -345,8 +382,44 @@ def steps():
     ]
 
 
+def founding_refused(program, top):
+    """A founding, with each of its allocations refused in turn, and made again."""
+    shim, count, bare = os.path.join(top, "refuse.so"), os.path.join(top, "count"), bare_folder(top)
+    subprocess.run(["cc", "-O2", "-shared", "-fPIC", "-o", shim, SHIM, "-ldl"], check=True)
+    if run(program, init(), bare, env={"LD_PRELOAD": shim, "COUNT": count}) != FOUNDED:
+        return "a founding with ample memory"
+    wanted = rows_of(bare)
+    with open(count, encoding="ascii") as file:
+        allocations = int(file.read())
+
+    def tried(number):
+        folder = bare_folder(top)
+        first = run(program, init(), folder, env={"LD_PRELOAD": shim, "REFUSE": str(number)})
+        if first == FOUNDED:
+            kind = "as ever"
+        elif first in ((3, b"", b"memory\n"), (3, b"", b"store memory\n")):
+            kind = first[2].decode().strip()
+        else:
+            return f"allocation {number} refused: {first!r:.300}"
+        again = run(program, init(), folder)
+        # a fault leaves nothing founded
+        if again != (KNOWN if kind == "as ever" else FOUNDED) or rows_of(folder) != wanted:
+            return f"allocation {number} refused, {kind}, then: {again!r:.300}"
+        shutil.rmtree(folder)
+        return (kind,)
+
+    with ThreadPoolExecutor(len(os.sched_getaffinity(0))) as pool:
+        found = list(pool.map(tried, range(1, allocations + 1)))
+    wrong = [it for it in found if isinstance(it, str)]
+    if wrong:
+        return f"{len(wrong)} of {allocations} wrong, first {wrong[0]}"
+    counts = ", ".join(f"{count} {kind}" for (kind,), count in Counter(found).most_common())
+    print(f"init: {allocations} allocations; each refused in turn: {counts}", flush=True)
+    return None
+
+
 def memory_refused(program, top):
-    shim, base = os.path.join(top, "refuse.so"), new_folder(top)
+    shim, base = os.path.join(top, "refuse.so"), new_folder(program, top)
     subprocess.run(["cc", "-O2", "-shared", "-fPIC", "-o", shim, SHIM, "-ldl"], check=True)
     for name, words, data, first, again in steps():
         put(base, data)
@@ -386,7 +459,7 @@ def memory_refused(program, top):
                 kind = "stopped"
             else:
                 return f"{name}: allocation {number} refused: {(status, printed, error)!r:.300}"
-            later, repeated = once(folder), (whole[0], again or whole[1], whole[2])
+            later, repeated = once(folder), again if isinstance(again, tuple) else (whole[0], again or whole[1], whole[2])
             # what was told of is kept
             if later != repeated and (kind == "as ever" or later != whole):
                 return f"{name}: allocation {number} refused, {kind}, then: {later!r:.300}"
@@ -413,7 +486,7 @@ def served_once(program, folder, request, variables):
     how = {"stdout": subprocess.PIPE, "stderr": subprocess.PIPE, "env": {**os.environ, **variables}}
     for _ in range(3):
         port = free_port()
-        words = ["serve", "--register", REGISTER, "--db", NAME, "--port", str(port), "--count", "1", "--moment", MOMENT]
+        words = ["serve", "--db", NAME, "--port", str(port), "--count", "1", "--moment", MOMENT]
         child, found = subprocess.Popen([program, *words], cwd=folder, **how), b""
         first = child.stdout.readline()
         if first:
@@ -436,7 +509,7 @@ def serving_refused(program, top):
     whole = (0, lines % 200, b"", response(200, body))
     again = (0, lines % 200, b"", response(200, told(head, "1 ORDERS repeated")))
     stops = [(3, lines % 503, b"", response(503, text)) for text in (b"", b"stopped\n", told(head, "stopped"))]
-    end = new_folder(top)
+    end = new_folder(program, top)
     if served_once(program, end, request, {"LD_PRELOAD": shim, "COUNT": count}) != whole:
         return "an upload that is served with ample memory"
     wanted = rows_of(end)
@@ -444,7 +517,7 @@ def serving_refused(program, top):
         allocations = int(file.read())
 
     def tried(number):
-        folder = new_folder(top)
+        folder = new_folder(program, top)
         found = served_once(program, folder, request, {"LD_PRELOAD": shim, "REFUSE": str(number)})
         if found == whole:
             kind = "as ever"
@@ -476,7 +549,7 @@ def listed_in_little(program, top):
     subprocess.run(["cc", "-O2", "-shared", "-fPIC", "-o", shim, HEAP, "-ldl"], check=True)
     entry = (ALPHA.encode(), 1748942400, ord("."), ord("O"))
     mail = [(entry[0], k, *entry[1:], b"%d" % k, b"x" * large, 0) for k in range(1, many + 1)]
-    data = {NAME: file_of(CREATED, {"schema": [(1,)], "mail": mail})}
+    data = {NAME: file_of(CREATED, {**REGISTERED, "mail": mail})}
     of_all = get(ALPHA, "mail/after/0", 200, listed(*((k, "ORDERS", k) for k in range(1, many)), last="more"))
     of_one = get(ALPHA, "mail/item/1", 503, "stopped\n")
     for room, asked in ((4 << 20, of_all), (large, of_one)):
@@ -499,7 +572,7 @@ def script_refused(scripts, top):
 
 
 # what is tried of the program, and of the program that plays scripts and the tests
-TRIALS = (files_damaged, disks_full, memory_refused, serving_refused, listed_in_little, imports_killed, servers_killed)
+TRIALS = (files_damaged, disks_full, founding_refused, memory_refused, serving_refused, listed_in_little, foundings_killed, imports_killed, servers_killed)
 OF_SCRIPTS = (script_refused, calls_refused)
 
 

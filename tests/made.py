@@ -12,9 +12,13 @@ from case import SECONDS
 from files import NAME, WORDS, is_whole
 from hubs import ALPHA, BETA, KEYS, RETAILER
 from hubs import Play, advice, interchange, message, order, parties, response
+from registers import DELTA, GAMMA
 
 RUNS, INPUTS = 300, 30
-PREFIXES = {ALPHA: "40123455", BETA: "8712345"}
+PREFIXES = {ALPHA: "40123455", BETA: "8712345", GAMMA: "7612345", DELTA: "3512345"}
+KEYS_OF_ALL = {**KEYS, GAMMA: "gamma-key-1", DELTA: "delta-key-1"}
+# whom the inputs are of: mostly suppliers of the register, and at times one that joins or does not
+SUPPLIERS = (ALPHA, ALPHA, ALPHA, BETA, BETA, BETA, GAMMA, DELTA)
 ITEM = "4000862141404"
 
 
@@ -47,7 +51,7 @@ def despatch_of(draw, supplier, number):
 
 def upload_of(draw):
     """Who uploads, and what."""
-    supplier, number = draw.choice((ALPHA, BETA)), f"{draw.randrange(4)}"
+    supplier, number = draw.choice(SUPPLIERS), f"{draw.randrange(4)}"
     kind = draw.choice(("order", "order", "answer", "despatch", "despatch", "receipt", "two"))
     reference = f"{kind[0]}{draw.randrange(12)}"
     if kind == "answer":
@@ -58,29 +62,38 @@ def upload_of(draw):
         return supplier, interchange(supplier, reference, despatch_of(draw, supplier, number))
     if kind == "receipt":
         return RETAILER, interchange(RETAILER, reference, receipt_of(draw, supplier))
-    orders = [order(f"{draw.randrange(4)}", draw.choice((12, 20, 48)), draw.choice((ALPHA, BETA)), place + 1) for place in range(2 if kind == "two" else 1)]
+    orders = [order(f"{draw.randrange(4)}", draw.choice((12, 20, 48)), draw.choice(SUPPLIERS), place + 1) for place in range(2 if kind == "two" else 1)]
     return RETAILER, interchange(RETAILER, reference, *orders)
+
+
+def join_of(draw):
+    """A join: mostly of a supplier that is not registered, with its own prefix and at times another's."""
+    supplier = draw.choice((GAMMA, GAMMA, DELTA, DELTA, BETA, RETAILER))
+    others = draw.sample(("7612346", "3512346", "401234", "871234500"), draw.choice((0, 0, 1)))
+    return f"join {supplier} {KEYS_OF_ALL[supplier]} {','.join([PREFIXES.get(supplier, '5412345'), *others])}"
 
 
 def script_of(seed):
     draw, play = random.Random(seed), Play()
 
     def ask(who, line, payload=None):
-        play.ask(who, line, "", "", payload, key=KEYS[who])
+        play.ask(who, line, "", "", payload, key=KEYS_OF_ALL[who])
 
     for _ in range(INPUTS):
         one = draw.random()
-        supplier = draw.choice((ALPHA, BETA))
+        supplier = draw.choice(SUPPLIERS)
         if one < 0.7:
             who, text = upload_of(draw)
             ask(who, "upload", text)
         elif one < 0.8:
             ask(RETAILER, "cancel", f"{supplier}\nC{draw.randrange(4)}\n{draw.randrange(4)}\n1\n{draw.choice((1, 5))}\n")
-        elif one < 0.9:
+        elif one < 0.85:
+            ask(RETAILER, join_of(draw))
+        elif one < 0.92:
             ask(supplier, draw.choice(("after 0", "after 1", "item 1", "item 2", "taken 1", "taken 2")))
         else:
             ask(*draw.choice(((supplier, "status"), (RETAILER, f"status-of {supplier}"))))
-    for supplier in (ALPHA, BETA):
+    for supplier in PREFIXES:
         ask(supplier, "status")
         ask(supplier, "after 0")
     return play.script
@@ -97,14 +110,17 @@ def answers(program, seed):
 def compared(program):
     with ThreadPoolExecutor(len(os.sched_getaffinity(0))) as pool:
         found = list(pool.map(lambda seed: answers(program, seed), range(RUNS)))
-    told = Counter()
+    told, alone = Counter(), Counter()
     for seed, (three, unsound) in enumerate(found):
         if any(it.returncode or it.stdout != three[0].stdout for it in three) or unsound:
             return f"run {seed}: {unsound or [it.stdout[:200] for it in three]}"
         told.update(re.findall(rb"^\d \w+ (accepted|refused \w+|repeated)$", three[0].stdout, re.MULTILINE))
+        alone.update(re.findall(rb"^(accepted|refused B\w+|repeated)$", three[0].stdout, re.MULTILINE))
     print(f"{RUNS} made runs alike over lists, SQL and files: " + ", ".join(f"{count} {word.decode()}" for word, count in told.most_common()))
     if told[b"accepted"] < 1000 or len(told) < 12:
         return "too few of them were accepted, or refused for too few causes"
+    if not all(alone[word] for word in (b"accepted", b"refused B18", b"refused B19")):
+        return "no join among them was accepted, or refused as known or for its prefixes"
     return None
 
 

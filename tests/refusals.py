@@ -13,7 +13,8 @@ from dataclasses import dataclass, field
 import http_texts
 from case import SECONDS
 from hubs import ALPHA, BETA, DESPATCH, FIRST_MAIL, ORDERS, OTHER_PALLET, RECEIPT, RESPONSE, RETAILER, SECOND, SECOND_MAIL, SPELLED, STATUS
-from hubs import Play, despatch, interchange, line_status, order, response
+from hubs import despatch, interchange, line_status, order, response
+from joins import GAMMA, Joining
 
 SHIM = os.path.join(os.path.dirname(os.path.abspath(__file__)), "refuse.c")
 # the forms of a stop in which nothing was done: the word, and where there is no memory even for it, nothing
@@ -35,7 +36,7 @@ class Asked:
 
 def sent_twice():
     """A script, and what is asked in it."""
-    play, asked = Play(), []
+    play, asked = Joining(), []
 
     def answered(one):
         play.printed = b""
@@ -84,6 +85,8 @@ def sent_twice():
     sends(RETAILER, "1005", "RECADV", RECEIPT)
     twice(lambda: play.cancel("C1", 1, 10, "accepted"), lambda: play.cancel("C1", 1, 10, "repeated"))
     looks(lambda: play.take(1))
+    twice(play.gamma_joins, lambda: play.gamma_joins("refused B18"))
+    sends(RETAILER, "1020", "ORDERS", interchange(RETAILER, "1020", order(supplier=GAMMA)))
     # two inputs of one run
     play.say("run")
     sends(RETAILER, "1004", "ORDERS", interchange(RETAILER, "1004", order("128578", supplier=BETA)))

@@ -26,13 +26,18 @@ def are_prefixes_of_one(prefixes):
     return 1 <= len(prefixes) <= 8 and len(set(prefixes)) == len(prefixes) and all(re.fullmatch("[0-9]{4,12}", it) for it in prefixes)
 
 
+def overlap(some, others):
+    """Whether a prefix of one list begins one of the other."""
+    return any(p.startswith(q) or q.startswith(p) for p in some for q in others)
+
+
 def verdict_on_prefixes(suppliers):
     """What `edihub check` prints of suppliers in which nothing but their lists of prefixes can be wrong."""
     if not all(are_prefixes_of_one(it) for it in suppliers):
         return "fault prefix"
     for j in range(len(suppliers)):
         for k in range(j + 1, len(suppliers)):
-            if any(p.startswith(q) or q.startswith(p) for p in suppliers[j] for q in suppliers[k]):
+            if overlap(suppliers[j], suppliers[k]):
                 return f"fault overlap {j + 1} {k + 1}"
     return f"ok {len(suppliers)} suppliers"
 

@@ -14,12 +14,12 @@ from concurrent.futures import ThreadPoolExecutor
 
 import files
 from case import SECONDS
-from commands import REGISTER, meddled, told
+from commands import found, meddled, over, told
 from files import NAME
 from http_texts import asking, head, response
-from hubs import ALPHA, BETA, DELTA, FIRST_MAIL, HUB, KEYS, MOMENT, ORDERS, RECEIPT, RESPONSE, DESPATCH, RETAILER, SECOND, SECOND_MAIL, STATUS, THIRD_MAIL, TWO_SUPPLIERS
-from hubs import OTHER_PALLET, despatch, interchange, line_status, message, parties, response as answer
-from registers import of_prefixes
+from hubs import ALPHA, BETA, DELTA, FIRST_MAIL, HUB, KEYS, MOMENT, ORDERS, RECEIPT, RESPONSE, DESPATCH, RETAILER, SECOND, SECOND_MAIL, STATUS, THIRD_MAIL
+from hubs import OTHER_PALLET, despatch, interchange, line_status, message, order, parties, response as answer
+from registers import GAMMA
 
 # how often a trial begins anew that needs a port, or a machine that is quiet
 TRIES = 30
@@ -76,17 +76,20 @@ def limit(room, seconds):
 
 
 class Server:
-    """The program, serving so many connections in a folder of its own."""
+    """The program, serving so many connections in a folder of its own: over the database file that is given or stands there, or over a hub that
+    is founded before."""
 
-    def __init__(self, program, count, moment=MOMENT, data=(), folder=None, register=REGISTER, output=None, room=0, seconds=0, env=None):
+    def __init__(self, program, count, moment=MOMENT, data=(), folder=None, output=None, room=0, seconds=0, env=None):
         self.folder = folder or tempfile.mkdtemp()
-        for name, it in {REGISTER: TWO_SUPPLIERS.encode(), **dict(data)}.items():
+        for name, it in dict(data).items():
             with open(os.path.join(self.folder, name), "wb") as file:
                 file.write(it)
+        if not os.path.exists(os.path.join(self.folder, NAME)):
+            found(program, self.folder)
         how = {"stdout": output or subprocess.PIPE, "stderr": subprocess.PIPE, "preexec_fn": lambda: limit(room, seconds), "env": env}
         for _ in range(TRIES):
             self.port = free_port()
-            words = ["serve", "--register", register, "--db", NAME, "--port", str(self.port), "--count", str(count)]
+            words = ["serve", "--db", NAME, "--port", str(self.port), "--count", str(count)]
             words += ["--moment", moment] if moment else []
             self.child = subprocess.Popen([program, *words], cwd=self.folder, **how)
             self.lines = [] if output else [self.child.stdout.readline()]
@@ -587,25 +590,19 @@ def for_this_machine(program):
 
 
 def begins(program):
-    """What is wrong before the first connection, in the order register, store, port: the first is told alone."""
-    wrong = of_prefixes("4012345", "40123455")
+    """What is wrong before the first connection, in the order store, port: the first is told alone."""
     nine = files.file_of(files.TABLES, files.ROWS, "UPDATE schema SET number = 9")
-    for name, error, status, data, register in (
-        ("no register", b"file\n", 3, {}, "none.toml"),
-        ("prefixes that overlap", b"fault overlap 1 2\n", 1, {"wrong.toml": wrong if isinstance(wrong, bytes) else wrong.encode(), NAME: nine}, "wrong.toml"),
-        ("a schema of number 9", b"store version\n", 3, {NAME: nine}, REGISTER),
-    ):
-        with Server(program, 1, data=data, register=register) as server:
-            why = unlike(name, server.end(), (status, b"", error))
-            if why:
-                return why
+    with Server(program, 1, data={NAME: nine}) as server:
+        why = unlike("a schema of number 9", server.end(), (3, b"", b"store version\n"))
     with Server(program, 1) as server:
-        words = ["serve", "--register", REGISTER, "--db", "other.db", "--port", str(server.port), "--count", "1"]
+        with open(os.path.join(server.folder, "other.db"), "wb") as file:
+            file.write(files.file_of())
+        words = ["serve", "--db", "other.db", "--port", str(server.port), "--count", "1"]
         ran = subprocess.run([program, *words], cwd=server.folder, capture_output=True, timeout=SECONDS)
-        why = unlike("a port that is taken", (ran.returncode, ran.stdout, ran.stderr), (3, b"", b"listen\n"))
+        why = why or unlike("a port that is taken", (ran.returncode, ran.stdout, ran.stderr), (3, b"", b"listen\n"))
         with open(os.path.join(server.folder, "nine.db"), "wb") as file:
             file.write(nine)
-        words[4] = "nine.db"
+        words[2] = "nine.db"
         ran = subprocess.run([program, *words], cwd=server.folder, capture_output=True, timeout=SECONDS)
         why = why or unlike("a schema of number 9 and a port that is taken", (ran.returncode, ran.stdout, ran.stderr), (3, b"", b"store version\n"))
     with open("/dev/full", "wb") as full, Server(program, 1, output=full) as server:
@@ -647,8 +644,36 @@ def by_curl(program):
         return unlike("status", server.end()[0], 1)
 
 
+def joining(program):
+    """A supplier that joins between two runs of the server: before that it is denied, and the retailer is told that it is not known."""
+    folder = tempfile.mkdtemp()
+    text = interchange(RETAILER, "1020", order(supplier=GAMMA))
+    upload_of = lambda word: upload(RETAILER, text, "interchange 1020 messages 1", f"1 ORDERS {word}")
+    its = lambda rest, status, body: (f"GET {rest}", head(f"GET /p/{GAMMA}/{rest} HTTP/1.1", "X-Hub-Key: gamma-key-1"), status, body)
+    its_mail = f"UNA:+.? 'UNB+UNOC:3+{HUB}:14+{GAMMA}:14+250603:0920+1'{order(supplier=GAMMA)}UNZ+1+1'"
+    before = [upload_of("refused B02"), its("status", 403, "denied\n"), get(RETAILER, f"status/{GAMMA}", 404, "unknown\n")]
+    after = [upload_of("accepted"), its("mail/item/1", 200, its_mail), get(RETAILER, f"status/{GAMMA}", 200, told(line_status("128576", "W", 48, 48, 0, 0, 0), "end"))]
+
+    def asked(server, requests):
+        for name, request, status, body in requests:
+            why = unlike(name, server.ask(request), response(status, body))
+            if why:
+                return why
+        statuses = [status for _, _, status, _ in requests]
+        return unlike("the program", server.end(), (exit_of(statuses), lines_of(server.port, statuses), b""))
+
+    with Server(program, len(before), folder=folder) as server:
+        why = asked(server, before)
+        words = over("join", RETAILER, "--supplier", GAMMA, "--supplier-key", "gamma-key-1", "--prefixes", "7612345,7612346")
+        ran = subprocess.run([program, *words], cwd=folder, capture_output=True, timeout=SECONDS)
+        why = why or unlike("the join", (ran.returncode, ran.stdout, ran.stderr), (0, b"accepted\n", b""))
+        with Server(program, len(after), folder=folder) as again:
+            return why or asked(again, after)
+
+
 ALL = {
     "days over HTTP": days,
+    "a supplier that joins": joining,
     "one list, and who may not see it": seen_by_others,
     "two wrongs in one request": two_wrongs,
     "requests cut at each byte": cuts,

@@ -1,7 +1,7 @@
 """A program that ends at each change of its database file or of the log beside it, in turn: what was told of stands afterwards,
 and of the input in which it ended no message in part.
 
-Whatever the file then holds is what the hub had after so many acts (a message, a cancellation or a taken mark each), and the
+Whatever the file then holds is what the hub had after so many acts (a message, a cancellation, a join or a taken mark each), and the
 same inputs sent again bring it where it would have been: of an upload of two messages whose first was kept the first is
 repeated, and the second accepted. Each change is stopped in three ways: at once, with half of a write made, and with all lost
 that was not synced."""
@@ -15,7 +15,8 @@ from dataclasses import dataclass
 from case import SECONDS
 from files import NAME, WORDS, is_whole
 from hubs import ALPHA, BETA, DESPATCH, ORDERS, OTHER_PALLET, RECEIPT, RESPONSE, RETAILER, SECOND
-from hubs import Play, despatch, interchange, order, response
+from hubs import despatch, interchange, order, response
+from joins import GAMMA, Joining
 
 SHIM = os.path.join(os.path.dirname(os.path.abspath(__file__)), "stop.c")
 WAYS = {"at once": {}, "torn": {"TORN": "1"}, "lost": {"LOST": "1"}}
@@ -23,7 +24,7 @@ WAYS = {"at once": {}, "torn": {"TORN": "1"}, "lost": {"LOST": "1"}}
 FEWEST = 40
 # how many entries a mailbox has, and one more, and how much is looked at behind the inputs
 MAILS = 5
-LOOKS = 2 * (2 + MAILS)
+LOOKS = 2 * (2 + MAILS) + 1
 
 
 @dataclass
@@ -52,6 +53,14 @@ class Cancellation:
         play.cancel("C1", 1, 10, "repeated" if done else "accepted")
 
 
+class JoinOfGamma:
+    def acts(self):
+        return 1
+
+    def ask(self, play, count, done):
+        play.gamma_joins("refused B18" if done else "accepted")
+
+
 class Taken:
     def acts(self):
         return 1
@@ -73,6 +82,7 @@ def inputs():
         Upload(RETAILER, "1005", ["RECADV"], [RECEIPT]),
         Upload(RETAILER, "1010", ["ORDERS", "ORDERS"], [interchange(RETAILER, "1010", *two[:count]) for count in (1, 2)]),
         Cancellation(),
+        JoinOfGamma(),
         Taken(),
     ]
 
@@ -86,12 +96,13 @@ def ends():
 
 
 def looks(play):
-    """What shows all rows, behind a script: lines and pallets, the entries that are not taken, and each entry as it is mailed."""
+    """What shows all rows, behind a script: lines and pallets, the entries that are not taken, and each entry as it is mailed; and of the supplier
+    that joins whether it did."""
     for who in (ALPHA, BETA):
         play.ask(who, "status", "", "").ask(who, "after 0", "", "")
         for number in range(1, MAILS + 1):
             play.ask(who, f"item {number}", "", "")
-    return play
+    return play.ask(RETAILER, f"status-of {GAMMA}", "", "")
 
 
 def with_looks(play):
@@ -103,7 +114,7 @@ def with_looks(play):
 
 def script(acts, done=0):
     """What makes so many acts, of which some were done before."""
-    play = Play()
+    play = Joining()
     for it, begun in zip(inputs(), ends()):
         if begun < acts:
             count = min(it.acts(), acts - begun)
@@ -163,7 +174,7 @@ class Stops:
             for name in os.listdir(folder):
                 if name.endswith(".synced"):
                     os.remove(os.path.join(folder, name))
-            status, output = self.play(with_looks(Play()), folder)
+            status, output = self.play(with_looks(Joining()), folder)
             found = [done for done in range(self.acts + 1) if self.seen[done] == output]
             fits = [done for done in found if told[0] <= done <= told[1]]
             if status or not fits:

@@ -1,5 +1,5 @@
 """`make test`: whether each public function has a wrong body (untried.py); the gate (rt ci), and what each crate took of the processors in it; and
-then, on the two programs that the gate built, the cases of cases.py, commands.py, hubs.py, files.py and connections.py and the trials of
+then, on the two programs that the gate built, the cases of cases.py, commands.py, hubs.py, files.py, connections.py and joins.py and the trials of
 commands.py, told.py, serving.py, files.py, made.py, stops.py, machine.py and refusals.py. The last line is `N passed, M failed` over all.
 
 With `--alone`, all but the gate, on the programs that stand. With `--anew`, nothing that an earlier gate proved is taken over."""
@@ -15,6 +15,7 @@ import commands
 import connections
 import files
 import hubs
+import joins
 import machine
 import made
 import refusals
@@ -34,7 +35,7 @@ def built(crate):
 
 
 # each program, and its cases
-PROGRAMS = [(built("edihub"), cases.CASES + commands.COMMANDS), (built("hub_script"), hubs.HUBS + hubs.OVER_SQL + files.FILES + connections.CONNECTIONS)]
+PROGRAMS = [(built("edihub"), cases.CASES + commands.COMMANDS), (built("hub_script"), hubs.HUBS + hubs.OVER_SQL + files.FILES + connections.CONNECTIONS + joins.JOINS)]
 
 # what is tried on a program many times over: each says what is wrong, if anything
 TRIALS = [

@@ -9,7 +9,7 @@ import tempfile
 import files
 import refusals
 from case import SECONDS
-from commands import made_folder, meddled, over
+from commands import init, made_folder, meddled, over
 from files import NAME
 from hubs import ALPHA, RETAILER
 
@@ -36,7 +36,7 @@ class Tried:
 
     def run(self, *words, data=(), env=None, error=subprocess.PIPE):
         with tempfile.TemporaryDirectory(dir=self.top) as folder:
-            made_folder(folder, 3)
+            made_folder(self.program, folder, 3)
             for name, it in dict(data).items():
                 with open(os.path.join(folder, name), "wb") as file:
                     file.write(it)
@@ -66,7 +66,7 @@ def fault(tried):
 
 
 def file(tried):
-    no_register = tried.run(*over("status", ALPHA, register="none.toml"))
+    no_register = tried.run(*init("none.toml", "new.db"))
     no_folder = tried.run(*over("import", RETAILER, "--folder", "none"))
     return no_register == no_folder == (3, b"", b"file\n")
 
@@ -77,7 +77,14 @@ def store_disk(tried):
 
 def store_version(tried):
     nine = files.file_of(files.TABLES, files.ROWS, "UPDATE schema SET number = 9")
-    return tried.run(data={NAME: nine}) == (3, b"", b"store version\n")
+    no_database, again = tried.run(*over("status", ALPHA, db="none.db")), tried.run(*init())
+    return tried.run(data={NAME: nine}) == no_database == again == (3, b"", b"store version\n")
+
+
+def store_unclean(tried):
+    """A file with the rows of no register: a prefix is of no supplier."""
+    spoiled = files.file_of(files.TABLES, files.ROWS, "DELETE FROM supplier WHERE supplier = CAST('8712345000004' AS BLOB)")
+    return tried.run(data={NAME: spoiled}) == (3, b"", b"store unclean\n")
 
 
 def clock(tried):
@@ -88,7 +95,7 @@ def clock(tried):
 
 def nothing(tried):
     with open("/dev/full", "wb") as full:
-        return tried.run(*over("status", ALPHA, register="none.toml"), error=full) == (3, b"", b"")
+        return tried.run(*over("status", ALPHA, db="none.db"), error=full) == (3, b"", b"")
 
 
 # each line, where the table says that it stands, and whether it comes so
@@ -98,6 +105,7 @@ LINES = {
     "file": ("standard error", file),
     "store disk": ("standard error", store_disk),
     "store version": ("standard error", store_version),
+    "store unclean": ("standard error", store_unclean),
     "store memory": ("standard error", lambda tried: tried.of_memory(b"store memory\n") == (3, b"", b"store memory\n")),
     "clock": ("standard error", clock),
     "memory": ("standard error", lambda tried: tried.of_memory(b"memory\n") == (3, b"", b"memory\n")),

@@ -1,6 +1,6 @@
 """`make wrong`: tries each wrong body and wrong definition, crates/NAME/must-fail/*.edit and crates/NAME/wrong/*.edit, on copies of the tree.
 
-    python3 tests/wrong.py [CRATE ..]
+    python3 tests/wrong.py [--anew] [CRATE ..]
 
 An edit has lines `file:`, `old:` and `new:`. It is a wrong body, which its own crate has to refuse, or, where its first line is
 `refused by: CRATE`, a wrong definition, which that crate has to refuse: the crates between are built with it, each of them
@@ -12,7 +12,9 @@ next check. What is not refused so, or only by a proof that names what the edit 
 and that counts.
 
 What was refused is kept in crates/NAME/out/refused, under a sum of the edit and of all that it was tried on, and is not tried
-again, and of what a library was proved in crates/NAME/out/proved: so a run goes on where the last one was stopped.
+again, and of what a library was proved in crates/NAME/out/proved: so a run goes on where the last one was stopped. A crate of
+which each edit was refused has its line in tests/refused.txt, with the number of its edits and a sum of theirs, which is kept
+with the tree: while that sum is theirs they are not tried again on any machine. `--anew` looks at none of this.
 
 Prints each edit that is not refused and each that is refused by names alone (which says little of the contract). The last line
 is `N refused, K of them by names alone, M not`, and the status is 1 where M is not 0."""
@@ -40,6 +42,8 @@ PLACE = re.compile(r"(?:note: )?(?:\./)?(\S+?):(\d+):\d+: ")
 # one crate's proved work is taken over at a time, and not while it is copied
 TAKEN_OVER = threading.Lock()
 REFUSED, NAMES_ALONE, NOT_REFUSED = "refused", "refused by names alone", "not refused"
+# the crates of which each edit was refused, as the tree keeps it
+TOLD = os.path.join(ROOT, "tests", "refused.txt")
 
 
 @dataclass(frozen=True)
@@ -84,10 +88,14 @@ def run(words, folder):
 class Kept:
     """What earlier runs refused, by the sum of all that it was tried on."""
 
-    def __init__(self, below):
+    def __init__(self, below, anew):
+        """`anew`: the crates of which nothing is known."""
         self.below, self.lock, self.known = below, threading.Lock(), {}
+        with open(TOLD, encoding="utf-8") if os.path.isfile(TOLD) else open(os.devnull, encoding="utf-8") as lines:
+            self.whole = {name: total for name, _, total in map(str.split, lines) if name not in anew}
         for crate in below:
-            with open(self.place(crate), encoding="utf-8") if os.path.isfile(self.place(crate)) else open(os.devnull, encoding="utf-8") as lines:
+            is_there = crate not in anew and os.path.isfile(self.place(crate))
+            with open(self.place(crate) if is_there else os.devnull, encoding="utf-8") as lines:
                 self.known.update(line.rstrip("\n").split(" ", 1) for line in lines)
 
     @staticmethod
@@ -130,12 +138,26 @@ class Kept:
         with open(path, "w", encoding="ascii") as file:
             file.write(sum_now)
 
+    @functools.cache
+    def total(self, crate):
+        """The sum of a crate's edits, each with all that it is tried on."""
+        return hashlib.sha256("".join(sorted(self.key(it) for it in library(crate))).encode()).hexdigest()
+
     def told(self, wrong):
-        return self.known.get(self.key(wrong))
+        return REFUSED if self.whole.get(wrong.crate) == self.total(wrong.crate) else self.known.get(self.key(wrong))
+
+    def keep_whole(self):
+        """Writes which crates had each of their edits refused, as these stand."""
+        with open(TOLD, "w", encoding="utf-8") as file:
+            for crate in self.below:
+                edits_of = list(library(crate))
+                if edits_of and all(self.told(it) == REFUSED for it in edits_of):
+                    file.write(f"{crate} {len(edits_of)} {self.total(crate)}\n")
 
     def keep(self, wrong, told):
         with self.lock, open(self.place(wrong.crate), "a", encoding="utf-8") as file:
             file.write(f"{self.key(wrong)} {told}\n")
+            self.known[self.key(wrong)] = told
 
 
 def text_copied(room):
@@ -393,18 +415,20 @@ class Tried:
                     print(line, end="\n" if line else "", flush=True)
 
 
-def main(names):
-    below = crates()
+def main(words):
+    below, names = crates(), [it for it in words if it != "--anew"]
     unknown = [it for it in names if it not in below]
     if unknown:
         print(f"no crate is called {' or '.join(unknown)}")
         return 2
-    kept = Kept(below)
-    every = [it for crate in below if not names or crate in names for it in library(crate)]
+    asked = [crate for crate in below if not names or crate in names]
+    kept = Kept(below, asked if "--anew" in words else [])
+    every = [it for crate in asked for it in library(crate)]
     earlier = [(it, kept.told(it)) for it in every]
     tried = Tried([it for it, told in earlier if not told], below, kept)
     counted([(it, told, "by an earlier run") for it, told in earlier if told], tried.count)
     why = tried.run()
+    kept.keep_whole()
     if why:
         print(why)
         return 1

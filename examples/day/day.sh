@@ -1,5 +1,5 @@
 #!/bin/sh
-# Some days of one retailer with two suppliers, by the commands of edihub over a database file: sh day.sh PROGRAM.
+# Some days of one retailer with two suppliers and a third that joins, by the commands of edihub over a database file: sh day.sh PROGRAM.
 # The file is made in a temporary folder, which is thrown away in the end.
 set -eu
 program=$(cd "$(dirname "$1")" && pwd)/$(basename "$1")
@@ -12,12 +12,16 @@ edihub() {
     command=$1
     shift
     echo "\$ edihub $command $*"
-    "$program" "$command" --register register.toml --db "$kept/hub.db" "$@" || test $? -eq 1
+    "$program" "$command" --db "$kept/hub.db" "$@" || test $? -eq 1
     echo
 }
 retailer="--as 5412345000013 --key retail-key"
 a="--as 4012345500004 --key alpha-key-1"
 b="--as 8712345000004 --key beta-key-1"
+c="--as 7612345000008 --key gamma-key-1"
+
+echo "Monday: the retailer founds its hub, with the suppliers A and B."
+edihub init --register register.toml
 
 echo "Tuesday, 07:30: the retailer orders, of A two articles and of B one."
 edihub import $retailer --moment 1748935800 --folder 1-orders
@@ -36,8 +40,13 @@ echo "Wednesday: both despatch, B only 40 of its 50."
 edihub import $a --moment 1749024000 --folder 4-despatch-of-a
 edihub import $b --moment 1749027600 --folder 5-despatch-of-b
 
+echo "10:00: a third supplier, C, joins. The retailer orders of it, and C reads the order."
+edihub join $retailer --moment 1749031200 --supplier 7612345000008 --supplier-key gamma-key-1 --prefixes 7612345,7612346
+edihub import $retailer --moment 1749033000 --folder 6-order-for-c
+edihub mail $c --do item --n 1
+
 echo "Thursday: the retailer tells what was received. Of A's first pallet two pieces were not on it, and one is sent back."
-edihub import $retailer --moment 1749110400 --folder 6-receipts
+edihub import $retailer --moment 1749110400 --folder 7-receipts
 
 echo "Somebody imports Wednesday's despatch once more: it is known, and nothing changes."
 edihub import $a --moment 1749114000 --folder 4-despatch-of-a
@@ -45,4 +54,5 @@ edihub import $a --moment 1749114000 --folder 4-despatch-of-a
 echo "What each supplier sees in the evening, and what the retailer sees of B."
 edihub status $a
 edihub status $b
+edihub status $c
 edihub status $retailer --of 8712345000004

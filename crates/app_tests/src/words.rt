@@ -1,4 +1,5 @@
 use hub_app::{HubTask, HubWords, Words, WordsFault, read_words};
+use hub_parties::SupplierRow;
 use std::alloc::{AllocError, Global};
 use std::test::Fail;
 
@@ -9,7 +10,7 @@ struct Row {
     told: &'static str,
 }
 
-static ROWS: [Row; 17] = [
+static ROWS: [Row; 27] = [
     Row {
         words: "edihub check --register r.toml",
         told: "check r.toml",
@@ -23,51 +24,91 @@ static ROWS: [Row; 17] = [
         told: "show",
     },
     Row {
-        words: "edihub import --register r.toml --db h.db --as 4012345500004 --key alpha-key-1 --folder in",
-        told: "r.toml h.db 4012345500004 alpha-key-1 now import in",
+        words: "edihub init --register r.toml --db h.db",
+        told: "init r.toml h.db",
     },
     Row {
-        words: "edihub status --db h.db --key alpha-key-1 --as 4012345500004 --register r.toml --moment 0",
-        told: "r.toml h.db 4012345500004 alpha-key-1 then status",
+        words: "edihub import --db h.db --as 4012345500004 --key alpha-key-1 --folder in",
+        told: "h.db 4012345500004 alpha-key-1 now import in",
     },
     Row {
-        words: "edihub status --register r --db h --as 5412345000013 --key retail-key --of 4012345500004",
-        told: "r h 5412345000013 retail-key now status of 4012345500004",
+        words: "edihub status --db h.db --key alpha-key-1 --as 4012345500004 --moment 0",
+        told: "h.db 4012345500004 alpha-key-1 then status",
     },
     Row {
-        words: "edihub mail --register r --db h --as 4012345500004 --key alpha-key-1 --do after --n 0",
-        told: "r h 4012345500004 alpha-key-1 now after 0",
+        words: "edihub status --db h --as 5412345000013 --key retail-key --of 4012345500004",
+        told: "h 5412345000013 retail-key now status of 4012345500004",
     },
     Row {
-        words: "edihub mail --register r --db h --as 4012345500004 --key alpha-key-1 --do item --n 00000000000012",
-        told: "r h 4012345500004 alpha-key-1 now item 12",
+        words: "edihub mail --db h --as 4012345500004 --key alpha-key-1 --do after --n 0",
+        told: "h 4012345500004 alpha-key-1 now after 0",
     },
     Row {
-        words: "edihub mail --register r --db h --as 4012345500004 --key alpha-key-1 --do taken --n 99999999999999",
-        told: "r h 4012345500004 alpha-key-1 now taken 99999999999999",
+        words: "edihub mail --db h --as 4012345500004 --key alpha-key-1 --do item --n 00000000000012",
+        told: "h 4012345500004 alpha-key-1 now item 12",
     },
     Row {
-        words: "edihub cancel --register r --db h --as 5412345000013 --key retail-key --supplier 4012345500004 --reference C1 --order 128576 --line 01 --quantity 10",
-        told: "r h 5412345000013 retail-key now cancel of 4012345500004 line 1 quantity 10",
+        words: "edihub mail --db h --as 4012345500004 --key alpha-key-1 --do taken --n 99999999999999",
+        told: "h 4012345500004 alpha-key-1 now taken 99999999999999",
     },
     Row {
-        words: "edihub serve --register r --db h --port 8080 --count 1000000",
-        told: "serve r h 8080 1000000",
+        words: "edihub cancel --db h --as 5412345000013 --key retail-key --supplier 4012345500004 --reference C1 --order 128576 --line 01 --quantity 10",
+        told: "h 5412345000013 retail-key now cancel of 4012345500004 line 1 quantity 10",
     },
     Row {
-        words: "edihub serve --register r --db h --port 0 --count 1",
+        words: "edihub join --db h --as 5412345000013 --key retail-key --supplier 7612345000008 --supplier-key gamma-key-1 --prefixes 7612345,7612346",
+        told: "h 5412345000013 retail-key now join of 7612345000008 7612345 7612346",
+    },
+    Row {
+        words: "edihub join --db h --as 5412345000013 --key retail-key --supplier 7612345000008 --supplier-key gamma-key-1 --prefixes 76123456,7612345,40123455 --moment 0",
+        told: "h 5412345000013 retail-key then join of 7612345000008 40123455 7612345 76123456",
+    },
+    Row {
+        words: "edihub serve --db h --port 8080 --count 1000000",
+        told: "serve h 8080 1000000",
+    },
+    Row {
+        words: "edihub serve --db h --port 0 --count 1",
         told: "status 2",
     },
     Row {
-        words: "edihub mail --register r --db h --as 4012345500004 --key alpha-key-1 --do item --n 000000000000001",
+        words: "edihub mail --db h --as 4012345500004 --key alpha-key-1 --do item --n 000000000000001",
         told: "status 2",
     },
     Row {
-        words: "edihub status --register r --db h --as 4012345500005 --key alpha-key-1",
+        words: "edihub status --db h --as 4012345500005 --key alpha-key-1",
         told: "status 2",
     },
     Row {
-        words: "edihub import --register r --db h --as 4012345500004 --key alpha-key-1",
+        words: "edihub import --db h --as 4012345500004 --key alpha-key-1",
+        told: "status 2",
+    },
+    Row {
+        words: "edihub join --db h --as 5412345000013 --key retail-key --supplier 7612345000008 --supplier-key gamma-key-1 --prefixes 7612,",
+        told: "status 2",
+    },
+    Row {
+        words: "edihub join --db h --as 5412345000013 --key retail-key --supplier 7612345000008 --supplier-key gamma-key-1 --prefixes 7612345,7612345",
+        told: "status 2",
+    },
+    Row {
+        words: "edihub join --db h --as 5412345000013 --key retail-key --supplier 7612345000008 --supplier-key gamma-key-1 --prefixes 7612341,7612342,7612343,7612344,7612345,7612346,7612347,7612348,7612349",
+        told: "status 2",
+    },
+    Row {
+        words: "edihub join --db h --as 5412345000013 --key retail-key --supplier 7612345000008 --supplier-key gamma-k --prefixes 7612345",
+        told: "status 2",
+    },
+    Row {
+        words: "edihub join --db h --as 5412345000013 --key retail-key --supplier 7612345000009 --supplier-key gamma-key-1 --prefixes 7612345",
+        told: "status 2",
+    },
+    Row {
+        words: "edihub status --register r --db h --as 4012345500004 --key alpha-key-1",
+        told: "status 2",
+    },
+    Row {
+        words: "edihub serve --register r --db h --port 8080 --count 1",
         told: "status 2",
     },
     Row {
@@ -79,6 +120,16 @@ static ROWS: [Row; 17] = [
         told: "status 0",
     },
 ];
+
+// A row that a supplier is to get.
+fn join_told(alloc: Global, row: &SupplierRow) -> Result<String, AllocError> {
+    let mut told = format!(in alloc; "join of {}", row.gln)?;
+    for prefix in row.prefixes.as_slice() {
+        let more = format!(in alloc; " {prefix}")?;
+        told.push_str(more.as_str())?;
+    }
+    Ok(told)
+}
 
 // What is asked of a hub.
 fn task_told(alloc: Global, task: &HubTask<'_>) -> Result<String, AllocError> {
@@ -93,6 +144,7 @@ fn task_told(alloc: Global, task: &HubTask<'_>) -> Result<String, AllocError> {
             "cancel of {} line {} quantity {}",
             cancel.supplier, cancel.line, cancel.quantity
         ),
+        HubTask::Join(join) => join_told(alloc, join.row()),
     }
 }
 
@@ -104,10 +156,7 @@ fn hub_words_told(alloc: Global, words: &HubWords<'_>) -> Result<String, AllocEr
         "then"
     };
     let task = task_told(alloc, &words.task)?;
-    format!(in alloc;
-        "{} {} {} {} {when} {task}",
-        words.register, words.db, words.caller, words.key
-    )
+    format!(in alloc; "{} {} {} {when} {task}", words.db, words.caller, words.key)
 }
 
 fn words_told(alloc: Global, words: &Words<'_>) -> Result<String, AllocError> {
@@ -115,10 +164,11 @@ fn words_told(alloc: Global, words: &Words<'_>) -> Result<String, AllocError> {
         Words::Check(words) => format!(in alloc; "check {}", words.register),
         Words::Relay(_) => String::from_str(alloc, "relay"),
         Words::Show => String::from_str(alloc, "show"),
+        Words::Init(words) => format!(in alloc; "init {} {}", words.register, words.db),
         Words::Hub(words) => hub_words_told(alloc, words),
         Words::Serve(words) => format!(in alloc;
-            "serve {} {} {} {}",
-            words.register, words.db, words.port, words.count
+            "serve {} {} {}",
+            words.db, words.port, words.count
         ),
     }
 }
@@ -153,8 +203,11 @@ fn debug_of(alloc: Global, text: &str) -> Result<String, AllocError> {
 
 #[test]
 fn a_key_is_not_shown(rt: HostRuntime) -> Result<(), Fail> {
-    let shown = debug_of(rt.alloc(), ROWS[3].words)?;
-    assert!(rt; shown.contains("key: Key(..)"));
-    assert!(rt; !shown.contains("alpha-key-1"));
+    let import = debug_of(rt.alloc(), ROWS[4].words)?;
+    assert!(rt; import.contains("key: Key(..)"));
+    assert!(rt; !import.contains("alpha-key-1"));
+    let join = debug_of(rt.alloc(), ROWS[11].words)?;
+    assert!(rt; join.contains("key: Key(..)"));
+    assert!(rt; !join.contains("retail-key") && !join.contains("gamma-key-1"));
     Ok(())
 }

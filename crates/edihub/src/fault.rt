@@ -1,16 +1,14 @@
-//! Why a command over a hub was not begun, or not ended.
+//! Why a hub was not founded, or a command over one not begun or not ended.
 use edi_base::ReadFault;
 use hub_app::TextFault;
-use hub_register::RegisterFault;
 use hub_store::StoreFault;
+use std::alloc::AllocError;
 use std::error::Error;
 use std::fmt;
 
-/// Why a command over a hub was not begun, in the order in which it is looked for, or not ended.
+/// Why a hub was not founded, or a command over one not begun, in the order in which it is looked for, or not ended.
 #[derive(Clone, Copy, Debug)]
 pub(crate) enum BeginFault {
-    /// The register is none.
-    Register(RegisterFault),
     /// The database file was not opened.
     Store(StoreFault),
     /// The port cannot be listened on, or no more connections can be taken.
@@ -21,20 +19,6 @@ pub(crate) enum BeginFault {
     File,
     /// Out of memory.
     Memory,
-}
-
-impl BeginFault {
-    /// The exit status.
-    pub(crate) fn status(self) -> u8 {
-        match self {
-            BeginFault::Register(_) => 1,
-            BeginFault::Store(_)
-            | BeginFault::Listen
-            | BeginFault::Clock
-            | BeginFault::File
-            | BeginFault::Memory => 3,
-        }
-    }
 }
 
 // How a fault of the store is told.
@@ -50,7 +34,6 @@ fn word_of(fault: StoreFault) -> &'static str {
 impl fmt::Display for BeginFault {
     fn fmt<W: fmt::Write>(&self, f: &mut fmt::Formatter<W>) -> fmt::Result {
         match self {
-            BeginFault::Register(fault) => write!(f, "fault {fault}"),
             BeginFault::Store(fault) => {
                 let word = word_of(*fault);
                 write!(f, "store {word}")
@@ -74,13 +57,9 @@ impl From<TextFault> for BeginFault {
     }
 }
 
-impl From<RegisterFault> for BeginFault {
-    fn from(fault: RegisterFault) -> BeginFault {
-        if fault == RegisterFault::Memory {
-            BeginFault::Memory
-        } else {
-            BeginFault::Register(fault)
-        }
+impl From<AllocError> for BeginFault {
+    fn from(_error: AllocError) -> BeginFault {
+        BeginFault::Memory
     }
 }
 

@@ -81,6 +81,7 @@ fn obey<S: Store>(
         HubTask::MailItem(number) => Request::MailItem(number),
         HubTask::MailTaken(number) => Request::MailTaken(number),
         HubTask::Cancel(cancel) => Request::Cancel(cancel),
+        HubTask::Join(join) => Request::Join(join),
     };
     ask(rt, hub, caller, request)
 }

@@ -4,16 +4,17 @@
 mod fault;
 mod file;
 mod hub;
+mod init;
+mod register;
 mod serve;
 
 use clap::Error;
 use edi_tokens::{OfRead, OfWrite};
 use file::{Work, over_a_hub};
-use hub_app::{
-    FAILED, Words, WordsFault, check_run, read_register_text, read_words, relay_run, show_run,
-};
+use hub_app::{FAILED, Words, WordsFault, check_run, read_words, relay_run, show_run};
+use init::init;
+use register::register_text;
 use std::fmt::Display;
-use std::fs::File;
 use std::process::ExitCode;
 use std::{env, io};
 
@@ -36,10 +37,7 @@ fn tell_words(rt: &HostRuntime, error: &Error) -> u8 {
 
 // Checks the register in a file.
 fn check(rt: &HostRuntime, path: &str) -> u8 {
-    let Ok(file) = File::open(rt, path) else {
-        return tell(rt, "file", FAILED);
-    };
-    match read_register_text(rt.alloc(), &mut OfRead::new(file)) {
+    match register_text(rt, path) {
         Ok(text) => check_run(
             rt.alloc(),
             text.as_str(),
@@ -67,6 +65,7 @@ fn run(rt: &HostRuntime, given: &[String]) -> u8 {
             &mut OfWrite::new(rt.stdout()),
             &mut OfWrite::new(rt.stderr()),
         ),
+        Ok(Words::Init(words)) => init(rt, &words),
         Ok(Words::Hub(words)) => over_a_hub(rt, Work::Command(words)),
         Ok(Words::Serve(words)) => over_a_hub(rt, Work::Serve(words)),
         Err(WordsFault::Told(error)) => tell_words(rt, &error),

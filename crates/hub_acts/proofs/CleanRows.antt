@@ -3,15 +3,18 @@ use Rattle.std.proofs.Common.{◌≡◌, ℕ, Bool, true, ◌&&◌, List, [], �
 use Rattle.std.specs.List.{AllByRecursion, list_all}
 use Rattle.std.proofs.lemmas.Bool.{and_parts}
 use Rattle.hub_tables.specs.Change.{apply, apply_all}
+use Rattle.hub_tables.specs.Rows.{hub_cmp, key_cmp, prefix_cmp}
 use Rattle.hub_tables.specs.Rows.{same, order_cmp, line_cmp, advice_cmp, pallet_cmp, content_cmp, receipt_cmp}
 use Rattle.hub_tables.specs.Rows.{remembered_cmp, mail_cmp, same_line, same_pallet, same_mail}
 use Rattle.hub_tables.specs.Tables.{Tables, view, holds}
 use Rattle.hub_tables.specs.declared.change.Change.{Change}
+use Rattle.hub_tables.specs.declared.change.Change.TheVariants.{AddHub, AddKey, AddPrefix}
 use Rattle.hub_tables.specs.declared.change.Change.TheVariants.{AddOrder, AddLine, SetLine, AddAdvice, AddPallet}
 use Rattle.hub_tables.specs.declared.change.Change.TheVariants.{SetPallet, AddContent, AddReceipt, Remember, AddMail}
 use Rattle.hub_tables.specs.declared.change.Change.TheVariants.{SetMail}
 use Rattle.hub_tables.proofs.KeyOrder.{all_put}
 use Rattle.hub_tables.proofs.Lists.{all_filter, all_replace}
+use Rattle.hub_store.specs.Clean.{clean_hub, clean_key, clean_prefix}
 use Rattle.hub_store.specs.Clean.{clean_order, clean_line, clean_advice, clean_pallet, clean_content, clean_receipt}
 use Rattle.hub_store.specs.Clean.{clean_remembered, clean_mail, are_clean}
 
@@ -27,6 +30,9 @@ true_all p [] h = tt
 true_all p (x ∷ xs) h = let parts = and_parts (p x) (list_all p xs) h in (parts.0, true_all p xs parts.1)
 
 pub record CleanRows (t : Tables) : Type 0 where
+  pub hubs : AllByRecursion (λ row. clean_hub row ≡ true) t.hubs
+  pub keys : AllByRecursion (λ row. clean_key row ≡ true) t.keys
+  pub prefixes : AllByRecursion (λ row. clean_prefix row ≡ true) t.prefixes
   pub orders : AllByRecursion (λ row. clean_order row ≡ true) t.orders
   pub lines : AllByRecursion (λ row. clean_line row ≡ true) t.lines
   pub advices : AllByRecursion (λ row. clean_advice row ≡ true) t.advices
@@ -38,7 +44,10 @@ pub record CleanRows (t : Tables) : Type 0 where
 
 pub clean_rows : (t : Tables) → are_clean t ≡ true → CleanRows t
 clean_rows t h =
-    let a = and_parts (list_all clean_order t.orders) _ h in
+    let hubs = and_parts (list_all clean_hub t.hubs) _ h in
+    let keys = and_parts (list_all clean_key t.keys) _ hubs.1 in
+    let prefixes = and_parts (list_all clean_prefix t.prefixes) _ keys.1 in
+    let a = and_parts (list_all clean_order t.orders) _ prefixes.1 in
     let b = and_parts (list_all clean_line t.lines) _ a.1 in
     let c = and_parts (list_all clean_advice t.advices) _ b.1 in
     let d = and_parts (list_all clean_pallet t.pallets) _ c.1 in
@@ -46,6 +55,9 @@ clean_rows t h =
     let f = and_parts (list_all clean_receipt t.receipts) _ e.1 in
     let g = and_parts (list_all clean_remembered t.remembered) (list_all clean_mail t.mail) f.1 in
     record {
+      hubs = true_all clean_hub t.hubs hubs.0;
+      keys = true_all clean_key t.keys keys.0;
+      prefixes = true_all clean_prefix t.prefixes prefixes.0;
       orders = true_all clean_order t.orders a.0;
       lines = true_all clean_line t.lines b.0;
       advices = true_all clean_advice t.advices c.0;
@@ -58,14 +70,19 @@ clean_rows t h =
 
 pub rows_clean : (t : Tables) → CleanRows t → are_clean t ≡ true
 rows_clean t h =
-    both_true (all_true clean_order t.orders h.orders) (both_true (all_true clean_line t.lines h.lines)
+    both_true (all_true clean_hub t.hubs h.hubs) (both_true (all_true clean_key t.keys h.keys)
+    (both_true (all_true clean_prefix t.prefixes h.prefixes)
+    (both_true (all_true clean_order t.orders h.orders) (both_true (all_true clean_line t.lines h.lines)
     (both_true (all_true clean_advice t.advices h.advices) (both_true (all_true clean_pallet t.pallets h.pallets)
     (both_true (all_true clean_content t.contents h.contents) (both_true (all_true clean_receipt t.receipts h.receipts)
-    (both_true (all_true clean_remembered t.remembered h.remembered) (all_true clean_mail t.mail h.mail)))))))
+    (both_true (all_true clean_remembered t.remembered h.remembered) (all_true clean_mail t.mail h.mail))))))))))
 
 -- what a supplier sees
 pub clean_view : (supplier : List ℕ) (t : Tables) → CleanRows t → CleanRows (view supplier t)
 clean_view supplier t h = record {
+  hubs = tt;
+  keys = all_filter _ (λ row. same row.supplier supplier) t.keys h.keys;
+  prefixes = all_filter _ (λ row. same row.supplier supplier) t.prefixes h.prefixes;
   orders = all_filter _ (λ row. same row.supplier supplier) t.orders h.orders;
   lines = all_filter _ (λ row. same row.supplier supplier) t.lines h.lines;
   advices = all_filter _ (λ row. same row.supplier supplier) t.advices h.advices;
@@ -78,6 +95,9 @@ clean_view supplier t h = record {
 
 -- a change of a row of the kinds
 abbrev pub CleanChange : Change → Type 0
+CleanChange (AddHub row) = clean_hub row ≡ true
+CleanChange (AddKey row) = clean_key row ≡ true
+CleanChange (AddPrefix row) = clean_prefix row ≡ true
 CleanChange (AddOrder row) = clean_order row ≡ true
 CleanChange (AddLine row) = clean_line row ≡ true
 CleanChange (SetLine row) = clean_line row ≡ true
@@ -91,7 +111,49 @@ CleanChange (AddMail row) = clean_mail row ≡ true
 CleanChange (SetMail row) = clean_mail row ≡ true
 
 clean_after : (change : Change) (t : Tables) → CleanChange change → CleanRows t → CleanRows (apply change t)
+clean_after (AddHub row) t c h = record {
+  hubs = all_put hub_cmp _ t.hubs row h.hubs c;
+  keys = h.keys;
+  prefixes = h.prefixes;
+  orders = h.orders;
+  lines = h.lines;
+  advices = h.advices;
+  pallets = h.pallets;
+  contents = h.contents;
+  receipts = h.receipts;
+  remembered = h.remembered;
+  mail = h.mail;
+}
+clean_after (AddKey row) t c h = record {
+  hubs = h.hubs;
+  keys = all_put key_cmp _ t.keys row h.keys c;
+  prefixes = h.prefixes;
+  orders = h.orders;
+  lines = h.lines;
+  advices = h.advices;
+  pallets = h.pallets;
+  contents = h.contents;
+  receipts = h.receipts;
+  remembered = h.remembered;
+  mail = h.mail;
+}
+clean_after (AddPrefix row) t c h = record {
+  hubs = h.hubs;
+  keys = h.keys;
+  prefixes = all_put prefix_cmp _ t.prefixes row h.prefixes c;
+  orders = h.orders;
+  lines = h.lines;
+  advices = h.advices;
+  pallets = h.pallets;
+  contents = h.contents;
+  receipts = h.receipts;
+  remembered = h.remembered;
+  mail = h.mail;
+}
 clean_after (AddOrder row) t c h = record {
+  hubs = h.hubs;
+  keys = h.keys;
+  prefixes = h.prefixes;
   orders = all_put order_cmp _ t.orders row h.orders c;
   lines = h.lines;
   advices = h.advices;
@@ -102,6 +164,9 @@ clean_after (AddOrder row) t c h = record {
   mail = h.mail;
 }
 clean_after (AddLine row) t c h = record {
+  hubs = h.hubs;
+  keys = h.keys;
+  prefixes = h.prefixes;
   orders = h.orders;
   lines = all_put line_cmp _ t.lines row h.lines c;
   advices = h.advices;
@@ -112,6 +177,9 @@ clean_after (AddLine row) t c h = record {
   mail = h.mail;
 }
 clean_after (SetLine row) t c h = record {
+  hubs = h.hubs;
+  keys = h.keys;
+  prefixes = h.prefixes;
   orders = h.orders;
   lines = all_replace _ (same_line row) row t.lines h.lines c;
   advices = h.advices;
@@ -122,6 +190,9 @@ clean_after (SetLine row) t c h = record {
   mail = h.mail;
 }
 clean_after (AddAdvice row) t c h = record {
+  hubs = h.hubs;
+  keys = h.keys;
+  prefixes = h.prefixes;
   orders = h.orders;
   lines = h.lines;
   advices = all_put advice_cmp _ t.advices row h.advices c;
@@ -132,6 +203,9 @@ clean_after (AddAdvice row) t c h = record {
   mail = h.mail;
 }
 clean_after (AddPallet row) t c h = record {
+  hubs = h.hubs;
+  keys = h.keys;
+  prefixes = h.prefixes;
   orders = h.orders;
   lines = h.lines;
   advices = h.advices;
@@ -142,6 +216,9 @@ clean_after (AddPallet row) t c h = record {
   mail = h.mail;
 }
 clean_after (SetPallet row) t c h = record {
+  hubs = h.hubs;
+  keys = h.keys;
+  prefixes = h.prefixes;
   orders = h.orders;
   lines = h.lines;
   advices = h.advices;
@@ -152,6 +229,9 @@ clean_after (SetPallet row) t c h = record {
   mail = h.mail;
 }
 clean_after (AddContent row) t c h = record {
+  hubs = h.hubs;
+  keys = h.keys;
+  prefixes = h.prefixes;
   orders = h.orders;
   lines = h.lines;
   advices = h.advices;
@@ -162,6 +242,9 @@ clean_after (AddContent row) t c h = record {
   mail = h.mail;
 }
 clean_after (AddReceipt row) t c h = record {
+  hubs = h.hubs;
+  keys = h.keys;
+  prefixes = h.prefixes;
   orders = h.orders;
   lines = h.lines;
   advices = h.advices;
@@ -172,6 +255,9 @@ clean_after (AddReceipt row) t c h = record {
   mail = h.mail;
 }
 clean_after (Remember row) t c h = record {
+  hubs = h.hubs;
+  keys = h.keys;
+  prefixes = h.prefixes;
   orders = h.orders;
   lines = h.lines;
   advices = h.advices;
@@ -182,6 +268,9 @@ clean_after (Remember row) t c h = record {
   mail = h.mail;
 }
 clean_after (AddMail row) t c h = record {
+  hubs = h.hubs;
+  keys = h.keys;
+  prefixes = h.prefixes;
   orders = h.orders;
   lines = h.lines;
   advices = h.advices;
@@ -192,6 +281,9 @@ clean_after (AddMail row) t c h = record {
   mail = all_put mail_cmp _ t.mail row h.mail c;
 }
 clean_after (SetMail row) t c h = record {
+  hubs = h.hubs;
+  keys = h.keys;
+  prefixes = h.prefixes;
   orders = h.orders;
   lines = h.lines;
   advices = h.advices;

@@ -1,14 +1,19 @@
 -- Judges that accept changes of rows of the kinds alone.
-use Rattle.std.proofs.Common.{◌≡◌, ℕ, ◌==◌, nat_le, true, false, List, [], ◌∷◌, ◌++◌, Some, subst, cond, refl}
-use Rattle.std.specs.List.{AllByRecursion}
+use Rattle.std.proofs.Common.{◌≡◌, ℕ, ◌==◌, nat_le, true, false, List, [], ◌∷◌, ◌++◌, ◌&&◌, length, Some, sym, subst, cond, refl}
+use Rattle.std.specs.List.{AllByRecursion, list_all}
 use Rattle.std.proofs.lemmas.Bool.{and_parts}
 use Rattle.edi_segments.specs.Service.{is_decimal}
 use Rattle.edi_envelope.specs.Mail.{last_number}
 use Rattle.edi_moment.specs.Moment.{last_moment}
 use Rattle.gs1_ids.specs.Gln.{is_gln}
+use Rattle.gs1_ids.specs.Prefix.{is_prefix}
+use Rattle.hub_parties.specs.Key.{is_party_key}
+use Rattle.hub_parties.specs.Prefixes.{are_company_prefixes, most_prefixes, rising}
+use Rattle.hub_parties.specs.Rows.{RegisterRows}
 use Rattle.hub_parties.specs.declared.row.SupplierRow.{SupplierRow}
 use Rattle.hub_tables.specs.Cases.{truth_number}
 use Rattle.hub_tables.specs.Change.{apply_all}
+use Rattle.hub_tables.specs.Register.{prefix_changes, row_changes}
 use Rattle.hub_tables.specs.State.{entry_at, is_taken}
 use Rattle.hub_tables.specs.Tables.{Tables, view}
 use Rattle.hub_tables.specs.declared.change.Change.{Change}
@@ -17,10 +22,12 @@ use Rattle.hub_tables.specs.declared.rows.MailRow.{MailRow}
 use Rattle.hub_tables.proofs.Lists.{all_found}
 use Rattle.hub_store.specs.Clean.{is_within, is_number, is_kind, are_bytes, is_truth, clean_mail, are_clean}
 use Rattle.hub_rules.specs.Judging.{Judge, gives, joined, goes_on, in_turn, in_order}
+use Rattle.hub_rules.specs.JoinRules.{is_join, judge_join}
 use Rattle.hub_rules.specs.declared.verdict.Verdict.{Verdict}
 use Rattle.hub_rules.specs.declared.verdict.Verdict.TheVariants.{Accept, Refuse}
 use Rattle.hub_law.specs.Requests.{taking}
 use Rattle.hub_law.specs.Told.{changed}
+use Rattle.hub_acts.proofs.Joins.{changes_are}
 use Rattle.hub_acts.proofs.CleanRows.{CleanRows, CleanChange, both_true, clean_all, clean_rows, clean_view, rows_clean}
 
 -- what it accepts
@@ -96,3 +103,35 @@ cleaned_taken gln number t entry h found =
     let clean = (all_found (λ entry. clean_mail entry ≡ true) (λ entry. entry.number == number)
     (view gln t).mail entry seen.mail found).0 in
     rows_clean (apply_all (taking entry) t) (clean_all (taking entry) t (clean_taking entry clean) rows)
+
+-- the rows of a supplier that joins
+clean_prefixes : (gln : List ℕ) (prefixes : List (List ℕ))
+    → is_gln gln ≡ true
+    → list_all is_prefix prefixes ≡ true
+    → Clean (prefix_changes gln prefixes)
+clean_prefixes gln [] right all = tt
+clean_prefixes gln (prefix ∷ prefixes) right all =
+    let parts = and_parts (is_prefix prefix) (list_all is_prefix prefixes) all in
+    (both_true parts.0 right, clean_prefixes gln prefixes right parts.1)
+
+clean_join : (row : SupplierRow) → is_join row ≡ true → Clean (row_changes row)
+clean_join row may =
+    let gln = and_parts (is_gln row.gln) (are_company_prefixes row.prefixes && is_party_key row.key) may in
+    let both = and_parts (are_company_prefixes row.prefixes) (is_party_key row.key) gln.1 in
+    let some = and_parts (nat_le 1 (length row.prefixes)) _ both.0 in
+    let few = and_parts (nat_le (length row.prefixes) most_prefixes) _ some.1 in (
+      both_true gln.0 both.1,
+      clean_prefixes row.gln row.prefixes gln.0
+          (and_parts (list_all is_prefix row.prefixes) (rising row.prefixes) few.1).0,
+    )
+
+pub cleaned_join : (register : RegisterRows) (row : SupplierRow) (t : Tables)
+    → is_join row ≡ true
+    → are_clean t ≡ true
+    → are_clean (changed (judge_join register row) t) ≡ true
+cleaned_join register row t may h =
+    elim (judge_join register row) as (λ v. judge_join register row ≡ v → are_clean (changed v t) ≡ true) [
+      | Refuse code ↦ λ e. h
+      | Accept changes ↦ λ e. rows_clean (apply_all changes t) (clean_all changes t
+          (subst Clean (sym (changes_are register row changes e)) (clean_join row may)) (clean_rows t h))
+    ] refl

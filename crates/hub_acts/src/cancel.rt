@@ -4,28 +4,28 @@ ghost use Rattle.hub_lines.specs.KnownLines.{AreUnclean};
 ghost use Rattle.hub_tables.specs.Sets.{Rising};
 ghost use Rattle.hub_tables.specs.State.{lines_of};
 ghost use Rattle.hub_tables.specs.Tables.{view};
-ghost use Rattle.hub_rules.specs.Laws.{SoundHub};
+ghost use Rattle.hub_rules.specs.Laws.{SoundUnder, PartiesRise};
 ghost use Rattle.hub_law.specs.Mark.{Whole};
-ghost use Rattle.hub_law.specs.Replies.{cancel_reply};
-ghost use Rattle.hub_law.specs.Requests.{cancel_named, cancelled, replied_by};
+ghost use Rattle.hub_law.specs.Replies.{act_reply};
+ghost use Rattle.hub_law.specs.Requests.{cancel_named, answered, replied_by};
 ghost use Rattle.hub_law.specs.Told.{act, changed, told};
 ghost use Rattle.hub_acts.specs.Acts.{Carried, FailsWith, Unharmed, any_answer, as_told, no_answer};
 
-use crate::carrying::{carry_out, told_of_verdict};
+use crate::carrying::{carry_out, reply_to_act, told_of_verdict};
 use crate::knowing::known_for_cancel;
 use hub_judges::{Cancel, Verdict, judge_cancel};
-use hub_law::{Outcome, Reply, acts_stay_sound};
+use hub_law::{Reply, acts_stay_sound};
 use hub_register::Register;
 use hub_store::{Store, StoreFault};
-use hub_texts::{cancel_text, told_line};
+use hub_texts::cancel_text;
 use std::alloc::Global;
 
 // Carries out what comes of a cancellation, to which this is the reply.
 fn finish<S: Store>(store: &mut S, verdict: &Verdict, reply: Reply) -> Result<Reply, StoreFault>
-    requires { reply ≡ cancel_reply (told verdict.now) }
+    requires { reply ≡ act_reply (told verdict.now) }
     ensures carried { Rising (changed verdict.now (S.content store.old)) →
         Carried S.content S.honest S.left store.old store.new (λ t.
-        replied_by cancel_reply (act verdict.now t)) as_told result }
+        replied_by act_reply (act verdict.now t)) as_told result }
     ensures fails { FailsWith S.plain ⊥ any_answer (S.broken store.old) (S.broken store.new) result }
     ensures unharmed { Unharmed S.content S.honest store.old store.new result }
 {
@@ -41,9 +41,9 @@ pub fn take_cancel<S: Store>(
     store: &mut S,
     cancel: &Cancel,
 ) -> Result<Reply, StoreFault>
-    ensures carried { SoundHub register.now.suppliers (S.content store.old) →
+    ensures carried { SoundUnder register.now.suppliers (S.content store.old) → PartiesRise (S.content store.old) →
         Carried S.content S.honest S.left store.old store.new (λ t.
-        cancelled Whole (cancel_named register.now cancel.now t) t) as_told result }
+        answered Whole (cancel_named register.now cancel.now t) t) as_told result }
     ensures fails { FailsWith S.plain (S.honest store.new →
         AreUnclean (lines_of (view cancel.now.supplier (S.content store.old)) cancel.now.order))
         no_answer (S.broken store.old) (S.broken store.new) result }
@@ -54,11 +54,6 @@ pub fn take_cancel<S: Store>(
     let content = cancel_text(alloc, cancel)?;
     let known = known_for_cancel(alloc, store, cancel)?;
     let verdict = judge_cancel(alloc, supplier, &known, content, cancel)?;
-    let told = told_of_verdict(&verdict);
-    let reply = Reply {
-        outcome: Outcome::Done,
-        refused: told.is_refused(),
-        body: told_line(alloc, told)?,
-    };
+    let reply = reply_to_act(alloc, told_of_verdict(&verdict))?;
     finish(store, &verdict, reply)
 }

@@ -1,19 +1,23 @@
-//! What comes of a message or a cancellation is carried out.
+//! What comes of a message, a cancellation or a join is carried out.
 ghost use Rattle.std.specs.Prelude.{◌≡◌, ◌⊎◌, IfOk, OnOk, OnErr};
 ghost use Rattle.hub_tables.specs.Change.{apply_all};
 ghost use Rattle.hub_tables.specs.Sets.{Rising};
 ghost use Rattle.hub_tables.specs.Tables.{Tables};
 ghost use Rattle.hub_rules.specs.declared.verdict.Verdict.TheVariants.{Accept};
+ghost use Rattle.hub_law.specs.Replies.{act_reply};
 ghost use Rattle.hub_law.specs.Told.{act, changed, told};
 ghost use Rattle.hub_acts.specs.Acts.{Carried, FailsWith, Unharmed, any_answer};
 ghost use Rattle.hub_acts.specs.Judged.{act_of};
 ghost use Rattle.hub_texts.specs.Decision.{told_of};
 
 use crate::judged::Judged;
+use edi_base::MemoryFault;
 use hub_judges::Verdict;
+use hub_law::{Outcome, Reply};
 use hub_store::{Store, StoreFault};
 use hub_tables::Change;
-use hub_texts::Decision;
+use hub_texts::{Decision, told_line};
+use std::alloc::Global;
 
 // What is told of a message that is accepted, with these changes.
 fn told_of_changes(changes: &[Change]) -> Decision
@@ -34,6 +38,17 @@ pub(crate) fn told_of_verdict(verdict: &Verdict) -> Decision
         Verdict::Refuse(code) => Decision::Refused(*code),
         Verdict::Accept(changes) => told_of_changes(changes.as_slice()),
     }
+}
+
+/// The reply to one act that is no message: a cancellation, a join.
+pub(crate) fn reply_to_act(alloc: Global, told: Decision) -> Result<Reply, MemoryFault>
+    ensures { IfOk result (λ reply. reply ≡ act_reply (told_of told)) }
+{
+    Ok(Reply {
+        outcome: Outcome::Done,
+        refused: told.is_refused(),
+        body: told_line(alloc, told)?,
+    })
 }
 
 /// What is told of a message.

@@ -7,6 +7,7 @@ ghost use Rattle.edi_orders.specs.declared.response.Response.{Response};
 ghost use Rattle.edi_goods.specs.declared.despatch.Despatch.{Despatch};
 ghost use Rattle.edi_goods.specs.declared.despatch.Unit.{Unit};
 ghost use Rattle.edi_goods.specs.declared.receipt.Receipt.{Receipt};
+ghost use Rattle.hub_parties.specs.Rows.{RegisterRows};
 ghost use Rattle.hub_parties.specs.declared.row.SupplierRow.{SupplierRow};
 ghost use Rattle.hub_tables.specs.Change.{apply_all};
 ghost use Rattle.hub_tables.specs.State.{entry_at, lines_of};
@@ -15,10 +16,11 @@ ghost use Rattle.hub_tables.specs.declared.rows.MailRow.{MailRow};
 ghost use Rattle.hub_store.specs.Clean.{are_bytes, are_clean};
 ghost use Rattle.hub_lines.specs.KnownLines.{AreUnclean};
 ghost use Rattle.hub_rules.specs.Rules.{judge_order, judge_response, judge_despatch, judge_receipt, judge_cancel};
+ghost use Rattle.hub_rules.specs.JoinRules.{is_join};
 ghost use Rattle.hub_rules.specs.Sound.{Sound};
 ghost use Rattle.hub_rules.specs.declared.cancel.Cancel.{Cancel};
 ghost use Rattle.hub_rules.specs.declared.incoming.IncomingMessage.{IncomingMessage};
-ghost use Rattle.hub_law.specs.Requests.{taking};
+ghost use Rattle.hub_law.specs.Requests.{join, taking};
 ghost use Rattle.hub_acts.specs.Clean.{WithinIncoming, WithinOrder, WithinDespatch, WithinReceipt, Cleaned};
 ghost use Rattle.hub_acts.specs.Named.{MessageUnclean, NamedUnclean};
 ghost use Rattle.hub_acts.specs.Status.{StatusUnclean, TooMuchReceived};
@@ -27,8 +29,8 @@ use hub_judges::judges_are_given_what_they_ask;
 use hub_texts::status_is_given_what_it_asks;
 
 /// Where all rows are of the kinds that a hub keeps, and a message or cancellation of a supplier is within the limits
-/// of what it says, the rows are so after what the rules accept of it, and after a taken mark. Of an answer only what
-/// comes with it has limits.
+/// of what it says, the rows are so after what the rules accept of it, and after a join and a taken mark. Of an answer
+/// only what comes with it has limits.
 pub fn rules_keep_rows_clean()
     ensures order { (retailer : List ℕ) (s : SupplierRow) (t : Tables) (incoming : IncomingMessage)
         (body : List ℕ) (order : Order) →
@@ -48,6 +50,8 @@ pub fn rules_keep_rows_clean()
     ensures cancel { (s : SupplierRow) (t : Tables) (content : List ℕ) (cancel : Cancel) →
         is_reference cancel.reference ≡ true → are_bytes content ≡ true →
         Cleaned s t (judge_cancel (Some s) content cancel) }
+    ensures join { (register : RegisterRows) (row : SupplierRow) (t : Tables) →
+        is_join row ≡ true → are_clean t ≡ true → are_clean (join register row t).1 ≡ true }
     ensures taken { (gln : List ℕ) (number : ℕ) (t : Tables) (entry : MailRow) →
         are_clean t ≡ true → entry_at (view gln t) number ≡ Some entry →
         are_clean (apply_all (taking entry) t) ≡ true }

@@ -1,11 +1,12 @@
-//! What one message, cancellation or mailbox mark does over a store: what of it is known is looked up, it is judged,
-//! and what comes of it is committed as one act.
+//! What one message, cancellation, join or mailbox mark does over a store: what of it is known is looked up, it is
+//! judged, and what comes of it is committed as one act.
 #![tactic(auto)]
 
 mod cancel;
 mod carrying;
 mod despatches;
 mod incoming;
+mod join;
 mod judged;
 mod knowing;
 mod laws;
@@ -15,6 +16,7 @@ mod naming;
 mod status;
 
 pub use cancel::take_cancel;
+pub use join::take_join;
 pub use laws::{lines_of_sound_tables_are_known, rules_keep_rows_clean};
 pub use mailbox::{mailbox_entry, mailbox_list, take_entry};
 pub use messages::{take_retailers_message, take_suppliers_message};

@@ -4,7 +4,7 @@ ghost use Rattle.hub_tables.specs.State.{entry_at, untaken_after};
 ghost use Rattle.hub_tables.specs.Tables.{view};
 ghost use Rattle.hub_parties.specs.Rows.{RegisterRows};
 ghost use Rattle.hub_parties.specs.declared.row.SupplierRow.{SupplierRow};
-ghost use Rattle.hub_rules.specs.Laws.{Registered};
+ghost use Rattle.hub_rules.specs.Laws.{Registered, PartiesRise};
 ghost use Rattle.hub_law.specs.MailText.{list_text};
 ghost use Rattle.hub_law.specs.Mark.{Whole};
 ghost use Rattle.hub_law.specs.Replies.{unknown, done, entry_reply};
@@ -101,7 +101,7 @@ pub fn take_entry<S: Store>(
     number: u64,
 ) -> Result<Reply, StoreFault>
     ensures carried { (register : RegisterRows) (s : SupplierRow) → s.gln ≡ supplier.now →
-        Registered register.suppliers s (S.content store.old) →
+        Registered register.suppliers s (S.content store.old) → PartiesRise (S.content store.old) →
         Carried S.content S.honest S.left store.old store.new (λ t.
         taken Whole (entry_at (view supplier.now t) number) t) as_told result }
     ensures fails { FailsWith S.plain ⊥ no_answer (S.broken store.old) (S.broken store.new) result }

@@ -3,7 +3,7 @@ ghost use Rattle.std.specs.Prelude.{◌≡◌, ◌∷◌, ◌++◌, ◌+◌, ◌
 ghost use Rattle.hub_parties.specs.Rows.{parties_of};
 ghost use Rattle.hub_tables.specs.Sets.{Rising};
 ghost use Rattle.hub_tables.specs.Tables.{Tables, view};
-ghost use Rattle.hub_rules.specs.Laws.{SoundHub, Registered};
+ghost use Rattle.hub_rules.specs.Laws.{SoundUnder, Registered, PartiesRise};
 ghost use Rattle.hub_law.specs.Messages.{incoming, deliver_suppliers};
 ghost use Rattle.hub_law.specs.Replies.{told_words};
 ghost use Rattle.hub_law.specs.Requests.{deliver_named};
@@ -62,7 +62,7 @@ pub fn take_retailers_message<S: Store>(
     message: &RawMessage,
     reply: &mut Vec<u8>,
 ) -> Result<Decision, StoreFault>
-    ensures carried { SoundHub register.now.suppliers (S.content store.old) →
+    ensures carried { SoundUnder register.now.suppliers (S.content store.old) → PartiesRise (S.content store.old) →
         Carried S.content S.honest S.left store.old store.new
         (deliver_named register.now (message.now, incoming moment interchange.now message.now)) told_of result }
     ensures fails { FailsWith S.plain ⊥
@@ -91,6 +91,7 @@ pub fn take_suppliers_message<S: Store>(
     reply: &mut Vec<u8>,
 ) -> Result<Decision, StoreFault>
     ensures carried { Registered register.now.suppliers supplier.now (S.content store.old) →
+        PartiesRise (S.content store.old) →
         Carried S.content S.honest S.left store.old store.new
         (deliver_suppliers (view supplier.now.gln) (parties_of register.now) supplier.now
         (message.now, incoming moment interchange.now message.now)) told_of result }

@@ -4,3 +4,4 @@ pub mod Lines
 pub mod Taken
 pub mod Simple
 pub mod Texts
+pub mod Verdicts

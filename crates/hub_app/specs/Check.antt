@@ -1,4 +1,4 @@
--- What `check` tells of the text of a register.
+-- What `check` tells of the text of a register, and `init` of a founding.
 use Rattle.std.specs.Prelude.{ℕ, ◌≤◌, List, ◌++◌, length, codes, IsUtf8, Result, Ok, Err}
 use Rattle.std.specs.Fmt.{decimal}
 use Rattle.edi_base.specs.declared.source.ReadFault.{ReadFault}
@@ -10,10 +10,18 @@ use Rattle.hub_parties.specs.Rows.{RegisterRows}
 use Rattle.hub_register.specs.Text.{fault_text}
 use Rattle.hub_register.specs.declared.fault.RegisterFault.{RegisterFault}
 
+-- the line of a register, by its number of suppliers
+abbrev pub ok_line : ℕ → List ℕ
+ok_line count = codes "ok " ++ (decimal count ++ codes " suppliers\n")
+
+-- the line of a fault, by its name
+abbrev pub fault_line : List ℕ → List ℕ
+fault_line fault = codes "fault " ++ (fault ++ codes "\n")
+
 -- the line, by the register or the fault of the text
 abbrev pub verdict_line : Result RegisterRows RegisterFault → List ℕ
-verdict_line (Ok rows) = codes "ok " ++ (decimal (length rows.suppliers) ++ codes " suppliers\n")
-verdict_line (Err fault) = codes "fault " ++ (fault_text fault ++ codes "\n")
+verdict_line (Ok rows) = ok_line (length rows.suppliers)
+verdict_line (Err fault) = fault_line (fault_text fault)
 
 -- the exit status
 abbrev pub verdict_status : Result RegisterRows RegisterFault → ℕ

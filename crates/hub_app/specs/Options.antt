@@ -1,8 +1,10 @@
 -- The values of options.
-use Rattle.std.specs.Prelude.{ℕ, ◌++◌, ◌&&◌, if◌then◌else◌, nat_le, List, [], ◌∷◌, Option, Some, None, option_map}
+use Rattle.std.specs.Prelude.{ℕ, ◌++◌, ◌&&◌, if◌then◌else◌, nat_eq, nat_le, List, [], ◌∷◌, Option, Some, None, option_map}
 use Rattle.std.specs.Prelude.{option_and_then}
+use Rattle.std.specs.List.{list_all, slice_split}
 use Rattle.clap.specs.Words.{Row, Text, first_of}
 use Rattle.edi_moment.specs.Moment.{last_moment}
+use Rattle.gs1_ids.specs.Prefix.{is_prefix}
 use Rattle.hub_texts.specs.Number.{number_in}
 
 -- the moment that they write
@@ -36,6 +38,14 @@ values_given (name ∷ names) rows =
 abbrev pub in_lines : List Text → Text
 in_lines [] = []
 in_lines (text ∷ texts) = text ++ 0x0A ∷ in_lines texts
+
+-- the parts of a text between its commas
+abbrev pub parts_of : Text → List Text
+parts_of text = slice_split (λ byte. nat_eq byte 0x2C) text
+
+-- the prefixes that a text lists with commas between them, where each part is one
+abbrev pub prefixes_of : Text → Option (List Text)
+prefixes_of text = if list_all is_prefix (parts_of text) then Some (parts_of text) else None
 
 -- what was found fits, and where nothing was found nothing fits
 abbrev pub Finds : {X : Type 0} → (X → Type 0) → Option X → Type 0

@@ -43,8 +43,7 @@ with_choices shape (choice ∷ choices) = with_choices (with_option shape (rule_
 -- the options of every command over a hub, and more
 abbrev pub over_a_hub : Text → List Rule → Shape
 over_a_hub name more = with_options name (
-    wanted (codes "register") ∷ wanted (codes "db") ∷ wanted (codes "as") ∷ wanted (codes "key")
-    ∷ offered (codes "moment") ∷ more)
+    wanted (codes "db") ∷ wanted (codes "as") ∷ wanted (codes "key") ∷ offered (codes "moment") ∷ more)
 
 abbrev pub check : Shape
 check = with_options (codes "check") (wanted (codes "register") ∷ [])
@@ -55,6 +54,13 @@ relay = with_options (codes "relay") (
 
 abbrev pub show : Shape
 show = with_options (codes "show") []
+
+abbrev pub init : Shape
+init = with_options (codes "init") (wanted (codes "register") ∷ wanted (codes "db") ∷ [])
+
+abbrev pub join : Shape
+join = over_a_hub (codes "join") (
+    wanted (codes "supplier") ∷ wanted (codes "supplier-key") ∷ wanted (codes "prefixes") ∷ [])
 
 abbrev pub import : Shape
 import = over_a_hub (codes "import") (wanted (codes "folder") ∷ [])
@@ -72,8 +78,7 @@ cancel = over_a_hub (codes "cancel") (
 
 abbrev pub serve : Shape
 serve = with_options (codes "serve") (
-    wanted (codes "register") ∷ wanted (codes "db") ∷ wanted (codes "port") ∷ wanted (codes "count")
-    ∷ offered (codes "moment") ∷ [])
+    wanted (codes "db") ∷ wanted (codes "port") ∷ wanted (codes "count") ∷ offered (codes "moment") ∷ [])
 
 -- the program before its commands, of which it wants one
 abbrev pub bare : App
@@ -86,7 +91,7 @@ bare = record {
 abbrev pub edihub : App
 edihub = record {
   top = record bare.top { is_leaf = false };
-  subs = check ∷ relay ∷ show ∷ import ∷ status ∷ mail ∷ cancel ∷ serve ∷ [];
+  subs = check ∷ relay ∷ show ∷ init ∷ join ∷ import ∷ status ∷ mail ∷ cancel ∷ serve ∷ [];
 }
 
 -- a command of this shape, with no subcommand and no option for all levels

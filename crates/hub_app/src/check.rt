@@ -1,6 +1,6 @@
 //! `edihub check`: what the text of a register is.
 
-ghost use Rattle.std.specs.Prelude.{◌≡◌, ◌≢◌, ◌⊎◌, true, codes, string_bytes, IfOk, IfSome};
+ghost use Rattle.std.specs.Prelude.{◌≡◌, ◌≢◌, ◌⊎◌, Ok, Err, true, codes, string_bytes, IfOk, IfSome};
 ghost use Rattle.std.specs.Io.KnownBytes.{Appends, Keeps};
 ghost use Rattle.edi_base.specs.Buffer.{AppendsFront};
 ghost use Rattle.edi_base.specs.Source.{TakesAtMost};
@@ -76,11 +76,37 @@ pub fn read_register_text<R: Source>(alloc: Global, input: &mut R) -> Result<Str
     }
 }
 
-// What a text is, as it is reported.
-#[derive(Drop)]
-struct Verdict {
-    line: String,
-    status: u8,
+/// What is told of a register or of a founding: a line, and the exit status.
+#[derive(Debug, Drop)]
+pub struct Verdict {
+    /// The line, with its line end.
+    pub line: String,
+    /// The exit status.
+    pub status: u8,
+}
+
+impl Verdict {
+    /// Of a register: `ok N suppliers`, with status 0.
+    pub fn ok(alloc: Global, register: &Register) -> Result<Verdict, MemoryFault>
+        ensures line { IfOk result (λ verdict. string_bytes verdict.line ≡ verdict_line (Ok register.now)) }
+        ensures status { IfOk result (λ verdict. verdict.status ≡ verdict_status (Ok register.now)) }
+    {
+        let count = register.supplier_count();
+        let line = format!(in alloc; "ok {count} suppliers\n")?;
+        Ok(Verdict { line, status: DONE })
+    }
+
+    /// Of a register's fault: `fault` and its name, with status 1.
+    pub fn of_fault(alloc: Global, fault: RegisterFault) -> Result<Verdict, MemoryFault>
+        ensures line { IfOk result (λ verdict. string_bytes verdict.line ≡ verdict_line (Err fault)) }
+        ensures status { IfOk result (λ verdict. verdict.status ≡ verdict_status (Err fault)) }
+    {
+        let line = format!(in alloc; "fault {fault}\n")?;
+        Ok(Verdict {
+            line,
+            status: REFUSED,
+        })
+    }
 }
 
 // What the text of a register is.
@@ -89,20 +115,28 @@ fn verdict_of(alloc: Global, text: &str) -> Result<Verdict, MemoryFault>
     ensures status { IfOk result (λ verdict. verdict.status ≡ verdict_status (register_of text.now)) }
 {
     match Register::from_toml(alloc, text) {
-        Ok(register) => {
-            let count = register.supplier_count();
-            let line = format!(in alloc; "ok {count} suppliers\n")?;
-            Ok(Verdict { line, status: DONE })
-        }
+        Ok(register) => Verdict::ok(alloc, &register),
         Err(RegisterFault::Memory) => Err(AllocError),
-        Err(fault) => {
-            let line = format!(in alloc; "fault {fault}\n")?;
-            Ok(Verdict {
-                line,
-                status: REFUSED,
-            })
-        }
+        Err(fault) => Verdict::of_fault(alloc, fault),
     }
+}
+
+/// Writes a verdict to `out`. Answers its exit status; or 3 where the write failed, with the line `file` on `err`.
+pub fn print_verdict<W: Sink, E: Sink>(verdict: &Verdict, out: &mut W, err: &mut E) -> u8
+    ensures told { ((result ≡ verdict.now.status)
+        × (W.failed out.new ≡ W.failed out.old)
+        × Appends (W.contents out.old) (W.contents out.new) (string_bytes verdict.now.line)
+        × Keeps (E.contents err.old) (E.contents err.new))
+        ⊎ ((result ≡ 3)
+        × (W.failed out.new ≡ true)
+        × AppendsFront (W.contents out.old) (W.contents out.new) (string_bytes verdict.now.line)
+        × Tells (E.contents err.old) (E.contents err.new) (E.failed err.new) (codes "file\n")) }
+{
+    if write_bytes(verdict.line.as_bytes(), out).is_ok() {
+        return verdict.status;
+    }
+    tell(b"file\n", err);
+    FAILED
 }
 
 /// Judges the text of a register and writes one line to `out`: `ok N suppliers`, or `fault` and the fault. Answers the
@@ -125,9 +159,5 @@ pub fn check_run<W: Sink, E: Sink>(alloc: Global, text: &str, out: &mut W, err: 
         tell(b"memory\n", err);
         return FAILED;
     };
-    if write_bytes(verdict.line.as_bytes(), out).is_ok() {
-        return verdict.status;
-    }
-    tell(b"file\n", err);
-    FAILED
+    print_verdict(&verdict, out, err)
 }

@@ -1,14 +1,17 @@
 //! The values of options.
 
-ghost use Rattle.std.specs.Prelude.{◌≡◌, map, option_map, IfOk};
+ghost use Rattle.std.specs.Prelude.{◌≡◌, map, option_map, if◌then◌else◌, IfOk, Some, None};
+ghost use Rattle.std.specs.List.{list_all};
 ghost use Rattle.clap.specs.Words.{first_of, found_of, rows_of};
 ghost use Rattle.gs1_ids.specs.Gln.{gln_of};
+ghost use Rattle.gs1_ids.specs.Prefix.{is_prefix};
 ghost use Rattle.hub_texts.specs.Number.{number_in};
 ghost use Rattle.hub_app.specs.Options as spec;
+ghost use Rattle.hub_app.specs.Options.{parts_of};
 
 use clap::ArgMatches;
 use edi_envelope::Moment;
-use gs1_ids::Gln;
+use gs1_ids::{Gln, Prefix};
 use hub_texts::number_of;
 use std::alloc::{AllocError, Global};
 
@@ -62,6 +65,36 @@ pub(crate) fn gln(text: &str) -> Option<Gln>
     ensures { result ≡ gln_of text.now }
 {
     Gln::parse(text.as_bytes())
+}
+
+// The parts of a text between its commas.
+fn parts<'a>(alloc: Global, text: &'a str) -> Result<Vec<&'a str>, AllocError>
+    ensures { IfOk result (λ parts. map (λ part. part.now) parts.items ≡ parts_of text.now) }
+{
+    text.split(',').collect(alloc)
+}
+
+// The prefixes that texts are, where each is one.
+fn prefixes_in(alloc: Global, texts: &[&str]) -> Result<Option<Vec<Prefix>>, AllocError>
+    ensures { IfOk result (λ found. option_map (λ prefixes. prefixes.items) found
+        ≡ if list_all is_prefix (map (λ text. text.now) texts.now) then Some (map (λ text. text.now) texts.now) else None) }
+{
+    let mut prefixes = Vec::new(alloc);
+    for text in texts {
+        let Some(prefix) = Prefix::parse(text.as_bytes()) else {
+            return Ok(None);
+        };
+        prefixes.push(prefix)?;
+    }
+    Ok(Some(prefixes))
+}
+
+/// The prefixes that are listed with commas between them, where each is one.
+pub(crate) fn prefixes(alloc: Global, text: &str) -> Result<Option<Vec<Prefix>>, AllocError>
+    ensures { IfOk result (λ found. option_map (λ prefixes. prefixes.items) found ≡ spec.prefixes_of text.now) }
+{
+    let parts = parts(alloc, text)?;
+    prefixes_in(alloc, parts.as_slice())
 }
 
 /// Texts in lines, each ended by a line feed.

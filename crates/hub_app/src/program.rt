@@ -3,7 +3,7 @@
 ghost use Rattle.std.specs.Prelude.{◌≡◌, [], false, IfOk};
 ghost use Rattle.clap.specs.Words.{App, Shape, app_of, rule_of, with_subcommand};
 ghost use Rattle.hub_app.specs.Program.{wanted, offered, rule_of_choice, with_choices, with_options, over_a_hub, IsCommand};
-ghost use Rattle.hub_app.specs.Program.{bare, check, relay, show, import, status, mail, cancel, serve, edihub};
+ghost use Rattle.hub_app.specs.Program.{bare, check, relay, show, init, join, import, status, mail, cancel, serve, edihub};
 
 use clap::{Arg, ArgAction, Command};
 use std::alloc::{AllocError, Global};
@@ -175,19 +175,44 @@ fn show_command<'a>(alloc: Global) -> Result<Command<'a>, AllocError>
     named(alloc, "show", SHOW, SHOW_HELP)
 }
 
-static HUB_OPTIONS: [Choice; 5] = [
+const INIT: &str = "Founds a hub: makes its database, with the parties of a register";
+
+const INIT_HELP: &str =
+    "The register is a TOML file, as 'edihub check --help' shows it. A database that is not there is made, and
+only its owner may read and write it, since it holds all keys.
+
+  edihub init --register register.toml --db hub.db
+
+prints, once all of it is in the database:
+
+  ok 2 suppliers
+
+From then on the database holds the register, and no command but 'join' changes it. A database that is
+founded is not founded again: that is 'store version'.
+
+It prints the first fault of the register, as 'edihub check' does. Then no database is made.
+
+Exit status: 0 founded; 1 the register has a fault; 2 usage error; 3 a file or the database failed, or out of memory";
+
+static INIT_OPTIONS: [Choice; 2] = [
     Choice::Wanted("register", "FILE", "The register, a TOML file"),
-    Choice::Wanted(
-        "db",
-        "FILE",
-        "The hub's database; a new one is made where there is none",
-    ),
+    Choice::Wanted("db", "FILE", "The hub's database, which is made"),
+];
+
+fn init_command<'a>(alloc: Global) -> Result<Command<'a>, AllocError>
+    ensures { IfOk result (IsCommand init) }
+{
+    choosing(named(alloc, "init", INIT, INIT_HELP), alloc, &INIT_OPTIONS)
+}
+
+static HUB_OPTIONS: [Choice; 4] = [
+    Choice::Wanted("db", "FILE", "The hub's database, which 'init' made"),
     Choice::Wanted(
         "as",
         "GLN",
         "GLN of the retailer or supplier who asks, 13 digits",
     ),
-    Choice::Wanted("key", "KEY", "Its key, as the register has it"),
+    Choice::Wanted("key", "KEY", "Its key, as the hub has it"),
     Choice::Offered(
         "moment",
         "SECONDS",
@@ -207,13 +232,53 @@ fn hub_command<'a>(
     choosing(named(alloc, name, about, help), alloc, &HUB_OPTIONS)
 }
 
+const JOIN: &str = "Lets a supplier into a hub that was founded";
+
+const JOIN_HELP: &str =
+    "The retailer alone lets a supplier in, with its key and its 1 to 8 company prefixes:
+
+  edihub join --db hub.db --as 5412345000013 --key retail-key \\
+    --supplier 7612345000008 --supplier-key gamma-key-1 --prefixes 7612345,7612346
+
+It prints 'accepted', and from then on the supplier may send and be sent messages; or 'refused' with the code:
+
+  B18  the GLN is the hub's, the retailer's or a supplier's
+  B19  a prefix begins one of another supplier, or is begun by it
+  B20  1000 suppliers are in the hub
+
+Exit status: 0 accepted; 1 refused or denied; 2 usage error; 3 a file or the database failed, the hub stopped, or out of memory";
+
+static JOIN_OPTIONS: [Choice; 3] = [
+    Choice::Wanted("supplier", "GLN", "GLN of the supplier, 13 digits"),
+    Choice::Wanted(
+        "supplier-key",
+        "KEY",
+        "The key that the supplier gets, 8 to 64 visible ASCII characters",
+    ),
+    Choice::Wanted(
+        "prefixes",
+        "P,P,..",
+        "The supplier's company prefixes: 1 to 8, each of 4 to 12 digits",
+    ),
+];
+
+fn join_command<'a>(alloc: Global) -> Result<Command<'a>, AllocError>
+    ensures { IfOk result (IsCommand join) }
+{
+    choosing(
+        hub_command(alloc, "join", JOIN, JOIN_HELP),
+        alloc,
+        &JOIN_OPTIONS,
+    )
+}
+
 const IMPORT: &str = "Uploads the interchanges in a folder, and prints what becomes of each";
 
 const IMPORT_HELP: &str =
     "The plain files of the folder are uploaded in the order of their names' bytes, and stay where they
 are. A file has at most 1048576 bytes.
 
-  edihub import --register register.toml --db hub.db --as 5412345000013 --key retail-key --folder out
+  edihub import --db hub.db --as 5412345000013 --key retail-key --folder out
 
 prints for each file its name and the hub's reply, which has a line for each message:
 
@@ -224,7 +289,7 @@ prints for each file its name and the hub's reply, which has a line for each mes
 A message that comes again is 'repeated'. One that is not taken is 'refused' with its code, as
 '1 ORDERS refused B01', and so is a whole interchange, as 'refused E12'.
 
-Exit status: 0 all is accepted or repeated; 1 something is refused or denied, or the register has a fault; 2 usage error; 3 a file or the database failed, the hub stopped, or out of memory";
+Exit status: 0 all is accepted or repeated; 1 something is refused or denied; 2 usage error; 3 a file or the database failed, the hub stopped, or out of memory";
 
 static IMPORT_OPTIONS: [Choice; 1] = [Choice::Wanted(
     "folder",
@@ -247,16 +312,16 @@ const REPORT: &str = "Prints the order lines and pallets of a supplier";
 const REPORT_HELP: &str =
     "A supplier asks for its own report, the retailer names the supplier with --of:
 
-  edihub status --register register.toml --db hub.db --as 4012345500004 --key alpha-key-1
-  edihub status --register register.toml --db hub.db --as 5412345000013 --key retail-key --of 4012345500004
+  edihub status --db hub.db --as 4012345500004 --key alpha-key-1
+  edihub status --db hub.db --as 5412345000013 --key retail-key --of 4012345500004
 
 It prints a line L for each order line: order number, line number, GTIN, the answer's letter, and what is
 ordered, open, refused, cancelled and despatched; then a line P for each article on a pallet: SSCC, GTIN, A
 for announced or R for received, what is despatched, accepted, returned and destroyed, and the difference;
-and last 'end'. Where it is 'denied', caller and key are not together in the register or the other side asks
+and last 'end'. Where it is 'denied', caller and key are not those of a party of the hub, or the other side asks
 this; where it is 'unknown', there is no such supplier.
 
-Exit status: 0 done; 1 denied or unknown, or the register has a fault; 2 usage error; 3 a file or the database failed, the hub stopped, or out of memory";
+Exit status: 0 done; 1 denied or unknown; 2 usage error; 3 a file or the database failed, the hub stopped, or out of memory";
 
 static STATUS_OPTIONS: [Choice; 1] = [Choice::Offered(
     "of",
@@ -278,19 +343,19 @@ const MAIL: &str = "Lists a supplier's mailbox, prints an entry of it, or marks 
 
 const MAIL_HELP: &str = "A supplier works through its mailbox in three steps:
 
-  edihub mail --register register.toml --db hub.db --as 4012345500004 --key alpha-key-1 --do after --n 0
-  edihub mail --register register.toml --db hub.db --as 4012345500004 --key alpha-key-1 --do item --n 1
-  edihub mail --register register.toml --db hub.db --as 4012345500004 --key alpha-key-1 --do taken --n 1
+  edihub mail --db hub.db --as 4012345500004 --key alpha-key-1 --do after --n 0
+  edihub mail --db hub.db --as 4012345500004 --key alpha-key-1 --do item --n 1
+  edihub mail --db hub.db --as 4012345500004 --key alpha-key-1 --do taken --n 1
 
   after  lists the entries above number N that are not taken, at most 100: number, type, document number;
          then 'more' where there are further ones, else 'end'
   item   prints the entry of number N, an interchange in one line without a line end
   taken  marks the entry of number N, and prints 'taken'
 
-It prints 'denied' where caller and key are not together in the register, and 'unknown' where there is no
+It prints 'denied' where caller and key are not those of a party of the hub, and 'unknown' where there is no
 such entry.
 
-Exit status: 0 done; 1 denied or unknown, or the register has a fault; 2 usage error; 3 a file or the database failed, the hub stopped, or out of memory";
+Exit status: 0 done; 1 denied or unknown; 2 usage error; 3 a file or the database failed, the hub stopped, or out of memory";
 
 static MAIL_OPTIONS: [Choice; 2] = [
     Choice::Wanted("do", "WHAT", "What to do: after, item or taken"),
@@ -311,13 +376,13 @@ const CANCEL: &str = "Cancels a quantity of an order line that is still open";
 
 const CANCEL_HELP: &str = "The retailer cancels 10 pieces of line 1 of order 128576:
 
-  edihub cancel --register register.toml --db hub.db --as 5412345000013 --key retail-key \\
+  edihub cancel --db hub.db --as 5412345000013 --key retail-key \\
     --supplier 4012345500004 --reference C1 --order 128576 --line 1 --quantity 10
 
 It prints 'accepted', 'repeated' where this cancellation was accepted before, or 'refused' with the code, as
 'refused B17' where less than that is open.
 
-Exit status: 0 accepted or repeated; 1 refused or denied, or the register has a fault; 2 usage error; 3 a file or the database failed, the hub stopped, or out of memory";
+Exit status: 0 accepted or repeated; 1 refused or denied; 2 usage error; 3 a file or the database failed, the hub stopped, or out of memory";
 
 static CANCEL_OPTIONS: [Choice; 5] = [
     Choice::Wanted("supplier", "GLN", "GLN of the supplier, 13 digits"),
@@ -351,7 +416,7 @@ const SERVE_HELP: &str =
     "The program listens on 127.0.0.1 alone: who asks from elsewhere comes through a reverse proxy, which has the
 name and TLS. It serves as many connections as it is told, and ends; whoever supervises it begins it anew.
 
-  edihub serve --register register.toml --db hub.db --port 8080 --count 100000
+  edihub serve --db hub.db --port 8080 --count 100000
 
 prints, once it listens, and then of each connection its number and the status that was answered:
 
@@ -367,15 +432,10 @@ A request to the hub as it runs, and its answer:
 
   curl -H 'X-Hub-Key: alpha-key-1' http://127.0.0.1:8080/p/4012345500004/mail/after/0
 
-Exit status: 0 all connections were answered 200; 1 one was not, or the register has a fault; 2 usage error; 3 a connection failed or was answered 503, a file or the database failed, the port cannot be listened on, or out of memory";
+Exit status: 0 all connections were answered 200; 1 one was not; 2 usage error; 3 a connection failed or was answered 503, a file or the database failed, the port cannot be listened on, or out of memory";
 
-static SERVE_OPTIONS: [Choice; 5] = [
-    Choice::Wanted("register", "FILE", "The register, a TOML file"),
-    Choice::Wanted(
-        "db",
-        "FILE",
-        "The hub's database; a new one is made where there is none",
-    ),
+static SERVE_OPTIONS: [Choice; 4] = [
+    Choice::Wanted("db", "FILE", "The hub's database, which 'init' made"),
     Choice::Wanted("port", "N", "Port to listen on, 1 to 65535"),
     Choice::Wanted("count", "N", "How many connections to serve, 1 to 1000000"),
     Choice::Offered(
@@ -431,6 +491,8 @@ pub(crate) fn program<'a>(alloc: Global) -> Result<Command<'a>, AllocError>
     let program = commanding(program, check_command(alloc));
     let program = commanding(program, relay_command(alloc));
     let program = commanding(program, show_command(alloc));
+    let program = commanding(program, init_command(alloc));
+    let program = commanding(program, join_command(alloc));
     let program = commanding(program, import_command(alloc));
     let program = commanding(program, status_command(alloc));
     let program = commanding(program, mail_command(alloc));

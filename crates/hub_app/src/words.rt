@@ -7,17 +7,17 @@ ghost use Rattle.hub_app.specs.Options.{Finds, if_given, moment_of, values_given
 ghost use Rattle.edi_relay.specs.Relay.{AreRelayWords};
 ghost use Rattle.hub_texts.specs.Cancel as body;
 ghost use Rattle.hub_app.specs.Words.{cancel_options, texts_of, AreWords, Asks, IsAsker, AreHubWords, IsOverHub};
-ghost use Rattle.hub_app.specs.Words.{IsRelay, IsServe, IsTask, Names, Refuses, Say};
+ghost use Rattle.hub_app.specs.Words.{IsInit, IsRelay, IsServe, IsTask, Names, Refuses, Say, join_in, join_options, texts_of_join};
 ghost use Rattle.hub_app.specs.Program.{edihub};
 
-use crate::options::{count, gln, in_lines, moment, number, port, text};
+use crate::options::{count, gln, in_lines, moment, number, port, prefixes, text};
 use crate::program::program;
 use clap::error::ErrorKind;
 use clap::{ArgMatches, Command, Error};
 use edi_envelope::Moment;
 use edi_relay::RelayWords;
 use gs1_ids::Gln;
-use hub_rules::Cancel;
+use hub_rules::{Cancel, Join};
 use hub_texts::read_cancel;
 use std::alloc::{AllocError, Global};
 use std::convert::AsStr;
@@ -28,6 +28,15 @@ use std::fmt;
 pub struct CheckWords<'a> {
     /// The path of the register's file.
     pub register: &'a str,
+}
+
+/// What `init` is asked for.
+#[derive(Debug, Drop)]
+pub struct InitWords<'a> {
+    /// The path of the register's file.
+    pub register: &'a str,
+    /// The path of the database's file.
+    pub db: &'a str,
 }
 
 /// What is asked of a hub. Numbers of mailbox entries have at most 14 digits.
@@ -45,13 +54,13 @@ pub enum HubTask<'a> {
     MailTaken(u64),
     /// To cancel a quantity of an order line.
     Cancel(Cancel),
+    /// To let a supplier in.
+    Join(Join),
 }
 
 /// What a command over a hub is asked for. `Debug` does not show the key.
 #[derive(Drop)]
 pub struct HubWords<'a> {
-    /// The path of the register's file.
-    pub register: &'a str,
     /// The path of the database's file.
     pub db: &'a str,
     /// Who asks.
@@ -76,7 +85,6 @@ impl fmt::Debug for UnshownKey {
 impl fmt::Debug for HubWords<'_> {
     fn fmt<W: fmt::Write>(&self, f: &mut fmt::Formatter<W>) -> fmt::Result {
         f.debug_struct("HubWords")
-            .field("register", &self.register)
             .field("db", &self.db)
             .field("caller", &self.caller)
             .field("key", &UnshownKey)
@@ -89,8 +97,6 @@ impl fmt::Debug for HubWords<'_> {
 /// What `serve` is asked for.
 #[derive(Debug, Drop)]
 pub struct ServeWords<'a> {
-    /// The path of the register's file.
-    pub register: &'a str,
     /// The path of the database's file.
     pub db: &'a str,
     /// The port to listen on, 1 to 65,535.
@@ -107,6 +113,7 @@ pub enum Words<'a> {
     Check(CheckWords<'a>),
     Relay(RelayWords),
     Show,
+    Init(InitWords<'a>),
     Hub(HubWords<'a>),
     Serve(ServeWords<'a>),
 }
@@ -245,6 +252,50 @@ fn cancel_task<'a>(
     }
 }
 
+// The texts of a join.
+#[derive(Drop)]
+struct JoinTexts<'a> {
+    supplier: &'a str,
+    key: &'a str,
+    prefixes: &'a str,
+}
+
+fn join_texts<'a>(options: &ArgMatches<'a>) -> Option<JoinTexts<'a>>
+    ensures { option_map texts_of_join result ≡ values_given join_options (rows_of (found_of options.now)) }
+{
+    Some(JoinTexts {
+        supplier: text(options, "supplier")?,
+        key: text(options, "supplier-key")?,
+        prefixes: text(options, "prefixes")?,
+    })
+}
+
+// The join that has these texts.
+fn join_of(alloc: Global, texts: &JoinTexts<'_>) -> Result<Option<Join>, AllocError>
+    ensures { IfOk result (λ found. found ≡ join_in (texts_of_join texts.now)) }
+{
+    let Some(supplier) = gln(texts.supplier) else {
+        return Ok(None);
+    };
+    match prefixes(alloc, texts.prefixes)? {
+        Some(prefixes) => Join::new(alloc, supplier, texts.key.as_bytes(), prefixes.as_slice()),
+        None => Ok(None),
+    }
+}
+
+// What `join` asks.
+fn join_task<'a>(alloc: Global, options: &ArgMatches<'_>) -> Result<Option<HubTask<'a>>, AllocError>
+    ensures { IfOk result (Finds (IsTask (codes "join") (rows_of (found_of options.now)))) }
+{
+    let Some(texts) = join_texts(options) else {
+        return Ok(None);
+    };
+    match join_of(alloc, &texts)? {
+        Some(join) => Ok(Some(HubTask::Join(join))),
+        None => Ok(None),
+    }
+}
+
 // What a command over a hub asks.
 fn task<'a>(
     alloc: Global,
@@ -258,6 +309,7 @@ fn task<'a>(
         "status" => Ok(status_task(options)),
         "mail" => Ok(mail_task(options)),
         "cancel" => cancel_task(alloc, options),
+        "join" => join_task(alloc, options),
         _ => Ok(None),
     }
 }
@@ -275,7 +327,6 @@ fn named_moment(options: &ArgMatches<'_>) -> Option<Option<Moment>>
 // With what a hub is asked, whatever is asked.
 #[derive(Clone, Copy)]
 struct Asker<'a> {
-    register: &'a str,
     db: &'a str,
     caller: Gln,
     key: &'a str,
@@ -286,7 +337,6 @@ fn asker_in<'a>(options: &ArgMatches<'a>) -> Option<Asker<'a>>
     ensures { Finds (IsAsker (rows_of (found_of options.now))) result }
 {
     Some(Asker {
-        register: text(options, "register")?,
         db: text(options, "db")?,
         caller: gln(text(options, "as")?)?,
         key: text(options, "key")?,
@@ -303,7 +353,6 @@ fn hub_words<'a>(options: &ArgMatches<'a>, task: HubTask<'a>) -> Option<HubWords
         return None;
     };
     Some(HubWords {
-        register: asker.register,
         db: asker.db,
         caller: asker.caller,
         key: asker.key,
@@ -312,12 +361,21 @@ fn hub_words<'a>(options: &ArgMatches<'a>, task: HubTask<'a>) -> Option<HubWords
     })
 }
 
+// The options of `init`.
+fn init_words<'a>(options: &ArgMatches<'a>) -> Option<InitWords<'a>>
+    ensures { Finds (IsInit (rows_of (found_of options.now))) result }
+{
+    Some(InitWords {
+        register: text(options, "register")?,
+        db: text(options, "db")?,
+    })
+}
+
 // The options of `serve`, where each is within its limits.
 fn serve_words<'a>(options: &ArgMatches<'a>) -> Option<ServeWords<'a>>
     ensures { Finds (IsServe (rows_of (found_of options.now))) result }
 {
     Some(ServeWords {
-        register: text(options, "register")?,
         db: text(options, "db")?,
         port: port(text(options, "port")?)?,
         count: count(text(options, "count")?)?,
@@ -362,6 +420,10 @@ fn command_words<'a>(
             None => Ok(None),
         },
         "show" => Ok(Some(Words::Show)),
+        "init" => match init_words(options) {
+            Some(words) => Ok(Some(Words::Init(words))),
+            None => Ok(None),
+        },
         "serve" => match serve_words(options) {
             Some(words) => Ok(Some(Words::Serve(words))),
             None => Ok(None),
@@ -382,6 +444,9 @@ const MAIL_LIMITS: &str =
 const CANCEL_LIMITS: &str =
     "a GLN is 13 digits with a right check digit, --moment is 0 to 4102444799, --reference is 1 to 14 and --order 1 to 35 printable ASCII characters, --line is 1 to 999999, and --quantity is 1 to 999999999";
 
+const JOIN_LIMITS: &str =
+    "a GLN is 13 digits with a right check digit, --moment is 0 to 4102444799, --supplier-key is 8 to 64 visible ASCII characters, and --prefixes are 1 to 8 different ones of 4 to 12 digits, with commas between them";
+
 const SERVE_LIMITS: &str =
     "--port is 1 to 65535, --count is 1 to 1000000, and --moment is 0 to 4102444799";
 
@@ -391,6 +456,7 @@ fn limits(command: Option<&str>) -> &'static str {
         Some("relay") => RELAY_LIMITS,
         Some("mail") => MAIL_LIMITS,
         Some("cancel") => CANCEL_LIMITS,
+        Some("join") => JOIN_LIMITS,
         Some("serve") => SERVE_LIMITS,
         _ => HUB_LIMITS,
     }

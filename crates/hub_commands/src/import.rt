@@ -1,11 +1,10 @@
 //! An import of files.
 ghost use Rattle.std.specs.Prelude.{◌≡◌, ◌≢◌, Err, IfOk, IfErr};
-ghost use Rattle.hub_core.specs.Steps.{Stepped, Ran, input_of};
+ghost use Rattle.hub_core.specs.Steps.{SoundWith, Stepped, Ran, input_of};
 ghost use Rattle.hub_commands.specs.Files.{OpensSource, FaultComesOf, HasFailed};
 ghost use Rattle.hub_commands.specs.Import.{Imported};
 ghost use Rattle.hub_commands.specs.OneFile.{FaultComes, LooksAt, ReplyComes};
 ghost use Rattle.hub_law.specs.declared.request.Request.TheVariants.{Upload};
-ghost use Rattle.hub_rules.specs.Sound.{Sound};
 
 use crate::files::{Files, NamedFile, NextFile};
 use crate::print::{print, print_file_line};
@@ -97,11 +96,13 @@ fn import_file<S: Store, B: Source + Drop, W: Sink>(
     out: &mut W,
 ) -> Result<u8, Ended>
     ensures looks_at { LooksAt B.remaining (HasFailed B.origin B.failed)
-        (λ bytes reply. S.honest hub.new.1 → Sound hub.old.0.suppliers (S.content hub.old.1) →
-        Stepped hub.old.0 (S.content hub.old.1) (S.content hub.new.1) (S.left hub.old.1) (S.left hub.new.1)
+        (λ bytes reply. S.honest hub.new.1 → SoundWith hub.old.0 (S.content hub.old.1) →
+        Stepped (S.content hub.old.1) (S.content hub.new.1) (S.left hub.old.1) (S.left hub.new.1)
         (input_of moment caller.now key.now (Upload bytes)) reply)
         (hub.new ≡ hub.old) file (W.contents out.old) (W.contents out.new) (W.failed out.old) (W.failed out.new)
         result }
+    ensures held { S.honest hub.new.1 → SoundWith hub.old.0 (S.content hub.old.1) →
+        SoundWith hub.new.0 (S.content hub.new.1) }
     ensures register { hub.new.0 ≡ hub.old.0 }
     ensures was_honest { S.honest hub.new.1 → S.honest hub.old.1 }
 {
@@ -139,10 +140,12 @@ pub fn import_run<S: Store, F: Files, W: Sink>(
     out: &mut W,
 ) -> u8
     ensures imported { Imported F.Bytes.remaining (HasFailed F.Bytes.origin F.Bytes.failed)
-        (λ inputs replies. S.honest hub.new.1 → Sound hub.old.0.suppliers (S.content hub.old.1) →
-        Ran hub.old.0 (S.content hub.old.1) (S.content hub.new.1) (S.left hub.old.1) (S.left hub.new.1) inputs replies)
+        (λ inputs replies. S.honest hub.new.1 → SoundWith hub.old.0 (S.content hub.old.1) →
+        Ran (S.content hub.old.1) (S.content hub.new.1) (S.left hub.old.1) (S.left hub.new.1) inputs replies)
         (λ bytes. input_of moment caller.now key.now (Upload bytes)) (F.remaining files.old)
         (F.remaining files.new) (W.contents out.old) (W.contents out.new) (W.failed out.old) (W.failed out.new) result }
+    ensures held { S.honest hub.new.1 → SoundWith hub.old.0 (S.content hub.old.1) →
+        SoundWith hub.new.0 (S.content hub.new.1) }
     ensures register { hub.new.0 ≡ hub.old.0 }
     ensures was_honest { S.honest hub.new.1 → S.honest hub.old.1 }
 {

@@ -2,7 +2,6 @@
 use Rattle.std.proofs.Common.{◌≡◌, inl, inr, ℕ, zero, suc, ◌<◌, ◌≤◌, nat_lt, Bool, true, false, List, [], ◌∷◌, ◌++◌, length}
 use Rattle.std.proofs.Common.{map, slice_get, take, if◌then◌else◌, Some, refl, sym, ap, ◌∙◌, arith}
 use Rattle.std.proofs.lemmas.Bool.Decides.{nat_tests}
-use Rattle.hub_parties.specs.Rows.{RegisterRows}
 use Rattle.hub_tables.specs.Tables.{Tables}
 use Rattle.hub_law.specs.Again.{Reaches}
 use Rattle.hub_law.specs.Machine.{Inputs, shared_step, shared_run}
@@ -17,21 +16,21 @@ use Rattle.hub_law.specs.declared.request.Input.{Input}
 use Rattle.hub_core.specs.Laws.{TellsOf}
 
 -- the reply at a place of a run
-reply_there : (register : RegisterRows) (t : Tables) (before : Inputs) (input : Input) (mark : Mark) (later : Inputs)
-    → slice_get (shared_run register t (before ++ (input, mark) ∷ later)).0 (length before)
-    ≡ Some (shared_step register (shared_run register t before).1 input mark).0
-reply_there register t [] input mark later = refl
-reply_there register t (x ∷ before) input mark later = reply_there register (shared_step register t x.0 x.1).1 before input mark later
+reply_there : (t : Tables) (before : Inputs) (input : Input) (mark : Mark) (later : Inputs)
+    → slice_get (shared_run t (before ++ (input, mark) ∷ later)).0 (length before)
+    ≡ Some (shared_step (shared_run t before).1 input mark).0
+reply_there t [] input mark later = refl
+reply_there t (x ∷ before) input mark later = reply_there (shared_step t x.0 x.1).1 before input mark later
 
-pub reply_at : (register : RegisterRows) (t after : Tables) (marked before later : Inputs) (input : Input) (mark : Mark)
+pub reply_at : (t after : Tables) (marked before later : Inputs) (input : Input) (mark : Mark)
     (replies : List Reply)
-    → shared_run register t marked ≡ (replies, after)
+    → shared_run t marked ≡ (replies, after)
     → marked ≡ before ++ (input, mark) ∷ later
-    → slice_get replies (length before) ≡ Some (shared_step register (shared_run register t before).1 input mark).0
-reply_at register t after marked before later input mark replies is e =
+    → slice_get replies (length before) ≡ Some (shared_step (shared_run t before).1 input mark).0
+reply_at t after marked before later input mark replies is e =
     sym (ap (λ (r : List Reply × Tables). slice_get r.0 (length before)) is)
-    ∙ ap (λ xs. slice_get (shared_run register t xs).0 (length before)) e
-    ∙ reply_there register t before input mark later
+    ∙ ap (λ xs. slice_get (shared_run t xs).0 (length before)) e
+    ∙ reply_there t before input mark later
 
 no_more : {X : Type 0} (k : ℕ) (xs : List X) → length (take k xs) ≤ k
 no_more zero xs = omega arith
@@ -56,14 +55,14 @@ told_each upload moment t =
     ∙ map_length (λ message. (message, incoming moment upload.interchange message)) upload.interchange.messages
 
 -- what the reply to an upload that is looked at tells of a message that it reaches
-module _ (register : RegisterRows) (t : Tables) (input : Input) (upload : Upload) (place : ℕ) (what : Told)
+module _ (t : Tables) (input : Input) (upload : Upload) (place : ℕ) (what : Told)
     (there : slice_get (all_acts upload input.moment t).0 place ≡ Some what) where
   tells_cut : (k : ℕ) (below : Bool) → nat_lt k (length upload.interchange.messages) ≡ below
       → (k < length upload.interchange.messages
-      → shared_step register t input (StoppedAfter k)
+      → shared_step t input (StoppedAfter k)
       ≡ (reply_behind k upload.interchange (all_acts upload input.moment t).0, (first_acts k upload input.moment t).1))
       → place < length (take (if below then k else 0) (messages_at input.moment upload.interchange))
-      → TellsOf upload.interchange place what (shared_step register t input (StoppedAfter k)).0
+      → TellsOf upload.interchange place what (shared_step t input (StoppedAfter k)).0
   tells_cut k true e cut reached = record {
     told = (all_acts upload input.moment t).0;
     each = told_each upload input.moment t;
@@ -78,12 +77,12 @@ module _ (register : RegisterRows) (t : Tables) (input : Input) (upload : Upload
   tells_cut k false e cut reached = absurd (omega arith)
 
   pub tells : (mark : Mark)
-      → shared_step register t input Whole ≡ replied_by (whole_reply upload.interchange) (all_acts upload input.moment t)
+      → shared_step t input Whole ≡ replied_by (whole_reply upload.interchange) (all_acts upload input.moment t)
       → ((k : ℕ)
       → k < length upload.interchange.messages
-      → shared_step register t input (StoppedAfter k)
+      → shared_step t input (StoppedAfter k)
       ≡ (reply_behind k upload.interchange (all_acts upload input.moment t).0, (first_acts k upload input.moment t).1))
-      → Reaches mark input upload place → TellsOf upload.interchange place what (shared_step register t input mark).0
+      → Reaches mark input upload place → TellsOf upload.interchange place what (shared_step t input mark).0
   tells Whole whole cut reached = record {
     told = (all_acts upload input.moment t).0;
     each = told_each upload input.moment t;

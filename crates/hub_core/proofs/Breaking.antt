@@ -66,6 +66,17 @@ module _ (plain : Bool) (does : Does) (old : Option LastingFault) where
   }
   by_call cause new (Err fault) fails = failed plain cause no_answer old new fault fails
 
+  -- it was asked, by a call that a broken store answers only where no row is in the answer
+  pub by_answer : (cause : Type 0) (new : Option LastingFault) (result : Result Reply StoreFault)
+      → FailsWith plain cause (OfNoRow does) old new result
+      → BreaksAsked plain does old new result
+  by_answer cause new (Ok reply) fails = record {
+    after = inl fails.after;
+    again = where_both old fails.again fails.again (λ of_none _. inr of_none);
+    over_plain = λ p. (fails.only_memory p).0;
+  }
+  by_answer cause new (Err fault) fails = failed plain cause (OfNoRow does) old new fault fails
+
   -- it was stopped
   pub stopped_by : (new : Option LastingFault) (reply : Reply)
       → ((new ≡ old) ⊎ (old ≡ None)) × (IsTrue plain → new ≡ old)
@@ -108,6 +119,25 @@ opened_breaks plain register (Supplier s) moment bytes upload old new result is 
     subst (λ (opened : Opened). BreaksAsked plain
     (λ mark t. uploaded (delivered register (Supplier s)) moment mark (addressed_by register (Supplier s) opened) t) old new result)
     (sym is) breaks
+
+-- A register that moved while the store was whole: what is said of a broken one is said under that after it.
+module _ (plain : Bool) (before after : RegisterRows) (inputs : List Input) (replies : List Reply) (input : Input) (reply : Reply) where
+  pub moved : (old middle : Option LastingFault)
+      → IfSome middle (λ _. after ≡ before)
+      → RunBreaks plain before old middle inputs replies
+      → RunBreaks plain after old middle inputs replies
+  moved old (Some fault) same run =
+      subst (λ (r : RegisterRows). RunBreaks plain r old (Some fault) inputs replies) (sym same) run
+  moved None None same run = record { after = inl refl; again = tt; over_plain = λ p. refl }
+  moved (Some fault) None same run = elim run.after [ inl e ↦ absurd (cc) | inr e ↦ absurd (cc) ]
+
+  pub moved_one : (middle new : Option LastingFault)
+      → IfSome middle (λ _. after ≡ before)
+      → Breaks plain (does_input before input) middle new reply
+      → Breaks plain (does_input after input) middle new reply
+  moved_one (Some fault) new same one =
+      subst (λ (r : RegisterRows). Breaks plain (does_input r input) (Some fault) new reply) (sym same) one
+  moved_one None new same one = record { after = one.after; again = tt; over_plain = one.over_plain }
 
 -- A run.
 module _ (register : RegisterRows) where

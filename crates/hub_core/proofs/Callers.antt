@@ -3,10 +3,13 @@ use Rattle.std.proofs.Common.{◌≡◌, ℕ, List, Some, Result, Ok, Err, sym, 
 use Rattle.hub_parties.specs.Rows.{RegisterRows, row_of}
 use Rattle.hub_parties.specs.declared.role.Role.TheVariants as roles
 use Rattle.hub_rules.proofs.Prefixes.{gln_found}
-use Rattle.hub_rules.specs.Laws.{SoundHub}
+use Rattle.hub_rules.specs.Laws.{SoundUnder, PartiesRise}
+use Rattle.hub_tables.specs.Register.{register_of}
 use Rattle.hub_tables.specs.Tables.{Tables}
 use Rattle.hub_store.specs.declared.fault.StoreFault.{StoreFault}
-use Rattle.hub_law.specs.Machine.{shared_step, step_as}
+use Rattle.hub_tables.specs.Sets.{Rising}
+use Rattle.hub_law.proofs.Agreeing.{sound_rises}
+use Rattle.hub_law.specs.Machine.{step_under, step_as}
 use Rattle.hub_law.specs.Mark.{Mark}
 use Rattle.hub_law.specs.Opening.{Opened, interchange_in}
 use Rattle.hub_law.specs.Requests.{uploaded}
@@ -16,7 +19,7 @@ use Rattle.hub_law.specs.declared.request.Input.{Input}
 use Rattle.hub_law.specs.declared.request.Request.TheVariants.{Upload}
 use Rattle.hub_acts.specs.Acts.{Carried, Unharmed}
 use Rattle.hub_core.specs.Callers.{delivered, addressed_by, MayDeliver, IsCaller, acts_by, request_of}
-use Rattle.hub_core.specs.Steps.{Does, Asked, acts_of}
+use Rattle.hub_core.specs.Steps.{Does, Asked, SoundWith, acts_of}
 use Rattle.hub_core.specs.declared.caller.Caller.{Caller}
 use Rattle.hub_core.specs.declared.caller.Caller.TheVariants.{Retailer, Supplier}
 
@@ -52,22 +55,38 @@ opened_asked content honest left old new register (Supplier s) moment bytes uplo
     (λ mark t. uploaded (delivered register (Supplier s)) moment mark (addressed_by register (Supplier s) opened) t) result) (sym is)
     (asked may)
 
+pub parties_rise : (t : Tables) → Rising t → PartiesRise t
+parties_rise t rising = record { hubs = rising.hubs; keys = rising.keys; prefixes = rising.prefixes }
+
+-- what one act asks of the tables
+pub delivers : (register : RegisterRows) (t : Tables) → SoundWith register t → SoundUnder register.suppliers t × PartiesRise t
+delivers register t here =
+    let under : SoundUnder (register_of t).suppliers t =
+    record { free = here.sound.register.right.prefixes_free; sound = here.sound.sound } in (
+      subst (λ (r : RegisterRows). SoundUnder r.suppliers t) (sym here.held) under,
+      parties_rise t (sound_rises t here.sound),
+    )
+
 module _ (register : RegisterRows) (input : Input) where
   abbrev pub Known : Caller → Type 0
   Known caller = IsCaller register input.caller input.key caller
 
-  may : (t : Tables) (caller : Caller) → Known caller → SoundHub register.suppliers t → MayDeliver register caller t
-  may t Retailer known hub = hub
-  may t (Supplier s) known hub = record {
-    free = hub.free;
-    known = ap (row_of register) (gln_found register.suppliers input.caller s.now known.1) ∙ known.1;
-    sound = hub.sound;
-  }
+  pub may : (t : Tables) (caller : Caller) → Known caller → SoundWith register t → MayDeliver register caller t
+  may t Retailer known here = delivers register t here
+  may t (Supplier s) known here =
+      let deliver = delivers register t here in (
+        record {
+          free = deliver.0.free;
+          known = ap (row_of register) (gln_found register.suppliers input.caller s.now known.1) ∙ known.1;
+          sound = deliver.0.sound;
+        },
+        deliver.1,
+      )
 
   pub step_is : (caller : Caller)
       → Known caller
       → (mark : Mark) (t : Tables)
-      → request_of register caller input.moment input.request mark t ≡ shared_step register t input mark
+      → request_of register caller input.moment input.request mark t ≡ step_under register t input mark
   step_is Retailer known mark t = sym (ap (λ role. step_as register role (row_of register input.caller) input mark t) known)
   step_is (Supplier s) known mark t =
       sym (ap (λ role. step_as register role (row_of register input.caller) input mark t) known.0
@@ -85,9 +104,9 @@ module _ (register : RegisterRows) (input : Input) where
       → (MayDeliver register caller (content old)
       → Asked content honest left old new (acts_by register caller input.request)
       (request_of register caller input.moment input.request) result)
-      → SoundHub register.suppliers (content old)
+      → SoundWith register (content old)
       → Asked content honest left old new (acts_of (upload_of register input))
-      (λ mark t. shared_step register t input mark) result
+      (λ mark t. step_under register t input mark) result
   asked_as content honest left old new caller result known asked hub =
       subst (λ (does : Does). Asked content honest left old new (acts_of (upload_of register input)) does result)
       (λ i mark t. step_is caller known mark t i)

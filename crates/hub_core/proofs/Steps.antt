@@ -1,74 +1,122 @@
 -- What a step and a run did is what the laws say of the machine.
-use Rattle.std.proofs.Common.{◌≡◌, ◌≢◌, ◌↔◌, inl, inr, ℕ, List, [], ◌∷◌, ◌++◌, length, map, Option, Some, refl, sym, ap, subst}
+use Rattle.std.proofs.Common.{◌≡◌, ◌≢◌, ◌↔◌, inl, inr, ℕ, zero, suc, ◌+◌, drop, List, [], ◌∷◌, ◌++◌, length, map, Option, Some, refl, sym, ap, subst}
 use Rattle.std.proofs.Common.{◌∙◌, append_assoc}
 use Rattle.std.specs.Prelude.{slice_get, Result, Ok, Err, IfOk, OnErr, IsErr}
+use Rattle.std.specs.List.{AllByRecursion}
 use Rattle.std.proofs.lemmas.Bool.{false≢true}
 use Rattle.std.specs.Option.{unwrap_or}
-use Rattle.hub_parties.specs.Rows.{RegisterRows, supplier_row}
-use Rattle.hub_parties.specs.declared.row.SupplierRow.{SupplierRow}
+use Rattle.hub_parties.specs.Rows.{RegisterRows}
+use Rattle.hub_tables.specs.Register.{register_of, parties_in}
 use Rattle.hub_tables.specs.Tables.{Tables, view}
 use Rattle.hub_store.specs.declared.fault.StoreFault.{StoreFault}
-use Rattle.hub_rules.specs.Laws.{SoundHub, Registered}
-use Rattle.hub_rules.specs.Sound.{Sound}
+use Rattle.hub_rules.specs.Laws.{SoundHub}
 use Rattle.hub_law.specs.Alone.{items}
-use Rattle.hub_law.specs.Laws.{StepIsOwn, RunIsOwn, AsksStatus, alone, reply_between}
-use Rattle.hub_law.specs.Machine.{Inputs, shared_step, shared_run, replies_to}
+use Rattle.hub_law.specs.Laws.{StepIsOwn, RunIsOwn, IsOther, AsksStatus, alone, own_report, reply_between}
+use Rattle.hub_law.specs.Machine.{Inputs, step_under, shared_step, shared_run, replies_to}
 use Rattle.hub_law.specs.Mark.{Mark, Whole, StoppedEmpty, StoppedBare}
-use Rattle.hub_law.specs.Replies.{done, reply, stopped, stopped_line}
-use Rattle.hub_law.specs.StatusText.{status_text}
+use Rattle.hub_law.specs.Replies.{reply, stopped, stopped_line}
 use Rattle.hub_law.specs.Stops.{upload_of}
 use Rattle.hub_law.specs.declared.reply.Outcome.TheVariants.{Stopped}
 use Rattle.hub_law.specs.declared.reply.Reply.{Reply}
 use Rattle.hub_law.specs.declared.request.Input.{Input}
-use Rattle.hub_core.specs.Steps.{OneMore, LeavesOf, Answered, Asked, Stepped, RunAlone, StoppedSince, RunLeaves, StopsTold}
-use Rattle.hub_core.specs.Steps.{LinesBalance, Ran, acts_of}
+use Rattle.hub_core.specs.Steps.{OneMore, Leaves, LeavesOf, Answered, Asked, Stepped, RunAlone, StoppedSince, RunLeaves, StopsTold}
+use Rattle.hub_core.specs.Steps.{Does, LinesBalance, Ran, SoundWith, acts_of}
 
-module _ (register : RegisterRows)
-    (own : (s : SupplierRow) (t : Tables) (input : Input) (mark : Mark)
-    → Registered register.suppliers s t
-    → StepIsOwn register s t input mark)
-    (stays : (t : Tables) (input : Input) (mark : Mark)
-    → SoundHub register.suppliers t
-    → Sound register.suppliers (shared_step register t input mark).1)
-    (stops : (t : Tables) (input : Input) (mark : Mark) → ((shared_step register t input mark).0.outcome ≡ Stopped) ↔ (mark ≢ Whole))
-    (statuses : (s : SupplierRow) (t : Tables) (before later : Inputs) (input : Input)
-    → Registered register.suppliers s t
-    → AsksStatus register s input
-    → reply_between register t before input later ≡ Some (done (status_text (alone register s (items s.gln register before) t).1)))
-    (balance : (t : Tables) → Sound register.suppliers t → LinesBalance t) where
+-- what a request does to the tables to which it comes is all that is said of it
+module _ (count : ℕ) (does same : Does) (t : Tables) (agree : (mark : Mark) → does mark t ≡ same mark t) where
+  pub leaves_as : (mark : Mark) (after : Tables) (before : Tables → Type 0) (u : Tables)
+      → Leaves count does t mark after before u
+      → Leaves count same t mark after before u
+  leaves_as mark after before u (inl e) = inl e
+  leaves_as mark after before u (inr (inl e)) = inr (inl e)
+  leaves_as mark after before u (inr (inr more)) = inr (inr (record {
+    more = more.more;
+    one = more.one;
+    is = sym (ap (λ (r : Reply × Tables). r.1) (agree more.more)) ∙ more.is;
+  }))
+
+pub asked_same : {S : Type 0} (content : S → Tables) (honest : S → Type 0) (left : S → Tables → Type 0) (old new : S) (count : ℕ)
+    (does same : Does) (result : Result Reply StoreFault)
+    → ((mark : Mark) → does mark (content old) ≡ same mark (content old))
+    → Asked content honest left old new count does result
+    → Asked content honest left old new count same result
+asked_same content honest left old new count does same (Ok answer) agree asked = record {
+  answered = λ h. let a = asked.answered h in record {
+    mark = a.mark;
+    is = sym (agree a.mark) ∙ a.is;
+    kept = λ u l. leaves_as count does same (content old) agree a.mark (content new) (left old) u (a.kept u l);
+  };
+  undone = λ h. tt;
+}
+asked_same content honest left old new count does same (Err fault) agree asked = record {
+  answered = λ h. tt;
+  undone = λ h. let a = asked.undone h in record {
+    same = a.same;
+    kept = λ u l. elim (a.kept u l) [
+      | inl e ↦ inl e
+      | inr more ↦ inr (record {
+        more = more.more;
+        one = more.one;
+        is = sym (ap (λ (r : Reply × Tables). r.1) (agree more.more)) ∙ more.is;
+      })
+    ];
+  };
+}
+
+-- under the register that the tables hold
+pub asked_with : {S : Type 0} (content : S → Tables) (honest : S → Type 0) (left : S → Tables → Type 0) (old new : S)
+    (register : RegisterRows) (input : Input) (result : Result Reply StoreFault)
+    → SoundWith register (content old)
+    → Asked content honest left old new (acts_of (upload_of register input)) (λ mark t. step_under register t input mark) result
+    → Asked content honest left old new (acts_of (upload_of (register_of (content old)) input)) (λ mark t. shared_step t input mark) result
+asked_with content honest left old new register input result here asked =
+    subst (λ (r : RegisterRows). Asked content honest left old new (acts_of (upload_of r input)) (λ mark t. shared_step t input mark) result)
+    here.held
+    (asked_same content honest left old new (acts_of (upload_of register input)) (λ mark t. step_under register t input mark)
+    (λ mark t. shared_step t input mark) result (λ mark. ap (λ (r : RegisterRows). step_under r (content old) input mark) here.held) asked)
+
+module _ (own : (gln : List ℕ) (t : Tables) (input : Input) (mark : Mark) → SoundHub t → IsOther gln t → StepIsOwn gln t input mark)
+    (stays : (t : Tables) (input : Input) (mark : Mark) → SoundHub t → SoundHub (shared_step t input mark).1)
+    (parties : (t : Tables) (inputs : Inputs) → SoundHub t → parties_in (shared_run t inputs).1 ≡ parties_in t)
+    (stops : (t : Tables) (input : Input) (mark : Mark) → ((shared_step t input mark).0.outcome ≡ Stopped) ↔ (mark ≢ Whole))
+    (statuses : (gln : List ℕ) (t : Tables) (before later : Inputs) (input : Input)
+    → SoundHub t
+    → IsOther gln t
+    → AsksStatus gln t input
+    → reply_between t before input later ≡ Some (own_report gln (alone gln (items gln t before) t).1))
+    (balance : (t : Tables) → SoundHub t → LinesBalance t) where
   -- what a crash leaves after an input is sound
   kept_sound : (t after : Tables) (before left : Tables → Type 0) (input : Input) (mark : Mark)
-      → SoundHub register.suppliers t → Sound register.suppliers after → ((u : Tables) → before u → Sound register.suppliers u)
-      → (u : Tables) → LeavesOf register t input mark after before u → Sound register.suppliers u
-  kept_sound t after before left input mark hub sound were u (inl e) = subst (λ (u : Tables). Sound register.suppliers u) (sym e) sound
+      → SoundHub t
+      → SoundHub after
+      → ((u : Tables) → before u → SoundHub u)
+      → (u : Tables) → LeavesOf t input mark after before u → SoundHub u
+  kept_sound t after before left input mark hub sound were u (inl e) = subst SoundHub (sym e) sound
   kept_sound t after before left input mark hub sound were u (inr (inl e)) = were u e.1
-  kept_sound t after before left input mark hub sound were u (inr (inr more)) =
-      subst (λ (u : Tables). Sound register.suppliers u) more.is (stays t input more.more hub)
+  kept_sound t after before left input mark hub sound were u (inr (inr more)) = subst SoundHub more.is (stays t input more.more hub)
 
   pub stepped : {S : Type 0} (content : S → Tables) (left : S → Tables → Type 0) (old new : S) (input : Input) (reply : Reply)
-      → SoundHub register.suppliers (content old)
-      → Answered content left old new (acts_of (upload_of register input)) (λ mark t. shared_step register t input mark) reply
-      → Stepped register (content old) (content new) (left old) (left new) input reply
+      → SoundHub (content old)
+      → Answered content left old new (acts_of (upload_of (register_of (content old)) input)) (λ mark t. shared_step t input mark) reply
+      → Stepped (content old) (content new) (left old) (left new) input reply
   stepped content left old new input reply hub a =
       let t = content old in
-      let sound : Sound register.suppliers (content new) =
-      subst (λ (x : Reply × Tables). Sound register.suppliers x.1) a.is (stays t input a.mark hub) in
+      let sound : SoundHub (content new) = subst (λ (x : Reply × Tables). SoundHub x.1) a.is (stays t input a.mark hub) in
       record {
         mark = a.mark;
         is = a.is;
         stop = subst (λ (x : Reply × Tables). (x.0.outcome ≡ Stopped) ↔ (a.mark ≢ Whole)) a.is (stops t input a.mark);
         sound = sound;
+        parties = sym (ap (λ (x : Reply × Tables). parties_in x.1) a.is) ∙ parties t ((input, a.mark) ∷ []) hub;
         balance = balance (content new) sound;
         alone =
-            λ s known. let law : StepIsOwn register s t input a.mark =
-            own s t input a.mark (record { free = hub.free; known = known; sound = hub.sound }) in record {
-              seen = sym (ap (λ (x : Reply × Tables). view s.gln x.1) a.is) ∙ law.seen;
+            λ gln other. let law : StepIsOwn gln t input a.mark = own gln t input a.mark hub other in record {
+              seen = sym (ap (λ (x : Reply × Tables). view gln x.1) a.is) ∙ law.seen;
               told = λ called. law.told called ∙ ap (λ (x : Reply × Tables). x.0 ∷ []) a.is;
               status = λ asks whole.
-                  let one : (shared_step register t input Whole).0 ≡ done (status_text (view s.gln t)) =
-                  ap (λ (given : Option Reply). unwrap_or given reply)
-                  (statuses s t [] [] input (record { free = hub.free; known = known; sound = hub.sound }) asks) in
-                  sym (ap (λ (x : Reply × Tables). x.0) a.is) ∙ ap (λ mark. (shared_step register t input mark).0) whole ∙ one;
+                  let one : (shared_step t input Whole).0 ≡ own_report gln (view gln t) =
+                  ap (λ (given : Option Reply). unwrap_or given reply) (statuses gln t [] [] input hub other asks) in
+                  sym (ap (λ (x : Reply × Tables). x.0) a.is) ∙ ap (λ mark. (shared_step t input mark).0) whole ∙ one;
             };
         kept = a.kept;
         kept_sound = λ were u l. kept_sound t (content new) (left old) (left new) input a.mark hub sound were u (a.kept u l);
@@ -77,16 +125,17 @@ module _ (register : RegisterRows)
   -- the reply to what was asked: that it was stopped, where memory or the store gave out
   pub replied : {S : Type 0} (content : S → Tables) (honest : S → Type 0) (left : S → Tables → Type 0) (old new : S)
       (input : Input) (answered : Result Reply StoreFault) (body : List ℕ) (given : Reply)
-      → ((t : Tables) → shared_step register t input StoppedBare ≡ (stopped, t))
+      → ((t : Tables) → shared_step t input StoppedBare ≡ (stopped, t))
       → body ≡ stopped_line
       → IfOk answered (λ reply. given ≡ reply)
       → OnErr answered (given ≡ reply Stopped body)
       → honest new
-      → SoundHub register.suppliers (content old)
-      → Asked content honest left old new (acts_of (upload_of register input)) (λ mark t. shared_step register t input mark) answered
-      → Stepped register (content old) (content new) (left old) (left new) input given
+      → SoundHub (content old)
+      → Asked content honest left old new (acts_of (upload_of (register_of (content old)) input))
+      (λ mark t. shared_step t input mark) answered
+      → Stepped (content old) (content new) (left old) (left new) input given
   replied content honest left old new input (Ok answer) body given bare says ok err h hub asked =
-      subst (λ (given : Reply). Stepped register (content old) (content new) (left old) (left new) input given) (sym ok)
+      subst (λ (given : Reply). Stepped (content old) (content new) (left old) (left new) input given) (sym ok)
       (stepped content left old new input answer hub (asked.answered h))
   replied content honest left old new input (Err fault) body given bare says ok err h hub asked =
       let undone = asked.undone h in
@@ -101,15 +150,24 @@ module _ (register : RegisterRows)
 
   -- the empty reply, where there is no memory to say so
   pub unanswered : {S : Type 0} (content : S → Tables) (left : S → Tables → Type 0) (store : S) (input : Input) (given : Reply)
-      → ((t : Tables) → shared_step register t input StoppedEmpty ≡ (reply Stopped [], t))
+      → ((t : Tables) → shared_step t input StoppedEmpty ≡ (reply Stopped [], t))
       → given ≡ reply Stopped []
-      → SoundHub register.suppliers (content store)
-      → Stepped register (content store) (content store) (left store) (left store) input given
+      → SoundHub (content store)
+      → Stepped (content store) (content store) (left store) (left store) input given
   unanswered content left store input given empty is hub = stepped content left store store input given hub (record {
     mark = StoppedEmpty;
     is = empty (content store) ∙ ap (λ (reply : Reply). (reply, content store)) (sym is);
     kept = λ u l. inr (inl (refl, l));
   })
+
+-- a fact of one of a list, where it holds of all
+pub all_at : (P : Input → Type 0) (xs : List Input) (i : ℕ) (x : Input) → AllByRecursion P xs → drop i xs ≡ x ∷ drop (i + 1) xs → P x
+all_at P xs i x all is = (subst (AllByRecursion P) is (all_drop i xs all)).0
+  where
+    all_drop : (i : ℕ) (xs : List Input) → AllByRecursion P xs → AllByRecursion P (drop i xs)
+    all_drop zero xs all = all
+    all_drop (suc i) [] all = tt
+    all_drop (suc i) (x ∷ xs) all = all_drop i xs all.1
 
 -- a fact where a call failed
 pub where_err : {X E P : Type 0} (r : Result X E) → IsErr r → OnErr r P → P
@@ -117,17 +175,17 @@ where_err (Ok x) e p = absurd (false≢true e)
 where_err (Err fault) e p = p
 
 -- a run, and one input more
-run_more : (register : RegisterRows) (t : Tables) (inputs : Inputs) (input : Input) (mark : Mark)
-    → shared_run register t (inputs ++ (input, mark) ∷ [])
+run_more : (t : Tables) (inputs : Inputs) (input : Input) (mark : Mark)
+    → shared_run t (inputs ++ (input, mark) ∷ [])
     ≡ (
-      (shared_run register t inputs).0
-          ++ (shared_step register (shared_run register t inputs).1 input mark).0 ∷ [],
-      (shared_step register (shared_run register t inputs).1 input mark).1,
+      (shared_run t inputs).0
+          ++ (shared_step (shared_run t inputs).1 input mark).0 ∷ [],
+      (shared_step (shared_run t inputs).1 input mark).1,
     )
-run_more register t [] input mark = refl
-run_more register t (x ∷ inputs) input mark =
-    ap (λ (r : List Reply × Tables). ((shared_step register t x.0 x.1).0 ∷ r.0, r.1))
-    (run_more register (shared_step register t x.0 x.1).1 inputs input mark)
+run_more t [] input mark = refl
+run_more t (x ∷ inputs) input mark =
+    ap (λ (r : List Reply × Tables). ((shared_step t x.0 x.1).0 ∷ r.0, r.1))
+    (run_more (shared_step t x.0 x.1).1 inputs input mark)
 
 firsts_more : (marked : Inputs) (x : Input) (mark : Mark)
     → map (λ (x : Input × Mark). x.0) (marked ++ (x, mark) ∷ []) ≡ map (λ (x : Input × Mark). x.0) marked ++ x ∷ []
@@ -141,34 +199,35 @@ stops_more [] (r ∷ replies) x mark reply told one = absurd told
 stops_more (y ∷ marked) [] x mark reply told one = absurd told
 stops_more (y ∷ marked) (r ∷ replies) x mark reply told one = (told.0, stops_more marked replies x mark reply told.1 one)
 
-module _ (register : RegisterRows)
-    (own : (s : SupplierRow) (t : Tables) (inputs : Inputs) → Registered register.suppliers s t → RunIsOwn register s t inputs)
-    (statuses : (s : SupplierRow) (t : Tables) (before later : Inputs) (input : Input)
-    → Registered register.suppliers s t
-    → AsksStatus register s input
-    → reply_between register t before input later ≡ Some (done (status_text (alone register s (items s.gln register before) t).1))) where
+module _ (own : (gln : List ℕ) (t : Tables) (inputs : Inputs) → SoundHub t → IsOther gln t → RunIsOwn gln t inputs)
+    (statuses : (gln : List ℕ) (t : Tables) (before later : Inputs) (input : Input)
+    → SoundHub t
+    → IsOther gln t
+    → AsksStatus gln t input
+    → reply_between t before input later ≡ Some (own_report gln (alone gln (items gln t before) t).1)) where
   run_alone : (t after : Tables) (marked : Inputs) (replies : List Reply)
-      → SoundHub register.suppliers t
-      → shared_run register t marked ≡ (replies, after)
-      → (s : SupplierRow) → supplier_row register.suppliers s.gln ≡ Some s → RunAlone register s t after marked replies
-  run_alone t after marked replies hub is s known =
-      let law : RunIsOwn register s t marked = own s t marked (record { free = hub.free; known = known; sound = hub.sound }) in record {
-        seen = sym (ap (λ (x : List Reply × Tables). view s.gln x.1) is) ∙ law.seen;
-        told = sym (ap (λ (x : List Reply × Tables). replies_to s.gln marked x.0) is) ∙ law.told;
+      → SoundHub t
+      → shared_run t marked ≡ (replies, after)
+      → (gln : List ℕ) → IsOther gln t → RunAlone gln t after marked replies
+  run_alone t after marked replies hub is gln other =
+      let law : RunIsOwn gln t marked = own gln t marked hub other in record {
+        seen = sym (ap (λ (x : List Reply × Tables). view gln x.1) is) ∙ law.seen;
+        told = sym (ap (λ (x : List Reply × Tables). replies_to gln marked x.0) is) ∙ law.told;
         status = λ earlier later input e asks.
             sym (ap (λ (x : List Reply × Tables). slice_get x.0 (length earlier)) is)
-            ∙ ap (λ xs. slice_get (shared_run register t xs).0 (length earlier)) e
-            ∙ statuses s t earlier later input (record { free = hub.free; known = known; sound = hub.sound }) asks;
+            ∙ ap (λ xs. slice_get (shared_run t xs).0 (length earlier)) e
+            ∙ statuses gln t earlier later input hub other asks;
       }
 
-  pub ran_none : (t : Tables) (left : Tables → Type 0) → SoundHub register.suppliers t → LinesBalance t → Ran register t t left left [] []
+  pub ran_none : (t : Tables) (left : Tables → Type 0) → SoundHub t → LinesBalance t → Ran t t left left [] []
   ran_none t left hub balance = record {
     run = record {
       marked = [];
       are = refl;
       is = refl;
       stops = tt;
-      sound = hub.sound;
+      sound = hub;
+      parties = refl;
       balance = balance;
       alone = run_alone t t [] [] hub refl;
     };
@@ -177,9 +236,9 @@ module _ (register : RegisterRows)
   }
 
   since_more : (t middle after : Tables) (marked : Inputs) (x : Input) (mark : Mark) (u : Tables)
-      → (shared_step register middle x mark).1 ≡ after
+      → (shared_step middle x mark).1 ≡ after
       → after ≡ middle
-      → StoppedSince register t middle marked u → StoppedSince register t after (marked ++ (x, mark) ∷ []) u
+      → StoppedSince t middle marked u → StoppedSince t after (marked ++ (x, mark) ∷ []) u
   since_more t middle after marked x mark u is same s = record {
     earlier = s.earlier;
     input = s.input;
@@ -191,9 +250,9 @@ module _ (register : RegisterRows)
   }
 
   kept_more : (t middle after : Tables) (before left then : Tables → Type 0) (marked : Inputs) (x : Input) (mark : Mark)
-      → (shared_run register t marked).1 ≡ middle → (shared_step register middle x mark).1 ≡ after
-      → ((u : Tables) → left u → RunLeaves register t marked middle before u) → (u : Tables) → LeavesOf register middle x mark after left u
-      → RunLeaves register t (marked ++ (x, mark) ∷ []) after before u
+      → (shared_run t marked).1 ≡ middle → (shared_step middle x mark).1 ≡ after
+      → ((u : Tables) → left u → RunLeaves t marked middle before u) → (u : Tables) → LeavesOf middle x mark after left u
+      → RunLeaves t (marked ++ (x, mark) ∷ []) after before u
   kept_more t middle after before left then marked x mark here is kept u (inl e) = inl e
   kept_more t middle after before left then marked x mark here is kept u (inr (inl e)) = elim (kept u e.1) [
     | inl a ↦ inl (a ∙ sym e.0)
@@ -207,24 +266,24 @@ module _ (register : RegisterRows)
     later = [];
     are = refl;
     more =
-        subst (λ (m : Tables). OneMore (acts_of (upload_of register x)) (λ mark t. shared_step register t x mark) m mark u)
+        subst (λ (m : Tables). OneMore (acts_of (upload_of (register_of m) x)) (λ mark t. shared_step t x mark) m mark u)
         (sym here) more;
     since =
-        ap (λ (r : List Reply × Tables). r.1) (run_more register t marked x mark)
-        ∙ ap (λ (m : Tables). (shared_step register m x mark).1) here
+        ap (λ (r : List Reply × Tables). r.1) (run_more t marked x mark)
+        ∙ ap (λ (m : Tables). (shared_step m x mark).1) here
         ∙ is;
   }))
 
   pub ran_more :
       (t middle after : Tables) (before left then : Tables → Type 0) (inputs : List Input) (x : Input) (replies : List Reply)
       (reply : Reply)
-      → SoundHub register.suppliers t → Ran register t middle before left inputs replies → Stepped register middle after left then x reply
-      → Ran register t after before then (inputs ++ x ∷ []) (replies ++ reply ∷ [])
+      → SoundHub t → Ran t middle before left inputs replies → Stepped middle after left then x reply
+      → Ran t after before then (inputs ++ x ∷ []) (replies ++ reply ∷ [])
   ran_more t middle after before left then inputs x replies reply hub before_it s =
       let r = before_it.run in
-      let is : shared_run register t (r.marked ++ (x, s.mark) ∷ []) ≡ (replies ++ reply ∷ [], after) =
-      run_more register t r.marked x s.mark
-      ∙ ap (λ (y : List Reply × Tables). (y.0 ++ (shared_step register y.1 x s.mark).0 ∷ [], (shared_step register y.1 x s.mark).1)) r.is
+      let is : shared_run t (r.marked ++ (x, s.mark) ∷ []) ≡ (replies ++ reply ∷ [], after) =
+      run_more t r.marked x s.mark
+      ∙ ap (λ (y : List Reply × Tables). (y.0 ++ (shared_step y.1 x s.mark).0 ∷ [], (shared_step y.1 x s.mark).1)) r.is
       ∙ ap (λ (y : Reply × Tables). (replies ++ y.0 ∷ [], y.1)) s.is in
       record {
         run = record {
@@ -233,6 +292,7 @@ module _ (register : RegisterRows)
           is = is;
           stops = stops_more r.marked replies x s.mark reply r.stops s.stop;
           sound = s.sound;
+          parties = s.parties ∙ r.parties;
           balance = s.balance;
           alone = run_alone t after (r.marked ++ (x, s.mark) ∷ []) (replies ++ reply ∷ []) hub is;
         };

@@ -5,7 +5,7 @@ use Rattle.hub_parties.specs.Rows.{RegisterRows}
 use Rattle.hub_tables.specs.Tables.{Tables}
 use Rattle.hub_store.specs.declared.fault.LastingFault.{LastingFault}
 use Rattle.hub_store.specs.declared.fault.StoreFault.{StoreFault}
-use Rattle.hub_law.specs.Machine.{shared_step}
+use Rattle.hub_law.specs.Machine.{step_under}
 use Rattle.hub_law.specs.Mark.{Whole}
 use Rattle.hub_law.specs.declared.reply.Outcome.TheVariants.{Stopped}
 use Rattle.hub_law.specs.declared.reply.Reply.{Reply}
@@ -33,9 +33,10 @@ BreaksAsked plain does old new result =
     MatchResult result (Breaks plain does old new)
     (λ _. ((new ≡ old) ⊎ (old ≡ None)) × (IsTrue plain → new ≡ old))
 
--- an input, as the shared machine answers it
+-- An input, as the shared machine answers it under a register. It is that of the hub, and not of the tables: what a
+-- broken store answers is said of all tables.
 abbrev pub does_input : RegisterRows → Input → Does
-does_input register input mark t = shared_step register t input mark
+does_input register input mark t = step_under register t input mark
 
 -- of each input what needs the store is stopped
 abbrev pub AllStopped : RegisterRows → List Input → List Reply → Type 0
@@ -52,8 +53,9 @@ StoppedSinceOne register (input ∷ inputs) [] = ⊥
 StoppedSinceOne register (input ∷ inputs) (reply ∷ replies) =
     ((reply.outcome ≡ Stopped) × AllStopped register inputs replies) ⊎ StoppedSinceOne register inputs replies
 
--- What a run leaves of its store's fault. A broken store stays so, by the same fault, and all that needs it is stopped;
--- one that breaks stops the request at which it does, and then all that needs it; a plain one never breaks.
+-- What a run leaves of its store's fault, under the register after it, since nobody joins over a broken store. A broken
+-- store stays so, by the same fault, and all that needs it is stopped; one that breaks stops the request at which it
+-- does, and then all that needs it; a plain one never breaks.
 pub record RunBreaks (plain : Bool) (register : RegisterRows) (old new : Option LastingFault) (inputs : List Input)
     (replies : List Reply) : Type 0 where
   pub after : (new ≡ old) ⊎ ((old ≡ None) × (IsSome new × StoppedSinceOne register inputs replies))

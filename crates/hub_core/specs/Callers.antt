@@ -4,7 +4,7 @@ use Rattle.edi_envelope.specs.declared.interchange.RawMessage.{RawMessage}
 use Rattle.hub_parties.specs.Rows.{RegisterRows, parties_of, role_of, row_of}
 use Rattle.hub_parties.specs.declared.role.Role.TheVariants as roles
 use Rattle.hub_tables.specs.Tables.{Tables, view}
-use Rattle.hub_rules.specs.Laws.{SoundHub, Registered}
+use Rattle.hub_rules.specs.Laws.{SoundUnder, Registered, PartiesRise}
 use Rattle.hub_rules.specs.declared.incoming.IncomingMessage.{IncomingMessage}
 use Rattle.hub_law.specs.Messages.{deliver_suppliers}
 use Rattle.hub_law.specs.Opening.{Opened, addressed, interchange_in}
@@ -21,10 +21,11 @@ abbrev pub delivered : RegisterRows → Caller → RawMessage × IncomingMessage
 delivered register Retailer = deliver_named register
 delivered register (Supplier s) = deliver_suppliers (view s.now.gln) (parties_of register) s.now
 
--- no prefix of one supplier begins a prefix of another, the tables are sound, and a supplier is registered
+-- no prefix of one supplier begins a prefix of another, the tables are sound and the rows of their register rise, and a
+-- supplier is registered
 abbrev pub MayDeliver : RegisterRows → Caller → Tables → Type 0
-MayDeliver register Retailer t = SoundHub register.suppliers t
-MayDeliver register (Supplier s) t = Registered register.suppliers s.now t
+MayDeliver register Retailer t = SoundUnder register.suppliers t × PartiesRise t
+MayDeliver register (Supplier s) t = Registered register.suppliers s.now t × PartiesRise t
 
 -- it is known so, by a GLN and a key
 abbrev pub IsCaller : RegisterRows → List ℕ → List ℕ → Caller → Type 0

@@ -1,6 +1,7 @@
 pub mod Broken
 pub mod Callers
 pub mod Laws
+pub mod Made
 pub mod Opened
 pub mod Steps
 pub mod Uploads

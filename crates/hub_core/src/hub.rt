@@ -1,14 +1,17 @@
 //! A hub.
-ghost use Rattle.std.specs.Prelude.{◌≡◌, ◌≢◌, ℕ, List, [], ◌∷◌, ◌++◌, IfOk, OnErr, Err};
+ghost use Rattle.std.specs.Prelude.{◌≡◌, ◌≢◌, ℕ, List, [], ◌∷◌, ◌++◌, IfOk, OnErr, Ok, Err, MatchResult};
 ghost use Rattle.edi_envelope.specs.Opened.{opened, Opens};
 ghost use Rattle.hub_parties.specs.Rows.{IsRegister, role_of};
-ghost use Rattle.hub_rules.specs.Sound.{Sound};
+ghost use Rattle.std.specs.List.{AllByRecursion};
+ghost use Rattle.hub_rules.specs.Laws.{SoundHub};
 ghost use Rattle.hub_law.specs.declared.reply.Reply.{Reply};
 ghost use Rattle.hub_law.specs.declared.request.Input.{Input};
 ghost use Rattle.hub_law.specs.declared.request.Request.TheVariants.{Upload};
 ghost use Rattle.hub_core.specs.Broken.{Breaks, RunBreaks, does_input};
 ghost use Rattle.hub_core.specs.Opened.{IsStopped, RanOut};
-ghost use Rattle.hub_core.specs.Steps.{Stepped, Ran, input_of};
+ghost use Rattle.hub_tables.specs.Register.{HoldsRegister};
+ghost use Rattle.hub_core.specs.Made.{Reads};
+ghost use Rattle.hub_core.specs.Steps.{IsNoJoin, SoundWith, Stepped, Ran, input_of};
 
 use crate::step;
 use edi_base::{Items, MemoryFault};
@@ -18,13 +21,13 @@ use gs1_ids::Gln;
 use hub_law::{Input, Reply, Request, each_line_balances, run_is_own};
 use hub_parties::Role;
 use hub_register::Register;
-use hub_store::Store;
+use hub_store::{Store, StoreFault};
 use std::alloc::Global;
 use std::marker::Model;
 
 /// A hub: its register, and the store of its rows. Of the rows it asks nothing, since a file may hold any; what its
-/// calls promise they promise of rows that are sound for the register, as empty ones are, and each call leaves sound
-/// rows so.
+/// calls promise they promise of sound rows that hold its register, as those of a register alone are, and each call
+/// leaves them so.
 #[derive(Drop)]
 pub struct Hub<S: Store> {
     alloc: Global,
@@ -41,14 +44,22 @@ impl<S: Store> Model for Hub<S> {
 }
 
 impl<S: Store> Hub<S> {
-    /// A hub of this register over this store. It takes no memory.
-    pub fn new(alloc: Global, register: Register, store: S) -> Self
-        ensures { result ≡ (register, store) }
+    /// A hub over this store, by the register that its rows hold. Asked of a store whose rows hold one, as those of each
+    /// store do that is founded or opened. With a fault of the store it comes back.
+    pub fn new(alloc: Global, mut store: S) -> Result<Self, (S, StoreFault)>
+        requires { S.honest store → HoldsRegister (S.content store) }
+        ensures reads { MatchResult result
+            (λ hub. Reads S.content S.honest S.left S.broken S.plain store hub.1 (Ok hub.0))
+            (λ back. Reads S.content S.honest S.left S.broken S.plain store back.0 (Err back.1)) }
+        ensures held { IfOk result (λ hub. S.honest hub.1 → SoundHub (S.content store) → SoundWith hub.0 (S.content hub.1)) }
     {
-        Hub {
-            alloc,
-            register,
-            store,
+        match store.register() {
+            Ok(register) => Ok(Hub {
+                alloc,
+                register,
+                store,
+            }),
+            Err(fault) => Err((store, fault)),
         }
     }
 
@@ -64,6 +75,18 @@ impl<S: Store> Hub<S> {
         (register, store)
     }
 
+    /// A hub of a register that is known, over its store: what `into_store` took apart, put together again. It takes no
+    /// memory, and asks the store nothing.
+    pub fn with_register(alloc: Global, register: Register, store: S) -> Self
+        ensures { result ≡ (register, store) }
+    {
+        Hub {
+            alloc,
+            register,
+            store,
+        }
+    }
+
     /// The side of a caller with this GLN and this key, as the register has it. It takes no memory.
     pub fn role(&self, caller: &Gln, key: &[u8]) -> Option<Role>
         ensures { result ≡ role_of self.now.0 caller.now key.now }
@@ -71,7 +94,7 @@ impl<S: Store> Hub<S> {
         self.register.may(caller, key)
     }
 
-    /// A law of the register, which was read of a text: it keeps what every register keeps.
+    /// A law of the register: it keeps what every register keeps.
     pub fn has_a_right_register(&self)
         ensures { IsRegister self.now.0 }
     {
@@ -81,21 +104,23 @@ impl<S: Store> Hub<S> {
     /// Answers a request that comes at a moment of whoever has this GLN and this key.
     ///
     /// Who is not known by the two, or may not ask this, is answered `denied`. Each message of an upload, a
-    /// cancellation and a taken mark is one act, and one commit. Where memory or the store gives out, the reply ends in
-    /// `stopped`, after the lines of what was done; where there is no memory even for that, it is empty and nothing was
-    /// done.
+    /// cancellation, a join and a taken mark is one act, and one commit. A join alone changes the register. Where memory
+    /// or the store gives out, the reply ends in `stopped`, after the lines of what was done; where there is no memory
+    /// even for that, it is empty and nothing was done.
     pub fn step(&mut self, moment: Moment, caller: &Gln, key: &[u8], request: Request) -> Reply
-        ensures stepped { S.honest self.new.1 → Sound self.old.0.suppliers (S.content self.old.1) →
-            Stepped self.old.0 (S.content self.old.1) (S.content self.new.1) (S.left self.old.1) (S.left self.new.1)
+        ensures stepped { S.honest self.new.1 → SoundWith self.old.0 (S.content self.old.1) →
+            Stepped (S.content self.old.1) (S.content self.new.1) (S.left self.old.1) (S.left self.new.1)
             (input_of moment caller.now key.now request) result }
+        ensures held { S.honest self.new.1 → SoundWith self.old.0 (S.content self.old.1) →
+            SoundWith self.new.0 (S.content self.new.1) }
         ensures breaks { Breaks S.plain (does_input self.old.0 (input_of moment caller.now key.now request))
             (S.broken self.old.1) (S.broken self.new.1) result }
-        ensures register { self.new.0 ≡ self.old.0 }
+        ensures register { IsNoJoin request → self.new.0 ≡ self.old.0 }
         ensures was_honest { S.honest self.new.1 → S.honest self.old.1 }
     {
         step::step(
             self.alloc,
-            &self.register,
+            &mut self.register,
             &mut self.store,
             moment,
             caller,
@@ -117,9 +142,12 @@ impl<S: Store> Hub<S> {
     ) -> Reply
         requires read { upload ≢ Err (OpenFault.Token TokenFault.Read) }
         ensures stepped { (bytes : List ℕ) → Opens upload (opened bytes) →
-            S.honest self.new.1 → Sound self.old.0.suppliers (S.content self.old.1) →
-            Stepped self.old.0 (S.content self.old.1) (S.content self.new.1) (S.left self.old.1) (S.left self.new.1)
+            S.honest self.new.1 → SoundWith self.old.0 (S.content self.old.1) →
+            Stepped (S.content self.old.1) (S.content self.new.1) (S.left self.old.1) (S.left self.new.1)
             (input_of moment caller.now key.now (Upload bytes)) result }
+        ensures held { (bytes : List ℕ) → Opens upload (opened bytes) →
+            S.honest self.new.1 → SoundWith self.old.0 (S.content self.old.1) →
+            SoundWith self.new.0 (S.content self.new.1) }
         ensures breaks { (bytes : List ℕ) → Opens upload (opened bytes) →
             Breaks S.plain (does_input self.old.0 (input_of moment caller.now key.now (Upload bytes)))
             (S.broken self.old.1) (S.broken self.new.1) result }
@@ -138,35 +166,35 @@ impl<S: Store> Hub<S> {
         )
     }
 
-    /// A law of runs over this register, for who asks one request after another: no request is a run, and a run and one
-    /// step more are a run.
+    /// A law of runs, for who asks one request after another: no request is a run, and a run and one step more are a run.
     pub fn steps_are_a_run(&self)
-        ensures none { (store : S) → Sound self.now.0.suppliers (S.content store) →
-            Ran self.now.0 (S.content store) (S.content store) (S.left store) (S.left store) [] [] }
+        ensures none { (store : S) → SoundHub (S.content store) →
+            Ran (S.content store) (S.content store) (S.left store) (S.left store) [] [] }
         ensures more { (old between new : S) (inputs : List Input) (replies : List Reply) (input : Input)
-            (reply : Reply) → Sound self.now.0.suppliers (S.content old) →
-            Ran self.now.0 (S.content old) (S.content between) (S.left old) (S.left between) inputs replies →
-            Stepped self.now.0 (S.content between) (S.content new) (S.left between) (S.left new) input reply →
-            Ran self.now.0 (S.content old) (S.content new) (S.left old) (S.left new) (inputs ++ input ∷ [])
+            (reply : Reply) → SoundHub (S.content old) →
+            Ran (S.content old) (S.content between) (S.left old) (S.left between) inputs replies →
+            Stepped (S.content between) (S.content new) (S.left between) (S.left new) input reply →
+            Ran (S.content old) (S.content new) (S.left old) (S.left new) (inputs ++ input ∷ [])
             (replies ++ reply ∷ []) }
     {
         run_is_own();
         each_line_balances();
-        step::prefixes_are_free(&self.register);
     }
 
     /// Answers requests one after another, each as `step` does. Room for the replies is taken before the first: where
     /// it is not found, none was looked at.
     pub fn run(&mut self, inputs: &[Input]) -> Result<Items<Reply>, MemoryFault>
-        ensures ran { S.honest self.new.1 → Sound self.old.0.suppliers (S.content self.old.1) →
-            IfOk result (λ replies. Ran self.old.0 (S.content self.old.1) (S.content self.new.1) (S.left self.old.1)
+        ensures ran { S.honest self.new.1 → SoundWith self.old.0 (S.content self.old.1) →
+            IfOk result (λ replies. Ran (S.content self.old.1) (S.content self.new.1) (S.left self.old.1)
             (S.left self.new.1) inputs.now replies) }
+        ensures held { S.honest self.new.1 → SoundWith self.old.0 (S.content self.old.1) →
+            SoundWith self.new.0 (S.content self.new.1) }
         ensures none { OnErr result (self.new ≡ self.old) }
-        ensures breaks { IfOk result (λ replies. RunBreaks S.plain self.old.0 (S.broken self.old.1) (S.broken self.new.1)
+        ensures breaks { IfOk result (λ replies. RunBreaks S.plain self.new.0 (S.broken self.old.1) (S.broken self.new.1)
             inputs.now replies) }
-        ensures register { self.new.0 ≡ self.old.0 }
+        ensures register { AllByRecursion (λ input. IsNoJoin input.request) inputs.now → self.new.0 ≡ self.old.0 }
         ensures was_honest { S.honest self.new.1 → S.honest self.old.1 }
     {
-        step::run(self.alloc, &self.register, &mut self.store, inputs)
+        step::run(self.alloc, &mut self.register, &mut self.store, inputs)
     }
 }

@@ -1,9 +1,8 @@
 //! Laws of hubs that ran, each the contract of a function that does nothing.
 ghost use Rattle.std.specs.Prelude.{◌≡◌, ℕ, ◌+◌, List, length, slice_get, ◌∷◌, ◌++◌, Some};
 ghost use Rattle.edi_envelope.specs.declared.interchange.RawMessage.{RawMessage};
-ghost use Rattle.hub_parties.specs.Rows.{RegisterRows, row_of};
-ghost use Rattle.hub_parties.specs.declared.row.SupplierRow.{SupplierRow};
 ghost use Rattle.hub_rules.specs.declared.cancel.Cancel.{Cancel};
+ghost use Rattle.hub_tables.specs.Register.{register_of, row_at};
 ghost use Rattle.hub_tables.specs.Sets.{Has};
 ghost use Rattle.hub_tables.specs.Tables.{Tables, view};
 ghost use Rattle.hub_law.specs.Again.{MessageAt, Reaches, AcceptedAt, SameReference, AsksCancel};
@@ -12,7 +11,7 @@ ghost use Rattle.hub_law.specs.Machine.{Inputs, replies_to, shared_run, shared_s
 ghost use Rattle.hub_law.specs.Mark.{Mark, Whole};
 ghost use Rattle.hub_law.specs.Messages.{incoming};
 ghost use Rattle.hub_law.specs.Remembered.{row_of_message};
-ghost use Rattle.hub_law.specs.Replies.{cancel_reply};
+ghost use Rattle.hub_law.specs.Replies.{act_reply};
 ghost use Rattle.hub_law.specs.Requests.{cancel_named};
 ghost use Rattle.hub_law.specs.Stops.{first_acts};
 ghost use Rattle.hub_law.specs.Told.{Accepted, Repeated};
@@ -22,28 +21,28 @@ ghost use Rattle.hub_rules.specs.Laws.{SoundHub};
 ghost use Rattle.hub_core.specs.Laws.{TellsOf};
 ghost use Rattle.hub_core.specs.Steps.{RunBy};
 
-use hub_law::{accepted_stays_remembered, repeated_in_runs, runs_alike, stops_cut_uploads};
+use hub_law::{
+    accepted_stays_remembered, hub_stays_sound, repeated_in_runs, runs_alike, stops_cut_uploads,
+};
 
-/// Two runs, each of a hub and a store of its own, that agree on a supplier are alike for it: it sees the same in the
-/// end, and all replies to it are the same, byte for byte. They agree on its GLN, prefixes and key, on the GLNs of hub
-/// and retailer, on its rows at the start, and on its items. The other suppliers, the retailer's key, all other rows
-/// and all other inputs may differ. And a status of it for which the retailer asks after as many of its items in the
-/// one as in the other is the same.
+/// Two runs, each of a hub and a store of its own, that agree on a GLN are alike for it: it sees the same in the end,
+/// and all replies to it are the same, byte for byte. They agree on the GLNs of hub and retailer, on its rows at the
+/// start, its prefixes and its key among them or that it has none, and on its items. The other suppliers, the
+/// retailer's key, all other rows and all other inputs may differ. And a status of it for which the retailer asks after
+/// as many of its items in the one as in the other is the same.
 pub fn hubs_alike()
-    ensures seen { (s : SupplierRow) (first second : RegisterRows) (t after u later : Tables) (xs ys : List Input)
-        (replies answers : List Reply) (one : RunBy first t after xs replies)
-        (other : RunBy second u later ys answers) →
-        Agree s first second t u one.marked other.marked → view s.gln after ≡ view s.gln later }
-    ensures told { (s : SupplierRow) (first second : RegisterRows) (t after u later : Tables) (xs ys : List Input)
-        (replies answers : List Reply) (one : RunBy first t after xs replies)
-        (other : RunBy second u later ys answers) →
-        Agree s first second t u one.marked other.marked →
-        replies_to s.gln one.marked replies ≡ replies_to s.gln other.marked answers }
-    ensures status { (s : SupplierRow) (first second : RegisterRows) (t after u later : Tables) (xs ys : List Input)
-        (replies answers : List Reply) (one : RunBy first t after xs replies)
-        (other : RunBy second u later ys answers) (xs_before xs_rest ys_before ys_rest : Inputs) (x y : Input) →
+    ensures seen { (gln : List ℕ) (t after u later : Tables) (xs ys : List Input) (replies answers : List Reply)
+        (one : RunBy t after xs replies) (other : RunBy u later ys answers) →
+        Agree gln t u one.marked other.marked → view gln after ≡ view gln later }
+    ensures told { (gln : List ℕ) (t after u later : Tables) (xs ys : List Input) (replies answers : List Reply)
+        (one : RunBy t after xs replies) (other : RunBy u later ys answers) →
+        Agree gln t u one.marked other.marked →
+        replies_to gln one.marked replies ≡ replies_to gln other.marked answers }
+    ensures status { (gln : List ℕ) (t after u later : Tables) (xs ys : List Input) (replies answers : List Reply)
+        (one : RunBy t after xs replies) (other : RunBy u later ys answers) (xs_before xs_rest ys_before ys_rest : Inputs)
+        (x y : Input) →
         one.marked ≡ xs_before ++ (x, Whole) ∷ xs_rest → other.marked ≡ ys_before ++ (y, Whole) ∷ ys_rest →
-        AgreeBefore s first second t u xs_before xs_rest ys_before ys_rest x y →
+        AgreeBefore gln t u xs_before xs_rest ys_before ys_rest x y →
         slice_get replies (length xs_before) ≡ slice_get answers (length ys_before) }
 {
     runs_alike();
@@ -52,14 +51,13 @@ pub fn hubs_alike()
 /// A message that was accepted: the reply of its step tells of it as accepted, and in the tables of the hub it is
 /// remembered, under its references and with its content, after that step and whatever steps and runs follow.
 pub fn accepted_by_steps()
-    ensures told { (register : RegisterRows) (t : Tables) (before : Inputs) (input : Input) (mark : Mark) (place : ℕ)
-        (message : RawMessage) (one : AcceptedAt register t before input mark place message) →
-        TellsOf one.comes.upload.interchange place Accepted
-        (shared_step register (shared_run register t before).1 input mark).0 }
-    ensures remembered { (register : RegisterRows) (t u : Tables) (before between : Inputs) (input : Input) (mark : Mark)
-        (place : ℕ) (message : RawMessage) (one : AcceptedAt register t before input mark place message) →
-        (shared_run register t (before ++ (input, mark) ∷ between)).1 ≡ u →
-        Has u.remembered (row_of_message (row_of register input.caller) message
+    ensures told { (t : Tables) (input : Input) (mark : Mark) (place : ℕ) (message : RawMessage)
+        (one : AcceptedAt t input mark place message) →
+        TellsOf one.comes.upload.interchange place Accepted (shared_step t input mark).0 }
+    ensures remembered { (t u : Tables) (before between : Inputs) (input : Input) (mark : Mark) (place : ℕ)
+        (message : RawMessage) (one : AcceptedAt (shared_run t before).1 input mark place message) →
+        (shared_run t (before ++ (input, mark) ∷ between)).1 ≡ u →
+        Has u.remembered (row_of_message (row_at input.caller (shared_run t before).1) message
         (incoming input.moment one.comes.upload.interchange message)) }
 {
     accepted_stays_remembered();
@@ -70,19 +68,19 @@ pub fn accepted_by_steps()
 /// left of them: each leaves the tables of the machine after some inputs with some marks. A step to which it comes
 /// again, and which is not stopped before it, tells of it as repeated, and its act changes nothing.
 pub fn repeated_by_steps()
-    ensures told { (register : RegisterRows) (t u : Tables) (before between : Inputs) (first second : Input)
-        (mark other_mark : Mark) (place other_place : ℕ) (message : RawMessage)
-        (one : AcceptedAt register t before first mark place message)
-        (other : MessageAt register second other_place message) →
-        (shared_run register t (before ++ (first, mark) ∷ between)).1 ≡ u →
+    ensures told { (t u : Tables) (before between : Inputs) (first second : Input) (mark other_mark : Mark)
+        (place other_place : ℕ) (message : RawMessage)
+        (one : AcceptedAt (shared_run t before).1 first mark place message)
+        (other : MessageAt u second other_place message) →
+        (shared_run t (before ++ (first, mark) ∷ between)).1 ≡ u →
         SameReference first second one.comes.upload other.upload →
         Reaches other_mark second other.upload other_place →
-        TellsOf other.upload.interchange other_place Repeated (shared_step register u second other_mark).0 }
-    ensures stays { (register : RegisterRows) (t u : Tables) (before between : Inputs) (first second : Input)
-        (mark : Mark) (place other_place : ℕ) (message : RawMessage)
-        (one : AcceptedAt register t before first mark place message)
-        (other : MessageAt register second other_place message) →
-        (shared_run register t (before ++ (first, mark) ∷ between)).1 ≡ u →
+        TellsOf other.upload.interchange other_place Repeated (shared_step u second other_mark).0 }
+    ensures stays { (t u : Tables) (before between : Inputs) (first second : Input) (mark : Mark)
+        (place other_place : ℕ) (message : RawMessage)
+        (one : AcceptedAt (shared_run t before).1 first mark place message)
+        (other : MessageAt u second other_place message) →
+        (shared_run t (before ++ (first, mark) ∷ between)).1 ≡ u →
         SameReference first second one.comes.upload other.upload →
         (first_acts (other_place + 1) other.upload second.moment u).1 ≡
         (first_acts other_place other.upload second.moment u).1 }
@@ -95,23 +93,25 @@ pub fn repeated_by_steps()
 /// stopped before it, is told of as repeated; and a cancellation that was accepted and comes again, where it was not
 /// stopped, is answered so.
 pub fn repeated_by_hubs()
-    ensures message { (register : RegisterRows) (t after : Tables) (xs : List Input) (replies : List Reply)
-        (run : RunBy register t after xs replies) (before between later : Inputs) (first second : Input)
-        (mark other_mark : Mark) (place other_place : ℕ) (message : RawMessage)
-        (one : AcceptedAt register t before first mark place message)
-        (other : MessageAt register second other_place message) (reply : Reply) →
+    ensures message { (t after : Tables) (xs : List Input) (replies : List Reply) (run : RunBy t after xs replies)
+        (before between later : Inputs) (first second : Input) (mark other_mark : Mark) (place other_place : ℕ)
+        (message : RawMessage) (one : AcceptedAt (shared_run t before).1 first mark place message)
+        (other : MessageAt (shared_run t (before ++ (first, mark) ∷ between)).1 second other_place message)
+        (reply : Reply) →
         run.marked ≡ (before ++ (first, mark) ∷ between) ++ (second, other_mark) ∷ later →
         SameReference first second one.comes.upload other.upload →
         Reaches other_mark second other.upload other_place →
         slice_get replies (length (before ++ (first, mark) ∷ between)) ≡ Some reply →
         TellsOf other.upload.interchange other_place Repeated reply }
-    ensures cancellation { (register : RegisterRows) (t after : Tables) (xs : List Input) (replies : List Reply)
-        (run : RunBy register t after xs replies) (before between later : Inputs) (first second : Input) (c : Cancel) →
+    ensures cancellation { (t after : Tables) (xs : List Input) (replies : List Reply) (run : RunBy t after xs replies)
+        (before between later : Inputs) (first second : Input) (c : Cancel) →
         run.marked ≡ (before ++ (first, Whole) ∷ between) ++ (second, Whole) ∷ later →
-        SoundHub register.suppliers t → AsksCancel register c first → AsksCancel register c second →
-        (cancel_named register c (shared_run register t before).1).0 ≡ Accepted →
-        slice_get replies (length (before ++ (first, Whole) ∷ between)) ≡ Some (cancel_reply Repeated) }
+        SoundHub t → AsksCancel (shared_run t before).1 c first →
+        AsksCancel (shared_run t (before ++ (first, Whole) ∷ between)).1 c second →
+        (cancel_named (register_of (shared_run t before).1) c (shared_run t before).1).0 ≡ Accepted →
+        slice_get replies (length (before ++ (first, Whole) ∷ between)) ≡ Some (act_reply Repeated) }
 {
+    hub_stays_sound();
     repeated_in_runs();
     stops_cut_uploads();
 }

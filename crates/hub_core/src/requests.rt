@@ -1,12 +1,15 @@
 //! What is asked, by a supplier or by the retailer.
 ghost use Rattle.std.specs.Prelude.{◌≡◌, Ok, Err};
+ghost use Rattle.hub_parties.specs.declared.row.SupplierRow.{SupplierRow};
+ghost use Rattle.hub_tables.specs.Register.{register_of};
 ghost use Rattle.std.specs.Option.{IfSome, IfNone};
 ghost use Rattle.hub_law.specs.Requests.{uploaded};
 ghost use Rattle.hub_law.specs.Stops.{opened_for};
 ghost use Rattle.hub_core.specs.Opened as spec;
 ghost use Rattle.hub_core.specs.Broken.{BreaksAsked};
 ghost use Rattle.hub_core.specs.Callers.{delivered, addressed_by, opening_of, acts_by, request_of, MayDeliver};
-ghost use Rattle.hub_core.specs.Steps.{Asked, acts_of};
+ghost use Rattle.hub_law.specs.declared.request.Request.TheVariants.{Join};
+ghost use Rattle.hub_core.specs.Steps.{Asked, IsNoJoin, SoundWith, acts_of};
 ghost use Rattle.hub_core.specs.declared.caller.Caller.TheVariants.{Retailer, Supplier};
 
 use crate::caller::Caller;
@@ -15,7 +18,7 @@ use crate::replies::{denied_reply, refused_upload, unknown_reply};
 use crate::upload::{OpenedUpload, take_messages};
 use edi_envelope::{Interchange, Moment};
 use gs1_ids::Gln;
-use hub_acts::{mailbox_entry, mailbox_list, status_report, take_cancel, take_entry};
+use hub_acts::{mailbox_entry, mailbox_list, status_report, take_cancel, take_entry, take_join};
 use hub_law::{Reply, Request};
 use hub_parties::SupplierRow;
 use hub_register::Register;
@@ -102,8 +105,8 @@ fn upload<S: Store>(
     take_opened(alloc, register, caller, store, moment, interchange)
 }
 
-// What a supplier asks.
-fn asked_by_supplier<S: Store>(
+/// What a supplier asks.
+pub(crate) fn asked_by_supplier<S: Store>(
     alloc: Global,
     register: &Register,
     supplier: &SupplierRow,
@@ -129,22 +132,26 @@ fn asked_by_supplier<S: Store>(
         Request::MailItem(number) => mailbox_entry(alloc, register.hub(), store, gln, *number),
         Request::MailTaken(number) => take_entry(alloc, store, gln, *number),
         Request::Status => status_report(alloc, store, gln),
-        Request::StatusOf(_) | Request::Cancel(_) => Ok(denied_reply(alloc)?),
+        Request::StatusOf(_) | Request::Cancel(_) | Request::Join(_) => Ok(denied_reply(alloc)?),
     }
 }
 
-// What the retailer asks.
-fn asked_by_retailer<S: Store>(
+/// What the retailer asks. A join alone changes the register, and none where the store is broken.
+pub(crate) fn asked_by_retailer<S: Store>(
     alloc: Global,
-    register: &Register,
+    register: &mut Register,
     store: &mut S,
     moment: Moment,
     request: &Request,
 ) -> Result<Reply, StoreFault>
-    ensures asked { MayDeliver register.now Retailer (S.content store.old) →
-        Asked S.content S.honest S.left store.old store.new (acts_by register.now Retailer request.now)
-        (request_of register.now Retailer moment request.now) result }
-    ensures breaks { BreaksAsked S.plain (request_of register.now Retailer moment request.now)
+    ensures asked { SoundWith register.old (S.content store.old) →
+        Asked S.content S.honest S.left store.old store.new (acts_by register.old Retailer request.now)
+        (request_of register.old Retailer moment request.now) result }
+    ensures held { (row : SupplierRow) → request.now ≡ Join row →
+        S.honest store.new → SoundWith register.old (S.content store.old) → register.new ≡ register_of (S.content store.new) }
+    ensures same { IsNoJoin request.now → register.new ≡ register.old }
+    ensures broken { IfSome (S.broken store.old) (λ _. register.new ≡ register.old) }
+    ensures breaks { BreaksAsked S.plain (request_of register.old Retailer moment request.now)
         (S.broken store.old) (S.broken store.new) result }
     ensures was_honest { S.honest store.new → S.honest store.old }
 {
@@ -161,31 +168,8 @@ fn asked_by_retailer<S: Store>(
             }
         }
         Request::Cancel(cancel) => take_cancel(alloc, register, store, cancel),
+        Request::Join(join) => take_join(alloc, register, store, join),
         Request::MailAfter(_) | Request::MailItem(_) | Request::MailTaken(_) | Request::Status =>
             Ok(denied_reply(alloc)?),
-    }
-}
-
-/// What somebody asks who is known.
-pub(crate) fn asked<S: Store>(
-    alloc: Global,
-    register: &Register,
-    caller: Caller<'_>,
-    store: &mut S,
-    moment: Moment,
-    request: &Request,
-) -> Result<Reply, StoreFault>
-    ensures asked { MayDeliver register.now caller.entry (S.content store.old) →
-        Asked S.content S.honest S.left store.old store.new (acts_by register.now caller.entry request.now)
-        (request_of register.now caller.entry moment request.now) result }
-    ensures breaks { BreaksAsked S.plain (request_of register.now caller.entry moment request.now)
-        (S.broken store.old) (S.broken store.new) result }
-    ensures was_honest { S.honest store.new → S.honest store.old }
-{
-    match caller {
-        Caller::Retailer => asked_by_retailer(alloc, register, store, moment, request),
-        Caller::Supplier(supplier) => {
-            asked_by_supplier(alloc, register, supplier, store, moment, request)
-        }
     }
 }

@@ -2,24 +2,24 @@
 ghost use Rattle.std.specs.Prelude.{◌≡◌, ◌≢◌, ℕ, List, IfOk, OnErr, IsErr, None, Err};
 ghost use Rattle.std.specs.Option.{IfSome, IfNone};
 ghost use Rattle.edi_envelope.specs.Opened.{opened, Opens};
-ghost use Rattle.gs1_ids.specs.Overlap.{PrefixFree};
-ghost use Rattle.hub_parties.specs.Rows.{company_prefixes, role_of};
-ghost use Rattle.hub_rules.specs.Laws.{SoundHub};
-ghost use Rattle.hub_rules.specs.Sound.{Sound};
-ghost use Rattle.hub_law.specs.Machine.{shared_step};
+ghost use Rattle.std.specs.List.{AllByRecursion};
+ghost use Rattle.hub_parties.specs.Rows.{role_of};
+ghost use Rattle.hub_parties.specs.declared.row.SupplierRow.{SupplierRow};
+ghost use Rattle.hub_tables.specs.Register.{register_of};
+ghost use Rattle.hub_law.specs.Machine.{step_under};
 ghost use Rattle.hub_law.specs.Replies.{reply};
 ghost use Rattle.hub_law.specs.Stops.{upload_of};
 ghost use Rattle.hub_law.specs.declared.reply.Outcome.TheVariants.{Stopped};
-ghost use Rattle.hub_law.specs.declared.request.Request.TheVariants.{Upload};
+ghost use Rattle.hub_law.specs.declared.request.Request.TheVariants.{Upload, Join};
 ghost use Rattle.hub_core.specs.Broken.{Breaks, BreaksAsked, RunBreaks, does_input};
 ghost use Rattle.hub_core.specs.Callers.{IsCaller};
 ghost use Rattle.hub_core.specs.Opened.{IsStopped, RanOut};
-ghost use Rattle.hub_core.specs.Steps.{Asked, Stepped, Ran, acts_of, input_of};
+ghost use Rattle.hub_core.specs.Steps.{Asked, IsNoJoin, SoundWith, Stepped, Ran, acts_of, input_of};
 
 use crate::caller::Caller;
 use crate::opening::judged;
 use crate::replies::denied_reply;
-use crate::requests::{asked, take_opened};
+use crate::requests::{asked_by_retailer, asked_by_supplier, take_opened};
 use edi_base::{Items, MemoryFault, copied};
 use edi_envelope::{Interchange, Moment, OpenFault};
 use edi_tokens::TokenFault;
@@ -32,13 +32,6 @@ use hub_parties::Role;
 use hub_register::Register;
 use hub_store::{Store, StoreFault};
 use std::alloc::Global;
-
-/// No prefix of a supplier of a register begins a prefix of another.
-pub(crate) fn prefixes_are_free(register: &Register)
-    ensures { PrefixFree (company_prefixes register.now.suppliers) }
-{
-    let _hub = register.hub();
-}
 
 // Who asks, where it is known by its own key.
 fn caller_of<'a>(register: &'a Register, caller: &Gln, key: &[u8]) -> Option<Caller<'a>>
@@ -54,23 +47,30 @@ fn caller_of<'a>(register: &'a Register, caller: &Gln, key: &[u8]) -> Option<Cal
 // Answers a request, where memory and the store suffice.
 fn answer<S: Store>(
     alloc: Global,
-    register: &Register,
+    register: &mut Register,
     store: &mut S,
     moment: Moment,
     caller: &Gln,
     key: &[u8],
     request: &Request,
 ) -> Result<Reply, StoreFault>
-    ensures asked { SoundHub register.now.suppliers (S.content store.old) →
+    ensures asked { SoundWith register.old (S.content store.old) →
         Asked S.content S.honest S.left store.old store.new
-        (acts_of (upload_of register.now (input_of moment caller.now key.now request.now))) (λ mark t.
-        shared_step register.now t (input_of moment caller.now key.now request.now) mark) result }
-    ensures breaks { BreaksAsked S.plain (does_input register.now (input_of moment caller.now key.now request.now))
+        (acts_of (upload_of register.old (input_of moment caller.now key.now request.now))) (λ mark t.
+        step_under register.old t (input_of moment caller.now key.now request.now) mark) result }
+    ensures held { (row : SupplierRow) → request.now ≡ Join row → S.honest store.new →
+        SoundWith register.old (S.content store.old) → register.new ≡ register_of (S.content store.new) }
+    ensures same { IsNoJoin request.now → register.new ≡ register.old }
+    ensures broken { IfSome (S.broken store.old) (λ _. register.new ≡ register.old) }
+    ensures breaks { BreaksAsked S.plain (does_input register.old (input_of moment caller.now key.now request.now))
         (S.broken store.old) (S.broken store.new) result }
     ensures was_honest { S.honest store.new → S.honest store.old }
 {
     match caller_of(register, caller, key) {
-        Some(caller) => asked(alloc, register, caller, store, moment, request),
+        Some(Caller::Supplier(supplier)) => {
+            asked_by_supplier(alloc, register, supplier, store, moment, request)
+        }
+        Some(Caller::Retailer) => asked_by_retailer(alloc, register, store, moment, request),
         None => Ok(denied_reply(alloc)?),
     }
 }
@@ -87,10 +87,10 @@ fn answer_opened<S: Store>(
 ) -> Result<Reply, StoreFault>
     requires read { upload ≢ Err (OpenFault.Token TokenFault.Read) }
     ensures asked { (bytes : List ℕ) → Opens upload (opened bytes) →
-        SoundHub register.now.suppliers (S.content store.old) →
+        SoundWith register.now (S.content store.old) →
         Asked S.content S.honest S.left store.old store.new
         (acts_of (upload_of register.now (input_of moment caller.now key.now (Upload bytes)))) (λ mark t.
-        shared_step register.now t (input_of moment caller.now key.now (Upload bytes)) mark) result }
+        step_under register.now t (input_of moment caller.now key.now (Upload bytes)) mark) result }
     ensures breaks { (bytes : List ℕ) → Opens upload (opened bytes) →
         BreaksAsked S.plain (does_input register.now (input_of moment caller.now key.now (Upload bytes)))
         (S.broken store.old) (S.broken store.new) result }
@@ -126,20 +126,24 @@ fn replied(answered: Result<Reply, StoreFault>, stopped: Items<u8>) -> Reply
     }
 }
 
-/// Answers a request over a store.
+/// Answers a request over a store. A join alone changes the register, and none where the store is broken.
 pub(crate) fn step<S: Store>(
     alloc: Global,
-    register: &Register,
+    register: &mut Register,
     store: &mut S,
     moment: Moment,
     caller: &Gln,
     key: &[u8],
     request: &Request,
 ) -> Reply
-    ensures stepped { S.honest store.new → Sound register.now.suppliers (S.content store.old) →
-        Stepped register.now (S.content store.old) (S.content store.new) (S.left store.old) (S.left store.new)
+    ensures stepped { S.honest store.new → SoundWith register.old (S.content store.old) →
+        Stepped (S.content store.old) (S.content store.new) (S.left store.old) (S.left store.new)
         (input_of moment caller.now key.now request.now) result }
-    ensures breaks { Breaks S.plain (does_input register.now (input_of moment caller.now key.now request.now))
+    ensures held { S.honest store.new → SoundWith register.old (S.content store.old) →
+        SoundWith register.new (S.content store.new) }
+    ensures same { IsNoJoin request.now → register.new ≡ register.old }
+    ensures broken { IfSome (S.broken store.old) (λ _. register.new ≡ register.old) }
+    ensures breaks { Breaks S.plain (does_input register.old (input_of moment caller.now key.now request.now))
         (S.broken store.old) (S.broken store.new) result }
     ensures was_honest { S.honest store.new → S.honest store.old }
 {
@@ -148,7 +152,6 @@ pub(crate) fn step<S: Store>(
     hub_stays_sound();
     stops_are_told();
     each_line_balances();
-    prefixes_are_free(register);
     let Ok(stopped) = copied(alloc, b"stopped\n") else {
         return stopped_with(Items::new(alloc));
     };
@@ -168,9 +171,11 @@ pub(crate) fn step_opened<S: Store>(
 ) -> Reply
     requires read { upload ≢ Err (OpenFault.Token TokenFault.Read) }
     ensures stepped { (bytes : List ℕ) → Opens upload (opened bytes) → S.honest store.new →
-        Sound register.now.suppliers (S.content store.old) →
-        Stepped register.now (S.content store.old) (S.content store.new) (S.left store.old) (S.left store.new)
+        SoundWith register.now (S.content store.old) →
+        Stepped (S.content store.old) (S.content store.new) (S.left store.old) (S.left store.new)
         (input_of moment caller.now key.now (Upload bytes)) result }
+    ensures held { (bytes : List ℕ) → Opens upload (opened bytes) → S.honest store.new →
+        SoundWith register.now (S.content store.old) → SoundWith register.now (S.content store.new) }
     ensures breaks { (bytes : List ℕ) → Opens upload (opened bytes) →
         Breaks S.plain (does_input register.now (input_of moment caller.now key.now (Upload bytes)))
         (S.broken store.old) (S.broken store.new) result }
@@ -182,7 +187,6 @@ pub(crate) fn step_opened<S: Store>(
     hub_stays_sound();
     stops_are_told();
     each_line_balances();
-    prefixes_are_free(register);
     let Ok(stopped) = copied(alloc, b"stopped\n") else {
         return stopped_with(Items::new(alloc));
     };
@@ -193,21 +197,24 @@ pub(crate) fn step_opened<S: Store>(
 /// Answers requests over a store, one after another.
 pub(crate) fn run<S: Store>(
     alloc: Global,
-    register: &Register,
+    register: &mut Register,
     store: &mut S,
     inputs: &[Input],
 ) -> Result<Items<Reply>, MemoryFault>
-    ensures ran { S.honest store.new → Sound register.now.suppliers (S.content store.old) →
-        IfOk result (λ replies. Ran register.now (S.content store.old) (S.content store.new) (S.left store.old)
-        (S.left store.new) inputs.now replies) }
-    ensures none { OnErr result (store.new ≡ store.old) }
-    ensures breaks { IfOk result (λ replies. RunBreaks S.plain register.now (S.broken store.old) (S.broken store.new)
+    ensures ran { S.honest store.new → SoundWith register.old (S.content store.old) →
+        IfOk result (λ replies. Ran (S.content store.old) (S.content store.new) (S.left store.old) (S.left store.new)
+        inputs.now replies) }
+    ensures held { S.honest store.new → SoundWith register.old (S.content store.old) →
+        SoundWith register.new (S.content store.new) }
+    ensures same { AllByRecursion (λ input. IsNoJoin input.request) inputs.now → register.new ≡ register.old }
+    ensures none { OnErr result ((store.new ≡ store.old) × (register.new ≡ register.old)) }
+    ensures breaks { IfOk result (λ replies. RunBreaks S.plain register.new (S.broken store.old) (S.broken store.new)
         inputs.now replies) }
     ensures was_honest { S.honest store.new → S.honest store.old }
 {
     run_is_own();
+    hub_stays_sound();
     each_line_balances();
-    prefixes_are_free(register);
     let mut replies = Vec::with_capacity(alloc, inputs.len())?;
     for input in inputs {
         let key = input.key.as_slice();

@@ -6,8 +6,7 @@ use Rattle.hub_law.specs.declared.reply.Outcome.TheVariants.{Done, Bad, Denied, 
 use Rattle.hub_law.specs.declared.reply.Reply.{Reply}
 use Rattle.hub_parties.specs.Rows.{RegisterRows}
 use Rattle.hub_tables.specs.Tables.{Tables}
-use Rattle.hub_rules.specs.Sound.{Sound}
-use Rattle.hub_core.specs.Steps.{Stepped, input_of}
+use Rattle.hub_core.specs.Steps.{SoundWith, Stepped, input_of}
 use Rattle.http_head.specs.Head.{Heading, HeadIs, longest_head}
 use Rattle.hub_http.specs.Asked.{Asked, asked_by, is_single}
 use Rattle.hub_http.specs.Question.{Question, Asks}
@@ -38,9 +37,14 @@ pub record Says (status : ℕ) (text : List ℕ) (answer : Answer) : Type 0 wher
 abbrev pub Steps : {S : Type 0} → (S → Tables) → (S → Type 0) → (S → Tables → Type 0) → ℕ → RegisterRows × S
     → RegisterRows × S → Question → Reply → Type 0
 Steps content honest left moment old new question reply =
-    honest new.1 → Sound old.0.suppliers (content old.1)
-    → Stepped old.0 (content old.1) (content new.1) (left old.1) (left new.1)
+    honest new.1 → SoundWith old.0 (content old.1)
+    → Stepped (content old.1) (content new.1) (left old.1) (left new.1)
     (input_of moment question.gln question.key question.request) reply
+
+-- over sound rows that hold its register the hub comes to such rows
+abbrev pub StaysSound : {S : Type 0} → (S → Tables) → (S → Type 0) → RegisterRows × S → RegisterRows × S → Type 0
+StaysSound content honest old new =
+    honest new.1 → SoundWith old.0 (content old.1) → SoundWith new.0 (content new.1)
 
 module _ (Replies : Question → Reply → Type 0) (Same : Type 0) where
   -- the hub is as before, or one question was asked

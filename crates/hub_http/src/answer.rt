@@ -5,6 +5,7 @@ ghost use Rattle.edi_base.specs.Source.{TakesAtMost};
 ghost use Rattle.edi_envelope.specs.Opened.{opened, Opens};
 ghost use Rattle.http_head.specs.Head.{before, longest_head};
 ghost use Rattle.http_head.specs.Body.{body_in};
+ghost use Rattle.hub_core.specs.Steps.{IsNoJoin};
 ghost use Rattle.hub_http.specs.Answer as spec;
 ghost use Rattle.hub_http.specs.Asked.{asked_by, is_single, longest_body};
 ghost use Rattle.hub_http.specs.Question.{question_of as asked_of, uploading, with_body};
@@ -86,7 +87,8 @@ fn replied(reply: Reply) -> Answer
 fn ask<S: Store>(hub: &mut Hub<S>, moment: Moment, posed: Posed<'_>) -> Answer
     ensures asked { spec.Ends (spec.Steps S.content S.honest S.left moment hub.old hub.new) (hub.new ≡ hub.old)
         (Ok (question_as posed.entry)) result }
-    ensures register { hub.new.0 ≡ hub.old.0 }
+    ensures held { spec.StaysSound S.content S.honest hub.old hub.new }
+    ensures register { IsNoJoin posed.entry.request → hub.new.0 ≡ hub.old.0 }
     ensures was_honest { S.honest hub.new.1 → S.honest hub.old.1 }
 {
     let Posed { gln, key, request } = posed;
@@ -106,6 +108,7 @@ fn answer_body<S: Store>(
         true (with_body (asking_as asking.now) body) result }
     ensures refused { IfErr (with_body (asking_as asking.now) body) (λ refusal.
         spec.Says (refusal_status refusal) (text_of refusal) result) }
+    ensures held { spec.StaysSound S.content S.honest hub.old hub.new }
     ensures register { hub.new.0 ≡ hub.old.0 }
     ensures was_honest { S.honest hub.new.1 → S.honest hub.old.1 }
 {
@@ -132,6 +135,7 @@ fn answer_kept<R: Source, S: Store>(
         spec.AnswersOne (spec.Steps S.content S.honest S.left moment hub.old hub.new) (hub.new ≡ hub.old) answer) }
     ensures stepped { spec.OneStep (spec.Steps S.content S.honest S.left moment hub.old hub.new) (hub.new ≡ hub.old) }
     ensures untouched { OnErr result (hub.new ≡ hub.old) }
+    ensures held { spec.StaysSound S.content S.honest hub.old hub.new }
     ensures register { hub.new.0 ≡ hub.old.0 }
     ensures was_honest { S.honest hub.new.1 → S.honest hub.old.1 }
     ensures front { TakesAtMost (R.remaining reader.old) (R.remaining reader.new) asking.now.size }
@@ -156,6 +160,7 @@ fn ask_opened<S: Store>(
     ensures asked { (bytes : List ℕ) → Opens upload (opened bytes) →
         spec.Ends (spec.Steps S.content S.honest S.left moment hub.old hub.new) (hub.new ≡ hub.old)
         (Ok (uploading (asking_as asking.now) bytes)) result }
+    ensures held { (bytes : List ℕ) → Opens upload (opened bytes) → spec.StaysSound S.content S.honest hub.old hub.new }
     ensures register { hub.new.0 ≡ hub.old.0 }
     ensures was_honest { S.honest hub.new.1 → S.honest hub.old.1 }
 {
@@ -181,6 +186,7 @@ fn answer_upload<R: Source, S: Store>(
         spec.AnswersOne (spec.Steps S.content S.honest S.left moment hub.old hub.new) (hub.new ≡ hub.old) answer) }
     ensures stepped { spec.OneStep (spec.Steps S.content S.honest S.left moment hub.old hub.new) (hub.new ≡ hub.old) }
     ensures untouched { OnErr result (hub.new ≡ hub.old) }
+    ensures held { spec.StaysSound S.content S.honest hub.old hub.new }
     ensures register { hub.new.0 ≡ hub.old.0 }
     ensures was_honest { S.honest hub.new.1 → S.honest hub.old.1 }
     ensures front { TakesAtMost (R.remaining reader.old) (R.remaining reader.new) asking.now.size }
@@ -212,6 +218,7 @@ fn answer_asked<R: Source, S: Store>(
         spec.AnswersOne (spec.Steps S.content S.honest S.left moment hub.old hub.new) (hub.new ≡ hub.old) answer) }
     ensures stepped { spec.OneStep (spec.Steps S.content S.honest S.left moment hub.old hub.new) (hub.new ≡ hub.old) }
     ensures untouched { OnErr result (hub.new ≡ hub.old) }
+    ensures held { spec.StaysSound S.content S.honest hub.old hub.new }
     ensures register { hub.new.0 ≡ hub.old.0 }
     ensures was_honest { S.honest hub.new.1 → S.honest hub.old.1 }
     ensures front { TakesAtMost (R.remaining reader.old) (R.remaining reader.new) asking.now.size }
@@ -239,6 +246,7 @@ fn answer_head<R: Source, S: Store>(
         spec.AnswersOne (spec.Steps S.content S.honest S.left moment hub.old hub.new) (hub.new ≡ hub.old) answer) }
     ensures stepped { spec.OneStep (spec.Steps S.content S.honest S.left moment hub.old hub.new) (hub.new ≡ hub.old) }
     ensures untouched { OnErr result (hub.new ≡ hub.old) }
+    ensures held { spec.StaysSound S.content S.honest hub.old hub.new }
     ensures register { hub.new.0 ≡ hub.old.0 }
     ensures was_honest { S.honest hub.new.1 → S.honest hub.old.1 }
     ensures front { TakesAtMost (R.remaining reader.old) (R.remaining reader.new)
@@ -267,6 +275,7 @@ pub(crate) fn answer_one<R: Source, S: Store>(
         spec.AnswersOne (spec.Steps S.content S.honest S.left moment hub.old hub.new) (hub.new ≡ hub.old) answer) }
     ensures stepped { spec.OneStep (spec.Steps S.content S.honest S.left moment hub.old hub.new) (hub.new ≡ hub.old) }
     ensures untouched { OnErr result (hub.new ≡ hub.old) }
+    ensures held { spec.StaysSound S.content S.honest hub.old hub.new }
     ensures register { hub.new.0 ≡ hub.old.0 }
     ensures was_honest { S.honest hub.new.1 → S.honest hub.old.1 }
     ensures front { TakesAtMost (R.remaining reader.old) (R.remaining reader.new) (longest_head + longest_body) }

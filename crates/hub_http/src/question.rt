@@ -1,5 +1,6 @@
 //! What is asked of the hub.
 ghost use Rattle.std.specs.Prelude.{◌≡◌, ◌≢◌, None, IfOk, IsOk, OnErr};
+ghost use Rattle.hub_core.specs.Steps.{IsNoJoin};
 ghost use Rattle.hub_http.specs.Question as spec;
 ghost use Rattle.hub_http.specs.Wording.{asking_as, question_or_refused};
 ghost use Rattle.hub_texts.specs.Cancel.{cancel_of};
@@ -22,7 +23,8 @@ pub(crate) struct Posed<'h> {
 
 // What is asked, with the cancellation in the body, where one is asked for.
 fn request_for(sought: Sought, body: Items<u8>, cancel: Option<Cancel>) -> Result<Request, Refusal>
-    ensures { (sought ≡ Sought.Cancel → cancel ≡ cancel_of body) → result ≡ spec.request_for sought body }
+    ensures value { (sought ≡ Sought.Cancel → cancel ≡ cancel_of body) → result ≡ spec.request_for sought body }
+    ensures no_join { IfOk result IsNoJoin }
 {
     match sought {
         Sought::Upload => Ok(Request::Upload(body)),
@@ -59,6 +61,7 @@ pub(crate) fn question_of<'h>(
 ) -> Result<Result<Posed<'h>, Refusal>, MemoryFault>
     ensures value { IfOk result (λ posed. question_or_refused posed ≡ spec.with_body (asking_as asking.now) body) }
     ensures memory { OnErr result (IsOk (spec.with_body (asking_as asking.now) body)) }
+    ensures no_join { IfOk result (λ posed. IfOk posed (λ posed. IsNoJoin posed.request)) }
 {
     let Some(body) = body else {
         return Ok(Err(Refusal::BadRequest));

@@ -4,7 +4,7 @@ ghost use Rattle.edi_base.specs.Buffer.{Flags};
 ghost use Rattle.edi_base.specs.Source.{TakesAtMost};
 ghost use Rattle.http_head.specs.Head.{longest_head};
 ghost use Rattle.http_response.specs.Text.{Writes};
-ghost use Rattle.hub_http.specs.Answer.{AnswersOne, OneStep, ReadsWithin, Steps};
+ghost use Rattle.hub_http.specs.Answer.{AnswersOne, OneStep, ReadsWithin, StaysSound, Steps};
 ghost use Rattle.hub_http.specs.Asked.{longest_body};
 ghost use Rattle.hub_http.specs.Serve as spec;
 
@@ -84,6 +84,7 @@ pub fn serve_one<S: Store, R: Source, W: Sink>(
     ensures written { spec.Written (AnswersOne (Steps S.content S.honest S.left moment hub.old hub.new)
         (hub.new ≡ hub.old)) (W.contents writer.old) (W.contents writer.new) result }
     ensures stepped { OneStep (Steps S.content S.honest S.left moment hub.old hub.new) (hub.new ≡ hub.old) }
+    ensures held { StaysSound S.content S.honest hub.old hub.new }
     ensures register { hub.new.0 ≡ hub.old.0 }
     ensures was_honest { S.honest hub.new.1 → S.honest hub.old.1 }
 

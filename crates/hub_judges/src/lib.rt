@@ -1,9 +1,11 @@
-//! The judges of the hub: by its rules, what comes of a message or a cancellation, from what is known of its supplier's rows.
+//! The judges of the hub: by its rules, what comes of a message or a cancellation, from what is known of its supplier's rows;
+//! and of a join, from the register.
 #![tactic(auto)]
 
 mod answers;
 mod cancel;
 mod despatch;
+mod join;
 mod known;
 mod laws;
 mod mail;
@@ -17,11 +19,12 @@ mod totals;
 pub use cancel::judge_cancel;
 pub use despatch::judge_despatch;
 pub use hub_lines::{KnownLines, LineFacts};
-pub use hub_rules::{Cancel, Code, IncomingMessage, Verdict};
+pub use hub_rules::{Cancel, Code, IncomingMessage, Join, Verdict};
 pub use hub_tables::{
     AdviceRow, Answered, Arrival, Case, Change, Column, ContentRow, LineRow, MailKind, MailRow,
     OrderRow, PalletRow, ReceiptRow, RememberedRow, Side,
 };
+pub use join::judge_join;
 pub use known::Known;
 pub use laws::judges_are_given_what_they_ask;
 pub use order::judge_order;

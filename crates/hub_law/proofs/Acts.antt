@@ -16,7 +16,7 @@ use Rattle.hub_tables.specs.Cases.{truth_number}
 use Rattle.hub_tables.specs.Change.{apply_all}
 use Rattle.hub_tables.specs.Rows.{same}
 use Rattle.hub_tables.specs.State.{entry_at, is_taken}
-use Rattle.hub_tables.specs.Tables.{Tables, has_pallet, view, empty}
+use Rattle.hub_tables.specs.Tables.{Tables, has_pallet, view}
 use Rattle.hub_tables.specs.declared.change.Change.TheVariants.{SetMail}
 use Rattle.hub_tables.specs.declared.rows.MailRow.{MailRow}
 use Rattle.hub_tables.proofs.Lists.{all_found}
@@ -30,7 +30,7 @@ use Rattle.hub_rules.specs.declared.cancel.Cancel.{Cancel}
 use Rattle.hub_rules.specs.declared.verdict.Verdict.{Verdict}
 use Rattle.hub_rules.specs.declared.verdict.Verdict.TheVariants.{Refuse}
 use Rattle.hub_rules.specs.Sound.{Sound}
-use Rattle.hub_rules.specs.Laws.{Apart}
+use Rattle.hub_rules.specs.Laws.{Apart, PartiesStay}
 use Rattle.hub_rules.proofs.Alike.{despatch_alike}
 use Rattle.hub_rules.proofs.Changes.{used_seen}
 use Rattle.hub_rules.proofs.GoodRows.{keeps_from}
@@ -142,6 +142,15 @@ module _ (suppliers : List SupplierRow) (free : PrefixFree (company_prefixes sup
         })
       ]
 
+-- no mark changes the register
+pub taking_keeps : (entry : MailRow) (t : Tables) → PartiesStay t (apply_all (taking entry) t)
+taking_keeps entry t =
+    elim (is_taken entry) as (λ v. PartiesStay t
+    (apply_all (cond v [] (SetMail (record entry { taken = truth_number true }) ∷ [])) t)) [
+      | true ↦ record { hubs = refl; keys = refl; prefixes = refl }
+      | false ↦ record { hubs = refl; keys = refl; prefixes = refl }
+    ]
+
 either_nothing : (test : Bool) (one other : Told × Tables) (t : Tables) → one.1 ≡ t → other.1 ≡ t → (cond test one other).1 ≡ t
 either_nothing true one other t first second = first
 either_nothing false one other t first second = second
@@ -169,38 +178,3 @@ nobodys_message look parties sent t =
 
 pub nobodys_cancellation : (look : Tables → Tables) (c : Cancel) (t : Tables) → (cancel look None c t).1 ≡ t
 nobodys_cancellation look c t = refl
-
-pub empty_sound : (suppliers : List SupplierRow) → Sound suppliers empty
-empty_sound suppliers = record {
-  rooted =
-      record {
-        ordered =
-            record {
-              orders = tt;
-              lines = tt;
-              advices = tt;
-              pallets = tt;
-              contents = tt;
-              receipts = tt;
-              remembered = tt;
-              mail = tt;
-            };
-        pallets = tt;
-        contents = tt;
-        receipts = tt;
-      };
-  kept = λ gln. record {
-    orders = tt;
-    lines = tt;
-    advices = tt;
-    pallets = tt;
-    receipts = λ sscc. tt;
-    remembered = tt;
-    contents = λ sscc. tt;
-    mail = tt;
-    line_orders = tt;
-    content_lines = tt;
-    receipt_pallets = tt;
-    balanced = tt;
-  };
-}

@@ -1,125 +1,127 @@
--- What one supplier sees and is told in a run, and in two runs that agree on it.
-use Rattle.std.proofs.Common.{◌≡◌, ℕ, List, [], ◌∷◌, ◌++◌, length, slice_get, take, Some, refl, sym, ◌∙◌, ap}
+-- What one GLN sees and is told in a run, and in two runs that agree on it.
+use Rattle.std.proofs.Common.{◌≡◌, ℕ, List, [], ◌∷◌, ◌++◌, length, slice_get, take, Some, refl, sym, ◌∙◌, ap, subst}
 use Rattle.std.proofs.Math.Seq.{take-append_seam}
 use Rattle.std.proofs.lemmas.List.{append_assoc}
-use Rattle.hub_parties.specs.Rows.{RegisterRows, parties_of, supplier_row, row_of}
-use Rattle.hub_parties.specs.declared.row.SupplierRow.{SupplierRow}
-use Rattle.hub_tables.specs.Sets.{SameRows}
+use Rattle.hub_parties.specs.KeyOrder.{Rises}
+use Rattle.hub_parties.specs.Rows.{Parties}
+use Rattle.hub_tables.specs.Register.{HoldsRegister, suppliers_of, register_of, parties_in, row_at}
+use Rattle.hub_tables.specs.Rows.{hub_cmp}
+use Rattle.hub_tables.specs.Sets.{Rising, SameRows}
 use Rattle.hub_tables.specs.Tables.{Tables, view}
+use Rattle.hub_tables.proofs.Enrolling.{own_row}
 use Rattle.hub_tables.proofs.Sets.{rows_are_one}
-use Rattle.hub_rules.specs.Sound.{Sound}
-use Rattle.hub_rules.proofs.Rising.{view_rises}
+use Rattle.hub_rules.specs.Laws.{SoundHub, PartiesRise}
+use Rattle.hub_rules.proofs.Rising.{view_rises, all_rise, rising_from, parties_seen}
 use Rattle.hub_law.specs.Alone.{items_of_input, items, fold}
-use Rattle.hub_rules.specs.Laws.{Registered}
-use Rattle.hub_law.specs.Laws.{RunIsOwn, AsksStatus, Agree, reply_between}
+use Rattle.hub_law.specs.Laws.{IsOther, AsksStatus, alone, own_report, reply_between}
 use Rattle.hub_law.specs.Machine.{Inputs, step_as, shared_step, shared_run, replies_to}
 use Rattle.hub_law.specs.Mark.{Mark, Whole}
-use Rattle.hub_law.specs.Replies.{done}
 use Rattle.hub_law.specs.Requests.{report, retailer_request}
-use Rattle.hub_law.specs.StatusText.{status_text}
 use Rattle.hub_law.specs.declared.request.Input.{Input}
+use Rattle.hub_law.proofs.Going.{run_goes, retailer_stays}
 use Rattle.hub_law.proofs.Runs.{whole_run}
 
-pub own_run : (register : RegisterRows) (s : SupplierRow) (t : Tables) (inputs : Inputs)
-    → Registered register.suppliers s t
-    → RunIsOwn register s t inputs
-own_run register s t inputs here = whole_run register here.free s here.known inputs t here.sound
-
--- a status for which the retailer asks is the text of what the supplier sees
-status_seen : (register : RegisterRows) (s : SupplierRow) (t : Tables) (input : Input)
-    → supplier_row register.suppliers s.gln ≡ Some s
-    → AsksStatus register s input
-    → (shared_step register t input Whole).0 ≡ done (status_text (view s.gln t))
-status_seen register s t input known asked =
-    ap (λ role. (step_as register role (row_of register input.caller) input Whole t).0) asked.retailers
-    ∙ ap (λ request. (retailer_request register input.moment Whole request t).0) asked.asks
-    ∙ ap (λ o. report o (view s.gln t)) known
+-- a status for which the retailer asks is the text of what the GLN sees
+status_seen : (gln : List ℕ) (t : Tables) (input : Input)
+    → AsksStatus gln t input
+    → (shared_step t input Whole).0 ≡ own_report gln (view gln t)
+status_seen gln t input asked =
+    ap (λ role. (step_as (register_of t) role (row_at input.caller t) input Whole t).0) asked.retailers
+    ∙ ap (λ request. (retailer_request (register_of t) input.moment Whole request t).0) asked.asks
+    ∙ ap (λ o. report o (view gln t)) (sym (own_row gln t))
 
 -- the replies of a run are those of its inputs, in their order
-reply_at : (register : RegisterRows) (t : Tables) (before : Inputs) (input : Input) (mark : Mark) (later : Inputs)
-    → slice_get (shared_run register t (before ++ (input, mark) ∷ later)).0 (length before)
-    ≡ Some (shared_step register (shared_run register t before).1 input mark).0
-reply_at register t [] input mark later = refl
-reply_at register t ((first, first_mark) ∷ before) input mark later =
-    reply_at register (shared_step register t first first_mark).1 before input mark later
+reply_at : (t : Tables) (before : Inputs) (input : Input) (mark : Mark) (later : Inputs)
+    → slice_get (shared_run t (before ++ (input, mark) ∷ later)).0 (length before)
+    ≡ Some (shared_step (shared_run t before).1 input mark).0
+reply_at t [] input mark later = refl
+reply_at t ((first, first_mark) ∷ before) input mark later = reply_at (shared_step t first first_mark).1 before input mark later
 
-status_between : (register : RegisterRows) (s : SupplierRow) (t : Tables) (before : Inputs) (input : Input) (later : Inputs)
-    → supplier_row register.suppliers s.gln ≡ Some s
-    → AsksStatus register s input
-    → reply_between register t before input later ≡ Some (done (status_text (view s.gln (shared_run register t before).1)))
-status_between register s t before input later known asked =
-    reply_at register t before input Whole later
-    ∙ ap (λ reply. Some reply) (status_seen register s (shared_run register t before).1 input known asked)
+status_between : (gln : List ℕ) (t : Tables) (before : Inputs) (input : Input) (later : Inputs)
+    → SoundHub t
+    → AsksStatus gln t input
+    → reply_between t before input later ≡ Some (own_report gln (view gln (shared_run t before).1))
+status_between gln t before input later here asked =
+    let goes = run_goes before t here in
+    reply_at t before input Whole later
+    ∙ ap (λ reply. Some reply) (status_seen gln (shared_run t before).1 input (record {
+      retailers = retailer_stays t (shared_run t before).1 input.caller input.key goes.sound goes.hubs asked.retailers;
+      asks = asked.asks;
+    }))
 
-pub status_is_own : (register : RegisterRows) (s : SupplierRow) (t : Tables) (before later : Inputs) (input : Input)
-    → Registered register.suppliers s t
-    → AsksStatus register s input
-    → reply_between register t before input later
-    ≡ Some (done (status_text (fold (parties_of register) s (items s.gln register before) (view s.gln t)).1))
-status_is_own register s t before later input here asked =
-    status_between register s t before input later here.known asked
-    ∙ ap (λ rows. Some (done (status_text rows))) (own_run register s t before here).seen
+pub status_is_own : (gln : List ℕ) (t : Tables) (before later : Inputs) (input : Input)
+    → SoundHub t
+    → IsOther gln t
+    → AsksStatus gln t input
+    → reply_between t before input later ≡ Some (own_report gln (alone gln (items gln t before) t).1)
+status_is_own gln t before later input here other asked =
+    status_between gln t before input later here asked
+    ∙ ap (λ rows. Some (own_report gln rows)) (whole_run gln before t here other).seen
 
--- what a supplier sees of sound tables is its rows and nothing else
-pub views_alike : (first second : List SupplierRow) (gln : List ℕ) (t u : Tables)
-    → Sound first t
-    → Sound second u
-    → SameRows (view gln t) (view gln u)
-    → view gln t ≡ view gln u
-views_alike first second gln t u one other rows =
-    rows_are_one (view gln t) (view gln u) (view_rises gln t (one.rooted).ordered (one.kept gln))
-    (view_rises gln u (other.rooted).ordered (other.kept gln)) rows
+parties_rise : (t : Tables) → HoldsRegister t → PartiesRise t
+parties_rise t holds = record {
+  hubs = subst (Rises hub_cmp) (sym holds.one_hub) (tt, tt);
+  keys = holds.keys_rise;
+  prefixes = holds.prefixes_rise;
+}
+
+pub sound_rises : (t : Tables) → SoundHub t → Rising t
+sound_rises t here =
+    rising_from t (parties_rise t here.register)
+    (all_rise (suppliers_of t) t here.register.right.prefixes_free here.sound.rooted here.sound.kept)
+
+view_rising : (gln : List ℕ) (t : Tables) → SoundHub t → Rising (view gln t)
+view_rising gln t here =
+    rising_from (view gln t) (parties_seen gln t (parties_rise t here.register))
+    (view_rises gln t here.sound.rooted.ordered (here.sound.kept gln))
+
+-- what is seen of sound tables is its rows and nothing else
+pub views_alike : (gln : List ℕ) (t u : Tables) → SoundHub t → SoundHub u → SameRows (view gln t) (view gln u) → view gln t ≡ view gln u
+views_alike gln t u here there rows =
+    rows_are_one (view gln t) (view gln u) (view_rising gln t here) (view_rising gln u there) rows
 
 -- items come one after another as their inputs do
-items_after : (gln : List ℕ) (register : RegisterRows) (inputs later : Inputs)
-    → items gln register (inputs ++ later) ≡ items gln register inputs ++ items gln register later
-items_after gln register [] later = refl
-items_after gln register ((input, mark) ∷ inputs) later =
-    ap (λ rest. items_of_input gln register input mark ++ rest) (items_after gln register inputs later)
-    ∙ sym (append_assoc (items_of_input gln register input mark) (items gln register inputs) (items gln register later))
+pub items_after : (gln : List ℕ) (t : Tables) (inputs later : Inputs)
+    → items gln t (inputs ++ later) ≡ items gln t inputs ++ items gln (shared_run t inputs).1 later
+items_after gln t [] later = refl
+items_after gln t ((input, mark) ∷ inputs) later =
+    let after = (shared_step t input mark).1 in
+    ap (λ rest. items_of_input gln t input mark ++ rest) (items_after gln after inputs later)
+    ∙ sym (append_assoc (items_of_input gln t input mark) (items gln after inputs) (items gln (shared_run after inputs).1 later))
 
 -- as many of the same are the same
 fronts_alike : {X : Type 0} (a b c d : List X) → a ++ b ≡ c ++ d → length a ≡ length c → a ≡ c
 fronts_alike a b c d joined counts = sym (take-append_seam a b) ∙ (λ i. take (counts i) (joined i)) ∙ take-append_seam c d
 
-module _ (first second : RegisterRows) (s : SupplierRow) (t u : Tables) (here : Registered first.suppliers s t)
-    (there : Registered second.suppliers s u) where
-  module _ (xs ys : Inputs) (parties : (parties_of first) ≡ (parties_of second))
-      (rows : SameRows (view s.gln t) (view s.gln u)) (same_items : items s.gln first xs ≡ items s.gln second ys) where
-    alone : fold (parties_of first) s (items s.gln first xs) (view s.gln t)
-        ≡ fold (parties_of second) s (items s.gln second ys) (view s.gln u)
-    alone =
-        let views = views_alike first.suppliers second.suppliers s.gln t u here.sound there.sound rows in
-        λ i. fold (parties i) s (same_items i) (views i)
+module _ (gln : List ℕ) (t u : Tables) (here : SoundHub t) (there : SoundHub u) (other : IsOther gln t)
+    (parties : parties_in t ≡ parties_in u) (rows : SameRows (view gln t) (view gln u)) where
+  other_too : IsOther gln u
+  other_too is = other (is ∙ ap (λ (p : Parties). p.retailer) (sym parties))
 
-    see_alike : view s.gln (shared_run first t xs).1 ≡ view s.gln (shared_run second u ys).1
-    see_alike = (own_run first s t xs here).seen ∙ ap (λ end. end.1) alone ∙ sym (own_run second s u ys there).seen
+  module _ (xs ys : Inputs) (same_items : items gln t xs ≡ items gln u ys) where
+    same_alone : alone gln (items gln t xs) t ≡ alone gln (items gln u ys) u
+    same_alone =
+        let views = views_alike gln t u here there rows in
+        λ i. fold (parties i) gln (same_items i) (views i)
 
-    told_alike : replies_to s.gln xs (shared_run first t xs).0 ≡ replies_to s.gln ys (shared_run second u ys).0
-    told_alike = (own_run first s t xs here).told ∙ ap (λ end. end.0) alone ∙ sym (own_run second s u ys there).told
+    pub see_alike : view gln (shared_run t xs).1 ≡ view gln (shared_run u ys).1
+    see_alike = (whole_run gln xs t here other).seen ∙ ap (λ end. end.1) same_alone ∙ sym (whole_run gln ys u there other_too).seen
 
-  pub both_see : (xs ys : Inputs)
-      → Agree s first second t u xs ys
-      → view s.gln (shared_run first t xs).1 ≡ view s.gln (shared_run second u ys).1
-  both_see xs ys agree = see_alike xs ys agree.parties agree.rows agree.items
+    pub told_alike : replies_to gln xs (shared_run t xs).0 ≡ replies_to gln ys (shared_run u ys).0
+    told_alike = (whole_run gln xs t here other).told ∙ ap (λ end. end.0) same_alone ∙ sym (whole_run gln ys u there other_too).told
 
-  pub both_told : (xs ys : Inputs)
-      → Agree s first second t u xs ys
-      → replies_to s.gln xs (shared_run first t xs).0 ≡ replies_to s.gln ys (shared_run second u ys).0
-  both_told xs ys agree = told_alike xs ys agree.parties agree.rows agree.items
-
-  pub both_statuses : (xs xs_later ys ys_later : Inputs) (x y : Input)
-      → Agree s first second t u (xs ++ (x, Whole) ∷ xs_later) (ys ++ (y, Whole) ∷ ys_later)
-      → length (items s.gln first xs) ≡ length (items s.gln second ys)
-      → AsksStatus first s x
-      → AsksStatus second s y
-      → reply_between first t xs x xs_later ≡ reply_between second u ys y ys_later
-  both_statuses xs xs_later ys ys_later x y agree counts asked too =
-      let joined = sym (items_after s.gln first xs ((x, Whole) ∷ xs_later))
-      ∙ agree.items
-      ∙ items_after s.gln second ys ((y, Whole) ∷ ys_later) in
-      let so_far = fronts_alike (items s.gln first xs) (items s.gln first ((x, Whole) ∷ xs_later))
-      (items s.gln second ys) (items s.gln second ((y, Whole) ∷ ys_later)) joined counts in
-      status_between first s t xs x xs_later here.known asked
-      ∙ ap (λ rows. Some (done (status_text rows))) (see_alike xs ys agree.parties agree.rows so_far)
-      ∙ sym (status_between second s u ys y ys_later there.known too)
+  pub statuses_alike : (xs xs_later ys ys_later : Inputs) (x y : Input)
+      → items gln t (xs ++ (x, Whole) ∷ xs_later) ≡ items gln u (ys ++ (y, Whole) ∷ ys_later)
+      → length (items gln t xs) ≡ length (items gln u ys)
+      → AsksStatus gln t x
+      → AsksStatus gln u y
+      → reply_between t xs x xs_later ≡ reply_between u ys y ys_later
+  statuses_alike xs xs_later ys ys_later x y same_items counts asked too =
+      let joined = sym (items_after gln t xs ((x, Whole) ∷ xs_later))
+      ∙ same_items
+      ∙ items_after gln u ys ((y, Whole) ∷ ys_later) in
+      let so_far = fronts_alike (items gln t xs) (items gln (shared_run t xs).1 ((x, Whole) ∷ xs_later))
+      (items gln u ys) (items gln (shared_run u ys).1 ((y, Whole) ∷ ys_later)) joined counts in
+      status_between gln t xs x xs_later here asked
+      ∙ ap (λ rows. Some (own_report gln rows)) (see_alike xs ys so_far)
+      ∙ sym (status_between gln u ys y ys_later there too)

@@ -1,14 +1,15 @@
 -- Who a caller is, by the row that its GLN has: a supplier, or else the retailer, or else nobody.
-use Rattle.std.proofs.Common.{◌≡◌, ℕ, true, false, ◌&&◌, if◌then◌else◌, List, [], ◌∷◌, inl, inr, Option, Some, None, refl}
-use Rattle.std.proofs.Common.{sym, ◌∙◌, ap, Bool}
-use Rattle.hub_parties.specs.Rows.{RegisterRows, parties_of, supplier_row, row_of, role_by}
+use Rattle.std.proofs.Common.{◌≡◌, ℕ, true, false, ◌&&◌, if◌then◌else◌, List, Option, Some, None, refl}
+use Rattle.std.proofs.Common.{Bool}
+use Rattle.std.proofs.lemmas.Bool.{and_parts}
+use Rattle.hub_parties.specs.Rows.{RegisterRows, parties_of, row_of, role_by}
 use Rattle.hub_parties.specs.declared.role.Role.TheVariants.{Retailer, Supplier}
 use Rattle.hub_parties.specs.declared.row.SupplierRow.{SupplierRow}
 use Rattle.hub_tables.specs.Rows.{same}
 use Rattle.hub_tables.specs.Tables.{Tables, view}
-use Rattle.hub_tables.proofs.Lists.{decide, same_is}
-use Rattle.hub_law.specs.Alone.{Item, Own, supplier_step, own_items, retailer_items, items_of_input, items_as}
-use Rattle.hub_law.specs.Machine.{shared_step, step_as}
+use Rattle.hub_tables.proofs.Lists.{same_is}
+use Rattle.hub_law.specs.Alone.{Item, supplier_step, own_items, retailer_items, items_under, items_as}
+use Rattle.hub_law.specs.Machine.{step_under, step_as}
 use Rattle.hub_law.specs.Mark.{Mark, replied}
 use Rattle.hub_law.specs.Replies.{denied}
 use Rattle.hub_law.specs.Requests.{supplier_request, retailer_request}
@@ -28,7 +29,8 @@ step_by register None input mark t =
 abbrev pub items_by : List ℕ → RegisterRows → Option SupplierRow → Input → Mark → List Item
 items_by gln register (Some s) input mark = own_items gln input mark
 items_by gln register None input mark =
-    if is_retailers register input then retailer_items gln register input.moment mark input.request else []
+    if is_retailers register input then retailer_items gln register input.moment mark input.request
+    else own_items gln input mark
 
 module _ (register : RegisterRows) (input : Input) (mark : Mark) where
   by_row : (t : Tables) (o : Option SupplierRow)
@@ -43,31 +45,36 @@ module _ (register : RegisterRows) (input : Input) (mark : Mark) where
       ≡ (if v then retailer_request register input.moment mark input.request t else replied mark denied t))
       [ true ↦ refl | false ↦ refl ]
 
-  pub step_is : (t : Tables) → shared_step register t input mark ≡ step_by register (row_of register input.caller) input mark t
+  pub step_is : (t : Tables) → step_under register t input mark ≡ step_by register (row_of register input.caller) input mark t
   step_is t = by_row t (row_of register input.caller)
 
-  items_by_row : (gln : List ℕ) (s : SupplierRow)
-      → supplier_row register.suppliers gln ≡ Some s
-      → (o : Option SupplierRow)
-      → row_of register input.caller ≡ o
+  items_by_row : (gln : List ℕ) (o : Option SupplierRow)
       → items_as gln register (role_by register o input.caller input.key) input mark ≡ items_by gln register o input mark
-  items_by_row gln s known (Some w) h =
+  items_by_row gln (Some w) =
       elim (same w.key input.key) as
       (λ v. items_as gln register (if v then Some Supplier else None) input mark ≡ own_items gln input mark)
       [ true ↦ refl | false ↦ refl ]
-  items_by_row gln s known None h =
+  items_by_row gln None =
       elim (is_retailers register input) as (λ v. items_as gln register (if v then Some Retailer else None) input mark
-      ≡ (if v then retailer_items gln register input.moment mark input.request else [])) [
-        | true ↦ refl
-        | false ↦ elim (decide (same input.caller gln)) [
-          | inl e ↦ let both : Some s ≡ None =
-              sym known ∙ ap (supplier_row register.suppliers) (sym (same_is input.caller gln e)) ∙ h in
-              absurd (cc)
-          | inr e ↦ ap (λ v. if v then Own input mark ∷ [] else []) e
-        ]
-      ]
+      ≡ (if v then retailer_items gln register input.moment mark input.request else own_items gln input mark))
+      [ true ↦ refl | false ↦ refl ]
 
-  pub items_are : (gln : List ℕ) (s : SupplierRow)
-      → supplier_row register.suppliers gln ≡ Some s
-      → items_of_input gln register input mark ≡ items_by gln register (row_of register input.caller) input mark
-  items_are gln s known = items_by_row gln s known (row_of register input.caller) refl
+  pub items_are : (gln : List ℕ) → items_under gln register input mark ≡ items_by gln register (row_of register input.caller) input mark
+  items_are gln = items_by_row gln (row_of register input.caller)
+
+-- who asks with the retailer's GLN
+pub retailer_asks : (register : RegisterRows) (input : Input) → is_retailers register input ≡ true → register.retailer ≡ input.caller
+retailer_asks register input h =
+    same_is register.retailer input.caller
+    (and_parts (same register.retailer input.caller) (same register.retailer_key input.key) h).0
+
+-- the retailer's role: it has no row, and its key
+pub as_retailer : (register : RegisterRows) (o : Option SupplierRow) (caller key : List ℕ)
+    → role_by register o caller key ≡ Some Retailer
+    → (same register.retailer caller && same register.retailer_key key) ≡ true
+as_retailer register (Some s) caller key h =
+    elim (same s.key key) as (λ v. (if v then Some Supplier else None) ≡ Some Retailer
+    → (same register.retailer caller && same register.retailer_key key) ≡ true) [ true ↦ λ e. cc | false ↦ λ e. cc ] h
+as_retailer register None caller key h =
+    elim (same register.retailer caller && same register.retailer_key key) as
+    (λ v. (if v then Some Retailer else None) ≡ Some Retailer → v ≡ true) [ true ↦ λ e. refl | false ↦ λ e. cc ] h

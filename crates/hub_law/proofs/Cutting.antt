@@ -13,14 +13,15 @@ use Rattle.hub_parties.specs.declared.row.SupplierRow.{SupplierRow}
 use Rattle.hub_tables.specs.State.{entry_at}
 use Rattle.hub_tables.specs.Tables.{Tables, view}
 use Rattle.hub_tables.specs.declared.rows.MailRow.{MailRow}
+use Rattle.hub_rules.specs.JoinRules.{is_join}
 use Rattle.hub_rules.specs.declared.incoming.IncomingMessage.{IncomingMessage}
-use Rattle.hub_law.specs.Machine.{shared_step, step_as}
-use Rattle.hub_law.specs.Mark.{Mark, Whole, StoppedAfter}
+use Rattle.hub_law.specs.Machine.{step_under, step_as}
+use Rattle.hub_law.specs.Mark.{Mark, Whole, StoppedAfter, replied}
 use Rattle.hub_law.specs.Messages.{incoming, messages_at, deliver_suppliers}
 use Rattle.hub_law.specs.Opening.{Opened}
-use Rattle.hub_law.specs.Replies.{told_words, interchange_line, message_lines, stopped_line, stopped, whole_reply, cut_reply}
+use Rattle.hub_law.specs.Replies.{denied, told_words, interchange_line, message_lines, stopped_line, stopped, whole_reply, cut_reply}
 use Rattle.hub_law.specs.Requests.{uploaded, from_supplier, from_retailer, supplier_request}
-use Rattle.hub_law.specs.Requests.{retailer_request, deliver_named, taken}
+use Rattle.hub_law.specs.Requests.{retailer_request, deliver_named, taken, answered, join}
 use Rattle.hub_law.specs.Stops.{Upload, opened_for, upload_from, upload_by, upload_of, all_acts, first_acts, reply_behind}
 use Rattle.hub_law.specs.Told.{Told, Act, is_refused, in_row}
 use Rattle.hub_law.specs.Widths.{line}
@@ -166,6 +167,7 @@ module _ (register : RegisterRows) (t : Tables) (mark : Mark) (P : Interchange �
   suppliers s moment requests.Status upload h p = cc
   suppliers s moment (requests.StatusOf gln) upload h p = cc
   suppliers s moment (requests.Cancel c) upload h p = cc
+  suppliers s moment (requests.Join row) upload h p = cc
 
   retailers : (moment : ℕ) (request : Request) (upload : Upload)
       → upload_from (from_retailer (parties_of register)) (deliver_named register) request ≡ Some upload
@@ -179,6 +181,7 @@ module _ (register : RegisterRows) (t : Tables) (mark : Mark) (P : Interchange �
   retailers moment requests.Status upload h p = cc
   retailers moment (requests.StatusOf gln) upload h p = cc
   retailers moment (requests.Cancel c) upload h p = cc
+  retailers moment (requests.Join row) upload h p = cc
 
   by_role : (role : Option Role) (row : Option SupplierRow) (input : Input) (upload : Upload)
       → upload_by register role row input.request ≡ Some upload
@@ -192,7 +195,7 @@ module _ (register : RegisterRows) (t : Tables) (mark : Mark) (P : Interchange �
   pub by_anybody : (input : Input) (upload : Upload)
       → upload_of register input ≡ Some upload
       → P upload.interchange
-      → shared_step register t input mark ≡ after upload.act input.moment upload.interchange
+      → step_under register t input mark ≡ after upload.act input.moment upload.interchange
   by_anybody input upload h p =
       by_role (role_of register input.caller input.key) (row_of register input.caller) input upload h p
 
@@ -215,6 +218,7 @@ module _ (register : RegisterRows) (t : Tables) (k : ℕ) where
   suppliers_none s moment requests.Status h = refl
   suppliers_none s moment (requests.StatusOf gln) h = refl
   suppliers_none s moment (requests.Cancel c) h = refl
+  suppliers_none s moment (requests.Join row) h = refl
 
   retailers_none : (moment : ℕ) (request : Request)
       → upload_from (from_retailer (parties_of register)) (deliver_named register) request ≡ None
@@ -227,6 +231,9 @@ module _ (register : RegisterRows) (t : Tables) (k : ℕ) where
   retailers_none moment requests.Status h = refl
   retailers_none moment (requests.StatusOf gln) h = refl
   retailers_none moment (requests.Cancel c) h = refl
+  retailers_none moment (requests.Join row) h =
+      elim (is_join row) as (λ v. (if v then answered (StoppedAfter k) (join register row t) t else replied (StoppedAfter k) denied t)
+      ≡ (stopped, t)) [ true ↦ refl | false ↦ refl ]
 
   none_by_role : (role : Option Role) (row : Option SupplierRow) (input : Input)
       → upload_by register role row input.request ≡ None
@@ -236,12 +243,12 @@ module _ (register : RegisterRows) (t : Tables) (k : ℕ) where
   none_by_role (Some Retailer) row input h = retailers_none input.moment input.request h
   none_by_role None row input h = refl
 
-  pub no_upload : (input : Input) → upload_of register input ≡ None → shared_step register t input (StoppedAfter k) ≡ (stopped, t)
+  pub no_upload : (input : Input) → upload_of register input ≡ None → step_under register t input (StoppedAfter k) ≡ (stopped, t)
   no_upload input h = none_by_role (role_of register input.caller input.key) (row_of register input.caller) input h
 
 pub whole_upload : (register : RegisterRows) (t : Tables) (input : Input) (upload : Upload)
     → upload_of register input ≡ Some upload
-    → shared_step register t input Whole
+    → step_under register t input Whole
     ≡ (whole_reply upload.interchange (all_acts upload input.moment t).0, (all_acts upload input.moment t).1)
 whole_upload register t input upload h =
     by_anybody register t Whole (λ i. Unit {0})
@@ -252,7 +259,7 @@ whole_upload register t input upload h =
 pub behind_some : (register : RegisterRows) (t : Tables) (input : Input) (k : ℕ) (upload : Upload)
     → upload_of register input ≡ Some upload
     → k < length upload.interchange.messages
-    → shared_step register t input (StoppedAfter k)
+    → step_under register t input (StoppedAfter k)
     ≡ (reply_behind k upload.interchange (all_acts upload input.moment t).0, (first_acts k upload input.moment t).1)
 behind_some register t input k upload h less =
     by_anybody register t (StoppedAfter k) (λ (i : Interchange). k < length i.messages)
@@ -264,7 +271,7 @@ behind_some register t input k upload h less =
 pub too_far_behind : (register : RegisterRows) (t : Tables) (input : Input) (k : ℕ) (upload : Upload)
     → upload_of register input ≡ Some upload
     → length upload.interchange.messages ≤ k
-    → shared_step register t input (StoppedAfter k) ≡ (stopped, t)
+    → step_under register t input (StoppedAfter k) ≡ (stopped, t)
 too_far_behind register t input k upload h most =
     by_anybody register t (StoppedAfter k) (λ (i : Interchange). length i.messages ≤ k)
     (λ deliver moment i. (stopped, t))

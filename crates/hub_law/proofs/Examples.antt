@@ -11,7 +11,7 @@ use Rattle.edi_goods.specs.Receipt.{receipt_of}
 use Rattle.hub_parties.specs.declared.row.SupplierRow.{SupplierRow}
 use Rattle.hub_parties.specs.Rows.{RegisterRows}
 use Rattle.hub_tables.specs.Cases.{kind_letter, truth_number}
-use Rattle.hub_tables.specs.Tables.{empty}
+use Rattle.hub_tables.specs.Register.{founded}
 use Rattle.hub_tables.specs.declared.cases.MailKind.TheVariants as kinds
 use Rattle.hub_tables.specs.declared.rows.MailRow.{MailRow}
 use Rattle.hub_law.specs.Machine.{Inputs, shared_run}
@@ -64,7 +64,7 @@ abbrev bad : List ℕ → Reply
 bad code = record { outcome = Bad; refused = true; body = lines ((codes "refused " ++ code) ∷ []) }
 
 abbrev replies : Inputs → List Reply
-replies inputs = (shared_run register empty inputs).0
+replies inputs = (shared_run (founded register) inputs).0
 
 abbrev first_order : List ℕ
 first_order =

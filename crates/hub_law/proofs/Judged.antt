@@ -14,11 +14,11 @@ use Rattle.hub_rules.specs.Laws.{Apart}
 use Rattle.hub_rules.proofs.Belonging.{Keeps}
 use Rattle.hub_rules.proofs.OwnChanges.{after_changes}
 use Rattle.hub_law.specs.Told.{Told, Refused, told, act, read_act}
-use Rattle.hub_law.proofs.Acting.{Alike}
+use Rattle.hub_law.proofs.Acting.{Alike, parties_same}
 
 module _ (suppliers : List SupplierRow) (s : SupplierRow) (t : Tables) (sound : Sound suppliers t) where
   pub unchanged : Apart suppliers s t t (view s.gln t)
-  unchanged = record { seen = refl; unseen = λ other ne. refl; sound = sound }
+  unchanged = record { seen = refl; unseen = λ other ne. refl; parties = parties_same t; sound = sound }
 
   pub nothing_done : (told : Told) → Alike suppliers s t (told, t) (told, view s.gln t)
   nothing_done told = record { told = refl; apart = unchanged }

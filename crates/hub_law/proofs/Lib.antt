@@ -5,6 +5,9 @@ pub mod Balance
 pub mod Callers
 pub mod Cutting
 mod Examples
+pub mod Going
+mod JoinExamples
+pub mod JoinsApart
 pub mod Judged
 pub mod MailOf
 pub mod Overlapping

@@ -7,23 +7,25 @@ use Rattle.std.proofs.lemmas.Bool.Decides.{nat_tests}
 use Rattle.std.proofs.lemmas.List.{length-take}
 use Rattle.edi_envelope.specs.declared.interchange.RawMessage.{RawMessage}
 use Rattle.gs1_ids.specs.Overlap.{PrefixFree}
-use Rattle.hub_parties.specs.Rows.{RegisterRows, parties_of, company_prefixes, supplier_row, row_of, role_by, role_of}
+use Rattle.hub_parties.specs.Rows.{Parties, RegisterRows, parties_of, company_prefixes, supplier_row, row_of, role_by}
 use Rattle.hub_parties.specs.declared.role.Role.TheVariants.{Retailer, Supplier}
 use Rattle.hub_parties.specs.declared.row.SupplierRow.{SupplierRow}
+use Rattle.hub_tables.specs.Register.{suppliers_of, register_of, parties_in, row_at}
 use Rattle.hub_tables.specs.Rows.{same}
 use Rattle.hub_tables.specs.Sets.{Has}
 use Rattle.hub_tables.specs.Tables.{Tables, view}
 use Rattle.hub_rules.specs.declared.incoming.IncomingMessage.{IncomingMessage}
+use Rattle.hub_rules.specs.Laws.{SoundHub}
 use Rattle.hub_rules.specs.Sound.{Sound}
 use Rattle.hub_rules.specs.declared.cancel.Cancel.{Cancel}
-use Rattle.hub_law.specs.Again.{MessageAt, Reaches, SameReference, tables_before, told_at}
-use Rattle.hub_law.specs.Machine.{Inputs, shared_step, shared_run, step_as}
+use Rattle.hub_law.specs.Again.{MessageAt, AsksCancel, Reaches, SameReference, tables_before, told_at}
+use Rattle.hub_law.specs.Machine.{Inputs, step_under, shared_step, shared_run, step_as}
 use Rattle.hub_law.specs.Mark.{Mark, Whole, StoppedEmpty, StoppedBare, StoppedAfter}
-use Rattle.hub_law.specs.Messages.{incoming, messages_at, deliver_suppliers, cancel}
+use Rattle.hub_law.specs.Messages.{incoming, messages_at, named, deliver_retailers, deliver_suppliers, cancel}
 use Rattle.hub_law.specs.Opening.{Opened}
 use Rattle.hub_law.specs.Remembered.{StaysRemembered, row_of_message, row_of_cancel}
-use Rattle.hub_law.specs.Replies.{cancel_reply}
-use Rattle.hub_law.specs.Requests.{deliver_named, from_supplier, from_retailer, retailer_request}
+use Rattle.hub_law.specs.Replies.{act_reply}
+use Rattle.hub_law.specs.Requests.{deliver_named, cancel_named, from_supplier, from_retailer, retailer_request}
 use Rattle.hub_law.specs.Stops.{Upload, upload_from, upload_by, upload_of}
 use Rattle.hub_law.specs.Told.{Told, Accepted, Repeated, Refused, Act, in_row}
 use Rattle.hub_law.specs.declared.reply.Reply.{Reply}
@@ -33,9 +35,10 @@ use Rattle.hub_law.specs.declared.request.Request.TheVariants as requests
 use Rattle.hub_law.proofs.Acts.{suppliers_act}
 use Rattle.hub_law.proofs.Cutting.{well_opened, whole_upload, behind_some}
 use Rattle.hub_law.proofs.Remembering.{named_remembered, suppliers_remembered, cancellation_remembered}
-use Rattle.hub_law.proofs.Repeated.{named_repeated, suppliers_repeated, cancellation_repeated}
-use Rattle.hub_law.proofs.Retailers.{message_sound}
-use Rattle.hub_law.proofs.Runs.{run_sound}
+use Rattle.hub_law.proofs.Repeated.{named_repeated, suppliers_repeated, cancellation_repeated, nobody_accepted}
+use Rattle.hub_law.proofs.Callers.{is_retailers, retailer_asks}
+use Rattle.hub_law.proofs.Going.{Goes, run_goes, parties_stay, retailer_has_no_row}
+use Rattle.hub_law.proofs.Retailers.{message_stays}
 use Rattle.hub_law.proofs.Staying.{all_retailers_stay, all_suppliers_stay, run_stays}
 use Rattle.hub_law.proofs.Steps.{gln_of}
 
@@ -107,10 +110,10 @@ at_place f [] (suc place) x h = cc
 at_place f (y ∷ xs) zero x h = let same : y ≡ x = cc in ap (λ x. Some (f x)) same
 at_place f (y ∷ xs) (suc place) x h = at_place f xs place x h
 
-run_of_both : (register : RegisterRows) (t : Tables) (before later : Inputs)
-    → (shared_run register t (before ++ later)).1 ≡ (shared_run register (shared_run register t before).1 later).1
-run_of_both register t [] later = refl
-run_of_both register t ((input, mark) ∷ before) later = run_of_both register (shared_step register t input mark).1 before later
+pub run_of_both : (t : Tables) (before later : Inputs)
+    → (shared_run t (before ++ later)).1 ≡ (shared_run (shared_run t before).1 later).1
+run_of_both t [] later = refl
+run_of_both t ((input, mark) ∷ before) later = run_of_both (shared_step t input mark).1 before later
 
 -- the act of whoever has a row, or none
 abbrev act_at : RegisterRows → Option SupplierRow → RawMessage × IncomingMessage → Act
@@ -127,6 +130,7 @@ act_kept opening act (requests.MailTaken number) upload h = cc
 act_kept opening act requests.Status upload h = cc
 act_kept opening act (requests.StatusOf gln) upload h = cc
 act_kept opening act (requests.Cancel c) upload h = cc
+act_kept opening act (requests.Join row) upload h = cc
 
 module _ (register : RegisterRows) where
   act_by_row : (input : Input) (upload : Upload) (o : Option SupplierRow)
@@ -169,25 +173,68 @@ module _ (register : RegisterRows) where
     act_sound gln (Some s) known sent t sound =
         (suppliers_act register.suppliers free (parties_of register) s
         (ap (supplier_row register.suppliers) (gln_of register.suppliers gln s known) ∙ known) sent t sound).apart.sound
-    act_sound gln None known sent t sound = message_sound register free sent t sound
+    act_sound gln None known sent t sound = (message_stays register free sent t sound).sound
 
-    act_again : (o : Option SupplierRow) (message : RawMessage) (one other : IncomingMessage) (t u : Tables)
-        → record one { moment = other.moment; decimal = other.decimal } ≡ other
-        → (act_at register o (message, one) t).0 ≡ Accepted
-        → StaysRemembered (act_at register o (message, one) t).1 u
-        → Sound register.suppliers u
-        → act_at register o (message, other) u ≡ (Repeated, u)
-    act_again o message one other t u same_again told stays sound =
-        subst (λ (again : IncomingMessage). act_at register o (message, again) u ≡ (Repeated, u)) same_again (by_row o told stays)
-      where
-        by_row : (o : Option SupplierRow)
-            → (act_at register o (message, one) t).0 ≡ Accepted
-            → StaysRemembered (act_at register o (message, one) t).1 u
-            → act_at register o (message, record one { moment = other.moment; decimal = other.decimal }) u ≡ (Repeated, u)
-        by_row (Some s) told stays =
-            suppliers_repeated register.suppliers (parties_of register) s (message, one) other.moment other.decimal t u told
-            stays sound
-        by_row None told stays = named_repeated register (message, one) other.moment other.decimal t u told stays sound
+  -- who has no row and whose upload is looked at is the retailer
+  sent_by_retailer : (input : Input) (upload : Upload)
+      → upload_of register input ≡ Some upload
+      → row_of register input.caller ≡ None
+      → register.retailer ≡ input.caller
+  sent_by_retailer input upload h none =
+      by_test (is_retailers register input) refl
+      (sym (ap (λ o. upload_by register (role_by register o input.caller input.key) o input.request) none) ∙ h)
+    where
+      by_test : (v : Bool)
+          → is_retailers register input ≡ v
+          → upload_by register (if is_retailers register input then Some Retailer else None) None input.request ≡ Some upload
+          → register.retailer ≡ input.caller
+      by_test true e asked = retailer_asks register input e
+      by_test false e asked =
+          let none : upload_by register (if false then Some Retailer else None) None input.request ≡ Some upload =
+          ap (λ v. upload_by register (if v then Some Retailer else None) None input.request) (sym e) ∙ asked in
+          cc
+
+-- Two registers of one hub, in the later of which stands who stood in the first.
+module _ (one later : RegisterRows) (parties : parties_of later ≡ parties_of one)
+    (stays : (gln : List ℕ) (s : SupplierRow) → row_of one gln ≡ Some s → row_of later gln ≡ Some s) where
+  -- what names a supplier of the first is judged by the later as by the first
+  named_alike : (message : RawMessage) (incoming : IncomingMessage) (u : Tables) (w : SupplierRow)
+      → row_of one (named message) ≡ Some w
+      → deliver_named later (message, incoming) u ≡ deliver_named one (message, incoming) u
+  named_alike message incoming u w known =
+      let row : row_of later (named message) ≡ row_of one (named message) = stays (named message) w known ∙ sym known in
+      λ i. deliver_retailers (view (named message)) (parties i) (row i) (message, incoming) u
+
+  act_again : (o : Option SupplierRow) (message : RawMessage) (first second : IncomingMessage) (t u : Tables)
+      → record first { moment = second.moment; decimal = second.decimal } ≡ second
+      → (act_at one o (message, first) t).0 ≡ Accepted
+      → StaysRemembered (act_at one o (message, first) t).1 u
+      → Sound later.suppliers u
+      → act_at later o (message, second) u ≡ (Repeated, u)
+  act_again o message first second t u same_again told still sound =
+      subst (λ (again : IncomingMessage). act_at later o (message, again) u ≡ (Repeated, u)) same_again (by_row o told still)
+    where
+      by_name : (row : Option SupplierRow)
+          → row_of one (named message) ≡ row
+          → (deliver_named one (message, first) t).0 ≡ Accepted
+          → StaysRemembered (deliver_named one (message, first) t).1 u
+          → deliver_named later (message, record first { moment = second.moment; decimal = second.decimal }) u ≡ (Repeated, u)
+      by_name None none told still = absurd (nobody_accepted (view (named message)) (parties_of one) (message, first) t
+          (ap (λ row. (deliver_retailers (view (named message)) (parties_of one) row (message, first) t).0) (sym none) ∙ told))
+      by_name (Some w) known told still =
+          named_alike message (record first { moment = second.moment; decimal = second.decimal }) u w known
+          ∙ named_repeated later.suppliers one (message, first) second.moment second.decimal t u told still sound
+
+      by_row : (o : Option SupplierRow)
+          → (act_at one o (message, first) t).0 ≡ Accepted
+          → StaysRemembered (act_at one o (message, first) t).1 u
+          → act_at later o (message, record first { moment = second.moment; decimal = second.decimal }) u ≡ (Repeated, u)
+      by_row (Some s) told still =
+          ap (λ p. deliver_suppliers (view s.gln) p s
+          (message, record first { moment = second.moment; decimal = second.decimal }) u) parties
+          ∙ suppliers_repeated later.suppliers (parties_of one) s (message, first) second.moment second.decimal t u told still
+          sound
+      by_row None told still = by_name (row_of one (named message)) refl told still
 
 -- the tables after an upload that reached a place still remember what was there after the message
 module _ (register : RegisterRows) (t : Tables) (input : Input) (upload : Upload)
@@ -215,7 +262,7 @@ module _ (register : RegisterRows) (t : Tables) (input : Input) (upload : Upload
   reached_stays : (mark : Mark)
       → place < length sents
       → Reaches mark input upload place
-      → StaysRemembered (in_row (upload.act) (take (place + 1) sents) t).1 (shared_step register t input mark).1
+      → StaysRemembered (in_row (upload.act) (take (place + 1) sents) t).1 (step_under register t input mark).1
   reached_stays Whole there reaches =
       subst (λ (after : Reply × Tables). StaysRemembered (in_row (upload.act) (take (place + 1) sents) t).1 after.1)
       (sym (whole_upload register t input upload looked_at))
@@ -230,31 +277,31 @@ module _ (register : RegisterRows) (t : Tables) (input : Input) (upload : Upload
       (more_stay (upload.act) stays sents (place + 1) k t (omega (arith, behind.0)))
 
 -- A message at a place of a run.
-module _ (register : RegisterRows) (t : Tables) (before between : Inputs) (first : Input) (mark : Mark) (place : ℕ)
-    (message : RawMessage) (one : MessageAt register first place message) (reaches : Reaches mark first one.upload place) where
-  abbrev whose : Option SupplierRow
-  whose = row_of register first.caller
-
+module _ (t : Tables) (before between : Inputs) (first : Input) (mark : Mark) (place : ℕ) (message : RawMessage)
+    (one : MessageAt (shared_run t before).1 first place message) (reaches : Reaches mark first one.upload place) where
   abbrev whole_run : Inputs
   whole_run = before ++ (first, mark) ∷ between
 
   abbrev at_first : Tables
-  at_first = (shared_run register t before).1
+  at_first = (shared_run t before).1
 
   abbrev at_second : Tables
-  at_second = (shared_run register t whole_run).1
+  at_second = (shared_run t whole_run).1
+
+  abbrev whose : Option SupplierRow
+  whose = row_at first.caller at_first
 
   abbrev here : Tables
-  here = tables_before register t before first one.upload place
+  here = tables_before at_first first one.upload place
 
-  first_act : one.upload.act ≡ act_at register whose
-  first_act = act_is register first one.upload one.looked_at
+  first_act : one.upload.act ≡ act_at (register_of at_first) whose
+  first_act = act_is (register_of at_first) first one.upload one.looked_at
 
-  stays_of : (act : RawMessage × IncomingMessage → Act)
+  stays_of : (register : RegisterRows) (act : RawMessage × IncomingMessage → Act)
       → act ≡ act_at register whose
       → (sents : List (RawMessage × IncomingMessage)) (u : Tables)
       → StaysRemembered u (in_row act sents u).1
-  stays_of act is =
+  stays_of register act is =
       subst (λ act. (sents : List (RawMessage × IncomingMessage)) (u : Tables) → StaysRemembered u (in_row act sents u).1)
       (sym is) (acts_stay register whose)
 
@@ -275,14 +322,14 @@ module _ (register : RegisterRows) (t : Tables) (before between : Inputs) (first
       subst (λ (u : Tables). Has u.remembered row)
       (sym (next_there (one.upload.act) (messages_at first.moment one.upload.interchange) place sent at_first first_there))
       was in
-      let stepped = reached_stays register at_first first one.upload one.looked_at place
-      (stays_of one.upload.act first_act) mark
+      let stepped = reached_stays (register_of at_first) at_first first one.upload one.looked_at place
+      (stays_of (register_of at_first) one.upload.act first_act) mark
       (within (messages_at first.moment one.upload.interchange) place sent first_there) reaches row after in
-      let ran = run_stays register (shared_step register at_first first mark).1 between row stepped in
-      subst (λ (u : Tables). Has u.remembered row) (sym (run_of_both register t before ((first, mark) ∷ between))) ran
+      let ran = run_stays (shared_step at_first first mark).1 between row stepped in
+      subst (λ (u : Tables). Has u.remembered row) (sym (run_of_both t before ((first, mark) ∷ between))) ran
 
   -- where it was accepted
-  module _ (told : told_at register t before first one.upload place ≡ Some Accepted) where
+  module _ (told : told_at at_first first one.upload place ≡ Some Accepted) where
     accepted : (one.upload.act sent here).0 ≡ Accepted
     accepted =
         let both : Some (one.upload.act sent here).0 ≡ Some Accepted =
@@ -298,21 +345,39 @@ module _ (register : RegisterRows) (t : Tables) (before between : Inputs) (first
         (sym first_act) (by_row whose) accepted)
       where
         by_row : (o : Option SupplierRow)
-            → (act_at register o sent here).0 ≡ Accepted
-            → Has (act_at register o sent here).1.remembered (row_of_message o message sent.1)
-        by_row (Some s) = suppliers_remembered (parties_of register) s message sent.1 here
-        by_row None = named_remembered register message sent.1 here
+            → (act_at (register_of at_first) o sent here).0 ≡ Accepted
+            → Has (act_at (register_of at_first) o sent here).1.remembered (row_of_message o message sent.1)
+        by_row (Some s) = suppliers_remembered (parties_in at_first) s message sent.1 here
+        by_row None = named_remembered (register_of at_first) message sent.1 here
 
     -- and it comes again
-    module _ (second : Input) (later : ℕ) (other : MessageAt register second later message)
-        (free : PrefixFree (company_prefixes register.suppliers)) (sound : Sound register.suppliers t)
+    module _ (second : Input) (later : ℕ) (other : MessageAt at_second second later message) (start : SoundHub at_first)
         (alike : SameReference first second one.upload other.upload) where
       abbrev there : Tables
-      there = tables_before register t whole_run second other.upload later
+      there = tables_before at_second second other.upload later
 
-      second_act : other.upload.act ≡ act_at register whose
+      goes : Goes at_first at_second
+      goes = subst (Goes at_first) (sym (run_of_both t before ((first, mark) ∷ between)))
+          (run_goes ((first, mark) ∷ between) at_first start)
+
+      -- the row of the caller is what it was
+      row_later : row_at first.caller at_second ≡ whose
+      row_later = by_row whose refl
+        where
+          by_row : (o : Option SupplierRow) → whose ≡ o → row_at first.caller at_second ≡ o
+          by_row (Some s) known = goes.stays first.caller s known
+          by_row None none =
+              let retailer : (register_of at_second).retailer ≡ first.caller =
+              ap (λ (p : Parties). p.retailer) (parties_stay at_first at_second goes)
+              ∙ sent_by_retailer (register_of at_first) first one.upload one.looked_at none in
+              ap (supplier_row (suppliers_of at_second)) (sym retailer)
+              ∙ retailer_has_no_row (register_of at_second) goes.sound.register.right
+
+      second_act : other.upload.act ≡ act_at (register_of at_second) whose
       second_act =
-          act_is register second other.upload other.looked_at ∙ ap (λ caller. act_at register (row_of register caller)) alike.caller
+          act_is (register_of at_second) second other.upload other.looked_at
+          ∙ ap (λ caller. act_at (register_of at_second) (row_at caller at_second)) alike.caller
+          ∙ ap (act_at (register_of at_second)) row_later
 
       abbrev again : RawMessage × IncomingMessage
       again = (message, incoming second.moment other.upload.interchange message)
@@ -324,86 +389,94 @@ module _ (register : RegisterRows) (t : Tables) (before between : Inputs) (first
 
       still_remembers : StaysRemembered (one.upload.act sent here).1 there
       still_remembers = λ row was.
-          stays_of other.upload.act second_act (take later (messages_at second.moment other.upload.interchange)) at_second row
-          (remembers row was)
+          stays_of (register_of at_second) other.upload.act second_act
+          (take later (messages_at second.moment other.upload.interchange)) at_second row (remembers row was)
 
-      sound_there : Sound register.suppliers there
+      sound_there : Sound (suppliers_of at_second) there
       sound_there =
-          row_sound (other.upload.act) (Sound register.suppliers)
+          row_sound (other.upload.act) (Sound (suppliers_of at_second))
           (subst (λ act. (sent : RawMessage × IncomingMessage) (u : Tables)
-          → Sound register.suppliers u
-          → Sound register.suppliers (act sent u).1) (sym second_act) (act_sound register free first.caller whose refl))
-          (take later (messages_at second.moment other.upload.interchange)) at_second (run_sound register free t whole_run sound)
+          → Sound (suppliers_of at_second) u
+          → Sound (suppliers_of at_second) (act sent u).1) (sym second_act)
+          (act_sound (register_of at_second) goes.sound.register.right.prefixes_free first.caller whose row_later))
+          (take later (messages_at second.moment other.upload.interchange)) at_second goes.sound.sound
 
       repeated : other.upload.act again there ≡ (Repeated, there)
       repeated =
           subst (λ act. act again there ≡ (Repeated, there)) (sym second_act)
-          (act_again register free whose message sent.1 again.1 here there
-          (λ k. record again.1 { control = sym alike.control k })
+          (act_again (register_of at_first) (register_of at_second) (parties_stay at_first at_second goes) goes.stays
+          whose message sent.1 again.1 here there (λ k. record again.1 { control = sym alike.control k })
           (subst (λ act. (act sent here).0 ≡ Accepted) first_act accepted)
           (subst (λ act. StaysRemembered (act sent here).1 there) first_act still_remembers) sound_there)
 
-      pub told_again : told_at register t whole_run second other.upload later ≡ Some Repeated
+      pub told_again : told_at at_second second other.upload later ≡ Some Repeated
       told_again =
           told_there (other.upload.act) (messages_at second.moment other.upload.interchange) later again at_second second_there
           ∙ ap (λ (after : Told × Tables). Some after.0) repeated
 
-      pub left_again : tables_before register t whole_run second other.upload (later + 1) ≡ there
+      pub left_again : tables_before at_second second other.upload (later + 1) ≡ there
       left_again =
           next_there (other.upload.act) (messages_at second.moment other.upload.interchange) later again at_second second_there
           ∙ ap (λ (after : Told × Tables). after.1) repeated
 
 -- The cancellation that comes again.
-module _ (register : RegisterRows) (c : Cancel) where
-  abbrev cancels : Act
-  cancels = cancel (view c.supplier) (supplier_row register.suppliers c.supplier) c
-
-  step_cancels : (input : Input) (u : Tables)
-      → role_of register input.caller input.key ≡ Some Retailer
-      → input.request ≡ requests.Cancel c
-      → shared_step register u input Whole ≡ (cancel_reply (cancels u).0, (cancels u).1)
-  step_cancels input u role asks =
-      ap (λ role. step_as register role (row_of register input.caller) input Whole u) role
-      ∙ ap (λ request. retailer_request register input.moment Whole request u) asks
+module _ (c : Cancel) where
+  step_cancels : (u : Tables) (input : Input)
+      → AsksCancel u c input
+      → shared_step u input Whole ≡ (act_reply (cancel_named (register_of u) c u).0, (cancel_named (register_of u) c u).1)
+  step_cancels u input asked =
+      ap (λ role. step_as (register_of u) role (row_at input.caller u) input Whole u) asked.retailers
+      ∙ ap (λ request. retailer_request (register_of u) input.moment Whole request u) asked.asks
 
   -- where a cancellation was accepted, what it left is still remembered after the run
-  module _ (t : Tables) (before between : Inputs) (first : Input)
-      (first_role : role_of register first.caller first.key ≡ Some Retailer) (first_asks : first.request ≡ requests.Cancel c) where
-    abbrev after_run : Tables
-    after_run = (shared_run register t (before ++ (first, Whole) ∷ between)).1
+  module _ (t : Tables) (before between : Inputs) (first : Input) (asked : AsksCancel (shared_run t before).1 c first) where
+    abbrev when_first : Tables
+    when_first = (shared_run t before).1
 
-    cancel_stays : StaysRemembered (cancels (shared_run register t before).1).1 after_run
+    abbrev after_run : Tables
+    after_run = (shared_run t (before ++ (first, Whole) ∷ between)).1
+
+    cancel_stays : StaysRemembered (cancel_named (register_of when_first) c when_first).1 after_run
     cancel_stays = λ row was.
-        let at_first = (shared_run register t before).1 in
-        let stepped : Has (shared_step register at_first first Whole).1.remembered row =
-        subst (λ (after : Reply × Tables). Has after.1.remembered row)
-        (sym (step_cancels first at_first first_role first_asks)) was in
-        subst (λ (u : Tables). Has u.remembered row) (sym (run_of_both register t before ((first, Whole) ∷ between)))
-        (run_stays register (shared_step register at_first first Whole).1 between row stepped)
+        let stepped : Has (shared_step when_first first Whole).1.remembered row =
+        subst (λ (after : Reply × Tables). Has after.1.remembered row) (sym (step_cancels when_first first asked)) was in
+        subst (λ (u : Tables). Has u.remembered row) (sym (run_of_both t before ((first, Whole) ∷ between)))
+        (run_stays (shared_step when_first first Whole).1 between row stepped)
 
     -- the reply tells that it was accepted
-    told_by_reply : (told : Told) → cancel_reply told ≡ cancel_reply Accepted → told ≡ Accepted
+    told_by_reply : (told : Told) → act_reply told ≡ act_reply Accepted → told ≡ Accepted
     told_by_reply Accepted h = refl
     told_by_reply Repeated h = let first : 114 ≡ 97 = ap (λ (r : Reply). get_or r.body 0 0) h in absurd (omega (arith, first))
     told_by_reply (Refused code) h = absurd (true≢false (ap (λ (r : Reply). r.refused) h))
 
-    pub cancellation_there : (shared_step register (shared_run register t before).1 first Whole).0 ≡ cancel_reply Accepted
+    pub cancellation_there : (shared_step when_first first Whole).0 ≡ act_reply Accepted
         → Has after_run.remembered (row_of_cancel c)
     cancellation_there h =
-        let at_first = (shared_run register t before).1 in
-        let told = told_by_reply (cancels at_first).0
-        (sym (ap (λ (after : Reply × Tables). after.0) (step_cancels first at_first first_role first_asks)) ∙ h) in
-        cancel_stays (row_of_cancel c) (cancellation_remembered register c at_first told)
+        let told = told_by_reply (cancel_named (register_of when_first) c when_first).0
+        (sym (ap (λ (after : Reply × Tables). after.0) (step_cancels when_first first asked)) ∙ h) in
+        cancel_stays (row_of_cancel c) (cancellation_remembered (register_of when_first) c when_first told)
 
     pub cancelled_again : (second : Input)
-        → PrefixFree (company_prefixes register.suppliers)
-        → Sound register.suppliers t
-        → role_of register second.caller second.key ≡ Some Retailer
-        → second.request ≡ requests.Cancel c
-        → (cancels (shared_run register t before).1).0 ≡ Accepted
-        → shared_step register after_run second Whole ≡ (cancel_reply Repeated, after_run)
-    cancelled_again second free sound second_role second_asks told =
-        step_cancels second after_run second_role second_asks
-        ∙ ap (λ (after : Told × Tables). (cancel_reply after.0, after.1))
-        (cancellation_repeated register c (shared_run register t before).1 after_run told cancel_stays
-        (run_sound register free t (before ++ (first, Whole) ∷ between) sound))
+        → SoundHub when_first
+        → AsksCancel after_run c second
+        → (cancel_named (register_of when_first) c when_first).0 ≡ Accepted
+        → shared_step after_run second Whole ≡ (act_reply Repeated, after_run)
+    cancelled_again second start asked_again told =
+        step_cancels after_run second asked_again
+        ∙ ap (λ (after : Told × Tables). (act_reply after.0, after.1)) (by_row (row_at c.supplier when_first) refl)
+      where
+        ran : Goes when_first after_run
+        ran = subst (Goes when_first) (sym (run_of_both t before ((first, Whole) ∷ between)))
+            (run_goes ((first, Whole) ∷ between) when_first start)
+
+        by_row : (o : Option SupplierRow)
+            → row_at c.supplier when_first ≡ o
+            → cancel_named (register_of after_run) c after_run ≡ (Repeated, after_run)
+        by_row None none =
+            let refused : (cancel (view c.supplier) None c when_first).0 ≡ Accepted =
+            ap (λ o. (cancel (view c.supplier) o c when_first).0) (sym none) ∙ told in
+            cc
+        by_row (Some w) known =
+            ap (λ o. cancel (view c.supplier) o c after_run) (ran.stays c.supplier w known ∙ sym known)
+            ∙ cancellation_repeated (suppliers_of after_run) (register_of when_first) c when_first after_run told cancel_stays
+            ran.sound.sound

@@ -24,6 +24,7 @@ use Rattle.hub_rules.specs.RepeatRules.{Reference, judge_once}
 use Rattle.hub_rules.specs.ResponseRules.{judge_new_response}
 use Rattle.hub_rules.specs.PartyRules.{is_other_buyer, if_registered}
 use Rattle.hub_rules.specs.Rules.{referred_by, judge_message, judge_order, judge_response, judge_despatch, judge_receipt, judge_cancel}
+use Rattle.hub_rules.specs.declared.code.Code.{Code}
 use Rattle.hub_rules.specs.declared.code.Code.TheVariants as rules
 use Rattle.hub_rules.specs.declared.cancel.Cancel.{Cancel}
 use Rattle.hub_rules.specs.declared.incoming.IncomingMessage.{IncomingMessage}
@@ -170,13 +171,14 @@ module _ (suppliers : List SupplierRow) where
         (λ s. record { supplier = s.gln; side = sides.Cancellation; control = c.reference; message = [] }) (λ s. refl)
         (cancel_text c) (λ s. judge_new_cancel c) (λ u s. judge_new_cancel c))
 
-pub named_repeated : (register : RegisterRows) (sent : RawMessage × IncomingMessage) (moment decimal : ℕ) (t u : Tables)
+pub named_repeated : (suppliers : List SupplierRow) (register : RegisterRows) (sent : RawMessage × IncomingMessage)
+    (moment decimal : ℕ) (t u : Tables)
     → (deliver_named register sent t).0 ≡ Accepted
     → StaysRemembered (deliver_named register sent t).1 u
-    → Sound register.suppliers u
+    → Sound suppliers u
     → deliver_named register (sent.0, record sent.1 { moment = moment; decimal = decimal }) u ≡ (Repeated, u)
-named_repeated register sent moment decimal t u told stays sound =
-    retailers_repeats register.suppliers (named sent.0) t (parties_of register)
+named_repeated suppliers register sent moment decimal t u told stays sound =
+    retailers_repeats suppliers (named sent.0) t (parties_of register)
     (supplier_row register.suppliers (named sent.0)) (gln_of register.suppliers (named sent.0)) sent moment decimal told u
     stays sound
 
@@ -189,11 +191,41 @@ pub suppliers_repeated : (suppliers : List SupplierRow) (parties : Parties) (s :
 suppliers_repeated suppliers parties s sent moment decimal t u told stays sound =
     suppliers_repeats suppliers s.gln t parties s refl sent moment decimal told u stays sound
 
-pub cancellation_repeated : (register : RegisterRows) (c : Cancel) (t u : Tables)
+pub cancellation_repeated : (suppliers : List SupplierRow) (register : RegisterRows) (c : Cancel) (t u : Tables)
     → (cancel (view c.supplier) (supplier_row register.suppliers c.supplier) c t).0 ≡ Accepted
     → StaysRemembered (cancel (view c.supplier) (supplier_row register.suppliers c.supplier) c t).1 u
-    → Sound register.suppliers u
+    → Sound suppliers u
     → cancel (view c.supplier) (supplier_row register.suppliers c.supplier) c u ≡ (Repeated, u)
-cancellation_repeated register c t u told stays sound =
-    cancel_repeats register.suppliers c.supplier t (supplier_row register.suppliers c.supplier)
+cancellation_repeated suppliers register c t u told stays sound =
+    cancel_repeats suppliers c.supplier t (supplier_row register.suppliers c.supplier)
     (gln_of register.suppliers c.supplier) c told u stays sound
+
+-- what names no registered supplier is never accepted
+either_never : (test : Bool) (one other : Told × Tables)
+    → (one.0 ≡ Accepted → ⊥)
+    → (other.0 ≡ Accepted → ⊥)
+    → (cond test one other).0 ≡ Accepted → ⊥
+either_never true one other f g = f
+either_never false one other f g = g
+
+read_never : {X : Type 0} (read : Result X MessageFault) (judge : X → Verdict) (t : Tables)
+    → ((x : X) → (act (judge x) t).0 ≡ Accepted → ⊥)
+    → (read_act read judge t).0 ≡ Accepted → ⊥
+read_never (Err fault) judge t f told = cc
+read_never (Ok x) judge t f told = f x told
+
+refused_anyway : (test : Bool) (first second : Code) (t : Tables)
+    → (act (refuse_if test first (Refuse second)) t).0 ≡ Accepted → ⊥
+refused_anyway true first second t told = cc
+refused_anyway false first second t told = cc
+
+pub nobody_accepted : (look : Tables → Tables) (parties : Parties) (sent : RawMessage × IncomingMessage) (t : Tables)
+    → (deliver_retailers look parties None sent t).0 ≡ Accepted → ⊥
+nobody_accepted look parties sent t =
+    either_never (same sent.0.kind (codes "ORDERS")) _ _
+    (read_never (order_of sent.0) _ t
+    (λ order. refused_anyway (is_other_buyer parties.retailer (Some order.buyer)) rules.Buyer rules.Supplier t))
+    (either_never (same sent.0.kind (codes "RECADV")) _ _
+    (read_never (receipt_of sent.0) _ t
+    (λ receipt. refused_anyway (is_other_buyer parties.retailer receipt.buyer) rules.Buyer rules.Supplier t))
+    (λ told. cc))

@@ -10,10 +10,12 @@ use Rattle.hub_parties.specs.Rows.{Parties, RegisterRows, parties_of, supplier_r
 use Rattle.hub_parties.specs.declared.row.SupplierRow.{SupplierRow}
 use Rattle.hub_tables.specs.Rows.{same}
 use Rattle.hub_tables.specs.State.{entry_at}
+use Rattle.hub_tables.specs.Register.{register_of, row_at}
 use Rattle.hub_tables.specs.Tables.{Tables, view}
 use Rattle.hub_tables.specs.declared.rows.MailRow.{MailRow}
 use Rattle.hub_tables.specs.Sets.{Has}
 use Rattle.hub_rules.specs.declared.incoming.IncomingMessage.{IncomingMessage}
+use Rattle.hub_rules.specs.JoinRules.{is_join, judge_join}
 use Rattle.hub_rules.specs.Rules.{judge_cancel}
 use Rattle.hub_rules.specs.declared.verdict.Verdict.{Verdict}
 use Rattle.hub_rules.specs.declared.verdict.Verdict.TheVariants.{Accept, Refuse}
@@ -25,7 +27,7 @@ use Rattle.hub_law.specs.Mark.{Mark, Whole, StoppedEmpty, StoppedBare, StoppedAf
 use Rattle.hub_law.specs.Messages.{named, deliver_retailers, deliver_suppliers, cancel}
 use Rattle.hub_law.specs.Remembered.{StaysRemembered}
 use Rattle.hub_law.specs.Requests.{looked_at, from_supplier, from_retailer, taking, taken, supplier_request, deliver_named}
-use Rattle.hub_law.specs.Requests.{cancelled, retailer_request}
+use Rattle.hub_law.specs.Requests.{answered, join, retailer_request}
 use Rattle.hub_law.specs.Told.{Told, Act, changed, read_act, in_row}
 use Rattle.hub_law.specs.declared.request.Input.{Input}
 use Rattle.hub_law.specs.declared.request.Request.{Request}
@@ -90,13 +92,13 @@ taken_stays StoppedEmpty (Some entry) t = nothing_lost t
 taken_stays StoppedBare (Some entry) t = nothing_lost t
 taken_stays (StoppedAfter k) (Some entry) t = nothing_lost t
 
-cancelled_stays : (mark : Mark) (after : Told × Tables) (t : Tables)
+unless_stays : (mark : Mark) (after : Told × Tables) (t : Tables)
     → StaysRemembered t after.1
-    → StaysRemembered t (cancelled mark after t).1
-cancelled_stays Whole after t stays = stays
-cancelled_stays StoppedEmpty after t stays = nothing_lost t
-cancelled_stays StoppedBare after t stays = nothing_lost t
-cancelled_stays (StoppedAfter k) after t stays = nothing_lost t
+    → StaysRemembered t (answered mark after t).1
+unless_stays Whole after t stays = stays
+unless_stays StoppedEmpty after t stays = nothing_lost t
+unless_stays StoppedBare after t stays = nothing_lost t
+unless_stays (StoppedAfter k) after t stays = nothing_lost t
 
 supplier_request_stays : (look : Tables → Tables) (parties : Parties) (s : SupplierRow) (moment : ℕ) (mark : Mark)
     (request : Request) (t : Tables)
@@ -109,6 +111,7 @@ supplier_request_stays look parties s moment mark (requests.MailTaken number) t 
 supplier_request_stays look parties s moment mark requests.Status t = nothing_lost t
 supplier_request_stays look parties s moment mark (requests.StatusOf gln) t = nothing_lost t
 supplier_request_stays look parties s moment mark (requests.Cancel c) t = nothing_lost t
+supplier_request_stays look parties s moment mark (requests.Join row) t = nothing_lost t
 
 retailer_request_stays : (register : RegisterRows) (moment : ℕ) (mark : Mark) (request : Request) (t : Tables)
     → StaysRemembered t (retailer_request register moment mark request t).1
@@ -120,8 +123,11 @@ retailer_request_stays register moment mark (requests.MailTaken number) t = noth
 retailer_request_stays register moment mark requests.Status t = nothing_lost t
 retailer_request_stays register moment mark (requests.StatusOf gln) t = nothing_lost t
 retailer_request_stays register moment mark (requests.Cancel c) t =
-    cancelled_stays mark (cancel (view c.supplier) (supplier_row register.suppliers c.supplier) c t) t
+    unless_stays mark (cancel (view c.supplier) (supplier_row register.suppliers c.supplier) c t) t
     (verdict_stays (judge_cancel (supplier_row register.suppliers c.supplier) (cancel_text c) c (view c.supplier t)) t)
+retailer_request_stays register moment mark (requests.Join row) t =
+    either_stays (is_join row) _ _ t
+    (unless_stays mark (join register row t) t (verdict_stays (judge_join register row) t)) (nothing_lost t)
 
 step_stays : (register : RegisterRows) (s : Option SupplierRow) (input : Input) (mark : Mark) (t : Tables)
     → StaysRemembered t (step_by register s input mark t).1
@@ -132,9 +138,9 @@ step_stays register None input mark t =
     either_stays (is_retailers register input) _ _ t (retailer_request_stays register input.moment mark input.request t)
     (nothing_lost t)
 
-pub run_stays : (register : RegisterRows) (t : Tables) (inputs : Inputs) → StaysRemembered t (shared_run register t inputs).1
-run_stays register t [] = nothing_lost t
-run_stays register t ((input, mark) ∷ inputs) =
-    λ row there. run_stays register (shared_step register t input mark).1 inputs row
-    (subst (λ (after : Reply × Tables). Has after.1.remembered row) (sym (step_is register input mark t))
-    (step_stays register (supplier_row register.suppliers input.caller) input mark t row there))
+pub run_stays : (t : Tables) (inputs : Inputs) → StaysRemembered t (shared_run t inputs).1
+run_stays t [] = nothing_lost t
+run_stays t ((input, mark) ∷ inputs) =
+    λ row there. run_stays (shared_step t input mark).1 inputs row
+    (subst (λ (after : Reply × Tables). Has after.1.remembered row) (sym (step_is (register_of t) input mark t))
+    (step_stays (register_of t) (row_at input.caller t) input mark t row there))

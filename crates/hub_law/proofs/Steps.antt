@@ -20,7 +20,7 @@ use Rattle.hub_law.specs.declared.request.Input.{Input}
 use Rattle.hub_law.specs.declared.request.Request.{Request}
 use Rattle.hub_law.specs.declared.request.Request.TheVariants as requests
 use Rattle.hub_law.specs.Alone.{supplier_step}
-use Rattle.hub_law.proofs.Acting.{Alike}
+use Rattle.hub_law.proofs.Acting.{Alike, parties_same, parties_on}
 use Rattle.hub_law.proofs.Acts.{suppliers_act, taking_act}
 
 pub gln_of : (suppliers : List SupplierRow) (gln : List ℕ) (s : SupplierRow) → supplier_row suppliers gln ≡ Some s → s.gln ≡ gln
@@ -38,7 +38,10 @@ unlike suppliers gln w other known e i = let matches = same_if gln other (sym (i
 module _ (suppliers : List SupplierRow) (s : SupplierRow) where
   -- nothing is done
   idle : {A : Type 0} (t : Tables) → Sound suppliers t → (a : A) → Alike suppliers s t (a, t) (a, view s.gln t)
-  idle t sound a = record { told = refl; apart = record { seen = refl; unseen = λ other ne. refl; sound = sound } }
+  idle t sound a = record {
+    told = refl;
+    apart = record { seen = refl; unseen = λ other ne. refl; parties = parties_same t; sound = sound };
+  }
 
   -- acts that are alike one by one are alike in a row
   row_alike : {X : Type 0} (shared own : X → Act)
@@ -53,6 +56,7 @@ module _ (suppliers : List SupplierRow) (s : SupplierRow) where
         apart = record {
           seen = rest.apart.seen ∙ ap (λ state. (in_row own xs state).1) one.apart.seen;
           unseen = λ other ne. rest.apart.unseen other ne ∙ one.apart.unseen other ne;
+          parties = parties_on t (shared x t).1 (in_row shared (x ∷ xs) t).1 one.apart.parties rest.apart.parties;
           sound = rest.apart.sound;
         };
       }
@@ -89,6 +93,7 @@ module _ (suppliers : List SupplierRow) (free : PrefixFree (company_prefixes sup
   request_alike moment mark requests.Status t sound = idle suppliers s t sound _
   request_alike moment mark (requests.StatusOf gln) t sound = idle suppliers s t sound _
   request_alike moment mark (requests.Cancel c) t sound = idle suppliers s t sound _
+  request_alike moment mark (requests.Join row) t sound = idle suppliers s t sound _
 
   pub supplier_alike : (input : Input) (mark : Mark) (t : Tables) → Sound suppliers t
       → Alike suppliers s t (supplier_step (view s.gln) parties s input mark t)

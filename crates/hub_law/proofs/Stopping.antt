@@ -4,10 +4,12 @@ use Rattle.std.proofs.Common.{Err, refl, sym, subst, ap}
 use Rattle.edi_envelope.specs.declared.interchange.RawMessage.{RawMessage}
 use Rattle.hub_parties.specs.Rows.{Parties, RegisterRows, parties_of, supplier_row}
 use Rattle.hub_parties.specs.declared.row.SupplierRow.{SupplierRow}
+use Rattle.hub_tables.specs.Register.{register_of, row_at}
 use Rattle.hub_tables.specs.Rows.{same}
 use Rattle.hub_tables.specs.State.{entry_at}
 use Rattle.hub_tables.specs.Tables.{Tables, view}
 use Rattle.hub_tables.specs.declared.rows.MailRow.{MailRow}
+use Rattle.hub_rules.specs.JoinRules.{is_join}
 use Rattle.hub_rules.specs.declared.incoming.IncomingMessage.{IncomingMessage}
 use Rattle.hub_law.specs.Machine.{shared_step}
 use Rattle.hub_law.specs.Mark.{Mark, Whole, StoppedEmpty, StoppedBare, StoppedAfter, replied}
@@ -15,7 +17,7 @@ use Rattle.hub_law.specs.Messages.{deliver_suppliers, cancel}
 use Rattle.hub_law.specs.Opening.{Opened}
 use Rattle.hub_law.specs.Replies.{reply, denied, stopped, entry_reply, cut_reply}
 use Rattle.hub_law.specs.Requests.{looked_at, uploaded, from_supplier, from_retailer, taken, supplier_request}
-use Rattle.hub_law.specs.Requests.{deliver_named, cancelled, report, retailer_request}
+use Rattle.hub_law.specs.Requests.{deliver_named, answered, join, report, retailer_request}
 use Rattle.hub_law.specs.Told.{Told, Act, in_row}
 use Rattle.hub_law.specs.declared.reply.Outcome.TheVariants.{Stopped}
 use Rattle.hub_law.specs.declared.reply.Reply.{Reply}
@@ -47,7 +49,7 @@ module _ (mark : Mark) (P : Tables → Reply × Tables → Type 0)
     (upload : (deliver : RawMessage × IncomingMessage → Act) (moment : ℕ) (opened : Opened) (t : Tables)
     → P t (uploaded deliver moment mark opened t))
     (entry : (found : Option MailRow) (t : Tables) → P t (taken mark found t))
-    (cut : (after : Told × Tables) (t : Tables) → P t (cancelled mark after t)) where
+    (cut : (after : Told × Tables) (t : Tables) → P t (answered mark after t)) where
   of_supplier : (look : Tables → Tables) (parties : Parties) (s : SupplierRow) (moment : ℕ) (request : Request) (t : Tables)
       → P t (supplier_request look parties s moment mark request t)
   of_supplier look parties s moment (requests.Upload bytes) t =
@@ -58,6 +60,7 @@ module _ (mark : Mark) (P : Tables → Reply × Tables → Type 0)
   of_supplier look parties s moment requests.Status t = unless t _ (λ e. cc)
   of_supplier look parties s moment (requests.StatusOf gln) t = unless t _ (λ e. cc)
   of_supplier look parties s moment (requests.Cancel c) t = unless t _ (λ e. cc)
+  of_supplier look parties s moment (requests.Join row) t = unless t _ (λ e. cc)
 
   of_retailer : (register : RegisterRows) (moment : ℕ) (request : Request) (t : Tables)
       → P t (retailer_request register moment mark request t)
@@ -69,6 +72,8 @@ module _ (mark : Mark) (P : Tables → Reply × Tables → Type 0)
   of_retailer register moment requests.Status t = unless t _ (λ e. cc)
   of_retailer register moment (requests.StatusOf gln) t = unless t _ (report_is_whole (supplier_row register.suppliers gln) (view gln t))
   of_retailer register moment (requests.Cancel c) t = cut (cancel (view c.supplier) (supplier_row register.suppliers c.supplier) c t) t
+  of_retailer register moment (requests.Join row) t =
+      either (P t) (is_join row) _ _ (cut (join register row t) t) (unless t denied (λ e. cc))
 
   of_anybody : (register : RegisterRows) (o : Option SupplierRow) (input : Input) (t : Tables) → P t (step_by register o input mark t)
   of_anybody register (Some s) input t =
@@ -77,18 +82,18 @@ module _ (mark : Mark) (P : Tables → Reply × Tables → Type 0)
   of_anybody register None input t =
       either (P t) (is_retailers register input) _ _ (of_retailer register input.moment input.request t) (unless t denied (λ e. cc))
 
-module _ (register : RegisterRows) (t : Tables) (input : Input) where
+module _ (t : Tables) (input : Input) where
   anybody : (mark : Mark) (P : Tables → Reply × Tables → Type 0)
       → ((t : Tables) (whole : Reply) → IsWhole whole → P t (replied mark whole t))
       → ((deliver : RawMessage × IncomingMessage → Act) (moment : ℕ) (opened : Opened) (t : Tables)
       → P t (uploaded deliver moment mark opened t))
       → ((found : Option MailRow) (t : Tables) → P t (taken mark found t))
-      → ((after : Told × Tables) (t : Tables) → P t (cancelled mark after t)) → P t (shared_step register t input mark)
+      → ((after : Told × Tables) (t : Tables) → P t (answered mark after t)) → P t (shared_step t input mark)
   anybody mark P unless upload entry cut =
-      subst (P t) (sym (step_is register input mark t))
-      (of_anybody mark P unless upload entry cut register (supplier_row register.suppliers input.caller) input t)
+      subst (P t) (sym (step_is (register_of t) input mark t))
+      (of_anybody mark P unless upload entry cut (register_of t) (row_at input.caller t) input t)
 
-  whole : IsWhole (shared_step register t input Whole).0
+  whole : IsWhole (shared_step t input Whole).0
   whole = anybody Whole (λ t after. IsWhole after.0) (λ t reply is_whole. is_whole) upload entry (λ after t e. cc)
     where
       upload : (deliver : RawMessage × IncomingMessage → Act) (moment : ℕ) (opened : Opened) (t : Tables)
@@ -100,7 +105,7 @@ module _ (register : RegisterRows) (t : Tables) (input : Input) where
       entry None t = λ e. cc
       entry (Some row) t = λ e. cc
 
-  pub empty_stop : shared_step register t input StoppedEmpty ≡ (reply Stopped [], t)
+  pub empty_stop : shared_step t input StoppedEmpty ≡ (reply Stopped [], t)
   empty_stop = anybody StoppedEmpty (λ t after. after ≡ (reply Stopped [], t)) (λ t whole is_whole. refl) upload entry (λ after t. refl)
     where
       upload : (deliver : RawMessage × IncomingMessage → Act) (moment : ℕ) (opened : Opened) (t : Tables)
@@ -112,7 +117,7 @@ module _ (register : RegisterRows) (t : Tables) (input : Input) where
       entry None t = refl
       entry (Some row) t = refl
 
-  pub bare_stop : shared_step register t input StoppedBare ≡ (stopped, t)
+  pub bare_stop : shared_step t input StoppedBare ≡ (stopped, t)
   bare_stop = anybody StoppedBare (λ t after. after ≡ (stopped, t)) (λ t whole is_whole. refl) upload entry (λ after t. refl)
     where
       upload : (deliver : RawMessage × IncomingMessage → Act) (moment : ℕ) (opened : Opened) (t : Tables)
@@ -124,7 +129,7 @@ module _ (register : RegisterRows) (t : Tables) (input : Input) where
       entry None t = refl
       entry (Some row) t = refl
 
-  stop_after : (k : ℕ) → (shared_step register t input (StoppedAfter k)).0.outcome ≡ Stopped
+  stop_after : (k : ℕ) → (shared_step t input (StoppedAfter k)).0.outcome ≡ Stopped
   stop_after k = anybody (StoppedAfter k) (λ t after. after.0.outcome ≡ Stopped) (λ t whole is_whole. refl) upload entry (λ after t. refl)
     where
       upload : (deliver : RawMessage × IncomingMessage → Act) (moment : ℕ) (opened : Opened) (t : Tables)
@@ -138,7 +143,7 @@ module _ (register : RegisterRows) (t : Tables) (input : Input) where
       entry None t = refl
       entry (Some row) t = refl
 
-  pub stop_is_told : (mark : Mark) → ((shared_step register t input mark).0.outcome ≡ Stopped) ↔ (mark ≢ Whole)
+  pub stop_is_told : (mark : Mark) → ((shared_step t input mark).0.outcome ≡ Stopped) ↔ (mark ≢ Whole)
   stop_is_told Whole = (λ e. absurd (whole e), λ differs. absurd (differs refl))
   stop_is_told StoppedEmpty = (λ e same. cc, λ differs. ap (λ (after : Reply × Tables). after.0.outcome) empty_stop)
   stop_is_told StoppedBare = (λ e same. cc, λ differs. ap (λ (after : Reply × Tables). after.0.outcome) bare_stop)

@@ -1,14 +1,14 @@
 -- What comes again in a run.
 use Rattle.std.specs.Prelude.{◌≡◌, ℕ, ◌<◌, List, length, slice_get, Option, Some, Ok}
 use Rattle.edi_envelope.specs.declared.interchange.RawMessage.{RawMessage}
-use Rattle.hub_parties.specs.Rows.{RegisterRows, role_of}
+use Rattle.hub_parties.specs.Rows.{role_of}
 use Rattle.hub_parties.specs.declared.role.Role.TheVariants.{Retailer}
 use Rattle.hub_parties.specs.declared.row.SupplierRow.{SupplierRow}
+use Rattle.hub_tables.specs.Register.{register_of}
 use Rattle.hub_tables.specs.Tables.{Tables}
 use Rattle.hub_rules.specs.Sound.{Sound}
 use Rattle.hub_rules.specs.declared.cancel.Cancel.{Cancel}
 use Rattle.hub_rules.specs.Laws.{SoundHub}
-use Rattle.hub_law.specs.Machine.{Inputs, shared_run}
 use Rattle.hub_law.specs.Mark.{Mark}
 use Rattle.hub_law.specs.Remembered.{StaysRemembered}
 use Rattle.hub_law.specs.Requests.{looked_at}
@@ -17,34 +17,31 @@ use Rattle.hub_law.specs.Told.{Told, Accepted}
 use Rattle.hub_law.specs.declared.request.Input.{Input}
 use Rattle.hub_law.specs.declared.request.Request.TheVariants as requests
 
--- the message at a place, counted from 0, of an upload that is looked at
-pub record MessageAt (register : RegisterRows) (input : Input) (place : ℕ) (message : RawMessage) : Type 0 where
+-- the message at a place, counted from 0, of an upload that is looked at when it comes to tables
+pub record MessageAt (t : Tables) (input : Input) (place : ℕ) (message : RawMessage) : Type 0 where
   pub upload : Upload
-  pub looked_at : upload_of register input ≡ Some upload
+  pub looked_at : upload_of (register_of t) input ≡ Some upload
   pub there : slice_get upload.interchange.messages place ≡ Some message
 
 -- the message at the place is among those that are looked at: the upload was not stopped before it was done
 abbrev pub Reaches : Mark → Input → Upload → ℕ → Type 0
 Reaches mark input upload place = place < length (looked_at input.moment mark (Ok upload.interchange))
 
--- the tables when the message at a place of an upload comes, which is after a run
-abbrev pub tables_before : RegisterRows → Tables → Inputs → Input → Upload → ℕ → Tables
-tables_before register t before input upload place =
-    (first_acts place upload input.moment (shared_run register t before).1).1
+-- the tables when the message at a place of an upload comes, the upload coming to tables
+abbrev pub tables_before : Tables → Input → Upload → ℕ → Tables
+tables_before t input upload place = (first_acts place upload input.moment t).1
 
 -- what is told of it
-abbrev pub told_at : RegisterRows → Tables → Inputs → Input → Upload → ℕ → Option Told
-told_at register t before input upload place =
-    slice_get (all_acts upload input.moment (shared_run register t before).1).0 place
+abbrev pub told_at : Tables → Input → Upload → ℕ → Option Told
+told_at t input upload place = slice_get (all_acts upload input.moment t).0 place
 
--- From sound tables of free prefixes, and after a run, the message at a place of an upload is accepted, and the upload
--- is not stopped before it is done.
-pub record AcceptedAt (register : RegisterRows) (t : Tables) (before : Inputs) (input : Input) (mark : Mark) (place : ℕ)
-    (message : RawMessage) : Type 0 where
-  pub start : SoundHub register.suppliers t
-  pub comes : MessageAt register input place message
+-- The message at a place of an upload that comes to sound tables is accepted, and the upload is not stopped before it is
+-- done.
+pub record AcceptedAt (t : Tables) (input : Input) (mark : Mark) (place : ℕ) (message : RawMessage) : Type 0 where
+  pub start : SoundHub t
+  pub comes : MessageAt t input place message
   pub reached : Reaches mark input comes.upload place
-  pub accepted : told_at register t before input comes.upload place ≡ Some Accepted
+  pub accepted : told_at t input comes.upload place ≡ Some Accepted
 
 -- of the same caller, and with the same control reference
 pub record SameReference (first second : Input) (one other : Upload) : Type 0 where
@@ -58,7 +55,7 @@ pub record AcceptedBefore (after : Told × Tables) (suppliers : List SupplierRow
   pub remembered : StaysRemembered after.1 u
   pub sound : Sound suppliers u
 
--- the retailer asks, with its key, for the cancellation
-pub record AsksCancel (register : RegisterRows) (c : Cancel) (input : Input) : Type 0 where
-  pub retailers : role_of register input.caller input.key ≡ Some Retailer
+-- the retailer asks, with its key, for the cancellation, which comes to tables
+pub record AsksCancel (t : Tables) (c : Cancel) (input : Input) : Type 0 where
+  pub retailers : role_of (register_of t) input.caller input.key ≡ Some Retailer
   pub asks : input.request ≡ requests.Cancel c

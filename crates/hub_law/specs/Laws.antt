@@ -1,65 +1,86 @@
 -- What one supplier sees and is told, whatever the others do.
-use Rattle.std.specs.Prelude.{◌≡◌, List, [], ◌∷◌, ◌++◌, length, slice_get, Option, Some}
-use Rattle.hub_parties.specs.Rows.{RegisterRows, parties_of, role_of}
+use Rattle.std.specs.Prelude.{◌≡◌, ◌≢◌, ◌⊎◌, ℕ, List, [], ◌∷◌, ◌++◌, length, slice_get, Option, Some}
+use Rattle.std.specs.List.{AllByRecursion}
+use Rattle.hub_parties.specs.Rows.{role_of}
 use Rattle.hub_parties.specs.declared.role.Role.TheVariants.{Retailer}
 use Rattle.hub_parties.specs.declared.row.SupplierRow.{SupplierRow}
+use Rattle.hub_tables.specs.Register.{register_of, parties_in, row_at}
 use Rattle.hub_tables.specs.Sets.{Rising, SameRows}
 use Rattle.hub_tables.specs.Tables.{Tables, view}
-use Rattle.hub_rules.specs.Laws.{Registered}
+use Rattle.hub_rules.specs.Laws.{SoundHub}
 use Rattle.hub_rules.specs.Sound.{Sound}
 use Rattle.hub_law.specs.Alone.{Item, items_of_input, items, fold}
 use Rattle.hub_law.specs.Machine.{Inputs, shared_step, shared_run, replies_to}
 use Rattle.hub_law.specs.Mark.{Mark, Whole}
+use Rattle.hub_law.specs.Requests.{report}
 use Rattle.hub_law.specs.declared.reply.Reply.{Reply}
 use Rattle.hub_law.specs.declared.request.Input.{Input}
-use Rattle.hub_law.specs.declared.request.Request.TheVariants.{StatusOf}
+use Rattle.hub_law.specs.declared.request.Request.TheVariants.{StatusOf, Join}
 
--- what comes of a supplier's items in its own rows, with nothing else in the tables
-abbrev pub alone : RegisterRows → SupplierRow → List Item → Tables → List Reply × Tables
-alone register s items t = fold (parties_of register) s items (view s.gln t)
+-- what comes of the items of a GLN in its own rows, with nothing else in the tables
+abbrev pub alone : List ℕ → List Item → Tables → List Reply × Tables
+alone gln items t = fold (parties_in t) gln items (view gln t)
 
--- what the supplier sees after a step is what comes of its items alone, and where it is the caller it is told what it
--- is told alone
-pub record StepIsOwn (register : RegisterRows) (s : SupplierRow) (t : Tables) (input : Input)
-    (mark : Mark) : Type 0 where
-  pub seen : view s.gln (shared_step register t input mark).1 ≡
-      (alone register s (items_of_input s.gln register input mark) t).1
-  pub told : input.caller ≡ s.gln →
-      (alone register s (items_of_input s.gln register input mark) t).0 ≡ (shared_step register t input mark).0 ∷ []
+-- what is seen of the rows of a GLN after a step is what comes of its items alone, and where it is the caller it is told
+-- what it is told alone
+pub record StepIsOwn (gln : List ℕ) (t : Tables) (input : Input) (mark : Mark) : Type 0 where
+  pub seen : view gln (shared_step t input mark).1 ≡ (alone gln (items_of_input gln t input mark) t).1
+  pub told : input.caller ≡ gln →
+      (alone gln (items_of_input gln t input mark) t).0 ≡ (shared_step t input mark).0 ∷ []
 
 -- the same of a whole run
-pub record RunIsOwn (register : RegisterRows) (s : SupplierRow) (t : Tables) (inputs : Inputs) : Type 0 where
-  pub seen : view s.gln (shared_run register t inputs).1 ≡ (alone register s (items s.gln register inputs) t).1
-  pub told :
-      replies_to s.gln inputs (shared_run register t inputs).0 ≡ (alone register s (items s.gln register inputs) t).0
+pub record RunIsOwn (gln : List ℕ) (t : Tables) (inputs : Inputs) : Type 0 where
+  pub seen : view gln (shared_run t inputs).1 ≡ (alone gln (items gln t inputs) t).1
+  pub told : replies_to gln inputs (shared_run t inputs).0 ≡ (alone gln (items gln t inputs) t).0
 
--- the retailer asks, with its key, for the status of the supplier
-pub record AsksStatus (register : RegisterRows) (s : SupplierRow) (input : Input) : Type 0 where
-  pub retailers : role_of register input.caller input.key ≡ Some Retailer
-  pub asks : input.request ≡ StatusOf s.gln
+-- the GLN is a supplier's, or nobody's yet: it is not the retailer's
+abbrev pub IsOther : List ℕ → Tables → Type 0
+IsOther gln t = gln ≢ (parties_in t).retailer
+
+-- the retailer asks, with its key, for the status of a GLN
+pub record AsksStatus (gln : List ℕ) (t : Tables) (input : Input) : Type 0 where
+  pub retailers : role_of (register_of t) input.caller input.key ≡ Some Retailer
+  pub asks : input.request ≡ StatusOf gln
+
+-- the status of a GLN, from its own rows: unknown before it has its register row
+abbrev pub own_report : List ℕ → Tables → Reply
+own_report gln state = report (row_at gln state) state
 
 -- the reply to an input that is not stopped, at its place in a run: after some inputs and before others
-abbrev pub reply_between : RegisterRows → Tables → Inputs → Input → Inputs → Option Reply
-reply_between register t before input later =
-    slice_get (shared_run register t (before ++ (input, Whole) ∷ later)).0 (length before)
+abbrev pub reply_between : Tables → Inputs → Input → Inputs → Option Reply
+reply_between t before input later =
+    slice_get (shared_run t (before ++ (input, Whole) ∷ later)).0 (length before)
 
--- Two runs agree on a supplier that is registered in both: on the GLNs of hub and retailer, on its rows at the start,
--- and on its items.
-pub record Agree (s : SupplierRow) (first second : RegisterRows) (t u : Tables) (xs ys : Inputs) : Type 0 where
-  pub here : Registered first.suppliers s t
-  pub there : Registered second.suppliers s u
-  pub parties : (parties_of first) ≡ (parties_of second)
-  pub rows : SameRows (view s.gln t) (view s.gln u)
-  pub items : items s.gln first xs ≡ items s.gln second ys
+-- Two runs from sound starts agree on a GLN that is not the retailer's: on the GLNs of hub and retailer, on its rows at
+-- the start, its register row among them or that it has none, and on its items.
+pub record Agree (gln : List ℕ) (t u : Tables) (xs ys : Inputs) : Type 0 where
+  pub here : SoundHub t
+  pub there : SoundHub u
+  pub other : IsOther gln t
+  pub parties : parties_in t ≡ parties_in u
+  pub rows : SameRows (view gln t) (view gln u)
+  pub items : items gln t xs ≡ items gln u ys
 
--- The retailer asks for the status of the supplier after each of two runs that agree on it, whatever comes later, and
--- there are as many of its items before it.
-pub record AgreeBefore (s : SupplierRow) (first second : RegisterRows) (t u : Tables) (xs xs_later ys ys_later : Inputs)
-    (x y : Input) : Type 0 where
-  pub agree : Agree s first second t u (xs ++ (x, Whole) ∷ xs_later) (ys ++ (y, Whole) ∷ ys_later)
-  pub as_many : length (items s.gln first xs) ≡ length (items s.gln second ys)
-  pub asks : AsksStatus first s x
-  pub asks_too : AsksStatus second s y
+-- The retailer asks for the status of the GLN after each of two runs that agree on it, whatever comes later, and there
+-- are as many of its items before it.
+pub record AgreeBefore (gln : List ℕ) (t u : Tables) (xs xs_later ys ys_later : Inputs) (x y : Input) : Type 0 where
+  pub agree : Agree gln t u (xs ++ (x, Whole) ∷ xs_later) (ys ++ (y, Whole) ∷ ys_later)
+  pub as_many : length (items gln t xs) ≡ length (items gln u ys)
+  pub asks : AsksStatus gln t x
+  pub asks_too : AsksStatus gln u y
+
+-- no input asks to let the GLN in
+abbrev pub NobodyLetsIn : List ℕ → Inputs → Type 0
+NobodyLetsIn gln inputs =
+    AllByRecursion (λ (x : Input × Mark). (row : SupplierRow) → x.0.request ≡ Join row → row.gln ≢ gln) inputs
+
+-- Another asks to let another in than the GLN; and the GLN has its row, or nobody lets it in later, since whether it may
+-- join shows who joined before.
+pub record StandsApart (gln : List ℕ) (t : Tables) (input : Input) (row : SupplierRow) (later : Inputs) : Type 0 where
+  pub asks : input.request ≡ Join row
+  pub caller : input.caller ≢ gln
+  pub other : row.gln ≢ gln
+  pub settled : ((s : SupplierRow) × (row_at gln t ≡ Some s)) ⊎ NobodyLetsIn gln later
 
 -- tables are sound, and so rise by their keys
 pub record StaySound (suppliers : List SupplierRow) (t : Tables) : Type 0 where

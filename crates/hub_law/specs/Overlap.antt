@@ -2,6 +2,8 @@
 use Rattle.std.specs.Prelude.{ℕ, Bool, List, [], ◌∷◌, ◌++◌, codes}
 use Rattle.hub_parties.specs.declared.row.SupplierRow.{SupplierRow}
 use Rattle.hub_parties.specs.Rows.{RegisterRows}
+use Rattle.hub_tables.specs.Register.{founded}
+use Rattle.hub_tables.specs.Tables.{Tables}
 use Rattle.hub_law.specs.Machine.{Inputs}
 use Rattle.hub_law.specs.Mark.{Whole}
 use Rattle.hub_law.specs.Widths.{line}
@@ -19,13 +21,17 @@ short_supplier = record { gln = codes "8712345000004"; prefixes = codes "4012345
 abbrev pub retailer : List ℕ
 retailer = codes "5412345000013"
 
-abbrev pub overlapping : RegisterRows
-overlapping = record {
+abbrev pub overlapping_register : RegisterRows
+overlapping_register = record {
   hub = codes "5412345000006";
   retailer = retailer;
   retailer_key = codes "retail-key";
   suppliers = short_supplier ∷ long_supplier ∷ [];
 }
+
+-- the tables with its rows alone
+abbrev pub overlapping : Tables
+overlapping = founded overlapping_register
 
 abbrev pub upload_input : List ℕ → List ℕ → List ℕ → Input
 upload_input caller key bytes =

@@ -66,9 +66,9 @@ cut_reply i told = record {
   body = reply_lines i told ++ stopped_line;
 }
 
--- the reply to a cancellation
-abbrev pub cancel_reply : Told → Reply
-cancel_reply told = record { outcome = Done; refused = is_refused told; body = line (told_words told) }
+-- the reply to one act that is no message: a cancellation, a join
+abbrev pub act_reply : Told → Reply
+act_reply told = record { outcome = Done; refused = is_refused told; body = line (told_words told) }
 
 -- the reply to a mailbox entry that is asked for
 abbrev pub entry_reply : List ℕ → Option MailRow → Reply

@@ -13,15 +13,16 @@ use Rattle.hub_tables.specs.declared.change.Change.{Change}
 use Rattle.hub_tables.specs.declared.change.Change.TheVariants.{SetMail}
 use Rattle.hub_tables.specs.declared.rows.MailRow.{MailRow}
 use Rattle.hub_rules.specs.declared.incoming.IncomingMessage.{IncomingMessage}
+use Rattle.hub_rules.specs.JoinRules.{is_join, judge_join}
 use Rattle.hub_rules.specs.declared.cancel.Cancel.{Cancel}
 use Rattle.hub_law.specs.MailText.{list_text}
 use Rattle.hub_law.specs.Mark.{Mark, stop_reply, is_cut, acts_done, replied, unless_stopped}
 use Rattle.hub_law.specs.Messages.{messages_at, named, deliver_retailers, deliver_suppliers, cancel}
 use Rattle.hub_law.specs.Opening.{Opened, interchange_in, addressed}
-use Rattle.hub_law.specs.Replies.{done, denied, unknown, refused_reply, whole_reply, cut_reply, cancel_reply}
+use Rattle.hub_law.specs.Replies.{done, denied, unknown, refused_reply, whole_reply, cut_reply, act_reply}
 use Rattle.hub_law.specs.Replies.{entry_reply}
 use Rattle.hub_law.specs.StatusText.{status_text}
-use Rattle.hub_law.specs.Told.{Told, Act, in_row}
+use Rattle.hub_law.specs.Told.{Told, Act, act, in_row}
 use Rattle.hub_law.specs.Widths.{line}
 use Rattle.hub_law.specs.declared.reply.Reply.{Reply}
 use Rattle.hub_law.specs.declared.request.Request.{Request}
@@ -77,6 +78,7 @@ supplier_request look parties s moment mark (requests.MailTaken number) t = take
 supplier_request look parties s moment mark requests.Status t = replied mark (done (status_text (look t))) t
 supplier_request look parties s moment mark (requests.StatusOf gln) t = replied mark denied t
 supplier_request look parties s moment mark (requests.Cancel cancellation) t = replied mark denied t
+supplier_request look parties s moment mark (requests.Join row) t = replied mark denied t
 
 -- What the retailer asks. A message, a cancellation and a report see what the supplier sees that they name.
 abbrev pub deliver_named : RegisterRows → RawMessage × IncomingMessage → Act
@@ -87,8 +89,19 @@ deliver_named register (message, incoming) =
 abbrev pub cancel_named : RegisterRows → Cancel → Act
 cancel_named register c = cancel (view c.supplier) (supplier_row register.suppliers c.supplier) c
 
-abbrev pub cancelled : Mark → Told × Tables → Tables → Reply × Tables
-cancelled mark after t = unless_stopped mark (replied_by cancel_reply after) t
+-- one act, and what is told of it
+abbrev pub answered : Mark → Told × Tables → Tables → Reply × Tables
+answered mark after t = unless_stopped mark (replied_by act_reply after) t
+
+-- A supplier joins: its rows come into the tables where the register takes it.
+abbrev pub join : RegisterRows → SupplierRow → Act
+join register row = act (judge_join register row)
+
+-- what cannot be a supplier's row is denied; no call hands it in
+abbrev pub joined : RegisterRows → Mark → SupplierRow → Tables → Reply × Tables
+joined register mark row t =
+    if is_join row then answered mark (join register row t) t
+    else replied mark denied t
 
 abbrev pub report : Option SupplierRow → Tables → Reply
 report None state = unknown
@@ -103,4 +116,5 @@ retailer_request register moment mark (requests.MailTaken number) t = replied ma
 retailer_request register moment mark requests.Status t = replied mark denied t
 retailer_request register moment mark (requests.StatusOf gln) t =
     replied mark (report (supplier_row register.suppliers gln) (view gln t)) t
-retailer_request register moment mark (requests.Cancel c) t = cancelled mark (cancel_named register c t) t
+retailer_request register moment mark (requests.Cancel c) t = answered mark (cancel_named register c t) t
+retailer_request register moment mark (requests.Join row) t = joined register mark row t

@@ -38,6 +38,7 @@ upload_from opening act (requests.MailTaken number) = None
 upload_from opening act requests.Status = None
 upload_from opening act (requests.StatusOf gln) = None
 upload_from opening act (requests.Cancel c) = None
+upload_from opening act (requests.Join row) = None
 
 abbrev pub upload_by : RegisterRows → Option Role → Option SupplierRow → Request → Option Upload
 upload_by register (Some Supplier) (Some s) request =

@@ -12,7 +12,8 @@ mod sound_acts;
 mod stops;
 
 pub use laws::{
-    each_line_balances, hub_stays_sound, prefixes_matter, run_is_own, runs_alike, step_is_own,
+    each_line_balances, hub_stays_sound, joins_are_apart, prefixes_matter, run_is_own, runs_alike,
+    step_is_own,
 };
 pub use mail::entry_is_its_messages_mail;
 pub use repeats::{
@@ -21,5 +22,5 @@ pub use repeats::{
 pub use reply::{Outcome, Reply};
 pub use request::{Input, Request};
 pub use sets::views_are_sets;
-pub use sound_acts::acts_stay_sound;
+pub use sound_acts::{acts_keep_the_register, acts_stay_sound};
 pub use stops::{stops_are_told, stops_cut_uploads};

@@ -1,8 +1,9 @@
 //! What was accepted and comes again: laws, each the contract of a function without a body.
 ghost use Rattle.std.specs.Prelude.{◌≡◌, ℕ, ◌+◌, List, ◌∷◌, ◌++◌, Some};
 ghost use Rattle.edi_envelope.specs.declared.interchange.RawMessage.{RawMessage};
-ghost use Rattle.hub_parties.specs.Rows.{Parties, RegisterRows, row_of};
+ghost use Rattle.hub_parties.specs.Rows.{Parties, RegisterRows};
 ghost use Rattle.hub_parties.specs.declared.row.SupplierRow.{SupplierRow};
+ghost use Rattle.hub_tables.specs.Register.{register_of, row_at};
 ghost use Rattle.hub_tables.specs.Sets.{Has};
 ghost use Rattle.hub_tables.specs.Tables.{Tables, view};
 ghost use Rattle.hub_rules.specs.declared.incoming.IncomingMessage.{IncomingMessage};
@@ -14,7 +15,7 @@ ghost use Rattle.hub_law.specs.Machine.{Inputs, shared_step, shared_run};
 ghost use Rattle.hub_law.specs.Mark.{Mark, Whole};
 ghost use Rattle.hub_law.specs.Messages.{deliver_suppliers, incoming};
 ghost use Rattle.hub_law.specs.Remembered.{StaysRemembered, row_of_message, row_of_cancel};
-ghost use Rattle.hub_law.specs.Replies.{cancel_reply};
+ghost use Rattle.hub_law.specs.Replies.{act_reply};
 ghost use Rattle.hub_law.specs.declared.request.Input.{Input};
 ghost use Rattle.hub_law.specs.Requests.{deliver_named, cancel_named};
 ghost use Rattle.hub_law.specs.Told.{Accepted, Repeated, in_row};
@@ -45,46 +46,42 @@ pub fn remembered_stays()
     ensures suppliers { (parties : Parties) (s : SupplierRow) (sents : List (RawMessage × IncomingMessage))
         (t : Tables) →
         StaysRemembered t (in_row (deliver_suppliers (view s.gln) parties s) sents t).1 }
-    ensures run { (register : RegisterRows) (t : Tables) (inputs : Inputs) →
-        StaysRemembered t (shared_run register t inputs).1 }
+    ensures run { (t : Tables) (inputs : Inputs) → StaysRemembered t (shared_run t inputs).1 }
 {}
 
 /// What was accepted in a run is remembered under its references and with its content, after it and whatever comes then:
 /// a message, and a cancellation of which the reply tells that it was accepted.
 pub fn accepted_stays_remembered()
-    ensures message { (register : RegisterRows) (t : Tables) (before between : Inputs) (input : Input) (mark : Mark)
-        (place : ℕ) (message : RawMessage) (one : AcceptedAt register t before input mark place message) →
-        Has (shared_run register t (before ++ (input, mark) ∷ between)).1.remembered
-        (row_of_message (row_of register input.caller) message
+    ensures message { (t : Tables) (before between : Inputs) (input : Input) (mark : Mark) (place : ℕ)
+        (message : RawMessage) (one : AcceptedAt (shared_run t before).1 input mark place message) →
+        Has (shared_run t (before ++ (input, mark) ∷ between)).1.remembered
+        (row_of_message (row_at input.caller (shared_run t before).1) message
         (incoming input.moment one.comes.upload.interchange message)) }
-    ensures cancellation { (register : RegisterRows) (t : Tables) (before between : Inputs) (input : Input)
-        (c : Cancel) →
-        AsksCancel register c input →
-        (shared_step register (shared_run register t before).1 input Whole).0 ≡ cancel_reply Accepted →
-        Has (shared_run register t (before ++ (input, Whole) ∷ between)).1.remembered (row_of_cancel c) }
+    ensures cancellation { (t : Tables) (before between : Inputs) (input : Input) (c : Cancel) →
+        AsksCancel (shared_run t before).1 c input →
+        (shared_step (shared_run t before).1 input Whole).0 ≡ act_reply Accepted →
+        Has (shared_run t (before ++ (input, Whole) ∷ between)).1.remembered (row_of_cancel c) }
 {}
 
 /// In a run from sound tables, a message that was accepted and comes again in a later upload that is looked at, is told
-/// of as repeated, and its act leaves the tables as they are; `stops_cut_uploads` says which of what is told is in the
-/// reply. And a cancellation that was accepted and comes again is answered so.
+/// of as repeated, and its act leaves the tables as they are, whoever joined meanwhile; `stops_cut_uploads` says which of
+/// what is told is in the reply. And a cancellation that was accepted and comes again is answered so.
 pub fn repeated_in_runs()
-    ensures message { (register : RegisterRows) (t : Tables) (before between : Inputs) (first second : Input)
-        (mark : Mark) (place later : ℕ) (message : RawMessage)
-        (one : AcceptedAt register t before first mark place message)
-        (other : MessageAt register second later message) →
+    ensures message { (t : Tables) (before between : Inputs) (first second : Input) (mark : Mark) (place later : ℕ)
+        (message : RawMessage) (one : AcceptedAt (shared_run t before).1 first mark place message)
+        (other : MessageAt (shared_run t (before ++ (first, mark) ∷ between)).1 second later message) →
         SameReference first second one.comes.upload other.upload →
-        told_at register t (before ++ (first, mark) ∷ between) second other.upload later ≡ Some Repeated }
-    ensures stays { (register : RegisterRows) (t : Tables) (before between : Inputs) (first second : Input)
-        (mark : Mark) (place later : ℕ) (message : RawMessage)
-        (one : AcceptedAt register t before first mark place message)
-        (other : MessageAt register second later message) →
+        told_at (shared_run t (before ++ (first, mark) ∷ between)).1 second other.upload later ≡ Some Repeated }
+    ensures stays { (t : Tables) (before between : Inputs) (first second : Input) (mark : Mark) (place later : ℕ)
+        (message : RawMessage) (one : AcceptedAt (shared_run t before).1 first mark place message)
+        (other : MessageAt (shared_run t (before ++ (first, mark) ∷ between)).1 second later message) →
         SameReference first second one.comes.upload other.upload →
-        tables_before register t (before ++ (first, mark) ∷ between) second other.upload (later + 1) ≡
-        tables_before register t (before ++ (first, mark) ∷ between) second other.upload later }
-    ensures cancellation { (register : RegisterRows) (t : Tables) (before between : Inputs) (first second : Input)
-        (c : Cancel) →
-        SoundHub register.suppliers t → AsksCancel register c first → AsksCancel register c second →
-        (cancel_named register c (shared_run register t before).1).0 ≡ Accepted →
-        shared_step register (shared_run register t (before ++ (first, Whole) ∷ between)).1 second Whole ≡
-        (cancel_reply Repeated, (shared_run register t (before ++ (first, Whole) ∷ between)).1) }
+        tables_before (shared_run t (before ++ (first, mark) ∷ between)).1 second other.upload (later + 1) ≡
+        tables_before (shared_run t (before ++ (first, mark) ∷ between)).1 second other.upload later }
+    ensures cancellation { (t : Tables) (before between : Inputs) (first second : Input) (c : Cancel) →
+        SoundHub (shared_run t before).1 → AsksCancel (shared_run t before).1 c first →
+        AsksCancel (shared_run t (before ++ (first, Whole) ∷ between)).1 c second →
+        (cancel_named (register_of (shared_run t before).1) c (shared_run t before).1).0 ≡ Accepted →
+        shared_step (shared_run t (before ++ (first, Whole) ∷ between)).1 second Whole ≡
+        (act_reply Repeated, (shared_run t (before ++ (first, Whole) ∷ between)).1) }
 {}

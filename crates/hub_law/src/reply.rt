@@ -21,7 +21,7 @@ pub enum Outcome {
 pub struct Reply {
     /// What became of the request.
     pub outcome: Outcome,
-    /// Whether the interchange, one of its messages or the cancellation was refused with a number.
+    /// Whether the interchange, one of its messages, the cancellation or the join was refused with a number.
     pub refused: bool,
     /// The text of the answer.
     pub body: Items<u8>,

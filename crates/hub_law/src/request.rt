@@ -2,7 +2,7 @@
 use edi_base::Items;
 use edi_envelope::Moment;
 use gs1_ids::Gln;
-use hub_rules::Cancel;
+use hub_rules::{Cancel, Join};
 use std::fmt;
 
 /// What a supplier or the retailer asks.
@@ -22,6 +22,8 @@ pub enum Request {
     StatusOf(Gln),
     /// To cancel a quantity of a line. The retailer asks it.
     Cancel(Cancel),
+    /// To let a supplier in. The retailer asks it.
+    Join(Join),
 }
 
 /// A request, with who asks it and when. `Debug` does not show the key.

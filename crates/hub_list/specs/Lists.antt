@@ -8,6 +8,9 @@ use Rattle.hub_list.specs.declared.lists.Lists.{Lists}
 -- what the lists hold
 abbrev pub tables_in : Lists → Tables
 tables_in s = record {
+  hubs = s.hubs.items;
+  keys = s.keys.items;
+  prefixes = s.prefixes.items;
   orders = s.orders.items;
   lines = s.lines.items;
   advices = s.advices.items;
@@ -26,6 +29,9 @@ pub record AreInOrder (s : Lists) : Type 0 where
 
 -- each list has room for so many rows more
 pub record Room (n : ℕ) (s : Lists) : Type 0 where
+  pub hubs : vec_len s.hubs + n ≤ vec_capacity s.hubs
+  pub keys : vec_len s.keys + n ≤ vec_capacity s.keys
+  pub prefixes : vec_len s.prefixes + n ≤ vec_capacity s.prefixes
   pub orders : vec_len s.orders + n ≤ vec_capacity s.orders
   pub lines : vec_len s.lines + n ≤ vec_capacity s.lines
   pub advices : vec_len s.advices + n ≤ vec_capacity s.advices

@@ -9,13 +9,17 @@ use crate::table::{put_row, set_row};
 use edi_base::MemoryFault;
 use hub_rows::Row;
 use hub_tables::{
-    AdviceRow, Change, ContentRow, LineRow, MailRow, OrderRow, PalletRow, ReceiptRow, RememberedRow,
+    AdviceRow, Change, ContentRow, HubRow, KeyRow, LineRow, MailRow, OrderRow, PalletRow,
+    PrefixRow, ReceiptRow, RememberedRow,
 };
 use std::alloc::Global;
 
 /// A list of rows for each kind, and two indexes: the mailbox entries that are not taken, and each supplier's pallets.
 #[derive(Debug, Drop)]
 pub(crate) struct Lists {
+    pub(crate) hubs: Vec<HubRow>,
+    pub(crate) keys: Vec<KeyRow>,
+    pub(crate) prefixes: Vec<PrefixRow>,
     pub(crate) orders: Vec<OrderRow>,
     pub(crate) lines: Vec<LineRow>,
     pub(crate) advices: Vec<AdviceRow>,
@@ -35,6 +39,9 @@ pub(crate) fn take_room(lists: &mut Lists, count: usize) -> Result<(), MemoryFau
     ensures same { tables_in lists.new ≡ tables_in lists.old }
     ensures room { OnOk result (Room count lists.new) }
 {
+    lists.hubs.try_reserve(count)?;
+    lists.keys.try_reserve(count)?;
+    lists.prefixes.try_reserve(count)?;
     lists.orders.try_reserve(count)?;
     lists.lines.try_reserve(count)?;
     lists.advices.try_reserve(count)?;
@@ -53,6 +60,9 @@ pub(crate) fn copy_of(alloc: Global, change: &Change) -> Result<Change, MemoryFa
     ensures { IfOk result (λ copy. copy ≡ change.now) }
 {
     Ok(match change {
+        Change::AddHub(row) => Change::AddHub(row.copy(alloc)?),
+        Change::AddKey(row) => Change::AddKey(row.copy(alloc)?),
+        Change::AddPrefix(row) => Change::AddPrefix(row.copy(alloc)?),
         Change::AddOrder(row) => Change::AddOrder(row.copy(alloc)?),
         Change::AddLine(row) => Change::AddLine(row.copy(alloc)?),
         Change::SetLine(row) => Change::SetLine(row.copy(alloc)?),
@@ -76,6 +86,9 @@ pub(crate) fn apply_one(lists: &mut Lists, change: Change)
     ensures room { (n : ℕ) → Room (n + 1) lists.old → Room n lists.new }
 {
     match change {
+        Change::AddHub(row) => put_row(&mut lists.hubs, row),
+        Change::AddKey(row) => put_row(&mut lists.keys, row),
+        Change::AddPrefix(row) => put_row(&mut lists.prefixes, row),
         Change::AddOrder(row) => put_row(&mut lists.orders, row),
         Change::AddLine(row) => put_row(&mut lists.lines, row),
         Change::SetLine(row) => set_row(&mut lists.lines, row),

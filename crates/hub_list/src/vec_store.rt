@@ -1,12 +1,16 @@
 //! A store of plain lists.
-ghost use Rattle.std.specs.Prelude.{◌≡◌};
+ghost use Rattle.std.specs.Prelude.{◌≡◌, IfOk};
+ghost use Rattle.hub_tables.specs.Register.{founded};
 ghost use Rattle.hub_tables.specs.Tables.{empty};
+ghost use Rattle.hub_list.specs.Lists.{tables_in, AreInOrder};
 
 use crate::key::{Above, Reference};
 use crate::lists::{Lists, apply_each, copies_of, take_room};
 use crate::look;
-use edi_base::Items;
+use edi_base::{Items, MemoryFault};
 use gs1_ids::{Gln, Sscc};
+use hub_founding::{register_changes, register_of};
+use hub_register::Register;
 use hub_store::{LastingFault, MailHead, Store, StoreFault};
 use hub_tables::{Change, ContentRow, LineRow, MailRow, PalletRow, ReceiptRow, Side};
 use std::alloc::Global;
@@ -35,26 +39,38 @@ impl Model for VecStore {
     ghost invariant = { λ store. AreInOrder store.lists };
 }
 
+// Lists without rows. Takes no memory.
+fn no_rows(alloc: Global) -> Lists
+    ensures none { tables_in result ≡ empty }
+    ensures kept { AreInOrder result }
+{
+    Lists {
+        hubs: Vec::new(alloc),
+        keys: Vec::new(alloc),
+        prefixes: Vec::new(alloc),
+        orders: Vec::new(alloc),
+        lines: Vec::new(alloc),
+        advices: Vec::new(alloc),
+        pallets: Vec::new(alloc),
+        contents: Vec::new(alloc),
+        receipts: Vec::new(alloc),
+        remembered: Vec::new(alloc),
+        mail: Vec::new(alloc),
+        untaken: Vec::new(alloc),
+        owned: Vec::new(alloc),
+    }
+}
+
 impl VecStore {
-    /// No rows. Takes no memory.
-    pub fn new(alloc: Global) -> Self
-        ensures { result ≡ empty }
+    /// The rows of a register alone.
+    pub fn new(alloc: Global, register: &Register) -> Result<VecStore, MemoryFault>
+        ensures { IfOk result (λ store. store ≡ founded register.now) }
     {
-        VecStore {
-            alloc,
-            lists: Lists {
-                orders: Vec::new(alloc),
-                lines: Vec::new(alloc),
-                advices: Vec::new(alloc),
-                pallets: Vec::new(alloc),
-                contents: Vec::new(alloc),
-                receipts: Vec::new(alloc),
-                remembered: Vec::new(alloc),
-                mail: Vec::new(alloc),
-                untaken: Vec::new(alloc),
-                owned: Vec::new(alloc),
-            },
-        }
+        let changes = register_changes(alloc, register)?;
+        let mut lists = no_rows(alloc);
+        take_room(&mut lists, changes.len())?;
+        apply_each(&mut lists, changes);
+        Ok(VecStore { alloc, lists })
     }
 }
 
@@ -73,6 +89,17 @@ impl Store for VecStore {
 
     fn fault(&self) -> Option<LastingFault> {
         None
+    }
+
+    fn register(&mut self) -> Result<Register, StoreFault> {
+        let hubs = self.lists.hubs.as_slice();
+        let keys = self.lists.keys.as_slice();
+        let prefixes = self.lists.prefixes.as_slice();
+        let Some(register) = register_of(self.alloc, hubs, keys, prefixes)? else {
+            // Rows that hold no register are not asked for one.
+            return Err(StoreFault::Unclean);
+        };
+        Ok(register)
     }
 
     fn remembered(

@@ -20,3 +20,5 @@ pub mod OfRemembered
 pub mod OfMail
 pub mod OfUntaken
 pub mod OfLast
+pub mod OfParties
+pub mod Held

@@ -14,7 +14,7 @@ use Rattle.hub_store.specs.declared.fault.StoreFault.{StoreFault}
 use Rattle.hub_tables.specs.Tables.{Tables}
 use Rattle.hub_schema.specs.Rows.{tables_in}
 use Rattle.hub_schema.specs.Schema.{hub_schema}
-use Rattle.hub_schema.specs.State.{IsHub, LooksUp}
+use Rattle.hub_schema.specs.State.{IsHub, LooksFor, LooksUp}
 use Rattle.hub_looks.specs.Asks.{OnlyReads, Asks}
 use Rattle.hub_looks.proofs.Asking.{shown_same, reads_no_commit}
 use Rattle.hub_looks.proofs.Selecting.{begins_query, only_reads}
@@ -38,14 +38,14 @@ module _ {text : List ℕ} {query : Query} {names : List (List ℕ)} (it : Selec
   was_open : (params : Row) (old new : State) (rows : List Row) → Shown text params old new rows → IsTrue old.is_open
   was_open params old new rows h = (shown_same text params old new rows reads_none h).0.was_open
 
-  pub looks : {X : Type 0} (answer : Tables → X) (Reads : List Row → X → Type 0) (Spoil : List Row → Type 0) (params : Row)
-      (old new : State)
+  pub looks_for : {X : Type 0} (says : Tables → X → Type 0) (spoilt : Tables → Type 0) (Reads : List Row → X → Type 0)
+      (Spoil : List Row → Type 0) (params : Row) (old new : State)
       → (IsHub old → (rows : List Row) → IsAnswer query (overlay old.now.trees []) params rows → (x : X) → Reads rows x
-      → x ≡ answer (tables_in old.now.trees))
+      → says (tables_in old.now.trees) x)
       → (IsHub old → (rows : List Row) → IsAnswer query (overlay old.now.trees []) params rows → Spoil rows
-      → are_clean (tables_in old.now.trees) ≡ false)
-      → (result : Result X StoreFault) → Asks Reads Spoil text params old new result → LooksUp answer old new result
-  looks answer Reads Spoil params old new right wrong (Ok x) asks = record {
+      → spoilt (tables_in old.now.trees))
+      → (result : Result X StoreFault) → Asks Reads Spoil text params old new result → LooksFor says spoilt old new result
+  looks_for says spoilt Reads Spoil params old new right wrong (Ok x) asks = record {
     answers = λ clean holds. let h = asks.reads clean in
         let hub = holds (was_open params old new h.0 h.1) in right hub h.0 (answered params old new h.0 hub h.1) x h.2;
     same = λ clean. asks.same clean reads_none;
@@ -55,7 +55,7 @@ module _ {text : List ℕ} {query : Query} {names : List (List ℕ)} (it : Selec
     crash = reads_no_commit text params old new reads_none asks.survives;
     unclean = λ clean holds e. absurd cc;
   }
-  looks answer Reads Spoil params old new right wrong (Err fault) asks = record {
+  looks_for says spoilt Reads Spoil params old new right wrong (Err fault) asks = record {
     answers = λ clean holds. tt;
     same = λ clean. tt;
     stays = λ clean idle has up. asks.stays clean idle reads_none up;
@@ -66,3 +66,12 @@ module _ {text : List ℕ} {query : Query} {names : List (List ℕ)} (it : Selec
         let up = was_open params old new h.0 h.1 in
         let hub = holds up in (up, wrong hub h.0 (answered params old new h.0 hub h.1) h.2);
   }
+
+  pub looks : {X : Type 0} (answer : Tables → X) (Reads : List Row → X → Type 0) (Spoil : List Row → Type 0) (params : Row)
+      (old new : State)
+      → (IsHub old → (rows : List Row) → IsAnswer query (overlay old.now.trees []) params rows → (x : X) → Reads rows x
+      → x ≡ answer (tables_in old.now.trees))
+      → (IsHub old → (rows : List Row) → IsAnswer query (overlay old.now.trees []) params rows → Spoil rows
+      → are_clean (tables_in old.now.trees) ≡ false)
+      → (result : Result X StoreFault) → Asks Reads Spoil text params old new result → LooksUp answer old new result
+  looks answer = looks_for (λ t x. x ≡ answer t) (λ t. are_clean t ≡ false)

@@ -34,14 +34,14 @@ all_pass : (rows : List Row) → filter (passes [] []) rows ≡ rows
 all_pass [] = refl
 all_pass (row ∷ rows) = ap (λ more. row ∷ more) (all_pass rows)
 
-one_source : (sources : List Row) → (Int (pos 1) ∷ []) ∷ [] ≡ map (λ row. column row 1 ∷ []) sources
-    → map (λ row. column row 1) sources ≡ Int (pos 1) ∷ []
+one_source : (sources : List Row) → (Int (pos 2) ∷ []) ∷ [] ≡ map (λ row. column row 1 ∷ []) sources
+    → map (λ row. column row 1) sources ≡ Int (pos 2) ∷ []
 one_source [] e = cc
-one_source (row ∷ []) e = let here : column row 1 ≡ Int (pos 1) = cc in ap (λ v. v ∷ []) here
+one_source (row ∷ []) e = let here : column row 1 ≡ Int (pos 2) = cc in ap (λ v. v ∷ []) here
 one_source (row ∷ other ∷ more) e = cc
 
 number_read : (old new : State) (rows : List Row) → old.now.schema ≡ hub_schema → Shown number_text [] old new rows
-    → rows ≡ (Int (pos 1) ∷ []) ∷ [] → IsNumbered old.now.trees
+    → rows ≡ (Int (pos 2) ∷ []) ∷ [] → IsNumbered old.now.trees
 number_read old new rows has h is =
     let db = old.now.trees in
     let answer =
@@ -51,17 +51,17 @@ number_read old new rows has h is =
     let same : IsPermutation (db 0) found.sources = subst (λ xs. IsPermutation xs found.sources) (all_pass (db 0)) found.same in
     let turned = IsPermutation-sym (map (λ row. column row 1) (db 0)) (map (λ row. column row 1) found.sources)
     (IsPermutation-map (λ row. column row 1) (db 0) found.sources same) in
-    one_permutation (Int (pos 1)) (map (λ row. column row 1) (db 0))
+    one_permutation (Int (pos 2)) (map (λ row. column row 1) (db 0))
     (subst (λ xs. IsPermutation xs (map (λ row. column row 1) (db 0))) first turned)
 
-shown_source : (sources : List Row) → map (λ row. column row 1) sources ≡ Int (pos 1) ∷ []
-    → map (λ row. column row 1 ∷ []) sources ≡ (Int (pos 1) ∷ []) ∷ []
+shown_source : (sources : List Row) → map (λ row. column row 1) sources ≡ Int (pos 2) ∷ []
+    → map (λ row. column row 1 ∷ []) sources ≡ (Int (pos 2) ∷ []) ∷ []
 shown_source [] e = cc
-shown_source (row ∷ []) e = let here : column row 1 ≡ Int (pos 1) = cc in ap (λ v. (v ∷ []) ∷ []) here
+shown_source (row ∷ []) e = let here : column row 1 ≡ Int (pos 2) = cc in ap (λ v. (v ∷ []) ∷ []) here
 shown_source (row ∷ other ∷ more) e = cc
 
 number_shown : (old new : State) (rows : List Row) → old.now.schema ≡ hub_schema → Shown number_text [] old new rows
-    → IsNumbered old.now.trees → rows ≡ (Int (pos 1) ∷ []) ∷ []
+    → IsNumbered old.now.trees → rows ≡ (Int (pos 2) ∷ []) ∷ []
 number_shown old new rows has h is =
     let db = old.now.trees in
     let answer =
@@ -69,7 +69,7 @@ number_shown old new rows has h is =
     let found = finds db 0 [] (col 1 1 ∷ []) [] no_limit [] rows refl answer in
     let same : IsPermutation (db 0) found.sources = subst (λ xs. IsPermutation xs found.sources) (all_pass (db 0)) found.same in
     let moved = IsPermutation-map (λ row. column row 1) (db 0) found.sources same in
-    let one = one_permutation (Int (pos 1)) (map (λ row. column row 1) found.sources)
+    let one = one_permutation (Int (pos 2)) (map (λ row. column row 1) found.sources)
     (subst (λ xs. IsPermutation xs (map (λ row. column row 1) found.sources)) is moved) in
     found.is ∙ shown_source found.sources one
 
@@ -78,7 +78,7 @@ number_reads = only_reads number_text number_selects.first
 
 pub tells : (old new : State) (rows : Vec Row Global) (is : Bool)
     → Asks {X = Vec Row Global} (λ rows answer. answer.items ≡ rows) (λ _. ⊥) number_text [] old new (Ok rows)
-    → (IsTrue is ↔ (rows.items ≡ (Int (pos 1) ∷ []) ∷ [])) → TellsNumber old new (Ok is)
+    → (IsTrue is ↔ (rows.items ≡ (Int (pos 2) ∷ []) ∷ [])) → TellsNumber old new (Ok is)
 tells old new rows is asks one = record {
   number = λ clean has. let h = asks.reads clean in
       (λ yes. number_read old new h.0 has h.1 (sym h.2 ∙ one.0 yes), λ numbered. one.1 (h.2 ∙ number_shown old new h.0 has h.1 numbered));

@@ -36,6 +36,32 @@ advice_selects = record { first = refl; plain = (refl, refl); unlisted = refl; i
 abbrev pub rising : ℕ → Term × Key
 rising column = (col 1 column, record { collation = Binary; descending = false })
 
+-- The register.
+
+abbrev pub hubs_text : List ℕ
+hubs_text = codes "SELECT hub, retailer, \"key\" FROM hub ORDER BY hub"
+
+pub hubs_select : Selects hubs_text (all_of 18 [] (col 1 1 ∷ col 1 2 ∷ col 1 3 ∷ []) (rising 1 ∷ []))
+    (codes "hub" ∷ codes "retailer" ∷ codes "key" ∷ [])
+unfolding understood everything
+hubs_select = record { first = refl; plain = (refl, refl); unlisted = refl; is = refl }
+
+abbrev pub keys_text : List ℕ
+keys_text = codes "SELECT supplier, \"key\" FROM supplier ORDER BY supplier"
+
+pub keys_select : Selects keys_text (all_of 20 [] (col 1 1 ∷ col 1 2 ∷ []) (rising 1 ∷ []))
+    (codes "supplier" ∷ codes "key" ∷ [])
+unfolding understood everything
+keys_select = record { first = refl; plain = (refl, refl); unlisted = refl; is = refl }
+
+abbrev pub prefixes_text : List ℕ
+prefixes_text = codes "SELECT prefix, supplier FROM prefix ORDER BY prefix"
+
+pub prefixes_select : Selects prefixes_text (all_of 22 [] (col 1 1 ∷ col 1 2 ∷ []) (rising 1 ∷ []))
+    (codes "prefix" ∷ codes "supplier" ∷ [])
+unfolding understood everything
+prefixes_select = record { first = refl; plain = (refl, refl); unlisted = refl; is = refl }
+
 -- Lines.
 
 abbrev pub line_columns : List Term

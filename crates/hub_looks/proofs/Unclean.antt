@@ -5,7 +5,8 @@ use Rattle.std.proofs.lemmas.Bool.Decides.{nat_tests}
 use Rattle.std.proofs.lemmas.List.Sums.{list_all-from_AllPass}
 use Rattle.std.specs.List.{list_all}
 use Rattle.hub_store.specs.Clean.{is_within, are_bytes, are_clean, clean_order, clean_line, clean_advice, clean_pallet}
-use Rattle.hub_store.specs.Clean.{clean_content, clean_receipt, clean_remembered, clean_mail}
+use Rattle.hub_store.specs.Clean.{clean_content, clean_receipt, clean_remembered, clean_mail, clean_hub, clean_key}
+use Rattle.hub_store.specs.Clean.{clean_prefix}
 use Rattle.hub_tables.specs.Tables.{Tables}
 
 pub first_fails : (a b : Bool) → a ≡ false → (a && b) ≡ false
@@ -57,19 +58,32 @@ no_more most n h = grind (arith, nat_tests)
 
 -- where a row of one table is none of its kind
 module _ (t : Tables) where
+  -- the tables behind those of the register
+  abbrev traffic : Bool
+  traffic = list_all clean_order t.orders && (list_all clean_line t.lines
+      && (list_all clean_advice t.advices && (list_all clean_pallet t.pallets
+      && (list_all clean_content t.contents && (list_all clean_receipt t.receipts
+      && (list_all clean_remembered t.remembered && list_all clean_mail t.mail))))))
+
+  of_traffic : traffic ≡ false → are_clean t ≡ false
+  of_traffic h =
+      later_fails (list_all clean_hub t.hubs) (list_all clean_key t.keys && (list_all clean_prefix t.prefixes && traffic))
+      (later_fails (list_all clean_key t.keys) (list_all clean_prefix t.prefixes && traffic)
+      (later_fails (list_all clean_prefix t.prefixes) traffic h))
+
   pub lines_unclean : list_all clean_line t.lines ≡ false → are_clean t ≡ false
   lines_unclean h =
-      later_fails (list_all clean_order t.orders) (list_all clean_line t.lines
+      of_traffic (later_fails (list_all clean_order t.orders) (list_all clean_line t.lines
       && (list_all clean_advice t.advices && (list_all clean_pallet t.pallets
       && (list_all clean_content t.contents && (list_all clean_receipt t.receipts
       && (list_all clean_remembered t.remembered && list_all clean_mail t.mail))))))
       (first_fails (list_all clean_line t.lines) (list_all clean_advice t.advices
       && (list_all clean_pallet t.pallets && (list_all clean_content t.contents
-      && (list_all clean_receipt t.receipts && (list_all clean_remembered t.remembered && list_all clean_mail t.mail))))) h)
+      && (list_all clean_receipt t.receipts && (list_all clean_remembered t.remembered && list_all clean_mail t.mail))))) h))
 
   pub pallets_unclean : list_all clean_pallet t.pallets ≡ false → are_clean t ≡ false
   pallets_unclean h =
-      later_fails (list_all clean_order t.orders) (list_all clean_line t.lines
+      of_traffic (later_fails (list_all clean_order t.orders) (list_all clean_line t.lines
       && (list_all clean_advice t.advices && (list_all clean_pallet t.pallets
       && (list_all clean_content t.contents && (list_all clean_receipt t.receipts
       && (list_all clean_remembered t.remembered && list_all clean_mail t.mail))))))
@@ -80,11 +94,11 @@ module _ (t : Tables) where
       && (list_all clean_content t.contents && (list_all clean_receipt t.receipts
       && (list_all clean_remembered t.remembered && list_all clean_mail t.mail))))
       (first_fails (list_all clean_pallet t.pallets) (list_all clean_content t.contents
-      && (list_all clean_receipt t.receipts && (list_all clean_remembered t.remembered && list_all clean_mail t.mail))) h)))
+      && (list_all clean_receipt t.receipts && (list_all clean_remembered t.remembered && list_all clean_mail t.mail))) h))))
 
   pub contents_unclean : list_all clean_content t.contents ≡ false → are_clean t ≡ false
   contents_unclean h =
-      later_fails (list_all clean_order t.orders) (list_all clean_line t.lines
+      of_traffic (later_fails (list_all clean_order t.orders) (list_all clean_line t.lines
       && (list_all clean_advice t.advices && (list_all clean_pallet t.pallets
       && (list_all clean_content t.contents && (list_all clean_receipt t.receipts
       && (list_all clean_remembered t.remembered && list_all clean_mail t.mail))))))
@@ -97,11 +111,11 @@ module _ (t : Tables) where
       (later_fails (list_all clean_pallet t.pallets) (list_all clean_content t.contents
       && (list_all clean_receipt t.receipts && (list_all clean_remembered t.remembered && list_all clean_mail t.mail)))
       (first_fails (list_all clean_content t.contents) (list_all clean_receipt t.receipts
-      && (list_all clean_remembered t.remembered && list_all clean_mail t.mail)) h))))
+      && (list_all clean_remembered t.remembered && list_all clean_mail t.mail)) h)))))
 
   pub receipts_unclean : list_all clean_receipt t.receipts ≡ false → are_clean t ≡ false
   receipts_unclean h =
-      later_fails (list_all clean_order t.orders) (list_all clean_line t.lines
+      of_traffic (later_fails (list_all clean_order t.orders) (list_all clean_line t.lines
       && (list_all clean_advice t.advices && (list_all clean_pallet t.pallets
       && (list_all clean_content t.contents && (list_all clean_receipt t.receipts
       && (list_all clean_remembered t.remembered && list_all clean_mail t.mail))))))
@@ -115,11 +129,11 @@ module _ (t : Tables) where
       && (list_all clean_receipt t.receipts && (list_all clean_remembered t.remembered && list_all clean_mail t.mail)))
       (later_fails (list_all clean_content t.contents) (list_all clean_receipt t.receipts
       && (list_all clean_remembered t.remembered && list_all clean_mail t.mail))
-      (first_fails (list_all clean_receipt t.receipts) (list_all clean_remembered t.remembered && list_all clean_mail t.mail) h)))))
+      (first_fails (list_all clean_receipt t.receipts) (list_all clean_remembered t.remembered && list_all clean_mail t.mail) h))))))
 
   pub remembered_unclean : list_all clean_remembered t.remembered ≡ false → are_clean t ≡ false
   remembered_unclean h =
-      later_fails (list_all clean_order t.orders) (list_all clean_line t.lines
+      of_traffic (later_fails (list_all clean_order t.orders) (list_all clean_line t.lines
       && (list_all clean_advice t.advices && (list_all clean_pallet t.pallets
       && (list_all clean_content t.contents && (list_all clean_receipt t.receipts
       && (list_all clean_remembered t.remembered && list_all clean_mail t.mail))))))
@@ -134,11 +148,11 @@ module _ (t : Tables) where
       (later_fails (list_all clean_content t.contents) (list_all clean_receipt t.receipts
       && (list_all clean_remembered t.remembered && list_all clean_mail t.mail))
       (later_fails (list_all clean_receipt t.receipts) (list_all clean_remembered t.remembered && list_all clean_mail t.mail)
-      (first_fails (list_all clean_remembered t.remembered) (list_all clean_mail t.mail) h))))))
+      (first_fails (list_all clean_remembered t.remembered) (list_all clean_mail t.mail) h)))))))
 
   pub mail_unclean : list_all clean_mail t.mail ≡ false → are_clean t ≡ false
   mail_unclean h =
-      later_fails (list_all clean_order t.orders) (list_all clean_line t.lines
+      of_traffic (later_fails (list_all clean_order t.orders) (list_all clean_line t.lines
       && (list_all clean_advice t.advices && (list_all clean_pallet t.pallets
       && (list_all clean_content t.contents && (list_all clean_receipt t.receipts
       && (list_all clean_remembered t.remembered && list_all clean_mail t.mail))))))
@@ -153,4 +167,4 @@ module _ (t : Tables) where
       (later_fails (list_all clean_content t.contents) (list_all clean_receipt t.receipts
       && (list_all clean_remembered t.remembered && list_all clean_mail t.mail))
       (later_fails (list_all clean_receipt t.receipts) (list_all clean_remembered t.remembered && list_all clean_mail t.mail)
-      (later_fails (list_all clean_remembered t.remembered) (list_all clean_mail t.mail) (h)))))))
+      (later_fails (list_all clean_remembered t.remembered) (list_all clean_mail t.mail) (h))))))))

@@ -6,7 +6,7 @@ use Rattle.hub_store.specs.declared.fault.StoreFault.TheVariants.{Memory, Disk}
 use Rattle.hub_schema.specs.Schema.{hub_schema}
 use Rattle.hub_schema.specs.State.{IsNumbered, Spares}
 
--- whether it is 1, exactly; nothing changes, also after a crash; after a fault a transaction that was open may be
+-- whether it is 2, exactly; nothing changes, also after a crash; after a fault a transaction that was open may be
 -- undone
 pub record TellsNumber (old new : State) (result : Result Bool StoreFault) : Type 0 where
   pub number :

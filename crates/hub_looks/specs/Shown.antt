@@ -2,6 +2,9 @@
 use Rattle.std.specs.Prelude.{ℕ, List, ◌∷◌}
 use Rattle.sqlite_value.specs.declared.value.Value.TheVariants.{Null}
 use Rattle.sqlite_value.specs.Order.{Row, column}
+use Rattle.hub_tables.specs.declared.rows.HubRow.{HubRow}
+use Rattle.hub_tables.specs.declared.rows.KeyRow.{KeyRow}
+use Rattle.hub_tables.specs.declared.rows.PrefixRow.{PrefixRow}
 use Rattle.hub_tables.specs.declared.rows.LineRow.{LineRow}
 use Rattle.hub_tables.specs.declared.rows.PalletRow.{PalletRow}
 use Rattle.hub_tables.specs.declared.rows.ContentRow.{ContentRow}
@@ -9,7 +12,16 @@ use Rattle.hub_tables.specs.declared.rows.ReceiptRow.{ReceiptRow}
 use Rattle.hub_tables.specs.declared.rows.MailRow.{MailRow}
 use Rattle.hub_store.specs.declared.mail.MailHead.{MailHead}
 use Rattle.hub_schema.specs.Cells.{bytes_in, number_in}
-use Rattle.hub_schema.specs.Rows.{line_in, pallet_in, content_in, receipt_in, mail_in}
+use Rattle.hub_schema.specs.Rows.{hub_row_in, key_row_in, prefix_row_in, line_in, pallet_in, content_in, receipt_in, mail_in}
+
+abbrev pub shown_hub : Row → HubRow
+shown_hub row = hub_row_in (Null ∷ row)
+
+abbrev pub shown_key : Row → KeyRow
+shown_key row = key_row_in (Null ∷ row)
+
+abbrev pub shown_prefix : Row → PrefixRow
+shown_prefix row = prefix_row_in (Null ∷ row)
 
 abbrev pub shown_line : Row → LineRow
 shown_line row = line_in (Null ∷ row)

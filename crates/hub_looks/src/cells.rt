@@ -4,13 +4,16 @@ ghost use Rattle.edi_segments.specs.Service.{is_decimal};
 ghost use Rattle.edi_moment.specs.Moment.{last_moment};
 ghost use Rattle.gs1_ids.specs.Digits.{is_key};
 ghost use Rattle.gs1_ids.specs.Gln.{is_gln};
+ghost use Rattle.gs1_ids.specs.Prefix.{is_prefix};
+ghost use Rattle.hub_parties.specs.Key.{is_party_key};
 ghost use Rattle.hub_store.specs.Clean.{is_within, is_number, is_answer, is_arrival, is_kind, is_truth, are_bytes};
 ghost use Rattle.hub_schema.specs.Cells.{bytes_in, number_in};
 ghost use Rattle.sqlite_value.specs.Order.{column};
 
 use edi_base::{Items, all_printable, has_length};
 use edi_envelope::Moment;
-use gs1_ids::{Gln, Gtin, Sscc};
+use gs1_ids::{Gln, Gtin, Prefix, Sscc};
+use hub_parties::Key;
 use hub_store::StoreFault;
 use hub_tables::{Answered, Arrival, Column, MailKind};
 use sqlite::{Error, ErrorCode, Row};
@@ -97,6 +100,34 @@ pub(crate) fn gln_at(row: &Row, at: usize) -> Result<Gln, StoreFault>
     let digits = bytes_at(row, at)?;
     match Gln::parse(digits.as_slice()) {
         Some(gln) => Ok(gln),
+        None => Err(StoreFault::Unclean),
+    }
+}
+
+/// A company prefix.
+pub(crate) fn prefix_at(row: &Row, at: usize) -> Result<Prefix, StoreFault>
+    ensures ok { IfOk result (λ prefix. prefix ≡ bytes_in (column row.now at)) }
+    ensures right { IfOk result (λ prefix. IsTrue (is_prefix prefix)) }
+    ensures unclean { result ≡ Err StoreFault.Unclean → is_prefix (bytes_in (column row.now at)) ≡ false }
+    ensures fails { IfErr result (λ fault. (fault ≡ StoreFault.Memory) ⊎ (fault ≡ StoreFault.Unclean)) }
+{
+    let digits = bytes_at(row, at)?;
+    match Prefix::parse(digits.as_slice()) {
+        Some(prefix) => Ok(prefix),
+        None => Err(StoreFault::Unclean),
+    }
+}
+
+/// The key of a party.
+pub(crate) fn key_at(row: &Row, at: usize) -> Result<Key, StoreFault>
+    ensures ok { IfOk result (λ key. key ≡ bytes_in (column row.now at)) }
+    ensures right { IfOk result (λ key. IsTrue (is_party_key key)) }
+    ensures unclean { result ≡ Err StoreFault.Unclean → is_party_key (bytes_in (column row.now at)) ≡ false }
+    ensures fails { IfErr result (λ fault. (fault ≡ StoreFault.Memory) ⊎ (fault ≡ StoreFault.Unclean)) }
+{
+    let bytes = bytes_at(row, at)?;
+    match Key::parse(bytes.as_slice()) {
+        Some(key) => Ok(key),
         None => Err(StoreFault::Unclean),
     }
 }

@@ -1,4 +1,4 @@
-//! The look-ups of a hub in SQL: one statement each, of fixed text, that reads one table by a key.
+//! The look-ups of a hub in SQL: one statement each, of fixed text, that reads one table by a key, or all of it.
 #![tactic(auto)]
 
 mod ask;
@@ -9,6 +9,7 @@ mod lines;
 mod mail;
 mod number;
 mod pallets;
+mod parties;
 mod references;
 mod shown;
 
@@ -18,4 +19,5 @@ pub use lines::{all_lines, lines_of};
 pub use mail::{last_mail, mail_after, mail_item};
 pub use number::is_numbered;
 pub use pallets::{all_pallets, pallet, used};
+pub use parties::{all_hubs, all_keys, all_prefixes, register};
 pub use references::remembered;

@@ -9,20 +9,20 @@ use hub_store::StoreFault;
 use sqlite::types::ValueRef;
 use sqlite::{Alter, Connection, Row};
 
-// Whether the answer is the number 1 alone.
-fn is_one(rows: &[Row]) -> bool
-    ensures { IsTrue result ↔ (rows.now ≡ (Int (pos 1) ∷ []) ∷ []) }
+// Whether the answer is the number 2 alone.
+fn is_two(rows: &[Row]) -> bool
+    ensures { IsTrue result ↔ (rows.now ≡ (Int (pos 2) ∷ []) ∷ []) }
 {
     let [row] = rows else {
         return false;
     };
-    row.column_count() == 1 && matches!(row.get_ref(0), Ok(ValueRef::Int(1)))
+    row.column_count() == 1 && matches!(row.get_ref(0), Ok(ValueRef::Int(2)))
 }
 
-/// Whether the schema's number is 1, in a database that has the hub's tables.
+/// Whether the schema's number is 2, in a database that has the hub's tables.
 pub fn is_numbered<S: Alter>(conn: &mut Connection<S>) -> Result<bool, StoreFault>
     ensures number { TellsNumber (state S.Store conn.old) (state S.Store conn.new) result }
 {
     let rows = ask(conn, "SELECT number FROM schema", &[])?;
-    Ok(is_one(rows.as_slice()))
+    Ok(is_two(rows.as_slice()))
 }

@@ -3,17 +3,19 @@
 ghost use Rattle.std.specs.Prelude.{◌≡◌, ◌⊎◌, Bool, false, IsTrue, IfOk, IfErr, IfSome, Err, map, slice_get};
 ghost use Rattle.std.specs.List.{list_all};
 ghost use Rattle.hub_store.specs.Clean.{clean_line, clean_pallet, clean_content, clean_receipt, clean_mail, clean_head};
+ghost use Rattle.hub_store.specs.Clean.{clean_hub, clean_key, clean_prefix};
 ghost use Rattle.hub_looks.specs.Shown.{shown_line, shown_pallet, shown_content, shown_receipt, shown_mail, shown_head};
+ghost use Rattle.hub_looks.specs.Shown.{shown_hub, shown_key, shown_prefix};
 ghost use Rattle.sqlite_value.specs.Order.{Row as Values};
 
 use crate::cells::{
-    answer_at, arrival_at, bytes_at, decimal_at, document_at, gln_at, gtin_at, kind_at, moment_at,
-    sscc_at, truth_at, within_at,
+    answer_at, arrival_at, bytes_at, decimal_at, document_at, gln_at, gtin_at, key_at, kind_at,
+    moment_at, prefix_at, sscc_at, truth_at, within_at,
 };
 use edi_base::{GREATEST, Items};
 use edi_envelope::LAST_MAIL_NUMBER;
 use hub_store::{MailHead, StoreFault};
-use hub_tables::{ContentRow, LineRow, MailRow, PalletRow, ReceiptRow};
+use hub_tables::{ContentRow, HubRow, KeyRow, LineRow, MailRow, PalletRow, PrefixRow, ReceiptRow};
 use sqlite::Row;
 use std::alloc::Global;
 
@@ -34,6 +36,46 @@ pub(crate) trait Shown: Drop {
 
 // The greatest number of a line, and of a place on a pallet.
 const LAST_LINE: u64 = 999_999;
+
+impl Shown for HubRow {
+    ghost shown = { shown_hub };
+
+    ghost clean = { clean_hub };
+
+    #[tactic(auto, using(crate::proofs::Unclean::first_fails, crate::proofs::Unclean::later_fails))]
+    fn of_row(row: &Row) -> Result<Self, StoreFault> {
+        let hub = gln_at(row, 0)?;
+        let retailer = gln_at(row, 1)?;
+        let key = key_at(row, 2)?;
+        Ok(HubRow { hub, retailer, key })
+    }
+}
+
+impl Shown for KeyRow {
+    ghost shown = { shown_key };
+
+    ghost clean = { clean_key };
+
+    #[tactic(auto, using(crate::proofs::Unclean::first_fails, crate::proofs::Unclean::later_fails))]
+    fn of_row(row: &Row) -> Result<Self, StoreFault> {
+        let supplier = gln_at(row, 0)?;
+        let key = key_at(row, 1)?;
+        Ok(KeyRow { supplier, key })
+    }
+}
+
+impl Shown for PrefixRow {
+    ghost shown = { shown_prefix };
+
+    ghost clean = { clean_prefix };
+
+    #[tactic(auto, using(crate::proofs::Unclean::first_fails, crate::proofs::Unclean::later_fails))]
+    fn of_row(row: &Row) -> Result<Self, StoreFault> {
+        let prefix = prefix_at(row, 0)?;
+        let supplier = gln_at(row, 1)?;
+        Ok(PrefixRow { prefix, supplier })
+    }
+}
 
 impl Shown for LineRow {
     ghost shown = { shown_line };

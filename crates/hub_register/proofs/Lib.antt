@@ -1,5 +1,7 @@
 mod Examples
 pub mod Inserted
+pub mod Kept
+pub mod Leaving
 pub mod Ordered
 pub mod Permuted
 pub mod PrefixFree

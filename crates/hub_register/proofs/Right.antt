@@ -28,19 +28,19 @@ Differ r s = bytes_eq r.gln s.gln ≡ false
 pub differ-turned : (r s : SupplierRow) → Differ r s → Differ s r
 differ-turned r s h = bytes_eq-sym s.gln r.gln ∙ h
 
-not_among : (text : List ℕ) (rows : List SupplierRow)
+pub not_among : (text : List ℕ) (rows : List SupplierRow)
     → AllByRecursion (λ r. bytes_eq text r.gln ≡ false) rows
     → is_among text (map (λ r. r.gln) rows) ≡ false
 not_among text [] h = refl
 not_among text (r ∷ rs) h = or_from (bytes_eq text r.gln) _ h.0 (not_among text rs h.1)
 
-each_differs : (text : List ℕ) (rows : List SupplierRow)
+pub each_differs : (text : List ℕ) (rows : List SupplierRow)
     → is_among text (map (λ r. r.gln) rows) ≡ false
     → AllByRecursion (λ r. bytes_eq text r.gln ≡ false) rows
 each_differs text [] h = tt
 each_differs text (r ∷ rs) h = let parts = or_parts (bytes_eq text r.gln) _ h in (parts.0, each_differs text rs parts.1)
 
-once : (rows : List SupplierRow) → Apart Differ rows → has_twice (map (λ r. r.gln) rows) ≡ false
+pub once : (rows : List SupplierRow) → Apart Differ rows → has_twice (map (λ r. r.gln) rows) ≡ false
 once [] h = refl
 once (r ∷ rs) h = or_from (is_among r.gln (map (λ s. s.gln) rs)) _ (not_among r.gln rs h.0) (once rs h.1)
 
@@ -77,7 +77,7 @@ each_free : (r : SupplierRow) (rows : List SupplierRow) → All (AreApart r.pref
 each_free r [] h = tt
 each_free r (s ∷ rows) h = (h 0 [] (omega arith), each_free r rows (λ k d within. h (suc k) d (omega (arith, within))))
 
-free : (rows : List SupplierRow) → PrefixFree (company_prefixes rows) → Apart Free rows
+pub free : (rows : List SupplierRow) → PrefixFree (company_prefixes rows) → Apart Free rows
 free [] h = tt
 free (r ∷ rows) h = (
   each_free r rows (λ k d within. h 0 (suc k) d (omega arith) (omega (arith, within))),
@@ -88,7 +88,7 @@ all_apart : (r : SupplierRow) (rows : List SupplierRow) → AllByRecursion (Free
 all_apart r [] h = All-nil (AreApart r.prefixes)
 all_apart r (s ∷ rows) h = All-cons (AreApart r.prefixes) s.prefixes (company_prefixes rows) h.0 (all_apart r rows h.1)
 
-prefix_free : (rows : List SupplierRow) → Apart Free rows → PrefixFree (company_prefixes rows)
+pub prefix_free : (rows : List SupplierRow) → Apart Free rows → PrefixFree (company_prefixes rows)
 prefix_free [] h = λ i j d before within. absurd (omega arith)
 prefix_free (r ∷ rows) h = AllPairs-cons AreApart r.prefixes (company_prefixes rows) (all_apart r rows h.0) (prefix_free rows h.1)
 

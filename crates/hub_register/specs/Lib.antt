@@ -2,6 +2,8 @@ pub mod Document
 pub mod Entries
 pub mod Fault
 pub mod InOrder
+pub mod Joined
+pub mod Kept
 pub mod Held
 pub mod Register
 pub mod Text

@@ -1,14 +1,15 @@
 //! The register: the hub's GLN, the retailer with its key, and the suppliers, each with a GLN, one to eight company prefixes
 //! and a key.
 //!
-//! A register comes from a TOML text by `Register::from_toml` alone. So its GLNs, prefixes and keys are always valid,
-//! no GLN stands in it twice, and no prefix of one supplier begins a prefix of another.
+//! A register comes from a TOML text by `Register::from_toml`, or from rows by `Register::of_rows`. So its GLNs, prefixes
+//! and keys are always valid, no GLN stands in it twice, and no prefix of one supplier begins a prefix of another.
 #![tactic(auto)]
 
 mod columns;
 mod document;
 mod fault;
 mod register;
+mod rows;
 
 pub use fault::RegisterFault;
 pub use hub_parties::{CompanyPrefixes, Key, Role, SupplierRow};

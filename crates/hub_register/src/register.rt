@@ -1,26 +1,31 @@
 ghost use Rattle.toml.specs.Parse.{parse_document};
 ghost use Rattle.toml.specs.View.{table_view};
-ghost use Rattle.std.specs.Prelude.{◌≡◌, ◌≢◌, ◌+◌, ◌∷◌, [], true, false, nat_lt, IfOk, IfErr, Ok, Err, Some, None, length, map, option_map, option_copied};
+ghost use Rattle.std.specs.Prelude.{◌≡◌, ◌≢◌, ◌+◌, ◌∷◌, [], true, false, nat_lt, nat_le, IfOk, IfErr, OnOk, OnErr, Ok, Err, Some, None, length, map, option_map, option_copied};
 ghost use Rattle.std.specs.BTreeMap.{keys, values};
-ghost use Rattle.std.specs.List.{list_all};
-ghost use Rattle.std.specs.Option.{IfNone};
+ghost use Rattle.std.specs.List.{list_all, list_any};
+ghost use Rattle.std.specs.Option.{IfNone, IfSome};
 ghost use Rattle.std.specs.Str.{bytes_eq};
 ghost use Rattle.gs1_ids.specs.Gln.{is_gln};
-ghost use Rattle.gs1_ids.specs.Overlap.{first_overlap_between, PrefixFree};
+ghost use Rattle.gs1_ids.specs.Overlap.{first_overlap_between, overlap_some, PrefixFree};
 ghost use Rattle.hub_parties.specs.Rows as spec;
 ghost use Rattle.hub_parties.specs.Rows.{IsRegister, most_suppliers, rows_by, row_of, role_of};
 ghost use Rattle.hub_register.specs.Entries.{rows_from};
 ghost use Rattle.hub_register.specs.Fault.{fault_of};
+ghost use Rattle.hub_register.specs.Joined.{joined_by, left_by};
+ghost use Rattle.hub_register.specs.Kept as kept;
 ghost use Rattle.hub_register.specs.declared.fault.RegisterFault.TheVariants.{Overlap};
 ghost use Rattle.hub_register.specs.Register.{register_of, register_of_rows, RegisterHasItsRows, RegisterIsPrefixFree};
 
 use crate::columns;
 use crate::document::Document;
 use crate::fault::RegisterFault;
-use gs1_ids::Gln;
+use crate::rows::{MOST_SUPPLIERS, by_gln, keep_all};
+use edi_base::MemoryFault;
+use gs1_ids::{Gln, overlap_some};
 use hub_parties::{CompanyPrefixes, Key, Role, SupplierRow, first_overlap};
 use std::alloc::Global;
 use std::collections::BTreeMap;
+use std::collections::btree_map::Values;
 use std::marker::Model;
 use toml::Table;
 
@@ -45,9 +50,6 @@ impl Model for Register {
     ghost invariant = { IsHeld };
 }
 
-/// How many suppliers there may be.
-const MOST_SUPPLIERS: usize = 1000;
-
 // The register of these parties, of which every register's facts hold.
 fn assembled(
     hub: Gln,
@@ -66,6 +68,26 @@ fn assembled(
         retailer_key,
         suppliers,
     }
+}
+
+// The register of rows that can be those of one.
+fn held(
+    alloc: Global,
+    hub: Gln,
+    retailer: Gln,
+    retailer_key: Key,
+    suppliers: Vec<SupplierRow>,
+) -> Result<Register, MemoryFault>
+    requires { kept.keep_all hub retailer suppliers.items ≡ true }
+    ensures value { IfOk result (λ register. register ≡ rows_by hub retailer retailer_key suppliers.items) }
+    ensures register { IfOk result IsRegister }
+{
+    // The contracts of these calls say that the parties' GLNs and key are valid.
+    let _hub = hub.digits();
+    let _retailer = retailer.digits();
+    let _key = retailer_key.bytes();
+    let suppliers = by_gln(alloc, suppliers)?;
+    Ok(assembled(hub, retailer, retailer_key, suppliers))
 }
 
 // Every GLN of what a text says, the hub's and the retailer's first, where there are no more suppliers than may be.
@@ -152,6 +174,25 @@ impl Register {
         judge(alloc, &document)
     }
 
+    /// The register of these rows, the suppliers as they stand; `None` exactly where they are those of no register.
+    pub fn of_rows(
+        alloc: Global,
+        hub: Gln,
+        retailer: Gln,
+        retailer_key: Key,
+        suppliers: Vec<SupplierRow>,
+    ) -> Result<Option<Register>, MemoryFault>
+        ensures some { IfOk result (λ found. IfSome found (λ register. (register ≡ rows_by hub retailer retailer_key suppliers.items)
+            × IsRegister register)) }
+        ensures none { IfOk result (λ found. IfNone found (IsRegister (rows_by hub retailer retailer_key suppliers.items) → ⊥)) }
+    {
+        if !keep_all(&hub, &retailer, suppliers.as_slice()) {
+            return Ok(None);
+        }
+        let register = held(alloc, hub, retailer, retailer_key, suppliers)?;
+        Ok(Some(register))
+    }
+
     /// The hub's GLN.
     pub fn hub(&self) -> &Gln
         ensures value { result.now ≡ self.now.hub }
@@ -168,6 +209,14 @@ impl Register {
         &self.retailer
     }
 
+    /// The retailer's key.
+    pub fn retailer_key(&self) -> &Key
+        ensures value { result.now ≡ self.now.retailer_key }
+        ensures register { IsRegister self.now }
+    {
+        &self.retailer_key
+    }
+
     /// How many suppliers there are, at most 1,000.
     pub fn supplier_count(&self) -> usize
         ensures value { result ≡ length self.now.suppliers }
@@ -182,6 +231,63 @@ impl Register {
         ensures register { IsRegister self.now }
     {
         self.suppliers.get(gln)
+    }
+
+    /// The rows of the suppliers, by their GLNs.
+    pub fn suppliers(&self) -> Values<'_, Gln, SupplierRow>
+        ensures value { result ≡ self.now.suppliers }
+        ensures register { IsRegister self.now }
+    {
+        self.suppliers.values()
+    }
+
+    /// Whether the GLN is the hub's, the retailer's or a supplier's.
+    pub fn knows(&self, gln: &Gln) -> bool
+        ensures { result ≡ list_any (bytes_eq gln.now) (spec.glns self.now) }
+    {
+        *gln == self.hub || *gln == self.retailer || self.has_supplier(gln)
+    }
+
+    // Whether the GLN is a supplier's.
+    fn has_supplier(&self, gln: &Gln) -> bool
+        ensures { result ≡ list_any (bytes_eq gln.now) (map (λ row. row.gln) self.now.suppliers) }
+    {
+        self.supplier(gln).is_some()
+    }
+
+    /// Whether one of these prefixes begins a prefix of a supplier, or is begun by it.
+    pub fn overlaps(&self, prefixes: &CompanyPrefixes) -> bool
+        ensures { result ≡ list_any (λ other. overlap_some prefixes.now other.prefixes) self.now.suppliers }
+    {
+        self.suppliers.values().any(|other| overlap_some(
+            prefixes.as_slice(),
+            other.prefixes.as_slice(),
+        ))
+    }
+
+    /// Whether there are as many suppliers as may be.
+    pub fn is_full(&self) -> bool
+        ensures { result ≡ nat_le most_suppliers (length self.now.suppliers) }
+    {
+        MOST_SUPPLIERS <= self.suppliers.len()
+    }
+
+    /// Takes a supplier in. Where memory is refused, the register stays as it is.
+    pub fn join(&mut self, row: SupplierRow) -> Result<(), MemoryFault>
+        requires { IsRegister (joined_by row self.old) }
+        ensures ok { OnOk result (self.new ≡ joined_by row self.old) }
+        ensures err { OnErr result (self.new ≡ self.old) }
+    {
+        self.suppliers.insert(row.gln, row)?;
+        Ok(())
+    }
+
+    /// Lets the supplier with a GLN go, as if it had never joined. Takes no memory.
+    pub fn leave(&mut self, gln: &Gln)
+        requires { IsRegister (left_by gln.now self.old) }
+        ensures { self.new ≡ left_by gln.now self.old }
+    {
+        self.suppliers.remove(gln);
     }
 
     /// The side of a caller: the retailer's or a supplier's GLN, with that party's own key. `None` where the two do

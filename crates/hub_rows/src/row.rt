@@ -7,8 +7,8 @@ ghost use Rattle.hub_tables.specs.Cases.{side_letter};
 
 use edi_base::{MemoryFault, copied};
 use hub_tables::{
-    AdviceRow, Column, ContentRow, LineRow, MailRow, OrderRow, PalletRow, ReceiptRow,
-    RememberedRow, Side,
+    AdviceRow, Column, ContentRow, HubRow, KeyRow, LineRow, MailRow, OrderRow, PalletRow,
+    PrefixRow, ReceiptRow, RememberedRow, Side,
 };
 use std::alloc::Global;
 use std::cmp::Ordering;
@@ -28,6 +28,67 @@ pub trait Row: Drop {
 
     /// It is an order.
     ghost total: { IsTotalOrder compared };
+}
+
+impl Row for HubRow {
+    ghost use Rattle.hub_tables.specs.Rows.{hub_cmp};
+    ghost use Rattle.hub_tables.proofs.KindOrders.{hub_total};
+
+    ghost compared = { hub_cmp };
+
+    fn compare(&self, other: &Self) -> Ordering {
+        self.hub.cmp(&other.hub)
+    }
+
+    fn copy(&self, _alloc: Global) -> Result<Self, MemoryFault> {
+        Ok(HubRow {
+            hub: self.hub,
+            retailer: self.retailer,
+            key: self.key.copy(),
+        })
+    }
+
+    ghost total = { hub_total };
+}
+
+impl Row for KeyRow {
+    ghost use Rattle.hub_tables.specs.Rows.{key_cmp};
+    ghost use Rattle.hub_tables.proofs.KindOrders.{key_total};
+
+    ghost compared = { key_cmp };
+
+    fn compare(&self, other: &Self) -> Ordering {
+        self.supplier.cmp(&other.supplier)
+    }
+
+    fn copy(&self, _alloc: Global) -> Result<Self, MemoryFault> {
+        Ok(KeyRow {
+            supplier: self.supplier,
+            key: self.key.copy(),
+        })
+    }
+
+    ghost total = { key_total };
+}
+
+impl Row for PrefixRow {
+    ghost use Rattle.hub_tables.specs.Rows.{prefix_cmp};
+    ghost use Rattle.hub_tables.proofs.KindOrders.{prefix_total};
+
+    ghost compared = { prefix_cmp };
+
+    fn compare(&self, other: &Self) -> Ordering {
+        self.prefix.cmp(&other.prefix)
+    }
+
+    fn copy(&self, _alloc: Global) -> Result<Self, MemoryFault> {
+        Ok(PrefixRow {
+            prefix: self.prefix,
+            supplier: self.supplier,
+        })
+    }
+
+    ghost total = { prefix_total };
 }
 
 impl Row for OrderRow {

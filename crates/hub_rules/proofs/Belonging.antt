@@ -5,13 +5,18 @@ use Rattle.hub_parties.specs.declared.row.SupplierRow.{SupplierRow}
 use Rattle.hub_tables.specs.Change.{apply, apply_all}
 use Rattle.hub_tables.specs.Tables.{Tables, has_pallet, view}
 use Rattle.hub_tables.specs.declared.change.Change.{Change}
+use Rattle.hub_tables.specs.declared.change.Change.TheVariants.{AddHub, AddKey, AddPrefix}
 use Rattle.hub_tables.specs.declared.change.Change.TheVariants.{AddOrder, AddLine, SetLine, AddAdvice, AddPallet, SetPallet}
 use Rattle.hub_tables.specs.declared.change.Change.TheVariants.{AddContent, AddReceipt, Remember, AddMail, SetMail}
+use Rattle.hub_rules.specs.Laws.{PartiesStay}
 use Rattle.hub_rules.specs.Sound.{IsOwn, Kept, Rooted}
 
--- rows name the supplier; a new pallet's SSCC is under its prefixes and new to it; a pallet that is set, or gets a content or
--- a receipt, is one of its own
+-- No row of the hub, no key and no prefix. Rows name the supplier; a new pallet's SSCC is under its prefixes and new to it; a
+-- pallet that is set, or gets a content or a receipt, is one of its own.
 abbrev pub Belongs : SupplierRow → Tables → Change → Type 0
+Belongs s state (AddHub row) = ⊥
+Belongs s state (AddKey row) = ⊥
+Belongs s state (AddPrefix row) = ⊥
 Belongs s state (AddOrder row) = row.supplier ≡ s.gln
 Belongs s state (AddLine row) = row.supplier ≡ s.gln
 Belongs s state (SetLine row) = row.supplier ≡ s.gln
@@ -29,14 +34,16 @@ abbrev pub BelongAll : SupplierRow → Tables → List Change → Type 0
 BelongAll s state [] = ⊤
 BelongAll s state (change ∷ changes) = Belongs s state change × BelongAll s (apply change state) changes
 
--- The supplier sees its changes done to what it saw, nobody else sees them, and the tables still keep suppliers apart.
+-- The supplier sees its changes done to what it saw, nobody else sees them, the register is what it was, and the tables still
+-- keep suppliers apart.
 pub record Follows (suppliers : List SupplierRow) (s : SupplierRow) (t after : Tables) (changes : List Change) : Type 0 where
   pub seen : view s.gln after ≡ apply_all changes (view s.gln t)
   pub unseen : (other : List ℕ) → other ≢ s.gln → view other after ≡ view other t
+  pub parties : PartiesStay t after
   pub rooted : Rooted suppliers after
 
 -- changes that are the supplier's, and leave its rows so
 pub record Keeps (s : SupplierRow) (state : Tables) (changes : List Change) : Type 0 where
   pub belong : BelongAll s state changes
-  pub own : IsOwn s (apply_all changes state)
+  pub own : IsOwn s.gln (apply_all changes state)
   pub kept : Kept (apply_all changes state)

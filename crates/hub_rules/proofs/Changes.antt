@@ -14,6 +14,7 @@ use Rattle.hub_tables.specs.Rows.{remembered_cmp, mail_cmp, same_line, same_pall
 use Rattle.hub_tables.specs.Tables.{Tables, has_pallet, holds, view}
 use Rattle.hub_tables.specs.Change.{apply, apply_all}
 use Rattle.hub_tables.specs.declared.change.Change.{Change}
+use Rattle.hub_tables.specs.declared.change.Change.TheVariants.{AddHub, AddKey, AddPrefix}
 use Rattle.hub_tables.specs.declared.change.Change.TheVariants.{AddOrder, AddLine, SetLine, AddAdvice, AddPallet, SetPallet}
 use Rattle.hub_tables.specs.declared.change.Change.TheVariants.{AddContent, AddReceipt, Remember, AddMail, SetMail}
 use Rattle.hub_tables.specs.declared.rows.LineRow.{LineRow}
@@ -24,6 +25,7 @@ use Rattle.hub_tables.proofs.Lists.{all_replace, all_weaker, all_always}
 use Rattle.hub_tables.proofs.KeyOrder.{all_put, any_put, filter_put_in, filter_put_out}
 use Rattle.hub_tables.proofs.KindOrders.{order_total, line_total, advice_total, pallet_total, content_total, receipt_total}
 use Rattle.hub_tables.proofs.KindOrders.{remembered_total, mail_total, ordered_after}
+use Rattle.hub_rules.specs.Laws.{PartiesStay}
 use Rattle.hub_rules.specs.Sound.{IsRooted, Rooted}
 use Rattle.hub_rules.proofs.Belonging.{Belongs, BelongAll, Follows}
 use Rattle.hub_rules.proofs.Prefixes.{ours, under_held, holds_seen, holds_all, holds_none}
@@ -136,6 +138,9 @@ module _ (suppliers : List SupplierRow) (free : PrefixFree (company_prefixes sup
 
   -- the supplier sees the change
   pub seen : (c : Change) → Belongs s (view s.gln t) c → view s.gln (apply c t) ≡ apply c (view s.gln t)
+  seen (AddHub r) h = absurd h
+  seen (AddKey r) h = absurd h
+  seen (AddPrefix r) h = absurd h
   seen (AddOrder r) h =
       ap (λ xs. record (view s.gln t) { orders = xs })
       (filter_put_in order_total (λ r. same r.supplier s.gln) t.orders r (rooted.ordered).orders (same_if r.supplier s.gln h))
@@ -185,6 +190,9 @@ module _ (suppliers : List SupplierRow) (free : PrefixFree (company_prefixes sup
 
   -- and no other supplier does
   pub unseen : (c : Change) → Belongs s (view s.gln t) c → (other : List ℕ) → other ≢ s.gln → view other (apply c t) ≡ view other t
+  unseen (AddHub r) h other ne = absurd h
+  unseen (AddKey r) h other ne = absurd h
+  unseen (AddPrefix r) h other ne = absurd h
   unseen (AddOrder r) h other ne =
       ap (λ xs. record (view other t) { orders = xs })
       (filter_put_out order_cmp (λ r. same r.supplier other) t.orders r (not_theirs r.supplier other ne h))
@@ -247,6 +255,9 @@ module _ (suppliers : List SupplierRow) (free : PrefixFree (company_prefixes sup
 
   -- and the tables stay rooted
   pub rooted_after : (c : Change) → Belongs s (view s.gln t) c → Rooted suppliers (apply c t)
+  rooted_after (AddHub r) h = absurd h
+  rooted_after (AddKey r) h = absurd h
+  rooted_after (AddPrefix r) h = absurd h
   rooted_after (AddOrder r) h =
       record {
         ordered = ordered_after (AddOrder r) t rooted.ordered;
@@ -331,19 +342,47 @@ module _ (suppliers : List SupplierRow) (free : PrefixFree (company_prefixes sup
         receipts = rooted.receipts;
       }
 
+-- nothing of the register is changed
+parties_stay : (s : SupplierRow) (state t : Tables) (c : Change) → Belongs s state c → PartiesStay t (apply c t)
+parties_stay s state t (AddHub r) h = absurd h
+parties_stay s state t (AddKey r) h = absurd h
+parties_stay s state t (AddPrefix r) h = absurd h
+parties_stay s state t (AddOrder r) h = record { hubs = refl; keys = refl; prefixes = refl }
+parties_stay s state t (AddLine r) h = record { hubs = refl; keys = refl; prefixes = refl }
+parties_stay s state t (SetLine r) h = record { hubs = refl; keys = refl; prefixes = refl }
+parties_stay s state t (AddAdvice r) h = record { hubs = refl; keys = refl; prefixes = refl }
+parties_stay s state t (AddPallet r) h = record { hubs = refl; keys = refl; prefixes = refl }
+parties_stay s state t (SetPallet r) h = record { hubs = refl; keys = refl; prefixes = refl }
+parties_stay s state t (AddContent r) h = record { hubs = refl; keys = refl; prefixes = refl }
+parties_stay s state t (AddReceipt r) h = record { hubs = refl; keys = refl; prefixes = refl }
+parties_stay s state t (Remember r) h = record { hubs = refl; keys = refl; prefixes = refl }
+parties_stay s state t (AddMail r) h = record { hubs = refl; keys = refl; prefixes = refl }
+parties_stay s state t (SetMail r) h = record { hubs = refl; keys = refl; prefixes = refl }
+
 module _ (suppliers : List SupplierRow) (free : PrefixFree (company_prefixes suppliers)) (s : SupplierRow)
     (known : supplier_row suppliers s.gln ≡ Some s) where
   pub follows : (cs : List Change) (t : Tables)
       → Rooted suppliers t
       → BelongAll s (view s.gln t) cs
       → Follows suppliers s t (apply_all cs t) cs
-  follows [] t rooted belong = record { seen = refl; unseen = λ other ne. refl; rooted = rooted }
+  follows [] t rooted belong = record {
+    seen = refl;
+    unseen = λ other ne. refl;
+    parties = record { hubs = refl; keys = refl; prefixes = refl };
+    rooted = rooted;
+  }
   follows (c ∷ cs) t rooted belong =
       let one = seen suppliers free s known t rooted c belong.0 in
+      let still = parties_stay s (view s.gln t) t c belong.0 in
       let rest = follows cs (apply c t) (rooted_after suppliers free s known t rooted c belong.0)
       (subst (λ v. BelongAll s v cs) (sym one) belong.1) in
       record {
         seen = rest.seen ∙ ap (apply_all cs) one;
         unseen = λ other ne. rest.unseen other ne ∙ unseen suppliers free s known t rooted c belong.0 other ne;
+        parties = record {
+          hubs = rest.parties.hubs ∙ still.hubs;
+          keys = rest.parties.keys ∙ still.keys;
+          prefixes = rest.parties.prefixes ∙ still.prefixes;
+        };
         rooted = rest.rooted;
       }

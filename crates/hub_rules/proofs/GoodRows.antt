@@ -19,7 +19,7 @@ use Rattle.hub_rules.proofs.Verdicts.{Leaves, leaves_nothing, leaves_next}
 
 pub good_after : (s : SupplierRow) (state : Tables) (change : Change)
     → Belongs s state change
-    → IsOwn s state
+    → IsOwn s.gln state
     → Kept (apply change state)
     → KeptOwn s (apply change state)
 good_after s state change belongs own kept = record { own = own_after s state change belongs own; kept = kept }
@@ -27,7 +27,7 @@ good_after s state change belongs own kept = record { own = own_after s state ch
 -- one change
 pub leaves_good : (s : SupplierRow) (state : Tables) (change : Change)
     → Belongs s state change
-    → IsOwn s state
+    → IsOwn s.gln state
     → Kept (apply change state)
     → Leaves s (KeptOwn s) state (change ∷ [])
 leaves_good s state change belongs own kept =

@@ -3,6 +3,8 @@ pub mod Belonging
 pub mod Changes
 mod Examples
 pub mod GoodRows
+mod JoinExamples
+pub mod Joining
 pub mod Keeping
 pub mod KeptByCancels
 pub mod KeptByDespatches
@@ -12,8 +14,8 @@ pub mod KeptByReceipts
 pub mod KeptByResponses
 pub mod KeptLists
 pub mod KeptMail
-pub mod Owned
 pub mod OwnChanges
+pub mod Owned
 pub mod Prefixes
 pub mod Remembering
 pub mod Repeating

@@ -18,7 +18,7 @@ use Rattle.hub_rules.proofs.Views.{view_own}
 
 -- what a supplier sees of sound tables is its own, and as it is to be
 pub good_view : (suppliers : List SupplierRow) (s : SupplierRow) (t : Tables) → Sound suppliers t → KeptOwn s (view s.gln t)
-good_view suppliers s t sound = record { own = view_own s t (sound.rooted).ordered; kept = sound.kept s.gln }
+good_view suppliers s t sound = record { own = view_own s.gln t (sound.rooted).ordered; kept = sound.kept s.gln }
 
 module _ (suppliers : List SupplierRow) (free : PrefixFree (company_prefixes suppliers)) (s : SupplierRow)
     (known : supplier_row suppliers s.gln ≡ Some s) (t : Tables) (sound : Sound suppliers t) where
@@ -28,6 +28,7 @@ module _ (suppliers : List SupplierRow) (free : PrefixFree (company_prefixes sup
       record {
         seen = all.seen;
         unseen = all.unseen;
+        parties = all.parties;
         sound = record {
           rooted = all.rooted;
           kept = λ gln. elim (decide (same gln s.gln)) [

@@ -7,6 +7,7 @@ use Rattle.hub_tables.specs.Rows.{same, order_cmp, line_cmp, advice_cmp, pallet_
 use Rattle.hub_tables.specs.Rows.{remembered_cmp, mail_cmp, same_line, same_pallet, same_mail}
 use Rattle.hub_tables.specs.Tables.{Tables, has_pallet}
 use Rattle.hub_tables.specs.declared.change.Change.{Change}
+use Rattle.hub_tables.specs.declared.change.Change.TheVariants.{AddHub, AddKey, AddPrefix}
 use Rattle.hub_tables.specs.declared.change.Change.TheVariants.{AddOrder, AddLine, SetLine, AddAdvice, AddPallet, SetPallet}
 use Rattle.hub_tables.specs.declared.change.Change.TheVariants.{AddContent, AddReceipt, Remember, AddMail, SetMail}
 use Rattle.hub_tables.proofs.KeyOrder.{all_put, any_put}
@@ -20,6 +21,9 @@ use Rattle.hub_rules.proofs.Changes.{has_set}
 pub pallet_stays : (sscc : List ℕ) (state : Tables) (change : Change)
     → has_pallet state sscc ≡ true
     → has_pallet (apply change state) sscc ≡ true
+pallet_stays sscc state (AddHub r) h = h
+pallet_stays sscc state (AddKey r) h = h
+pallet_stays sscc state (AddPrefix r) h = h
 pallet_stays sscc state (AddOrder r) h = h
 pallet_stays sscc state (AddLine r) h = h
 pallet_stays sscc state (SetLine r) h = h
@@ -34,9 +38,18 @@ pallet_stays sscc state (AddMail r) h = h
 pallet_stays sscc state (SetMail r) h = h
 
 -- what a change of a supplier's rows leaves is the supplier's
-pub own_after : (s : SupplierRow) (state : Tables) (change : Change) → Belongs s state change → IsOwn s state → IsOwn s (apply change state)
+pub own_after : (s : SupplierRow) (state : Tables) (change : Change)
+    → Belongs s state change
+    → IsOwn s.gln state
+    → IsOwn s.gln (apply change state)
+own_after s state (AddHub r) h own = absurd h
+own_after s state (AddKey r) h own = absurd h
+own_after s state (AddPrefix r) h own = absurd h
 own_after s state (AddOrder r) h own = record {
   ordered = ordered_after (AddOrder r) state own.ordered;
+  hubs = own.hubs;
+  keys = own.keys;
+  prefixes = own.prefixes;
   orders = all_put order_cmp (λ order. order.supplier ≡ s.gln) state.orders r own.orders h;
   lines = own.lines;
   advices = own.advices;
@@ -48,6 +61,9 @@ own_after s state (AddOrder r) h own = record {
 }
 own_after s state (AddLine r) h own = record {
   ordered = ordered_after (AddLine r) state own.ordered;
+  hubs = own.hubs;
+  keys = own.keys;
+  prefixes = own.prefixes;
   orders = own.orders;
   lines = all_put line_cmp (λ line. line.supplier ≡ s.gln) state.lines r own.lines h;
   advices = own.advices;
@@ -59,6 +75,9 @@ own_after s state (AddLine r) h own = record {
 }
 own_after s state (SetLine r) h own = record {
   ordered = ordered_after (SetLine r) state own.ordered;
+  hubs = own.hubs;
+  keys = own.keys;
+  prefixes = own.prefixes;
   orders = own.orders;
   lines = all_replace (λ line. line.supplier ≡ s.gln) (same_line r) r state.lines own.lines h;
   advices = own.advices;
@@ -70,6 +89,9 @@ own_after s state (SetLine r) h own = record {
 }
 own_after s state (AddAdvice r) h own = record {
   ordered = ordered_after (AddAdvice r) state own.ordered;
+  hubs = own.hubs;
+  keys = own.keys;
+  prefixes = own.prefixes;
   orders = own.orders;
   lines = own.lines;
   advices = all_put advice_cmp (λ advice. advice.supplier ≡ s.gln) state.advices r own.advices h;
@@ -81,6 +103,9 @@ own_after s state (AddAdvice r) h own = record {
 }
 own_after s state (AddPallet r) h own = record {
   ordered = ordered_after (AddPallet r) state own.ordered;
+  hubs = own.hubs;
+  keys = own.keys;
+  prefixes = own.prefixes;
   orders = own.orders;
   lines = own.lines;
   advices = own.advices;
@@ -96,6 +121,9 @@ own_after s state (AddPallet r) h own = record {
 }
 own_after s state (SetPallet r) h own = record {
   ordered = ordered_after (SetPallet r) state own.ordered;
+  hubs = own.hubs;
+  keys = own.keys;
+  prefixes = own.prefixes;
   orders = own.orders;
   lines = own.lines;
   advices = own.advices;
@@ -111,6 +139,9 @@ own_after s state (SetPallet r) h own = record {
 }
 own_after s state (AddContent r) h own = record {
   ordered = ordered_after (AddContent r) state own.ordered;
+  hubs = own.hubs;
+  keys = own.keys;
+  prefixes = own.prefixes;
   orders = own.orders;
   lines = own.lines;
   advices = own.advices;
@@ -122,6 +153,9 @@ own_after s state (AddContent r) h own = record {
 }
 own_after s state (AddReceipt r) h own = record {
   ordered = ordered_after (AddReceipt r) state own.ordered;
+  hubs = own.hubs;
+  keys = own.keys;
+  prefixes = own.prefixes;
   orders = own.orders;
   lines = own.lines;
   advices = own.advices;
@@ -133,6 +167,9 @@ own_after s state (AddReceipt r) h own = record {
 }
 own_after s state (Remember r) h own = record {
   ordered = ordered_after (Remember r) state own.ordered;
+  hubs = own.hubs;
+  keys = own.keys;
+  prefixes = own.prefixes;
   orders = own.orders;
   lines = own.lines;
   advices = own.advices;
@@ -144,6 +181,9 @@ own_after s state (Remember r) h own = record {
 }
 own_after s state (AddMail r) h own = record {
   ordered = ordered_after (AddMail r) state own.ordered;
+  hubs = own.hubs;
+  keys = own.keys;
+  prefixes = own.prefixes;
   orders = own.orders;
   lines = own.lines;
   advices = own.advices;
@@ -155,6 +195,9 @@ own_after s state (AddMail r) h own = record {
 }
 own_after s state (SetMail r) h own = record {
   ordered = ordered_after (SetMail r) state own.ordered;
+  hubs = own.hubs;
+  keys = own.keys;
+  prefixes = own.prefixes;
   orders = own.orders;
   lines = own.lines;
   advices = own.advices;

@@ -1,10 +1,9 @@
 -- What is accepted is remembered, and what is remembered is repeated.
-use Rattle.std.proofs.Common.{◌≡◌, ℕ, Bool, true, false, cond, ◌&&◌, ◌==◌, inl, inr, List, [], ◌∷◌, filter, find, Option}
+use Rattle.std.proofs.Common.{◌≡◌, ℕ, Bool, true, false, cond, ◌&&◌, ◌==◌, inl, inr, List, [], ◌∷◌, find, Option}
 use Rattle.std.proofs.Common.{Some, None, refl, sym, ◌∙◌, ap, subst, arith}
-use Rattle.std.specs.List.{list_any}
 use Rattle.std.specs.declared.cmp.Ordering.{Ordering}
 use Rattle.std.specs.Ordering.{is_gt}
-use Rattle.std.proofs.lemmas.Bool.{and_from, or_parts}
+use Rattle.std.proofs.lemmas.Bool.{and_from}
 use Rattle.std.proofs.lemmas.Bool.Decides.{nat_tests}
 use Rattle.hub_tables.specs.Cases.{side_letter}
 use Rattle.hub_tables.specs.Change.{apply, apply_all}
@@ -14,10 +13,12 @@ use Rattle.hub_tables.specs.Sets.{Has}
 use Rattle.hub_tables.specs.State.{remembered_of}
 use Rattle.hub_tables.specs.Tables.{Tables, view}
 use Rattle.hub_tables.specs.declared.change.Change.{Change}
+use Rattle.hub_tables.specs.declared.change.Change.TheVariants.{AddHub, AddKey, AddPrefix}
 use Rattle.hub_tables.specs.declared.change.Change.TheVariants.{AddOrder, AddLine, SetLine, AddAdvice, AddPallet, SetPallet}
 use Rattle.hub_tables.specs.declared.change.Change.TheVariants.{AddContent, AddReceipt, Remember, AddMail, SetMail}
 use Rattle.hub_tables.specs.declared.rows.RememberedRow.{RememberedRow}
 use Rattle.hub_tables.proofs.Lists.{same_if}
+use Rattle.hub_tables.proofs.Members.{none_of, has_filter}
 use Rattle.hub_rules.specs.Judging.{Judge, gives, joined, in_turn}
 use Rattle.hub_rules.specs.Sound.{Single, same_reference}
 use Rattle.hub_rules.specs.RepeatRules.{Reference, remembered, once, judge_once}
@@ -34,20 +35,6 @@ module _ {X : Type 0} (cmp : X → X → Ordering) where
         | false ↦ elim h [ inl e ↦ inr (put_has zs x y (inl e)) | inr g ↦ elim g [ inl e ↦ inl e | inr k ↦ inr (put_has zs x y (inr k)) ] ]
       ]
 
-filter_has : {X : Type 0} (p : X → Bool) (xs : List X) (x : X) → Has xs x → p x ≡ true → Has (filter p xs) x
-filter_has p [] x h e = h
-filter_has p (y ∷ ys) x h e =
-    elim (p y) as (λ v. p y ≡ v → Has (cond v (y ∷ filter p ys) (filter p ys)) x) [
-      | true ↦ λ k. elim h [ inl one ↦ inl one | inr g ↦ inr (filter_has p ys x g e) ]
-      | false ↦ λ k. elim h [ inl one ↦ let same_test : p x ≡ p y = ap p one in absurd (cc) | inr g ↦ filter_has p ys x g e ]
-    ] refl
-
-none_has : {X : Type 0} (p : X → Bool) (xs : List X) (x : X) → list_any p xs ≡ false → Has xs x → p x ≡ false
-none_has p [] x none h = absurd h
-none_has p (y ∷ ys) x none h =
-    let parts = or_parts (p y) (list_any p ys) none in
-    elim h [ inl one ↦ ap p one ∙ parts.0 | inr g ↦ none_has p ys x parts.1 g ]
-
 -- the one row that passes is found
 found_single : {X : Type 0} (alike : X → X → Bool) (p : X → Bool) (x : X)
     → ((y : X) → p y ≡ true → alike y x ≡ true)
@@ -61,7 +48,7 @@ found_single alike p x tied passes (y ∷ ys) single h =
     elim (p y) as (λ v. p y ≡ v → cond v (Some y) (find p ys) ≡ Some x) [
       | true ↦ λ e. elim h [
         | inl one ↦ ap Some (sym one)
-        | inr g ↦ let yes = tied y e in let no = none_has (alike y) ys x single.0 g in absurd (cc)
+        | inr g ↦ let yes = tied y e in let no = none_of (alike y) ys single.0 x g in absurd (cc)
       ]
       | false ↦ λ e. elim h [
         | inl one ↦ let same_test : p x ≡ p y = ap p one in absurd (cc)
@@ -71,6 +58,9 @@ found_single alike p x tied passes (y ∷ ys) single h =
 
 -- a row that is remembered stays
 has_after : (change : Change) (t : Tables) (row : RememberedRow) → Has t.remembered row → Has (apply change t).remembered row
+has_after (AddHub r) t row h = h
+has_after (AddKey r) t row h = h
+has_after (AddPrefix r) t row h = h
 has_after (AddOrder r) t row h = h
 has_after (AddLine r) t row h = h
 has_after (SetLine r) t row h = h
@@ -104,7 +94,7 @@ found_again gln t r content single whose there =
     (and_from (same r.control r.control) (same r.message r.message) (same_if r.control r.control refl)
     (same_if r.message r.message refl)))
     (view gln t).remembered single
-    (filter_has (λ row. same row.supplier gln) t.remembered (remembered r content) there (same_if r.supplier gln whose))
+    (has_filter (λ row. same row.supplier gln) t.remembered (remembered r content) there (same_if r.supplier gln whose))
 
 once_first : (row : Option RememberedRow) (content : List ℕ) (first : Change) (rest : Verdict) (change : Change)
     (changes : List Change)

@@ -14,16 +14,18 @@ use Rattle.gs1_ids.specs.Overlap.{PrefixFree}
 use Rattle.hub_parties.specs.Rows.{company_prefixes}
 use Rattle.hub_parties.specs.declared.row.SupplierRow.{SupplierRow}
 use Rattle.hub_parties.specs.KeyOrder.{bytes_cmp, InOrder, Rises}
+use Rattle.hub_tables.specs.Rows.{key_cmp, prefix_cmp}
 use Rattle.hub_tables.specs.Rows.{same, order_cmp, line_cmp, advice_cmp, pallet_cmp, content_cmp, receipt_cmp, remembered_cmp, mail_cmp}
 use Rattle.hub_tables.specs.Sets.{Rising}
 use Rattle.hub_tables.specs.Tables.{Tables, Ordered, has_pallet, holds, view}
 use Rattle.hub_tables.specs.declared.rows.MailRow.{MailRow}
 use Rattle.hub_tables.proofs.KeyOrder.{in_order_filter}
 use Rattle.hub_tables.proofs.Lists.{decide, same_is, same_if, filter_none, all_filter, all_weaker, all_always}
+use Rattle.hub_rules.specs.Laws.{PartiesRise}
 use Rattle.hub_rules.specs.Sound.{Numbered, Single, same_order, same_line_number, same_advice, same_sscc, same_place}
 use Rattle.hub_rules.specs.Sound.{same_gtin, same_reference, Kept, IsRooted, Rooted}
 use Rattle.hub_rules.proofs.Prefixes.{any_found, owner}
-use Rattle.hub_rules.proofs.Views.{view_own}
+use Rattle.hub_rules.proofs.Views.{ordered_view}
 
 -- Keys that tie.
 first_tied : (o p : Ordering) → ordering_then o p ≡ Equal → o ≡ Equal
@@ -140,8 +142,19 @@ module _ (a b : List ℕ) (o : Ordering) (h : ordering_then (bytes_cmp a b) o �
   rest_tied : o ≡ Equal
   rest_tied = then_tied (bytes_cmp a b) o h
 
+-- the kinds of which rows are kept rise by their keys
+pub record KindsRise (t : Tables) : Type 0 where
+  pub orders : Rises order_cmp t.orders
+  pub lines : Rises line_cmp t.lines
+  pub advices : Rises advice_cmp t.advices
+  pub pallets : Rises pallet_cmp t.pallets
+  pub contents : Rises content_cmp t.contents
+  pub receipts : Rises receipt_cmp t.receipts
+  pub remembered : Rises remembered_cmp t.remembered
+  pub mail : Rises mail_cmp t.mail
+
 -- what one supplier has as it is to be rises
-pub kept_rises : (state : Tables) → Ordered state → Kept state → Rising state
+pub kept_rises : (state : Tables) → Ordered state → Kept state → KindsRise state
 kept_rises state ordered kept = record {
   orders =
       rises order_cmp same_order (λ x y h. text_tied x.number y.number (rest_tied x.supplier y.supplier _ h)) state.orders
@@ -178,8 +191,8 @@ kept_rises state ordered kept = record {
 }
 
 -- what a supplier sees of tables in key order rises, where it is as it is to be
-pub view_rises : (gln : List ℕ) (t : Tables) → Ordered t → Kept (view gln t) → Rising (view gln t)
-view_rises gln t ordered kept = kept_rises (view gln t) (view_own (record { gln = gln; prefixes = []; key = [] }) t ordered).ordered kept
+pub view_rises : (gln : List ℕ) (t : Tables) → Ordered t → Kept (view gln t) → KindsRise (view gln t)
+view_rises gln t ordered kept = kept_rises (view gln t) (ordered_view gln t ordered) kept
 
 filter_again : {X : Type 0} (p q : X → Bool) (xs : List X) → ((x : X) → p x ≡ true → q x ≡ true) → filter p (filter q xs) ≡ filter p xs
 filter_again p q [] f = refl
@@ -222,10 +235,10 @@ pub all_rise : (suppliers : List SupplierRow) (t : Tables)
     → PrefixFree (company_prefixes suppliers)
     → Rooted suppliers t
     → ((gln : List ℕ) → Kept (view gln t))
-    → Rising t
+    → KindsRise t
 all_rise suppliers t free rooted kept =
     let ordered = rooted.ordered in
-    let seen : (gln : List ℕ) → Rising (view gln t) = λ gln. view_rises gln t ordered (kept gln) in
+    let seen : (gln : List ℕ) → KindsRise (view gln t) = λ gln. view_rises gln t ordered (kept gln) in
     record {
       orders =
           rises_by_part order_cmp (λ r. r.supplier) (λ x y h. first_same x.supplier y.supplier _ h) t.orders ordered.orders
@@ -251,3 +264,26 @@ all_rise suppliers t free rooted kept =
           rises_by_part mail_cmp (λ r. r.supplier) (λ x y h. first_same x.supplier y.supplier _ h) t.mail ordered.mail
           (λ gln. (seen gln).mail);
     }
+
+-- all kinds rise where those of the parties do
+pub rising_from : (t : Tables) → PartiesRise t → KindsRise t → Rising t
+rising_from t parties kinds = record {
+  hubs = parties.hubs;
+  keys = parties.keys;
+  prefixes = parties.prefixes;
+  orders = kinds.orders;
+  lines = kinds.lines;
+  advices = kinds.advices;
+  pallets = kinds.pallets;
+  contents = kinds.contents;
+  receipts = kinds.receipts;
+  remembered = kinds.remembered;
+  mail = kinds.mail;
+}
+
+pub parties_seen : (gln : List ℕ) (t : Tables) → PartiesRise t → PartiesRise (view gln t)
+parties_seen gln t parties = record {
+  hubs = tt;
+  keys = rises_filter key_cmp (λ row. same row.supplier gln) t.keys parties.keys;
+  prefixes = rises_filter prefix_cmp (λ row. same row.supplier gln) t.prefixes parties.prefixes;
+}

@@ -1,7 +1,7 @@
 -- What a supplier sees is its own.
-use Rattle.std.proofs.Common.{◌≡◌, ℕ, true, List, filter, ◌∙◌}
+use Rattle.std.proofs.Common.{◌≡◌, ℕ, true, List, filter, refl, ◌∙◌}
 use Rattle.std.specs.List.{AllByRecursion}
-use Rattle.hub_parties.specs.declared.row.SupplierRow.{SupplierRow}
+use Rattle.hub_tables.specs.Rows.{key_cmp, prefix_cmp}
 use Rattle.hub_tables.specs.Rows.{same, order_cmp, line_cmp, advice_cmp, pallet_cmp, content_cmp, receipt_cmp, remembered_cmp, mail_cmp}
 use Rattle.hub_tables.specs.Tables.{Tables, Ordered, has_pallet, holds, view}
 use Rattle.hub_tables.proofs.KeyOrder.{in_order_filter}
@@ -10,8 +10,11 @@ use Rattle.hub_rules.specs.Sound.{IsOwn}
 use Rattle.hub_rules.proofs.Prefixes.{holds_seen}
 
 -- it is in key order
-ordered_view : (gln : List ℕ) (t : Tables) → Ordered t → Ordered (view gln t)
+pub ordered_view : (gln : List ℕ) (t : Tables) → Ordered t → Ordered (view gln t)
 ordered_view gln t o = record {
+  hubs = tt;
+  keys = in_order_filter key_cmp (λ row. same row.supplier gln) t.keys o.keys;
+  prefixes = in_order_filter prefix_cmp (λ row. same row.supplier gln) t.prefixes o.prefixes;
   orders = in_order_filter order_cmp (λ row. same row.supplier gln) t.orders o.orders;
   lines = in_order_filter line_cmp (λ row. same row.supplier gln) t.lines o.lines;
   advices = in_order_filter advice_cmp (λ row. same row.supplier gln) t.advices o.advices;
@@ -37,15 +40,18 @@ on_seen gln t sscc rows =
     (λ row e. holds_seen gln t.pallets (sscc row) ∙ e)
     (filter (λ row. holds gln t.pallets (sscc row)) rows) (all_passes (λ row. holds gln t.pallets (sscc row)) rows)
 
-pub view_own : (s : SupplierRow) (t : Tables) → Ordered t → IsOwn s (view s.gln t)
-view_own s t ordered = record {
-  ordered = ordered_view s.gln t ordered;
-  orders = picked s.gln (λ row. row.supplier) t.orders;
-  lines = picked s.gln (λ row. row.supplier) t.lines;
-  advices = picked s.gln (λ row. row.supplier) t.advices;
-  pallets = picked s.gln (λ row. row.supplier) t.pallets;
-  contents = on_seen s.gln t (λ row. row.sscc) t.contents;
-  receipts = on_seen s.gln t (λ row. row.sscc) t.receipts;
-  remembered = picked s.gln (λ row. row.supplier) t.remembered;
-  mail = picked s.gln (λ row. row.supplier) t.mail;
+pub view_own : (gln : List ℕ) (t : Tables) → Ordered t → IsOwn gln (view gln t)
+view_own gln t ordered = record {
+  ordered = ordered_view gln t ordered;
+  hubs = refl;
+  keys = picked gln (λ row. row.supplier) t.keys;
+  prefixes = picked gln (λ row. row.supplier) t.prefixes;
+  orders = picked gln (λ row. row.supplier) t.orders;
+  lines = picked gln (λ row. row.supplier) t.lines;
+  advices = picked gln (λ row. row.supplier) t.advices;
+  pallets = picked gln (λ row. row.supplier) t.pallets;
+  contents = on_seen gln t (λ row. row.sscc) t.contents;
+  receipts = on_seen gln t (λ row. row.sscc) t.receipts;
+  remembered = picked gln (λ row. row.supplier) t.remembered;
+  mail = picked gln (λ row. row.supplier) t.mail;
 }

@@ -5,6 +5,7 @@ use Rattle.hub_rules.specs.declared.code.Code.TheVariants.{Buyer, Supplier, Othe
 use Rattle.hub_rules.specs.declared.code.Code.TheVariants.{NotWaiting, OutOfRange, OtherArticle, MoreThanOpen}
 use Rattle.hub_rules.specs.declared.code.Code.TheVariants.{OtherPrefix, SsccUsed, AdviceKnown, NoPallet, PalletReceived}
 use Rattle.hub_rules.specs.declared.code.Code.TheVariants.{MailboxFull, CancelsMoreThanOpen}
+use Rattle.hub_rules.specs.declared.code.Code.TheVariants.{GlnKnown, PrefixOverlaps, RegisterFull}
 
 abbrev pub code_text : Code → List ℕ
 code_text Buyer = codes "B01"
@@ -24,3 +25,6 @@ code_text NoPallet = codes "B14"
 code_text PalletReceived = codes "B15"
 code_text MailboxFull = codes "B16"
 code_text CancelsMoreThanOpen = codes "B17"
+code_text GlnKnown = codes "B18"
+code_text PrefixOverlaps = codes "B19"
+code_text RegisterFull = codes "B20"

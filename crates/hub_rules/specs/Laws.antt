@@ -1,9 +1,12 @@
 -- What comes of changes that the rules accept.
 use Rattle.std.specs.Prelude.{◌≡◌, ◌≢◌, ◌↔◌, ℕ, List, [], ◌∷◌, Some}
 use Rattle.gs1_ids.specs.Overlap.{PrefixFree}
+use Rattle.hub_parties.specs.KeyOrder.{Rises, put}
 use Rattle.hub_parties.specs.Rows.{company_prefixes, supplier_row}
 use Rattle.hub_parties.specs.declared.row.SupplierRow.{SupplierRow}
 use Rattle.hub_tables.specs.Change.{apply_all}
+use Rattle.hub_tables.specs.Register.{HoldsRegister, supplier_cmp, suppliers_of, row_at, row_changes}
+use Rattle.hub_tables.specs.Rows.{hub_cmp, key_cmp, prefix_cmp}
 use Rattle.hub_tables.specs.Tables.{Tables, view}
 use Rattle.hub_tables.specs.declared.change.Change.{Change}
 use Rattle.hub_tables.specs.State.{remembered_of}
@@ -16,25 +19,55 @@ use Rattle.hub_rules.specs.Sound.{IsOwn, Kept, Sound}
 
 -- the rows are the supplier's own, and sound
 pub record KeptOwn (s : SupplierRow) (state : Tables) : Type 0 where
-  pub own : IsOwn s state
+  pub own : IsOwn s.gln state
   pub kept : Kept state
 
--- no prefix of one supplier begins a prefix of another, and the tables are sound
-pub record SoundHub (suppliers : List SupplierRow) (t : Tables) : Type 0 where
+-- the tables hold a register, and are sound with its suppliers
+pub record SoundHub (t : Tables) : Type 0 where
+  pub register : HoldsRegister t
+  pub sound : Sound (suppliers_of t) t
+
+-- no prefix of one supplier begins a prefix of another, and the tables are sound: what one act asks of them
+pub record SoundUnder (suppliers : List SupplierRow) (t : Tables) : Type 0 where
   pub free : PrefixFree (company_prefixes suppliers)
   pub sound : Sound suppliers t
 
--- the same, and the supplier is registered
+-- the rows of the hub, the keys and the prefixes rise, none of them twice
+pub record PartiesRise (t : Tables) : Type 0 where
+  pub hubs : Rises hub_cmp t.hubs
+  pub keys : Rises key_cmp t.keys
+  pub prefixes : Rises prefix_cmp t.prefixes
+
+-- no prefix of one supplier begins a prefix of another, the supplier is registered, and the tables are sound
 pub record Registered (suppliers : List SupplierRow) (s : SupplierRow) (t : Tables) : Type 0 where
   pub free : PrefixFree (company_prefixes suppliers)
   pub known : supplier_row suppliers s.gln ≡ Some s
   pub sound : Sound suppliers t
 
--- the supplier sees its own rows after it, nobody else sees anything of it, and the tables are sound after it
+-- the rows of the hub, the keys and the prefixes are what they were, and so the register is
+pub record PartiesStay (t after : Tables) : Type 0 where
+  pub hubs : after.hubs ≡ t.hubs
+  pub keys : after.keys ≡ t.keys
+  pub prefixes : after.prefixes ≡ t.prefixes
+
+-- the supplier sees its own rows after it, nobody else sees anything of it, the register is what it was, and the tables
+-- are sound after it
 pub record Apart (suppliers : List SupplierRow) (s : SupplierRow) (t after own : Tables) : Type 0 where
   pub seen : view s.gln after ≡ own
   pub unseen : (other : List ℕ) → other ≢ s.gln → view other after ≡ view other t
+  pub parties : PartiesStay t after
   pub sound : Sound suppliers after
+
+-- the supplier has come into tables that hold a register: it is one more supplier of theirs, it sees its own rows with
+-- its key and its prefixes, nobody else sees anything of it, who was found by a GLN is found, and they are sound after it
+pub record JoinedBy (row : SupplierRow) (t after : Tables) : Type 0 where
+  pub seen : view row.gln after ≡ apply_all (row_changes row) (view row.gln t)
+  pub unseen : (other : List ℕ) → other ≢ row.gln → view other after ≡ view other t
+  pub hubs : after.hubs ≡ t.hubs
+  pub suppliers : suppliers_of after ≡ put supplier_cmp row (suppliers_of t)
+  pub known : row_at row.gln after ≡ Some row
+  pub stays : (gln : List ℕ) (s : SupplierRow) → row_at gln t ≡ Some s → row_at gln after ≡ Some s
+  pub sound : SoundHub after
 
 -- changes of one supplier's rows keep it apart from the others
 abbrev pub KeepsApart : List SupplierRow → SupplierRow → Tables → List Change → Type 0

@@ -1,6 +1,7 @@
 pub mod CancellationRules
 pub mod Code
 pub mod DespatchRules
+pub mod JoinRules
 pub mod Judging
 pub mod Laws
 pub mod MailboxRules

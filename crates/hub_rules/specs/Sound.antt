@@ -59,17 +59,20 @@ abbrev pub Numbered : ℕ → List MailRow → Type 0
 Numbered n [] = ⊤
 Numbered n (entry ∷ entries) = (entry.number ≡ n + 1) × Numbered (n + 1) entries
 
--- each row is the supplier's, and each content and receipt is on a pallet that is
-pub record IsOwn (s : SupplierRow) (state : Tables) : Type 0 where
+-- each row is that of the supplier with a GLN, and each content and receipt is on a pallet that is
+pub record IsOwn (gln : List ℕ) (state : Tables) : Type 0 where
   pub ordered : Ordered state
-  pub orders : AllByRecursion (λ order. order.supplier ≡ s.gln) state.orders
-  pub lines : AllByRecursion (λ line. line.supplier ≡ s.gln) state.lines
-  pub advices : AllByRecursion (λ advice. advice.supplier ≡ s.gln) state.advices
-  pub pallets : AllByRecursion (λ pallet. pallet.supplier ≡ s.gln) state.pallets
+  pub hubs : state.hubs ≡ []
+  pub keys : AllByRecursion (λ row. row.supplier ≡ gln) state.keys
+  pub prefixes : AllByRecursion (λ row. row.supplier ≡ gln) state.prefixes
+  pub orders : AllByRecursion (λ order. order.supplier ≡ gln) state.orders
+  pub lines : AllByRecursion (λ line. line.supplier ≡ gln) state.lines
+  pub advices : AllByRecursion (λ advice. advice.supplier ≡ gln) state.advices
+  pub pallets : AllByRecursion (λ pallet. pallet.supplier ≡ gln) state.pallets
   pub contents : AllByRecursion (λ content. has_pallet state content.sscc ≡ true) state.contents
   pub receipts : AllByRecursion (λ receipt. has_pallet state receipt.sscc ≡ true) state.receipts
-  pub remembered : AllByRecursion (λ row. row.supplier ≡ s.gln) state.remembered
-  pub mail : AllByRecursion (λ entry. entry.supplier ≡ s.gln) state.mail
+  pub remembered : AllByRecursion (λ row. row.supplier ≡ gln) state.remembered
+  pub mail : AllByRecursion (λ entry. entry.supplier ≡ gln) state.mail
 
 -- keys are single; lines have their order, contents their line, receipts a pallet that was received; entries are
 -- numbered from 1; and every line is balanced

@@ -4,7 +4,7 @@ ghost use Rattle.hub_rules.specs.Code.{code_text};
 
 use std::fmt;
 
-/// The rule that a message or a cancellation breaks.
+/// The rule that a message, a cancellation or a join breaks.
 #[derive(Clone, Copy, Debug, PartialEq, Eq)]
 pub enum Code {
     /// B01: the buyer that is named is not the retailer.
@@ -41,6 +41,12 @@ pub enum Code {
     MailboxFull,
     /// B17: more is cancelled than is open.
     CancelsMoreThanOpen,
+    /// B18: the GLN that is to join is the hub's, the retailer's or a supplier's.
+    GlnKnown,
+    /// B19: one of the prefixes begins a prefix of another supplier, or is begun by it.
+    PrefixOverlaps,
+    /// B20: as many suppliers are registered as may be.
+    RegisterFull,
 }
 
 impl Code {
@@ -66,6 +72,9 @@ impl Code {
             Code::PalletReceived => "B15",
             Code::MailboxFull => "B16",
             Code::CancelsMoreThanOpen => "B17",
+            Code::GlnKnown => "B18",
+            Code::PrefixOverlaps => "B19",
+            Code::RegisterFull => "B20",
         }
     }
 }

@@ -7,13 +7,15 @@ ghost use Rattle.edi_orders.specs.declared.order.Order.{Order};
 ghost use Rattle.edi_orders.specs.declared.response.Response.{Response};
 ghost use Rattle.edi_goods.specs.declared.despatch.Despatch.{Despatch};
 ghost use Rattle.edi_goods.specs.declared.receipt.Receipt.{Receipt};
-ghost use Rattle.hub_parties.specs.Rows.{company_prefixes, supplier_row};
+ghost use Rattle.hub_parties.specs.Rows.{RegisterRows, IsRegister, company_prefixes, supplier_row};
 ghost use Rattle.hub_parties.specs.declared.row.SupplierRow.{SupplierRow};
 ghost use Rattle.hub_tables.specs.Change.{apply_all};
+ghost use Rattle.hub_tables.specs.Register.{register_of, founded};
 ghost use Rattle.hub_tables.specs.Tables.{Tables, has_pallet, view, empty};
 ghost use Rattle.hub_tables.specs.declared.cases.Side.TheVariants as sides;
 ghost use Rattle.hub_tables.specs.declared.change.Change.{Change};
-ghost use Rattle.hub_rules.specs.Laws.{KeptOwn, Registered, KeepsApart, Remembers};
+ghost use Rattle.hub_rules.specs.JoinRules.{is_join, judge_join};
+ghost use Rattle.hub_rules.specs.Laws.{KeptOwn, SoundHub, Registered, KeepsApart, JoinedBy, Remembers};
 ghost use Rattle.hub_rules.specs.PartyRules.{is_other_buyer};
 ghost use Rattle.hub_rules.specs.Rules.{referred_by, cancelled_by, judge_order, judge_response, judge_despatch};
 ghost use Rattle.hub_rules.specs.Rules.{judge_receipt, judge_cancel};
@@ -87,6 +89,20 @@ pub fn rules_keep_suppliers_apart()
         (cancel : Cancel) (changes : List Change) →
         Registered suppliers s t →
         judge_cancel (Some s) content cancel (view s.gln t) ≡ Accept changes → KeepsApart suppliers s t changes }
+{}
+
+/// A supplier that the register takes which sound tables hold is one more of their suppliers (B18, B19, B20): it sees what
+/// lay there for it, with its key and its prefixes, nobody else sees anything of it, who was found by a GLN is found
+/// still, and the tables hold a register and are sound after it.
+pub fn joins_keep_suppliers_apart()
+    ensures { (row : SupplierRow) (t : Tables) (changes : List Change) →
+        SoundHub t → is_join row ≡ true → judge_join (register_of t) row ≡ Accept changes →
+        JoinedBy row t (apply_all changes t) }
+{}
+
+/// Tables with the rows of a register alone are sound.
+pub fn founded_tables_are_sound()
+    ensures { (register : RegisterRows) → IsRegister register → SoundHub (founded register) }
 {}
 
 /// What the rules accept with changes is remembered, by the first of these. They accept without any change exactly what

@@ -1,18 +1,21 @@
-//! The rules of a hub, as definitions with their laws: by which code a message or a cancellation is refused, which
-//! changes of its supplier's rows come of it else, and what the rows stay.
+//! The rules of a hub, as definitions with their laws: by which code a message, a cancellation or a join is refused,
+//! which changes of its supplier's rows come of it else, and what the rows stay.
 #![tactic(auto)]
 
 mod cancel;
 mod code;
 mod incoming;
+mod join;
 mod laws;
 mod verdict;
 
 pub use cancel::Cancel;
 pub use code::Code;
 pub use incoming::IncomingMessage;
+pub use join::Join;
 pub use laws::{
-    accepted_is_remembered, empty_tables_are_rooted, pallet_is_its_prefixes_suppliers,
-    rules_keep_rows, rules_keep_suppliers_apart,
+    accepted_is_remembered, empty_tables_are_rooted, founded_tables_are_sound,
+    joins_keep_suppliers_apart, pallet_is_its_prefixes_suppliers, rules_keep_rows,
+    rules_keep_suppliers_apart,
 };
 pub use verdict::Verdict;

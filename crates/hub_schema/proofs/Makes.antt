@@ -29,19 +29,10 @@ use Rattle.sql_rows.proofs.Inserts.{inserts, cast_null, cast_int}
 use Rattle.hub_tables.specs.Tables.{empty as no_rows}
 use Rattle.hub_schema.specs.Schema.{schema_table, hub_schema, hub_tables, no_schema}
 use Rattle.hub_schema.specs.Rows.{tables_in}
-use Rattle.hub_schema.specs.State.{IsNewHub, IsNumbered, StatementLeaves, Makes, ShowsTheSame}
+use Rattle.hub_schema.specs.State.{IsNumbered, StatementLeaves, Makes, ShowsTheSame}
 use Rattle.hub_schema.proofs.Leaving.{undone_later}
 use Rattle.hub_schema.proofs.Texts.{put_number, put_number_is, put_number_plain}
 use Rattle.hub_schema.specs.Making.{HasMade, Defines, MakesOn, LeavesTables, schema_with}
-
--- a database with the hub's schema and no rows
-new_hub : (db : Database) → db.schema ≡ hub_schema → IsDatabase db → IsNumbered db.trees → tables_in db.trees ≡ no_rows
-    → IsNewHub db.trees
-new_hub db schema sound numbered rows = record {
-  tables = subst (λ (s : Schema). IsDatabase (record { schema = s; trees = db.trees })) schema sound;
-  numbered = numbered;
-  rows = rows;
-}
 
 still_empty : (tables : List Table) (old new : Trees) → KeepsRows tables old new
     → AllByRecursion (λ t. old t.tree ≡ []) tables → AllByRecursion (λ t. new t.tree ≡ []) tables
@@ -81,9 +72,9 @@ number_put old new (Ok count) has h =
     let w : Writes old new _ _ _ [] count =
     runs_as put_number [] old new hub_schema has.schema _ put_number_is put_number_plain count h.0 in
     let did = inserts hub_schema 0 0 _ _ _ _ _ refl (λ _ _. refl) old new [] _ _ _ count has.schema w in
-    let row : Row = Int (next_rowid (db 0)) ∷ Int (pos 1) ∷ [] in
-    let edit : edited db (edit_of db schema_table [] Chosen 0 ((Null ∷ Int (pos 1) ∷ []) ∷ [])) ≡ put_row row (db 0) =
-    rw (cast_null, cast_int (pos 1)) in
+    let row : Row = Int (next_rowid (db 0)) ∷ Int (pos 2) ∷ [] in
+    let edit : edited db (edit_of db schema_table [] Chosen 0 ((Null ∷ Int (pos 2) ∷ []) ∷ [])) ≡ put_row row (db 0) =
+    rw (cast_null, cast_int (pos 2)) in
     let first : new.now.trees 0 ≡ row ∷ [] = did.step.rows ∙ edit ∙ ap (put_row row) has.empty.0 in
     let rest = did.step.tables.1 in
     let orders : new.now.trees 1 ≡ [] = rest.0 (λ e. absurd (omega (arith, e))) ∙ has.empty.1.0 in
@@ -97,6 +88,12 @@ number_put old new (Ok count) has h =
     rest.1.1.1.1.1.1.0 (λ e. absurd (omega (arith, e))) ∙ has.empty.1.1.1.1.1.1.1.0 in
     let mail : new.now.trees 16 ≡ [] =
     rest.1.1.1.1.1.1.1.0 (λ e. absurd (omega (arith, e))) ∙ has.empty.1.1.1.1.1.1.1.1.0 in
+    let hubs : new.now.trees 18 ≡ [] =
+    rest.1.1.1.1.1.1.1.1.0 (λ e. absurd (omega (arith, e))) ∙ has.empty.1.1.1.1.1.1.1.1.1.0 in
+    let keys : new.now.trees 20 ≡ [] =
+    rest.1.1.1.1.1.1.1.1.1.0 (λ e. absurd (omega (arith, e))) ∙ has.empty.1.1.1.1.1.1.1.1.1.1.0 in
+    let prefixes : new.now.trees 22 ≡ [] =
+    rest.1.1.1.1.1.1.1.1.1.1.0 (λ e. absurd (omega (arith, e))) ∙ has.empty.1.1.1.1.1.1.1.1.1.1.1.0 in
     let bare = λ (rows : List Row) (none : rows ≡ []). subst (IsShaped Rows) (sym none) (tt, tt) in
     record {
       hub = record {
@@ -114,7 +111,7 @@ number_put old new (Ok count) has h =
                   bare _ pallets,
                   (
                     bare _ contents,
-                    (bare _ receipts, (bare _ remembered, (bare _ mail, tt))),
+                    (bare _ receipts, (bare _ remembered, (bare _ mail, (bare _ hubs, (bare _ keys, (bare _ prefixes, tt)))))),
                   ),
                 ),
               ),
@@ -123,7 +120,7 @@ number_put old new (Ok count) has h =
         );
         sound = w.sound;
       };
-      tables = rw (orders, lines, advices, pallets, contents, receipts, remembered, mail);
+      tables = rw (hubs, keys, prefixes, orders, lines, advices, pallets, contents, receipts, remembered, mail);
       committed = (subst (λ b. Shows old new new.now (if b then old.committed else new.now) b) has.mode
           w.shown).committed_is;
       mode = w.shown.mode ∙ has.mode;
@@ -196,58 +193,3 @@ number_leaves old new (Ok count) left = record {
   ended = λ none. let it = left.ended none in (it.0, it.1);
 }
 number_leaves old new (Err e) left = stops_at hub_tables [] refl old new e left
-
-pub on_any_err : {X E A : Type 0} (r : Result X E) → A → OnErr r A
-on_any_err (Ok x) a = tt
-on_any_err (Err e) a = a
-
--- The transaction of the making ends.
-module _ {S : Type 0} (g : Ghosts S) (old mid end : Held S) (idle : old.in_transaction ≡ false)
-    (settled : IsTrue (state g old).is_open → (state g old).now ≡ (state g old).committed) where
-  abbrev begun : State
-  begun = state g (record old { in_transaction = true })
-
-  pub back_again : KeepsCommit begun (state g mid) → IsRolledBack (state g mid) (state g end)
-      → IsTrue (state g end).is_open → ShowsTheSame (state g old) (state g end)
-  back_again kept back up =
-      let between = back.was_open up in
-      let before = kept.was_open between in
-      record {
-        rows = (back.undone up).0 ∙ kept.committed between ∙ sym (settled before);
-        committed = (back.undone up).1 ∙ kept.committed between;
-        mode = back.autocommit ∙ sym idle;
-        is_open = up ∙ sym before;
-      }
-
-  pub not_committed : mid.in_transaction ≡ true → (e : Error) → FailsToCommit (state g mid) (state g end) e
-      → IsRolledBack (state g mid) (state g end)
-  not_committed stands e (inl fails) = fails.3
-  not_committed stands e (inr it) = absurd (true≢false (sym stands ∙ it.1))
-
-  bare : (state g old).now.schema ≡ no_schema → HasMade no_schema begun
-  bare none = record { schema = none; empty = tt; mode = refl }
-
-  abbrev MakesAll : Type 0
-  MakesAll = HasCleanDisk (state g mid) → HasMade no_schema begun → Makes (λ _. no_rows) begun (state g mid)
-
-  pub made_before : MakesAll → HasCleanDisk (state g mid) → (state g old).now.schema ≡ no_schema
-      → Makes (λ _. no_rows) begun (state g mid)
-  made_before makes clean none = makes clean (bare none)
-
-  -- after a crash, where it was committed
-  pub left_by_commit : MakesAll → Survives begun (state g mid) (λ _. ⊥)
-      → Survives (state g mid) (state g end) (λ db. db ≡ (state g mid).now.trees)
-      → Survives (state g old) (state g end) (λ trees. (state g old).now.schema ≡ no_schema → IsNewHub trees)
-  left_by_commit makes one two =
-      survives_then (state g old) (state g mid) (state g end) _ _ _ (λ _ db none. absurd none)
-      (λ clean db is none.
-      let did = made_before makes (clean_before (state g mid) (state g end) _ two clean) none in
-      subst IsNewHub (sym is) (new_hub (state g mid).now did.hub.schema did.hub.sound did.hub.numbered did.tables))
-      (survives_begin g old (state g mid) _ one) two
-
-  -- and where it was not
-  pub left_by_fault : {P : Trees → Type 0} → Survives begun (state g mid) (λ _. ⊥)
-      → Survives (state g mid) (state g end) (λ _. ⊥) → Survives (state g old) (state g end) P
-  left_by_fault one two =
-      survives_then (state g old) (state g mid) (state g end) _ _ _ (λ _ db none. absurd none)
-      (λ _ db none. absurd none) (survives_begin g old (state g mid) _ one) two

@@ -30,14 +30,15 @@ use Rattle.sqlite_rules.specs.Edit.{id_in}
 use Rattle.sqlite_rules.proofs.TableLemmas.{int_is}
 use Rattle.hub_parties.specs.KeyOrder.{bytes_cmp, Rises}
 use Rattle.hub_tables.specs.Rows.{order_cmp, line_cmp, advice_cmp, pallet_cmp, content_cmp, receipt_cmp, remembered_cmp}
-use Rattle.hub_tables.specs.Rows.{mail_cmp}
+use Rattle.hub_tables.specs.Rows.{mail_cmp, hub_cmp, key_cmp, prefix_cmp}
 use Rattle.hub_tables.specs.Sets.{Rising}
 use Rattle.hub_tables.proofs.KindOrders.{order_total, line_total, advice_total, pallet_total, content_total}
-use Rattle.hub_tables.proofs.KindOrders.{receipt_total, remembered_total, mail_total}
+use Rattle.hub_tables.proofs.KindOrders.{receipt_total, remembered_total, mail_total, hub_total, key_total}
+use Rattle.hub_tables.proofs.KindOrders.{prefix_total}
 use Rattle.hub_schema.specs.Rows.{order_in, line_in, advice_in, pallet_in, content_in, receipt_in, remembered_in}
-use Rattle.hub_schema.specs.Rows.{mail_in, tables_in}
+use Rattle.hub_schema.specs.Rows.{mail_in, hub_row_in, key_row_in, prefix_row_in, tables_in}
 use Rattle.hub_schema.specs.Schema.{order_table, line_table, advice_table, pallet_table, content_table, receipt_table}
-use Rattle.hub_schema.specs.Schema.{remembered_table, mail_table, hub_schema}
+use Rattle.hub_schema.specs.Schema.{remembered_table, mail_table, hub_table, supplier_table, prefix_table, hub_schema}
 use Rattle.hub_schema.specs.State.{AreOrdered, IsHub}
 use Rattle.hub_tables.proofs.Lists.{decide, same_is, same_if}
 use Rattle.sql_rows.proofs.Answers.{is_truth, same_bytes}
@@ -200,6 +201,15 @@ remembered_kinds = map (λ c. c.kind) remembered_table.columns
 abbrev pub mail_kinds : List Kind
 mail_kinds = map (λ c. c.kind) mail_table.columns
 
+abbrev pub hub_kinds : List Kind
+hub_kinds = map (λ c. c.kind) hub_table.columns
+
+abbrev pub key_kinds : List Kind
+key_kinds = map (λ c. c.kind) supplier_table.columns
+
+abbrev pub prefix_kinds : List Kind
+prefix_kinds = map (λ c. c.kind) prefix_table.columns
+
 order_tied : (a b : Row) → AreOf order_kinds 0 a → AreOf order_kinds 0 b
     → is_eq (order_cmp (order_in a) (order_in b)) ≡ true → agree plain (1 ∷ 2 ∷ []) a (1 ∷ 2 ∷ []) b ≡ true
 unfolding first_key
@@ -272,6 +282,21 @@ mail_tied a b t u e =
     b).number) e in
     and_from _ _ (same_blobs _ _ _ _ t.0.1 u.0.1 (text_tied _ _ keys.0))
     (and_from _ _ (same_numbers _ _ _ _ t.1.0.1 u.1.0.1 (number_tied _ _ keys.1)) refl)
+
+hub_tied : (a b : Row) → AreOf hub_kinds 0 a → AreOf hub_kinds 0 b
+    → is_eq (hub_cmp (hub_row_in a) (hub_row_in b)) ≡ true → agree plain (1 ∷ []) a (1 ∷ []) b ≡ true
+unfolding first_key
+hub_tied a b t u e = and_from _ _ (same_blobs _ _ _ _ t.0.1 u.0.1 (text_tied _ _ e)) refl
+
+key_tied : (a b : Row) → AreOf key_kinds 0 a → AreOf key_kinds 0 b
+    → is_eq (key_cmp (key_row_in a) (key_row_in b)) ≡ true → agree plain (1 ∷ []) a (1 ∷ []) b ≡ true
+unfolding first_key
+key_tied a b t u e = and_from _ _ (same_blobs _ _ _ _ t.0.1 u.0.1 (text_tied _ _ e)) refl
+
+prefix_tied : (a b : Row) → AreOf prefix_kinds 0 a → AreOf prefix_kinds 0 b
+    → is_eq (prefix_cmp (prefix_row_in a) (prefix_row_in b)) ≡ true → agree plain (1 ∷ []) a (1 ∷ []) b ≡ true
+unfolding first_key
+prefix_tied a b t u e = and_from _ _ (same_blobs _ _ _ _ t.0.1 u.0.1 (text_tied _ _ e)) refl
 
 module _ (db : Database) (has : db.schema ≡ hub_schema) (sound : IsDatabase db) (ordered : AreOrdered db.trees) where
   rules : Obeys hub_schema db.trees
@@ -374,9 +399,51 @@ module _ (db : Database) (has : db.schema ≡ hub_schema) (sound : IsDatabase db
       (unclashed (clashes plain (1 ∷ 2
       ∷ []) (db.trees 16)) (λ _. true) (db.trees 16) (rules.rules Unique).1.1.1.1.1.1.1.1.0))
 
+  pub hub_cells : AllByRecursion (AreOf hub_kinds 0) (db.trees 18)
+  hub_cells = all_cells_of hub_schema db.trees hub_table (db.trees 18) refl refl (rules.rules
+      Datatype).1.1.1.1.1.1.1.1.1.0 (rules.rules NotNull).1.1.1.1.1.1.1.1.1.0
+
+  hubs_rise : Rises hub_cmp (tables_in db.trees).hubs
+  hubs_rise =
+      listed_rises hub_total (map hub_row_in (db.trees 18))
+      (all_apart hub_cmp hub_row_in (1
+      ∷ []) (AreOf hub_kinds 0) hub_tied (db.trees 18) (ordered.1.1.1.1.1.1.1.1.1.0).0
+      (ordered.1.1.1.1.1.1.1.1.1.0).1 hub_cells
+      (unclashed (clashes plain (1
+      ∷ []) (db.trees 18)) (λ _. true) (db.trees 18) (rules.rules Unique).1.1.1.1.1.1.1.1.1.0))
+
+  pub key_cells : AllByRecursion (AreOf key_kinds 0) (db.trees 20)
+  key_cells = all_cells_of hub_schema db.trees supplier_table (db.trees 20) refl refl (rules.rules
+      Datatype).1.1.1.1.1.1.1.1.1.1.0 (rules.rules NotNull).1.1.1.1.1.1.1.1.1.1.0
+
+  keys_rise : Rises key_cmp (tables_in db.trees).keys
+  keys_rise =
+      listed_rises key_total (map key_row_in (db.trees 20))
+      (all_apart key_cmp key_row_in (1
+      ∷ []) (AreOf key_kinds 0) key_tied (db.trees 20) (ordered.1.1.1.1.1.1.1.1.1.1.0).0
+      (ordered.1.1.1.1.1.1.1.1.1.1.0).1 key_cells
+      (unclashed (clashes plain (1
+      ∷ []) (db.trees 20)) (λ _. true) (db.trees 20) (rules.rules Unique).1.1.1.1.1.1.1.1.1.1.0))
+
+  pub prefix_cells : AllByRecursion (AreOf prefix_kinds 0) (db.trees 22)
+  prefix_cells = all_cells_of hub_schema db.trees prefix_table (db.trees 22) refl refl (rules.rules
+      Datatype).1.1.1.1.1.1.1.1.1.1.1.0 (rules.rules NotNull).1.1.1.1.1.1.1.1.1.1.1.0
+
+  prefixes_rise : Rises prefix_cmp (tables_in db.trees).prefixes
+  prefixes_rise =
+      listed_rises prefix_total (map prefix_row_in (db.trees 22))
+      (all_apart prefix_cmp prefix_row_in (1
+      ∷ []) (AreOf prefix_kinds 0) prefix_tied (db.trees 22) (ordered.1.1.1.1.1.1.1.1.1.1.1.0).0
+      (ordered.1.1.1.1.1.1.1.1.1.1.1.0).1 prefix_cells
+      (unclashed (clashes plain (1
+      ∷ []) (db.trees 22)) (λ _. true) (db.trees 22) (rules.rules Unique).1.1.1.1.1.1.1.1.1.1.1.0))
+
   -- what the rows of all tables say rises by its keys
   pub tables_rise : Rising (tables_in db.trees)
   tables_rise = record {
+    hubs = hubs_rise;
+    keys = keys_rise;
+    prefixes = prefixes_rise;
     orders = orders_rise;
     lines = lines_rise;
     advices = advices_rise;

@@ -1,5 +1,5 @@
 -- What the texts that make the tables stand for.
-use Rattle.std.proofs.Common.{◌≡◌, ℕ, pos, List, [], ◌∷◌, codes, refl}
+use Rattle.std.proofs.Common.{◌≡◌, ℕ, pos, List, [], ◌∷◌, ◌++◌, codes, refl}
 use Rattle.sqlite.specs.Listing.{understood}
 use Rattle.sqlite.specs.Command.TheVariants.{Insert}
 use Rattle.sqlite.specs.Source.TheVariants.{Values}
@@ -8,7 +8,8 @@ use Rattle.sqlite.specs.declared.types.Value.TheVariants.{Null, Int}
 use Rattle.sqlite.proofs.Callers.{IsPlain, command_of}
 use Rattle.sqlite_tied.specs.Compute.{everything}
 use Rattle.hub_schema.specs.Schema.{schema_table, order_table, line_table, advice_table, pallet_table, content_table}
-use Rattle.hub_schema.specs.Schema.{receipt_table, remembered_table, mail_table, no_schema, hub_schema, hub_tables}
+use Rattle.hub_schema.specs.Schema.{receipt_table, remembered_table, mail_table, no_schema, hub_schema, hub_tables, traffic_tables}
+use Rattle.hub_schema.specs.Schema.{hub_table, supplier_table, prefix_table}
 use Rattle.hub_schema.specs.Making.{Defines, schema_with}
 
 abbrev pub create_schema : List ℕ
@@ -37,6 +38,15 @@ create_remembered = codes "CREATE TABLE remembered (supplier BLOB NOT NULL, side
 
 abbrev pub create_mail : List ℕ
 create_mail = codes "CREATE TABLE mail (supplier BLOB NOT NULL, number INTEGER NOT NULL, moment INTEGER NOT NULL, decimal INTEGER NOT NULL, kind INTEGER NOT NULL, document BLOB NOT NULL, body BLOB NOT NULL, taken INTEGER NOT NULL, PRIMARY KEY (supplier, number)) STRICT"
+
+abbrev pub create_hub : List ℕ
+create_hub = codes "CREATE TABLE hub (hub BLOB NOT NULL, retailer BLOB NOT NULL, \"key\" BLOB NOT NULL, PRIMARY KEY (hub)) STRICT"
+
+abbrev pub create_supplier : List ℕ
+create_supplier = codes "CREATE TABLE supplier (supplier BLOB NOT NULL, \"key\" BLOB NOT NULL, PRIMARY KEY (supplier)) STRICT"
+
+abbrev pub create_prefix : List ℕ
+create_prefix = codes "CREATE TABLE prefix (prefix BLOB NOT NULL, supplier BLOB NOT NULL, PRIMARY KEY (prefix)) STRICT"
 
 pub schema_defined : Defines create_schema no_schema schema_table
 unfolding understood everything
@@ -80,13 +90,27 @@ pub mail_defined : Defines create_mail (schema_with (schema_table ∷ order_tabl
 unfolding understood everything
 mail_defined = record { command = refl; whole = refl; plain = (refl, refl); defined = refl; calm = refl }
 
+pub hub_defined : Defines create_hub (schema_with traffic_tables) (record hub_table { tree = 0 })
+unfolding understood everything
+hub_defined = record { command = refl; whole = refl; plain = (refl, refl); defined = refl; calm = refl }
+
+pub supplier_defined : Defines create_supplier (schema_with (traffic_tables ++ hub_table
+    ∷ [])) (record supplier_table { tree = 0 })
+unfolding understood everything
+supplier_defined = record { command = refl; whole = refl; plain = (refl, refl); defined = refl; calm = refl }
+
+pub prefix_defined : Defines create_prefix (schema_with (traffic_tables ++ hub_table ∷ supplier_table
+    ∷ [])) (record prefix_table { tree = 0 })
+unfolding understood everything
+prefix_defined = record { command = refl; whole = refl; plain = (refl, refl); defined = refl; calm = refl }
+
 pub all_made : schema_with hub_tables ≡ hub_schema
 all_made = refl
 
 abbrev pub put_number : List ℕ
-put_number = codes "INSERT INTO schema (number) VALUES (1)"
+put_number = codes "INSERT INTO schema (number) VALUES (2)"
 
-pub put_number_is : command_of (understood hub_schema put_number) ≡ Insert 0 (Values (lit Null ∷ lit (Int (pos 1))
+pub put_number_is : command_of (understood hub_schema put_number) ≡ Insert 0 (Values (lit Null ∷ lit (Int (pos 2))
     ∷ []) 2)
 unfolding understood everything
 put_number_is = refl

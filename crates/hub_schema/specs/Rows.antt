@@ -5,8 +5,11 @@ use Rattle.sqlite_value.specs.Order.{Row, column}
 use Rattle.sqlite_trees.specs.Tree.{Trees}
 use Rattle.hub_parties.specs.KeyOrder.{put}
 use Rattle.hub_tables.specs.Rows.{order_cmp, line_cmp, advice_cmp, pallet_cmp, content_cmp, receipt_cmp, remembered_cmp}
-use Rattle.hub_tables.specs.Rows.{mail_cmp}
+use Rattle.hub_tables.specs.Rows.{mail_cmp, hub_cmp, key_cmp, prefix_cmp}
 use Rattle.hub_tables.specs.Tables.{Tables}
+use Rattle.hub_tables.specs.declared.rows.HubRow.{HubRow}
+use Rattle.hub_tables.specs.declared.rows.KeyRow.{KeyRow}
+use Rattle.hub_tables.specs.declared.rows.PrefixRow.{PrefixRow}
 use Rattle.hub_tables.specs.declared.rows.OrderRow.{OrderRow}
 use Rattle.hub_tables.specs.declared.rows.LineRow.{LineRow}
 use Rattle.hub_tables.specs.declared.rows.AdviceRow.{AdviceRow}
@@ -16,6 +19,19 @@ use Rattle.hub_tables.specs.declared.rows.ReceiptRow.{ReceiptRow}
 use Rattle.hub_tables.specs.declared.rows.RememberedRow.{RememberedRow}
 use Rattle.hub_tables.specs.declared.rows.MailRow.{MailRow}
 use Rattle.hub_schema.specs.Cells.{bytes_in, number_in}
+
+abbrev pub hub_row_in : Row → HubRow
+hub_row_in row = record {
+  hub = bytes_in (column row 1);
+  retailer = bytes_in (column row 2);
+  key = bytes_in (column row 3);
+}
+
+abbrev pub key_row_in : Row → KeyRow
+key_row_in row = record { supplier = bytes_in (column row 1); key = bytes_in (column row 2) }
+
+abbrev pub prefix_row_in : Row → PrefixRow
+prefix_row_in row = record { prefix = bytes_in (column row 1); supplier = bytes_in (column row 2) }
 
 abbrev pub order_in : Row → OrderRow
 order_in row = record { supplier = bytes_in (column row 1); number = bytes_in (column row 2) }
@@ -90,6 +106,9 @@ in_key_order cmp = fold (λ sorted row. put cmp row sorted) []
 -- what the rows of all tables say
 abbrev pub tables_in : Trees → Tables
 tables_in trees = record {
+  hubs = in_key_order hub_cmp (map hub_row_in (trees 18));
+  keys = in_key_order key_cmp (map key_row_in (trees 20));
+  prefixes = in_key_order prefix_cmp (map prefix_row_in (trees 22));
   orders = in_key_order order_cmp (map order_in (trees 1));
   lines = in_key_order line_cmp (map line_in (trees 3));
   advices = in_key_order advice_cmp (map advice_in (trees 5));

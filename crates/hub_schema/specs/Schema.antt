@@ -1,7 +1,7 @@
 -- The tables of a hub in SQL, and their keys. All bytes are BLOB and all numbers INTEGER; tables are STRICT, no column
 -- takes NULL, and the key of each kind is its PRIMARY KEY. Table and column names stay: files that are written have
 -- them.
-use Rattle.std.specs.Prelude.{ℕ, true, List, [], ◌∷◌, map, codes}
+use Rattle.std.specs.Prelude.{ℕ, true, List, [], ◌∷◌, ◌++◌, map, codes}
 use Rattle.sqlite.specs.Kind.TheVariants.{Integer, Blob}
 use Rattle.sqlite.specs.Schema.{Schema}
 use Rattle.sqlite.specs.Table.{Table}
@@ -67,6 +67,16 @@ mail_table = keyed 16 (codes "mail") (
     ∷ number (codes "kind") ∷ bytes (codes "document") ∷ bytes (codes "body") ∷ number (codes "taken") ∷ [])
     (1 ∷ 2 ∷ [])
 
+abbrev pub hub_table : Table
+hub_table = keyed 18 (codes "hub") (
+    bytes (codes "hub") ∷ bytes (codes "retailer") ∷ bytes (codes "key") ∷ []) (1 ∷ [])
+
+abbrev pub supplier_table : Table
+supplier_table = keyed 20 (codes "supplier") (bytes (codes "supplier") ∷ bytes (codes "key") ∷ []) (1 ∷ [])
+
+abbrev pub prefix_table : Table
+prefix_table = keyed 22 (codes "prefix") (bytes (codes "prefix") ∷ bytes (codes "supplier") ∷ []) (1 ∷ [])
+
 -- the index of a key
 abbrev pub index_of : List ℕ → ℕ → ℕ → List ℕ → Index
 index_of name tree table key = record {
@@ -81,11 +91,15 @@ index_of name tree table key = record {
 abbrev pub no_schema : Schema
 no_schema = record { tables = []; indexes = []; views = [] }
 
--- the tables in the order of their making
-abbrev pub hub_tables : List Table
-hub_tables =
+-- the tables of goods and messages, in the order of their making
+abbrev pub traffic_tables : List Table
+traffic_tables =
     schema_table ∷ order_table ∷ line_table ∷ advice_table ∷ pallet_table ∷ content_table ∷ receipt_table
     ∷ remembered_table ∷ mail_table ∷ []
+
+-- all tables: behind those the register's
+abbrev pub hub_tables : List Table
+hub_tables = traffic_tables ++ hub_table ∷ supplier_table ∷ prefix_table ∷ []
 
 -- with an index for each key
 abbrev pub hub_schema : Schema
@@ -96,6 +110,7 @@ hub_schema = record {
       ∷ automatic advice_table 0 (1 ∷ 2 ∷ []) 6 ∷ automatic pallet_table 0 (1 ∷ []) 8
       ∷ automatic pallet_table 1 (2 ∷ 1 ∷ []) 9 ∷ automatic content_table 0 (1 ∷ 2 ∷ []) 11
       ∷ automatic receipt_table 0 (1 ∷ 2 ∷ []) 13 ∷ automatic remembered_table 0 (1 ∷ 2 ∷ 3 ∷ 4 ∷ []) 15
-      ∷ automatic mail_table 0 (1 ∷ 2 ∷ []) 17 ∷ [];
+      ∷ automatic mail_table 0 (1 ∷ 2 ∷ []) 17 ∷ automatic hub_table 0 (1 ∷ []) 19
+      ∷ automatic supplier_table 0 (1 ∷ []) 21 ∷ automatic prefix_table 0 (1 ∷ []) 23 ∷ [];
   views = [];
 }

@@ -11,7 +11,7 @@ use Rattle.sqlite.specs.Effect.{IsDatabase}
 use Rattle.sqlite.specs.State.{State, HasCleanDisk, Survives}
 use Rattle.hub_tables.specs.Change.{apply_all}
 use Rattle.hub_tables.specs.Sets.{Rising}
-use Rattle.hub_tables.specs.Tables.{Tables, empty}
+use Rattle.hub_tables.specs.Tables.{Tables}
 use Rattle.hub_tables.specs.declared.change.Change.{Change}
 use Rattle.hub_store.specs.Calls.{have_places}
 use Rattle.hub_store.specs.Clean.{are_clean}
@@ -22,11 +22,13 @@ use Rattle.hub_schema.specs.Schema.{hub_schema}
 
 -- the row numbers of each table rise
 abbrev pub AreOrdered : Trees → Type 0
-AreOrdered trees = AllByRecursion (λ tree. IsShaped Table (trees tree)) (0 ∷ 1 ∷ 3 ∷ 5 ∷ 7 ∷ 10 ∷ 12 ∷ 14 ∷ 16 ∷ [])
+AreOrdered trees =
+    AllByRecursion (λ tree. IsShaped Table (trees tree))
+    (0 ∷ 1 ∷ 3 ∷ 5 ∷ 7 ∷ 10 ∷ 12 ∷ 14 ∷ 16 ∷ 18 ∷ 20 ∷ 22 ∷ [])
 
--- the one row of the table with the schema's number, which is 1
+-- the one row of the table with the schema's number, which is 2
 abbrev pub IsNumbered : Trees → Type 0
-IsNumbered trees = map (λ row. column row 1) (trees 0) ≡ Int (pos 1) ∷ []
+IsNumbered trees = map (λ row. column row 1) (trees 0) ≡ Int (pos 2) ∷ []
 
 -- the connection holds the tables of a hub
 pub record IsHub (s : State) : Type 0 where
@@ -35,11 +37,11 @@ pub record IsHub (s : State) : Type 0 where
   pub ordered : AreOrdered s.now.trees
   pub sound : IsDatabase s.now
 
--- a hub's tables, each of them, without a row but the schema's number
-pub record IsNewHub (trees : Trees) : Type 0 where
+-- a hub's tables, each of them, with these rows, and with the schema's number
+pub record IsFounded (t : Tables) (trees : Trees) : Type 0 where
   pub tables : IsDatabase (record { schema = hub_schema; trees = trees })
   pub numbered : IsNumbered trees
-  pub rows : tables_in trees ≡ empty
+  pub rows : tables_in trees ≡ t
 
 -- the tables become these, in the transaction alone
 pub record Makes (change : Tables → Tables) (old new : State) : Type 0 where
@@ -86,10 +88,11 @@ pub record StatementLeaves {X E : Type 0} (old new : State) (result : Result X E
       HasCleanDisk new → IsTrue old.in_transaction → OnErr result (ShowsTheSame old new ⊎ IsUndone old new)
   pub ended : old.in_transaction ≡ false → OnOk result ⊥ × ShowsTheSame old new
 
--- a look-up outside a transaction: what it answers of the tables, and that it changes nothing. `Unclean` comes only
--- where some row is none of the kinds.
-pub record LooksUp {X : Type 0} (answer : Tables → X) (old new : State) (result : Result X StoreFault) : Type 0 where
-  pub answers : HasCleanDisk new → Holds old → IfOk result (λ x. x ≡ answer (tables_in old.now.trees))
+-- a look-up outside a transaction: what its answer says of the tables, that it changes nothing, and by which tables alone
+-- it is `Unclean`
+pub record LooksFor {X : Type 0} (says : Tables → X → Type 0) (spoilt : Tables → Type 0) (old new : State)
+    (result : Result X StoreFault) : Type 0 where
+  pub answers : HasCleanDisk new → Holds old → IfOk result (says (tables_in old.now.trees))
   pub same : HasCleanDisk new → OnOk result (IsTrue old.is_open × IsTrue new.is_open × (new.now ≡ old.now))
   pub stays :
       HasCleanDisk new → old.in_transaction ≡ false → old.now.schema ≡ hub_schema → IsTrue new.is_open →
@@ -98,8 +101,11 @@ pub record LooksUp {X : Type 0} (answer : Tables → X) (old new : State) (resul
   pub mode : old.in_transaction ≡ false → new.in_transaction ≡ false
   pub crash : Survives old new (λ _. ⊥)
   pub unclean :
-      HasCleanDisk new → Holds old → result ≡ Err Unclean →
-      IsTrue old.is_open × (are_clean (tables_in old.now.trees) ≡ false)
+      HasCleanDisk new → Holds old → result ≡ Err Unclean → IsTrue old.is_open × spoilt (tables_in old.now.trees)
+
+-- the same where the answer is this of the tables, and `Unclean` comes only where some row is none of the kinds
+abbrev pub LooksUp : {X : Type 0} → (Tables → X) → State → State → Result X StoreFault → Type 0
+LooksUp answer old new result = LooksFor (λ t x. x ≡ answer t) (λ t. are_clean t ≡ false) old new result
 
 -- a commit: all changes at Ok, where each row that is set has one in its place, and none at a fault. A crash leaves
 -- what it did before, or all changes. `Unclean` comes where the changes do not fit to the rows, where one is to be set
@@ -123,3 +129,13 @@ pub record CommitsTo (changes : List Change) (old new : State) (result : Result 
       HasCleanDisk new → Holds old → result ≡ Err Unclean →
       (IsTrue old.is_open × MayRefuse changes (tables_in old.now.trees))
       ⊎ ((t : Tables) → have_places changes t ≡ true → are_clean (apply_all changes t) ≡ false)
+
+-- A founding: where what it asks of the connection is so, the hub's tables are there at Ok, with these rows, and at a
+-- fault all is as it was. A crash leaves what it did before, or all of it.
+pub record FoundsTo {E : Type 0} (asked : Type 0) (rows : Tables) (old new : State) (result : Result (Unit {0}) E)
+    : Type 0 where
+  pub done : HasCleanDisk new → asked → OnOk result (IsTrue new.is_open × IsHub new × (tables_in new.now.trees ≡ rows))
+  pub durable : HasCleanDisk new → OnOk result ((trees : Trees) → new.may_leave trees → trees ≡ new.now.trees)
+  pub kept : HasCleanDisk new → asked → IsTrue new.is_open → OnErr result (ShowsTheSame old new)
+  pub mode : new.in_transaction ≡ false
+  pub crash : Survives old new (λ trees. asked → IsFounded rows trees)

@@ -2,7 +2,9 @@
 ghost use Rattle.std.specs.Prelude.{◌≡◌, ◌↔◌, IsTrue, [], ◌∷◌, map};
 ghost use Rattle.sql_rows.specs.Tables.{strict_column, plain_table};
 ghost use Rattle.sqlite_value.specs.Keys.{plain};
-ghost use Rattle.hub_schema.specs.Schema.{keyed, index_of, hub_tables, hub_schema, no_schema, schema_table, order_table, line_table, advice_table, pallet_table, content_table, receipt_table, remembered_table, mail_table};
+ghost use Rattle.hub_schema.specs.Schema.{keyed, index_of, hub_tables, hub_schema, no_schema};
+ghost use Rattle.hub_schema.specs.Schema.{schema_table, order_table, line_table, advice_table, pallet_table, content_table};
+ghost use Rattle.hub_schema.specs.Schema.{receipt_table, remembered_table, mail_table, hub_table, supplier_table, prefix_table};
 
 use sqlite_items::Items;
 use sqlite_schema::code::Terms;
@@ -225,6 +227,40 @@ fn is_mail(table: &Table) -> bool
         )
 }
 
+fn is_hub(table: &Table) -> bool
+    ensures { IsTrue result ↔ (table.now ≡ hub_table) }
+{
+    is_keyed(table, b"hub", 18, &[1])
+        && are_columns(
+            table.columns.as_slice(),
+            &[
+                (b"hub", Kind::Blob),
+                (b"retailer", Kind::Blob),
+                (b"key", Kind::Blob),
+            ],
+        )
+}
+
+fn is_supplier(table: &Table) -> bool
+    ensures { IsTrue result ↔ (table.now ≡ supplier_table) }
+{
+    is_keyed(table, b"supplier", 20, &[1])
+        && are_columns(
+            table.columns.as_slice(),
+            &[(b"supplier", Kind::Blob), (b"key", Kind::Blob)],
+        )
+}
+
+fn is_prefix(table: &Table) -> bool
+    ensures { IsTrue result ↔ (table.now ≡ prefix_table) }
+{
+    is_keyed(table, b"prefix", 22, &[1])
+        && are_columns(
+            table.columns.as_slice(),
+            &[(b"prefix", Kind::Blob), (b"supplier", Kind::Blob)],
+        )
+}
+
 // Whether the index is the one of a key.
 fn is_index(index: &Index, name: &[u8], tree: u32, table: u32, key: &[usize]) -> bool
     ensures { IsTrue result ↔ (index.now ≡ index_of name.now tree table key.now) }
@@ -265,24 +301,39 @@ fn are_hub_indexes(indexes: &[Index]) -> bool
             (b"sqlite_autoindex_receipt_1", 13, 12, &[1, 2]),
             (b"sqlite_autoindex_remembered_1", 15, 14, &[1, 2, 3, 4]),
             (b"sqlite_autoindex_mail_1", 17, 16, &[1, 2]),
+            (b"sqlite_autoindex_hub_1", 19, 18, &[1]),
+            (b"sqlite_autoindex_supplier_1", 21, 20, &[1]),
+            (b"sqlite_autoindex_prefix_1", 23, 22, &[1]),
         ],
     )
 }
 
-// Whether the last tables are these.
-fn are_message_tables(tables: &[Table]) -> bool
-    ensures { IsTrue result ↔ (tables.now ≡ receipt_table ∷ remembered_table ∷ mail_table ∷ []) }
+// Whether the last tables are those of the register.
+fn are_party_tables(tables: &[Table]) -> bool
+    ensures { IsTrue result ↔ (tables.now ≡ hub_table ∷ supplier_table ∷ prefix_table ∷ []) }
 {
-    let [receipt, remembered, mail] = tables else {
+    let [hub, supplier, prefix] = tables else {
         return false;
     };
-    is_receipt(receipt) && is_remembered(remembered) && is_mail(mail)
+    is_hub(hub) && is_supplier(supplier) && is_prefix(prefix)
+}
+
+// Whether the tables from the receipts on are these.
+fn are_message_tables(tables: &[Table]) -> bool
+    ensures { IsTrue result ↔ (tables.now ≡ receipt_table ∷ remembered_table ∷ mail_table ∷ hub_table
+        ∷ supplier_table ∷ prefix_table ∷ []) }
+{
+    let [receipt, remembered, mail, rest @ ..] = tables else {
+        return false;
+    };
+    is_receipt(receipt) && is_remembered(remembered) && is_mail(mail) && are_party_tables(rest)
 }
 
 // Whether the tables from the advices on are these.
 fn are_pallet_tables(tables: &[Table]) -> bool
     ensures { IsTrue result ↔
-        (tables.now ≡ advice_table ∷ pallet_table ∷ content_table ∷ receipt_table ∷ remembered_table ∷ mail_table ∷ []) }
+        (tables.now ≡ advice_table ∷ pallet_table ∷ content_table ∷ receipt_table ∷ remembered_table ∷ mail_table
+        ∷ hub_table ∷ supplier_table ∷ prefix_table ∷ []) }
 {
     let [advice, pallet, content, rest @ ..] = tables else {
         return false;

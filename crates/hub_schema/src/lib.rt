@@ -5,4 +5,4 @@ mod compare;
 mod making;
 
 pub use compare::{is_hub_schema, is_no_schema};
-pub use making::{make_schema, make_tables};
+pub use making::make_tables;

@@ -1,6 +1,5 @@
 //! The making of the tables.
-ghost use Rattle.std.specs.Prelude.{◌≡◌, OnOk, OnErr, IsTrue, false, [], ◌∷◌};
-ghost use Rattle.sqlite.specs.Tree.{Trees};
+ghost use Rattle.std.specs.Prelude.{◌≡◌, OnOk, [], ◌∷◌};
 ghost use Rattle.sqlite.specs.State.{HasCleanDisk, Survives, KeepsCommit};
 ghost use Rattle.sqlite.specs.Schema.{Schema};
 ghost use Rattle.sqlite.specs.Table.{Table};
@@ -8,11 +7,11 @@ ghost use Rattle.sqlite.specs.Held.{state};
 ghost use Rattle.hub_tables.specs.Tables.{empty};
 ghost use Rattle.sqlite_catalog.specs.Change.{created};
 ghost use Rattle.hub_schema.specs.Making.{HasMade, Defines, MakesOn, LeavesTables, schema_with};
-ghost use Rattle.hub_schema.specs.Schema.{no_schema, hub_schema, hub_tables, schema_table, order_table, line_table, advice_table, pallet_table, content_table};
-ghost use Rattle.hub_schema.specs.Rows.{tables_in};
-ghost use Rattle.hub_schema.specs.State.{IsHub, IsNewHub, StatementLeaves, Makes, ShowsTheSame};
+ghost use Rattle.hub_schema.specs.Schema.{no_schema, hub_schema, hub_tables, traffic_tables};
+ghost use Rattle.hub_schema.specs.Schema.{schema_table, order_table, line_table, advice_table, pallet_table, content_table};
+ghost use Rattle.hub_schema.specs.State.{StatementLeaves, Makes};
 
-use sqlite::{Alter, Connection, Error, Transaction};
+use sqlite::{Alter, Error, Transaction};
 
 // Makes one table.
 fn create<S: Alter>(tx: &mut Transaction<'_, S>, text: &str) -> Result<usize, Error>
@@ -85,7 +84,10 @@ fn make_pallets<S: Alter>(tx: &mut Transaction<'_, S>) -> Result<(), Error>
 fn make_messages<S: Alter>(tx: &mut Transaction<'_, S>) -> Result<(), Error>
     ensures same_reference { tx.new.conn.ghost_name ≡ tx.old.conn.ghost_name }
     ensures makes { HasCleanDisk (state S.Store tx.new.conn.now) →
-        HasMade (schema_with (schema_table ∷ order_table ∷ line_table ∷ advice_table ∷ pallet_table ∷ content_table ∷ [])) (state S.Store tx.old.conn.now) → OnOk result (MakesOn (hub_schema) (state S.Store tx.old.conn.now) (state S.Store tx.new.conn.now)) }
+        HasMade (schema_with
+        (schema_table ∷ order_table ∷ line_table ∷ advice_table ∷ pallet_table ∷ content_table ∷ []))
+        (state S.Store tx.old.conn.now) → OnOk result (MakesOn (schema_with traffic_tables)
+        (state S.Store tx.old.conn.now) (state S.Store tx.new.conn.now)) }
     ensures kept { HasCleanDisk (state S.Store tx.new.conn.now) →
         KeepsCommit (state S.Store tx.old.conn.now) (state S.Store tx.new.conn.now) }
     ensures survives { Survives (state S.Store tx.old.conn.now) (state S.Store tx.new.conn.now) (λ _. ⊥) }
@@ -108,6 +110,33 @@ fn make_messages<S: Alter>(tx: &mut Transaction<'_, S>) -> Result<(), Error>
     Ok(())
 }
 
+// The tables of the register. KEY is a word of SQL too, so a column of that name stands in quotes.
+fn make_parties<S: Alter>(tx: &mut Transaction<'_, S>) -> Result<(), Error>
+    ensures same_reference { tx.new.conn.ghost_name ≡ tx.old.conn.ghost_name }
+    ensures makes { HasCleanDisk (state S.Store tx.new.conn.now) →
+        HasMade (schema_with traffic_tables) (state S.Store tx.old.conn.now) →
+        OnOk result (MakesOn (hub_schema) (state S.Store tx.old.conn.now) (state S.Store tx.new.conn.now)) }
+    ensures kept { HasCleanDisk (state S.Store tx.new.conn.now) →
+        KeepsCommit (state S.Store tx.old.conn.now) (state S.Store tx.new.conn.now) }
+    ensures survives { Survives (state S.Store tx.old.conn.now) (state S.Store tx.new.conn.now) (λ _. ⊥) }
+    ensures leaves { LeavesTables traffic_tables (state S.Store tx.old.conn.now) (state S.Store tx.new.conn.now)
+        result }
+{
+    create(
+        tx,
+        "CREATE TABLE hub (hub BLOB NOT NULL, retailer BLOB NOT NULL, \"key\" BLOB NOT NULL, PRIMARY KEY (hub)) STRICT",
+    )?;
+    create(
+        tx,
+        "CREATE TABLE supplier (supplier BLOB NOT NULL, \"key\" BLOB NOT NULL, PRIMARY KEY (supplier)) STRICT",
+    )?;
+    create(
+        tx,
+        "CREATE TABLE prefix (prefix BLOB NOT NULL, supplier BLOB NOT NULL, PRIMARY KEY (prefix)) STRICT",
+    )?;
+    Ok(())
+}
+
 // Puts the number of the schema into its table.
 fn put_number<S: Alter>(tx: &mut Transaction<'_, S>) -> Result<usize, Error>
     ensures same_reference { tx.new.conn.ghost_name ≡ tx.old.conn.ghost_name }
@@ -118,10 +147,10 @@ fn put_number<S: Alter>(tx: &mut Transaction<'_, S>) -> Result<usize, Error>
     ensures survives { Survives (state S.Store tx.old.conn.now) (state S.Store tx.new.conn.now) (λ _. ⊥) }
     ensures leaves { LeavesTables hub_tables (state S.Store tx.old.conn.now) (state S.Store tx.new.conn.now) result }
 {
-    tx.execute("INSERT INTO schema (number) VALUES (1)", &[])
+    tx.execute("INSERT INTO schema (number) VALUES (2)", &[])
 }
 
-/// Makes the tables of schema 1 in a database that has none, without rows but the one with the schema's number.
+/// Makes the tables of schema 2 in a database that has none, without rows but the one with the schema's number.
 pub fn make_tables<S: Alter>(tx: &mut Transaction<'_, S>) -> Result<(), Error>
     ensures same_reference { tx.new.conn.ghost_name ≡ tx.old.conn.ghost_name }
     ensures makes { HasCleanDisk (state S.Store tx.new.conn.now) → HasMade no_schema (state S.Store tx.old.conn.now) →
@@ -134,29 +163,7 @@ pub fn make_tables<S: Alter>(tx: &mut Transaction<'_, S>) -> Result<(), Error>
     make_orders(tx)?;
     make_pallets(tx)?;
     make_messages(tx)?;
+    make_parties(tx)?;
     put_number(tx)?;
     Ok(())
-}
-
-/// Makes the tables in one transaction, in a database that has none: all of them, or at an error none.
-pub fn make_schema<S: Alter>(conn: &mut Connection<S>) -> Result<(), Error>
-    requires { (state S.Store conn.old).in_transaction ≡ false }
-    ensures mode { (state S.Store conn.new).in_transaction ≡ false }
-    ensures clean { HasCleanDisk (state S.Store conn.new) → HasCleanDisk (state S.Store conn.old) }
-    ensures done { HasCleanDisk (state S.Store conn.new) → (state S.Store conn.old).now.schema ≡ no_schema →
-        OnOk result (IsTrue (state S.Store conn.new).is_open × IsHub (state S.Store conn.new)
-        × (tables_in (state S.Store conn.new).now.trees ≡ empty)) }
-    ensures durable { HasCleanDisk (state S.Store conn.new) →
-        OnOk result ((trees : Trees) → (state S.Store conn.new).may_leave trees →
-        trees ≡ (state S.Store conn.new).now.trees) }
-    ensures kept { HasCleanDisk (state S.Store conn.new) → (state S.Store conn.old).now.schema ≡ no_schema →
-        IsTrue (state S.Store conn.new).is_open →
-        OnErr result (ShowsTheSame (state S.Store conn.old) (state S.Store conn.new)) }
-    ensures crash { Survives (state S.Store conn.old) (state S.Store conn.new)
-        (λ trees. (state S.Store conn.old).now.schema ≡ no_schema → IsNewHub trees) }
-{
-    let _idle = conn.is_autocommit();
-    let mut tx = conn.transaction();
-    make_tables(&mut tx)?;
-    tx.commit()
 }

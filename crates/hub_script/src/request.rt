@@ -2,7 +2,8 @@
 use crate::fault::ScriptFault;
 use crate::script::{Script, Words};
 use edi_base::copied;
-use hub_core::{Request, read_cancel};
+use gs1_ids::Prefix;
+use hub_core::{Join, Request, read_cancel};
 use std::alloc::Global;
 
 // The number of a mailbox entry.
@@ -37,6 +38,26 @@ fn cancel(
     }
 }
 
+// Company prefixes, each parted from the next by a comma.
+fn prefixes_of(alloc: Global, word: &[u8]) -> Result<Vec<Prefix>, ScriptFault> {
+    let mut prefixes = Vec::new(alloc);
+    for text in word.split(|byte| *byte == b',') {
+        let prefix = Prefix::parse(text).ok_or(ScriptFault::Line)?;
+        prefixes.push(prefix).map_err(|_| ScriptFault::Memory)?;
+    }
+    Ok(prefixes)
+}
+
+fn join(alloc: Global, words: &mut Words<'_>) -> Result<Option<Request>, ScriptFault> {
+    let supplier = words.next_gln().ok_or(ScriptFault::Line)?;
+    let key = words.next_word();
+    let prefixes = prefixes_of(alloc, words.next_word())?;
+    match Join::new(alloc, supplier, key, prefixes.as_slice())? {
+        Some(join) => Ok(Some(Request::Join(join))),
+        None => Err(ScriptFault::Line),
+    }
+}
+
 /// The request of a line that begins with this word; none for another word.
 pub fn request_of(
     alloc: Global,
@@ -52,6 +73,7 @@ pub fn request_of(
         b"status" => Ok(Some(Request::Status)),
         b"status-of" => status_of(words),
         b"cancel" => cancel(alloc, words, script),
+        b"join" => join(alloc, words),
         _ => Ok(None),
     }
 }

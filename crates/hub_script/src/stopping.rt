@@ -1,10 +1,16 @@
 //! Files in memory that fail from some call on, as where the machine stops, and come back from that.
-ghost use Rattle.std.specs.Prelude.{IsTrue};
+ghost use Rattle.std.specs.Prelude.{◌≡◌, false, None, IfOk, IsTrue};
+ghost use Rattle.hub_sql.specs.Stored.{content, honest};
+ghost use Rattle.hub_tables.specs.Register.{HoldsRegister};
 
-use crate::opening::Opener;
+use crate::opening::{Opener, hub_over};
+use hub_core::Hub;
+use hub_register::Register;
+use hub_schema::is_no_schema;
 use hub_sql::{Returned, SqliteStore};
 use hub_store::StoreFault;
-use sqlite::{Connection, Options};
+use hub_trial::TrialStore;
+use sqlite::{Alter, Connection, Options};
 use sqlite_disk::{Crash, Files, Fuse, Memory};
 use sqlite_store::FileStore;
 use std::alloc::Global;
@@ -59,21 +65,20 @@ fn options() -> Options {
     options
 }
 
-// The store of these files.
-fn opened<D: Stopping>(
+// The store over a connection: with the rows that it has, or founded with those of a register where it has no tables.
+fn held<A: Alter + Drop>(
     alloc: Global,
-    files: Files<D>,
-) -> Result<SqliteStore<FileStore<D>>, (Files<D>, StoreFault)>
-    requires log { IsTrue (D.Disk.is_usable files.log) }
-    requires db { IsTrue (D.Disk.is_usable files.db) }
+    conn: Connection<A>,
+    register: &Register,
+) -> Result<SqliteStore<A>, (Returned<A>, StoreFault)>
+    requires idle { conn.in_transaction ≡ false }
+    requires unlimited { conn.step_limit ≡ None }
+    ensures { IfOk result (λ store. honest A.Store store → HoldsRegister (content A.Store store)) }
 {
-    let conn = match Connection::open_files(alloc, files, options()) {
-        Ok(conn) => conn,
-        Err((_, left)) => return Err((left.into_files(), StoreFault::Disk)),
-    };
-    match SqliteStore::adopt(alloc, conn) {
-        Ok(store) => Ok(store),
-        Err((back, fault)) => Err((returned(back), fault)),
+    if is_no_schema(conn.schema()) {
+        SqliteStore::found(alloc, conn, register)
+    } else {
+        SqliteStore::adopt(alloc, conn)
     }
 }
 
@@ -94,12 +99,23 @@ impl<D: Stopping> StoppingFiles<D> {
 }
 
 impl<D: Stopping> Opener<SqliteStore<FileStore<D>>> for StoppingFiles<D> {
-    fn open(&mut self, rt: &HostRuntime) -> Result<SqliteStore<FileStore<D>>, StoreFault> {
+    fn open(
+        &mut self,
+        rt: &HostRuntime,
+        register: &Register,
+    ) -> Result<SqliteStore<FileStore<D>>, StoreFault> {
         let files = self.next_files(rt.alloc());
-        match opened(rt.alloc(), files) {
+        let conn = match Connection::open_files(rt.alloc(), files, options()) {
+            Ok(conn) => conn,
+            Err((_, left)) => {
+                self.left = Some(left.into_files());
+                return Err(StoreFault::Disk);
+            }
+        };
+        match held(rt.alloc(), conn, register) {
             Ok(store) => Ok(store),
-            Err((files, fault)) => {
-                self.left = Some(files);
+            Err((back, fault)) => {
+                self.left = Some(returned(back));
                 Err(fault)
             }
         }
@@ -108,9 +124,21 @@ impl<D: Stopping> Opener<SqliteStore<FileStore<D>>> for StoppingFiles<D> {
     fn again(
         &mut self,
         rt: &HostRuntime,
+        register: Register,
         store: SqliteStore<FileStore<D>>,
-    ) -> Result<SqliteStore<FileStore<D>>, StoreFault> {
+    ) -> Result<Hub<TrialStore<SqliteStore<FileStore<D>>>>, StoreFault> {
+        self.take_back(store);
+        let store = self.open(rt, &register)?;
+        match hub_over(rt.alloc(), store) {
+            Ok(hub) => Ok(hub),
+            Err((store, fault)) => {
+                self.take_back(store.into_store());
+                Err(fault)
+            }
+        }
+    }
+
+    fn take_back(&mut self, store: SqliteStore<FileStore<D>>) {
         self.left = Some(store.into_connection().into_store().close());
-        self.open(rt)
     }
 }

@@ -1,4 +1,7 @@
 //! A hub that is tried by a script.
+ghost use Rattle.std.specs.Prelude.{◌≡◌};
+ghost use Rattle.hub_tables.specs.Register.{HoldsRegister};
+
 use crate::command::Command;
 use crate::fault::ScriptFault;
 use crate::opening::Opener;
@@ -36,7 +39,7 @@ pub struct Trial<S: Store + Drop, O: Opener<S>> {
     quiet: bool,
 }
 
-// How a store fails, at the call after so many others.
+// How a store fails, at the call after so many others, of which the one that gives its register is none.
 #[derive(Clone, Copy)]
 enum Failure {
     Memory(u64),
@@ -57,11 +60,17 @@ fn failure_of(words: &mut Words<'_>) -> Result<Option<Failure>, ScriptFault> {
     }
 }
 
-fn store_of<S: Store>(plain: S, failure: Option<Failure>) -> TrialStore<S> {
+fn store_of<S: Store>(plain: S, failure: Option<Failure>) -> TrialStore<S>
+    ensures { result.0 ≡ plain }
+{
     match failure {
         None => TrialStore::new(plain),
-        Some(Failure::Memory(calls)) => TrialStore::failing(plain, calls, StoreFault::Memory),
-        Some(Failure::Disk(calls)) => TrialStore::failing(plain, calls, StoreFault::Disk),
+        Some(Failure::Memory(calls)) => {
+            TrialStore::failing(plain, calls.saturating_add(1), StoreFault::Memory)
+        }
+        Some(Failure::Disk(calls)) => {
+            TrialStore::failing(plain, calls.saturating_add(1), StoreFault::Disk)
+        }
     }
 }
 
@@ -194,7 +203,7 @@ impl<S: Store + Drop, O: Opener<S>> Trial<S, O> {
         }
     }
 
-    // A hub, by the text of its register, over its store as it is opened anew.
+    // A hub, over its store as it is opened anew, or founded with the register of the text.
     fn make_hub<W: Sink>(
         &mut self,
         rt: &HostRuntime,
@@ -203,24 +212,34 @@ impl<S: Store + Drop, O: Opener<S>> Trial<S, O> {
         out: &mut W,
     ) -> Result<(), ScriptFault> {
         let register = register_of(self.alloc, payload(words, script)?)?;
+        let failure = failure_of(words)?;
         // a file is opened once at a time
         self.hub = None;
-        match self.opener.open(rt) {
-            Ok(plain) => self.set_hub(register, plain, failure_of(words)),
+        match self.opener.open(rt, &register) {
+            Ok(plain) => self.set_hub(plain, failure, out),
             Err(fault) => write_fault(self.alloc, fault, out),
         }
     }
 
-    // The hub of this register over a store that fails in this way.
-    fn set_hub(
+    // The hub of a store that was opened, and fails in this way.
+    fn set_hub<W: Sink>(
         &mut self,
-        register: Register,
         plain: S,
-        failure: Result<Option<Failure>, ScriptFault>,
-    ) -> Result<(), ScriptFault> {
-        let store = store_of(plain, failure?);
-        self.hub = Some(Hub::new(self.alloc, register, store));
-        Ok(())
+        failure: Option<Failure>,
+        out: &mut W,
+    ) -> Result<(), ScriptFault>
+        requires { S.honest plain → HoldsRegister (S.content plain) }
+    {
+        match Hub::new(self.alloc, store_of(plain, failure)) {
+            Ok(hub) => {
+                self.hub = Some(hub);
+                Ok(())
+            }
+            Err((store, fault)) => {
+                self.opener.take_back(store.into_store());
+                write_fault(self.alloc, fault, out)
+            }
+        }
     }
 
     // Who asks from now on, and when.
@@ -300,8 +319,11 @@ impl<S: Store + Drop, O: Opener<S>> Trial<S, O> {
             return Err(ScriptFault::Line);
         };
         let (register, store) = hub.into_store();
-        match self.opener.again(rt, store.into_store()) {
-            Ok(plain) => self.set_hub(register, plain, Ok(None)),
+        match self.opener.again(rt, register, store.into_store()) {
+            Ok(hub) => {
+                self.hub = Some(hub);
+                Ok(())
+            }
             Err(fault) => write_fault(self.alloc, fault, out),
         }
     }
@@ -313,7 +335,7 @@ impl<S: Store + Drop, O: Opener<S>> Trial<S, O> {
         };
         let (register, store) = hub.into_store();
         let (look_ups, commits) = (store.look_ups(), store.commits());
-        self.hub = Some(Hub::new(self.alloc, register, store));
+        self.hub = Some(Hub::with_register(self.alloc, register, store));
         write_counts(self.alloc, look_ups, commits, out)
     }
 }

@@ -1,7 +1,7 @@
 //! Connections served one after another.
 ghost use Rattle.std.specs.Prelude.{◌≡◌, IsTrue, [], OnErr, OnOk};
-ghost use Rattle.hub_core.specs.Steps.{Ran};
-ghost use Rattle.hub_rules.specs.Sound.{Sound};
+ghost use Rattle.hub_core.specs.Steps.{Ran, SoundWith};
+ghost use Rattle.hub_http.specs.Answer.{StaysSound};
 ghost use Rattle.hub_serve.specs.Connections.{known};
 ghost use Rattle.hub_serve.specs.One.{ServesNext, DoesTo};
 ghost use Rattle.hub_serve.specs.Serve.{Serves, Stops};
@@ -34,6 +34,7 @@ fn serve_next<L: Connections, S: Store, M: Moments>(
         (L.coming connections.old) (L.coming connections.new) []) }
     ensures going { OnOk result ((L.failed connections.new ≡ L.failed connections.old)
         × (M.failed moments.new ≡ M.failed moments.old)) }
+    ensures held { StaysSound S.content S.honest hub.old hub.new }
     ensures register { hub.new.0 ≡ hub.old.0 }
     ensures was_honest { S.honest hub.new.1 → S.honest hub.old.1 }
 {
@@ -65,13 +66,14 @@ pub fn serve_on<L: Connections, S: Store, M: Moments, W: Sink>(
     out: &mut W,
 ) -> u8
     ensures served { Serves
-        (λ inputs replies. S.honest hub.new.1 → Sound hub.old.0.suppliers (S.content hub.old.1) →
-        Ran hub.old.0 (S.content hub.old.1) (S.content hub.new.1) (S.left hub.old.1) (S.left hub.new.1) inputs replies)
+        (λ inputs replies. S.honest hub.new.1 → SoundWith hub.old.0 (S.content hub.old.1) →
+        Ran (S.content hub.old.1) (S.content hub.new.1) (S.left hub.old.1) (S.left hub.new.1) inputs replies)
         hub.old.0 (known (L.coming connections.old) (L.closed connections.old) (M.coming moments.old))
         (known (L.coming connections.new) (L.closed connections.new) (M.coming moments.new))
         ((L.failed connections.new ≡ L.failed connections.old) × (M.failed moments.new ≡ M.failed moments.old))
         (IsTrue (L.failed connections.new)) (IsTrue (M.failed moments.new)) count
         (W.contents out.old) (W.contents out.new) (W.failed out.old) (W.failed out.new) result }
+    ensures held { StaysSound S.content S.honest hub.old hub.new }
     ensures register { hub.new.0 ≡ hub.old.0 }
     ensures was_honest { S.honest hub.new.1 → S.honest hub.old.1 }
 {

@@ -4,3 +4,4 @@ pub mod Looking
 pub mod Moving
 pub mod Reopening
 pub mod Sparing
+pub mod Unopened

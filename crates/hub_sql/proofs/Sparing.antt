@@ -10,8 +10,11 @@ use Rattle.sql_rows.proofs.Transactions.{clean_before}
 use Rattle.hub_store.specs.declared.fault.StoreFault.{StoreFault}
 use Rattle.hub_looks.specs.Numbered.{TellsNumber}
 use Rattle.hub_schema.specs.Schema.{no_schema, hub_schema}
-use Rattle.hub_schema.specs.State.{IsUndone, IsNewHub, ShowsTheSame, Spares}
-use Rattle.hub_sql.specs.Opening.{LeftAfter, SparesConnection, SparesStore, IsAsBefore}
+use Rattle.hub_parties.specs.Rows.{RegisterRows}
+use Rattle.hub_tables.specs.Register.{founded}
+use Rattle.hub_tables.specs.Tables.{Tables}
+use Rattle.hub_schema.specs.State.{IsUndone, FoundsTo, LooksFor, ShowsTheSame, Spares}
+use Rattle.hub_sql.specs.Opening.{LeftAfter, MayBeFounded, SparesConnection, SparesStore, IsAsBefore}
 
 module _ {S : Type 0} (g : Ghosts S) where
   -- where it is not shut, an idle connection shows what is committed
@@ -25,12 +28,12 @@ module _ {S : Type 0} (g : Ghosts S) where
     shown (inl same) up = (same.rows ∙ settled (sym same.is_open ∙ up), same.rows)
     shown (inr back) up = (back.rows up, back.rows up ∙ sym (settled (back.was_open up)))
 
-    pub spared_so : {P : Trees → Type 0} → Survives (state g was) (state g new) P
-        → (HasCleanDisk (state g new) → (trees : Trees) → P trees → LeftAfter (state g was) trees)
+    pub spared_so : {P : Trees → Type 0} (MayBe : Trees → Type 0) → Survives (state g was) (state g new) P
+        → (HasCleanDisk (state g new) → (trees : Trees) → P trees → LeftAfter MayBe (state g was) trees)
         → (HasCleanDisk (state g new) → IsTrue (state g new).is_open
         → ShowsTheSame (state g was) (state g new) ⊎ IsUndone (state g was) (state g new))
-        → SparesConnection g (state g was) new
-    spared_so {P} survives more shows = record {
+        → SparesConnection g MayBe (state g was) new
+    spared_so {P} MayBe survives more shows = record {
       idle = idle;
       limit = survives.limit;
       clean = clean_before (state g was) (state g new) P survives;
@@ -48,14 +51,23 @@ module _ {S : Type 0} (g : Ghosts S) where
 
   -- the schema's number was read, or was not
   pub spared_number : (was new : Held S) (r : Result Bool StoreFault) → IsSettled was → was.in_transaction ≡ false
-      → TellsNumber (state g was) (state g new) r → SparesConnection g (state g was) new
+      → TellsNumber (state g was) (state g new) r → SparesConnection g (λ _. ⊥) (state g was) new
   spared_number was new r settled idle it =
-      spared_so was new settled (it.mode idle) it.crash (λ _ trees none. absurd none)
+      spared_so was new settled (it.mode idle) (λ _. ⊥) it.crash (λ _ trees none. absurd none)
+      (λ clean up. either_way (state g was) (state g new) r (it.leaves clean))
+
+  -- its rows were looked up
+  pub spared_looked : {X : Type 0} (says : Tables → X → Type 0) (spoilt : Tables → Type 0) (was new : Held S)
+      (r : Result X StoreFault) → IsSettled was → was.in_transaction ≡ false
+      → LooksFor says spoilt (state g was) (state g new) r → SparesConnection g (λ _. ⊥) (state g was) new
+  spared_looked says spoilt was new r settled idle it =
+      spared_so was new settled (it.mode idle) (λ _. ⊥) it.crash (λ _ trees none. absurd none)
       (λ clean up. either_way (state g was) (state g new) r (it.leaves clean))
 
   -- it is the connection that it was
-  pub spared_itself : (h : Held S) → IsSettled h → h.in_transaction ≡ false → SparesConnection g (state g h) h
-  spared_itself h settled idle = record {
+  pub spared_itself : (MayBe : Trees → Type 0) (h : Held S) → IsSettled h → h.in_transaction ≡ false
+      → SparesConnection g MayBe (state g h) h
+  spared_itself MayBe h settled idle = record {
     idle = idle;
     limit = refl;
     clean = λ clean. clean;
@@ -64,17 +76,15 @@ module _ {S : Type 0} (g : Ghosts S) where
     crash = λ clean trees left. inl left;
   }
 
-  -- the making of the tables failed
-  pub spared_bare : (was new : Held S) → IsSettled was → new.in_transaction ≡ false
+  -- the founding failed
+  pub spared_bare : (register : RegisterRows) (was new : Held S) (fault : StoreFault) → IsSettled was
       → (HasCleanDisk (state g was) → was.schema ≡ no_schema)
-      → Survives (state g was) (state g new) (λ trees. was.schema ≡ no_schema → IsNewHub trees)
-      → (HasCleanDisk (state g new) → was.schema ≡ no_schema → IsTrue (state g new).is_open
-      → ShowsTheSame (state g was) (state g new))
-      → SparesConnection g (state g was) new
-  spared_bare was new settled idle bare survives kept =
-      let none = λ (clean : HasCleanDisk (state g new)). bare (clean_before (state g was) (state g new) _ survives clean) in
-      spared_so was new settled idle survives (λ clean trees made. inr (inr (none clean, made (none clean))))
-      (λ clean up. inl (kept clean (none clean) up))
+      → FoundsTo (was.schema ≡ no_schema) (founded register) (state g was) (state g new) (Err fault)
+      → SparesConnection g (MayBeFounded register (state g was)) (state g was) new
+  spared_bare register was new fault settled bare it =
+      let none = λ (clean : HasCleanDisk (state g new)). bare (clean_before (state g was) (state g new) _ it.crash clean) in
+      spared_so was new settled it.mode (MayBeFounded register (state g was)) it.crash
+      (λ clean trees made. inr (inr (none clean, made (none clean)))) (λ clean up. inl (it.kept clean (none clean) up))
 
   -- it was taken apart, which undoes what was not committed
   pub spared_below : (conn : Held S) (store : S) → IsRolledBack (g.view conn.store) (g.view store)
@@ -108,25 +118,28 @@ module _ {S : Type 0} (g : Ghosts S) where
     crash = λ clean trees left. (before (it.clean clean)).crash trees (it.crash clean trees left);
   }
 
-  -- it was opened anew, and lists other tables
-  pub spared_anew : (was : State) (mid conn : Held S) → was.now.schema ≡ hub_schema
+  -- it was opened anew, and comes back after that
+  pub spared_anew : (was : State) (mid conn back : Held S) → was.now.schema ≡ hub_schema
       → (HasCleanDisk (state g mid) → IsAsBefore was (state g mid)) → (HasCleanDisk (state g mid) → HasCleanDisk was)
       → (HasCleanDisk (state g conn) → HasCleanDisk (state g mid))
       → (HasCleanDisk (state g conn) → (state g conn).now.trees ≡ (state g mid).committed.trees)
-      → conn.in_transaction ≡ false → conn.step_limit ≡ was.step_limit
+      → conn.step_limit ≡ was.step_limit
       → (HasCleanDisk (state g conn) → Opens (state g conn))
       → ((db : Trees) → IsTrue (state g conn).is_open → (state g conn).may_leave db → db ≡ (state g conn).committed.trees)
-      → SparesConnection g was conn
-  spared_anew was mid conn hub before early between rows idle limit opens law =
-      let same = λ (clean : HasCleanDisk (state g conn)). rows clean
+      → SparesConnection g (λ _. ⊥) (state g conn) back → SparesConnection g (λ _. ⊥) was back
+  spared_anew was mid conn back hub before early between rows limit opens law it =
+      let same : HasCleanDisk (state g conn) → (state g conn).committed.trees ≡ was.committed.trees =
+      λ (clean : HasCleanDisk (state g conn)). ap (λ d. d.trees) (sym (opens clean).clean) ∙ rows clean
       ∙ ap (λ d. d.trees) (before (between clean)).committed in
       record {
-        idle = idle;
-        limit = limit;
-        clean = λ clean. early (between clean);
-        rows = λ clean up. same clean;
+        idle = it.idle;
+        limit = it.limit ∙ limit;
+        clean = λ clean. early (between (it.clean clean));
+        rows = λ clean up. it.rows clean up ∙ same (it.clean clean);
         schema = λ clean up. inr hub;
-        crash = λ clean trees left.
-            let it = opens clean in
-            inr (inl (law trees it.is_open left ∙ ap (λ d. d.trees) (sym it.clean) ∙ same clean));
+        crash = λ clean trees left. elim (it.crash clean trees left) [
+          | inl before ↦ inr (inl (law trees (opens (it.clean clean)).is_open before ∙ same (it.clean clean)))
+          | inr (inl committed) ↦ inr (inl (committed ∙ same (it.clean clean)))
+          | inr (inr never) ↦ absurd never
+        ];
       }

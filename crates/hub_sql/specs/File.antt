@@ -10,7 +10,8 @@ use Rattle.sqlite_store.specs.declared.store.FileStore.{FileStore}
 use Rattle.sqlite_wal.specs.Recovery.{Image}
 use Rattle.hub_store.specs.declared.fault.StoreFault.{StoreFault}
 use Rattle.hub_store.specs.declared.fault.StoreFault.TheVariants.{Memory, Disk}
-use Rattle.hub_sql.specs.Opening.{Adopts, Refuses}
+use Rattle.hub_parties.specs.Rows.{RegisterRows}
+use Rattle.hub_sql.specs.Opening.{Adopts, Founds, Refuses, RefusesFounding}
 use Rattle.hub_sql.specs.Stored.{Stored}
 use Rattle.hub_sql.specs.declared.file.LeftOfFile.{LeftOfFile}
 use Rattle.hub_sql.specs.declared.file.LeftOfFile.TheVariants.{Nothing, Files, Returned}
@@ -26,12 +27,29 @@ module _ {D : Type 0} {g : disk.Ghosts D} where
   AdoptsFiles image store =
       (conn : Held (FileStore D g)) × IsOver image conn × Adopts over_files (file_state conn) store
 
-  -- With a fault: nothing comes back, and only which fault it may be is said; or the files come back, which could not be
-  -- read, and what is left of them is what they held, as the kit has it; or such a connection, as `adopt` gives it.
-  abbrev pub LeavesFile : (Pair D → Type 0) → Image → StoreFault → LeftOfFile D g → Type 0
-  LeavesFile IsFresh image fault Nothing = (fault ≡ Memory) ⊎ (fault ≡ Disk)
-  LeavesFile IsFresh image fault (Files left) =
+  -- the store of such a connection, as `found` makes it
+  abbrev pub FoundsFiles : RegisterRows → Image → Stored (FileStore D g) → Type 0
+  FoundsFiles register image store =
+      (conn : Held (FileStore D g)) × IsOver image conn × Founds over_files register (file_state conn) store
+
+  -- Where no database was opened: nothing comes back, and only which fault it may be is said; or the files come back,
+  -- which could not be read, and what is left of them is what they held, as the kit has it.
+  abbrev pub LeavesUnopened : (Pair D → Type 0) → StoreFault → LeftOfFile D g → Type 0
+  LeavesUnopened IsFresh fault Nothing = (fault ≡ Memory) ⊎ (fault ≡ Disk)
+  LeavesUnopened IsFresh fault (Files left) =
       ((fault ≡ Memory) ⊎ (fault ≡ Disk))
       × ((files : Pair D) × IsFresh files × (IsCleanLeft left → LeavesFiles files left))
+  LeavesUnopened IsFresh fault (Returned back) = ⊥
+
+  -- with a fault: the same; or a connection of such files, as `adopt` gives it
+  abbrev pub LeavesFile : (Pair D → Type 0) → Image → StoreFault → LeftOfFile D g → Type 0
   LeavesFile IsFresh image fault (Returned back) =
       (conn : Held (FileStore D g)) × IsOver image conn × Refuses over_files (file_state conn) back fault
+  LeavesFile IsFresh image fault left = LeavesUnopened IsFresh fault left
+
+  -- or as `found` gives it
+  abbrev pub LeavesUnfounded : (Pair D → Type 0) → RegisterRows → Image → StoreFault → LeftOfFile D g → Type 0
+  LeavesUnfounded IsFresh register image fault (Returned back) =
+      (conn : Held (FileStore D g)) × IsOver image conn
+      × RefusesFounding over_files register (file_state conn) back fault
+  LeavesUnfounded IsFresh register image fault left = LeavesUnopened IsFresh fault left

@@ -8,13 +8,16 @@ ghost use Rattle.hub_tables.specs.Tables.{Tables};
 ghost use Rattle.hub_schema.specs.Rows.{tables_in};
 ghost use Rattle.hub_schema.specs.Schema.{hub_schema};
 ghost use Rattle.hub_schema.specs.State.{AreOrdered, IsNumbered, IsHub};
+ghost use Rattle.hub_founding.specs.Founding.{HoldsNone};
+ghost use Rattle.hub_tables.specs.Register.{HoldsRegister};
 ghost use Rattle.hub_sql.specs.Opening.{Adopts, Refuses, HoldsHub, IsAsBefore, SparesConnection, SparesStore};
 ghost use Rattle.hub_sql.specs.Stored.{content, left, honest};
 
-use crate::opening::{fault_by, found};
+use crate::opening::fault_by;
+use crate::returned::Returned;
 use crate::store::SqliteStore;
-use hub_looks::is_numbered;
-use hub_schema::{is_hub_schema, is_no_schema};
+use hub_looks::{is_numbered, register};
+use hub_schema::is_hub_schema;
 use hub_store::StoreFault;
 use sqlite::{Alter, Connection};
 use sqlite_trees::store::Shape;
@@ -29,7 +32,8 @@ fn is_table<S: Alter>(store: &S, tree: u32) -> bool
 
 // Whether each of the hub's tables stands there.
 fn has_tables<S: Alter>(store: &S) -> bool
-    ensures { IsTrue result → AllByRecursion (λ tree. (S.Store.view store.now).shape tree ≡ shape.Table) (0 ∷ 1 ∷ 3 ∷ 5 ∷ 7 ∷ 10 ∷ 12 ∷ 14 ∷ 16 ∷ []) }
+    ensures { IsTrue result → AllByRecursion (λ tree. (S.Store.view store.now).shape tree ≡ shape.Table)
+        (0 ∷ 1 ∷ 3 ∷ 5 ∷ 7 ∷ 10 ∷ 12 ∷ 14 ∷ 16 ∷ 18 ∷ 20 ∷ 22 ∷ []) }
 {
     is_table(store, 0)
         && is_table(store, 1)
@@ -40,6 +44,9 @@ fn has_tables<S: Alter>(store: &S) -> bool
         && is_table(store, 12)
         && is_table(store, 14)
         && is_table(store, 16)
+        && is_table(store, 18)
+        && is_table(store, 20)
+        && is_table(store, 22)
 }
 
 // The connection again, once what is below it has told that it is whole, and that the hub's tables stand there.
@@ -68,16 +75,7 @@ fn reopened<S: Alter + Drop>(
     }
 }
 
-/// A connection that is given back with a fault; or what was below it, where the fault came while it was opened anew.
-#[derive(Drop)]
-pub enum Returned<S: Alter> {
-    /// The connection. With `Version` it is as it was.
-    Connection(Connection<S>),
-    /// What was below it. `Connection::over` opens it again.
-    Store(S),
-}
-
-// The connection, where its tables are the hub's and their number is 1.
+// The connection, where its tables are the hub's and their number is 2.
 fn of_this_version<S: Alter + Drop>(
     mut conn: Connection<S>,
 ) -> Result<Connection<S>, (Connection<S>, StoreFault)>
@@ -90,7 +88,7 @@ fn of_this_version<S: Alter + Drop>(
     ensures refuses { IfErr result (λ e. e.1 ≡ StoreFault.Version → HasCleanDisk (state S.Store e.0) → ¬ HoldsHub (state S.Store conn).now × IsAsBefore (state S.Store conn) (state S.Store e.0)) }
     ensures other { IfErr result (λ e. conn.schema ≢ hub_schema → e.1 ≡ StoreFault.Version) }
     ensures unclean { IfErr result (λ e. e.1 ≢ StoreFault.Unclean) }
-    ensures spared { IfErr result (λ e. SparesConnection S.Store (state S.Store conn) e.0) }
+    ensures spared { IfErr result (λ e. SparesConnection S.Store (λ _. ⊥) (state S.Store conn) e.0) }
 {
     let _was_idle = conn.is_autocommit();
     if !is_hub_schema(conn.schema()) {
@@ -106,33 +104,75 @@ fn of_this_version<S: Alter + Drop>(
     }
 }
 
-// The store of a connection that was opened again, where it still lists the hub's tables.
+// The fault of a look-up: it has none of opening.
+fn look_fault(fault: StoreFault) -> StoreFault
+    ensures opened { result ≢ StoreFault.Version }
+    ensures unclean { result ≡ StoreFault.Unclean → fault ≡ StoreFault.Unclean }
+{
+    match fault {
+        StoreFault::Memory => StoreFault::Memory,
+        StoreFault::Unclean => StoreFault::Unclean,
+        StoreFault::Disk | StoreFault::Version => StoreFault::Disk,
+    }
+}
+
+// The store of a connection that has the hub's tables, where its rows hold a register.
+fn judged<S: Alter + Drop>(
+    alloc: Global,
+    mut conn: Connection<S>,
+) -> Result<SqliteStore<S>, (Connection<S>, StoreFault)>
+    requires idle { conn.in_transaction ≡ false }
+    requires hub { HasCleanDisk (state S.Store conn) → IsHub (state S.Store conn) }
+    ensures whole { IfOk result (λ store. store.fault ≡ None) }
+    ensures rows { IfOk result (λ store. honest S.Store store → content S.Store store ≡ tables_in (state S.Store conn).now.trees) }
+    ensures register { IfOk result (λ store. honest S.Store store → HoldsRegister (tables_in (state S.Store conn).now.trees)) }
+    ensures crash { IfOk result (λ store. honest S.Store store → (t : Tables) → left S.Store store t → t ≡ content S.Store store) }
+    ensures clean { IfOk result (λ store. honest S.Store store → HasCleanDisk (state S.Store conn)) }
+    ensures opened { IfErr result (λ e. e.1 ≢ StoreFault.Version) }
+    ensures unclean { IfErr result (λ e. e.1 ≡ StoreFault.Unclean → HasCleanDisk (state S.Store e.0) → HoldsNone (tables_in (state S.Store conn).now.trees)) }
+    ensures spared { IfErr result (λ e. SparesConnection S.Store (λ _. ⊥) (state S.Store conn) e.0) }
+{
+    let _was_idle = conn.is_autocommit();
+    match register(&mut conn, alloc) {
+        Ok(Some(_register)) => {
+            let _idle = conn.is_autocommit();
+            Ok(SqliteStore::settled(alloc, conn))
+        }
+        Ok(None) => Err((conn, StoreFault::Unclean)),
+        Err(fault) => Err((conn, look_fault(fault))),
+    }
+}
+
+// The store of a connection that was opened again, where it still lists the hub's tables and its rows hold a register.
 fn numbered<S: Alter + Drop>(
     alloc: Global,
     conn: Connection<S>,
-) -> Result<SqliteStore<S>, (Returned<S>, StoreFault)>
+) -> Result<SqliteStore<S>, (Connection<S>, StoreFault)>
     requires idle { conn.in_transaction ≡ false }
     requires ordered { HasCleanDisk (state S.Store conn) → AreOrdered (state S.Store conn).now.trees }
     requires number { HasCleanDisk (state S.Store conn) → IsNumbered (state S.Store conn).now.trees }
     requires opened { HasCleanDisk (state S.Store conn) → Opens (state S.Store conn) × IsLive (state S.Store conn) }
     ensures whole { IfOk result (λ store. store.fault ≡ None) }
     ensures rows { IfOk result (λ store. honest S.Store store → content S.Store store ≡ tables_in (state S.Store conn).now.trees) }
+    ensures register { IfOk result (λ store. honest S.Store store → HoldsRegister (tables_in (state S.Store conn).now.trees)) }
     ensures crash { IfOk result (λ store. honest S.Store store → (t : Tables) → left S.Store store t → t ≡ content S.Store store) }
     ensures clean { IfOk result (λ store. honest S.Store store → HasCleanDisk (state S.Store conn)) }
-    ensures fails { IfErr result (λ e. (e.0 ≡ Returned.Connection conn) × (e.1 ≡ StoreFault.Disk)) }
+    ensures opened { IfErr result (λ e. e.1 ≢ StoreFault.Version) }
+    ensures unclean { IfErr result (λ e. e.1 ≡ StoreFault.Unclean → HasCleanDisk (state S.Store e.0) → HoldsNone (tables_in (state S.Store conn).now.trees)) }
+    ensures spared { IfErr result (λ e. SparesConnection S.Store (λ _. ⊥) (state S.Store conn) e.0) }
 {
+    let _was_idle = conn.is_autocommit();
     if !is_hub_schema(conn.schema()) {
-        return Err((Returned::Connection(conn), StoreFault::Disk));
+        return Err((conn, StoreFault::Disk));
     }
-    let _idle = conn.is_autocommit();
-    Ok(SqliteStore::settled(alloc, conn))
+    judged(alloc, conn)
 }
 
 impl<S: Alter + Drop> SqliteStore<S> {
-    /// Takes over a connection in which no transaction is open and no statement is limited. A database without tables
-    /// gets those of schema 1. `Version` where it has other tables, or another number of the schema, and only there;
-    /// the connection that comes back with it is as it was. With any other fault no row is lost that was committed.
-    /// `Unclean` never comes: a row that is none of the kinds shows when it is looked up.
+    /// Takes over a connection in which no transaction is open and no statement is limited, with the hub that is in it.
+    /// `Version` where it has no tables, others than a hub's or another number of the schema, and only there; the
+    /// connection that comes back with it is as it was. `Unclean` where its rows hold no register; a row of another kind
+    /// that is none shows when it is looked up. With any fault no row is lost that was committed.
     pub fn adopt(
         alloc: Global,
         conn: Connection<S>,
@@ -142,19 +182,17 @@ impl<S: Alter + Drop> SqliteStore<S> {
         ensures adopts { IfOk result (Adopts S.Store (state S.Store conn)) }
         ensures refuses { IfErr result (λ e. Refuses S.Store (state S.Store conn) e.0 e.1) }
     {
-        if is_no_schema(conn.schema()) {
-            return match found(alloc, conn) {
-                Ok(store) => Ok(store),
-                Err((conn, fault)) => Err((Returned::Connection(conn), fault)),
-            };
-        }
         let conn = match of_this_version(conn) {
             Ok(conn) => conn,
             Err((conn, fault)) => return Err((Returned::Connection(conn), fault)),
         };
-        match reopened(alloc, conn) {
-            Ok(conn) => numbered(alloc, conn),
-            Err((fault, store)) => Err((Returned::Store(store), fault)),
+        let conn = match reopened(alloc, conn) {
+            Ok(conn) => conn,
+            Err((fault, store)) => return Err((Returned::Store(store), fault)),
+        };
+        match numbered(alloc, conn) {
+            Ok(store) => Ok(store),
+            Err((conn, fault)) => Err((Returned::Connection(conn), fault)),
         }
     }
 

@@ -3,9 +3,11 @@ ghost use Rattle.std.specs.Prelude.{false};
 ghost use Rattle.std.proofs.Common.{inl, refl};
 ghost use Rattle.std.proofs.lemmas.Bool.{false≢true};
 
+use crate::register::held_register;
 use crate::store::{SqliteStore, again, settle};
 use edi_base::Items;
 use gs1_ids::{Gln, Sscc};
+use hub_register::Register;
 use hub_store::{LastingFault, MailHead, Store, StoreFault};
 use hub_tables::{Change, ContentRow, LineRow, MailRow, PalletRow, ReceiptRow, Side};
 use sqlite::Alter;
@@ -31,6 +33,14 @@ impl<S: Alter> Store for SqliteStore<S> {
 
     fn fault(&self) -> Option<LastingFault> {
         self.fault
+    }
+
+    fn register(&mut self) -> Result<Register, StoreFault> {
+        if let Some(lasting) = self.fault {
+            return Err(again(lasting));
+        }
+        let found = held_register(&mut self.conn, self.alloc);
+        settle(found, self.conn.schema(), &mut self.fault)
     }
 
     fn remembered(

@@ -1,12 +1,13 @@
 //! Stores of files.
-ghost use Rattle.std.specs.Prelude.{true, false, IfOk, IfErr};
+ghost use Rattle.std.specs.Prelude.{◌≡◌, true, false, None, IfOk, IfErr};
 ghost use Rattle.sqlite_std_file.specs.File.{IsFresh};
 ghost use Rattle.sqlite_wal.specs.Files.{image_at};
-ghost use Rattle.hub_sql.specs.File.{AdoptsFiles, LeavesFile};
+ghost use Rattle.hub_sql.specs.File.{AdoptsFiles, FoundsFiles, IsOver, LeavesFile, LeavesUnfounded, LeavesUnopened};
 
-use crate::adopting::Returned;
 use crate::opening::fault_by;
+use crate::returned::Returned;
 use crate::store::SqliteStore;
+use hub_register::Register;
 use hub_store::StoreFault;
 use sqlite::{Connection, Leftover};
 use sqlite_disk::{Disk, Start};
@@ -27,10 +28,28 @@ pub enum LeftOfFile<D: Disk + Drop> {
     Returned(Returned<FileStore<D>>),
 }
 
+// The connection of a file, which is made where there is none.
+fn open_file<S: Start>(
+    rt: &HostRuntime,
+    path: &str,
+    start: S,
+) -> Result<Connection<FileStore<FileFrom<S>>>, (StoreFault, LeftOfFile<FileFrom<S>>)>
+    ensures over { IfOk result (IsOver (image_at S.Start)) }
+    ensures idle { IfOk result (λ conn. (conn.in_transaction ≡ false) × (conn.step_limit ≡ None)) }
+    ensures leaves { IfErr result (λ e. LeavesUnopened (λ files. IsFresh true files.log × IsFresh false files.db) e.0 e.1) }
+{
+    match Connection::open_from(rt, path, NEW_HAS_SUMS, start) {
+        Ok(conn) => Ok(conn),
+        Err((error, None)) => Err((fault_by(&error), LeftOfFile::Nothing)),
+        Err((error, Some(left))) => Err((fault_by(&error), LeftOfFile::Files(left))),
+    }
+}
+
 impl<S: Start> SqliteStore<FileStore<FileFrom<S>>> {
-    /// Opens the file, or makes it, with a log beside it. `Disk` also where another program has it open, or where it is
-    /// no database; `Version` where it has other tables than a hub's; never `Unclean`. No committed row is lost with a
-    /// fault, and what is left comes with it. `start` says what a crash may have done to the file.
+    /// Opens the hub in a file, with a log beside it. `Disk` also where another program has it open, or where it is no
+    /// database; `Version` where it has no tables or others than a hub's, also where there was no file, which is made
+    /// then, and empty; `Unclean` where its rows hold no register. No committed row is lost with a fault, and what is left
+    /// comes with it. `start` says what a crash may have done to the file.
     pub fn at_path(
         rt: &HostRuntime,
         path: &str,
@@ -40,12 +59,28 @@ impl<S: Start> SqliteStore<FileStore<FileFrom<S>>> {
         ensures leaves { IfErr result (λ e.
             LeavesFile (λ files. IsFresh true files.log × IsFresh false files.db) (image_at S.Start) e.0 e.1) }
     {
-        let conn = match Connection::open_from(rt, path, NEW_HAS_SUMS, start) {
-            Ok(conn) => conn,
-            Err((error, None)) => return Err((fault_by(&error), LeftOfFile::Nothing)),
-            Err((error, Some(left))) => return Err((fault_by(&error), LeftOfFile::Files(left))),
-        };
+        let conn = open_file(rt, path, start)?;
         match SqliteStore::adopt(rt.alloc(), conn) {
+            Ok(store) => Ok(store),
+            Err((back, fault)) => Err((fault, LeftOfFile::Returned(back))),
+        }
+    }
+
+    /// Founds a hub in a file, which is made where there is none, with the rows of the register alone, as `found` does.
+    /// `Version` where it has tables; `Disk` also where another program has it open, or where it is no
+    /// database. No committed row is lost with a fault, and what is left comes with it.
+    pub fn found_at(
+        rt: &HostRuntime,
+        path: &str,
+        start: S,
+        register: &Register,
+    ) -> Result<Self, (StoreFault, LeftOfFile<FileFrom<S>>)>
+        ensures founds { IfOk result (FoundsFiles register.now (image_at S.Start)) }
+        ensures leaves { IfErr result (λ e.
+            LeavesUnfounded (λ files. IsFresh true files.log × IsFresh false files.db) register.now (image_at S.Start) e.0 e.1) }
+    {
+        let conn = open_file(rt, path, start)?;
+        match SqliteStore::found(rt.alloc(), conn, register) {
             Ok(store) => Ok(store),
             Err((back, fault)) => Err((fault, LeftOfFile::Returned(back))),
         }

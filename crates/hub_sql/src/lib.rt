@@ -5,8 +5,10 @@ mod adopting;
 mod calls;
 mod file;
 mod opening;
+mod register;
+mod returned;
 mod store;
 
-pub use adopting::Returned;
 pub use file::LeftOfFile;
+pub use returned::Returned;
 pub use store::SqliteStore;

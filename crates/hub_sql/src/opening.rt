@@ -5,13 +5,20 @@ ghost use Rattle.sqlite.specs.State.{HasCleanDisk};
 ghost use Rattle.sqlite.specs.Steps.{over_memory};
 ghost use Rattle.hub_schema.specs.Faults.{fault_of};
 ghost use Rattle.hub_schema.specs.Schema.{no_schema};
-ghost use Rattle.hub_tables.specs.Tables.{Tables, empty};
-ghost use Rattle.hub_sql.specs.Opening.{SparesConnection};
+ghost use Rattle.hub_parties.specs.Rows.{IsRegister};
+ghost use Rattle.hub_tables.specs.Register.{HoldsRegister, founded};
+ghost use Rattle.hub_tables.specs.Tables.{Tables};
+ghost use Rattle.hub_sql.specs.Opening.{Founds, MayBeFounded, RefusesFounding, SparesConnection};
 ghost use Rattle.hub_sql.specs.Stored.{content, left, honest};
 
+use crate::returned::Returned;
 use crate::store::SqliteStore;
-use hub_schema::make_schema;
+use hub_founding::register_changes;
+use hub_register::Register;
+use hub_schema::is_no_schema;
 use hub_store::StoreFault;
+use hub_tables::founded_tables_hold_their_register;
+use hub_writes::found;
 use sqlite::{Alter, Connection, Error, ErrorCode};
 use sqlite_trees::memory::MemStore;
 use std::alloc::Global;
@@ -27,42 +34,86 @@ pub(crate) fn fault_by(error: &Error) -> StoreFault
     }
 }
 
-/// A store without rows, in a database without tables.
-pub(crate) fn found<S: Alter + Drop>(
+// The fault of a founding: rows that are none of the kinds do not come, as it begins with none.
+fn laying_fault(fault: StoreFault) -> StoreFault
+    ensures { (result ≡ StoreFault.Memory) ⊎ (result ≡ StoreFault.Disk) }
+{
+    match fault {
+        StoreFault::Memory => StoreFault::Memory,
+        StoreFault::Disk | StoreFault::Unclean | StoreFault::Version => StoreFault::Disk,
+    }
+}
+
+// A store with the rows of a register alone, in a database without tables.
+fn laid<S: Alter + Drop>(
     alloc: Global,
     mut conn: Connection<S>,
+    register: &Register,
 ) -> Result<SqliteStore<S>, (Connection<S>, StoreFault)>
     requires idle { conn.in_transaction ≡ false }
     requires bare { HasCleanDisk (state S.Store conn) → conn.schema ≡ no_schema }
     ensures whole { IfOk result (λ store. store.fault ≡ None) }
-    ensures rows { IfOk result (λ store. honest S.Store store → content S.Store store ≡ empty) }
-    ensures crash { IfOk result (λ store. honest S.Store store → (t : Tables) → left S.Store store t → t ≡ empty) }
+    ensures rows { IfOk result (λ store. honest S.Store store → content S.Store store ≡ founded register.now) }
+    ensures crash { IfOk result (λ store. honest S.Store store → (t : Tables) → left S.Store store t → t ≡ content S.Store store) }
     ensures clean { IfOk result (λ store. honest S.Store store → HasCleanDisk (state S.Store conn)) }
+    ensures register { IsRegister register.now }
     ensures fails { IfErr result (λ e. (e.1 ≡ StoreFault.Memory) ⊎ (e.1 ≡ StoreFault.Disk)) }
-    ensures spared { IfErr result (λ e. SparesConnection S.Store (state S.Store conn) e.0) }
+    ensures spared { IfErr result (λ e. SparesConnection S.Store (MayBeFounded register.now (state S.Store conn)) (state S.Store conn) e.0) }
 {
     let _idle = conn.is_autocommit();
-    match make_schema(&mut conn) {
+    let _hub = register.hub();
+    let Ok(changes) = register_changes(alloc, register) else {
+        return Err((conn, StoreFault::Memory));
+    };
+    match found(&mut conn, changes.as_slice()) {
         Ok(()) => Ok(SqliteStore::settled(alloc, conn)),
-        Err(error) => {
-            let fault = fault_by(&error);
-            Err((conn, fault))
+        Err(fault) => Err((conn, laying_fault(fault))),
+    }
+}
+
+impl<S: Alter + Drop> SqliteStore<S> {
+    /// Founds a hub in a connection in which no transaction is open and no statement is limited: its tables, with the
+    /// rows of the register alone, in one transaction. `Version` where it has tables, and only there; the connection that
+    /// comes back with it is as it was. With any fault no row is lost that was committed.
+    pub fn found(
+        alloc: Global,
+        conn: Connection<S>,
+        register: &Register,
+    ) -> Result<SqliteStore<S>, (Returned<S>, StoreFault)>
+        requires idle { conn.in_transaction ≡ false }
+        requires unlimited { conn.step_limit ≡ None }
+        ensures founds { IfOk result (Founds S.Store register.now (state S.Store conn)) }
+        ensures refuses { IfErr result (λ e. RefusesFounding S.Store register.now (state S.Store conn) e.0 e.1) }
+    {
+        let _was_idle = conn.is_autocommit();
+        founded_tables_hold_their_register();
+        if !is_no_schema(conn.schema()) {
+            return Err((Returned::Connection(conn), StoreFault::Version));
+        }
+        match laid(alloc, conn, register) {
+            Ok(store) => Ok(store),
+            Err((conn, fault)) => Err((Returned::Connection(conn), fault)),
         }
     }
 }
 
 impl SqliteStore<MemStore> {
-    /// A store in memory, without rows; or `Memory`, or `Disk`, for which memory has no cause.
-    pub fn in_memory(alloc: Global) -> Result<SqliteStore<MemStore>, StoreFault>
+    /// A store in memory, with the rows of the register alone; or `Memory`, or `Disk`, for which memory has no cause.
+    pub fn in_memory(
+        alloc: Global,
+        register: &Register,
+    ) -> Result<SqliteStore<MemStore>, StoreFault>
         ensures whole { IfOk result (λ store. store.fault ≡ None) }
-        ensures rows { IfOk result (λ store. content over_memory store ≡ empty) }
-        ensures crash { IfOk result (λ store. (t : Tables) → left over_memory store t → t ≡ empty) }
+        ensures rows { IfOk result (λ store. content over_memory store ≡ founded register.now) }
+        ensures register { IfOk result (λ store. HoldsRegister (content over_memory store)) }
+        ensures crash { IfOk result (λ store. (t : Tables) → left over_memory store t → t ≡ founded register.now) }
         ensures fails { IfErr result (λ fault. (fault ≡ StoreFault.Memory) ⊎ (fault ≡ StoreFault.Disk)) }
     {
+        founded_tables_hold_their_register();
         let Ok(conn) = Connection::open_in_memory(alloc) else {
             return Err(StoreFault::Memory);
         };
-        match found(alloc, conn) {
+        match laid(alloc, conn, register) {
             Ok(store) => Ok(store),
             Err((_conn, fault)) => Err(fault),
         }

@@ -1,5 +1,5 @@
 -- Rows of each kind within their limits and just past them, and cells that no row of the code has.
-use Rattle.std.proofs.Common.{◌≡◌, ℕ, true, false, List, [], ◌∷◌, codes, refl}
+use Rattle.std.proofs.Common.{◌≡◌, ℕ, true, false, List, [], ◌∷◌, ◌++◌, codes, refl}
 use Rattle.std.specs.List.{list_all, list_any}
 use Rattle.gs1_ids.specs.Digits.{is_key}
 use Rattle.gs1_ids.specs.Gln.{is_gln}
@@ -9,6 +9,9 @@ use Rattle.hub_tables.specs.declared.cases.Answered.TheVariants.{Waiting, Accept
 use Rattle.hub_tables.specs.declared.cases.Side.TheVariants.{Retailer, Supplier, Cancellation}
 use Rattle.hub_tables.specs.declared.cases.MailKind.TheVariants.{Orders, Receipt}
 use Rattle.hub_tables.specs.declared.cases.Arrival.TheVariants.{Announced, Received}
+use Rattle.hub_tables.specs.declared.rows.HubRow.{HubRow}
+use Rattle.hub_tables.specs.declared.rows.KeyRow.{KeyRow}
+use Rattle.hub_tables.specs.declared.rows.PrefixRow.{PrefixRow}
 use Rattle.hub_tables.specs.declared.rows.OrderRow.{OrderRow}
 use Rattle.hub_tables.specs.declared.rows.LineRow.{LineRow}
 use Rattle.hub_tables.specs.declared.rows.AdviceRow.{AdviceRow}
@@ -17,6 +20,7 @@ use Rattle.hub_tables.specs.declared.rows.ContentRow.{ContentRow}
 use Rattle.hub_tables.specs.declared.rows.ReceiptRow.{ReceiptRow}
 use Rattle.hub_tables.specs.declared.rows.RememberedRow.{RememberedRow}
 use Rattle.hub_tables.specs.declared.rows.MailRow.{MailRow}
+use Rattle.hub_store.specs.Clean.{clean_hub, clean_key, clean_prefix}
 use Rattle.hub_store.specs.Clean.{clean_order, clean_line, clean_advice, clean_pallet, clean_content, clean_receipt}
 use Rattle.hub_store.specs.Clean.{clean_remembered, clean_mail, are_clean}
 
@@ -68,6 +72,38 @@ text_as_a_key = refl
 module _ (gln no_gln item no_item sscc no_sscc : List ℕ)
     (right_g : is_gln gln ≡ true) (wrong_g : is_gln no_gln ≡ false) (right_i : is_key 14 item ≡ true)
     (wrong_i : is_key 14 no_item ≡ false) (right_s : is_key 18 sscc ≡ true) (wrong_s : is_key 18 no_sscc ≡ false) where
+  abbrev hub : HubRow
+  hub = record { hub = gln; retailer = gln; key = codes "retail-key" }
+
+  hubs_within : clean_hub hub ≡ true
+  hubs_within = simp (right_g) refl
+
+  hubs_past :
+      list_any clean_hub (
+      record hub { hub = no_gln } ∷ record hub { retailer = no_gln } ∷ record hub { key = codes "short" } ∷ []) ≡ false
+  hubs_past = simp (right_g, wrong_g) refl
+
+  abbrev key : KeyRow
+  key = record { supplier = gln; key = codes "alpha-key-1" }
+
+  keys_within : clean_key key ≡ true
+  keys_within = simp (right_g) refl
+
+  keys_past : list_any clean_key (record key { supplier = no_gln } ∷ record key { key = bytes_14 ++ 32 ∷ [] } ∷ []) ≡ false
+  keys_past = simp (right_g, wrong_g) refl
+
+  abbrev prefix : PrefixRow
+  prefix = record { prefix = codes "40123455"; supplier = gln }
+
+  prefixes_within : clean_prefix prefix ≡ true
+  prefixes_within = simp (right_g) refl
+
+  prefixes_past :
+      list_any clean_prefix (
+      record prefix { supplier = no_gln } ∷ record prefix { prefix = codes "401" } ∷ record prefix { prefix = codes "401x" }
+      ∷ record prefix { prefix = codes "4012345678901" } ∷ []) ≡ false
+  prefixes_past = simp (right_g, wrong_g) refl
+
   abbrev order : OrderRow
   order = record { supplier = gln; number = codes "128576" }
 
@@ -231,6 +267,9 @@ module _ (gln no_gln item no_item sscc no_sscc : List ℕ)
   -- one row of each kind
   abbrev tables : Tables
   tables = record {
+    hubs = hub ∷ [];
+    keys = key ∷ [];
+    prefixes = prefix ∷ [];
     orders = order ∷ [];
     lines = line ∷ [];
     advices = advice ∷ [];
@@ -247,7 +286,10 @@ module _ (gln no_gln item no_item sscc no_sscc : List ℕ)
   -- one row behind a clean one is not, of each kind in turn
   tables_not_clean :
       list_any are_clean (
-      record tables { orders = order ∷ record order { number = [] } ∷ [] }
+      record tables { hubs = hub ∷ record hub { key = [] } ∷ [] }
+      ∷ record tables { keys = key ∷ record key { key = [] } ∷ [] }
+      ∷ record tables { prefixes = prefix ∷ record prefix { prefix = [] } ∷ [] }
+      ∷ record tables { orders = order ∷ record order { number = [] } ∷ [] }
       ∷ record tables { lines = line ∷ record line { line = 0 } ∷ [] }
       ∷ record tables { advices = advice ∷ record advice { number = [] } ∷ [] }
       ∷ record tables { pallets = pallet ∷ record pallet { received = 2 } ∷ [] }

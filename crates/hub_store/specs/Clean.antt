@@ -10,12 +10,17 @@ use Rattle.edi_envelope.specs.Mail.{last_number}
 use Rattle.edi_moment.specs.Moment.{last_moment}
 use Rattle.gs1_ids.specs.Digits.{is_key}
 use Rattle.gs1_ids.specs.Gln.{is_gln}
+use Rattle.gs1_ids.specs.Prefix.{is_prefix}
+use Rattle.hub_parties.specs.Key.{is_party_key}
 use Rattle.hub_tables.specs.Cases.{answer_letter, side_letter, kind_letter, arrival_number, truth_number}
 use Rattle.hub_tables.specs.Tables.{Tables}
 use Rattle.hub_tables.specs.declared.cases.Answered.TheVariants as answers
 use Rattle.hub_tables.specs.declared.cases.Side.TheVariants as sides
 use Rattle.hub_tables.specs.declared.cases.MailKind.TheVariants as kinds
 use Rattle.hub_tables.specs.declared.cases.Arrival.TheVariants as arrivals
+use Rattle.hub_tables.specs.declared.rows.HubRow.{HubRow}
+use Rattle.hub_tables.specs.declared.rows.KeyRow.{KeyRow}
+use Rattle.hub_tables.specs.declared.rows.PrefixRow.{PrefixRow}
 use Rattle.hub_tables.specs.declared.rows.OrderRow.{OrderRow}
 use Rattle.hub_tables.specs.declared.rows.LineRow.{LineRow}
 use Rattle.hub_tables.specs.declared.rows.AdviceRow.{AdviceRow}
@@ -69,6 +74,15 @@ is_message side bytes = if side == side_letter sides.Cancellation then length by
 
 -- Rows.
 
+abbrev pub clean_hub : HubRow → Bool
+clean_hub row = is_gln row.hub && (is_gln row.retailer && is_party_key row.key)
+
+abbrev pub clean_key : KeyRow → Bool
+clean_key row = is_gln row.supplier && is_party_key row.key
+
+abbrev pub clean_prefix : PrefixRow → Bool
+clean_prefix row = is_prefix row.prefix && is_gln row.supplier
+
 abbrev pub clean_order : OrderRow → Bool
 clean_order row = is_gln row.supplier && is_number row.number
 
@@ -113,6 +127,7 @@ clean_head head = is_within 1 last_number head.number && (is_kind head.kind && i
 -- each row is of its kind
 abbrev pub are_clean : Tables → Bool
 are_clean t =
-    list_all clean_order t.orders && (list_all clean_line t.lines && (list_all clean_advice t.advices
+    list_all clean_hub t.hubs && (list_all clean_key t.keys && (list_all clean_prefix t.prefixes
+    && (list_all clean_order t.orders && (list_all clean_line t.lines && (list_all clean_advice t.advices
     && (list_all clean_pallet t.pallets && (list_all clean_content t.contents && (list_all clean_receipt t.receipts
-    && (list_all clean_remembered t.remembered && list_all clean_mail t.mail))))))
+    && (list_all clean_remembered t.remembered && list_all clean_mail t.mail)))))))))

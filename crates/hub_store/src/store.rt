@@ -1,5 +1,6 @@
 //! What every store answers.
 ghost use Rattle.std.specs.Prelude.{◌≡◌, ◌≢◌, ◌≤◌, IsTrue, IsOk, IfOk, Bool, [], length, map, take, Option};
+ghost use Rattle.hub_tables.specs.Register.{HoldsRegister, register_of};
 ghost use Rattle.hub_tables.specs.State.{knows_order, knows_advice, lines_of, pallet_of, contents_of, receipts_of, entry_at, untaken_after};
 ghost use Rattle.hub_tables.specs.State.{last_mail, remembered_content};
 ghost use Rattle.hub_tables.specs.Tables.{Tables, view, has_pallet};
@@ -11,6 +12,7 @@ use crate::fault::{LastingFault, StoreFault};
 use crate::mail::MailHead;
 use edi_base::Items;
 use gs1_ids::{Gln, Sscc};
+use hub_register::Register;
 use hub_tables::{Change, ContentRow, LineRow, MailRow, PalletRow, ReceiptRow, Side};
 
 /// Where the rows of a hub are kept. Look-ups but `used` are for one supplier: each answers from the rows that this
@@ -41,6 +43,13 @@ pub trait Store {
     /// The fault that each call answers from now on, if there is one.
     fn fault(&self) -> Option<LastingFault>
         ensures { result ≡ broken self.now };
+
+    /// The register that the rows hold. Asked of rows that hold one, as those of each store do that is founded or opened:
+    /// whether they do is judged there, and here once more, since what is below may have changed.
+    fn register(&mut self) -> Result<Register, StoreFault>
+        requires { honest self.old → HoldsRegister (content self.old) }
+        ensures looks { Looks content honest left broken self.old self.new (register_of (content self.old)) result }
+        ensures fails { Fails plain (broken self.old) (broken self.new) result };
 
     /// The content that is remembered of a side under two references; a cancellation has no message reference.
     fn remembered(

@@ -6,11 +6,13 @@ use Rattle.std.specs.declared.cmp.Ordering.{Ordering}
 use Rattle.std.specs.declared.cmp.Ordering.TheVariants.{Less}
 use Rattle.hub_parties.specs.KeyOrder.{put, replace, Rises}
 use Rattle.hub_tables.specs.Change.{apply, apply_all}
+use Rattle.hub_tables.specs.Rows.{hub_cmp, key_cmp, prefix_cmp}
 use Rattle.hub_tables.specs.Rows.{order_cmp, line_cmp, advice_cmp, pallet_cmp, content_cmp, receipt_cmp, remembered_cmp}
 use Rattle.hub_tables.specs.Rows.{mail_cmp, same_line, same_pallet, same_mail}
 use Rattle.hub_tables.specs.Sets.{Rising}
 use Rattle.hub_tables.specs.Tables.{Tables}
 use Rattle.hub_tables.specs.declared.change.Change.{Change}
+use Rattle.hub_tables.specs.declared.change.Change.TheVariants.{AddHub, AddKey, AddPrefix}
 use Rattle.hub_tables.specs.declared.change.Change.TheVariants.{AddOrder, AddLine, SetLine, AddAdvice, AddPallet}
 use Rattle.hub_tables.specs.declared.change.Change.TheVariants.{SetPallet, AddContent, AddReceipt, Remember, AddMail}
 use Rattle.hub_tables.specs.declared.change.Change.TheVariants.{SetMail}
@@ -54,7 +56,49 @@ module _ {X : Type 0} (cmp : X → X → Ordering) (at : X → Bool) (r : X) (al
   rises_replace_back (x ∷ xs) h = (below_back x xs h.0, rises_replace_back xs h.1)
 
 pub rising_back : (c : Change) (t : Tables) → Rising (apply c t) → Rising t
+rising_back (AddHub r) t h = record {
+  hubs = rises_put_back hub_cmp r t.hubs h.hubs;
+  keys = h.keys;
+  prefixes = h.prefixes;
+  orders = h.orders;
+  lines = h.lines;
+  advices = h.advices;
+  pallets = h.pallets;
+  contents = h.contents;
+  receipts = h.receipts;
+  remembered = h.remembered;
+  mail = h.mail;
+}
+rising_back (AddKey r) t h = record {
+  hubs = h.hubs;
+  keys = rises_put_back key_cmp r t.keys h.keys;
+  prefixes = h.prefixes;
+  orders = h.orders;
+  lines = h.lines;
+  advices = h.advices;
+  pallets = h.pallets;
+  contents = h.contents;
+  receipts = h.receipts;
+  remembered = h.remembered;
+  mail = h.mail;
+}
+rising_back (AddPrefix r) t h = record {
+  hubs = h.hubs;
+  keys = h.keys;
+  prefixes = rises_put_back prefix_cmp r t.prefixes h.prefixes;
+  orders = h.orders;
+  lines = h.lines;
+  advices = h.advices;
+  pallets = h.pallets;
+  contents = h.contents;
+  receipts = h.receipts;
+  remembered = h.remembered;
+  mail = h.mail;
+}
 rising_back (AddOrder r) t h = record {
+  hubs = h.hubs;
+  keys = h.keys;
+  prefixes = h.prefixes;
   orders = rises_put_back order_cmp r t.orders h.orders;
   lines = h.lines;
   advices = h.advices;
@@ -65,6 +109,9 @@ rising_back (AddOrder r) t h = record {
   mail = h.mail;
 }
 rising_back (AddLine r) t h = record {
+  hubs = h.hubs;
+  keys = h.keys;
+  prefixes = h.prefixes;
   orders = h.orders;
   lines = rises_put_back line_cmp r t.lines h.lines;
   advices = h.advices;
@@ -75,6 +122,9 @@ rising_back (AddLine r) t h = record {
   mail = h.mail;
 }
 rising_back (AddAdvice r) t h = record {
+  hubs = h.hubs;
+  keys = h.keys;
+  prefixes = h.prefixes;
   orders = h.orders;
   lines = h.lines;
   advices = rises_put_back advice_cmp r t.advices h.advices;
@@ -85,6 +135,9 @@ rising_back (AddAdvice r) t h = record {
   mail = h.mail;
 }
 rising_back (AddPallet r) t h = record {
+  hubs = h.hubs;
+  keys = h.keys;
+  prefixes = h.prefixes;
   orders = h.orders;
   lines = h.lines;
   advices = h.advices;
@@ -95,6 +148,9 @@ rising_back (AddPallet r) t h = record {
   mail = h.mail;
 }
 rising_back (AddContent r) t h = record {
+  hubs = h.hubs;
+  keys = h.keys;
+  prefixes = h.prefixes;
   orders = h.orders;
   lines = h.lines;
   advices = h.advices;
@@ -105,6 +161,9 @@ rising_back (AddContent r) t h = record {
   mail = h.mail;
 }
 rising_back (AddReceipt r) t h = record {
+  hubs = h.hubs;
+  keys = h.keys;
+  prefixes = h.prefixes;
   orders = h.orders;
   lines = h.lines;
   advices = h.advices;
@@ -115,6 +174,9 @@ rising_back (AddReceipt r) t h = record {
   mail = h.mail;
 }
 rising_back (Remember r) t h = record {
+  hubs = h.hubs;
+  keys = h.keys;
+  prefixes = h.prefixes;
   orders = h.orders;
   lines = h.lines;
   advices = h.advices;
@@ -125,6 +187,9 @@ rising_back (Remember r) t h = record {
   mail = h.mail;
 }
 rising_back (AddMail r) t h = record {
+  hubs = h.hubs;
+  keys = h.keys;
+  prefixes = h.prefixes;
   orders = h.orders;
   lines = h.lines;
   advices = h.advices;
@@ -135,6 +200,9 @@ rising_back (AddMail r) t h = record {
   mail = rises_put_back mail_cmp r t.mail h.mail;
 }
 rising_back (SetLine r) t h = record {
+  hubs = h.hubs;
+  keys = h.keys;
+  prefixes = h.prefixes;
   orders = h.orders;
   lines = rises_replace_back line_cmp (same_line r) r
       (line_set r) t.lines h.lines;
@@ -146,6 +214,9 @@ rising_back (SetLine r) t h = record {
   mail = h.mail;
 }
 rising_back (SetPallet r) t h = record {
+  hubs = h.hubs;
+  keys = h.keys;
+  prefixes = h.prefixes;
   orders = h.orders;
   lines = h.lines;
   advices = h.advices;
@@ -156,6 +227,9 @@ rising_back (SetPallet r) t h = record {
   mail = h.mail;
 }
 rising_back (SetMail r) t h = record {
+  hubs = h.hubs;
+  keys = h.keys;
+  prefixes = h.prefixes;
   orders = h.orders;
   lines = h.lines;
   advices = h.advices;

@@ -7,11 +7,13 @@ use Rattle.std.proofs.lemmas.Bool.{and_parts}
 use Rattle.std.proofs.lemmas.Bool.Decides.{nat_tests}
 use Rattle.std.proofs.lemmas.Cmp.{on_total, then_total, nat_cmp_total, nat_list_cmp_total}
 use Rattle.hub_parties.specs.KeyOrder.{bytes_cmp}
+use Rattle.hub_tables.specs.Rows.{hub_cmp, key_cmp, prefix_cmp}
 use Rattle.hub_tables.specs.Rows.{same, order_cmp, line_cmp, advice_cmp, pallet_cmp, content_cmp, receipt_cmp}
 use Rattle.hub_tables.specs.Rows.{remembered_cmp, mail_cmp, same_line, same_pallet, same_mail}
 use Rattle.hub_tables.specs.Tables.{Tables, Ordered}
 use Rattle.hub_tables.specs.Change.{apply}
 use Rattle.hub_tables.specs.declared.change.Change.{Change}
+use Rattle.hub_tables.specs.declared.change.Change.TheVariants.{AddHub, AddKey, AddPrefix}
 use Rattle.hub_tables.specs.declared.change.Change.TheVariants.{AddOrder, AddLine, SetLine, AddAdvice, AddPallet, SetPallet}
 use Rattle.hub_tables.specs.declared.change.Change.TheVariants.{AddContent, AddReceipt, Remember, AddMail, SetMail}
 use Rattle.hub_tables.specs.declared.rows.LineRow.{LineRow}
@@ -19,6 +21,15 @@ use Rattle.hub_tables.specs.declared.rows.PalletRow.{PalletRow}
 use Rattle.hub_tables.specs.declared.rows.MailRow.{MailRow}
 use Rattle.hub_tables.proofs.Lists.{same_is}
 use Rattle.hub_tables.proofs.KeyOrder.{in_order_put, in_order_map}
+
+pub hub_total : IsTotalOrder hub_cmp
+hub_total = on_total (λ r. r.hub) nat_list_cmp_total
+
+pub key_total : IsTotalOrder key_cmp
+key_total = on_total (λ r. r.supplier) nat_list_cmp_total
+
+pub prefix_total : IsTotalOrder prefix_cmp
+prefix_total = on_total (λ r. r.prefix) nat_list_cmp_total
 
 pub order_total : IsTotalOrder order_cmp
 order_total = then_total (on_total (λ r. r.supplier) nat_list_cmp_total) (on_total (λ r. r.number) nat_list_cmp_total)
@@ -89,8 +100,53 @@ mail_set r x y =
 
 -- each change keeps the order
 pub ordered_after : (c : Change) (t : Tables) → Ordered t → Ordered (apply c t)
+ordered_after (AddHub r) t o =
+    record {
+      hubs = in_order_put hub_total t.hubs r o.hubs;
+      keys = o.keys;
+      prefixes = o.prefixes;
+      orders = o.orders;
+      lines = o.lines;
+      advices = o.advices;
+      pallets = o.pallets;
+      contents = o.contents;
+      receipts = o.receipts;
+      remembered = o.remembered;
+      mail = o.mail;
+    }
+ordered_after (AddKey r) t o =
+    record {
+      hubs = o.hubs;
+      keys = in_order_put key_total t.keys r o.keys;
+      prefixes = o.prefixes;
+      orders = o.orders;
+      lines = o.lines;
+      advices = o.advices;
+      pallets = o.pallets;
+      contents = o.contents;
+      receipts = o.receipts;
+      remembered = o.remembered;
+      mail = o.mail;
+    }
+ordered_after (AddPrefix r) t o =
+    record {
+      hubs = o.hubs;
+      keys = o.keys;
+      prefixes = in_order_put prefix_total t.prefixes r o.prefixes;
+      orders = o.orders;
+      lines = o.lines;
+      advices = o.advices;
+      pallets = o.pallets;
+      contents = o.contents;
+      receipts = o.receipts;
+      remembered = o.remembered;
+      mail = o.mail;
+    }
 ordered_after (AddOrder r) t o =
     record {
+      hubs = o.hubs;
+      keys = o.keys;
+      prefixes = o.prefixes;
       orders = in_order_put order_total t.orders r o.orders;
       lines = o.lines;
       advices = o.advices;
@@ -102,6 +158,9 @@ ordered_after (AddOrder r) t o =
     }
 ordered_after (AddLine r) t o =
     record {
+      hubs = o.hubs;
+      keys = o.keys;
+      prefixes = o.prefixes;
       orders = o.orders;
       lines = in_order_put line_total t.lines r o.lines;
       advices = o.advices;
@@ -113,6 +172,9 @@ ordered_after (AddLine r) t o =
     }
 ordered_after (SetLine r) t o =
     record {
+      hubs = o.hubs;
+      keys = o.keys;
+      prefixes = o.prefixes;
       orders = o.orders;
       lines = in_order_map line_cmp (λ l. cond (same_line r l) r l) (line_set r) t.lines o.lines;
       advices = o.advices;
@@ -124,6 +186,9 @@ ordered_after (SetLine r) t o =
     }
 ordered_after (AddAdvice r) t o =
     record {
+      hubs = o.hubs;
+      keys = o.keys;
+      prefixes = o.prefixes;
       orders = o.orders;
       lines = o.lines;
       advices = in_order_put advice_total t.advices r o.advices;
@@ -135,6 +200,9 @@ ordered_after (AddAdvice r) t o =
     }
 ordered_after (AddPallet r) t o =
     record {
+      hubs = o.hubs;
+      keys = o.keys;
+      prefixes = o.prefixes;
       orders = o.orders;
       lines = o.lines;
       advices = o.advices;
@@ -146,6 +214,9 @@ ordered_after (AddPallet r) t o =
     }
 ordered_after (SetPallet r) t o =
     record {
+      hubs = o.hubs;
+      keys = o.keys;
+      prefixes = o.prefixes;
       orders = o.orders;
       lines = o.lines;
       advices = o.advices;
@@ -157,6 +228,9 @@ ordered_after (SetPallet r) t o =
     }
 ordered_after (AddContent r) t o =
     record {
+      hubs = o.hubs;
+      keys = o.keys;
+      prefixes = o.prefixes;
       orders = o.orders;
       lines = o.lines;
       advices = o.advices;
@@ -168,6 +242,9 @@ ordered_after (AddContent r) t o =
     }
 ordered_after (AddReceipt r) t o =
     record {
+      hubs = o.hubs;
+      keys = o.keys;
+      prefixes = o.prefixes;
       orders = o.orders;
       lines = o.lines;
       advices = o.advices;
@@ -179,6 +256,9 @@ ordered_after (AddReceipt r) t o =
     }
 ordered_after (Remember r) t o =
     record {
+      hubs = o.hubs;
+      keys = o.keys;
+      prefixes = o.prefixes;
       orders = o.orders;
       lines = o.lines;
       advices = o.advices;
@@ -190,6 +270,9 @@ ordered_after (Remember r) t o =
     }
 ordered_after (AddMail r) t o =
     record {
+      hubs = o.hubs;
+      keys = o.keys;
+      prefixes = o.prefixes;
       orders = o.orders;
       lines = o.lines;
       advices = o.advices;
@@ -201,6 +284,9 @@ ordered_after (AddMail r) t o =
     }
 ordered_after (SetMail r) t o =
     record {
+      hubs = o.hubs;
+      keys = o.keys;
+      prefixes = o.prefixes;
       orders = o.orders;
       lines = o.lines;
       advices = o.advices;

@@ -1,6 +1,10 @@
 pub mod Back
+pub mod Enrolling
+pub mod Founding
+pub mod Freedom
 pub mod KeyOrder
 pub mod KindOrders
 pub mod Lists
+pub mod Members
 pub mod Sets
 pub mod Setting

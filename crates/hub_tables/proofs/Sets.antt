@@ -1,6 +1,5 @@
 -- A set of rows has one list that rises by its key.
 use Rattle.std.proofs.Common.{◌≡◌, inl, inr, List, [], ◌∷◌, refl, sym, ◌∙◌, ap, subst}
-use Rattle.std.specs.List.{AllByRecursion}
 use Rattle.std.specs.declared.cmp.Ordering.{Ordering}
 use Rattle.std.specs.declared.cmp.Ordering.TheVariants.{Less, Equal, Greater}
 use Rattle.std.specs.Ordering.{ordering_reverse}
@@ -9,12 +8,10 @@ use Rattle.std.proofs.lemmas.Cmp.{tied_itself}
 use Rattle.hub_tables.specs.Tables.{Tables}
 use Rattle.hub_parties.specs.KeyOrder.{Rises}
 use Rattle.hub_tables.specs.Sets.{Has, SameSet, Rising, SameRows}
+use Rattle.hub_tables.proofs.Members.{all_of}
+use Rattle.hub_tables.proofs.KindOrders.{hub_total, key_total, prefix_total}
 use Rattle.hub_tables.proofs.KindOrders.{order_total, line_total, advice_total, pallet_total, content_total, receipt_total}
 use Rattle.hub_tables.proofs.KindOrders.{remembered_total, mail_total}
-
-all_has : {X : Type 0} (P : X → Type 0) (xs : List X) (x : X) → AllByRecursion P xs → Has xs x → P x
-all_has P [] x a h = absurd h
-all_has P (y ∷ ys) x a h = elim h [ inl e ↦ subst P (sym e) a.0 | inr g ↦ all_has P ys x a.1 g ]
 
 module _ {X : Type 0} {cmp : X → X → Ordering} (total : IsTotalOrder cmp) where
   not_below_itself : (x : X) → cmp x x ≡ Less → ⊥
@@ -38,18 +35,18 @@ module _ {X : Type 0} {cmp : X → X → Ordering} (total : IsTotalOrder cmp) wh
         | inl e ↦ e
         | inr h ↦ elim (g y (inl refl)) [
           | inl e ↦ sym e
-          | inr k ↦ absurd (not_both_below x y (all_has (λ z. cmp x z ≡ Less) xs y a.0 k) (all_has (λ z. cmp y z ≡ Less) ys x b.0 h))
+          | inr k ↦ absurd (not_both_below x y (all_of (λ z. cmp x z ≡ Less) xs a.0 y k) (all_of (λ z. cmp y z ≡ Less) ys b.0 x h))
         ]
       ] in
       let tails : xs ≡ ys = one_list xs ys a.1 b.1
       (λ z h. elim (f z (inr h)) [
         | inl e ↦ absurd (not_below_itself x
-            (subst (λ v. cmp x v ≡ Less) (e ∙ sym heads) (all_has (λ z. cmp x z ≡ Less) xs z a.0 h)))
+            (subst (λ v. cmp x v ≡ Less) (e ∙ sym heads) (all_of (λ z. cmp x z ≡ Less) xs a.0 z h)))
         | inr k ↦ k
       ])
       (λ z h. elim (g z (inr h)) [
         | inl e ↦ absurd
-            (not_below_itself y (subst (λ v. cmp y v ≡ Less) (e ∙ heads) (all_has (λ z. cmp y z ≡ Less) ys z b.0 h)))
+            (not_below_itself y (subst (λ v. cmp y v ≡ Less) (e ∙ heads) (all_of (λ z. cmp y z ≡ Less) ys b.0 z h)))
         | inr k ↦ k
       ]) in
       λ i. heads i ∷ tails i
@@ -59,6 +56,9 @@ module _ {X : Type 0} {cmp : X → X → Ordering} (total : IsTotalOrder cmp) wh
 
 pub rows_are_one : (t u : Tables) → Rising t → Rising u → SameRows t u → t ≡ u
 rows_are_one t u a b s =
+    let hubs = one_set hub_total t.hubs u.hubs a.hubs b.hubs s.hubs in
+    let keys = one_set key_total t.keys u.keys a.keys b.keys s.keys in
+    let prefixes = one_set prefix_total t.prefixes u.prefixes a.prefixes b.prefixes s.prefixes in
     let orders = one_set order_total t.orders u.orders a.orders b.orders s.orders in
     let lines = one_set line_total t.lines u.lines a.lines b.lines s.lines in
     let advices = one_set advice_total t.advices u.advices a.advices b.advices s.advices in
@@ -68,6 +68,9 @@ rows_are_one t u a b s =
     let remembered = one_set remembered_total t.remembered u.remembered a.remembered b.remembered s.remembered in
     let mail = one_set mail_total t.mail u.mail a.mail b.mail s.mail in
     λ i. record {
+      hubs = hubs i;
+      keys = keys i;
+      prefixes = prefixes i;
       orders = orders i;
       lines = lines i;
       advices = advices i;

@@ -1,15 +1,20 @@
 -- What changes do to tables.
 use Rattle.std.specs.Prelude.{List, [], ◌∷◌}
 use Rattle.hub_parties.specs.KeyOrder.{put, replace}
+use Rattle.hub_tables.specs.Rows.{hub_cmp, key_cmp, prefix_cmp}
 use Rattle.hub_tables.specs.Rows.{order_cmp, line_cmp, advice_cmp, pallet_cmp, content_cmp, receipt_cmp, remembered_cmp}
 use Rattle.hub_tables.specs.Rows.{mail_cmp, same_line, same_pallet, same_mail}
 use Rattle.hub_tables.specs.Tables.{Tables}
 use Rattle.hub_tables.specs.declared.change.Change.{Change}
+use Rattle.hub_tables.specs.declared.change.Change.TheVariants.{AddHub, AddKey, AddPrefix}
 use Rattle.hub_tables.specs.declared.change.Change.TheVariants.{AddOrder, AddLine, SetLine, AddAdvice, AddPallet}
 use Rattle.hub_tables.specs.declared.change.Change.TheVariants.{SetPallet, AddContent, AddReceipt, Remember, AddMail}
 use Rattle.hub_tables.specs.declared.change.Change.TheVariants.{SetMail}
 
 abbrev pub apply : Change → Tables → Tables
+apply (AddHub row) t = record t { hubs = put hub_cmp row t.hubs }
+apply (AddKey row) t = record t { keys = put key_cmp row t.keys }
+apply (AddPrefix row) t = record t { prefixes = put prefix_cmp row t.prefixes }
 apply (AddOrder row) t = record t { orders = put order_cmp row t.orders }
 apply (AddLine row) t = record t { lines = put line_cmp row t.lines }
 apply (SetLine row) t = record t { lines = replace (same_line row) row t.lines }

@@ -1,5 +1,6 @@
 pub mod Cases
 pub mod Change
+pub mod Register
 pub mod Rows
 pub mod Sets
 pub mod State

@@ -1,9 +1,12 @@
--- The rows of the eight kinds: the order of each by its key, and when two have one key.
+-- The rows of the eleven kinds: the order of each by its key, and when two have one key.
 use Rattle.std.specs.Prelude.{ℕ, ◌==◌, Bool, ◌&&◌, List}
 use Rattle.std.specs.Str.{bytes_eq}
 use Rattle.std.specs.declared.cmp.Ordering.{Ordering}
 use Rattle.std.specs.Ordering.{nat_cmp, ordering_then}
 use Rattle.hub_parties.specs.KeyOrder.{bytes_cmp}
+use Rattle.hub_tables.specs.declared.rows.HubRow.{HubRow}
+use Rattle.hub_tables.specs.declared.rows.KeyRow.{KeyRow}
+use Rattle.hub_tables.specs.declared.rows.PrefixRow.{PrefixRow}
 use Rattle.hub_tables.specs.declared.rows.OrderRow.{OrderRow}
 use Rattle.hub_tables.specs.declared.rows.LineRow.{LineRow}
 use Rattle.hub_tables.specs.declared.rows.AdviceRow.{AdviceRow}
@@ -16,6 +19,15 @@ use Rattle.hub_tables.specs.declared.rows.MailRow.{MailRow}
 -- whether two texts are the same
 abbrev pub same : List ℕ → List ℕ → Bool
 same = bytes_eq
+
+abbrev pub hub_cmp : HubRow → HubRow → Ordering
+hub_cmp a b = bytes_cmp a.hub b.hub
+
+abbrev pub key_cmp : KeyRow → KeyRow → Ordering
+key_cmp a b = bytes_cmp a.supplier b.supplier
+
+abbrev pub prefix_cmp : PrefixRow → PrefixRow → Ordering
+prefix_cmp a b = bytes_cmp a.prefix b.prefix
 
 abbrev pub order_cmp : OrderRow → OrderRow → Ordering
 order_cmp a b = ordering_then (bytes_cmp a.supplier b.supplier) (bytes_cmp a.number b.number)

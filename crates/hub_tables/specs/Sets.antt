@@ -1,6 +1,7 @@
 -- Tables as sets of rows.
 use Rattle.std.specs.Prelude.{◌≡◌, ◌⊎◌, List, [], ◌∷◌}
 use Rattle.hub_parties.specs.KeyOrder.{Rises}
+use Rattle.hub_tables.specs.Rows.{hub_cmp, key_cmp, prefix_cmp}
 use Rattle.hub_tables.specs.Rows.{order_cmp, line_cmp, advice_cmp, pallet_cmp, content_cmp, receipt_cmp, remembered_cmp}
 use Rattle.hub_tables.specs.Rows.{mail_cmp}
 use Rattle.hub_tables.specs.Tables.{Tables}
@@ -16,6 +17,9 @@ pub record SameSet {X : Type 0} (xs ys : List X) : Type 0 where
 
 -- each kind rises strictly by its key
 pub record Rising (t : Tables) : Type 0 where
+  pub hubs : Rises hub_cmp t.hubs
+  pub keys : Rises key_cmp t.keys
+  pub prefixes : Rises prefix_cmp t.prefixes
   pub orders : Rises order_cmp t.orders
   pub lines : Rises line_cmp t.lines
   pub advices : Rises advice_cmp t.advices
@@ -27,6 +31,9 @@ pub record Rising (t : Tables) : Type 0 where
 
 -- both have the same rows of each kind
 pub record SameRows (t u : Tables) : Type 0 where
+  pub hubs : SameSet t.hubs u.hubs
+  pub keys : SameSet t.keys u.keys
+  pub prefixes : SameSet t.prefixes u.prefixes
   pub orders : SameSet t.orders u.orders
   pub lines : SameSet t.lines u.lines
   pub advices : SameSet t.advices u.advices

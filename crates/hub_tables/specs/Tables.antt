@@ -3,8 +3,12 @@
 use Rattle.std.specs.Prelude.{ℕ, Bool, ◌&&◌, List, [], filter}
 use Rattle.std.specs.List.{list_any}
 use Rattle.hub_parties.specs.KeyOrder.{InOrder}
+use Rattle.hub_tables.specs.Rows.{hub_cmp, key_cmp, prefix_cmp}
 use Rattle.hub_tables.specs.Rows.{same, order_cmp, line_cmp, advice_cmp, pallet_cmp, content_cmp, receipt_cmp}
 use Rattle.hub_tables.specs.Rows.{remembered_cmp, mail_cmp}
+use Rattle.hub_tables.specs.declared.rows.HubRow.{HubRow}
+use Rattle.hub_tables.specs.declared.rows.KeyRow.{KeyRow}
+use Rattle.hub_tables.specs.declared.rows.PrefixRow.{PrefixRow}
 use Rattle.hub_tables.specs.declared.rows.OrderRow.{OrderRow}
 use Rattle.hub_tables.specs.declared.rows.LineRow.{LineRow}
 use Rattle.hub_tables.specs.declared.rows.AdviceRow.{AdviceRow}
@@ -15,6 +19,9 @@ use Rattle.hub_tables.specs.declared.rows.RememberedRow.{RememberedRow}
 use Rattle.hub_tables.specs.declared.rows.MailRow.{MailRow}
 
 pub record Tables : Type 0 where
+  pub hubs : List HubRow
+  pub keys : List KeyRow
+  pub prefixes : List PrefixRow
   pub orders : List OrderRow
   pub lines : List LineRow
   pub advices : List AdviceRow
@@ -26,6 +33,9 @@ pub record Tables : Type 0 where
 
 -- the rows of each kind are in the order of their keys
 pub record Ordered (t : Tables) : Type 0 where
+  pub hubs : InOrder hub_cmp t.hubs
+  pub keys : InOrder key_cmp t.keys
+  pub prefixes : InOrder prefix_cmp t.prefixes
   pub orders : InOrder order_cmp t.orders
   pub lines : InOrder line_cmp t.lines
   pub advices : InOrder advice_cmp t.advices
@@ -43,9 +53,12 @@ has_pallet t sscc = list_any (λ pallet. same pallet.sscc sscc) t.pallets
 abbrev pub holds : List ℕ → List PalletRow → List ℕ → Bool
 holds supplier pallets sscc = list_any (λ pallet. same pallet.supplier supplier && same pallet.sscc sscc) pallets
 
--- what a supplier sees; contents and receipts are those of its pallets
+-- what a supplier sees: nothing of the hub's row; contents and receipts are those of its pallets
 abbrev pub view : List ℕ → Tables → Tables
 view supplier t = record {
+  hubs = [];
+  keys = filter (λ row. same row.supplier supplier) t.keys;
+  prefixes = filter (λ row. same row.supplier supplier) t.prefixes;
   orders = filter (λ row. same row.supplier supplier) t.orders;
   lines = filter (λ row. same row.supplier supplier) t.lines;
   advices = filter (λ row. same row.supplier supplier) t.advices;
@@ -58,6 +71,9 @@ view supplier t = record {
 
 abbrev pub empty : Tables
 empty = record {
+  hubs = [];
+  keys = [];
+  prefixes = [];
   orders = [];
   lines = [];
   advices = [];

@@ -1,11 +1,18 @@
 //! Changes of rows.
 use crate::rows::{
-    AdviceRow, ContentRow, LineRow, MailRow, OrderRow, PalletRow, ReceiptRow, RememberedRow,
+    AdviceRow, ContentRow, HubRow, KeyRow, LineRow, MailRow, OrderRow, PalletRow, PrefixRow,
+    ReceiptRow, RememberedRow,
 };
 
 /// A row that is added, or that is set in the place of the one that has its key.
 #[derive(Debug, Drop)]
 pub enum Change {
+    /// The hub and its retailer.
+    AddHub(HubRow),
+    /// A new supplier's key.
+    AddKey(KeyRow),
+    /// A company prefix of a new supplier.
+    AddPrefix(PrefixRow),
     /// A new order.
     AddOrder(OrderRow),
     /// A new line of an order.

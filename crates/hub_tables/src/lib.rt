@@ -1,4 +1,4 @@
-//! The tables of a hub: rows of eight kinds in the order of their keys, the changes of them, and what each supplier sees of
+//! The tables of a hub: rows of eleven kinds in the order of their keys, the changes of them, and what each supplier sees of
 //! them.
 #![tactic(auto)]
 
@@ -6,12 +6,15 @@ mod cases;
 mod change;
 mod column;
 mod laws;
+mod register;
 mod rows;
 
 pub use cases::{Answered, Arrival, MailKind, Side};
 pub use change::Change;
 pub use column::{Case, Column};
-pub use laws::rows_are_a_set;
+pub use laws::{founded_tables_hold_their_register, rows_are_a_set};
+pub use register::{put_row_changes, row_changes};
 pub use rows::{
-    AdviceRow, ContentRow, LineRow, MailRow, OrderRow, PalletRow, ReceiptRow, RememberedRow,
+    AdviceRow, ContentRow, HubRow, KeyRow, LineRow, MailRow, OrderRow, PalletRow, PrefixRow,
+    ReceiptRow, RememberedRow,
 };

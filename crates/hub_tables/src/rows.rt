@@ -1,10 +1,40 @@
-//! The rows of the eight kinds. Contracts see texts as lists of numbers and columns of cases as numbers, so that a row of a
+//! The rows of the eleven kinds. Contracts see texts as lists of numbers and columns of cases as numbers, so that a row of a
 //! store can be spoken of that no row here is.
 use crate::cases::{Answered, Arrival, MailKind, Side};
 use crate::column::Column;
 use edi_base::Items;
 use edi_envelope::Moment;
-use gs1_ids::{Gln, Gtin, Sscc};
+use gs1_ids::{Gln, Gtin, Prefix, Sscc};
+use hub_parties::Key;
+
+/// The hub, with its retailer. Key: the hub's GLN.
+#[derive(Debug, Drop)]
+pub struct HubRow {
+    /// The hub's GLN.
+    pub hub: Gln,
+    /// The retailer's GLN.
+    pub retailer: Gln,
+    /// The retailer's key.
+    pub key: Key,
+}
+
+/// A supplier's key. Key of the row: the supplier.
+#[derive(Debug, Drop)]
+pub struct KeyRow {
+    /// The supplier.
+    pub supplier: Gln,
+    /// The key by which it is known to the hub.
+    pub key: Key,
+}
+
+/// A company prefix. Key: the prefix alone, over all suppliers.
+#[derive(Debug, Drop)]
+pub struct PrefixRow {
+    /// The prefix.
+    pub prefix: Prefix,
+    /// The supplier that has it.
+    pub supplier: Gln,
+}
 
 /// An order. Key: supplier and number.
 #[derive(Debug, Drop)]

@@ -8,6 +8,7 @@ ghost use Rattle.hub_store.specs.Clean.{are_clean};
 ghost use Rattle.hub_store.specs.declared.fault.LastingFault.TheVariants as lasting;
 ghost use Rattle.hub_store.specs.declared.fault.StoreFault.TheVariants.{Memory, Disk, Unclean, Version};
 
+use crate::lists::lists;
 use edi_base::{MemoryFault, copied};
 use gs1_ids::Gln;
 use hub_list::VecStore;
@@ -157,8 +158,12 @@ fn assert_trial(
     Ok(())
 }
 
-fn assert_faults(rt: &impl Abort, alloc: Global, supplier: &Gln) -> Result<(), StoreFault> {
-    let mut list = VecStore::new(alloc);
+fn assert_faults(
+    rt: &impl Abort,
+    alloc: Global,
+    mut list: VecStore,
+    supplier: &Gln,
+) -> Result<(), StoreFault> {
     assert_list(rt, alloc, &mut list, supplier)?;
     assert_trial(rt, &mut on_trial(list), supplier)
 }
@@ -166,5 +171,6 @@ fn assert_faults(rt: &impl Abort, alloc: Global, supplier: &Gln) -> Result<(), S
 #[test]
 fn a_fault_for_good_is_told_and_answered_again(rt: HostRuntime) -> Result<(), Fail> {
     let supplier = Gln::parse(b"4012345500004").ok_or("a GLN")?;
-    Ok(assert_faults(&rt, rt.alloc(), &supplier)?)
+    let list = lists(rt.alloc())?;
+    Ok(assert_faults(&rt, rt.alloc(), list, &supplier)?)
 }

@@ -1,27 +1,15 @@
 ghost use Rattle.std.specs.Prelude.{length};
 
+use crate::lists::lists;
 use edi_base::{MemoryFault, ReadFault, Sink, Source, copied};
 use edi_envelope::Moment;
 use gs1_ids::Gln;
 use hub_commands::{Files, NamedFile, NextFile, import_run};
 use hub_core::{Hub, Input, Request};
 use hub_list::VecStore;
-use hub_register::Register;
 use std::alloc::Global;
 use std::io;
 use std::test::Fail;
-
-const REGISTER: &str = "hub = \"5412345000006\"
-
-[retailer]
-gln = \"5412345000013\"
-key = \"retail-key\"
-
-[[supplier]]
-gln = \"4012345500004\"
-prefix = \"40123455\"
-key = \"alpha-key-1\"
-";
 
 const ORDERS: &[u8] =
     b"UNA:+.? 'UNB+UNOC:3+5412345000013:14+5412345000006:14+250603:0915+1001'UNH+1+ORDERS:D:01B:UN:EAN010'BGM+220+128576+9'DTM+137:20250603:102'NAD+BY+5412345000013::9'NAD+SU+4012345500004::9'LIN+1++4000862141404:SRV'QTY+21:48'UNS+S'CNT+2:1'UNT+10+1'UNZ+1+1001'";
@@ -194,8 +182,11 @@ fn import(
 }
 
 fn hub_of_one(alloc: Global) -> Result<Hub<VecStore>, Fail> {
-    let register = Register::from_toml(alloc, REGISTER)?;
-    Ok(Hub::new(alloc, register, VecStore::new(alloc)))
+    let lists = lists(alloc)?;
+    match Hub::new(alloc, lists) {
+        Ok(hub) => Ok(hub),
+        Err((_, fault)) => Err(fault.into()),
+    }
 }
 
 const TOLD_TO_THE_END: &[u8] =

@@ -1,10 +1,15 @@
-//! Tests of the public calls of the register, the tables and the stores, in one crate, so that no crate below is proved twice.
+//! Tests of the public calls of the register, the tables, the stores and the hub, in one crate, so that no crate below is
+//! proved twice.
 #![tactic(auto)]
 
 #[cfg(test)]
 mod faults;
 #[cfg(test)]
 mod import;
+#[cfg(test)]
+mod joins;
+#[cfg(test)]
+mod lists;
 #[cfg(test)]
 mod register;
 #[cfg(test)]

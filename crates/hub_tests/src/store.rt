@@ -7,6 +7,7 @@ ghost use Rattle.hub_store.specs.Calls.{Fit};
 ghost use Rattle.hub_store.specs.declared.fault.StoreFault.TheVariants.{Memory};
 ghost use Rattle.hub_tests.specs.Taking.{Takes, as_taken, taking};
 
+use crate::lists::lists;
 use edi_base::{Items, MemoryFault, copied};
 use edi_envelope::Moment;
 use gs1_ids::{Gln, Gtin, Sscc};
@@ -495,10 +496,11 @@ fn assert_taken(rt: &impl Abort, list: &mut VecStore, alpha: &Ids) -> Result<(),
 fn assert_look_ups(
     rt: &impl Abort,
     alloc: Global,
+    lists: VecStore,
     alpha: &Ids,
     beta: &Ids,
 ) -> Result<(), StoreFault> {
-    let mut store = TrialStore::new(VecStore::new(alloc));
+    let mut store = TrialStore::new(lists);
     assert_counted(rt, alloc, &mut store, alpha, beta)?;
     assert_taken(rt, &mut store.into_store(), alpha)
 }
@@ -507,7 +509,8 @@ fn assert_look_ups(
 fn lists_answer_each_look_up(rt: HostRuntime) -> Result<(), Fail> {
     let alpha = ids_of(ALPHA).ok_or("alpha")?;
     let beta = ids_of(BETA).ok_or("beta")?;
-    Ok(assert_look_ups(&rt, rt.alloc(), &alpha, &beta)?)
+    let lists = lists(rt.alloc())?;
+    Ok(assert_look_ups(&rt, rt.alloc(), lists, &alpha, &beta)?)
 }
 
 // The rows are there after they were added, and after they were added again.
@@ -547,16 +550,21 @@ fn assert_none_set(
     Ok(())
 }
 
-fn assert_left_out(rt: &impl Abort, alloc: Global, alpha: &Ids) -> Result<(), StoreFault> {
-    let mut store = VecStore::new(alloc);
-    assert_added_twice(rt, alloc, &mut store, alpha)?;
-    assert_none_set(rt, alloc, &mut store, alpha)
+fn assert_left_out(
+    rt: &impl Abort,
+    alloc: Global,
+    lists: &mut VecStore,
+    alpha: &Ids,
+) -> Result<(), StoreFault> {
+    assert_added_twice(rt, alloc, lists, alpha)?;
+    assert_none_set(rt, alloc, lists, alpha)
 }
 
 #[test]
 fn rows_under_keys_that_are_there_are_left_out(rt: HostRuntime) -> Result<(), Fail> {
     let alpha = ids_of(ALPHA).ok_or("alpha")?;
-    Ok(assert_left_out(&rt, rt.alloc(), &alpha)?)
+    let mut lists = lists(rt.alloc())?;
+    Ok(assert_left_out(&rt, rt.alloc(), &mut lists, &alpha)?)
 }
 
 fn failing<S: Store + Drop>(store: S, calls: u64, fault: StoreFault) -> Option<TrialStore<S>> {
@@ -629,13 +637,13 @@ static FAILURES: [Failure; 4] = [
 
 // What lists answer that fail in this way.
 fn told_by_lists(
-    alloc: Global,
+    lists: VecStore,
     fault: StoreFault,
     calls: u64,
     supplier: &Gln,
     changes: &[Change],
 ) -> Option<Told> {
-    let store = failing(VecStore::new(alloc), calls, fault)?;
+    let store = failing(lists, calls, fault)?;
     Some(told(store, supplier, changes))
 }
 
@@ -662,10 +670,11 @@ fn is_told(
     failure: &Failure,
     supplier: &Gln,
     changes: &[Change],
-) -> Result<bool, StoreFault> {
+) -> Result<bool, Fail> {
     let (fault, calls, want) = failure;
-    match told_by_lists(alloc, *fault, *calls, supplier, changes) {
-        Some(found) => are_answers(found, want),
+    let lists = lists(alloc)?;
+    match told_by_lists(lists, *fault, *calls, supplier, changes) {
+        Some(found) => Ok(are_answers(found, want)?),
         None => Ok(false),
     }
 }
@@ -675,7 +684,7 @@ fn assert_failures(
     alloc: Global,
     supplier: &Gln,
     changes: &[Change],
-) -> Result<(), StoreFault> {
+) -> Result<(), Fail> {
     for failure in &FAILURES {
         assert!(*rt;
             is_told(alloc, failure, supplier, changes)?,
@@ -691,5 +700,5 @@ fn assert_failures(
 fn a_store_that_fails_keeps_its_rows(rt: HostRuntime) -> Result<(), Fail> {
     let alpha = ids_of(ALPHA).ok_or("alpha")?;
     let changes = ordered(rt.alloc(), &alpha)?;
-    Ok(assert_failures(&rt, rt.alloc(), &alpha.supplier, changes.as_slice())?)
+    assert_failures(&rt, rt.alloc(), &alpha.supplier, changes.as_slice())
 }

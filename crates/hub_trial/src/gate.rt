@@ -47,8 +47,8 @@ impl Gate {
         self.pass()
     }
 
-    // The fault of this call, where it has one.
-    fn pass(&mut self) -> Result<(), StoreFault>
+    /// The fault of this call, where it has one. It is not counted.
+    pub(crate) fn pass(&mut self) -> Result<(), StoreFault>
         ensures open { OnOk result ((self.old.broken ≡ None) × (self.new.broken ≡ None)) }
         ensures fails { Fails false self.old.broken self.new.broken result }
         ensures clean { self.old.broken ≡ None → result ≢ Err Unclean }

@@ -5,13 +5,14 @@ ghost use Rattle.hub_store.specs.declared.fault.StoreFault.TheVariants.{Unclean,
 use crate::gate::{Gate, Stop};
 use edi_base::Items;
 use gs1_ids::{Gln, Sscc};
+use hub_register::Register;
 use hub_store::{LastingFault, MailHead, Store, StoreFault};
 use hub_tables::{Change, ContentRow, LineRow, MailRow, PalletRow, ReceiptRow, Side};
 use std::marker::Model;
 
 /// A store that counts the calls of another one, and that can fail at one of them. Contracts see it as the store
 /// below, the fault that each call answers from now on, and how many look-ups and commits there were. Of the calls
-/// of a store, `fault` alone is not counted.
+/// of a store, `fault` and `register` are counted as neither; `register` can be the one that fails.
 #[derive(Drop)]
 pub struct TrialStore<S: Store> {
     store: S,
@@ -40,8 +41,8 @@ impl<S: Store> TrialStore<S> {
         Self::with_stop(store, None)
     }
 
-    /// Counts the calls of a store, and fails once with `fault`, at the call behind so many others, look-ups and
-    /// commits alike. `Unclean` would say something of the rows, and `Version` is a fault of opening.
+    /// Counts the calls of a store, and fails once with `fault`, at the call behind so many others: look-ups, commits
+    /// and those of `register` alike. `Unclean` would say something of the rows, and `Version` is a fault of opening.
     pub fn failing(store: S, calls: u64, fault: StoreFault) -> Self
         requires unclean { fault ≢ Unclean }
         requires version { fault ≢ Version }
@@ -113,6 +114,13 @@ impl<S: Store> Store for TrialStore<S> {
 
     fn fault(&self) -> Option<LastingFault> {
         self.gate.broken
+    }
+
+    fn register(&mut self) -> Result<Register, StoreFault> {
+        self.gate.pass()?;
+        let found = self.store.register();
+        self.gate.seen(&found);
+        found
     }
 
     fn remembered(

@@ -81,6 +81,9 @@ module _ (row : AdviceRow) where
         kept.1.1.1.1.1.1.0 (λ e. absurd (omega (arith, e))),
         kept.1.1.1.1.1.1.1.0 (λ e. absurd (omega (arith, e))),
         kept.1.1.1.1.1.1.1.1.0 (λ e. absurd (omega (arith, e))),
+        kept.1.1.1.1.1.1.1.1.1.0 (λ e. absurd (omega (arith, e))),
+        kept.1.1.1.1.1.1.1.1.1.1.0 (λ e. absurd (omega (arith, e))),
+        kept.1.1.1.1.1.1.1.1.1.1.1.0 (λ e. absurd (omega (arith, e))),
       )
 
   adds_advice : (old new : State) (text : List ℕ) (count : ℕ) → IsHub old → old.in_transaction ≡ true
@@ -139,7 +142,19 @@ module _ (row : AdviceRow) where
               λ e. absurd cc,
               (
                 λ e. absurd cc,
-                (λ e. absurd cc, (λ e. absurd cc, (λ e. absurd cc, (λ e. absurd cc, tt)))),
+                (
+                  λ e. absurd cc,
+                  (
+                    λ e. absurd cc,
+                    (
+                      λ e. absurd cc,
+                      (
+                        λ e. absurd cc,
+                        (λ e. absurd cc, (λ e. absurd cc, (λ e. absurd cc, tt))),
+                      ),
+                    ),
+                  ),
+                ),
               ),
             ),
           ),

@@ -27,7 +27,7 @@ use Rattle.hub_schema.specs.Schema.{hub_schema}
 use Rattle.hub_schema.specs.State.{IsHub}
 
 abbrev pub all_trees : List ℕ
-all_trees = 0 ∷ 1 ∷ 3 ∷ 5 ∷ 7 ∷ 10 ∷ 12 ∷ 14 ∷ 16 ∷ []
+all_trees = 0 ∷ 1 ∷ 3 ∷ 5 ∷ 7 ∷ 10 ∷ 12 ∷ 14 ∷ 16 ∷ 18 ∷ 20 ∷ 22 ∷ []
 
 -- each of these trees but one is as it was
 abbrev pub KeepsOthers : ℕ → List ℕ → Trees → Trees → Type 0
@@ -63,7 +63,7 @@ pub still_hub : (tree : ℕ) (rows : List Row) (old new : State) → 0 ≢ tree 
     → IsHub new
 still_hub tree rows old new other hub it = record {
   schema = it.schema;
-  numbered = subst (λ (rs : List Row). map (λ row. column row 1) rs ≡ Int (pos 1)
+  numbered = subst (λ (rs : List Row). map (λ row. column row 1) rs ≡ Int (pos 2)
       ∷ []) (sym (it.others.0 other)) hub.numbered;
   ordered = still_shaped tree all_trees old.now.trees new.now.trees (subst (IsShaped shape.Table) (sym it.rows)
       it.shaped) it.others hub.ordered;

@@ -86,6 +86,9 @@ module _ (row : ContentRow) where
         kept.1.1.1.1.1.1.0 (λ e. absurd (omega (arith, e))),
         kept.1.1.1.1.1.1.1.0 (λ e. absurd (omega (arith, e))),
         kept.1.1.1.1.1.1.1.1.0 (λ e. absurd (omega (arith, e))),
+        kept.1.1.1.1.1.1.1.1.1.0 (λ e. absurd (omega (arith, e))),
+        kept.1.1.1.1.1.1.1.1.1.1.0 (λ e. absurd (omega (arith, e))),
+        kept.1.1.1.1.1.1.1.1.1.1.1.0 (λ e. absurd (omega (arith, e))),
       )
 
   shown : (rows : List Row) → IsLow → content_in (stored rows) ≡ row
@@ -148,7 +151,19 @@ module _ (row : ContentRow) where
               λ e. absurd cc,
               (
                 λ e. absurd cc,
-                (λ _. fresh, (λ e. absurd cc, (λ e. absurd cc, (λ e. absurd cc, tt)))),
+                (
+                  λ _. fresh,
+                  (
+                    λ e. absurd cc,
+                    (
+                      λ e. absurd cc,
+                      (
+                        λ e. absurd cc,
+                        (λ e. absurd cc, (λ e. absurd cc, (λ e. absurd cc, tt))),
+                      ),
+                    ),
+                  ),
+                ),
               ),
             ),
           ),

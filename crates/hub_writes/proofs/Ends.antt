@@ -26,6 +26,7 @@ use Rattle.edi_moment.specs.Moment.{last_moment}
 use Rattle.gs1_ids.specs.Digits.{is_key}
 use Rattle.gs1_ids.specs.Gln.{is_gln}
 use Rattle.hub_store.specs.Clean.{are_clean, clean_order, clean_line, clean_advice, clean_pallet, clean_content}
+use Rattle.hub_store.specs.Clean.{clean_hub, clean_key, clean_prefix}
 use Rattle.hub_store.specs.Clean.{clean_receipt, clean_remembered, clean_mail, is_within, is_number, is_line}
 use Rattle.hub_store.specs.Clean.{is_quantity, is_kind, is_truth, are_bytes}
 use Rattle.hub_store.specs.declared.fault.StoreFault.{StoreFault}
@@ -75,7 +76,8 @@ great_unclean t great = elim (decide (are_clean t)) [
       && (list_all clean_remembered t.remembered && list_all clean_mail t.mail) in
       let contents = and_parts (list_all clean_content t.contents) later (and_parts (list_all clean_pallet t.pallets) _
       (and_parts (list_all clean_advice t.advices) _ (and_parts (list_all clean_line t.lines) _ (and_parts
-      (list_all clean_order t.orders) _ clean).1).1).1).1 in
+      (list_all clean_order t.orders) _ (and_parts (list_all clean_prefix t.prefixes) _ (and_parts
+      (list_all clean_key t.keys) _ (and_parts (list_all clean_hub t.hubs) _ clean).1).1).1).1).1).1).1 in
       let mail = (and_parts (list_all clean_remembered t.remembered) (list_all clean_mail t.mail) (and_parts (list_all
       clean_receipt t.receipts) (list_all clean_remembered t.remembered
       && list_all clean_mail t.mail) contents.1).1).1 in

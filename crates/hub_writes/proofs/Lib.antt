@@ -3,7 +3,10 @@ pub mod Alters
 pub mod Contents
 pub mod Ends
 pub mod Entries
+pub mod Founded
+pub mod HubRows
 pub mod Hubs
+pub mod KeyRows
 pub mod Keys
 pub mod Lines
 pub mod Memories
@@ -13,5 +16,6 @@ pub mod Orders
 pub mod Outcomes
 pub mod Pallets
 pub mod Places
+pub mod PrefixRows
 pub mod Receipts
 pub mod Steps

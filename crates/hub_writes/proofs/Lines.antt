@@ -129,6 +129,9 @@ module _ (row : LineRow) where
         kept.1.1.1.1.1.1.0 (λ e. absurd (omega (arith, e))),
         kept.1.1.1.1.1.1.1.0 (λ e. absurd (omega (arith, e))),
         kept.1.1.1.1.1.1.1.1.0 (λ e. absurd (omega (arith, e))),
+        kept.1.1.1.1.1.1.1.1.1.0 (λ e. absurd (omega (arith, e))),
+        kept.1.1.1.1.1.1.1.1.1.1.0 (λ e. absurd (omega (arith, e))),
+        kept.1.1.1.1.1.1.1.1.1.1.1.0 (λ e. absurd (omega (arith, e))),
       )
 
   shown : (rows : List Row) → IsLow → line_in (stored rows) ≡ row
@@ -201,7 +204,19 @@ module _ (row : LineRow) where
               λ e. absurd cc,
               (
                 λ e. absurd cc,
-                (λ e. absurd cc, (λ e. absurd cc, (λ e. absurd cc, (λ e. absurd cc, tt)))),
+                (
+                  λ e. absurd cc,
+                  (
+                    λ e. absurd cc,
+                    (
+                      λ e. absurd cc,
+                      (
+                        λ e. absurd cc,
+                        (λ e. absurd cc, (λ e. absurd cc, (λ e. absurd cc, tt))),
+                      ),
+                    ),
+                  ),
+                ),
               ),
             ),
           ),

@@ -86,6 +86,9 @@ module _ (row : RememberedRow) where
         kept.1.1.1.1.1.0 (λ e. absurd (omega (arith, e))),
         kept.1.1.1.1.1.1.0 (λ e. absurd (omega (arith, e))),
         kept.1.1.1.1.1.1.1.1.0 (λ e. absurd (omega (arith, e))),
+        kept.1.1.1.1.1.1.1.1.1.0 (λ e. absurd (omega (arith, e))),
+        kept.1.1.1.1.1.1.1.1.1.1.0 (λ e. absurd (omega (arith, e))),
+        kept.1.1.1.1.1.1.1.1.1.1.1.0 (λ e. absurd (omega (arith, e))),
       )
 
   shown : (rows : List Row) → IsLow → remembered_in (stored rows) ≡ row
@@ -161,7 +164,19 @@ module _ (row : RememberedRow) where
               λ e. absurd cc,
               (
                 λ e. absurd cc,
-                (λ e. absurd cc, (λ e. absurd cc, (λ _. fresh, (λ e. absurd cc, tt)))),
+                (
+                  λ e. absurd cc,
+                  (
+                    λ e. absurd cc,
+                    (
+                      λ _. fresh,
+                      (
+                        λ e. absurd cc,
+                        (λ e. absurd cc, (λ e. absurd cc, (λ e. absurd cc, tt))),
+                      ),
+                    ),
+                  ),
+                ),
               ),
             ),
           ),

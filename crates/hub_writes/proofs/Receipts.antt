@@ -86,6 +86,9 @@ module _ (row : ReceiptRow) where
         kept.1.1.1.1.1.0 (λ e. absurd (omega (arith, e))),
         kept.1.1.1.1.1.1.1.0 (λ e. absurd (omega (arith, e))),
         kept.1.1.1.1.1.1.1.1.0 (λ e. absurd (omega (arith, e))),
+        kept.1.1.1.1.1.1.1.1.1.0 (λ e. absurd (omega (arith, e))),
+        kept.1.1.1.1.1.1.1.1.1.1.0 (λ e. absurd (omega (arith, e))),
+        kept.1.1.1.1.1.1.1.1.1.1.1.0 (λ e. absurd (omega (arith, e))),
       )
 
   shown : (rows : List Row) → IsLow → receipt_in (stored rows) ≡ row
@@ -152,7 +155,19 @@ module _ (row : ReceiptRow) where
               λ e. absurd cc,
               (
                 λ e. absurd cc,
-                (λ e. absurd cc, (λ _. fresh, (λ e. absurd cc, (λ e. absurd cc, tt)))),
+                (
+                  λ e. absurd cc,
+                  (
+                    λ _. fresh,
+                    (
+                      λ e. absurd cc,
+                      (
+                        λ e. absurd cc,
+                        (λ e. absurd cc, (λ e. absurd cc, (λ e. absurd cc, tt))),
+                      ),
+                    ),
+                  ),
+                ),
               ),
             ),
           ),

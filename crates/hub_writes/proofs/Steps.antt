@@ -18,6 +18,7 @@ use Rattle.std.proofs.lemmas.Bool.{and_parts}
 use Rattle.std.proofs.lemmas.Bool.Decides.{nat_tests}
 use Rattle.hub_parties.specs.KeyOrder.{replace}
 use Rattle.hub_tables.specs.Rows.{same, same_mail, content_cmp, mail_cmp}
+use Rattle.hub_tables.specs.declared.change.Change.TheVariants.{AddHub, AddKey, AddPrefix}
 use Rattle.hub_tables.specs.declared.change.Change.TheVariants.{AddOrder, AddLine, SetLine, AddAdvice, AddPallet}
 use Rattle.hub_tables.specs.declared.change.Change.TheVariants.{SetPallet, AddContent, AddReceipt, Remember, AddMail}
 use Rattle.hub_tables.specs.declared.change.Change.TheVariants.{SetMail}
@@ -191,6 +192,9 @@ entries_still_great : (row : MailRow) (entries : List MailRow)
 entries_still_great row entries = any_replaced great_entry (same_mail row) row entries (same_great row)
 
 great_stays : (change : Change) (t : Tables) → has_great t ≡ true → has_great (apply change t) ≡ true
+great_stays (AddHub row) t h = h
+great_stays (AddKey row) t h = h
+great_stays (AddPrefix row) t h = h
 great_stays (AddOrder row) t h = h
 great_stays (AddLine row) t h = h
 great_stays (SetLine row) t h = h

@@ -59,8 +59,8 @@ pub(crate) fn touch_ended(given: Result<usize, Error>) -> Result<(), StoreFault>
     }
 }
 
-/// What a COMMIT comes to.
-pub(crate) fn commit_ended(given: Result<(), Error>) -> Result<(), StoreFault>
+/// What a call without a count comes to: the making of tables, or a COMMIT.
+pub(crate) fn call_ended(given: Result<(), Error>) -> Result<(), StoreFault>
     ensures { result ≡ ended given }
 {
     match given {

@@ -1,14 +1,16 @@
-//! Changes of the hub's tables as statements of SQL, and all changes of a commit in one transaction.
+//! Changes of the hub's tables as statements of SQL; all changes of a commit, and a founding, in one transaction.
 #![tactic(auto)]
 
 mod advice;
 mod changes;
 mod content;
 mod faults;
+mod founding;
 mod line;
 mod mail;
 mod order;
 mod pallet;
+mod party;
 mod receipt;
 mod remembered;
 mod transaction;
@@ -17,10 +19,12 @@ mod values;
 pub use advice::add_advice;
 pub use changes::{apply, apply_all};
 pub use content::add_content;
+pub use founding::found;
 pub use line::{add_line, set_line};
 pub use mail::{add_mail, set_mail};
 pub use order::add_order;
 pub use pallet::{add_pallet, set_pallet};
+pub use party::{add_hub, add_key, add_prefix};
 pub use receipt::add_receipt;
 pub use remembered::remember;
 pub use transaction::commit;

@@ -4,7 +4,7 @@ ghost use Rattle.sqlite.specs.Held.{state};
 ghost use Rattle.hub_schema.specs.State.{CommitsTo};
 
 use crate::changes::apply_all;
-use crate::faults::commit_ended;
+use crate::faults::call_ended;
 use hub_store::StoreFault;
 use hub_tables::Change;
 use sqlite::{Alter, Connection};
@@ -17,5 +17,5 @@ pub fn commit<S: Alter>(conn: &mut Connection<S>, changes: &[Change]) -> Result<
     let _idle = conn.is_autocommit();
     let mut tx = conn.transaction();
     apply_all(&mut tx, changes)?;
-    commit_ended(tx.commit())
+    call_ended(tx.commit())
 }

@@ -5,7 +5,8 @@ ghost use Rattle.sqlite_value.specs.Value.{owned};
 
 use edi_base::Items;
 use edi_envelope::Moment;
-use gs1_ids::{Gln, Gtin, Sscc};
+use gs1_ids::{Gln, Gtin, Prefix, Sscc};
+use hub_parties::Key;
 use hub_tables::{Answered, Arrival, Column, MailKind, Side};
 use sqlite_value::value::ValueRef;
 
@@ -28,6 +29,20 @@ pub(crate) fn sscc_value(sscc: &Sscc) -> ValueRef<'_>
     ensures { owned result ≡ Blob sscc.now }
 {
     ValueRef::Blob(sscc.digits().as_slice())
+}
+
+/// The digits of a company prefix.
+pub(crate) fn prefix_value(prefix: &Prefix) -> ValueRef<'_>
+    ensures { owned result ≡ Blob prefix.now }
+{
+    ValueRef::Blob(prefix.digits())
+}
+
+/// The bytes of a key.
+pub(crate) fn key_value(key: &Key) -> ValueRef<'_>
+    ensures { owned result ≡ Blob key.now }
+{
+    ValueRef::Blob(key.bytes())
 }
 
 /// A text.

@@ -1,5 +1,6 @@
 mod cancellations;
 mod despatches;
+mod joins;
 mod orders;
 mod receipts;
 mod responses;

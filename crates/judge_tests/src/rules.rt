@@ -1,7 +1,7 @@
 use hub_rules::Code;
 use std::alloc::{AllocError, Global};
 
-static CODES: [(Code, &str); 17] = [
+static CODES: [(Code, &str); 20] = [
     (Code::Buyer, "B01"),
     (Code::Supplier, "B02"),
     (Code::OtherContent, "B03"),
@@ -19,6 +19,9 @@ static CODES: [(Code, &str); 17] = [
     (Code::PalletReceived, "B15"),
     (Code::MailboxFull, "B16"),
     (Code::CancelsMoreThanOpen, "B17"),
+    (Code::GlnKnown, "B18"),
+    (Code::PrefixOverlaps, "B19"),
+    (Code::RegisterFull, "B20"),
 ];
 
 fn prints(alloc: Global, code: Code, text: &str) -> Result<bool, AllocError> {

@@ -3,7 +3,9 @@
 use edi_base::Items;
 use gs1_ids::Gln;
 use hub_rules::Verdict;
-use hub_tables::{Change, ContentRow, LineRow, MailRow, PalletRow, ReceiptRow, RememberedRow};
+use hub_tables::{
+    Change, ContentRow, KeyRow, LineRow, MailRow, PalletRow, PrefixRow, ReceiptRow, RememberedRow,
+};
 use std::alloc::{AllocError, Global};
 use std::fmt::Write;
 use std::test::Fail;
@@ -74,6 +76,16 @@ fn tell_content(out: &mut String, row: &ContentRow) -> Result<(), AllocError> {
     write!(out, "content {sscc} {place} {number} {line} {quantity}")
 }
 
+// A supplier's key, and one of its prefixes.
+fn tell_key(out: &mut String, row: &KeyRow) -> Result<(), AllocError> {
+    let key = str::from_utf8(row.key.bytes()).unwrap_or("no text");
+    write!(out, "key {} {key}", row.supplier)
+}
+
+fn tell_prefix(out: &mut String, row: &PrefixRow) -> Result<(), AllocError> {
+    write!(out, "prefix {} {}", row.prefix, row.supplier)
+}
+
 // An order or a despatch advice: its supplier and its number.
 fn tell_document(
     out: &mut String,
@@ -97,8 +109,11 @@ fn tell_change(out: &mut String, change: &Change) -> Result<(), AllocError> {
         Change::SetPallet(row) => tell_pallet(out, "set", row),
         Change::AddReceipt(row) => tell_receipt(out, row),
         Change::AddContent(row) => tell_content(out, row),
-        // No verdict sets a mail, so that none is wanted.
+        Change::AddKey(row) => tell_key(out, row),
+        Change::AddPrefix(row) => tell_prefix(out, row),
+        // No verdict sets a mail or adds a hub, so that none is wanted.
         Change::SetMail(_) => out.push_str("set mail"),
+        Change::AddHub(_) => out.push_str("hub"),
     }
 }
 

@@ -2,8 +2,8 @@ use Rattle.std.proofs.Common.{sym, ap, ◌∙◌}
 use Rattle.hub_tables.specs.Tables.{Tables, view}
 use Rattle.hub_rules.specs.Rules.{judge_cancel}
 use Rattle.hub_law.specs.Mark.{Whole}
-use Rattle.hub_law.specs.Replies.{cancel_reply}
-use Rattle.hub_law.specs.Requests.{cancel_named, cancelled, replied_by}
+use Rattle.hub_law.specs.Replies.{act_reply}
+use Rattle.hub_law.specs.Requests.{cancel_named, answered, replied_by}
 use Rattle.hub_law.specs.Told.{act}
 use Rattle.hub_law.specs.declared.reply.Reply.{Reply}
 use Rattle.hub_acts.specs.Acts.{as_told}
@@ -11,19 +11,19 @@ use Rattle.hub_acts.proofs.Afterwards.{after_looking}
 use Rattle.hub_acts.proofs.cancel.take_cancel.Goals as goal
 
 pub returns-clause-carried : goal.returns-clause-carried
-returns-clause-carried g c = λ hub.
+returns-clause-carried g c = λ hub rise.
     let register = c.args.register.now in
     let cancel = c.args.cancel.now in
     let t = g.S.Store.content c.args.store.now in
     let state = view cancel.supplier t in
-    let does : Tables → Reply × Tables = λ t. cancelled Whole (cancel_named register cancel t) t in
+    let does : Tables → Reply × Tables = λ t. answered Whole (cancel_named register cancel t) t in
     let supplier = c.supplier-supplier.ensures.value in
     let content = c.in_ok-content.ensures in
     after_looking g.S.Store.content g.S.Store.honest g.S.Store.left c.args.store.now c.known_for_cancel.new.store c.finish.new.store
-    does (λ t. replied_by cancel_reply (act c.in_ok-verdict.verdict t)) as_told
+    does (λ t. replied_by act_reply (act c.in_ok-verdict.verdict t)) as_told
     c.in_ok-known.ensures.stays c.finish.ensures.unharmed.was_honest
-    (λ honest. ap (λ verdict. replied_by cancel_reply (act verdict t))
+    (λ honest. ap (λ verdict. replied_by act_reply (act verdict t))
     (sym (c.in_ok-verdict.ensures state (c.in_ok-known.ensures.told honest)
     ∙ (λ i. judge_cancel (supplier i) (content i) cancel state))))
-    (c.acts_stay_sound.ensures.cancellation register cancel t hub).rising
+    (c.acts_stay_sound.ensures.cancellation register cancel t hub rise).rising
     c.finish.result c.finish.ensures.carried

@@ -1,5 +1,5 @@
 use Rattle.hub_acts.proofs.CleanJudges.{cleans_order, cleans_response, cleans_despatch, cleans_receipt, cleans_cancel}
-use Rattle.hub_acts.proofs.CleanVerdicts.{cleaned, cleaned_taken}
+use Rattle.hub_acts.proofs.CleanVerdicts.{cleaned, cleaned_join, cleaned_taken}
 use Rattle.hub_acts.proofs.laws.rules_keep_rows_clean.Goals as goal
 
 pub returns-clause-order : goal.returns-clause-order
@@ -23,3 +23,6 @@ returns-clause-cancel c s t content cancel named bytes gln = cleaned s t _ (clea
 
 pub returns-clause-taken : goal.returns-clause-taken
 returns-clause-taken c = cleaned_taken
+
+pub returns-clause-join : goal.returns-clause-join
+returns-clause-join c = cleaned_join

@@ -10,7 +10,7 @@ use Rattle.hub_acts.proofs.Failing.{after_judging}
 use Rattle.hub_acts.proofs.messages.take_retailers_message.Goals as goal
 
 pub returns-clause-carried : goal.returns-clause-carried
-returns-clause-carried g c = λ hub.
+returns-clause-carried g c = λ hub rise.
     let register = c.args.register.now in
     let message = c.args.message.now in
     let came = incoming c.args.moment c.args.interchange.now message in
@@ -20,7 +20,7 @@ returns-clause-carried g c = λ hub.
     c.in_ok-judged.ensures.stays c.finish.ensures.unharmed.was_honest
     (λ honest. ap (λ one. deliver_named register (message, one) t) (sym c.in_ok-came.ensures)
     ∙ c.in_ok-judged.ensures.judged honest (hub.sound.kept (named message)))
-    (c.acts_stay_sound.ensures.retailers register message came t hub).rising
+    (c.acts_stay_sound.ensures.retailers register message came t hub rise).rising
     c.finish.result c.finish.ensures.carried
 
 pub returns-clause-fails : goal.returns-clause-fails

@@ -12,7 +12,7 @@ use Rattle.hub_acts.proofs.Failing.{after_judging}
 use Rattle.hub_acts.proofs.messages.take_suppliers_message.Goals as goal
 
 pub returns-clause-carried : goal.returns-clause-carried
-returns-clause-carried g c = λ here.
+returns-clause-carried g c = λ here rise.
     let register = c.args.register.now in
     let s = c.args.supplier.now in
     let message = c.args.message.now in
@@ -24,7 +24,7 @@ returns-clause-carried g c = λ here.
     (λ honest.
     ap (λ one. deliver_suppliers (view s.gln) (parties_of register) s (message, one) t) (sym c.in_ok-came.ensures)
     ∙ c.in_ok-judged.ensures.judged honest (here.sound.kept s.gln))
-    (c.acts_stay_sound.ensures.suppliers register s message came t here).rising
+    (c.acts_stay_sound.ensures.suppliers register s message came t here rise).rising
     c.finish.result c.finish.ensures.carried
 
 pub returns-clause-fails : goal.returns-clause-fails

@@ -1,12 +1,15 @@
-use Rattle.std.proofs.Common.{sym, ◌∙◌, rules}
-use Rattle.hub_app.proofs.Texts.{never_failed}
+use Rattle.hub_register.specs.Register.{register_of}
+use Rattle.hub_app.proofs.Verdicts.{judged, written, unwritten}
 use Rattle.hub_app.proofs.check.check_run.Goals as goal
 
-pub returns-then-is_ok-clause-failed : goal.returns-then-is_ok-clause-failed
-returns-then-is_ok-clause-failed g c = λ failed. absurd (never_failed _ (sym c.in-Ok.ensures.status ∙ failed))
+pub returns-clause-judged : goal.returns-clause-judged
+returns-clause-judged g c =
+    judged (register_of c.args.text.now) _ _ _ _ _ _ _ _ _ _ c.in-Ok.ensures.status c.in-Ok.ensures.line c.print_verdict.ensures.told
 
-pub returns-then-is_ok-clause-judged : goal.returns-then-is_ok-clause-judged
-returns-then-is_ok-clause-judged g c = search rules
+pub returns-clause-written : goal.returns-clause-written
+returns-clause-written g c =
+    written (register_of c.args.text.now) _ _ _ _ _ _ _ _ _ _ c.in-Ok.ensures.status c.in-Ok.ensures.line c.print_verdict.ensures.told
 
 pub returns-clause-failed : goal.returns-clause-failed
-returns-clause-failed g c = search rules
+returns-clause-failed g c =
+    unwritten (register_of c.args.text.now) _ _ _ _ _ _ _ _ _ _ c.in-Ok.ensures.status c.in-Ok.ensures.line c.print_verdict.ensures.told

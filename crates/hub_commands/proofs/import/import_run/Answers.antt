@@ -16,11 +16,12 @@ loop-file-init g c =
     let asked = λ (bytes : List ℕ). input_of c.args.moment c.args.caller.now c.args.key.now (Upload bytes) in record {
       register = refl;
       was_honest = λ honest. honest;
+      held = λ honest sound. sound;
       so_far =
           so_far_none g.F.Bytes.Source.remaining (HasFailed g.F.Bytes.Source.origin g.F.Bytes.Source.failed)
           asked (g.F.Files.remaining c.args.files.now) (g.W.Sink.contents c.args.out.now)
           (g.W.Sink.failed c.args.out.now) (RunsTo g.S.Store.content g.S.Store.honest g.S.Store.left asked hub hub)
-          (λ honest sound. c.steps_are_a_run.ensures.none hub.1 sound);
+          (λ honest sound. c.steps_are_a_run.ensures.none hub.1 sound.sound);
     }
 
 pub returns-in-Ok-None-clause-imported : goal.returns-in-Ok-None-clause-imported
@@ -44,9 +45,9 @@ returns-in-Err-clause-imported g c =
     let left = g.F.Files.remaining c.next.new.self in
     let s = c.loop-file.invariant.so_far in
     let asked = λ (bytes : List ℕ). input_of c.args.moment c.args.caller.now c.args.key.now (Upload bytes) in
-    let ran = runs_more g.S.Store.content g.S.Store.honest g.S.Store.left asked hub.0
-    c.steps_are_a_run.ensures.more hub.1 between between s.looked (NoMemory None) c.loop-file.invariant.register
-    (λ honest. honest) s.ran refl in
+    let ran = runs_more g.S.Store.content g.S.Store.honest g.S.Store.left asked
+    c.steps_are_a_run.ensures.more hub between between s.looked (NoMemory None)
+    (λ honest. honest) c.loop-file.invariant.held s.ran refl in
     let taken = taken_no_memory g.F.Bytes.Source.remaining (HasFailed g.F.Bytes.Source.origin g.F.Bytes.Source.failed) known rest left s.looked s.files
     (gives_fault g.F.Bytes.Source.remaining (HasFailed g.F.Bytes.Source.origin g.F.Bytes.Source.failed)
     rest left c.next.result c.in-Err.field-0 c.next.ensures.gives c.in-Err.is)
@@ -74,12 +75,14 @@ loop-file-preserved g c =
     let s = c.loop-file.invariant.so_far in
     let looks = c.in-Ok.ensures.looks_at in
     let asked = λ (bytes : List ℕ). input_of c.args.moment c.args.caller.now c.args.key.now (Upload bytes) in
-    let ran = runs_more g.S.Store.content g.S.Store.honest g.S.Store.left asked hub.0
-    c.steps_are_a_run.ensures.more hub.1 between new s.looked looks.one c.loop-file.invariant.register
-    c.import_file.ensures.was_honest s.ran looks.did in
+    let ran = runs_more g.S.Store.content g.S.Store.honest g.S.Store.left asked
+    c.steps_are_a_run.ensures.more hub between new s.looked looks.one
+    c.import_file.ensures.was_honest c.loop-file.invariant.held s.ran looks.did in
     record {
       register = c.import_file.ensures.register ∙ c.loop-file.invariant.register;
       was_honest = λ honest. c.loop-file.invariant.was_honest (c.import_file.ensures.was_honest honest);
+      held = λ honest sound.
+          c.import_file.ensures.held honest (c.loop-file.invariant.held (c.import_file.ensures.was_honest honest) sound);
       so_far =
           so_far_more g.F.Bytes.Source.remaining (HasFailed g.F.Bytes.Source.origin g.F.Bytes.Source.failed)
           asked known (g.W.Sink.contents c.args.out.now) (g.W.Sink.failed c.args.out.now)
@@ -106,9 +109,9 @@ returns-in-Err-import_file-clause-imported g c =
     let s = c.loop-file.invariant.so_far in
     let looks = c.in-Err-import_file.ensures.looks_at in
     let asked = λ (bytes : List ℕ). input_of c.args.moment c.args.caller.now c.args.key.now (Upload bytes) in
-    let ran = runs_more g.S.Store.content g.S.Store.honest g.S.Store.left asked hub.0
-    c.steps_are_a_run.ensures.more hub.1 between new s.looked looks.one c.loop-file.invariant.register
-    c.import_file.ensures.was_honest s.ran looks.did in
+    let ran = runs_more g.S.Store.content g.S.Store.honest g.S.Store.left asked
+    c.steps_are_a_run.ensures.more hub between new s.looked looks.one
+    c.import_file.ensures.was_honest c.loop-file.invariant.held s.ran looks.did in
     let taken = taken_more g.F.Bytes.Source.remaining (HasFailed g.F.Bytes.Source.origin g.F.Bytes.Source.failed)
     known rest later s.looked c.in-Ok-Some.file looks.one s.files
     (gives_file g.F.Bytes.Source.remaining (HasFailed g.F.Bytes.Source.origin g.F.Bytes.Source.failed)

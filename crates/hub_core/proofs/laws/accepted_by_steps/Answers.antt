@@ -1,5 +1,5 @@
 use Rattle.std.proofs.Common.{subst}
-use Rattle.hub_parties.specs.Rows.{row_of}
+use Rattle.hub_tables.specs.Register.{row_at}
 use Rattle.hub_tables.specs.Sets.{Has}
 use Rattle.hub_tables.specs.Tables.{Tables}
 use Rattle.hub_law.specs.Machine.{shared_run}
@@ -10,15 +10,14 @@ use Rattle.hub_core.proofs.Again.{tells}
 use Rattle.hub_core.proofs.laws.accepted_by_steps.Goals as goal
 
 pub returns-clause-told : goal.returns-clause-told
-returns-clause-told c register t before input mark place message one =
-    let at = (shared_run register t before).1 in
+returns-clause-told c t input mark place message one =
     let upload = one.comes.upload in
-    tells register at input upload place Accepted one.accepted mark
-    (c.stops_cut_uploads.ensures.whole register at input upload one.comes.looked_at)
-    (λ k below. c.stops_cut_uploads.ensures.behind register at input k upload one.comes.looked_at below) one.reached
+    tells t input upload place Accepted one.accepted mark
+    (c.stops_cut_uploads.ensures.whole t input upload one.comes.looked_at)
+    (λ k below. c.stops_cut_uploads.ensures.behind t input k upload one.comes.looked_at below) one.reached
 
 pub returns-clause-remembered : goal.returns-clause-remembered
-returns-clause-remembered c register t u before between input mark place message one is =
+returns-clause-remembered c t u before between input mark place message one is =
     subst (λ (u : Tables). Has u.remembered
-    (row_of_message (row_of register input.caller) message (incoming input.moment one.comes.upload.interchange message))) is
-    (c.accepted_stays_remembered.ensures.message register t before between input mark place message one)
+    (row_of_message (row_at input.caller (shared_run t before).1) message (incoming input.moment one.comes.upload.interchange message))) is
+    (c.accepted_stays_remembered.ensures.message t before between input mark place message one)

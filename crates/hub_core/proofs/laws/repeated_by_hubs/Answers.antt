@@ -10,20 +10,21 @@ use Rattle.hub_core.proofs.Again.{reply_at, tells}
 use Rattle.hub_core.proofs.laws.repeated_by_hubs.Goals as goal
 
 pub returns-clause-message : goal.returns-clause-message
-returns-clause-message c register t after xs replies run before between later first second mark other_mark place other_place
+returns-clause-message c t after xs replies run before between later first second mark other_mark place other_place
     message one other reply e same reached there =
     let earlier = before ++ (first, mark) ∷ between in
-    let here : Tables = (shared_run register t earlier).1 in
-    let at = reply_at register t after run.marked earlier later second other_mark replies run.is e in
+    let here : Tables = (shared_run t earlier).1 in
+    let at = reply_at t after run.marked earlier later second other_mark replies run.is e in
     let is = ap (λ (given : Option Reply). unwrap_or given reply) (sym at ∙ there) in
-    let told = c.repeated_in_runs.ensures.message register t before between first second mark place other_place message one other same in
+    let told = c.repeated_in_runs.ensures.message t before between first second mark place other_place message one other same in
     subst (λ (reply : Reply). TellsOf other.upload.interchange other_place Repeated reply) is
-    (tells register here second other.upload other_place Repeated told other_mark
-    (c.stops_cut_uploads.ensures.whole register here second other.upload other.looked_at)
-    (λ k below. c.stops_cut_uploads.ensures.behind register here second k other.upload other.looked_at below) reached)
+    (tells here second other.upload other_place Repeated told other_mark
+    (c.stops_cut_uploads.ensures.whole here second other.upload other.looked_at)
+    (λ k below. c.stops_cut_uploads.ensures.behind here second k other.upload other.looked_at below) reached)
 
 pub returns-clause-cancellation : goal.returns-clause-cancellation
-returns-clause-cancellation c register t after xs replies run before between later first second cancel e hub asks again accepted =
-    reply_at register t after run.marked (before ++ (first, Whole) ∷ between) later second Whole replies run.is e
+returns-clause-cancellation c t after xs replies run before between later first second cancel e hub asks again accepted =
+    reply_at t after run.marked (before ++ (first, Whole) ∷ between) later second Whole replies run.is e
     ∙ ap (λ (r : Reply × Tables). Some r.0)
-    (c.repeated_in_runs.ensures.cancellation register t before between first second cancel hub asks again accepted)
+    (c.repeated_in_runs.ensures.cancellation t before between first second cancel
+    (c.hub_stays_sound.ensures.run t before hub) asks again accepted)

@@ -1,16 +1,38 @@
+use Rattle.std.proofs.Common.{rules, sym, ap, ◌∙◌}
+use Rattle.hub_tables.specs.Register.{register_of}
+use Rattle.hub_core.specs.Callers.{acts_by, request_of, IsCaller}
 use Rattle.hub_core.specs.Steps.{input_of}
-use Rattle.hub_core.proofs.Callers.{asked_as}
-use Rattle.hub_core.proofs.Breaking.{breaks_as}
+use Rattle.hub_core.specs.declared.caller.Caller.TheVariants.{Retailer, Supplier}
+use Rattle.hub_core.proofs.Callers.{asked_as, may}
+use Rattle.hub_core.proofs.Keeping.{content_kept}
 use Rattle.hub_core.proofs.step.answer.Goals as goal
 
-pub returns-in-Some-clause-asked : goal.returns-in-Some-clause-asked
-returns-in-Some-clause-asked g c =
-    asked_as c.args.register.now (input_of c.args.moment c.args.caller.now c.args.key.now c.args.request.now)
-    g.S.Store.content g.S.Store.honest g.S.Store.left c.args.store.now c.asked.new.store
-    c.in-Some.caller c.asked.result c.in-Some.ensures.some c.asked.ensures.asked
+pub returns-in-Some-Supplier-clause-asked : goal.returns-in-Some-Supplier-clause-asked
+returns-in-Some-Supplier-clause-asked g c here =
+    let register = c.args.register.now in
+    let input = input_of c.args.moment c.args.caller.now c.args.key.now c.args.request.now in
+    let known : IsCaller register c.args.caller.now c.args.key.now (Supplier c.in-Some-Supplier.supplier) = search rules in
+    asked_as register input g.S.Store.content g.S.Store.honest g.S.Store.left c.args.store.now c.asked_by_supplier.new.store
+    (Supplier c.in-Some-Supplier.supplier) c.asked_by_supplier.result known c.asked_by_supplier.ensures.asked here
 
-pub returns-in-Some-clause-breaks : goal.returns-in-Some-clause-breaks
-returns-in-Some-clause-breaks g c =
-    breaks_as g.S.Store.plain c.args.register.now (input_of c.args.moment c.args.caller.now c.args.key.now c.args.request.now)
-    (g.S.Store.broken c.args.store.now) (g.S.Store.broken c.asked.new.store) c.in-Some.caller c.asked.result
-    c.in-Some.ensures.some c.asked.ensures.breaks
+pub returns-in-Some-Supplier-clause-held : goal.returns-in-Some-Supplier-clause-held
+returns-in-Some-Supplier-clause-held g c row is honest here =
+    let register = c.args.register.now in
+    let supplier = c.in-Some-Supplier.supplier in
+    let input = input_of c.args.moment c.args.caller.now c.args.key.now c.args.request.now in
+    let known : IsCaller register c.args.caller.now c.args.key.now (Supplier supplier) = search rules in
+    here.held
+    ∙ sym (ap register_of (content_kept g.S.Store.content g.S.Store.honest g.S.Store.left c.args.store.now
+    c.asked_by_supplier.new.store (acts_by register (Supplier supplier) c.args.request.now)
+    (request_of register (Supplier supplier) c.args.moment c.args.request.now) c.asked_by_supplier.result
+    (λ mark t. ap (λ request. (request_of register (Supplier supplier) c.args.moment request mark t).1) is)
+    (c.asked_by_supplier.ensures.asked (may register input (g.S.Store.content c.args.store.now) (Supplier supplier) known here))
+    honest))
+
+pub returns-in-Some-Retailer-clause-asked : goal.returns-in-Some-Retailer-clause-asked
+returns-in-Some-Retailer-clause-asked g c here =
+    let register = c.args.register.now in
+    let input = input_of c.args.moment c.args.caller.now c.args.key.now c.args.request.now in
+    let known : IsCaller register c.args.caller.now c.args.key.now Retailer = search rules in
+    asked_as register input g.S.Store.content g.S.Store.honest g.S.Store.left c.args.store.now c.asked_by_retailer.new.store
+    Retailer c.asked_by_retailer.result known (λ _. c.asked_by_retailer.ensures.asked here) here

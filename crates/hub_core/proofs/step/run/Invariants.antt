@@ -1,7 +1,8 @@
 use Rattle.std.proofs.Common.{◌≡◌, ◌≤◌, take, length, vec_len, vec_capacity}
-use Rattle.hub_rules.specs.Sound.{Sound}
+use Rattle.std.specs.List.{AllByRecursion}
+use Rattle.hub_law.specs.declared.request.Input.{Input}
 use Rattle.hub_core.specs.Broken.{RunBreaks}
-use Rattle.hub_core.specs.Steps.{Ran}
+use Rattle.hub_core.specs.Steps.{IsNoJoin, SoundWith, Ran}
 use Rattle.hub_core.proofs.step.run.Given as goal
 
 abbrev pub invariant-loop-input : goal.invariant-loop-input
@@ -12,7 +13,10 @@ invariant-loop-input g l = record {
   breaks : RunBreaks g.S.Store.plain l.register (g.S.Store.broken l.fn.store) (g.S.Store.broken l.store)
       (take l.input-index l.inputs) l.replies.items;
   was_honest : g.S.Store.honest l.store → g.S.Store.honest l.fn.store;
-  ran : g.S.Store.honest l.store → Sound l.register.suppliers (g.S.Store.content l.fn.store)
-      → Ran l.register (g.S.Store.content l.fn.store) (g.S.Store.content l.store) (g.S.Store.left l.fn.store)
+  ran : g.S.Store.honest l.store → SoundWith l.fn.register (g.S.Store.content l.fn.store)
+      → Ran (g.S.Store.content l.fn.store) (g.S.Store.content l.store) (g.S.Store.left l.fn.store)
       (g.S.Store.left l.store) (take l.input-index l.inputs) l.replies.items;
+  held : g.S.Store.honest l.store → SoundWith l.fn.register (g.S.Store.content l.fn.store)
+      → SoundWith l.register (g.S.Store.content l.store);
+  same : AllByRecursion (λ (input : Input). IsNoJoin input.request) l.inputs → l.register ≡ l.fn.register;
 }

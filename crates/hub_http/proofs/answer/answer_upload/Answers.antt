@@ -34,6 +34,13 @@ returns-in-Ok-Some-clause-answers_one g c =
     (subst (λ (u : Option (Result Interchange OpenFault)). IfSome u (λ upload. (bytes : List ℕ) × Opens upload (opened bytes)))
     c.in-Ok-Some.field-0-is c.in-Ok-Some.ensures.some) c.ask_opened.ensures.asked
 
+pub returns-in-Ok-Some-clause-held : goal.returns-in-Ok-Some-clause-held
+returns-in-Ok-Some-clause-held g c =
+    let some =
+    subst (λ (u : Option (Result Interchange OpenFault)). IfSome u (λ upload. (bytes : List ℕ) × Opens upload (opened bytes)))
+    c.in-Ok-Some.field-0-is c.in-Ok-Some.ensures.some in
+    c.ask_opened.ensures.held some.0 some.1
+
 pub returns-in-Ok-None-clause-answers_one : goal.returns-in-Ok-None-clause-answers_one
 returns-in-Ok-None-clause-answers_one g c = (Err BadRequest, inl (refl, c.refused.ensures))
 

@@ -14,4 +14,4 @@ pub returns-clause-one : goal.returns-clause-one
 returns-clause-one c = Overlapping.one
 
 pub returns-clause-alone : goal.returns-clause-alone
-returns-clause-alone c = Overlapping.alone
+returns-clause-alone c = Overlapping.seen_alone

@@ -3,7 +3,7 @@ use Rattle.hub_law.proofs.repeats.accepted_is_repeated.Goals as goal
 
 pub returns-clause-retailers : goal.returns-clause-retailers
 returns-clause-retailers c register message incoming moment decimal t u was =
-    named_repeated register (message, incoming) moment decimal t u was.accepted was.remembered was.sound
+    named_repeated register.suppliers register (message, incoming) moment decimal t u was.accepted was.remembered was.sound
 
 pub returns-clause-suppliers : goal.returns-clause-suppliers
 returns-clause-suppliers c suppliers parties s message incoming moment decimal t u was =
@@ -11,4 +11,4 @@ returns-clause-suppliers c suppliers parties s message incoming moment decimal t
 
 pub returns-clause-cancellation : goal.returns-clause-cancellation
 returns-clause-cancellation c register cancellation t u was =
-    cancellation_repeated register cancellation t u was.accepted was.remembered was.sound
+    cancellation_repeated register.suppliers register cancellation t u was.accepted was.remembered was.sound

@@ -2,7 +2,7 @@ use Rattle.hub_law.proofs.Stopping.{empty_stop, bare_stop, stop_is_told}
 use Rattle.hub_law.proofs.stops.stops_are_told.Goals as goal
 
 pub returns-clause-outcome : goal.returns-clause-outcome
-returns-clause-outcome c register t input mark = stop_is_told register t input mark
+returns-clause-outcome c t input mark = stop_is_told t input mark
 
 pub returns-clause-empty : goal.returns-clause-empty
 returns-clause-empty c = empty_stop

@@ -4,6 +4,7 @@ use Rattle.sql_rows.proofs.Transactions.{clean_before, kept_then}
 use Rattle.hub_schema.specs.Making.{LeavesTables}
 use Rattle.hub_schema.specs.Schema.{schema_table, order_table, line_table, advice_table, pallet_table, content_table}
 use Rattle.hub_schema.specs.Schema.{receipt_table, remembered_table, mail_table}
+use Rattle.hub_schema.specs.Schema.{hub_table, supplier_table, prefix_table}
 use Rattle.hub_schema.specs.State.{StatementLeaves}
 use Rattle.hub_schema.proofs.Makes.{stops_at, stops_later, stops_nowhere, ran_before}
 use Rattle.hub_schema.proofs.Texts.{schema_defined, order_defined, line_defined}
@@ -30,7 +31,8 @@ returns-in_err-create-clause-leaves g c =
     subst (LeavesTables [] old one) (sym same)
     (stops_at {Y = Unit {0}} []
     (schema_table ∷ order_table ∷ line_table ∷ advice_table ∷ pallet_table ∷ content_table ∷ receipt_table
-    ∷ remembered_table ∷ mail_table ∷ [])
+    ∷ remembered_table ∷ mail_table
+    ∷ hub_table ∷ supplier_table ∷ prefix_table ∷ [])
     refl old one e failed)
 
 pub returns-in_err-create-2-clause-leaves : goal.returns-in_err-create-2-clause-leaves
@@ -48,7 +50,8 @@ returns-in_err-create-2-clause-leaves g c =
     (λ clean has. c.in_ok-create.ensures.makes clean _ _ schema_defined has) ran c.create.ensures.kept
     (clean_before one two _ c.create-2.ensures.survives)
     (stops_at {Y = Unit {0}} (schema_table ∷ [])
-    (order_table ∷ line_table ∷ advice_table ∷ pallet_table ∷ content_table ∷ receipt_table ∷ remembered_table ∷ mail_table ∷ [])
+    (order_table ∷ line_table ∷ advice_table ∷ pallet_table ∷ content_table ∷ receipt_table ∷ remembered_table ∷ mail_table
+    ∷ hub_table ∷ supplier_table ∷ prefix_table ∷ [])
     refl one two e failed))
 
 pub returns-in_err-create-3-clause-leaves : goal.returns-in_err-create-3-clause-leaves
@@ -74,7 +77,8 @@ returns-in_err-create-3-clause-leaves g c =
     (c.create-2.ensures.kept clean))
     (clean_before two three _ c.create-3.ensures.survives)
     (stops_at {Y = Unit {0}} (schema_table ∷ order_table ∷ [])
-    (line_table ∷ advice_table ∷ pallet_table ∷ content_table ∷ receipt_table ∷ remembered_table ∷ mail_table ∷ [])
+    (line_table ∷ advice_table ∷ pallet_table ∷ content_table ∷ receipt_table ∷ remembered_table ∷ mail_table
+    ∷ hub_table ∷ supplier_table ∷ prefix_table ∷ [])
     refl two three e failed))
 
 pub returns-clause-leaves : goal.returns-clause-leaves

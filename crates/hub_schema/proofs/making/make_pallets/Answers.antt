@@ -4,6 +4,7 @@ use Rattle.sql_rows.proofs.Transactions.{clean_before, kept_then}
 use Rattle.hub_schema.specs.Making.{LeavesTables}
 use Rattle.hub_schema.specs.Schema.{schema_table, order_table, line_table, advice_table, pallet_table, content_table}
 use Rattle.hub_schema.specs.Schema.{receipt_table, remembered_table, mail_table}
+use Rattle.hub_schema.specs.Schema.{hub_table, supplier_table, prefix_table}
 use Rattle.hub_schema.specs.State.{StatementLeaves}
 use Rattle.hub_schema.proofs.Makes.{stops_at, stops_later, stops_nowhere, ran_before}
 use Rattle.hub_schema.proofs.Texts.{advice_defined, pallet_defined, content_defined}
@@ -29,7 +30,8 @@ returns-in_err-create-clause-leaves g c =
     let failed = subst (StatementLeaves old one) c.in_err-create.was c.create.ensures.leaves in
     subst (LeavesTables (schema_table ∷ order_table ∷ line_table ∷ []) old one) (sym same)
     (stops_at {Y = Unit {0}} (schema_table ∷ order_table ∷ line_table ∷ [])
-    (advice_table ∷ pallet_table ∷ content_table ∷ receipt_table ∷ remembered_table ∷ mail_table ∷ [])
+    (advice_table ∷ pallet_table ∷ content_table ∷ receipt_table ∷ remembered_table ∷ mail_table
+    ∷ hub_table ∷ supplier_table ∷ prefix_table ∷ [])
     refl old one e failed)
 
 pub returns-in_err-create-2-clause-leaves : goal.returns-in_err-create-2-clause-leaves
@@ -47,7 +49,8 @@ returns-in_err-create-2-clause-leaves g c =
     (λ clean has. c.in_ok-create.ensures.makes clean _ _ advice_defined has) ran c.create.ensures.kept
     (clean_before one two _ c.create-2.ensures.survives)
     (stops_at {Y = Unit {0}} (schema_table ∷ order_table ∷ line_table ∷ advice_table ∷ [])
-    (pallet_table ∷ content_table ∷ receipt_table ∷ remembered_table ∷ mail_table ∷ [])
+    (pallet_table ∷ content_table ∷ receipt_table ∷ remembered_table ∷ mail_table
+    ∷ hub_table ∷ supplier_table ∷ prefix_table ∷ [])
     refl one two e failed))
 
 pub returns-in_err-create-3-clause-leaves : goal.returns-in_err-create-3-clause-leaves
@@ -73,7 +76,8 @@ returns-in_err-create-3-clause-leaves g c =
     (c.create-2.ensures.kept clean))
     (clean_before two three _ c.create-3.ensures.survives)
     (stops_at {Y = Unit {0}} (schema_table ∷ order_table ∷ line_table ∷ advice_table ∷ pallet_table ∷ [])
-    (content_table ∷ receipt_table ∷ remembered_table ∷ mail_table ∷ [])
+    (content_table ∷ receipt_table ∷ remembered_table ∷ mail_table
+    ∷ hub_table ∷ supplier_table ∷ prefix_table ∷ [])
     refl two three e failed))
 
 pub returns-clause-leaves : goal.returns-clause-leaves

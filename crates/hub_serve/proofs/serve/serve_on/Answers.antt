@@ -15,12 +15,13 @@ loop-number-init g c =
       going = (refl, refl);
       register = refl;
       was_honest = λ honest. honest;
+      held = λ honest sound. sound;
       so_far =
           so_far_none (RunsTo g.S.Store.content g.S.Store.honest g.S.Store.left hub hub) hub.0
           (known (g.L.Connections.coming c.args.connections.now) (g.L.Connections.closed c.args.connections.now)
           (g.M.Moments.coming c.args.moments.now))
           (g.W.Sink.contents c.args.out.now) (g.W.Sink.failed c.args.out.now)
-          (λ honest sound. c.steps_are_a_run.ensures.none hub.1 sound);
+          (λ honest sound. c.steps_are_a_run.ensures.none hub.1 sound.sound);
     }
 
 pub returns-in-Err-clause-served : goal.returns-in-Err-clause-served
@@ -60,8 +61,8 @@ returns-then-is_err-clause-served g c =
     let going : (g.L.Connections.failed c.serve_next.new.connections ≡ g.L.Connections.failed c.args.connections.now)
     × (g.M.Moments.failed c.serve_next.new.moments ≡ g.M.Moments.failed c.args.moments.now) =
     (c.in-Ok.ensures.going.0 ∙ c.loop-number.invariant.going.0, c.in-Ok.ensures.going.1 ∙ c.loop-number.invariant.going.1) in
-    let ran = runs_more g.S.Store.content g.S.Store.honest g.S.Store.left hub.0 c.steps_are_a_run.ensures.more hub.1 between new
-    s.served one.one register c.serve_next.ensures.was_honest s.ran one.did in
+    let ran = runs_more g.S.Store.content g.S.Store.honest g.S.Store.left c.steps_are_a_run.ensures.more hub between new
+    s.served one.one c.serve_next.ensures.was_honest c.loop-number.invariant.held s.ran one.did in
     let bytes = rw (sym one.ends) at c.print_line.ensures.bytes in
     lost hub.0 (known (g.L.Connections.coming c.args.connections.now) (g.L.Connections.closed c.args.connections.now)
     (g.M.Moments.coming c.args.moments.now))
@@ -92,8 +93,8 @@ loop-number-preserved g c =
     let register = c.loop-number.invariant.register in
     let fewer : c.loop-number.number < c.args.count = c.loop-number-test.true in
     let whole = sym c.is_err.ensures.value ∙ c.if-is_err.false in
-    let ran = runs_more g.S.Store.content g.S.Store.honest g.S.Store.left hub.0 c.steps_are_a_run.ensures.more hub.1 between new
-    s.served one.one register c.serve_next.ensures.was_honest s.ran one.did in
+    let ran = runs_more g.S.Store.content g.S.Store.honest g.S.Store.left c.steps_are_a_run.ensures.more hub between new
+    s.served one.one c.serve_next.ensures.was_honest c.loop-number.invariant.held s.ran one.did in
     let bytes = rw (sym one.ends) at c.print_line.ensures.bytes in
     let told = rw (sym one.ends) at c.status.ensures in record {
       within = omega (arith, fewer);
@@ -101,6 +102,8 @@ loop-number-preserved g c =
           (c.in-Ok.ensures.going.0 ∙ c.loop-number.invariant.going.0, c.in-Ok.ensures.going.1 ∙ c.loop-number.invariant.going.1);
       register = c.serve_next.ensures.register ∙ register;
       was_honest = λ honest. c.loop-number.invariant.was_honest (c.serve_next.ensures.was_honest honest);
+      held = λ honest sound.
+          c.serve_next.ensures.held honest (c.loop-number.invariant.held (c.serve_next.ensures.was_honest honest) sound);
       so_far =
           so_far_more hub.0 (known (g.L.Connections.coming c.args.connections.now) (g.L.Connections.closed c.args.connections.now)
           (g.M.Moments.coming c.args.moments.now))

@@ -5,7 +5,7 @@ use Rattle.hub_sql.proofs.adopting.of_this_version.Goals as goal
 pub returns-then-not-is_hub_schema-clause-spared : goal.returns-then-not-is_hub_schema-clause-spared
 returns-then-not-is_hub_schema-clause-spared g c =
     let idle : IsTrue c.is_autocommit-was_idle.result = search rules in
-    spared_itself g.S.Store c.args.conn (c.is_autocommit-was_idle.ensures.settled idle) c.requires.idle
+    spared_itself g.S.Store (λ _. ⊥) c.args.conn (c.is_autocommit-was_idle.ensures.settled idle) c.requires.idle
 
 pub returns-in-Ok-false-clause-spared : goal.returns-in-Ok-false-clause-spared
 returns-in-Ok-false-clause-spared g c =

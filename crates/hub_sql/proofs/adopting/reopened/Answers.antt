@@ -13,7 +13,7 @@ returns-in-Ok-clause-ordered g c clean =
     let whole : (g.S.Store.view store).is_broken ≡ false = sym (c.is_broken.ensures early) ∙ c.if-is_broken.false in
     let tables = c.has_tables.ensures c.if-not-has_tables.false in
     subst AreOrdered (sym (c.in-Ok.ensures.trees clean))
-    (all_shaped (g.S.Store.view store).shape (g.S.Store.view store).trees (0 ∷ 1 ∷ 3 ∷ 5 ∷ 7 ∷ 10 ∷ 12 ∷ 14 ∷ 16 ∷ [])
+    (all_shaped (g.S.Store.view store).shape (g.S.Store.view store).trees (0 ∷ 1 ∷ 3 ∷ 5 ∷ 7 ∷ 10 ∷ 12 ∷ 14 ∷ 16 ∷ 18 ∷ 20 ∷ 22 ∷ [])
     (g.met.S.Store.ordered store whole) tables)
 
 pub returns-in-Ok-clause-rows : goal.returns-in-Ok-clause-rows

@@ -37,4 +37,4 @@ returns g c =
     end.store) in
     let same : end ≡ c.conn-2-1.given.0 = search rules in
     subst (λ (h : Held _). CommitsTo c.args.changes.now (state g.S.Store old) (state g.S.Store h)
-    c.commit_ended.result) same (subst (CommitsTo c.args.changes.now _ _) (sym c.commit_ended.ensures) commits)
+    c.call_ended.result) same (subst (CommitsTo c.args.changes.now _ _) (sym c.call_ended.ensures) commits)

@@ -1,7 +1,7 @@
-use Rattle.std.proofs.Common.{subst}
+use Rattle.std.proofs.Common.{subst, sym}
 use Rattle.hub_law.specs.declared.request.Request.TheVariants.{Upload}
 use Rattle.hub_core.specs.Broken.{Breaks, does_input}
-use Rattle.hub_core.specs.Steps.{input_of}
+use Rattle.hub_core.specs.Steps.{SoundWith, input_of}
 use Rattle.hub_core.proofs.hub.Hub.step_opened.Goals as goal
 
 -- what the hub's parts leave is what the hub does
@@ -11,3 +11,8 @@ returns-clause-breaks g c bytes opens =
     (does_input hub.0 (input_of c.args.moment c.args.caller.now c.args.key.now (Upload bytes)))
     (g.S.Store.broken hub.1) (g.S.Store.broken c.step_opened.new.store) c.step_opened.result) c.self.view_is
     (c.step_opened.ensures.breaks bytes opens)
+
+pub returns-clause-held : goal.returns-clause-held
+returns-clause-held g c bytes opens honest here =
+    c.step_opened.ensures.held bytes opens honest
+    (subst (λ hub. SoundWith hub.0 (g.S.Store.content hub.1)) (sym c.self.view_is) here)

@@ -1,0 +1,72 @@
+//! Founding a hub.
+use crate::fault::BeginFault;
+use crate::register::register_text;
+use crate::tell;
+use edi_base::OfWrite;
+use hub_app::{FAILED, InitWords, Verdict, print_verdict};
+use hub_register::{Register, RegisterFault};
+use hub_sql::SqliteStore;
+use hub_store::StoreFault;
+use sqlite_disk::{Start, Unknown};
+use sqlite_std_file::FileFrom;
+use sqlite_store::FileStore;
+use std::fs::OpenOptions;
+use std::os::unix::fs::OpenOptionsExt;
+
+// Who may read and write a database file that is made: its owner alone. The log beside it is given the same mode.
+const OWNER_ALONE: u32 = 0o600;
+
+// Makes an empty database file, where nothing stands at the path. Opening it tells why none could be made.
+fn make_missing(rt: &HostRuntime, path: &str) {
+    let _ = OpenOptions::new()
+        .write(true)
+        .create_new(true)
+        .mode(OWNER_ALONE)
+        .open(rt, path);
+}
+
+// Puts the register into the database file, and closes it.
+fn found_file<S: Start>(
+    rt: &HostRuntime,
+    path: &str,
+    register: &Register,
+    start: S,
+) -> Result<(), StoreFault> {
+    make_missing(rt, path);
+    let tables = SqliteStore::<FileStore<FileFrom<S>>>::found_at(rt, path, start, register).map_err(
+        |(fault, _left)| fault,
+    )?;
+    let _ = tables.into_connection().close();
+    Ok(())
+}
+
+// Founds a hub with a register, and gives what is to be told of it. What is told where that went well takes its memory
+// before, so that nothing fails once the register is in the file.
+fn founded(rt: &HostRuntime, path: &str, register: &Register) -> Result<Verdict, BeginFault> {
+    let verdict = Verdict::ok(rt.alloc(), register)?;
+    found_file(rt, path, register, Unknown)?;
+    Ok(verdict)
+}
+
+// Does what the words ask, and gives what is to be told of it.
+fn verdict_on(rt: &HostRuntime, words: &InitWords<'_>) -> Result<Verdict, BeginFault> {
+    let text = register_text(rt, words.register)?;
+    match Register::from_toml(rt.alloc(), text.as_str()) {
+        Ok(register) => founded(rt, words.db, &register),
+        Err(RegisterFault::Memory) => Err(BeginFault::Memory),
+        Err(fault) => Ok(Verdict::of_fault(rt.alloc(), fault)?),
+    }
+}
+
+/// Founds a hub with the register and in the database file that the words name, and answers the exit status. The
+/// register is looked at first: a database file is made only for one without a fault.
+pub(crate) fn init(rt: &HostRuntime, words: &InitWords<'_>) -> u8 {
+    match verdict_on(rt, words) {
+        Ok(verdict) => print_verdict(
+            &verdict,
+            &mut OfWrite::new(rt.stdout()),
+            &mut OfWrite::new(rt.stderr()),
+        ),
+        Err(fault) => tell(rt, fault, FAILED),
+    }
+}

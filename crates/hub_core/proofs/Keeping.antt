@@ -1,0 +1,90 @@
+-- A request that is no join keeps the register, and one that is denied keeps all.
+use Rattle.std.proofs.Common.{◌≡◌, ◌⊎◌, inl, inr, ℕ, true, false, List, if◌then◌else◌, Option, Some, None, Result, Ok, Err, refl, sym, ap}
+use Rattle.std.proofs.Common.{subst, ◌∙◌}
+use Rattle.hub_parties.specs.Rows.{RegisterRows, parties_of, supplier_row}
+use Rattle.hub_parties.specs.declared.row.SupplierRow.{SupplierRow}
+use Rattle.hub_tables.specs.Register.{register_of, suppliers_of}
+use Rattle.hub_tables.specs.Tables.{Tables}
+use Rattle.hub_store.specs.declared.fault.StoreFault.{StoreFault}
+use Rattle.hub_rules.specs.Laws.{SoundHub, PartiesStay}
+use Rattle.hub_law.specs.Machine.{shared_step}
+use Rattle.hub_law.specs.Mark.{Mark, replied}
+use Rattle.hub_law.specs.Replies.{denied}
+use Rattle.hub_law.specs.Requests.{looked_at, from_retailer, retailer_request}
+use Rattle.hub_law.specs.declared.reply.Reply.{Reply}
+use Rattle.hub_law.specs.declared.request.Input.{Input}
+use Rattle.hub_law.specs.declared.request.Request.{Request}
+use Rattle.hub_law.specs.declared.request.Request.TheVariants as requests
+use Rattle.hub_law.proofs.Acting.{parties_same, register_same}
+use Rattle.hub_law.proofs.Callers.{step_by, is_retailers, step_is}
+use Rattle.hub_law.proofs.Retailers.{messages_stay, cancelled_stays}
+use Rattle.hub_law.proofs.Steps.{gln_of, supplier_alike}
+use Rattle.hub_core.specs.Steps.{Does, Asked, IsNoJoin}
+
+module _ (t : Tables) (here : SoundHub t) where
+  abbrev R : RegisterRows
+  R = register_of t
+
+  retailer_keeps : (moment : ℕ) (mark : Mark) (request : Request)
+      → IsNoJoin request
+      → PartiesStay t (retailer_request R moment mark request t).1
+  retailer_keeps moment mark (requests.Upload bytes) other =
+      (messages_stay R here.register.right.prefixes_free (looked_at moment mark (from_retailer (parties_of R) bytes)) t here.sound).parties
+  retailer_keeps moment mark (requests.MailAfter number) other = parties_same t
+  retailer_keeps moment mark (requests.MailItem number) other = parties_same t
+  retailer_keeps moment mark (requests.MailTaken number) other = parties_same t
+  retailer_keeps moment mark requests.Status other = parties_same t
+  retailer_keeps moment mark (requests.StatusOf gln) other = parties_same t
+  retailer_keeps moment mark (requests.Cancel c) other =
+      (cancelled_stays R here.register.right.prefixes_free mark c t here.sound).parties
+  retailer_keeps moment mark (requests.Join row) other = absurd (other row refl)
+
+  keeps_by : (input : Input) (mark : Mark) (o : Option SupplierRow)
+      → supplier_row (suppliers_of t) input.caller ≡ o
+      → IsNoJoin input.request
+      → PartiesStay t (step_by R o input mark t).1
+  keeps_by input mark (Some w) h other =
+      let whose = gln_of (suppliers_of t) input.caller w h in
+      (supplier_alike (suppliers_of t) here.register.right.prefixes_free (parties_of R) w
+      (ap (supplier_row (suppliers_of t)) whose ∙ h) input mark t here.sound).apart.parties
+  keeps_by input mark None h other =
+      elim (is_retailers R input) as (λ v. PartiesStay t
+      (if v then retailer_request R input.moment mark input.request t else replied mark denied t).1) [
+        | true ↦ retailer_keeps input.moment mark input.request other
+        | false ↦ parties_same t
+      ]
+
+  -- the tables hold the same register after it
+  pub register_kept : (input : Input) (mark : Mark)
+      → IsNoJoin input.request
+      → register_of (shared_step t input mark).1 ≡ register_of t
+  register_kept input mark other =
+      register_same t (shared_step t input mark).1
+      (subst (λ (after : Reply × Tables). PartiesStay t after.1) (sym (step_is R input mark t))
+      (keeps_by input mark (supplier_row (suppliers_of t) input.caller) refl other))
+
+-- a request is a join, or it is none
+pub join_or_none : (request : Request) → ((row : SupplierRow) × (request ≡ requests.Join row)) ⊎ IsNoJoin request
+join_or_none (requests.Upload bytes) = inr (λ row e. cc)
+join_or_none (requests.MailAfter number) = inr (λ row e. cc)
+join_or_none (requests.MailItem number) = inr (λ row e. cc)
+join_or_none (requests.MailTaken number) = inr (λ row e. cc)
+join_or_none requests.Status = inr (λ row e. cc)
+join_or_none (requests.StatusOf gln) = inr (λ row e. cc)
+join_or_none (requests.Cancel c) = inr (λ row e. cc)
+join_or_none (requests.Join row) = inl (row, refl)
+
+pub no_join : (bytes : List ℕ) → IsNoJoin (requests.Upload bytes)
+no_join bytes row e = cc
+
+-- what changes nothing whatever the tables
+pub content_kept : {S : Type 0} (content : S → Tables) (honest : S → Type 0) (left : S → Tables → Type 0) (old new : S) (count : ℕ)
+    (does : Does) (result : Result Reply StoreFault)
+    → ((mark : Mark) (t : Tables) → (does mark t).1 ≡ t)
+    → Asked content honest left old new count does result
+    → honest new
+    → content new ≡ content old
+content_kept content honest left old new count does (Ok reply) idle asked h =
+    let a = asked.answered h in
+    sym (ap (λ (r : Reply × Tables). r.1) a.is) ∙ idle a.mark (content old)
+content_kept content honest left old new count does (Err fault) idle asked h = (asked.undone h).same

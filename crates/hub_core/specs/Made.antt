@@ -1,0 +1,15 @@
+-- How a hub is made.
+use Rattle.std.specs.Prelude.{Bool, Option, Result}
+use Rattle.hub_parties.specs.Rows.{RegisterRows}
+use Rattle.hub_tables.specs.Register.{register_of}
+use Rattle.hub_tables.specs.Tables.{Tables}
+use Rattle.hub_store.specs.Calls.{Looks, Fails}
+use Rattle.hub_store.specs.declared.fault.LastingFault.{LastingFault}
+use Rattle.hub_store.specs.declared.fault.StoreFault.{StoreFault}
+
+-- the register of the rows of a store was asked for: what came, and what became of the store
+pub record Reads {S : Type 0} (content : S → Tables) (honest : S → Type 0) (left : S → Tables → Type 0)
+    (broken : S → Option LastingFault) (plain : Bool) (old new : S) (result : Result RegisterRows StoreFault)
+    : Type 0 where
+  pub looks : Looks content honest left broken old new (register_of (content old)) result
+  pub fails : Fails plain (broken old) (broken new) result

@@ -1,0 +1,2 @@
+pub mod Founding
+pub mod Gathered

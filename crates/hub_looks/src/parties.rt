@@ -1,0 +1,106 @@
+//! Look-ups of the register: the hub's row, the keys of suppliers and their company prefixes.
+ghost use Rattle.std.specs.Prelude.{◌≡◌, false, IsTrue, IfOk};
+ghost use Rattle.std.specs.List.{list_all};
+ghost use Rattle.sqlite.specs.Held.{state};
+ghost use Rattle.hub_store.specs.Clean.{clean_hub, clean_key, clean_prefix};
+ghost use Rattle.hub_founding.specs.Founding.{IsHeldBy, HoldsNone};
+ghost use Rattle.hub_schema.specs.State.{LooksFor};
+ghost use Rattle.hub_tables.specs.Sets.{Rising};
+
+use crate::ask::rows_of;
+use edi_base::Items;
+use hub_founding::register_of;
+use hub_register::Register;
+use hub_store::StoreFault;
+use hub_tables::{HubRow, KeyRow, PrefixRow};
+use sqlite::{Alter, Connection};
+use std::alloc::Global;
+
+/// The hub's rows, by its GLN.
+pub fn all_hubs<S: Alter>(
+    conn: &mut Connection<S>,
+    alloc: Global,
+) -> Result<Items<HubRow>, StoreFault>
+    ensures looks { LooksFor (λ t rows. rows ≡ t.hubs) (λ t. list_all clean_hub t.hubs ≡ false)
+        (state S.Store conn.old) (state S.Store conn.new) result }
+    ensures clean { IfOk result (λ rows. IsTrue (list_all clean_hub rows)) }
+{
+    rows_of(
+        conn,
+        alloc,
+        "SELECT hub, retailer, \"key\" FROM hub ORDER BY hub",
+        &[],
+    )
+}
+
+/// The keys of all suppliers, by the supplier.
+pub fn all_keys<S: Alter>(
+    conn: &mut Connection<S>,
+    alloc: Global,
+) -> Result<Items<KeyRow>, StoreFault>
+    ensures looks { LooksFor (λ t rows. rows ≡ t.keys) (λ t. list_all clean_key t.keys ≡ false)
+        (state S.Store conn.old) (state S.Store conn.new) result }
+    ensures clean { IfOk result (λ rows. IsTrue (list_all clean_key rows)) }
+{
+    rows_of(
+        conn,
+        alloc,
+        "SELECT supplier, \"key\" FROM supplier ORDER BY supplier",
+        &[],
+    )
+}
+
+/// The company prefixes of all suppliers, by the prefix.
+pub fn all_prefixes<S: Alter>(
+    conn: &mut Connection<S>,
+    alloc: Global,
+) -> Result<Items<PrefixRow>, StoreFault>
+    ensures looks { LooksFor (λ t rows. rows ≡ t.prefixes) (λ t. list_all clean_prefix t.prefixes ≡ false)
+        (state S.Store conn.old) (state S.Store conn.new) result }
+    ensures clean { IfOk result (λ rows. IsTrue (list_all clean_prefix rows)) }
+{
+    rows_of(
+        conn,
+        alloc,
+        "SELECT prefix, supplier FROM prefix ORDER BY prefix",
+        &[],
+    )
+}
+
+// The register of the hub's rows and keys, with the prefixes that are there.
+fn register_by<S: Alter>(
+    conn: &mut Connection<S>,
+    alloc: Global,
+    hubs: &[HubRow],
+    keys: &[KeyRow],
+) -> Result<Option<Register>, StoreFault>
+    ensures { LooksFor (λ t register. t.hubs ≡ hubs.now → t.keys ≡ keys.now → Rising t → IsHeldBy t register) HoldsNone
+        (state S.Store conn.old) (state S.Store conn.new) result }
+{
+    let prefixes = all_prefixes(conn, alloc)?;
+    Ok(register_of(alloc, hubs, keys, prefixes.as_slice())?)
+}
+
+// The register of the hub's rows, with the keys and prefixes that are there.
+fn register_of_hubs<S: Alter>(
+    conn: &mut Connection<S>,
+    alloc: Global,
+    hubs: &[HubRow],
+) -> Result<Option<Register>, StoreFault>
+    ensures { LooksFor (λ t register. t.hubs ≡ hubs.now → Rising t → IsHeldBy t register) HoldsNone
+        (state S.Store conn.old) (state S.Store conn.new) result }
+{
+    let keys = all_keys(conn, alloc)?;
+    register_by(conn, alloc, hubs, keys.as_slice())
+}
+
+/// The register that the rows hold; `None` where they hold none.
+pub fn register<S: Alter>(
+    conn: &mut Connection<S>,
+    alloc: Global,
+) -> Result<Option<Register>, StoreFault>
+    ensures { LooksFor IsHeldBy HoldsNone (state S.Store conn.old) (state S.Store conn.new) result }
+{
+    let hubs = all_hubs(conn, alloc)?;
+    register_of_hubs(conn, alloc, hubs.as_slice())
+}

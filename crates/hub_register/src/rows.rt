@@ -1,0 +1,101 @@
+//! Rows that may be those of a register.
+
+ghost use Rattle.std.specs.Prelude.{◌≡◌, true, [], IfOk, OnOk, map};
+ghost use Rattle.std.specs.BTreeMap.{keys, values};
+ghost use Rattle.std.specs.List.{list_all};
+ghost use Rattle.hub_register.specs.InOrder.{put, put_all};
+ghost use Rattle.hub_register.specs.Kept as spec;
+
+use edi_base::MemoryFault;
+use gs1_ids::{Gln, overlap_some};
+use hub_parties::SupplierRow;
+use std::alloc::Global;
+use std::collections::BTreeMap;
+
+/// How many suppliers there may be.
+pub(crate) const MOST_SUPPLIERS: usize = 1000;
+
+// Whether a supplier can stand before another.
+fn goes_before(row: &SupplierRow, other: &SupplierRow) -> bool
+    ensures { result ≡ spec.goes_before row.now other.now }
+{
+    row.gln < other.gln && !overlap_some(row.prefixes.as_slice(), other.prefixes.as_slice())
+}
+
+// Whether a supplier can stand before all these.
+fn goes_before_all(row: &SupplierRow, later: &[SupplierRow]) -> bool
+    ensures { result ≡ list_all (spec.goes_before row.now) later.now }
+{
+    later.iter().all(|other| goes_before(row, other))
+}
+
+// Whether each supplier can stand before all after it.
+fn are_in_order(rows: &[SupplierRow]) -> bool
+    ensures { result ≡ spec.are_in_order rows.now }
+{
+    for (place, row) in rows.iter().enumerate() {
+        if !goes_before_all(row, &rows[place + 1..]) {
+            return false;
+        }
+    }
+    true
+}
+
+// Whether a supplier is neither the hub nor the retailer.
+fn is_other(hub: &Gln, retailer: &Gln, row: &SupplierRow) -> bool
+    ensures { result ≡ spec.is_other hub.now retailer.now row.now }
+{
+    *hub != row.gln && *retailer != row.gln
+}
+
+// Whether no supplier is the hub or the retailer.
+fn are_all_other(hub: &Gln, retailer: &Gln, rows: &[SupplierRow]) -> bool
+    ensures { result ≡ list_all (spec.is_other hub.now retailer.now) rows.now }
+{
+    rows.iter().all(|row| is_other(hub, retailer, row))
+}
+
+// Whether the hub and the retailer are two, and no supplier is one of them.
+fn are_others(hub: &Gln, retailer: &Gln, rows: &[SupplierRow]) -> bool
+    ensures { result ≡ spec.are_others hub.now retailer.now rows.now }
+{
+    hub != retailer && are_all_other(hub, retailer, rows)
+}
+
+/// Whether these can be the suppliers of a register with this hub and this retailer, in their order.
+pub(crate) fn keep_all(hub: &Gln, retailer: &Gln, rows: &[SupplierRow]) -> bool
+    ensures { result ≡ spec.keep_all hub.now retailer.now rows.now }
+{
+    rows.len() <= MOST_SUPPLIERS && are_others(hub, retailer, rows) && are_in_order(rows)
+}
+
+// Puts the row of a supplier at its GLN.
+fn put_row(row: SupplierRow, suppliers: &mut BTreeMap<Gln, SupplierRow>) -> Result<(), MemoryFault>
+    requires { keys suppliers.old ≡ map (λ row. row.gln) (values suppliers.old) }
+    ensures rows { OnOk result (values suppliers.new ≡ put row (values suppliers.old)) }
+    ensures at_gln { OnOk result (keys suppliers.new ≡ map (λ row. row.gln) (values suppliers.new)) }
+    ensures valid { spec.is_valid row ≡ true }
+{
+    // The contracts of these calls say that the parts of the row are valid.
+    let _gln = row.gln.digits();
+    let _prefixes = row.prefixes.as_slice();
+    let _key = row.key.bytes();
+    suppliers.insert(row.gln, row)?;
+    Ok(())
+}
+
+/// The rows by their GLNs.
+pub(crate) fn by_gln(
+    alloc: Global,
+    rows: Vec<SupplierRow>,
+) -> Result<BTreeMap<Gln, SupplierRow>, MemoryFault>
+    ensures rows { IfOk result (λ suppliers. values suppliers ≡ put_all rows.items []) }
+    ensures at_gln { IfOk result (λ suppliers. keys suppliers ≡ map (λ row. row.gln) (values suppliers)) }
+    ensures valid { IfOk result (λ suppliers. list_all spec.is_valid rows.items ≡ true) }
+{
+    let mut suppliers = BTreeMap::new(alloc);
+    for row in rows {
+        put_row(row, &mut suppliers)?;
+    }
+    Ok(suppliers)
+}

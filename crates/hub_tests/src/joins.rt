@@ -1,0 +1,189 @@
+//! Suppliers that join while a hub runs.
+ghost use Rattle.std.specs.Prelude.{◌≡◌};
+ghost use Rattle.hub_tables.specs.Register.{HoldsRegister};
+
+use crate::lists::lists;
+use edi_base::MemoryFault;
+use edi_envelope::Moment;
+use gs1_ids::{Gln, Prefix};
+use hub_core::{Hub, Join, Reply, Request, Role};
+use hub_list::VecStore;
+use hub_store::{Store, StoreFault};
+use hub_trial::TrialStore;
+use std::alloc::{AllocError, Global};
+use std::process::Abort;
+use std::test::Fail;
+
+// Who joins, with which key and which prefix.
+type Joining = (&'static [u8], &'static [u8], &'static [u8]);
+
+const GAMMA: Joining = (b"7612345000008", b"gamma-key-1", b"7612345");
+
+const DELTA: Joining = (b"3512345000005", b"delta-key-1", b"3512345");
+
+// Calls alone, so that what the contract says burdens no other goal.
+fn join_of(
+    alloc: Global,
+    supplier: Gln,
+    key: &[u8],
+    prefix: Prefix,
+) -> Result<Option<Join>, MemoryFault> {
+    Join::new(alloc, supplier, key, &[prefix])
+}
+
+fn hub_over<S: Store + Drop>(alloc: Global, store: S) -> Result<Hub<S>, StoreFault>
+    requires { S.honest store → HoldsRegister (S.content store) }
+{
+    match Hub::new(alloc, store) {
+        Ok(hub) => Ok(hub),
+        Err((_, fault)) => Err(fault),
+    }
+}
+
+fn replied<S: Store>(hub: &mut Hub<S>, moment: Moment, caller: &Gln, join: Join) -> Reply {
+    hub.step(moment, caller, b"retail-key", Request::Join(join))
+}
+
+fn role<S: Store>(hub: &Hub<S>, gln: &Gln, key: &[u8]) -> Option<Role> {
+    hub.role(gln, key)
+}
+
+fn joining(alloc: Global, row: &Joining) -> Result<Join, Fail> {
+    let (supplier, key, prefix) = row;
+    let supplier = Gln::parse(supplier).ok_or("a GLN")?;
+    let prefix = Prefix::parse(prefix).ok_or("a prefix")?;
+    Ok(join_of(alloc, supplier, key, prefix)?.ok_or("a join")?)
+}
+
+// What is answered to the retailer that lets a supplier in. Nothing is answered where there is no memory even for that.
+fn told<S: Store>(hub: &mut Hub<S>, join: Join) -> Result<Reply, Fail> {
+    let caller = Gln::parse(b"5412345000013").ok_or("a GLN")?;
+    let moment = Moment::new(1_748_942_400).ok_or("a moment")?;
+    let reply = replied(hub, moment, &caller, join);
+    if reply.body.is_empty() {
+        return Err(AllocError.into());
+    }
+    Ok(reply)
+}
+
+fn is_known<S: Store>(hub: &Hub<S>, row: &Joining) -> Result<bool, Fail> {
+    let (supplier, key, _) = row;
+    let supplier = Gln::parse(supplier).ok_or("a GLN")?;
+    Ok(role(hub, &supplier, key) == Some(Role::Supplier))
+}
+
+// Who joins, what is answered, and whether the supplier is known by the key then.
+type Answer = (Joining, &'static [u8], bool);
+
+static ANSWERS: [Answer; 6] = [
+    (
+        (b"3512345000005", b"delta-key-1", b"4012"),
+        b"refused B19\n",
+        false,
+    ),
+    (GAMMA, b"accepted\n", true),
+    (
+        (b"7612345000008", b"gamma-key-2", b"7712345"),
+        b"refused B18\n",
+        false,
+    ),
+    (
+        (b"3512345000005", b"delta-key-1", b"76123456"),
+        b"refused B19\n",
+        false,
+    ),
+    (DELTA, b"accepted\n", true),
+    (GAMMA, b"refused B18\n", true),
+];
+
+fn assert_answer<S: Store>(
+    rt: &impl Abort,
+    alloc: Global,
+    hub: &mut Hub<S>,
+    answer: &Answer,
+) -> Result<(), Fail> {
+    let (row, want, is_there) = answer;
+    let join = joining(alloc, row)?;
+    let reply = told(hub, join)?;
+    assert_eq!(*rt; reply.body.as_slice(), *want);
+    assert_eq!(*rt; is_known(hub, row)?, *is_there);
+    Ok(())
+}
+
+fn hub_of_lists(alloc: Global) -> Result<Hub<VecStore>, Fail> {
+    let lists = lists(alloc)?;
+    Ok(hub_over(alloc, lists)?)
+}
+
+#[test]
+fn suppliers_join_a_hub_over_lists(rt: HostRuntime) -> Result<(), Fail> {
+    let mut hub = hub_of_lists(rt.alloc())?;
+    for answer in &ANSWERS {
+        assert_answer(&rt, rt.alloc(), &mut hub, answer)?;
+    }
+    Ok(())
+}
+
+// Lists that fail at the call after so many others, of which the first gives their register.
+fn failing(lists: VecStore, calls: u64, is_of_disk: bool) -> TrialStore<VecStore>
+    ensures { result.0 ≡ lists }
+{
+    let fault = if is_of_disk {
+        StoreFault::Disk
+    } else {
+        StoreFault::Memory
+    };
+    TrialStore::failing(lists, calls, fault)
+}
+
+fn hub_that_fails(
+    alloc: Global,
+    calls: u64,
+    is_of_disk: bool,
+) -> Result<Result<Hub<TrialStore<VecStore>>, StoreFault>, Fail> {
+    let lists = lists(alloc)?;
+    Ok(hub_over(alloc, failing(lists, calls, is_of_disk)))
+}
+
+// Behind how many calls a fault comes, and whether it is of the disk; and what comes of two joins of one supplier.
+type Failure = (u64, bool, Answer, Answer);
+
+const STOPPED: Answer = (GAMMA, b"stopped\n", false);
+
+const ACCEPTED: Answer = (GAMMA, b"accepted\n", true);
+
+const KNOWN: Answer = (GAMMA, b"refused B18\n", true);
+
+static FAILURES: [Failure; 4] = [
+    (1, false, STOPPED, ACCEPTED),
+    (1, true, STOPPED, STOPPED),
+    (2, false, ACCEPTED, KNOWN),
+    (2, true, ACCEPTED, KNOWN),
+];
+
+fn assert_failure(rt: &impl Abort, alloc: Global, failure: &Failure) -> Result<(), Fail> {
+    let (calls, is_of_disk, first, second) = failure;
+    let mut hub = hub_that_fails(alloc, *calls, *is_of_disk)??;
+    assert_answer(rt, alloc, &mut hub, first)?;
+    assert_answer(rt, alloc, &mut hub, second)
+}
+
+#[test]
+fn a_join_that_is_not_committed_leaves_the_register(rt: HostRuntime) -> Result<(), Fail> {
+    for failure in &FAILURES {
+        assert_failure(&rt, rt.alloc(), failure)?;
+    }
+    Ok(())
+}
+
+fn fault_at_once(alloc: Global, is_of_disk: bool) -> Result<Option<StoreFault>, Fail> {
+    Ok(hub_that_fails(alloc, 0, is_of_disk)?.err())
+}
+
+#[test]
+fn a_hub_wants_its_register(rt: HostRuntime) -> Result<(), Fail> {
+    for (is_of_disk, fault) in [(false, StoreFault::Memory), (true, StoreFault::Disk)] {
+        assert_eq!(rt; fault_at_once(rt.alloc(), is_of_disk)?, Some(fault));
+    }
+    Ok(())
+}

@@ -1,0 +1,43 @@
+//! Lists with the rows of a register of one supplier.
+ghost use Rattle.std.specs.Prelude.{IfOk};
+ghost use Rattle.hub_tables.specs.Register.{HoldsRegister};
+
+use edi_base::MemoryFault;
+use hub_list::VecStore;
+use hub_register::{Register, RegisterFault};
+use hub_tables::founded_tables_hold_their_register;
+use std::alloc::Global;
+use std::test::Fail;
+
+const OF_ONE: &str = "hub = \"5412345000006\"
+
+[retailer]
+gln = \"5412345000013\"
+key = \"retail-key\"
+
+[[supplier]]
+gln = \"4012345500004\"
+prefix = \"40123455\"
+key = \"alpha-key-1\"
+";
+
+// Each call alone, so that what the contract says burdens no other goal.
+fn register(alloc: Global) -> Result<Register, RegisterFault> {
+    Register::from_toml(alloc, OF_ONE)
+}
+
+fn founded(alloc: Global, register: &Register) -> Result<VecStore, MemoryFault>
+    ensures { IfOk result (λ lists. HoldsRegister lists) }
+{
+    founded_tables_hold_their_register();
+    let _hub = register.hub();
+    VecStore::new(alloc, register)
+}
+
+/// Lists with the rows of a register alone.
+pub(crate) fn lists(alloc: Global) -> Result<VecStore, Fail>
+    ensures { IfOk result (λ lists. HoldsRegister lists) }
+{
+    let register = register(alloc)?;
+    Ok(founded(alloc, &register)?)
+}

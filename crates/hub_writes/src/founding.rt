@@ -1,0 +1,42 @@
+//! The founding of a hub: its tables and their first rows, in one transaction.
+ghost use Rattle.std.specs.Prelude.{◌≡◌, OnOk, false};
+ghost use Rattle.sqlite.specs.Held.{state};
+ghost use Rattle.sqlite.specs.State.{HasCleanDisk, KeepsCommit, Survives};
+ghost use Rattle.hub_tables.specs.Change.{apply_all as all_applied};
+ghost use Rattle.hub_tables.specs.Tables.{empty};
+ghost use Rattle.hub_schema.specs.Making.{HasMade};
+ghost use Rattle.hub_schema.specs.Schema.{no_schema};
+ghost use Rattle.hub_schema.specs.State.{FoundsTo, Makes};
+
+use crate::changes::apply_all;
+use crate::faults::call_ended;
+use hub_schema::make_tables;
+use hub_store::StoreFault;
+use hub_tables::Change;
+use sqlite::{Alter, Connection, Transaction};
+
+// Makes the tables, and in them the changes.
+fn lay<S: Alter>(tx: &mut Transaction<'_, S>, changes: &[Change]) -> Result<(), StoreFault>
+    ensures same_reference { tx.new.conn.ghost_name ≡ tx.old.conn.ghost_name }
+    ensures makes { HasCleanDisk (state S.Store tx.new.conn.now) → HasMade no_schema (state S.Store tx.old.conn.now) →
+        OnOk result (Makes (λ _. all_applied changes.now empty) (state S.Store tx.old.conn.now)
+        (state S.Store tx.new.conn.now)) }
+    ensures kept { HasCleanDisk (state S.Store tx.new.conn.now) →
+        KeepsCommit (state S.Store tx.old.conn.now) (state S.Store tx.new.conn.now) }
+    ensures survives { Survives (state S.Store tx.old.conn.now) (state S.Store tx.new.conn.now) (λ _. ⊥) }
+{
+    call_ended(make_tables(tx))?;
+    apply_all(tx, changes)
+}
+
+/// Founds a hub in a database that has no tables: makes all of them, and in them the changes, or at a fault nothing.
+pub fn found<S: Alter>(conn: &mut Connection<S>, changes: &[Change]) -> Result<(), StoreFault>
+    requires { (state S.Store conn.old).in_transaction ≡ false }
+    ensures { FoundsTo ((state S.Store conn.old).now.schema ≡ no_schema) (all_applied changes.now empty)
+        (state S.Store conn.old) (state S.Store conn.new) result }
+{
+    let _idle = conn.is_autocommit();
+    let mut tx = conn.transaction();
+    lay(&mut tx, changes)?;
+    call_ended(tx.commit())
+}

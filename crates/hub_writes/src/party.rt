@@ -1,0 +1,52 @@
+//! The hub's row, the keys of suppliers and their company prefixes.
+ghost use Rattle.std.specs.Prelude.{◌≡◌, ◌∷◌, []};
+ghost use Rattle.sqlite.specs.Held.{state};
+ghost use Rattle.hub_tables.specs.declared.change.Change.TheVariants.{AddHub, AddKey, AddPrefix};
+ghost use Rattle.hub_writes.specs.Acts.{Acts};
+
+use crate::faults::insert_ended;
+use crate::values::{gln_value, key_value, prefix_value};
+use hub_store::StoreFault;
+use hub_tables::{HubRow, KeyRow, PrefixRow};
+use sqlite::{Alter, Transaction};
+
+/// Adds the hub's row.
+pub fn add_hub<S: Alter>(tx: &mut Transaction<'_, S>, row: &HubRow) -> Result<(), StoreFault>
+    ensures same_reference { tx.new.conn.ghost_name ≡ tx.old.conn.ghost_name }
+    ensures acts { Acts (AddHub row.now ∷ []) (state S.Store tx.old.conn.now) (state S.Store tx.new.conn.now) result }
+{
+    let hub = gln_value(&row.hub);
+    let retailer = gln_value(&row.retailer);
+    let key = key_value(&row.key);
+    insert_ended(tx.execute(
+        "INSERT INTO hub (hub, retailer, \"key\") VALUES (?1, ?2, ?3)",
+        &[hub, retailer, key],
+    ))
+}
+
+/// Adds the key of a supplier.
+pub fn add_key<S: Alter>(tx: &mut Transaction<'_, S>, row: &KeyRow) -> Result<(), StoreFault>
+    ensures same_reference { tx.new.conn.ghost_name ≡ tx.old.conn.ghost_name }
+    ensures acts { Acts (AddKey row.now ∷ []) (state S.Store tx.old.conn.now) (state S.Store tx.new.conn.now) result }
+{
+    let supplier = gln_value(&row.supplier);
+    let key = key_value(&row.key);
+    insert_ended(tx.execute(
+        "INSERT INTO supplier (supplier, \"key\") VALUES (?1, ?2)",
+        &[supplier, key],
+    ))
+}
+
+/// Adds a company prefix.
+pub fn add_prefix<S: Alter>(tx: &mut Transaction<'_, S>, row: &PrefixRow) -> Result<(), StoreFault>
+    ensures same_reference { tx.new.conn.ghost_name ≡ tx.old.conn.ghost_name }
+    ensures acts { Acts (AddPrefix row.now ∷ []) (state S.Store tx.old.conn.now)
+        (state S.Store tx.new.conn.now) result }
+{
+    let prefix = prefix_value(&row.prefix);
+    let supplier = gln_value(&row.supplier);
+    insert_ended(tx.execute(
+        "INSERT INTO prefix (prefix, supplier) VALUES (?1, ?2)",
+        &[prefix, supplier],
+    ))
+}
