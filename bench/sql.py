@@ -1,6 +1,6 @@
 """Despatches of ten lines, and 999 orders in one upload and in as many, on the proved hub over a file of SQL (`hub_script file`) and
 on a plain Rust program over the system's SQLite (sql.rs), with few and with many lines of the supplier: ratios of processor
-time a message, how it grows with the lines, and syncs a message. Then what opening a file costs, by its size. Where a bound
+time a message, how it grows with the lines, and syncs a message. Then what opening a file costs, by its size and by its register. Where a bound
 is passed, it says so and ends with status 1. Last, `edihub import` of 999 orders in one file and in as many, beside the plain
 program's uploads of the same.
 
@@ -13,6 +13,8 @@ import sys
 import tempfile
 
 from hub import ALPHA, RETAILER, Play, begun, despatch, interchange, order, sent, since_first
+from hubs import BETA, MOMENT
+from registers import gln, register
 
 ROUNDS, MESSAGES = 5, 600
 LINES = (10, 1_000, 100_000)
@@ -129,6 +131,21 @@ def opening(program, folder, top):
     print(f"opening a file of {size / 1e6:.0f} MB: {1000 * time:.0f} ms of processor time, {memory:.0f} MB of memory", flush=True)
 
 
+def by_register(edihub, top):
+    """What a register costs as a file is opened: of two suppliers, and of 1,000 with eight prefixes each, no order in either."""
+    few = register((ALPHA, "40123455", "alpha-key-1"), (BETA, "8712345", "beta-key-1"))
+    many = register(*((gln(k), [f"4{k:03}{last}00" for last in range(8)], f"key-{k:04}") for k in range(1000)))
+    times = []
+    for name, text, who, key in (("2 suppliers", few, ALPHA, "alpha-key-1"), ("1,000 suppliers of eight prefixes", many, gln(7), "key-0007")):
+        folder = tempfile.mkdtemp(dir=top)
+        with open(os.path.join(folder, "register.toml"), "w", encoding="ascii") as file:
+            file.write(text)
+        timed([edihub, "init", "--register", "register.toml", "--db", "hub.db"], folder)
+        words = [edihub, "status", "--db", "hub.db", "--as", who, "--key", key, "--moment", MOMENT]
+        times.append(min(timed(words, folder)[0] for _ in range(ROUNDS)))
+        print(f"opening a hub of {name}, without orders: {1000 * times[-1]:.0f} ms of processor time", flush=True)
+
+
 def importing(edihub, folder, uploads, top):
     """A copy of the folder with these uploads as files to import, and the words that import them."""
     into = copied(folder, top)
@@ -196,6 +213,7 @@ def main(ours, plain, edihub):
             run(ours, base(lines), folder)
             close(folder)
             opening(ours, folder, top)
+        by_register(edihub, top)
     for name in LOADS:
         growth = times[name, LINES[-1]] / times[name, LINES[0]]
         print(f"{name}: from {LINES[0]} to {LINES[-1]:,} lines it grows by {growth:.2f}")

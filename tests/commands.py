@@ -13,13 +13,12 @@ from files import NAME, REGISTERED, has_rows, is_still, is_whole
 from hubs import ALPHA, BETA, DELTA, DESPATCH, FIRST_MAIL, HUB, KEYS, RECEIPT, RESPONSE, RETAILER, SECOND, STATUS, TWO_SUPPLIERS
 from hubs import OTHER_PALLET, despatch, interchange, line_status, order, response
 from registers import GAMMA, REGISTERS, crowd, of_prefixes, register
-from stops import SHIM
+from stops import SHIM, WAYS
 
 MEDDLE = os.path.join(os.path.dirname(os.path.abspath(__file__)), "meddle.c")
 
 REGISTER = "register.toml"
 MOMENT = "1748942400"
-KEPT = os.path.join(os.path.dirname(os.path.abspath(__file__)), "kept")
 
 
 def over(command, who, *more, key=None, moment=MOMENT, db=NAME):
@@ -428,20 +427,7 @@ def broken_output():
     )
 
 
-def kept(name):
-    """A database file of schema 1 as it was once written, which knew no register: no command opens it."""
-    with open(os.path.join(KEPT, f"{name}.db"), "rb") as file:
-        data = file.read()
-    refused = [step(words, "", 3, "store version\n", {NAME: data}, is_still(data)) for words in (*EACH, init())]
-    return steps(f"a database file of schema 1, {name}", *refused)
-
-
-def kept_files():
-    """One before any receipt, and one in which a pallet was received."""
-    return [kept("schema1"), kept("schema1_received")]
-
-
-COMMANDS = [in_turn(), folder_in_order(), what_is_no_file(), cuts(), long_mailbox(), long_reply(), too_long(), kept_mode(), sums_of_pages(), two_suppliers(), denied(), *begins(), *foundings(), joined(), *refused_joins(), by_the_clock(), broken_output(), *kept_files()]
+COMMANDS = [in_turn(), folder_in_order(), what_is_no_file(), cuts(), long_mailbox(), long_reply(), too_long(), kept_mode(), sums_of_pages(), two_suppliers(), denied(), *begins(), *foundings(), joined(), *refused_joins(), by_the_clock(), broken_output()]
 
 
 def found(program, folder, text=TWO_SUPPLIERS):
@@ -582,10 +568,10 @@ def own_file(program):
     return None
 
 
-def founding_killed(program):
+def founding_killed(program, before=None, rows=None, shown="end\n"):
     """What is wrong where a founding is killed at a change of its files, if anything: either nothing is founded, and a founding that is made again
-    goes through, or all is."""
-    whole = has_rows(rows_of_register(*FIRST_TWO))
+    goes through, or all is. `before`: a file that is there, `rows`: those of the file that is founded, `shown`: the status of a supplier then."""
+    whole = has_rows(rows or rows_of_register(*FIRST_TWO))
     with tempfile.TemporaryDirectory() as top:
         shim, count_file = os.path.join(top, "stop.so"), os.path.join(top, "count")
         subprocess.run(["cc", "-O2", "-shared", "-fPIC", "-o", shim, SHIM, "-ldl"], check=True)
@@ -594,11 +580,14 @@ def founding_killed(program):
             it = subprocess.run([program, *words], cwd=folder, capture_output=True, env=variables, timeout=SECONDS)
             return it.returncode, it.stdout, it.stderr
 
-        def tried(number):
+        def tried(number, **way):
             with tempfile.TemporaryDirectory(dir=top) as folder:
-                with open(os.path.join(folder, REGISTER), "w", encoding="ascii") as file:
-                    file.write(TWO_SUPPLIERS)
-                variables = {"LD_PRELOAD": shim, "STOP_FILE": os.path.join(folder, NAME), "STOP": str(number), "COUNT": count_file}
+                # what a file that is there held when it was last synced
+                there = [(NAME, before), (f"{NAME}.synced", before)] if before else []
+                for name, data in ((REGISTER, TWO_SUPPLIERS.encode()), *there):
+                    with open(os.path.join(folder, name), "wb") as file:
+                        file.write(data)
+                variables = {"LD_PRELOAD": shim, "STOP_FILE": os.path.join(folder, NAME), "STOP": str(number), "COUNT": count_file, **way}
                 first, done, version = ran(init(), folder, **variables), (0, b"ok 2 suppliers\n", b""), (3, b"", b"store version\n")
                 if not number:
                     return whole(folder) if first == done else f"whole: {first!r:.300}"
@@ -609,15 +598,15 @@ def founding_killed(program):
                 if again != version and (again != done or first[1]):
                     return f"killed at {number}, then: {again!r:.300}"
                 looked = ran(over("status", ALPHA), folder)
-                return whole(folder) if looked == (0, b"end\n", b"") else f"killed at {number}, then a status: {looked!r:.300}"
+                return whole(folder) if looked == (0, shown.encode(), b"") else f"killed at {number}, then a status: {looked!r:.300}"
 
         why = tried(0)
         with open(count_file, encoding="ascii") as file:
             changes = int(file.read().split()[0])
-        for number in range(1, changes + 1):
-            why = why or tried(number)
+        for number, way in ((number, way) for way in WAYS.values() for number in range(1, changes + 1)):
+            why = why or tried(number, **way)
         if not why:
-            print(f"a founding killed at {changes} of {changes} changes of its files, and made again")
+            print(f"a founding {'of schema 1 ' if before else ''}killed at {changes} of {changes} changes of its files in {len(WAYS)} ways, and made again")
         return why
 
 

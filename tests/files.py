@@ -186,7 +186,6 @@ OTHERS = [
     ("a schema of number 0", file_of(TABLES, ROWS, "UPDATE schema SET number = 0")),
     ("a schema without its number", file_of(TABLES, ROWS, "DELETE FROM schema")),
     ("a schema with two numbers", file_of(TABLES, ROWS, "INSERT INTO schema VALUES (2)")),
-    ("the tables and the number of schema 1", file_of(OLD_TABLES, OLD_ROWS)),
     ("the tables of schema 1 and number 2", file_of(OLD_TABLES, {**OLD_ROWS, "schema": [(2,)]})),
     ("the tables of schema 2 and number 1", file_of(TABLES, {**ROWS, "schema": [(1,)]})),
     ("no table of prefixes", file_of(TABLES, ROWS, "DROP TABLE prefix")),

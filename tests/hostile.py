@@ -1,6 +1,7 @@
 """`make hostile`: hostile use of the built program, for minutes.
 
-- A founding is killed at 100 moments and made again: either nothing was founded, or all of it is there.
+- A founding is killed at 100 moments and made again: either nothing was founded, or all of it is there. The same of a founding over a file
+  of schema 1 with 10,000 orders: it is as it was, or all of it is brought over.
 - An import of 999 orders is killed at 100 moments spread over it and made again to its end: mailbox, status and every table are
   those of one that nobody disturbed, and SQLite finds the file whole after each kill.
 - `serve` is killed at 100 moments while a client uploads: every answer that the client had read is kept.
@@ -33,7 +34,7 @@ from concurrent.futures import ThreadPoolExecutor
 
 from calls import calls_refused
 from commands import REGISTER, found as found_hub, init, over, told
-from files import NAME, REGISTERED, TABLES as CREATED, file_of, is_whole
+from files import NAME, OLD_ROWS, OLD_TABLES, REGISTERED, TABLES as CREATED, file_of, is_whole
 from http_texts import response
 from hubs import ALPHA, BETA, DESPATCH, HUB, MOMENT, ORDERS as ORDER, RECEIPT, RESPONSE, RETAILER, SECOND, SPELLED, TWO_SUPPLIERS, interchange, order
 from refusals import SHIM, refusals
@@ -129,6 +130,100 @@ def foundings_killed(program, top):
         counts["founded" if again == KNOWN else "not founded"] += 1
     print(f"a founding killed at {MOMENTS} moments: " + ", ".join(f"{count} {word}" for word, count in counts.most_common()))
     return None
+
+
+def old_file_of(count):
+    """The bytes of a file of schema 1 with so many orders, as SQLite writes it."""
+    who, body = ALPHA.encode(), OLD_ROWS["mail"][0][6]
+    numbers = [(k, str(k).encode()) for k in range(1, count + 1)]
+    rows = {
+        '"order"': [(who, number) for _, number in numbers],
+        "line": [(who, number, 1, b"04000862141404", 48, 48, 0, 0, ord("W")) for _, number in numbers],
+        "remembered": [(who, ord("R"), b"U%d" % k, b"1", body.replace(b"128576", number)) for k, number in numbers],
+        "mail": [(who, k, 1748942400, ord("."), ord("O"), number, body.replace(b"128576", number), 0) for k, number in numbers],
+        "schema": [(1,)],
+    }
+    with tempfile.TemporaryDirectory() as folder:
+        path = os.path.join(folder, NAME)
+        made = sqlite3.connect(path)
+        made.executescript("PRAGMA synchronous = OFF;" + OLD_TABLES)
+        for table, its in rows.items():
+            made.executemany(f"INSERT INTO {table} VALUES ({', '.join('?' * len(its[0]))})", its)
+        made.commit()
+        made.close()
+        with open(path, "rb") as file:
+            return file.read()
+
+
+def with_file(top, data):
+    """A folder with a register, and this file."""
+    folder = bare_folder(top)
+    with open(os.path.join(folder, NAME), "wb") as file:
+        file.write(data)
+    return folder
+
+
+def migrations_killed(program, top):
+    data = old_file_of(10_000)
+    whole = with_file(top, data)
+    begun = time.monotonic()
+    if run(program, init(), whole) != FOUNDED:
+        return "a file of schema 1 that nobody disturbs is not brought over"
+    length, wanted, counts = time.monotonic() - begun, rows_of(whole), Counter()
+    seen = run(program, over("status", ALPHA), whole)
+    if seen[1].count(b"\n") != 10_001:
+        return f"a status of {seen[1].count(bytes([10]))} lines"
+
+    def tried(place):
+        folder = with_file(top, data)
+        child = subprocess.Popen([program, *init()], cwd=folder, stdout=subprocess.PIPE)
+        # those beside it take their time too, so that the moments are spread over more than one run alone takes
+        time.sleep(2 * length * place / MOMENTS)
+        child.kill()
+        printed = child.communicate()[0]
+        if is_whole(shutil.copytree(folder, folder + "looked")):
+            return f"killed at {place}: {is_whole(folder + 'looked')}"
+        again = run(program, init(), folder)
+        if again != KNOWN and (again != FOUNDED or printed):
+            return f"killed at {place}, then: {again!r:.300}"
+        if rows_of(folder) != wanted or is_whole(folder) or run(program, over("status", ALPHA), folder) != seen:
+            return f"killed at {place}, then other rows"
+        counts["brought over" if again == KNOWN else "as it was"] += 1
+        for it in (folder, folder + "looked"):
+            shutil.rmtree(it)
+        return None
+
+    with ThreadPoolExecutor(len(os.sched_getaffinity(0))) as pool:
+        why = next(filter(None, pool.map(tried, range(MOMENTS))), None)
+    if why:
+        return why
+    print(f"a file of schema 1 with 10,000 orders, killed at {MOMENTS} moments: " + ", ".join(f"{count} {word}" for word, count in counts.most_common()))
+    return None if min(counts["brought over"], counts["as it was"]) >= 5 else "the kills did not come in the midst"
+
+
+def migrations_on_full_disks(program, top):
+    """No file may grow past so many bytes while a file of schema 1 is brought over."""
+    data = old_file_of(300)
+    whole = with_file(top, data)
+    if run(program, init(), whole) != FOUNDED:
+        return "a file of schema 1 with room is not brought over"
+    wanted, counts = rows_of(whole), Counter()
+    for limit in range(0, 2 * len(data), max(512, len(data) // 60)):
+
+        def little():
+            signal.signal(signal.SIGXFSZ, signal.SIG_IGN)
+            resource.setrlimit(resource.RLIMIT_FSIZE, (limit, resource.RLIM_INFINITY))
+
+        folder = with_file(top, data)
+        ran, again = run(program, init(), folder, preexec_fn=little), run(program, init(), folder)
+        if (ran, again) not in (((3, b"", b"store disk\n"), FOUNDED), ((3, b"", b"store disk\n"), KNOWN), (FOUNDED, KNOWN)):
+            return f"at {limit} bytes: {ran!r:.200}, then with room: {again!r:.200}"
+        if rows_of(folder) != wanted or is_whole(folder):
+            return f"at {limit} bytes, then with room: other rows"
+        counts["whole" if ran == FOUNDED else "store disk"] += 1
+        shutil.rmtree(folder)
+    print("a file of schema 1 brought over on a disk that is full: " + ", ".join(f"{count} {word}" for word, count in counts.most_common()))
+    return None if len(counts) == 2 else f"not each end: {counts}"
 
 
 def imports_killed(program, top):
@@ -384,7 +479,17 @@ def steps():
 
 def founding_refused(program, top):
     """A founding, with each of its allocations refused in turn, and made again."""
-    shim, count, bare = os.path.join(top, "refuse.so"), os.path.join(top, "count"), bare_folder(top)
+    return foundings_refused(program, top, lambda: bare_folder(top), "init")
+
+
+def migration_refused(program, top):
+    """The same over a file of schema 1."""
+    data = file_of(OLD_TABLES, OLD_ROWS)
+    return foundings_refused(program, top, lambda: with_file(top, data), "init over schema 1")
+
+
+def foundings_refused(program, top, folder_of, name):
+    shim, count, bare = os.path.join(top, "refuse.so"), os.path.join(top, "count"), folder_of()
     subprocess.run(["cc", "-O2", "-shared", "-fPIC", "-o", shim, SHIM, "-ldl"], check=True)
     if run(program, init(), bare, env={"LD_PRELOAD": shim, "COUNT": count}) != FOUNDED:
         return "a founding with ample memory"
@@ -393,7 +498,7 @@ def founding_refused(program, top):
         allocations = int(file.read())
 
     def tried(number):
-        folder = bare_folder(top)
+        folder = folder_of()
         first = run(program, init(), folder, env={"LD_PRELOAD": shim, "REFUSE": str(number)})
         if first == FOUNDED:
             kind = "as ever"
@@ -414,7 +519,7 @@ def founding_refused(program, top):
     if wrong:
         return f"{len(wrong)} of {allocations} wrong, first {wrong[0]}"
     counts = ", ".join(f"{count} {kind}" for (kind,), count in Counter(found).most_common())
-    print(f"init: {allocations} allocations; each refused in turn: {counts}", flush=True)
+    print(f"{name}: {allocations} allocations; each refused in turn: {counts}", flush=True)
     return None
 
 
@@ -572,7 +677,7 @@ def script_refused(scripts, top):
 
 
 # what is tried of the program, and of the program that plays scripts and the tests
-TRIALS = (files_damaged, disks_full, founding_refused, memory_refused, serving_refused, listed_in_little, foundings_killed, imports_killed, servers_killed)
+TRIALS = (files_damaged, disks_full, migrations_on_full_disks, founding_refused, migration_refused, memory_refused, serving_refused, listed_in_little, foundings_killed, migrations_killed, imports_killed, servers_killed)
 OF_SCRIPTS = (script_refused, calls_refused)
 
 

@@ -14,6 +14,8 @@ from hubs import Play
 from stops import LOOKS, ends, inputs, looks, script
 
 FILES = ("stop-file", "stop-log")
+# a file of schema 1 in which a pallet was received
+OLD = os.path.join(os.path.dirname(os.path.abspath(__file__)), "kept", "schema1_received.db")
 # how many calls of a file are stopped at least behind the making of the tables, and how many are tried at most
 FEWEST, MOST = 20, 2000
 
@@ -122,6 +124,47 @@ class Machine:
                     counts[found < 0] += 1
                 number += 64
         return f"{which}: no run without a stop in {MOST} calls"
+
+
+def migrated(run, which, number):
+    """What is wrong where the machine stops at a call of this number while a file of schema 1 is brought over or looked at; whether it stopped."""
+    shown, count = looks(Play()), LOOKS
+    whole = play(run, ["stop-log", str(1 << 40), OLD], shown.script)
+    script = looks(looks(Play()).say("mend")).script
+    words, front = [which, str(number), OLD], []
+    status, output = run(words, script)
+    if output.startswith(b"store "):
+        front = [(b"store disk", b"")]
+        status, output = run(words, Play().script + script)
+    found = replies(output)
+    if status or found[: len(front)] != front:
+        return f"{words}: ended with {status}, {output!r:.300}"
+    found = found[len(front) :]
+    stopped = [word for word, _ in found[:count] if word == b"stopped"]
+    if any(one != other and one[0] != b"stopped" for one, other in zip(found, whole)) or found[count:] != whole:
+        return f"{words}: {found!r:.400}"
+    return bool(front or stopped)
+
+
+def migrations(program):
+    """What is wrong where a machine stops at a call of its files while one of schema 1 is brought over, if anything."""
+    run, counts = runs_of(program), []
+    try:
+        for which in FILES:
+            number, stops = 0, True
+            with ThreadPoolExecutor(len(os.sched_getaffinity(0))) as pool:
+                while stops and number < MOST:
+                    some = list(pool.map(lambda call: migrated(run, which, call), range(number, number + 32)))
+                    if wrong := [it for it in some if isinstance(it, str)]:
+                        return wrong[0]
+                    stops, number = all(some), number + sum(some)
+            counts.append(number)
+            if not 0 < number < MOST:
+                return f"{which}: {number} calls"
+    except (OSError, subprocess.SubprocessError) as why:
+        return f"not tried: {why}"
+    print(f"a file of schema 1 brought over: {counts[0]} calls of the file and {counts[1]} of the log stopped in turn")
+    return None
 
 
 def machine(program):

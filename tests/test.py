@@ -1,6 +1,6 @@
 """`make test`: whether each public function has a wrong body (untried.py); the gate (rt ci), and what each crate took of the processors in it; and
-then, on the two programs that the gate built, the cases of cases.py, commands.py, hubs.py, files.py, connections.py and joins.py and the trials of
-commands.py, told.py, serving.py, files.py, made.py, stops.py, machine.py and refusals.py. The last line is `N passed, M failed` over all.
+then, on the two programs that the gate built, the cases of cases.py, commands.py, hubs.py, files.py, connections.py, joins.py and migrations.py and the trials of
+commands.py, migrations.py, told.py, serving.py, files.py, made.py, stops.py, machine.py and refusals.py. The last line is `N passed, M failed` over all.
 
 With `--alone`, all but the gate, on the programs that stand. With `--anew`, nothing that an earlier gate proved is taken over."""
 import os
@@ -18,6 +18,7 @@ import hubs
 import joins
 import machine
 import made
+import migrations
 import refusals
 import serving
 import spent
@@ -35,15 +36,16 @@ def built(crate):
 
 
 # each program, and its cases
-PROGRAMS = [(built("edihub"), cases.CASES + commands.COMMANDS), (built("hub_script"), hubs.HUBS + hubs.OVER_SQL + files.FILES + connections.CONNECTIONS + joins.JOINS)]
+PROGRAMS = [(built("edihub"), cases.CASES + commands.COMMANDS + migrations.MIGRATIONS), (built("hub_script"), hubs.HUBS + hubs.OVER_SQL + files.FILES + connections.CONNECTIONS + joins.JOINS)]
 
 # what is tried on a program many times over: each says what is wrong, if anything
 TRIALS = [
-    *((built("edihub"), *trial) for trial in commands.TRIALS + told.TRIALS + serving.TRIALS),
+    *((built("edihub"), *trial) for trial in commands.TRIALS + migrations.TRIALS + told.TRIALS + serving.TRIALS),
     (built("hub_script"), "a file that another program holds open", files.held_open),
     (built("hub_script"), "made runs", made.made_runs),
     (built("hub_script"), "changes of files stopped in turn", stops.stops),
     (built("hub_script"), "a machine that stops", machine.machine),
+    (built("hub_script"), "a machine that stops while a file of schema 1 is brought over", machine.migrations),
     (built("hub_script"), "allocations refused in turn", refusals.refusals),
 ]
 

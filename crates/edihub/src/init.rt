@@ -5,8 +5,7 @@ use crate::tell;
 use edi_base::OfWrite;
 use hub_app::{FAILED, InitWords, Verdict, print_verdict};
 use hub_register::{Register, RegisterFault};
-use hub_sql::SqliteStore;
-use hub_store::StoreFault;
+use hub_sql::{FoundFault, SqliteStore};
 use sqlite_disk::{Start, Unknown};
 use sqlite_std_file::FileFrom;
 use sqlite_store::FileStore;
@@ -25,13 +24,13 @@ fn make_missing(rt: &HostRuntime, path: &str) {
         .open(rt, path);
 }
 
-// Puts the register into the database file, and closes it.
+// Puts the register into the database file, beside the rows of a file of schema 1, and closes it.
 fn found_file<S: Start>(
     rt: &HostRuntime,
     path: &str,
     register: &Register,
     start: S,
-) -> Result<(), StoreFault> {
+) -> Result<(), FoundFault> {
     make_missing(rt, path);
     let tables = SqliteStore::<FileStore<FileFrom<S>>>::found_at(rt, path, start, register).map_err(
         |(fault, _left)| fault,
@@ -44,8 +43,11 @@ fn found_file<S: Start>(
 // before, so that nothing fails once the register is in the file.
 fn founded(rt: &HostRuntime, path: &str, register: &Register) -> Result<Verdict, BeginFault> {
     let verdict = Verdict::ok(rt.alloc(), register)?;
-    found_file(rt, path, register, Unknown)?;
-    Ok(verdict)
+    match found_file(rt, path, register, Unknown) {
+        Ok(()) => Ok(verdict),
+        Err(FoundFault::Rows) => Ok(Verdict::of_rows(rt.alloc())?),
+        Err(FoundFault::Store(fault)) => Err(BeginFault::Store(fault)),
+    }
 }
 
 // Does what the words ask, and gives what is to be told of it.

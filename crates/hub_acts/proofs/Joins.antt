@@ -1,6 +1,7 @@
 -- A register that takes a supplier, and the one that tables hold then.
-use Rattle.std.proofs.Common.{◌≡◌, inl, inr, Bool, true, false, cond, List, [], ◌∷◌, map, Option, Some, None, Result, Ok, Err}
-use Rattle.std.proofs.Common.{◌&&◌, refl, sym, ap, subst, ◌∙◌}
+use Rattle.std.proofs.Common.{◌≡◌, inl, inr, ℕ, Bool, true, false, cond, List, [], ◌∷◌, map, Option, Some, None, Result, Ok, Err}
+use Rattle.std.proofs.Common.{◌≢◌, ◌&&◌, refl, sym, ap, subst, ◌∙◌}
+use Rattle.std.proofs.lemmas.Bool.{and_parts}
 use Rattle.std.specs.Option.{IfSome}
 use Rattle.std.specs.List.{list_any}
 use Rattle.std.specs.Ordering.{is_gt, is_eq, match_ordering, ordering_reverse}
@@ -10,7 +11,7 @@ use Rattle.std.proofs.lemmas.Cmp.{nat_list_cmp_total}
 use Rattle.std.proofs.lemmas.Map.Text.{is_eq-slice_cmp}
 use Rattle.hub_parties.specs.KeyOrder as order
 use Rattle.hub_parties.specs.KeyOrder.{bytes_cmp}
-use Rattle.hub_parties.specs.Rows.{RegisterRows, IsRegister}
+use Rattle.hub_parties.specs.Rows.{RegisterRows, IsRegister, parties_of, row_of, supplier_row}
 use Rattle.hub_parties.specs.declared.row.SupplierRow.{SupplierRow}
 use Rattle.hub_register.specs.InOrder.{put}
 use Rattle.hub_register.specs.Joined.{joined_by, without, left_by}
@@ -20,7 +21,8 @@ use Rattle.hub_tables.specs.Rows.{same}
 use Rattle.hub_tables.specs.Tables.{Tables}
 use Rattle.hub_tables.specs.declared.change.Change.{Change}
 use Rattle.hub_tables.proofs.Founding.{register_back}
-use Rattle.hub_tables.proofs.Lists.{same_if}
+use Rattle.hub_tables.proofs.Enrolling.{find_past}
+use Rattle.hub_tables.proofs.Lists.{same_if, same_is}
 use Rattle.hub_rules.specs.JoinRules.{is_join, is_known, overlap_others, is_full, judge_join, joins, is_accepted}
 use Rattle.hub_rules.specs.Laws.{SoundHub, JoinedBy}
 use Rattle.hub_rules.specs.declared.code.Code.TheVariants.{GlnKnown, PrefixOverlaps, RegisterFull}
@@ -38,7 +40,8 @@ use Rattle.hub_law.specs.Requests.{joined, replied_by}
 use Rattle.hub_law.specs.Told.{Accepted, act, told}
 use Rattle.hub_law.specs.declared.reply.Reply.{Reply}
 use Rattle.hub_law.proofs.Agreeing.{sound_rises}
-use Rattle.hub_acts.specs.Acts.{Carried, FailsWith, OfAny, as_told, no_answer}
+use Rattle.hub_acts.specs.Acts.{Carried, FailsWith, as_told, no_answer}
+use Rattle.hub_acts.specs.Joins.{KeepsRows, MovesBy}
 
 -- Rows of which none has the GLN.
 module _ (row : SupplierRow) where
@@ -81,6 +84,26 @@ module _ (row : SupplierRow) where
       (λ e. ap (λ v. cond v (put row rows) (s ∷ without row.gln (put row rows))) parts.0
       ∙ ap (λ rest. s ∷ rest) (without_put rows parts.1))
 
+  -- it is nobody's who is found among them
+  found_apart : (rows : List SupplierRow) → IsNew rows → (gln : List ℕ) (s : SupplierRow) → supplier_row rows gln ≡ Some s
+      → same row.gln gln ≡ false
+  found_apart [] new gln s known = cc
+  found_apart (x ∷ rows) new gln s known =
+      let parts = or_parts (same row.gln x.gln) (list_any (same row.gln) (map (λ (s : SupplierRow). s.gln) rows)) new in
+      elim (same x.gln gln) as (λ v. same x.gln gln ≡ v → cond v (Some x) (supplier_row rows gln) ≡ Some s
+      → same row.gln gln ≡ false) [
+        | true ↦ λ e known. ap (same row.gln) (sym (same_is x.gln gln e)) ∙ parts.0
+        | false ↦ λ e known. found_apart rows parts.1 gln s known
+      ] refl known
+
+  -- and who is found stays found beside it
+  found_beside : (rows : List SupplierRow) → IsNew rows → (gln : List ℕ) (s : SupplierRow) → supplier_row rows gln ≡ Some s
+      → supplier_row (put row rows) gln ≡ Some s
+  found_beside rows new gln s known =
+      ap (λ rows. supplier_row rows gln) (put_same rows new)
+      ∙ find_past supplier_cmp (λ supplier. same supplier.gln gln) rows row (found_apart rows new gln s known)
+      ∙ known
+
 -- A supplier that the register takes.
 module _ (register : RegisterRows) (row : SupplierRow) (changes : List Change)
     (accepted : judge_join register row ≡ Accept changes) where
@@ -101,6 +124,10 @@ module _ (register : RegisterRows) (row : SupplierRow) (changes : List Change)
   new =
       let one = or_parts (same row.gln register.hub) _ rules.0 in
       (or_parts (same row.gln register.retailer) _ one.1).1
+
+  -- who was registered has its row
+  pub keeps_with : KeepsRows register (joined_by row register)
+  keeps_with = record { parties = refl; key = refl; rows = found_beside row register.suppliers new }
 
   -- without it the register is what it was
   pub goes_back : left_by row.gln (joined_by row register) ≡ register
@@ -223,3 +250,52 @@ pub both_joins : (register : RegisterRows) (row : SupplierRow) (verdict : Verdic
     → joins register row ≡ is_accepted verdict
 both_joins register row verdict is may =
     ap (λ v. v && is_accepted (judge_join register row)) may ∙ ap is_accepted is
+
+-- What is told of a join, and what becomes of the register.
+module _ (register : RegisterRows) (row : SupplierRow) (reply : Reply) (may : is_join row ≡ true) where
+  pub told_of : (verdict : Verdict) → judge_join register row ≡ verdict → reply ≡ act_reply (told verdict)
+      → (t : Tables) → (joined register Whole row t).0 ≡ reply
+  told_of verdict is says t = ap (λ (r : Reply × Tables). r.0) (joined_as register row verdict is may t) ∙ sym says
+
+  pub moves_in : (changes : List Change) (after : RegisterRows) → judge_join register row ≡ Accept changes
+      → reply ≡ act_reply (told (Accept changes))
+      → after ≡ joined_by row register
+      → MovesBy row register after reply
+  moves_in changes after accepted says moved = inl (
+    says ∙ ap (λ changes. act_reply (told (Accept changes))) (changes_are register row changes accepted),
+    both_joins register row (Accept changes) accepted may,
+    moved,
+  )
+
+refused_is_not : (code : _) → act_reply (told (Refuse code)) ≢ act_reply Accepted
+refused_is_not code e = let no : true ≡ false = ap (λ (r : Reply). r.refused) e in cc
+
+pub moves_not : (register : RegisterRows) (row : SupplierRow) (reply : Reply) (code : _)
+    → reply ≡ act_reply (told (Refuse code))
+    → MovesBy row register register reply
+moves_not register row reply code says = inr (λ e. refused_is_not code (sym says ∙ e), refl)
+
+-- Who was registered has its row.
+pub keeps_all : (old after : RegisterRows) → after ≡ old → KeepsRows old after
+keeps_all old after same = record {
+  parties = ap parties_of same;
+  key = ap (λ (r : RegisterRows). r.retailer_key) same;
+  rows = λ gln s known. ap (λ r. row_of r gln) same ∙ known;
+}
+
+pub keeps_moved : (row : SupplierRow) (old after : RegisterRows) (reply : Reply) → MovesBy row old after reply
+    → KeepsRows old after
+keeps_moved row old after reply (inr none) = keeps_all old after none.1
+keeps_moved row old after reply (inl all) =
+    subst (KeepsRows old) (sym all.2) (go (judge_join old row) refl (and_parts (is_join row) (is_accepted (judge_join old row)) all.1).1)
+  where
+    go : (verdict : Verdict) → judge_join old row ≡ verdict → is_accepted (judge_join old row) ≡ true → KeepsRows old (joined_by row old)
+    go (Accept changes) is accepted = keeps_with old row changes is
+    go (Refuse code) is accepted = let no : false ≡ true = sym (ap is_accepted is) ∙ accepted in cc
+
+pub keeps_on : (old between after : RegisterRows) → KeepsRows old between → KeepsRows between after → KeepsRows old after
+keeps_on old between after one other = record {
+  parties = other.parties ∙ one.parties;
+  key = other.key ∙ one.key;
+  rows = λ gln s known. other.rows gln s (one.rows gln s known);
+}

@@ -1,11 +1,12 @@
 //! A join.
-ghost use Rattle.std.specs.Prelude.{◌≡◌, false, OnOk, OnErr};
+ghost use Rattle.std.specs.Prelude.{◌≡◌, false, IfOk, OnOk, OnErr};
 ghost use Rattle.std.specs.Option.{IfSome};
 ghost use Rattle.hub_parties.specs.Rows.{IsRegister};
 ghost use Rattle.hub_register.specs.Joined.{joined_by, left_by};
 ghost use Rattle.hub_tables.specs.Change.{apply_all};
 ghost use Rattle.hub_tables.specs.Register.{register_of, row_changes};
 ghost use Rattle.hub_tables.specs.Sets.{Rising};
+ghost use Rattle.hub_tables.specs.Tables.{Tables};
 ghost use Rattle.hub_rules.specs.JoinRules.{joins};
 ghost use Rattle.hub_rules.specs.Laws.{SoundHub};
 ghost use Rattle.hub_rules.specs.declared.verdict.Verdict.TheVariants.{Accept};
@@ -13,7 +14,7 @@ ghost use Rattle.hub_law.specs.Mark.{Whole};
 ghost use Rattle.hub_law.specs.Requests.{joined};
 ghost use Rattle.hub_law.specs.Told.{Accepted, act};
 ghost use Rattle.hub_acts.specs.Acts.{Carried, FailsWith, OfAny, Unharmed, as_told, no_answer};
-ghost use Rattle.hub_acts.specs.Joins.{after_join};
+ghost use Rattle.hub_acts.specs.Joins.{MovesBy, after_join};
 
 use crate::carrying::{reply_to_act, told_of_verdict};
 use hub_judges::{Verdict, judge_join};
@@ -62,8 +63,8 @@ fn is_register(register: &Register)
 }
 
 /// Lets a supplier in, as the retailer asks: judges the join by the register, and commits its rows as one act. The reply
-/// is made before. The register has the supplier from then on; at a fault nothing was done, and it is as it was. What is
-/// refused looks at no row of the store, and commits nothing.
+/// is made before. The register has the supplier from then on, exactly where the reply says that it is accepted; at a
+/// fault nothing was done, and it is as it was. What is refused looks at no row of the store, and commits nothing.
 pub fn take_join<S: Store>(
     alloc: Global,
     register: &mut Register,
@@ -74,6 +75,8 @@ pub fn take_join<S: Store>(
         Carried S.content S.honest S.left store.old store.new (joined register.old Whole join.now) as_told result }
     ensures same { S.honest store.new → SoundHub (S.content store.old) → register.old ≡ register_of (S.content store.old) →
         register.new ≡ register_of (S.content store.new) }
+    ensures told { IfOk result (λ reply. (t : Tables) → (joined register.old Whole join.now t).0 ≡ reply) }
+    ensures moves { IfOk result (MovesBy join.now register.old register.new) }
     ensures taken { OnOk result (register.new ≡ after_join join.now register.old) }
     ensures kept { OnErr result (register.new ≡ register.old) }
     ensures broken { IfSome (S.broken store.old) (λ _. register.new ≡ register.old) }

@@ -4,7 +4,7 @@ ghost use Rattle.std.specs.Prelude.{◌≡◌, ◌≢◌, ◌⊎◌, Ok, Err, tr
 ghost use Rattle.std.specs.Io.KnownBytes.{Appends, Keeps};
 ghost use Rattle.edi_base.specs.Buffer.{AppendsFront};
 ghost use Rattle.edi_base.specs.Source.{TakesAtMost};
-ghost use Rattle.hub_app.specs.Check.{IsRegisterText, verdict_line, verdict_status};
+ghost use Rattle.hub_app.specs.Check.{IsRegisterText, fault_line, verdict_line, verdict_status};
 ghost use Rattle.hub_app.specs.Run.{read_limit};
 ghost use Rattle.hub_app.specs.Exit.{Tells};
 ghost use Rattle.hub_register.specs.Register.{register_of};
@@ -102,6 +102,18 @@ impl Verdict {
         ensures status { IfOk result (λ verdict. verdict.status ≡ verdict_status (Err fault)) }
     {
         let line = format!(in alloc; "fault {fault}\n")?;
+        Ok(Verdict {
+            line,
+            status: REFUSED,
+        })
+    }
+
+    /// Of a register that does not fit to the rows of a database: `fault rows`, with status 1.
+    pub fn of_rows(alloc: Global) -> Result<Verdict, MemoryFault>
+        ensures line { IfOk result (λ verdict. string_bytes verdict.line ≡ fault_line (codes "rows")) }
+        ensures status { IfOk result (λ verdict. verdict.status ≡ 1) }
+    {
+        let line = format!(in alloc; "fault rows\n")?;
         Ok(Verdict {
             line,
             status: REFUSED,

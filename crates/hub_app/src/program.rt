@@ -192,11 +192,15 @@ founded is not founded again: that is 'store version'.
 
 It prints the first fault of the register, as 'edihub check' does. Then no database is made.
 
-Exit status: 0 founded; 1 the register has a fault; 2 usage error; 3 a file or the database failed, or out of memory";
+A database of an earlier version, which held no register, is brought over: all that it has stays. Copy it
+before, since an earlier version cannot open it afterwards. Each supplier in it has to be in the register,
+with the prefixes of its pallets; else it prints 'fault rows', and nothing of the database changes.
+
+Exit status: 0 founded; 1 the register has a fault, or does not fit; 2 usage error; 3 a file or the database failed, or out of memory";
 
 static INIT_OPTIONS: [Choice; 2] = [
     Choice::Wanted("register", "FILE", "The register, a TOML file"),
-    Choice::Wanted("db", "FILE", "The hub's database, which is made"),
+    Choice::Wanted("db", "FILE", "The hub's database, which is made or brought over"),
 ];
 
 fn init_command<'a>(alloc: Global) -> Result<Command<'a>, AllocError>

@@ -1,6 +1,6 @@
 -- A request that is no join keeps the register, and one that is denied keeps all.
 use Rattle.std.proofs.Common.{◌≡◌, ◌⊎◌, inl, inr, ℕ, true, false, List, if◌then◌else◌, Option, Some, None, Result, Ok, Err, refl, sym, ap}
-use Rattle.std.proofs.Common.{subst, ◌∙◌}
+use Rattle.std.proofs.Common.{◌≢◌, IfOk, OnErr, subst, ◌∙◌}
 use Rattle.hub_parties.specs.Rows.{RegisterRows, parties_of, supplier_row}
 use Rattle.hub_parties.specs.declared.row.SupplierRow.{SupplierRow}
 use Rattle.hub_tables.specs.Register.{register_of, suppliers_of}
@@ -8,9 +8,11 @@ use Rattle.hub_tables.specs.Tables.{Tables}
 use Rattle.hub_store.specs.declared.fault.StoreFault.{StoreFault}
 use Rattle.hub_rules.specs.Laws.{SoundHub, PartiesStay}
 use Rattle.hub_law.specs.Machine.{shared_step}
-use Rattle.hub_law.specs.Mark.{Mark, replied}
-use Rattle.hub_law.specs.Replies.{denied}
+use Rattle.hub_law.specs.Mark.{Mark, Whole, replied}
+use Rattle.hub_law.specs.Replies.{denied, act_reply, reply as with_body}
 use Rattle.hub_law.specs.Requests.{looked_at, from_retailer, retailer_request}
+use Rattle.hub_law.specs.Told.{Accepted}
+use Rattle.hub_law.specs.declared.reply.Outcome.TheVariants.{Done, Denied, Stopped}
 use Rattle.hub_law.specs.declared.reply.Reply.{Reply}
 use Rattle.hub_law.specs.declared.request.Input.{Input}
 use Rattle.hub_law.specs.declared.request.Request.{Request}
@@ -19,7 +21,9 @@ use Rattle.hub_law.proofs.Acting.{parties_same, register_same}
 use Rattle.hub_law.proofs.Callers.{step_by, is_retailers, step_is}
 use Rattle.hub_law.proofs.Retailers.{messages_stay, cancelled_stays}
 use Rattle.hub_law.proofs.Steps.{gln_of, supplier_alike}
-use Rattle.hub_core.specs.Steps.{Does, Asked, IsNoJoin}
+use Rattle.hub_acts.specs.Joins.{KeepsRows}
+use Rattle.hub_acts.proofs.Joins.{keeps_all, keeps_moved}
+use Rattle.hub_core.specs.Steps.{Does, Asked, IsNoJoin, JoinAnswered}
 
 module _ (t : Tables) (here : SoundHub t) where
   abbrev R : RegisterRows
@@ -88,3 +92,60 @@ content_kept content honest left old new count does (Ok reply) idle asked h =
     let a = asked.answered h in
     sym (ap (λ (r : Reply × Tables). r.1) a.is) ∙ idle a.mark (content old)
 content_kept content honest left old new count does (Err fault) idle asked h = (asked.undone h).same
+
+-- A join that is not accepted leaves the register.
+other_outcome : (reply : Reply) → reply.outcome ≢ Done → reply ≢ act_reply Accepted
+other_outcome reply other e = other (ap (λ (r : Reply). r.outcome) e)
+
+module _ (row : SupplierRow) (register : RegisterRows) (does : Does) (reply : Reply) where
+  pub join_denied : ((t : Tables) → (does Whole t).0 ≡ denied) → reply ≡ denied → JoinAnswered row register register does reply
+  join_denied is says = record {
+    told = inr (λ t. is t ∙ sym says);
+    moves = inr (
+      other_outcome reply (λ done. let no : Denied ≡ Done = sym (ap (λ (r : Reply). r.outcome) says) ∙ done in cc),
+      refl,
+    );
+  }
+
+  pub join_stopped : (new : RegisterRows) (body : List ℕ) → reply ≡ with_body Stopped body → new ≡ register
+      → JoinAnswered row register new does reply
+  join_stopped new body says same = record {
+    told = inl (ap (λ (r : Reply). r.outcome) says);
+    moves = inr (
+      other_outcome reply (λ done. let no : Stopped ≡ Done = sym (ap (λ (r : Reply). r.outcome) says) ∙ done in cc),
+      same,
+    );
+  }
+
+-- the same of what does the same
+pub join_as : (row : SupplierRow) (old new : RegisterRows) (does same : Does) (result : Result Reply StoreFault)
+    → ((t : Tables) → does Whole t ≡ same Whole t)
+    → IfOk result (JoinAnswered row old new does)
+    → IfOk result (JoinAnswered row old new same)
+join_as row old new does same (Ok reply) agree is = record {
+  told = elim is.told [ inl stop ↦ inl stop | inr all ↦ inr (λ t. sym (ap (λ (r : Reply × Tables). r.0) (agree t)) ∙ all t) ];
+  moves = is.moves;
+}
+join_as row old new does same (Err fault) agree is = tt
+
+-- the reply of what was answered, or that it was stopped
+pub join_replied : (row : SupplierRow) (old new : RegisterRows) (does : Does) (result : Result Reply StoreFault) (body : List ℕ)
+    (reply : Reply)
+    → IfOk result (JoinAnswered row old new does)
+    → OnErr result (new ≡ old)
+    → IfOk result (λ answer. reply ≡ answer)
+    → OnErr result (reply ≡ with_body Stopped body)
+    → JoinAnswered row old new does reply
+join_replied row old new does (Ok answer) body reply is same says stops = subst (JoinAnswered row old new does) (sym says) is
+join_replied row old new does (Err fault) body reply is same says stops = join_stopped row old does reply new body stops same
+
+-- who was registered has its row, whatever is asked
+pub rows_kept : (request : Request) (old new : RegisterRows) (does : Does) (reply : Reply)
+    → ((row : SupplierRow) → request ≡ requests.Join row → JoinAnswered row old new does reply)
+    → (IsNoJoin request → new ≡ old)
+    → KeepsRows old new
+rows_kept request old new does reply joins others =
+    elim (join_or_none request) [
+      | inl join ↦ keeps_moved join.0 old new reply (joins join.0 join.1).moves
+      | inr none ↦ keeps_all old new (others none)
+    ]

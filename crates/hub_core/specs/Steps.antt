@@ -19,6 +19,7 @@ use Rattle.hub_law.specs.declared.reply.Reply.{Reply}
 use Rattle.hub_law.specs.declared.request.Input.{Input}
 use Rattle.hub_law.specs.declared.request.Request.{Request}
 use Rattle.hub_law.specs.declared.request.Request.TheVariants.{Join}
+use Rattle.hub_acts.specs.Joins.{MovesBy}
 
 -- the tables are a sound start, and the hub's register is the one that they hold
 pub record SoundWith (register : RegisterRows) (t : Tables) : Type 0 where
@@ -32,6 +33,12 @@ IsNoJoin request = (row : SupplierRow) → request ≢ Join row
 -- what a request does, with each mark
 abbrev pub Does : Type 0
 Does = Mark → Tables → Reply × Tables
+
+-- A join, from whatever tables: the reply is what it is told under the register, or says that it was stopped; and the
+-- register takes the supplier's row exactly where the reply says that the join is accepted.
+pub record JoinAnswered (row : SupplierRow) (old new : RegisterRows) (does : Does) (reply : Reply) : Type 0 where
+  pub told : (reply.outcome ≡ Stopped) ⊎ ((t : Tables) → (does Whole t).0 ≡ reply)
+  pub moves : MovesBy row old new reply
 
 -- how many acts a request is: each message of an upload is one, and so is any other request
 abbrev pub acts_of : Option Upload → ℕ

@@ -2,16 +2,17 @@
 ghost use Rattle.std.specs.Prelude.{◌≡◌, ◌≢◌, ℕ, List, [], ◌∷◌, ◌++◌, IfOk, OnErr, Ok, Err, MatchResult};
 ghost use Rattle.edi_envelope.specs.Opened.{opened, Opens};
 ghost use Rattle.hub_parties.specs.Rows.{IsRegister, role_of};
+ghost use Rattle.hub_parties.specs.declared.row.SupplierRow.{SupplierRow};
 ghost use Rattle.std.specs.List.{AllByRecursion};
 ghost use Rattle.hub_rules.specs.Laws.{SoundHub};
 ghost use Rattle.hub_law.specs.declared.reply.Reply.{Reply};
 ghost use Rattle.hub_law.specs.declared.request.Input.{Input};
-ghost use Rattle.hub_law.specs.declared.request.Request.TheVariants.{Upload};
+ghost use Rattle.hub_law.specs.declared.request.Request.TheVariants.{Upload, Join};
+ghost use Rattle.hub_acts.specs.Joins.{KeepsRows};
 ghost use Rattle.hub_core.specs.Broken.{Breaks, RunBreaks, does_input};
 ghost use Rattle.hub_core.specs.Opened.{IsStopped, RanOut};
-ghost use Rattle.hub_tables.specs.Register.{HoldsRegister};
 ghost use Rattle.hub_core.specs.Made.{Reads};
-ghost use Rattle.hub_core.specs.Steps.{IsNoJoin, SoundWith, Stepped, Ran, input_of};
+ghost use Rattle.hub_core.specs.Steps.{IsNoJoin, JoinAnswered, SoundWith, Stepped, Ran, input_of};
 
 use crate::step;
 use edi_base::{Items, MemoryFault};
@@ -44,10 +45,9 @@ impl<S: Store> Model for Hub<S> {
 }
 
 impl<S: Store> Hub<S> {
-    /// A hub over this store, by the register that its rows hold. Asked of a store whose rows hold one, as those of each
-    /// store do that is founded or opened. With a fault of the store it comes back.
+    /// A hub over this store, by the register that its rows hold: of rows that hold none there is no hub. With a fault of
+    /// the store it comes back.
     pub fn new(alloc: Global, mut store: S) -> Result<Self, (S, StoreFault)>
-        requires { S.honest store → HoldsRegister (S.content store) }
         ensures reads { MatchResult result
             (λ hub. Reads S.content S.honest S.left S.broken S.plain store hub.1 (Ok hub.0))
             (λ back. Reads S.content S.honest S.left S.broken S.plain store back.0 (Err back.1)) }
@@ -75,16 +75,11 @@ impl<S: Store> Hub<S> {
         (register, store)
     }
 
-    /// A hub of a register that is known, over its store: what `into_store` took apart, put together again. It takes no
-    /// memory, and asks the store nothing.
-    pub fn with_register(alloc: Global, register: Register, store: S) -> Self
-        ensures { result ≡ (register, store) }
+    /// The store as it is now.
+    pub fn store(&self) -> &S
+        ensures { result.now ≡ self.now.1 }
     {
-        Hub {
-            alloc,
-            register,
-            store,
-        }
+        &self.store
     }
 
     /// The side of a caller with this GLN and this key, as the register has it. It takes no memory.
@@ -104,9 +99,10 @@ impl<S: Store> Hub<S> {
     /// Answers a request that comes at a moment of whoever has this GLN and this key.
     ///
     /// Who is not known by the two, or may not ask this, is answered `denied`. Each message of an upload, a
-    /// cancellation, a join and a taken mark is one act, and one commit. A join alone changes the register. Where memory
-    /// or the store gives out, the reply ends in `stopped`, after the lines of what was done; where there is no memory
-    /// even for that, it is empty and nothing was done.
+    /// cancellation, a join and a taken mark is one act, and one commit. A join alone changes the register, from whatever
+    /// rows, exactly where its reply says that it is accepted; and whoever was registered keeps its row. Where memory or
+    /// the store gives out, the reply ends in `stopped`, after the lines of what was done; where there is no memory even
+    /// for that, it is empty and nothing was done.
     pub fn step(&mut self, moment: Moment, caller: &Gln, key: &[u8], request: Request) -> Reply
         ensures stepped { S.honest self.new.1 → SoundWith self.old.0 (S.content self.old.1) →
             Stepped (S.content self.old.1) (S.content self.new.1) (S.left self.old.1) (S.left self.new.1)
@@ -115,6 +111,9 @@ impl<S: Store> Hub<S> {
             SoundWith self.new.0 (S.content self.new.1) }
         ensures breaks { Breaks S.plain (does_input self.old.0 (input_of moment caller.now key.now request))
             (S.broken self.old.1) (S.broken self.new.1) result }
+        ensures joined { (row : SupplierRow) → request ≡ Join row → JoinAnswered row self.old.0 self.new.0
+            (does_input self.old.0 (input_of moment caller.now key.now request)) result }
+        ensures keeps { KeepsRows self.old.0 self.new.0 }
         ensures register { IsNoJoin request → self.new.0 ≡ self.old.0 }
         ensures was_honest { S.honest self.new.1 → S.honest self.old.1 }
     {
@@ -192,6 +191,7 @@ impl<S: Store> Hub<S> {
         ensures none { OnErr result (self.new ≡ self.old) }
         ensures breaks { IfOk result (λ replies. RunBreaks S.plain self.new.0 (S.broken self.old.1) (S.broken self.new.1)
             inputs.now replies) }
+        ensures keeps { KeepsRows self.old.0 self.new.0 }
         ensures register { AllByRecursion (λ input. IsNoJoin input.request) inputs.now → self.new.0 ≡ self.old.0 }
         ensures was_honest { S.honest self.new.1 → S.honest self.old.1 }
     {

@@ -1,5 +1,5 @@
 //! What is asked, by a supplier or by the retailer.
-ghost use Rattle.std.specs.Prelude.{◌≡◌, Ok, Err};
+ghost use Rattle.std.specs.Prelude.{◌≡◌, Ok, Err, IfOk, OnErr};
 ghost use Rattle.hub_parties.specs.declared.row.SupplierRow.{SupplierRow};
 ghost use Rattle.hub_tables.specs.Register.{register_of};
 ghost use Rattle.std.specs.Option.{IfSome, IfNone};
@@ -9,7 +9,7 @@ ghost use Rattle.hub_core.specs.Opened as spec;
 ghost use Rattle.hub_core.specs.Broken.{BreaksAsked};
 ghost use Rattle.hub_core.specs.Callers.{delivered, addressed_by, opening_of, acts_by, request_of, MayDeliver};
 ghost use Rattle.hub_law.specs.declared.request.Request.TheVariants.{Join};
-ghost use Rattle.hub_core.specs.Steps.{Asked, IsNoJoin, SoundWith, acts_of};
+ghost use Rattle.hub_core.specs.Steps.{Asked, IsNoJoin, JoinAnswered, SoundWith, acts_of};
 ghost use Rattle.hub_core.specs.declared.caller.Caller.TheVariants.{Retailer, Supplier};
 
 use crate::caller::Caller;
@@ -118,6 +118,8 @@ pub(crate) fn asked_by_supplier<S: Store>(
         Asked S.content S.honest S.left store.old store.new
         (acts_by register.now (Supplier supplier.entry) request.now)
         (request_of register.now (Supplier supplier.entry) moment request.now) result }
+    ensures joined { (row : SupplierRow) → request.now ≡ Join row → IfOk result (JoinAnswered row register.now register.now
+        (request_of register.now (Supplier supplier.entry) moment request.now)) }
     ensures breaks { BreaksAsked S.plain (request_of register.now (Supplier supplier.entry) moment request.now)
         (S.broken store.old) (S.broken store.new) result }
     ensures was_honest { S.honest store.new → S.honest store.old }
@@ -149,6 +151,9 @@ pub(crate) fn asked_by_retailer<S: Store>(
         (request_of register.old Retailer moment request.now) result }
     ensures held { (row : SupplierRow) → request.now ≡ Join row →
         S.honest store.new → SoundWith register.old (S.content store.old) → register.new ≡ register_of (S.content store.new) }
+    ensures joined { (row : SupplierRow) → request.now ≡ Join row → IfOk result (JoinAnswered row register.old register.new
+        (request_of register.old Retailer moment request.now)) }
+    ensures undone { OnErr result (register.new ≡ register.old) }
     ensures same { IsNoJoin request.now → register.new ≡ register.old }
     ensures broken { IfSome (S.broken store.old) (λ _. register.new ≡ register.old) }
     ensures breaks { BreaksAsked S.plain (request_of register.old Retailer moment request.now)

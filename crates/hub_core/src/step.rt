@@ -11,10 +11,11 @@ ghost use Rattle.hub_law.specs.Replies.{reply};
 ghost use Rattle.hub_law.specs.Stops.{upload_of};
 ghost use Rattle.hub_law.specs.declared.reply.Outcome.TheVariants.{Stopped};
 ghost use Rattle.hub_law.specs.declared.request.Request.TheVariants.{Upload, Join};
+ghost use Rattle.hub_acts.specs.Joins.{KeepsRows};
 ghost use Rattle.hub_core.specs.Broken.{Breaks, BreaksAsked, RunBreaks, does_input};
 ghost use Rattle.hub_core.specs.Callers.{IsCaller};
 ghost use Rattle.hub_core.specs.Opened.{IsStopped, RanOut};
-ghost use Rattle.hub_core.specs.Steps.{Asked, IsNoJoin, SoundWith, Stepped, Ran, acts_of, input_of};
+ghost use Rattle.hub_core.specs.Steps.{Asked, IsNoJoin, JoinAnswered, SoundWith, Stepped, Ran, acts_of, input_of};
 
 use crate::caller::Caller;
 use crate::opening::judged;
@@ -60,6 +61,9 @@ fn answer<S: Store>(
         step_under register.old t (input_of moment caller.now key.now request.now) mark) result }
     ensures held { (row : SupplierRow) → request.now ≡ Join row → S.honest store.new →
         SoundWith register.old (S.content store.old) → register.new ≡ register_of (S.content store.new) }
+    ensures joined { (row : SupplierRow) → request.now ≡ Join row → IfOk result (JoinAnswered row register.old register.new
+        (does_input register.old (input_of moment caller.now key.now request.now))) }
+    ensures undone { OnErr result (register.new ≡ register.old) }
     ensures same { IsNoJoin request.now → register.new ≡ register.old }
     ensures broken { IfSome (S.broken store.old) (λ _. register.new ≡ register.old) }
     ensures breaks { BreaksAsked S.plain (does_input register.old (input_of moment caller.now key.now request.now))
@@ -141,6 +145,9 @@ pub(crate) fn step<S: Store>(
         (input_of moment caller.now key.now request.now) result }
     ensures held { S.honest store.new → SoundWith register.old (S.content store.old) →
         SoundWith register.new (S.content store.new) }
+    ensures joined { (row : SupplierRow) → request.now ≡ Join row → JoinAnswered row register.old register.new
+        (does_input register.old (input_of moment caller.now key.now request.now)) result }
+    ensures keeps { KeepsRows register.old register.new }
     ensures same { IsNoJoin request.now → register.new ≡ register.old }
     ensures broken { IfSome (S.broken store.old) (λ _. register.new ≡ register.old) }
     ensures breaks { Breaks S.plain (does_input register.old (input_of moment caller.now key.now request.now))
@@ -206,6 +213,7 @@ pub(crate) fn run<S: Store>(
         inputs.now replies) }
     ensures held { S.honest store.new → SoundWith register.old (S.content store.old) →
         SoundWith register.new (S.content store.new) }
+    ensures keeps { KeepsRows register.old register.new }
     ensures same { AllByRecursion (λ input. IsNoJoin input.request) inputs.now → register.new ≡ register.old }
     ensures none { OnErr result ((store.new ≡ store.old) × (register.new ≡ register.old)) }
     ensures breaks { IfOk result (λ replies. RunBreaks S.plain register.new (S.broken store.old) (S.broken store.new)

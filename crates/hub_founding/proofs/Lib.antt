@@ -1,3 +1,4 @@
+pub mod Beside
 pub mod Gathering
 pub mod Held
 pub mod Keys

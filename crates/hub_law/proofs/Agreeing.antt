@@ -4,13 +4,15 @@ use Rattle.std.proofs.Math.Seq.{take-append_seam}
 use Rattle.std.proofs.lemmas.List.{append_assoc}
 use Rattle.hub_parties.specs.KeyOrder.{Rises}
 use Rattle.hub_parties.specs.Rows.{Parties}
+use Rattle.hub_parties.specs.declared.row.SupplierRow.{SupplierRow}
 use Rattle.hub_tables.specs.Register.{HoldsRegister, suppliers_of, register_of, parties_in, row_at}
 use Rattle.hub_tables.specs.Rows.{hub_cmp}
 use Rattle.hub_tables.specs.Sets.{Rising, SameRows}
 use Rattle.hub_tables.specs.Tables.{Tables, view}
 use Rattle.hub_tables.proofs.Enrolling.{own_row}
 use Rattle.hub_tables.proofs.Sets.{rows_are_one}
-use Rattle.hub_rules.specs.Laws.{SoundHub, PartiesRise}
+use Rattle.hub_rules.specs.Laws.{SoundHub, SoundUnder, PartiesRise}
+use Rattle.hub_rules.specs.Sound.{Sound}
 use Rattle.hub_rules.proofs.Rising.{view_rises, all_rise, rising_from, parties_seen}
 use Rattle.hub_law.specs.Alone.{items_of_input, items, fold}
 use Rattle.hub_law.specs.Laws.{IsOther, AsksStatus, alone, own_report, reply_between}
@@ -65,20 +67,32 @@ parties_rise t holds = record {
   prefixes = holds.prefixes_rise;
 }
 
-pub sound_rises : (t : Tables) → SoundHub t → Rising t
-sound_rises t here =
-    rising_from t (parties_rise t here.register)
-    (all_rise (suppliers_of t) t here.register.right.prefixes_free here.sound.rooted here.sound.kept)
+pub under_rises : (suppliers : List SupplierRow) (t : Tables) → SoundUnder suppliers t → PartiesRise t → Rising t
+under_rises suppliers t here parties =
+    rising_from t parties (all_rise suppliers t here.free here.sound.rooted here.sound.kept)
 
-view_rising : (gln : List ℕ) (t : Tables) → SoundHub t → Rising (view gln t)
-view_rising gln t here =
-    rising_from (view gln t) (parties_seen gln t (parties_rise t here.register))
-    (view_rises gln t here.sound.rooted.ordered (here.sound.kept gln))
+pub sound_under : (t : Tables) → SoundHub t → SoundUnder (suppliers_of t) t × PartiesRise t
+sound_under t here =
+    (record { free = here.register.right.prefixes_free; sound = here.sound }, parties_rise t here.register)
+
+pub sound_rises : (t : Tables) → SoundHub t → Rising t
+sound_rises t here = under_rises (suppliers_of t) t (sound_under t here).0 (sound_under t here).1
+
+view_rising : (gln : List ℕ) (suppliers : List SupplierRow) (t : Tables) → Sound suppliers t → PartiesRise t
+    → Rising (view gln t)
+view_rising gln suppliers t here parties =
+    rising_from (view gln t) (parties_seen gln t parties) (view_rises gln t here.rooted.ordered (here.kept gln))
 
 -- what is seen of sound tables is its rows and nothing else
-pub views_alike : (gln : List ℕ) (t u : Tables) → SoundHub t → SoundHub u → SameRows (view gln t) (view gln u) → view gln t ≡ view gln u
-views_alike gln t u here there rows =
-    rows_are_one (view gln t) (view gln u) (view_rising gln t here) (view_rising gln u there) rows
+pub views_under : (gln : List ℕ) (suppliers others : List SupplierRow) (t u : Tables) → Sound suppliers t → PartiesRise t
+    → Sound others u → PartiesRise u → SameRows (view gln t) (view gln u) → view gln t ≡ view gln u
+views_under gln suppliers others t u here parties there others_parties rows =
+    rows_are_one (view gln t) (view gln u) (view_rising gln suppliers t here parties)
+    (view_rising gln others u there others_parties) rows
+
+views_alike : (gln : List ℕ) (t u : Tables) → SoundHub t → SoundHub u → SameRows (view gln t) (view gln u) → view gln t ≡ view gln u
+views_alike gln t u here there =
+    views_under gln (suppliers_of t) (suppliers_of u) t u here.sound (sound_under t here).1 there.sound (sound_under u there).1
 
 -- items come one after another as their inputs do
 pub items_after : (gln : List ℕ) (t : Tables) (inputs later : Inputs)

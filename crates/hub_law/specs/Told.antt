@@ -1,4 +1,4 @@
--- Acts: what one message or cancellation does to the tables, and what is told of it.
+-- Acts: what one message, one cancellation or one join does to the tables, and what is told of it.
 use Rattle.std.specs.Prelude.{ℕ, Bool, true, false, List, [], ◌∷◌, Result, Ok, Err}
 use Rattle.edi_messages.specs.Fault as message_faults
 use Rattle.edi_messages.specs.declared.fault.MessageFault.{MessageFault}

@@ -1,14 +1,19 @@
 //! Sound tables as sets of rows: laws, each the contract of a function without a body.
 ghost use Rattle.std.specs.Prelude.{◌≡◌, ℕ, List};
+ghost use Rattle.hub_parties.specs.declared.row.SupplierRow.{SupplierRow};
+ghost use Rattle.hub_tables.specs.Register.{suppliers_of};
 ghost use Rattle.hub_tables.specs.Sets.{Rising, SameRows};
 ghost use Rattle.hub_tables.specs.Tables.{Tables, view};
-ghost use Rattle.hub_rules.specs.Laws.{SoundHub};
+ghost use Rattle.hub_rules.specs.Laws.{PartiesRise, SoundHub, SoundUnder};
+ghost use Rattle.hub_rules.specs.Sound.{Sound};
 
 /// What a supplier sees of sound tables is its rows and nothing else: where two hubs have the same rows of it, it sees
-/// the same in both, in whatever order the rows came and whoever else has rows. And all rows of sound tables stand in
-/// the order of their keys, no key twice.
+/// the same in both, in whatever order the rows came, whoever else has rows, and whatever the registers are. And all
+/// rows of sound tables stand in the order of their keys, no key twice. Sound tables that hold a register are such.
 pub fn views_are_sets()
-    ensures views { (gln : List ℕ) (t u : Tables) →
-        SoundHub t → SoundHub u → SameRows (view gln t) (view gln u) → view gln t ≡ view gln u }
-    ensures rise { (t : Tables) → SoundHub t → Rising t }
+    ensures views { (gln : List ℕ) (suppliers others : List SupplierRow) (t u : Tables) →
+        Sound suppliers t → PartiesRise t → Sound others u → PartiesRise u →
+        SameRows (view gln t) (view gln u) → view gln t ≡ view gln u }
+    ensures rise { (suppliers : List SupplierRow) (t : Tables) → SoundUnder suppliers t → PartiesRise t → Rising t }
+    ensures held { (t : Tables) → SoundHub t → SoundUnder (suppliers_of t) t × PartiesRise t }
 {}

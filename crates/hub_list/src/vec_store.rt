@@ -96,7 +96,7 @@ impl Store for VecStore {
         let keys = self.lists.keys.as_slice();
         let prefixes = self.lists.prefixes.as_slice();
         let Some(register) = register_of(self.alloc, hubs, keys, prefixes)? else {
-            // Rows that hold no register are not asked for one.
+            // The store stays whole: later calls answer from the rows as they are.
             return Err(StoreFault::Unclean);
         };
         Ok(register)

@@ -1,7 +1,7 @@
 -- Rows that hold a register are of their kinds.
-use Rattle.std.proofs.Common.{◌≡◌, inl, inr, ℕ, Bool, true, false, ◌&&◌, List, [], ◌∷◌, map, filter, refl, sym, ap, ap₂, subst, ◌∙◌, IsTrue, nat_le, length}
+use Rattle.std.proofs.Common.{◌≡◌, inl, inr, ℕ, Bool, true, false, ◌&&◌, List, [], ◌∷◌, map, filter, refl, sym, ap, ap₂, subst, ◌∙◌, nat_le, length}
 use Rattle.std.proofs.Common.{true≢false}
-use Rattle.std.specs.List.{AllByRecursion, list_all, list_any}
+use Rattle.std.specs.List.{list_all}
 use Rattle.std.proofs.lemmas.Bool.{and_parts}
 use Rattle.gs1_ids.specs.Gln.{is_gln}
 use Rattle.gs1_ids.specs.Prefix.{is_prefix}
@@ -13,7 +13,6 @@ use Rattle.hub_tables.specs.Register.{HoldsRegister, register_of, suppliers_of, 
 use Rattle.hub_tables.specs.Rows.{same}
 use Rattle.hub_tables.specs.Sets.{Has}
 use Rattle.hub_tables.specs.Tables.{Tables}
-use Rattle.hub_tables.specs.declared.rows.HubRow.{HubRow}
 use Rattle.hub_tables.specs.declared.rows.KeyRow.{KeyRow}
 use Rattle.hub_tables.specs.declared.rows.PrefixRow.{PrefixRow}
 use Rattle.hub_tables.proofs.Lists.{same_is}

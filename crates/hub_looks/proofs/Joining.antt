@@ -8,21 +8,22 @@ use Rattle.hub_store.specs.declared.fault.StoreFault.TheVariants.{Unclean}
 use Rattle.hub_tables.specs.Sets.{Rising}
 use Rattle.hub_tables.specs.Tables.{Tables}
 use Rattle.hub_schema.specs.Rows.{tables_in}
-use Rattle.hub_schema.specs.State.{IsHub, Holds, IsNumbered, AreOrdered, LooksFor, LooksUp}
+use Rattle.hub_schema.specs.State.{IsHub, Holds, IsNumbered, AreOrdered, LooksAmong, LooksFor, LooksUp}
 use Rattle.hub_schema.proofs.Leaving.{spared, spares_then}
 use Rattle.hub_schema.proofs.Single.{hub_rises}
 use Rattle.sqlite.specs.Effect.{Database, IsDatabase}
 use Rattle.hub_schema.specs.Schema.{hub_schema}
+use Rattle.sqlite_schema.specs.declared.schema.Schema.{Schema}
 
 -- errors that are one are of one fault
 same_fault : {Y : Type 0} (a b : StoreFault) → ◌≡◌ {A = Result Y StoreFault} (Err a) (Err b) → a ≡ b
 same_fault a b e = cc
 
 -- a look-up that failed answers nothing
-module _ {X Y : Type 0} (one : Tables → X → Type 0) (other : Tables → Y → Type 0) (spoilt worse : Tables → Type 0)
-    (old new : State) where
-  pub failed_for : ((t : Tables) → spoilt t → worse t) → (fault : StoreFault) → LooksFor one spoilt old new (Err fault)
-      → LooksFor other worse old new (Err fault)
+module _ {schema : Schema} {Are : State → Type 0} {X Y : Type 0} (one : Tables → X → Type 0) (other : Tables → Y → Type 0)
+    (spoilt worse : Tables → Type 0) (old new : State) where
+  pub failed_for : ((t : Tables) → spoilt t → worse t) → (fault : StoreFault) → LooksAmong schema Are one spoilt old new (Err fault)
+      → LooksAmong schema Are other worse old new (Err fault)
   failed_for so fault it = record {
     answers = λ clean holds. tt;
     same = λ clean. tt;
@@ -36,8 +37,8 @@ module _ {X Y : Type 0} (one : Tables → X → Type 0) (other : Tables → Y �
   }
 
   -- what follows from an answer
-  pub found_on : (x : X) (y : Y) → ((t : Tables) → one t x → other t y) → LooksFor one spoilt old new (Ok x)
-      → LooksFor other worse old new (Ok y)
+  pub found_on : (x : X) (y : Y) → ((t : Tables) → one t x → other t y) → LooksAmong schema Are one spoilt old new (Ok x)
+      → LooksAmong schema Are other worse old new (Ok y)
   found_on x y follows it = record {
     answers = λ clean holds. follows (tables_in old.now.trees) (it.answers clean holds);
     same = it.same;
@@ -50,7 +51,7 @@ module _ {X Y : Type 0} (one : Tables → X → Type 0) (other : Tables → Y �
 
   -- a fault behind an answer, by which the tables are so where it says that
   pub fault_on : (x : X) (fault : StoreFault) → (fault ≡ Unclean → (t : Tables) → one t x → worse t)
-      → LooksFor one spoilt old new (Ok x) → LooksFor other worse old new (Err fault)
+      → LooksAmong schema Are one spoilt old new (Ok x) → LooksAmong schema Are other worse old new (Err fault)
   fault_on x fault follows it = record {
     answers = λ clean holds. tt;
     same = λ clean. tt;
@@ -91,48 +92,58 @@ still_hub old new same hub = record {
 }
 
 -- a second look-up, which the first answer leads to
+module _ {schema : Schema} {Are : State → Type 0} (still : (old new : State) → new.now ≡ old.now → Are old → Are new) {X Y : Type 0}
+    (one : Tables → X → Type 0) (two all : Tables → Y → Type 0) (spoilt worse worst : Tables → Type 0) (old mid new : State) (x : X) where
+  pub then_among : ((t : Tables) → one t x → (y : Y) → two t y → all t y)
+      → ((t : Tables) → one t x → worse t → worst t)
+      → LooksAmong schema Are one spoilt old mid (Ok x)
+      → (result : Result Y StoreFault) → LooksAmong schema Are two worse mid new result
+      → LooksAmong schema Are all worst old new result
+  then_among follows so a result b =
+      let before : HasCleanDisk new → HasCleanDisk mid = λ clean. omega (arith, b.crash.clean) in
+      let same : HasCleanDisk new → mid.now ≡ old.now = λ clean. (a.same (before clean)).2 in
+      let was_open : HasCleanDisk new → IsTrue old.is_open = λ clean. (a.same (before clean)).0 in
+      let are : HasCleanDisk new → (IsTrue old.is_open → Are old) → IsTrue mid.is_open → Are mid =
+      λ clean holds up. still old mid (same clean) (holds (was_open clean)) in
+      let tables : HasCleanDisk new → tables_in mid.now.trees ≡ tables_in old.now.trees =
+      λ clean. ap (λ (db : Database). tables_in db.trees) (same clean) in
+      record {
+        answers = λ clean holds. go result (tables clean) (follows (tables_in old.now.trees) (a.answers (before clean) holds))
+            (b.answers clean (are clean holds));
+        same = λ clean. both result (was_open clean) (same clean) (b.same clean);
+        stays = λ clean idle has up.
+            let it = b.stays clean (a.mode idle) (ap (λ (db : Database). db.schema) (same clean) ∙ has) up in
+            (was_open clean, it.1 ∙ same clean);
+        leaves = λ clean. spares_then old mid new result (a.leaves (before clean)).done (b.leaves clean);
+        mode = λ idle. b.mode (a.mode idle);
+        crash = survives_then old mid new _ _ _ (λ clean db h. h) (λ clean db h. h) a.crash b.crash;
+        unclean = λ clean holds e. (
+          was_open clean,
+          so (tables_in old.now.trees) (a.answers (before clean) holds)
+              (subst worse (tables clean) (b.unclean clean (are clean holds) e).1),
+        );
+      }
+    where
+      go : (r : Result Y StoreFault) → tables_in mid.now.trees ≡ tables_in old.now.trees
+          → ((y : Y) → two (tables_in old.now.trees) y → all (tables_in old.now.trees) y)
+          → IfOk r (two (tables_in mid.now.trees))
+          → IfOk r (all (tables_in old.now.trees))
+      go (Ok y) t f h = f y (subst (λ (u : Tables). two u y) t h)
+      go (Err e) t f h = tt
+
+      both : (r : Result Y StoreFault) → IsTrue old.is_open → mid.now ≡ old.now
+          → OnOk r (IsTrue mid.is_open × IsTrue new.is_open × (new.now ≡ mid.now))
+          → OnOk r (IsTrue old.is_open × IsTrue new.is_open × (new.now ≡ old.now))
+      both (Ok y) o s h = (o, h.1, h.2 ∙ s)
+      both (Err e) o s h = tt
+
 pub found_then : {X Y : Type 0} (one : Tables → X → Type 0) (two all : Tables → Y → Type 0) (spoilt worse worst : Tables → Type 0)
     (old mid new : State) (x : X)
     → ((t : Tables) → one t x → (y : Y) → two t y → all t y)
     → ((t : Tables) → one t x → worse t → worst t)
     → LooksFor one spoilt old mid (Ok x) → (result : Result Y StoreFault) → LooksFor two worse mid new result
     → LooksFor all worst old new result
-found_then {Y = Y} one two all spoilt worse worst old mid new x follows so a result b =
-    let before : HasCleanDisk new → HasCleanDisk mid = λ clean. omega (arith, b.crash.clean) in
-    let same : HasCleanDisk new → mid.now ≡ old.now = λ clean. (a.same (before clean)).2 in
-    let was_open : HasCleanDisk new → IsTrue old.is_open = λ clean. (a.same (before clean)).0 in
-    let hub : HasCleanDisk new → Holds old → Holds mid = λ clean holds up. still_hub old mid (same clean) (holds (was_open clean)) in
-    let tables : HasCleanDisk new → tables_in mid.now.trees ≡ tables_in old.now.trees =
-    λ clean. ap (λ (db : Database). tables_in db.trees) (same clean) in
-    record {
-      answers = λ clean holds. go result (tables clean) (follows (tables_in old.now.trees) (a.answers (before clean) holds))
-          (b.answers clean (hub clean holds));
-      same = λ clean. both result (was_open clean) (same clean) (b.same clean);
-      stays = λ clean idle has up.
-          let it = b.stays clean (a.mode idle) (ap (λ (db : Database). db.schema) (same clean) ∙ has) up in
-          (was_open clean, it.1 ∙ same clean);
-      leaves = λ clean. spares_then old mid new result (a.leaves (before clean)).done (b.leaves clean);
-      mode = λ idle. b.mode (a.mode idle);
-      crash = survives_then old mid new _ _ _ (λ clean db h. h) (λ clean db h. h) a.crash b.crash;
-      unclean = λ clean holds e. (
-        was_open clean,
-        so (tables_in old.now.trees) (a.answers (before clean) holds)
-            (subst worse (tables clean) (b.unclean clean (hub clean holds) e).1),
-      );
-    }
-  where
-    go : (r : Result Y StoreFault) → tables_in mid.now.trees ≡ tables_in old.now.trees
-        → ((y : Y) → two (tables_in old.now.trees) y → all (tables_in old.now.trees) y)
-        → IfOk r (two (tables_in mid.now.trees))
-        → IfOk r (all (tables_in old.now.trees))
-    go (Ok y) t f h = f y (subst (λ (u : Tables). two u y) t h)
-    go (Err e) t f h = tt
-
-    both : (r : Result Y StoreFault) → IsTrue old.is_open → mid.now ≡ old.now
-        → OnOk r (IsTrue mid.is_open × IsTrue new.is_open × (new.now ≡ mid.now))
-        → OnOk r (IsTrue old.is_open × IsTrue new.is_open × (new.now ≡ old.now))
-    both (Ok y) o s h = (o, h.1, h.2 ∙ s)
-    both (Err e) o s h = tt
+found_then = then_among still_hub
 
 pub looks_then : {X Y : Type 0} (one : Tables → X) (two : Tables → Y) (all : Tables → Y) (old mid new : State) (x : X)
     → ((t : Tables) → x ≡ one t → two t ≡ all t)

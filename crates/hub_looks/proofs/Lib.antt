@@ -22,3 +22,4 @@ pub mod OfUntaken
 pub mod OfLast
 pub mod OfParties
 pub mod Held
+pub mod OfOldRows

@@ -1,4 +1,5 @@
 pub mod Asks
+pub mod Fitting
 pub mod Numbered
 pub mod Shown
 pub mod Numbers

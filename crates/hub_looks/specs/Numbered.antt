@@ -1,16 +1,17 @@
 -- What the number of the schema is.
-use Rattle.std.specs.Prelude.{◌≡◌, ◌⊎◌, ◌↔◌, false, Bool, IsTrue, Result, IfOk, IfErr, OnOk}
+use Rattle.std.specs.Prelude.{◌≡◌, ◌⊎◌, ◌↔◌, ℕ, false, Bool, IsTrue, Result, IfOk, IfErr, OnOk}
 use Rattle.sqlite.specs.State.{State, HasCleanDisk, Survives}
 use Rattle.hub_store.specs.declared.fault.StoreFault.{StoreFault}
 use Rattle.hub_store.specs.declared.fault.StoreFault.TheVariants.{Memory, Disk}
-use Rattle.hub_schema.specs.Schema.{hub_schema}
-use Rattle.hub_schema.specs.State.{IsNumbered, Spares}
+use Rattle.hub_schema.specs.Schema.{old_schema, hub_schema}
+use Rattle.hub_schema.specs.State.{HasNumber, Spares}
 
--- whether it is 2, exactly; nothing changes, also after a crash; after a fault a transaction that was open may be
--- undone
-pub record TellsNumber (old new : State) (result : Result Bool StoreFault) : Type 0 where
+-- whether it is this, exactly, in the tables of a hub or in those of schema 1; nothing changes, also after a crash;
+-- after a fault a transaction that was open may be undone
+pub record TellsNumber (n : ℕ) (old new : State) (result : Result Bool StoreFault) : Type 0 where
   pub number :
-      HasCleanDisk new → old.now.schema ≡ hub_schema → IfOk result (λ is. IsTrue is ↔ IsNumbered old.now.trees)
+      HasCleanDisk new → (old.now.schema ≡ hub_schema) ⊎ (old.now.schema ≡ old_schema) →
+      IfOk result (λ is. IsTrue is ↔ HasNumber n old.now.trees)
   pub same :
       HasCleanDisk new →
       OnOk result (IsTrue old.is_open × IsTrue new.is_open × (new.now ≡ old.now) × (new.committed ≡ old.committed))

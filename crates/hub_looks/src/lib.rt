@@ -4,6 +4,7 @@
 mod ask;
 mod cells;
 mod documents;
+mod fitting;
 mod goods;
 mod lines;
 mod mail;
@@ -14,6 +15,7 @@ mod references;
 mod shown;
 
 pub use documents::{advice_known, order_known};
+pub use fitting::fits;
 pub use goods::{contents_of, receipts_of};
 pub use lines::{all_lines, lines_of};
 pub use mail::{last_mail, mail_after, mail_item};

@@ -9,20 +9,23 @@ use hub_store::StoreFault;
 use sqlite::types::ValueRef;
 use sqlite::{Alter, Connection, Row};
 
-// Whether the answer is the number 2 alone.
-fn is_two(rows: &[Row]) -> bool
-    ensures { IsTrue result ↔ (rows.now ≡ (Int (pos 2) ∷ []) ∷ []) }
+// Whether the answer is this number alone.
+fn is_alone(number: u32, rows: &[Row]) -> bool
+    ensures { IsTrue result ↔ (rows.now ≡ (Int (pos number) ∷ []) ∷ []) }
 {
     let [row] = rows else {
         return false;
     };
-    row.column_count() == 1 && matches!(row.get_ref(0), Ok(ValueRef::Int(2)))
+    let Ok(ValueRef::Int(found)) = row.get_ref(0) else {
+        return false;
+    };
+    row.column_count() == 1 && found == i64::from(number)
 }
 
-/// Whether the schema's number is 2, in a database that has the hub's tables.
-pub fn is_numbered<S: Alter>(conn: &mut Connection<S>) -> Result<bool, StoreFault>
-    ensures number { TellsNumber (state S.Store conn.old) (state S.Store conn.new) result }
+/// Whether the schema has this number, in a database with the tables of a hub or with those of schema 1.
+pub fn is_numbered<S: Alter>(conn: &mut Connection<S>, number: u32) -> Result<bool, StoreFault>
+    ensures number { TellsNumber number (state S.Store conn.old) (state S.Store conn.new) result }
 {
     let rows = ask(conn, "SELECT number FROM schema", &[])?;
-    Ok(is_two(rows.as_slice()))
+    Ok(is_alone(number, rows.as_slice()))
 }

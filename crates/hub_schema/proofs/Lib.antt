@@ -1,5 +1,6 @@
+pub mod Beside
+pub mod Compared
 pub mod InKeyOrder
-pub mod Indexes
 pub mod Leaving
 pub mod Makes
 pub mod Single

@@ -1,4 +1,5 @@
 pub mod Cells
+pub mod Definitions
 pub mod Faults
 pub mod Making
 pub mod Rows

@@ -1,5 +1,6 @@
 -- Making the tables, one after another, in a transaction.
-use Rattle.std.specs.Prelude.{◌≡◌, ◌⊎◌, ◌++◌, ℕ, false, IsTrue, List, [], fold, Result, Ok, OnOk, OnErr}
+use Rattle.std.specs.Prelude.{◌≡◌, ◌⊎◌, ◌++◌, ℕ, nat_lt, if◌then◌else◌, false, IsTrue, List, [], fold, Result, Ok, OnOk}
+use Rattle.std.specs.Prelude.{OnErr}
 use Rattle.std.specs.List.{AllByRecursion}
 use Rattle.sqlite.specs.Command.TheVariants.{CreateTable}
 use Rattle.sqlite.specs.Compile.{table_defined_by}
@@ -9,19 +10,28 @@ use Rattle.sqlite.specs.Schema.{Schema}
 use Rattle.sqlite.specs.State.{State, HasCleanDisk}
 use Rattle.sqlite.specs.Table.{Table}
 use Rattle.sqlite.specs.declared.error.Error.{Error}
+use Rattle.sqlite_trees.specs.Tree.{Trees}
 use Rattle.sqlite.proofs.Callers.{IsPlain, command_of, statement_of}
 use Rattle.sqlite_catalog.specs.Change.{created}
-use Rattle.hub_schema.specs.Schema.{no_schema, hub_tables}
+use Rattle.hub_schema.specs.Schema.{no_schema, hub_table, hub_tables}
 use Rattle.hub_schema.specs.State.{ShowsTheSame, IsUndone}
 
 -- the schema of the first tables, made in this order
 abbrev pub schema_with : List Table → Schema
 schema_with = fold (λ schema table. created schema (record table { tree = 0 })) no_schema
 
--- these tables stand, none has a row, and a transaction is open
-pub record HasMade (made : Schema) (s : State) : Type 0 where
+-- the rows of the tables of schema 1, and none beside them
+abbrev pub traffic_rows : Trees → Trees
+traffic_rows trees tree = if nat_lt tree hub_table.tree then trees tree else []
+
+-- none of these tables has a row
+abbrev pub HaveNoRows : List Table → Trees → Type 0
+HaveNoRows tables trees = AllByRecursion (λ table. trees table.tree ≡ []) tables
+
+-- these tables stand, with the rows that these trees have, and a transaction is open
+pub record HasMade (rows : Trees) (made : Schema) (s : State) : Type 0 where
   pub schema : s.now.schema ≡ made
-  pub empty : AllByRecursion (λ table. s.now.trees table.tree ≡ []) made.tables
+  pub same : AllByRecursion (λ table. s.now.trees table.tree ≡ rows table.tree) made.tables
   pub mode : IsTrue s.in_transaction
 
 -- in this schema the text makes the table
@@ -33,20 +43,22 @@ pub record Defines (text : List ℕ) (schema : Schema) (table : Table) : Type 0 
   pub calm : lacks_sequence (created schema table) ≡ false
 
 -- more tables are made, and nothing is committed
-pub record MakesOn (after : Schema) (old new : State) : Type 0 where
-  pub made : HasMade after new
+pub record MakesOn (rows : Trees) (after : Schema) (old new : State) : Type 0 where
+  pub made : HasMade rows after new
   pub committed : new.committed ≡ old.committed
 
 -- the first of the hub's tables are made, each whole, and nothing of the others
-pub record MakesFirstTables (old new : State) : Type 0 where
+pub record MakesFirstTables (rows : Trees) (old new : State) : Type 0 where
   pub first : List Table
   pub rest : List Table
   pub are : hub_tables ≡ first ++ rest
-  pub made : MakesOn (schema_with first) old new
+  pub made : MakesOn rows (schema_with first) old new
 
 -- the making goes on from these tables: after a fault the transaction is undone, or it stands with the first tables,
 -- and nothing is committed; where the transaction had ended before, nothing is done at all
-pub record LeavesTables {X : Type 0} (begun : List Table) (old new : State) (result : Result X Error) : Type 0 where
+pub record LeavesTables {X : Type 0} (rows : Trees) (begun : List Table) (old new : State) (result : Result X Error)
+    : Type 0 where
   pub fault :
-      HasCleanDisk new → HasMade (schema_with begun) old → OnErr result (MakesFirstTables old new ⊎ IsUndone old new)
+      HasCleanDisk new → HasMade rows (schema_with begun) old →
+      OnErr result (MakesFirstTables rows old new ⊎ IsUndone old new)
   pub ended : old.in_transaction ≡ false → OnOk result ⊥ × ShowsTheSame old new

@@ -118,3 +118,7 @@ tables_in trees = record {
   remembered = in_key_order remembered_cmp (map remembered_in (trees 14));
   mail = in_key_order mail_cmp (map mail_in (trees 16));
 }
+
+-- what the rows of schema 1 say, which has no tables of a register
+abbrev pub traffic_in : Trees → Tables
+traffic_in trees = record (tables_in trees) { hubs = []; keys = []; prefixes = [] }

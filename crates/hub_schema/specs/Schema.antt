@@ -1,11 +1,11 @@
 -- The tables of a hub in SQL, and their keys. All bytes are BLOB and all numbers INTEGER; tables are STRICT, no column
 -- takes NULL, and the key of each kind is its PRIMARY KEY. Table and column names stay: files that are written have
 -- them.
-use Rattle.std.specs.Prelude.{ℕ, true, List, [], ◌∷◌, ◌++◌, map, codes}
+use Rattle.std.specs.Prelude.{ℕ, ◌+◌, List, [], ◌∷◌, ◌++◌, length, map, codes}
 use Rattle.sqlite.specs.Kind.TheVariants.{Integer, Blob}
 use Rattle.sqlite.specs.Schema.{Schema}
 use Rattle.sqlite.specs.Table.{Table}
-use Rattle.sqlite_catalog.specs.Listing.{automatic}
+use Rattle.sqlite_catalog.specs.Change.{automatics}
 use Rattle.sqlite_schema.specs.declared.schema.Column.{Column}
 use Rattle.sqlite_schema.specs.declared.schema.Index.{Index}
 use Rattle.sqlite_value.specs.Keys.{plain}
@@ -24,69 +24,62 @@ table_of tree name columns primary keys = plain_table tree name columns primary 
 abbrev pub keyed : ℕ → List ℕ → List Column → List ℕ → Table
 keyed tree name columns primary = table_of tree name columns primary (primary ∷ [])
 
+-- the number behind those of a table and its keys
+abbrev pub next_to : Table → ℕ
+next_to table = table.tree + 1 + length table.uniques
+
 -- the number of the schema, in its one row
 abbrev pub schema_table : Table
 schema_table = table_of 0 (codes "schema") (number (codes "number") ∷ []) [] []
 
 abbrev pub order_table : Table
-order_table = keyed 1 (codes "order") (bytes (codes "supplier") ∷ bytes (codes "number") ∷ []) (1 ∷ 2 ∷ [])
+order_table = keyed (next_to schema_table) (codes "order") (bytes (codes "supplier") ∷ bytes (codes "number") ∷ []) (1 ∷ 2 ∷ [])
 
 abbrev pub line_table : Table
-line_table = keyed 3 (codes "line") (
+line_table = keyed (next_to order_table) (codes "line") (
     bytes (codes "supplier") ∷ bytes (codes "number") ∷ number (codes "line") ∷ bytes (codes "gtin")
     ∷ number (codes "ordered") ∷ number (codes "open_qty") ∷ number (codes "refused") ∷ number (codes "cancelled")
     ∷ number (codes "answer") ∷ []) (1 ∷ 2 ∷ 3 ∷ [])
 
 abbrev pub advice_table : Table
-advice_table = keyed 5 (codes "advice") (bytes (codes "supplier") ∷ bytes (codes "number") ∷ []) (1 ∷ 2 ∷ [])
+advice_table = keyed (next_to line_table) (codes "advice") (bytes (codes "supplier") ∷ bytes (codes "number") ∷ []) (1 ∷ 2 ∷ [])
 
 -- a second key, so that the pallets of one supplier are found by it
 abbrev pub pallet_table : Table
-pallet_table = table_of 7 (codes "pallet") (
+pallet_table = table_of (next_to advice_table) (codes "pallet") (
     bytes (codes "sscc") ∷ bytes (codes "supplier") ∷ bytes (codes "advice") ∷ number (codes "received") ∷ [])
     (1 ∷ []) ((1 ∷ []) ∷ (2 ∷ 1 ∷ []) ∷ [])
 
 abbrev pub content_table : Table
-content_table = keyed 10 (codes "content") (
+content_table = keyed (next_to pallet_table) (codes "content") (
     bytes (codes "sscc") ∷ number (codes "place") ∷ bytes (codes "number") ∷ number (codes "line")
     ∷ number (codes "quantity") ∷ []) (1 ∷ 2 ∷ [])
 
 abbrev pub receipt_table : Table
-receipt_table = keyed 12 (codes "receipt") (
+receipt_table = keyed (next_to content_table) (codes "receipt") (
     bytes (codes "sscc") ∷ bytes (codes "gtin") ∷ number (codes "accepted") ∷ number (codes "returned")
     ∷ number (codes "destroyed") ∷ []) (1 ∷ 2 ∷ [])
 
 abbrev pub remembered_table : Table
-remembered_table = keyed 14 (codes "remembered") (
+remembered_table = keyed (next_to receipt_table) (codes "remembered") (
     bytes (codes "supplier") ∷ number (codes "side") ∷ bytes (codes "control") ∷ bytes (codes "message")
     ∷ bytes (codes "content") ∷ []) (1 ∷ 2 ∷ 3 ∷ 4 ∷ [])
 
 abbrev pub mail_table : Table
-mail_table = keyed 16 (codes "mail") (
+mail_table = keyed (next_to remembered_table) (codes "mail") (
     bytes (codes "supplier") ∷ number (codes "number") ∷ number (codes "moment") ∷ number (codes "decimal")
     ∷ number (codes "kind") ∷ bytes (codes "document") ∷ bytes (codes "body") ∷ number (codes "taken") ∷ [])
     (1 ∷ 2 ∷ [])
 
 abbrev pub hub_table : Table
-hub_table = keyed 18 (codes "hub") (
+hub_table = keyed (next_to mail_table) (codes "hub") (
     bytes (codes "hub") ∷ bytes (codes "retailer") ∷ bytes (codes "key") ∷ []) (1 ∷ [])
 
 abbrev pub supplier_table : Table
-supplier_table = keyed 20 (codes "supplier") (bytes (codes "supplier") ∷ bytes (codes "key") ∷ []) (1 ∷ [])
+supplier_table = keyed (next_to hub_table) (codes "supplier") (bytes (codes "supplier") ∷ bytes (codes "key") ∷ []) (1 ∷ [])
 
 abbrev pub prefix_table : Table
-prefix_table = keyed 22 (codes "prefix") (bytes (codes "prefix") ∷ bytes (codes "supplier") ∷ []) (1 ∷ [])
-
--- the index of a key
-abbrev pub index_of : List ℕ → ℕ → ℕ → List ℕ → Index
-index_of name tree table key = record {
-  name = name;
-  tree = tree;
-  table = table;
-  columns = key;
-  order = plain;
-  is_unique = true;
-}
+prefix_table = keyed (next_to supplier_table) (codes "prefix") (bytes (codes "prefix") ∷ bytes (codes "supplier") ∷ []) (1 ∷ [])
 
 abbrev pub no_schema : Schema
 no_schema = record { tables = []; indexes = []; views = [] }
@@ -97,20 +90,23 @@ traffic_tables =
     schema_table ∷ order_table ∷ line_table ∷ advice_table ∷ pallet_table ∷ content_table ∷ receipt_table
     ∷ remembered_table ∷ mail_table ∷ []
 
--- all tables: behind those the register's
-abbrev pub hub_tables : List Table
-hub_tables = traffic_tables ++ hub_table ∷ supplier_table ∷ prefix_table ∷ []
+-- those of the register
+abbrev pub party_tables : List Table
+party_tables = hub_table ∷ supplier_table ∷ prefix_table ∷ []
 
--- with an index for each key
+-- all tables: the register's behind the others
+abbrev pub hub_tables : List Table
+hub_tables = traffic_tables ++ party_tables
+
+-- an index for each key, with the numbers behind that of the table
+abbrev pub indexes_of : List Table → List Index
+indexes_of [] = []
+indexes_of (table ∷ tables) = automatics table 0 (table.tree + 1) table.uniques ++ indexes_of tables
+
+-- schema 1: the tables of goods and messages alone
+abbrev pub old_schema : Schema
+old_schema = record { tables = traffic_tables; indexes = indexes_of traffic_tables; views = [] }
+
+-- schema 2: all tables
 abbrev pub hub_schema : Schema
-hub_schema = record {
-  tables = hub_tables;
-  indexes =
-      automatic order_table 0 (1 ∷ 2 ∷ []) 2 ∷ automatic line_table 0 (1 ∷ 2 ∷ 3 ∷ []) 4
-      ∷ automatic advice_table 0 (1 ∷ 2 ∷ []) 6 ∷ automatic pallet_table 0 (1 ∷ []) 8
-      ∷ automatic pallet_table 1 (2 ∷ 1 ∷ []) 9 ∷ automatic content_table 0 (1 ∷ 2 ∷ []) 11
-      ∷ automatic receipt_table 0 (1 ∷ 2 ∷ []) 13 ∷ automatic remembered_table 0 (1 ∷ 2 ∷ 3 ∷ 4 ∷ []) 15
-      ∷ automatic mail_table 0 (1 ∷ 2 ∷ []) 17 ∷ automatic hub_table 0 (1 ∷ []) 19
-      ∷ automatic supplier_table 0 (1 ∷ []) 21 ∷ automatic prefix_table 0 (1 ∷ []) 23 ∷ [];
-  views = [];
-}
+hub_schema = record { tables = hub_tables; indexes = indexes_of hub_tables; views = [] }

@@ -1,5 +1,5 @@
 -- What a connection shows that holds the tables of a hub, and what calls do to it.
-use Rattle.std.specs.Prelude.{◌≡◌, ◌⊎◌, pos, true, false, IsTrue, List, [], ◌∷◌, map, Result, Err, IfOk, OnOk}
+use Rattle.std.specs.Prelude.{◌≡◌, ◌⊎◌, ℕ, pos, true, false, IsTrue, List, [], ◌∷◌, map, Result, Err, IfOk, OnOk}
 use Rattle.std.specs.Prelude.{OnErr}
 use Rattle.std.specs.List.{AllByRecursion}
 use Rattle.sqlite_value.specs.declared.value.Value.TheVariants.{Int}
@@ -8,6 +8,7 @@ use Rattle.sqlite_trees.specs.Tree.{Trees}
 use Rattle.sqlite_trees.specs.View.{IsShaped}
 use Rattle.sqlite_trees.specs.declared.store.Shape.TheVariants.{Table}
 use Rattle.sqlite.specs.Effect.{IsDatabase}
+use Rattle.sqlite.specs.Schema.{Schema}
 use Rattle.sqlite.specs.State.{State, HasCleanDisk, Survives}
 use Rattle.hub_tables.specs.Change.{apply_all}
 use Rattle.hub_tables.specs.Sets.{Rising}
@@ -18,23 +19,36 @@ use Rattle.hub_store.specs.Clean.{are_clean}
 use Rattle.hub_store.specs.declared.fault.StoreFault.{StoreFault}
 use Rattle.hub_store.specs.declared.fault.StoreFault.TheVariants.{Unclean}
 use Rattle.hub_schema.specs.Rows.{tables_in}
-use Rattle.hub_schema.specs.Schema.{hub_schema}
+use Rattle.hub_schema.specs.Schema.{old_schema, hub_schema, hub_tables, traffic_tables}
 
 -- the row numbers of each table rise
 abbrev pub AreOrdered : Trees → Type 0
-AreOrdered trees =
-    AllByRecursion (λ tree. IsShaped Table (trees tree))
-    (0 ∷ 1 ∷ 3 ∷ 5 ∷ 7 ∷ 10 ∷ 12 ∷ 14 ∷ 16 ∷ 18 ∷ 20 ∷ 22 ∷ [])
+AreOrdered trees = AllByRecursion (λ table. IsShaped Table (trees table.tree)) hub_tables
 
--- the one row of the table with the schema's number, which is 2
+-- those of schema 1
+abbrev pub AreOldOrdered : Trees → Type 0
+AreOldOrdered trees = AllByRecursion (λ table. IsShaped Table (trees table.tree)) traffic_tables
+
+-- the one row of the table with the schema's number
+abbrev pub HasNumber : ℕ → Trees → Type 0
+HasNumber number trees = map (λ row. column row 1) (trees 0) ≡ Int (pos number) ∷ []
+
+-- it is 2
 abbrev pub IsNumbered : Trees → Type 0
-IsNumbered trees = map (λ row. column row 1) (trees 0) ≡ Int (pos 2) ∷ []
+IsNumbered = HasNumber 2
 
 -- the connection holds the tables of a hub
 pub record IsHub (s : State) : Type 0 where
   pub schema : s.now.schema ≡ hub_schema
   pub numbered : IsNumbered s.now.trees
   pub ordered : AreOrdered s.now.trees
+  pub sound : IsDatabase s.now
+
+-- the connection holds the tables of schema 1
+pub record IsOldHub (s : State) : Type 0 where
+  pub schema : s.now.schema ≡ old_schema
+  pub numbered : HasNumber 1 s.now.trees
+  pub ordered : AreOldOrdered s.now.trees
   pub sound : IsDatabase s.now
 
 -- a hub's tables, each of them, with these rows, and with the schema's number
@@ -88,20 +102,31 @@ pub record StatementLeaves {X E : Type 0} (old new : State) (result : Result X E
       HasCleanDisk new → IsTrue old.in_transaction → OnErr result (ShowsTheSame old new ⊎ IsUndone old new)
   pub ended : old.in_transaction ≡ false → OnOk result ⊥ × ShowsTheSame old new
 
--- a look-up outside a transaction: what its answer says of the tables, that it changes nothing, and by which tables alone
--- it is `Unclean`
-pub record LooksFor {X : Type 0} (says : Tables → X → Type 0) (spoilt : Tables → Type 0) (old new : State)
-    (result : Result X StoreFault) : Type 0 where
-  pub answers : HasCleanDisk new → Holds old → IfOk result (says (tables_in old.now.trees))
+-- a look-up outside a transaction, in tables that are of this schema and are so: what its answer says of them, that it
+-- changes nothing, and by which tables alone it is `Unclean`
+pub record LooksAmong {X : Type 0} (schema : Schema) (Are : State → Type 0) (says : Tables → X → Type 0)
+    (spoilt : Tables → Type 0) (old new : State) (result : Result X StoreFault) : Type 0 where
+  pub answers : HasCleanDisk new → (IsTrue old.is_open → Are old) → IfOk result (says (tables_in old.now.trees))
   pub same : HasCleanDisk new → OnOk result (IsTrue old.is_open × IsTrue new.is_open × (new.now ≡ old.now))
   pub stays :
-      HasCleanDisk new → old.in_transaction ≡ false → old.now.schema ≡ hub_schema → IsTrue new.is_open →
+      HasCleanDisk new → old.in_transaction ≡ false → old.now.schema ≡ schema → IsTrue new.is_open →
       IsTrue old.is_open × (new.now ≡ old.now)
   pub leaves : HasCleanDisk new → Spares old new result
   pub mode : old.in_transaction ≡ false → new.in_transaction ≡ false
   pub crash : Survives old new (λ _. ⊥)
   pub unclean :
-      HasCleanDisk new → Holds old → result ≡ Err Unclean → IsTrue old.is_open × spoilt (tables_in old.now.trees)
+      HasCleanDisk new → (IsTrue old.is_open → Are old) → result ≡ Err Unclean →
+      IsTrue old.is_open × spoilt (tables_in old.now.trees)
+
+-- in the tables of a hub
+abbrev pub LooksFor : {X : Type 0} → (Tables → X → Type 0) → (Tables → Type 0) → State → State → Result X StoreFault
+    → Type 0
+LooksFor = LooksAmong hub_schema IsHub
+
+-- in those of schema 1
+abbrev pub LooksForOld : {X : Type 0} → (Tables → X → Type 0) → (Tables → Type 0) → State → State → Result X StoreFault
+    → Type 0
+LooksForOld = LooksAmong old_schema IsOldHub
 
 -- the same where the answer is this of the tables, and `Unclean` comes only where some row is none of the kinds
 abbrev pub LooksUp : {X : Type 0} → (Tables → X) → State → State → Result X StoreFault → Type 0

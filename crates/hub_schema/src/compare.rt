@@ -1,11 +1,12 @@
-//! Whether a schema is the hub's.
-ghost use Rattle.std.specs.Prelude.{◌≡◌, ◌↔◌, IsTrue, [], ◌∷◌, map};
+//! Whether a schema is one of the hub's.
+ghost use Rattle.std.specs.Prelude.{◌≡◌, ◌+◌, ◌↔◌, IsTrue, [], map};
 ghost use Rattle.sql_rows.specs.Tables.{strict_column, plain_table};
 ghost use Rattle.sqlite_value.specs.Keys.{plain};
-ghost use Rattle.hub_schema.specs.Schema.{keyed, index_of, hub_tables, hub_schema, no_schema};
-ghost use Rattle.hub_schema.specs.Schema.{schema_table, order_table, line_table, advice_table, pallet_table, content_table};
-ghost use Rattle.hub_schema.specs.Schema.{receipt_table, remembered_table, mail_table, hub_table, supplier_table, prefix_table};
+ghost use Rattle.hub_schema.specs.Definitions.{strict_columns, place_of, places_of, first_of, defined_at, numbered};
+ghost use Rattle.hub_schema.specs.Definitions.{index_of, own_indexes, all_indexes};
+ghost use Rattle.hub_schema.specs.Schema.{next_to, hub_schema, old_schema, no_schema};
 
+use crate::definitions::{Definition, Key, all, traffic};
 use sqlite_items::Items;
 use sqlite_schema::code::Terms;
 use sqlite_schema::schema::{Column, Index, Kind, Schema, Stamps, Table};
@@ -39,14 +40,94 @@ fn is_unstamped(stamps: &Stamps) -> bool
     stamps.places.is_empty() && is_none(&stamps.terms) && stamps.formats.is_empty()
 }
 
-// Whether the table has columns and keys, and no other rule.
-fn is_plain(table: &Table, name: &[u8], tree: u32, primary: &[usize]) -> bool
+// Whether the columns are these, in this order.
+fn are_columns(columns: &[Column], expected: &[(&str, Kind)]) -> bool
+    ensures { IsTrue result ↔ (columns.now ≡ strict_columns expected.now) }
+{
+    let [column, columns @ ..] = columns else {
+        return expected.is_empty();
+    };
+    let [(name, kind), expected @ ..] = expected else {
+        return false;
+    };
+    is_column(column, name.as_bytes(), *kind) && are_columns(columns, expected)
+}
+
+// Whether the column of this name is at this place.
+fn is_place(place: usize, name: &str, columns: &[(&str, Kind)]) -> bool
+    ensures { IsTrue result ↔ (place ≡ place_of (strict_columns columns.now) name.now) }
+{
+    let [(column, _), columns @ ..] = columns else {
+        return place == 1;
+    };
+    if *column == name {
+        place == 1
+    } else {
+        place > 0 && is_place(place - 1, name, columns)
+    }
+}
+
+// Whether the columns of these names are at these places.
+fn are_places(places: &[usize], names: &[&str], columns: &[(&str, Kind)]) -> bool
+    ensures { IsTrue result ↔ (places.now
+        ≡ map (λ name. place_of (strict_columns columns.now) name.now) names.now) }
+{
+    let [place, places @ ..] = places else {
+        return names.is_empty();
+    };
+    let [name, names @ ..] = names else {
+        return false;
+    };
+    is_place(*place, name, columns) && are_places(places, names, columns)
+}
+
+// Whether this is the key, ascending by its bytes.
+fn is_key(places: &Items<usize>, order: Order, key: &Key, columns: &[(&str, Kind)]) -> bool
     ensures { IsTrue result ↔
-        (table.now ≡ plain_table tree name.now table.now.columns primary.now table.now.uniques table.now.orders) }
+        ((places.now ≡ places_of (strict_columns columns.now) key.now) × (order ≡ plain)) }
+{
+    are_places(places.as_slice(), key.columns, columns) && order.digits == 0
+}
+
+// Whether these are the keys.
+fn are_keys(
+    keys: &[Items<usize>],
+    orders: &[Order],
+    expected: &[Key],
+    columns: &[(&str, Kind)],
+) -> bool
+    ensures { IsTrue result ↔
+        ((keys.now ≡ map (places_of (strict_columns columns.now)) expected.now)
+        × (orders.now ≡ map (λ _. plain) expected.now)) }
+{
+    let [key, keys @ ..] = keys else {
+        return orders.is_empty() && expected.is_empty();
+    };
+    let [order, orders @ ..] = orders else {
+        return false;
+    };
+    let [wanted, expected @ ..] = expected else {
+        return false;
+    };
+    is_key(key, *order, wanted, columns) && are_keys(keys, orders, expected, columns)
+}
+
+// Whether the primary key is the first one.
+fn is_first(primary: &Items<usize>, keys: &[Items<usize>]) -> bool
+    ensures { IsTrue result ↔ (primary.now ≡ first_of keys.now) }
+{
+    let [key, ..] = keys else {
+        return primary.is_empty();
+    };
+    primary.as_slice() == key.as_slice()
+}
+
+// Whether the table has columns and keys, and no other rule.
+fn is_plain(table: &Table, name: &[u8]) -> bool
+    ensures { IsTrue result ↔ (table.now
+        ≡ plain_table table.now.tree name.now table.now.columns table.now.primary table.now.uniques table.now.orders) }
 {
     table.name.as_slice() == name
-        && table.tree == tree
-        && table.primary.as_slice() == primary
         && table.key.is_none()
         && table.references.is_empty()
         && table.computed.is_empty()
@@ -55,309 +136,136 @@ fn is_plain(table: &Table, name: &[u8], tree: u32, primary: &[usize]) -> bool
         && is_unstamped(&table.stamps)
 }
 
-// Whether the columns are these keys, ascending by their bytes.
-fn is_key(columns: &Items<usize>, order: Order, key: &[usize]) -> bool
-    ensures { IsTrue result ↔ ((columns.now ≡ key.now) × (order ≡ plain)) }
+// Whether the table is the one of the definition, whatever its number.
+fn is_table(table: &Table, definition: &Definition) -> bool
+    ensures { IsTrue result ↔ (table.now ≡ defined_at table.now.tree definition.now) }
 {
-    columns.as_slice() == key && order.digits == 0
+    is_plain(table, definition.name.as_bytes())
+        && are_columns(table.columns.as_slice(), definition.columns)
+        && are_keys(
+            table.uniques.as_slice(),
+            table.orders.as_slice(),
+            definition.keys,
+            definition.columns,
+        )
+        && is_first(&table.primary, table.uniques.as_slice())
 }
 
-// Whether the primary key is the one that the table has.
-fn is_keyed(table: &Table, name: &[u8], tree: u32, primary: &[usize]) -> bool
-    ensures { IsTrue result ↔ (table.now ≡ keyed tree name.now table.now.columns primary.now) }
+// Whether the table has the number behind those of another and its keys.
+fn is_next(table: &Table, before: &Table) -> bool
+    ensures { IsTrue result ↔ (table.now.tree ≡ next_to before.now) }
 {
-    let [columns] = table.uniques.as_slice() else {
+    table.tree > before.tree && (table.tree - before.tree - 1) as usize == before.uniques.len()
+}
+
+// Whether the tables are those of the definitions, with the numbers behind a table.
+fn are_behind(before: &Table, tables: &[Table], definitions: &[Definition]) -> bool
+    ensures { IsTrue result ↔ (tables.now ≡ numbered (next_to before.now) definitions.now) }
+{
+    let [table, tables @ ..] = tables else {
+        return definitions.is_empty();
+    };
+    let [definition, definitions @ ..] = definitions else {
         return false;
     };
-    let [order] = table.orders.as_slice() else {
+    is_next(table, before) && is_table(table, definition) && are_behind(table, tables, definitions)
+}
+
+// Whether the tables are those of the definitions, with the numbers from 0 on.
+fn are_tables(tables: &[Table], definitions: &[Definition]) -> bool
+    ensures { IsTrue result ↔ (tables.now ≡ numbered 0 definitions.now) }
+{
+    let [table, tables @ ..] = tables else {
+        return definitions.is_empty();
+    };
+    let [definition, definitions @ ..] = definitions else {
         return false;
     };
-    is_key(columns, *order, primary) && is_plain(table, name, tree, primary)
+    table.tree == 0 && is_table(table, definition) && are_behind(table, tables, definitions)
 }
 
-// Whether the columns are these, in this order.
-fn are_columns(columns: &[Column], expected: &[(&[u8], Kind)]) -> bool
-    ensures { IsTrue result ↔ (columns.now ≡ map (λ it. strict_column it.0.now it.1) expected.now) }
+// Whether the index is the one of a key of a table, with the number behind this one.
+fn is_index(index: &Index, table: u32, before: u32, key: &Key, columns: &[(&str, Kind)]) -> bool
+    ensures { IsTrue result ↔ (index.now ≡ index_of table (before + 1) (strict_columns columns.now) key.now) }
 {
-    let [column, columns @ ..] = columns else {
-        return expected.is_empty();
-    };
-    let [(name, kind), expected @ ..] = expected else {
-        return false;
-    };
-    is_column(column, name, *kind) && are_columns(columns, expected)
-}
-
-fn is_schema(table: &Table) -> bool
-    ensures { IsTrue result ↔ (table.now ≡ schema_table) }
-{
-    table.uniques.is_empty()
-        && table.orders.is_empty()
-        && is_plain(table, b"schema", 0, &[])
-        && are_columns(table.columns.as_slice(), &[(b"number", Kind::Integer)])
-}
-
-fn is_order(table: &Table) -> bool
-    ensures { IsTrue result ↔ (table.now ≡ order_table) }
-{
-    is_keyed(table, b"order", 1, &[1, 2])
-        && are_columns(
-            table.columns.as_slice(),
-            &[(b"supplier", Kind::Blob), (b"number", Kind::Blob)],
-        )
-}
-
-fn is_line(table: &Table) -> bool
-    ensures { IsTrue result ↔ (table.now ≡ line_table) }
-{
-    is_keyed(table, b"line", 3, &[1, 2, 3])
-        && are_columns(
-            table.columns.as_slice(),
-            &[
-                (b"supplier", Kind::Blob),
-                (b"number", Kind::Blob),
-                (b"line", Kind::Integer),
-                (b"gtin", Kind::Blob),
-                (b"ordered", Kind::Integer),
-                (b"open_qty", Kind::Integer),
-                (b"refused", Kind::Integer),
-                (b"cancelled", Kind::Integer),
-                (b"answer", Kind::Integer),
-            ],
-        )
-}
-
-fn is_advice(table: &Table) -> bool
-    ensures { IsTrue result ↔ (table.now ≡ advice_table) }
-{
-    is_keyed(table, b"advice", 5, &[1, 2])
-        && are_columns(
-            table.columns.as_slice(),
-            &[(b"supplier", Kind::Blob), (b"number", Kind::Blob)],
-        )
-}
-
-fn is_pallet(table: &Table) -> bool
-    ensures { IsTrue result ↔ (table.now ≡ pallet_table) }
-{
-    let [first, second] = table.uniques.as_slice() else {
-        return false;
-    };
-    let [rising, also] = table.orders.as_slice() else {
-        return false;
-    };
-    is_key(first, *rising, &[1])
-        && is_key(second, *also, &[2, 1])
-        && is_plain(table, b"pallet", 7, &[1])
-        && are_columns(
-            table.columns.as_slice(),
-            &[
-                (b"sscc", Kind::Blob),
-                (b"supplier", Kind::Blob),
-                (b"advice", Kind::Blob),
-                (b"received", Kind::Integer),
-            ],
-        )
-}
-
-fn is_content(table: &Table) -> bool
-    ensures { IsTrue result ↔ (table.now ≡ content_table) }
-{
-    is_keyed(table, b"content", 10, &[1, 2])
-        && are_columns(
-            table.columns.as_slice(),
-            &[
-                (b"sscc", Kind::Blob),
-                (b"place", Kind::Integer),
-                (b"number", Kind::Blob),
-                (b"line", Kind::Integer),
-                (b"quantity", Kind::Integer),
-            ],
-        )
-}
-
-fn is_receipt(table: &Table) -> bool
-    ensures { IsTrue result ↔ (table.now ≡ receipt_table) }
-{
-    is_keyed(table, b"receipt", 12, &[1, 2])
-        && are_columns(
-            table.columns.as_slice(),
-            &[
-                (b"sscc", Kind::Blob),
-                (b"gtin", Kind::Blob),
-                (b"accepted", Kind::Integer),
-                (b"returned", Kind::Integer),
-                (b"destroyed", Kind::Integer),
-            ],
-        )
-}
-
-fn is_remembered(table: &Table) -> bool
-    ensures { IsTrue result ↔ (table.now ≡ remembered_table) }
-{
-    is_keyed(table, b"remembered", 14, &[1, 2, 3, 4])
-        && are_columns(
-            table.columns.as_slice(),
-            &[
-                (b"supplier", Kind::Blob),
-                (b"side", Kind::Integer),
-                (b"control", Kind::Blob),
-                (b"message", Kind::Blob),
-                (b"content", Kind::Blob),
-            ],
-        )
-}
-
-fn is_mail(table: &Table) -> bool
-    ensures { IsTrue result ↔ (table.now ≡ mail_table) }
-{
-    is_keyed(table, b"mail", 16, &[1, 2])
-        && are_columns(
-            table.columns.as_slice(),
-            &[
-                (b"supplier", Kind::Blob),
-                (b"number", Kind::Integer),
-                (b"moment", Kind::Integer),
-                (b"decimal", Kind::Integer),
-                (b"kind", Kind::Integer),
-                (b"document", Kind::Blob),
-                (b"body", Kind::Blob),
-                (b"taken", Kind::Integer),
-            ],
-        )
-}
-
-fn is_hub(table: &Table) -> bool
-    ensures { IsTrue result ↔ (table.now ≡ hub_table) }
-{
-    is_keyed(table, b"hub", 18, &[1])
-        && are_columns(
-            table.columns.as_slice(),
-            &[
-                (b"hub", Kind::Blob),
-                (b"retailer", Kind::Blob),
-                (b"key", Kind::Blob),
-            ],
-        )
-}
-
-fn is_supplier(table: &Table) -> bool
-    ensures { IsTrue result ↔ (table.now ≡ supplier_table) }
-{
-    is_keyed(table, b"supplier", 20, &[1])
-        && are_columns(
-            table.columns.as_slice(),
-            &[(b"supplier", Kind::Blob), (b"key", Kind::Blob)],
-        )
-}
-
-fn is_prefix(table: &Table) -> bool
-    ensures { IsTrue result ↔ (table.now ≡ prefix_table) }
-{
-    is_keyed(table, b"prefix", 22, &[1])
-        && are_columns(
-            table.columns.as_slice(),
-            &[(b"prefix", Kind::Blob), (b"supplier", Kind::Blob)],
-        )
-}
-
-// Whether the index is the one of a key.
-fn is_index(index: &Index, name: &[u8], tree: u32, table: u32, key: &[usize]) -> bool
-    ensures { IsTrue result ↔ (index.now ≡ index_of name.now tree table key.now) }
-{
-    index.name.as_slice() == name
-        && index.tree == tree
+    index.name.as_slice() == key.index.as_bytes()
         && index.table == table
+        && index.tree > before
+        && index.tree - before == 1
         && index.is_unique
-        && is_key(&index.columns, index.order, key)
+        && is_key(&index.columns, index.order, key, columns)
 }
 
-// Whether the indexes are those of these names, trees, tables and keys, in this order.
-fn are_indexes(indexes: &[Index], expected: &[(&[u8], u32, u32, &[usize])]) -> bool
-    ensures { IsTrue result ↔ (indexes.now ≡ map (λ it. index_of it.0.now it.1 it.2 it.3.now) expected.now) }
+// Whether these are the indexes of the keys of a table, from the number behind this one on.
+fn are_own(
+    indexes: &[Index],
+    table: u32,
+    before: u32,
+    keys: &[Key],
+    columns: &[(&str, Kind)],
+) -> bool
+    ensures { IsTrue result ↔ (indexes.now
+        ≡ own_indexes table (before + 1) (strict_columns columns.now) keys.now) }
 {
     let [index, indexes @ ..] = indexes else {
-        return expected.is_empty();
+        return keys.is_empty();
     };
-    let [(name, tree, table, key), expected @ ..] = expected else {
+    let [key, keys @ ..] = keys else {
         return false;
     };
-    is_index(index, name, *tree, *table, key) && are_indexes(indexes, expected)
+    is_index(index, table, before, key, columns)
+        && are_own(indexes, table, index.tree, keys, columns)
 }
 
-// Whether each key of the hub's tables has its index, and there is no other.
-fn are_hub_indexes(indexes: &[Index]) -> bool
-    ensures { IsTrue result ↔ (indexes.now ≡ hub_schema.indexes) }
+// Whether each key of these tables has its index, and there is no other.
+fn are_indexes(indexes: &[Index], tables: &[Table], definitions: &[Definition]) -> bool
+    ensures { IsTrue result ↔ (indexes.now ≡ all_indexes tables.now definitions.now) }
 {
-    are_indexes(
-        indexes,
-        &[
-            (b"sqlite_autoindex_order_1", 2, 1, &[1, 2]),
-            (b"sqlite_autoindex_line_1", 4, 3, &[1, 2, 3]),
-            (b"sqlite_autoindex_advice_1", 6, 5, &[1, 2]),
-            (b"sqlite_autoindex_pallet_1", 8, 7, &[1]),
-            (b"sqlite_autoindex_pallet_2", 9, 7, &[2, 1]),
-            (b"sqlite_autoindex_content_1", 11, 10, &[1, 2]),
-            (b"sqlite_autoindex_receipt_1", 13, 12, &[1, 2]),
-            (b"sqlite_autoindex_remembered_1", 15, 14, &[1, 2, 3, 4]),
-            (b"sqlite_autoindex_mail_1", 17, 16, &[1, 2]),
-            (b"sqlite_autoindex_hub_1", 19, 18, &[1]),
-            (b"sqlite_autoindex_supplier_1", 21, 20, &[1]),
-            (b"sqlite_autoindex_prefix_1", 23, 22, &[1]),
-        ],
-    )
-}
-
-// Whether the last tables are those of the register.
-fn are_party_tables(tables: &[Table]) -> bool
-    ensures { IsTrue result ↔ (tables.now ≡ hub_table ∷ supplier_table ∷ prefix_table ∷ []) }
-{
-    let [hub, supplier, prefix] = tables else {
-        return false;
+    let [table, tables @ ..] = tables else {
+        return indexes.is_empty();
     };
-    is_hub(hub) && is_supplier(supplier) && is_prefix(prefix)
+    let [definition, definitions @ ..] = definitions else {
+        return indexes.is_empty();
+    };
+    let (own, others) = indexes.split_at(indexes.len().min(definition.keys.len()));
+    are_own(
+        own,
+        table.tree,
+        table.tree,
+        definition.keys,
+        definition.columns,
+    ) && are_indexes(others, tables, definitions)
 }
 
-// Whether the tables from the receipts on are these.
-fn are_message_tables(tables: &[Table]) -> bool
-    ensures { IsTrue result ↔ (tables.now ≡ receipt_table ∷ remembered_table ∷ mail_table ∷ hub_table
-        ∷ supplier_table ∷ prefix_table ∷ []) }
+// Whether the schema has the tables of the definitions and their keys, in the order of their making, and nothing else.
+fn is_of(schema: &Schema, definitions: &[Definition]) -> bool
+    ensures { IsTrue result ↔ (schema.now ≡ record {
+      tables = numbered 0 definitions.now;
+      indexes = all_indexes (numbered 0 definitions.now) definitions.now;
+      views = [];
+    }) }
 {
-    let [receipt, remembered, mail, rest @ ..] = tables else {
-        return false;
-    };
-    is_receipt(receipt) && is_remembered(remembered) && is_mail(mail) && are_party_tables(rest)
-}
-
-// Whether the tables from the advices on are these.
-fn are_pallet_tables(tables: &[Table]) -> bool
-    ensures { IsTrue result ↔
-        (tables.now ≡ advice_table ∷ pallet_table ∷ content_table ∷ receipt_table ∷ remembered_table ∷ mail_table
-        ∷ hub_table ∷ supplier_table ∷ prefix_table ∷ []) }
-{
-    let [advice, pallet, content, rest @ ..] = tables else {
-        return false;
-    };
-    is_advice(advice) && is_pallet(pallet) && is_content(content) && are_message_tables(rest)
-}
-
-// Whether the tables are the hub's, in this order.
-fn are_hub_tables(tables: &[Table]) -> bool
-    ensures { IsTrue result ↔ (tables.now ≡ hub_tables) }
-{
-    let [schema, order, line, rest @ ..] = tables else {
-        return false;
-    };
-    is_schema(schema) && is_order(order) && is_line(line) && are_pallet_tables(rest)
+    are_tables(schema.tables.as_slice(), definitions)
+        && are_indexes(
+            schema.indexes.as_slice(),
+            schema.tables.as_slice(),
+            definitions,
+        )
+        && schema.views.is_empty()
 }
 
 /// Whether the schema is the hub's: its tables and their keys, in the order of their making, and nothing else.
 pub fn is_hub_schema(schema: &Schema) -> bool
     ensures { IsTrue result ↔ (schema.now ≡ hub_schema) }
 {
-    are_hub_tables(schema.tables.as_slice())
-        && are_hub_indexes(schema.indexes.as_slice())
-        && schema.views.is_empty()
+    is_of(schema, all())
+}
+
+/// Whether the schema is schema 1: the tables of goods and messages and their keys, and nothing else.
+pub fn is_old_schema(schema: &Schema) -> bool
+    ensures { IsTrue result ↔ (schema.now ≡ old_schema) }
+{
+    is_of(schema, traffic())
 }
 
 /// Whether the schema has nothing.

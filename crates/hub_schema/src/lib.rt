@@ -2,7 +2,8 @@
 #![tactic(auto)]
 
 mod compare;
+mod definitions;
 mod making;
 
-pub use compare::{is_hub_schema, is_no_schema};
-pub use making::make_tables;
+pub use compare::{is_hub_schema, is_no_schema, is_old_schema};
+pub use making::{make_party_tables, make_tables};

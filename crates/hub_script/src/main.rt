@@ -1,14 +1,15 @@
 //! Plays a script on a hub, and prints each reply: `hub_script < script` over lists in memory, `hub_script sql < script`
 //! over tables of SQL in memory, and `hub_script file PATH < script` over tables of SQL in a file. `hub_script stop-file C`
 //! and `hub_script stop-log C` play it over a database file and its log in memory, of which the one or the other fails
-//! each call after C, as where the machine stops; what it keeps is there once it is opened anew.
+//! each call after C, as where the machine stops; what it keeps is there once it is opened anew. `stop-file C PATH` and
+//! `stop-log C PATH` do so over a copy of the database file at PATH, as one of schema 1.
 //!
 //! A script is lines of words, each parted from the next by one blank. Where a line names a number of bytes, they
 //! follow it, and then a line end.
 //!
 //! | line | does |
 //! |---|---|
-//! | `hub N`, `hub N memory C`, `hub N disk C` | makes a hub, of the register whose text the N bytes are and without further rows; but of a file that has tables with its rows, or with what a file kept that stopped while it was opened, and of the register that these hold. Its store fails with this fault at the call after C others, of which the one that gives its register is none. Where the store is not opened, prints `store` and the fault |
+//! | `hub N`, `hub N memory C`, `hub N disk C` | makes a hub, of the register whose text the N bytes are and without further rows; but of a file that has tables with its rows, or with what a file kept that stopped while it was opened, and of the register that these hold. Beside the rows of a file of schema 1 it is founded with the register of the text. Its store fails with this fault at the call after C others, of which the one that gives its register is none. Where the store is not opened, prints `store` and the fault |
 //! | `as MOMENT GLN KEY` | says who asks from now on, and when, in seconds |
 //! | `upload N`, `after N`, `item N`, `taken N`, `status`, `status-of GLN`, `cancel N` | asks; the bytes of `upload` and `cancel` follow |
 //! | `join GLN KEY PREFIX[,PREFIX..]` | asks that a supplier be let in with this key and these company prefixes. A line that is no join, as one with nine prefixes, is none of a script |
@@ -47,6 +48,7 @@ use sqlite_std_file::FileFrom;
 use sqlite_store::FileStore;
 use sqlite_trees::memory::MemStore;
 use std::env;
+use std::fs::File;
 use std::process::ExitCode;
 
 /// The longest script, in bytes.
@@ -83,25 +85,42 @@ fn over_stopping<D: Stopping>(
     rt: &HostRuntime,
     of_file: u64,
     of_log: u64,
+    held: Vec<u8>,
 ) -> Result<(), ScriptFault> {
     over_tables::<FileStore<D>, StoppingFiles<D>>(
         rt,
         StoppingFiles {
             of_file,
             of_log,
+            held,
             left: None,
         },
     )
 }
 
-// Plays it over files of which one stops after so many calls.
-fn over_stopped(rt: &HostRuntime, word: &str, calls: &str) -> Result<(), ScriptFault> {
+// Plays it over files of which one stops after so many calls. The database file holds these bytes at first.
+fn over_stopped(
+    rt: &HostRuntime,
+    word: &str,
+    calls: &str,
+    held: Vec<u8>,
+) -> Result<(), ScriptFault> {
     let calls = calls.parse::<u64>().map_err(|_| ScriptFault::Line)?;
     match word {
-        "stop-file" => over_stopping::<Fuse<Memory>>(rt, calls, u64::MAX),
-        "stop-log" => over_stopping::<Fuse<Memory>>(rt, u64::MAX, calls),
+        "stop-file" => over_stopping::<Fuse<Memory>>(rt, calls, u64::MAX, held),
+        "stop-log" => over_stopping::<Fuse<Memory>>(rt, u64::MAX, calls, held),
         _ => Err(ScriptFault::Line),
     }
+}
+
+// The bytes of a file.
+fn bytes_of(rt: &HostRuntime, path: &str) -> Result<Vec<u8>, ScriptFault> {
+    let file = File::open(rt, path).map_err(|_| ScriptFault::File)?;
+    Ok(read_to_limit(
+        rt.alloc(),
+        &mut OfRead::new(file),
+        SCRIPT_LIMIT,
+    )?)
 }
 
 // Plays it over the store that the words name.
@@ -110,7 +129,11 @@ fn over_named(rt: &HostRuntime, words: &[String]) -> Result<(), ScriptFault> {
         [] | [_] => over_lists(rt),
         [_, word] if word.as_str() == "sql" => over_sql(rt),
         [_, word, path] if word.as_str() == "file" => over_file::<Unknown>(rt, path.as_str()),
-        [_, word, calls] => over_stopped(rt, word.as_str(), calls.as_str()),
+        [_, word, calls] => over_stopped(rt, word.as_str(), calls.as_str(), Vec::new(rt.alloc())),
+        [_, word, calls, path] => {
+            let held = bytes_of(rt, path.as_str())?;
+            over_stopped(rt, word.as_str(), calls.as_str(), held)
+        }
         _ => Err(ScriptFault::Line),
     }
 }

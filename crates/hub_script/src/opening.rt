@@ -1,14 +1,8 @@
 //! How the store of a hub is opened.
-ghost use Rattle.std.specs.Prelude.{IfOk};
-ghost use Rattle.hub_tables.specs.Register.{HoldsRegister};
-
-use hub_core::Hub;
 use hub_list::VecStore;
 use hub_register::Register;
-use hub_sql::SqliteStore;
+use hub_sql::{FoundFault, SqliteStore};
 use hub_store::{Store, StoreFault};
-use hub_tables::founded_tables_hold_their_register;
-use hub_trial::TrialStore;
 use sqlite_disk::{Start, Unknown};
 use sqlite_std_file::FileFrom;
 use sqlite_store::FileStore;
@@ -18,64 +12,35 @@ use std::alloc::Global;
 /// How the store of a hub is opened.
 pub trait Opener<S: Store>: Drop {
     /// The store, anew: with the rows that it has, or founded with those of this register.
-    fn open(&mut self, rt: &HostRuntime, register: &Register) -> Result<S, StoreFault>
-        ensures { IfOk result (λ store. S.honest store → HoldsRegister (S.content store)) };
+    fn open(&mut self, rt: &HostRuntime, register: &Register) -> Result<S, FoundFault>;
 
-    /// The hub of a store that stood, with what that keeps. No call of it fails.
-    fn again(
-        &mut self,
-        rt: &HostRuntime,
-        register: Register,
-        store: S,
-    ) -> Result<Hub<TrialStore<S>>, StoreFault>;
+    /// A store that stood, opened anew with what it keeps; one that stopped before it was founded, with the rows of this
+    /// register.
+    fn again(&mut self, rt: &HostRuntime, register: &Register, store: S) -> Result<S, FoundFault>;
 
     /// Takes a store back of which there is no hub.
     fn take_back(&mut self, store: S);
-}
-
-// The hub of a store as it stands.
-fn as_it_stands<S: Store>(alloc: Global, register: Register, store: S) -> Hub<TrialStore<S>> {
-    Hub::with_register(alloc, register, TrialStore::new(store))
-}
-
-/// The hub of a store that was opened, no call of which fails.
-pub fn hub_over<S: Store>(
-    alloc: Global,
-    store: S,
-) -> Result<Hub<TrialStore<S>>, (TrialStore<S>, StoreFault)>
-    requires { S.honest store → HoldsRegister (S.content store) }
-{
-    Hub::new(alloc, TrialStore::new(store))
 }
 
 /// In memory, with the rows of the register alone.
 #[derive(Drop)]
 pub struct InMemory;
 
-// Lists with the rows of a register alone.
-fn founded_lists(alloc: Global, register: &Register) -> Result<VecStore, StoreFault>
-    ensures { IfOk result (λ store. HoldsRegister store) }
-{
-    founded_tables_hold_their_register();
-    let _hub = register.hub();
-    match VecStore::new(alloc, register) {
-        Ok(store) => Ok(store),
-        Err(_) => Err(StoreFault::Memory),
-    }
-}
-
 impl Opener<VecStore> for InMemory {
-    fn open(&mut self, rt: &HostRuntime, register: &Register) -> Result<VecStore, StoreFault> {
-        founded_lists(rt.alloc(), register)
+    fn open(&mut self, rt: &HostRuntime, register: &Register) -> Result<VecStore, FoundFault> {
+        match VecStore::new(rt.alloc(), register) {
+            Ok(store) => Ok(store),
+            Err(_) => Err(FoundFault::Store(StoreFault::Memory)),
+        }
     }
 
     fn again(
         &mut self,
-        rt: &HostRuntime,
-        register: Register,
+        _rt: &HostRuntime,
+        _register: &Register,
         store: VecStore,
-    ) -> Result<Hub<TrialStore<VecStore>>, StoreFault> {
-        Ok(as_it_stands(rt.alloc(), register, store))
+    ) -> Result<VecStore, FoundFault> {
+        Ok(store)
     }
 
     fn take_back(&mut self, _store: VecStore) {}
@@ -86,17 +51,20 @@ impl Opener<SqliteStore<MemStore>> for InMemory {
         &mut self,
         rt: &HostRuntime,
         register: &Register,
-    ) -> Result<SqliteStore<MemStore>, StoreFault> {
-        SqliteStore::in_memory(rt.alloc(), register)
+    ) -> Result<SqliteStore<MemStore>, FoundFault> {
+        match SqliteStore::in_memory(rt.alloc(), register) {
+            Ok(store) => Ok(store),
+            Err(fault) => Err(FoundFault::Store(fault)),
+        }
     }
 
     fn again(
         &mut self,
-        rt: &HostRuntime,
-        register: Register,
+        _rt: &HostRuntime,
+        _register: &Register,
         store: SqliteStore<MemStore>,
-    ) -> Result<Hub<TrialStore<SqliteStore<MemStore>>>, StoreFault> {
-        Ok(as_it_stands(rt.alloc(), register, store))
+    ) -> Result<SqliteStore<MemStore>, FoundFault> {
+        Ok(store)
     }
 
     fn take_back(&mut self, _store: SqliteStore<MemStore>) {}
@@ -126,11 +94,11 @@ impl<'a, T: Supposed> Opener<SqliteStore<FileStore<FileFrom<T>>>> for InFile<'a>
         &mut self,
         rt: &HostRuntime,
         register: &Register,
-    ) -> Result<SqliteStore<FileStore<FileFrom<T>>>, StoreFault> {
+    ) -> Result<SqliteStore<FileStore<FileFrom<T>>>, FoundFault> {
         match SqliteStore::at_path(rt, self.path, T::supposed()) {
             Ok(store) => return Ok(store),
             Err((StoreFault::Version, _left)) => {}
-            Err((fault, _left)) => return Err(fault),
+            Err((fault, _left)) => return Err(FoundFault::Store(fault)),
         }
         match SqliteStore::found_at(rt, self.path, T::supposed(), register) {
             Ok(store) => Ok(store),
@@ -140,11 +108,11 @@ impl<'a, T: Supposed> Opener<SqliteStore<FileStore<FileFrom<T>>>> for InFile<'a>
 
     fn again(
         &mut self,
-        rt: &HostRuntime,
-        register: Register,
+        _rt: &HostRuntime,
+        _register: &Register,
         store: SqliteStore<FileStore<FileFrom<T>>>,
-    ) -> Result<Hub<TrialStore<SqliteStore<FileStore<FileFrom<T>>>>>, StoreFault> {
-        Ok(as_it_stands(rt.alloc(), register, store))
+    ) -> Result<SqliteStore<FileStore<FileFrom<T>>>, FoundFault> {
+        Ok(store)
     }
 
     fn take_back(&mut self, _store: SqliteStore<FileStore<FileFrom<T>>>) {}

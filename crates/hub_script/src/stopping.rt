@@ -1,31 +1,43 @@
 //! Files in memory that fail from some call on, as where the machine stops, and come back from that.
 ghost use Rattle.std.specs.Prelude.{◌≡◌, false, None, IfOk, IsTrue};
-ghost use Rattle.hub_sql.specs.Stored.{content, honest};
-ghost use Rattle.hub_tables.specs.Register.{HoldsRegister};
 
-use crate::opening::{Opener, hub_over};
-use hub_core::Hub;
+use crate::opening::Opener;
 use hub_register::Register;
-use hub_schema::is_no_schema;
-use hub_sql::{Returned, SqliteStore};
+use hub_schema::{is_no_schema, is_old_schema};
+use hub_sql::{FoundFault, Returned, SqliteStore};
 use hub_store::StoreFault;
-use hub_trial::TrialStore;
 use sqlite::{Alter, Connection, Options};
-use sqlite_disk::{Crash, Files, Fuse, Memory};
+use sqlite_disk::{Crash, Disk, Files, Fuse, Memory};
 use sqlite_store::FileStore;
 use std::alloc::Global;
+use std::io;
 
 /// A file of which each call fails after so many others, until the machine comes back.
 pub trait Stopping: Crash + Drop {
-    /// An empty file.
-    fn stopping(alloc: Global, calls: u64) -> Self
-        ensures { IsTrue (Self.Disk.is_usable result) };
+    /// A file that holds these bytes.
+    fn stopping(alloc: Global, bytes: &[u8], calls: u64) -> io::Result<Self>;
 }
 
 impl Stopping for Fuse<Memory> {
-    fn stopping(alloc: Global, calls: u64) -> Fuse<Memory> {
-        Fuse::new(Memory::new(alloc), calls)
+    fn stopping(alloc: Global, bytes: &[u8], calls: u64) -> io::Result<Fuse<Memory>> {
+        let mut memory = Memory::new(alloc);
+        memory.write_at(0, bytes)?;
+        memory.sync()?;
+        Ok(Fuse::new(memory, calls))
     }
+}
+
+// A file that holds these bytes, and can be used.
+fn file_of<D: Stopping>(alloc: Global, bytes: &[u8], calls: u64) -> Result<D, StoreFault>
+    ensures { IfOk result (λ file. IsTrue (D.Disk.is_usable file)) }
+{
+    let Ok(file) = D::stopping(alloc, bytes, calls) else {
+        return Err(StoreFault::Memory);
+    };
+    if !file.may_be_used() {
+        return Err(StoreFault::Disk);
+    }
+    Ok(file)
 }
 
 /// A database file and its log, of which one stops.
@@ -35,6 +47,8 @@ pub struct StoppingFiles<D: Stopping> {
     pub of_file: u64,
     /// The calls of its log that do not fail.
     pub of_log: u64,
+    /// What the database file holds at first.
+    pub held: Vec<u8>,
     /// What an opening left that failed.
     pub left: Option<Files<D>>,
 }
@@ -65,36 +79,37 @@ fn options() -> Options {
     options
 }
 
-// The store over a connection: with the rows that it has, or founded with those of a register where it has no tables.
+// The store over a connection: with the rows that it has, or founded with those of a register where it has no tables or
+// those of schema 1.
 fn held<A: Alter + Drop>(
     alloc: Global,
     conn: Connection<A>,
     register: &Register,
-) -> Result<SqliteStore<A>, (Returned<A>, StoreFault)>
+) -> Result<SqliteStore<A>, (Returned<A>, FoundFault)>
     requires idle { conn.in_transaction ≡ false }
     requires unlimited { conn.step_limit ≡ None }
-    ensures { IfOk result (λ store. honest A.Store store → HoldsRegister (content A.Store store)) }
 {
-    if is_no_schema(conn.schema()) {
-        SqliteStore::found(alloc, conn, register)
-    } else {
-        SqliteStore::adopt(alloc, conn)
+    if is_no_schema(conn.schema()) || is_old_schema(conn.schema()) {
+        return SqliteStore::found(alloc, conn, register);
+    }
+    match SqliteStore::adopt(alloc, conn) {
+        Ok(store) => Ok(store),
+        Err((back, fault)) => Err((back, FoundFault::Store(fault))),
     }
 }
 
 impl<D: Stopping> StoppingFiles<D> {
     // What was left, or new files.
-    fn next_files(&mut self, alloc: Global) -> Files<D>
-        ensures log { IsTrue (D.Disk.is_usable result.log) }
-        ensures db { IsTrue (D.Disk.is_usable result.db) }
+    fn next_files(&mut self, alloc: Global) -> Result<Files<D>, StoreFault>
+        ensures log { IfOk result (λ files. IsTrue (D.Disk.is_usable files.log)) }
+        ensures db { IfOk result (λ files. IsTrue (D.Disk.is_usable files.db)) }
     {
-        match self.left.take() {
-            Some(files) => crashed(files),
-            None => Files {
-                log: D::stopping(alloc, self.of_log),
-                db: D::stopping(alloc, self.of_file),
-            },
+        if let Some(files) = self.left.take() {
+            return Ok(crashed(files));
         }
+        let log = file_of(alloc, &[], self.of_log)?;
+        let db = file_of(alloc, self.held.as_slice(), self.of_file)?;
+        Ok(Files { log, db })
     }
 }
 
@@ -103,13 +118,16 @@ impl<D: Stopping> Opener<SqliteStore<FileStore<D>>> for StoppingFiles<D> {
         &mut self,
         rt: &HostRuntime,
         register: &Register,
-    ) -> Result<SqliteStore<FileStore<D>>, StoreFault> {
-        let files = self.next_files(rt.alloc());
+    ) -> Result<SqliteStore<FileStore<D>>, FoundFault> {
+        let files = match self.next_files(rt.alloc()) {
+            Ok(files) => files,
+            Err(fault) => return Err(FoundFault::Store(fault)),
+        };
         let conn = match Connection::open_files(rt.alloc(), files, options()) {
             Ok(conn) => conn,
             Err((_, left)) => {
                 self.left = Some(left.into_files());
-                return Err(StoreFault::Disk);
+                return Err(FoundFault::Store(StoreFault::Disk));
             }
         };
         match held(rt.alloc(), conn, register) {
@@ -124,18 +142,11 @@ impl<D: Stopping> Opener<SqliteStore<FileStore<D>>> for StoppingFiles<D> {
     fn again(
         &mut self,
         rt: &HostRuntime,
-        register: Register,
+        register: &Register,
         store: SqliteStore<FileStore<D>>,
-    ) -> Result<Hub<TrialStore<SqliteStore<FileStore<D>>>>, StoreFault> {
+    ) -> Result<SqliteStore<FileStore<D>>, FoundFault> {
         self.take_back(store);
-        let store = self.open(rt, &register)?;
-        match hub_over(rt.alloc(), store) {
-            Ok(hub) => Ok(hub),
-            Err((store, fault)) => {
-                self.take_back(store.into_store());
-                Err(fault)
-            }
-        }
+        self.open(rt, register)
     }
 
     fn take_back(&mut self, store: SqliteStore<FileStore<D>>) {

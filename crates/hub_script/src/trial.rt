@@ -1,6 +1,5 @@
 //! A hub that is tried by a script.
 ghost use Rattle.std.specs.Prelude.{◌≡◌};
-ghost use Rattle.hub_tables.specs.Register.{HoldsRegister};
 
 use crate::command::Command;
 use crate::fault::ScriptFault;
@@ -15,6 +14,7 @@ use gs1_ids::Gln;
 use hub_core::{Hub, Input, Reply, Request};
 use hub_http::{IoFault, Served, serve_one};
 use hub_register::Register;
+use hub_sql::FoundFault;
 use hub_store::{Store, StoreFault};
 use hub_trial::TrialStore;
 use std::alloc::Global;
@@ -227,9 +227,7 @@ impl<S: Store + Drop, O: Opener<S>> Trial<S, O> {
         plain: S,
         failure: Option<Failure>,
         out: &mut W,
-    ) -> Result<(), ScriptFault>
-        requires { S.honest plain → HoldsRegister (S.content plain) }
-    {
+    ) -> Result<(), ScriptFault> {
         match Hub::new(self.alloc, store_of(plain, failure)) {
             Ok(hub) => {
                 self.hub = Some(hub);
@@ -237,7 +235,7 @@ impl<S: Store + Drop, O: Opener<S>> Trial<S, O> {
             }
             Err((store, fault)) => {
                 self.opener.take_back(store.into_store());
-                write_fault(self.alloc, fault, out)
+                write_fault(self.alloc, FoundFault::Store(fault), out)
             }
         }
     }
@@ -313,29 +311,21 @@ impl<S: Store + Drop, O: Opener<S>> Trial<S, O> {
         write_served(self.alloc, served, writer.bytes(), out)
     }
 
-    // Opens the store anew, with what it keeps, and no call of it fails.
+    // Opens the store anew, with what it keeps, and no call of it fails. The register is read from it again.
     fn mend<W: Sink>(&mut self, rt: &HostRuntime, out: &mut W) -> Result<(), ScriptFault> {
         let Some(hub) = self.hub.take() else {
             return Err(ScriptFault::Line);
         };
         let (register, store) = hub.into_store();
-        match self.opener.again(rt, register, store.into_store()) {
-            Ok(hub) => {
-                self.hub = Some(hub);
-                Ok(())
-            }
+        match self.opener.again(rt, &register, store.into_store()) {
+            Ok(plain) => self.set_hub(plain, None, out),
             Err(fault) => write_fault(self.alloc, fault, out),
         }
     }
 
     // Prints how many look-ups and commits there were since the hub was made or its store opened anew.
     fn tell_counts<W: Sink>(&mut self, out: &mut W) -> Result<(), ScriptFault> {
-        let Some(hub) = self.hub.take() else {
-            return Err(ScriptFault::Line);
-        };
-        let (register, store) = hub.into_store();
-        let (look_ups, commits) = (store.look_ups(), store.commits());
-        self.hub = Some(Hub::with_register(self.alloc, register, store));
-        write_counts(self.alloc, look_ups, commits, out)
+        let store = self.hub.as_ref().ok_or(ScriptFault::Line)?.store();
+        write_counts(self.alloc, store.look_ups(), store.commits(), out)
     }
 }

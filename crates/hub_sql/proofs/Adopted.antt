@@ -9,12 +9,13 @@ use Rattle.hub_founding.specs.Founding.{HoldsNone}
 use Rattle.hub_tables.specs.Register.{HoldsRegister}
 use Rattle.hub_tables.specs.Tables.{Tables}
 use Rattle.hub_schema.specs.Rows.{tables_in}
-use Rattle.hub_schema.specs.Schema.{hub_schema}
 use Rattle.hub_store.specs.declared.fault.StoreFault.{StoreFault}
 use Rattle.hub_store.specs.declared.fault.StoreFault.TheVariants.{Unclean, Version}
-use Rattle.hub_sql.specs.Opening.{Adopts, ComesBack, Refuses, HoldsHub, IsAsBefore, IsSpared}
+use Rattle.hub_sql.specs.Opening.{Adopts, ComesBack, Refuses, IsAsBefore, IsSpared}
 use Rattle.hub_sql.specs.declared.returned.Returned.{Returned}
 use Rattle.hub_sql.specs.Stored.{Stored, content, left, honest}
+use Rattle.hub_sql.specs.Version.{HoldsTables, schema_of}
+use Rattle.hub_sql.specs.declared.version.Version.TheVariants.{Second}
 
 -- a crash leaves the rows of an idle connection
 pub left_alone : {S : Type 0} (g : Ghosts S) (h : Held S)
@@ -26,7 +27,7 @@ left_alone g h settled idle up t (inr it) = it.2 ∙ ap tables_in (settled it.0 
 
 -- a connection is found as it was, and opened again as its commit left it
 module _ {S : Type 0} (g : Ghosts S) (was : State) (mid conn : Held S)
-    (hub : HasCleanDisk (state g mid) → HoldsHub was.now × IsAsBefore was (state g mid))
+    (hub : HasCleanDisk (state g mid) → HoldsTables Second was.now × IsAsBefore was (state g mid))
     (early : HasCleanDisk (state g conn) → HasCleanDisk (state g mid))
     (first : HasCleanDisk (state g mid) → HasCleanDisk was)
     (trees : HasCleanDisk (state g conn) → (state g conn).now.trees ≡ (state g mid).committed.trees) where
@@ -52,7 +53,7 @@ module _ {S : Type 0} (g : Ghosts S) (was : State) (mid conn : Held S)
   none_was clean none = subst (λ (rows : Trees). HoldsNone (tables_in rows)) (same_trees clean) none
 
 -- once the tables are known to be a hub's, `Version` does not come any more
-module _ {S : Type 0} (g : Ghosts S) (was : State) (has : was.now.schema ≡ hub_schema) where
+module _ {S : Type 0} (g : Ghosts S) (was : State) (has : was.now.schema ≡ schema_of Second) where
   pub refused_later : (back : Returned S) (fault : StoreFault) → fault ≢ Version
       → (fault ≡ Unclean → ComesBack g back (λ now. HoldsNone (tables_in was.committed.trees)))
       → IsSpared g (λ _. ⊥) was back

@@ -1,7 +1,9 @@
 pub mod Adopted
 pub mod Committing
 pub mod Looking
+pub mod Migrated
 pub mod Moving
-pub mod Reopening
+pub mod Reading
+pub mod Shapes
 pub mod Sparing
 pub mod Unopened

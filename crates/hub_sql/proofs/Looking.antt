@@ -54,7 +54,7 @@ module _ {S : Type 0} (g : Ghosts S) (old new : Stored S) (settled : IsSettled g
   pub same_content : content g new ≡ content g old
   same_content = ap (λ p. rows_in g (last_or None p)) past
 
-  holds : honest g old → Holds (state g old.held)
+  pub holds : honest g old → Holds (state g old.held)
   holds clean o = settled.hub clean o
 
   -- rows and schema are those that were, where the connection still shows them

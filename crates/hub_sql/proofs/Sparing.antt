@@ -1,5 +1,5 @@
 -- What comes back with a fault.
-use Rattle.std.proofs.Common.{◌≡◌, ◌⊎◌, inl, inr, Bool, false, IsTrue, Ok, Err, Result, refl, sym, ap}
+use Rattle.std.proofs.Common.{◌≡◌, ◌⊎◌, inl, inr, ℕ, Bool, true, false, IsTrue, Ok, Err, Result, refl, sym, ap}
 use Rattle.std.proofs.Common.{◌∙◌, arith}
 use Rattle.sqlite_trees.specs.Tree.{Trees}
 use Rattle.sqlite_trees.specs.View.{IsClean, IsQuiet, IsRolledBack}
@@ -9,12 +9,14 @@ use Rattle.sqlite.specs.State.{State, HasCleanDisk, Survives, Opens}
 use Rattle.sql_rows.proofs.Transactions.{clean_before}
 use Rattle.hub_store.specs.declared.fault.StoreFault.{StoreFault}
 use Rattle.hub_looks.specs.Numbered.{TellsNumber}
-use Rattle.hub_schema.specs.Schema.{no_schema, hub_schema}
 use Rattle.hub_parties.specs.Rows.{RegisterRows}
-use Rattle.hub_tables.specs.Register.{founded}
 use Rattle.hub_tables.specs.Tables.{Tables}
-use Rattle.hub_schema.specs.State.{IsUndone, FoundsTo, LooksFor, ShowsTheSame, Spares}
-use Rattle.hub_sql.specs.Opening.{LeftAfter, MayBeFounded, SparesConnection, SparesStore, IsAsBefore}
+use Rattle.hub_founding.specs.Fits.{fits, founded_beside}
+use Rattle.sqlite.specs.Schema.{Schema}
+use Rattle.hub_schema.specs.State.{IsUndone, FoundsTo, LooksAmong, ShowsTheSame, Spares}
+use Rattle.hub_sql.specs.Opening.{LeftAfter, MayBeBeside, SparesConnection, SparesStore, IsAsBefore}
+use Rattle.hub_sql.specs.Version.{schema_of}
+use Rattle.hub_sql.specs.declared.version.Version.{Version}
 
 module _ {S : Type 0} (g : Ghosts S) where
   -- where it is not shut, an idle connection shows what is committed
@@ -50,17 +52,18 @@ module _ {S : Type 0} (g : Ghosts S) where
   either_way old new (Err e) it = it.fault
 
   -- the schema's number was read, or was not
-  pub spared_number : (was new : Held S) (r : Result Bool StoreFault) → IsSettled was → was.in_transaction ≡ false
-      → TellsNumber (state g was) (state g new) r → SparesConnection g (λ _. ⊥) (state g was) new
-  spared_number was new r settled idle it =
+  pub spared_number : (number : ℕ) (was new : Held S) (r : Result Bool StoreFault) → IsSettled was
+      → was.in_transaction ≡ false
+      → TellsNumber number (state g was) (state g new) r → SparesConnection g (λ _. ⊥) (state g was) new
+  spared_number number was new r settled idle it =
       spared_so was new settled (it.mode idle) (λ _. ⊥) it.crash (λ _ trees none. absurd none)
       (λ clean up. either_way (state g was) (state g new) r (it.leaves clean))
 
   -- its rows were looked up
-  pub spared_looked : {X : Type 0} (says : Tables → X → Type 0) (spoilt : Tables → Type 0) (was new : Held S)
-      (r : Result X StoreFault) → IsSettled was → was.in_transaction ≡ false
-      → LooksFor says spoilt (state g was) (state g new) r → SparesConnection g (λ _. ⊥) (state g was) new
-  spared_looked says spoilt was new r settled idle it =
+  pub spared_looked : {X : Type 0} (schema : Schema) (Are : State → Type 0) (says : Tables → X → Type 0)
+      (spoilt : Tables → Type 0) (was new : Held S) (r : Result X StoreFault) → IsSettled was → was.in_transaction ≡ false
+      → LooksAmong schema Are says spoilt (state g was) (state g new) r → SparesConnection g (λ _. ⊥) (state g was) new
+  spared_looked schema Are says spoilt was new r settled idle it =
       spared_so was new settled (it.mode idle) (λ _. ⊥) it.crash (λ _ trees none. absurd none)
       (λ clean up. either_way (state g was) (state g new) r (it.leaves clean))
 
@@ -76,15 +79,34 @@ module _ {S : Type 0} (g : Ghosts S) where
     crash = λ clean trees left. inl left;
   }
 
-  -- the founding failed
-  pub spared_bare : (register : RegisterRows) (was new : Held S) (fault : StoreFault) → IsSettled was
-      → (HasCleanDisk (state g was) → was.schema ≡ no_schema)
-      → FoundsTo (was.schema ≡ no_schema) (founded register) (state g was) (state g new) (Err fault)
-      → SparesConnection g (MayBeFounded register (state g was)) (state g was) new
-  spared_bare register was new fault settled bare it =
-      let none = λ (clean : HasCleanDisk (state g new)). bare (clean_before (state g was) (state g new) _ it.crash clean) in
-      spared_so was new settled it.mode (MayBeFounded register (state g was)) it.crash
-      (λ clean trees made. inr (inr (none clean, made (none clean)))) (λ clean up. inl (it.kept clean (none clean) up))
+  -- what else may be left
+  pub spared_more : (MayBe May : Trees → Type 0) (was : State) (conn : Held S)
+      → ((trees : Trees) → MayBe trees → May trees)
+      → SparesConnection g MayBe was conn → SparesConnection g May was conn
+  spared_more MayBe May was conn may it = record {
+    idle = it.idle;
+    limit = it.limit;
+    clean = it.clean;
+    rows = it.rows;
+    schema = it.schema;
+    crash = λ clean trees left. elim (it.crash clean trees left) [
+      | inl before ↦ inl before
+      | inr (inl committed) ↦ inr (inl committed)
+      | inr (inr made) ↦ inr (inr (may trees made))
+    ];
+  }
+
+  -- a founding failed, of tables that stood there
+  pub spared_founding : (asked : Type 0) (before : Tables) (register : RegisterRows) (was new : Held S) (fault : StoreFault)
+      → IsSettled was → (HasCleanDisk (state g was) → asked)
+      → (HasCleanDisk (state g was) → fits register before ≡ true)
+      → FoundsTo asked (founded_beside before register) (state g was) (state g new) (Err fault)
+      → SparesConnection g (MayBeBeside before register) (state g was) new
+  spared_founding asked before register was new fault settled so fit it =
+      let early = clean_before (state g was) (state g new) _ it.crash in
+      spared_so was new settled it.mode (MayBeBeside before register) it.crash
+      (λ clean trees made. inr (inr (fit (early clean), made (so (early clean)))))
+      (λ clean up. inl (it.kept clean (so (early clean)) up))
 
   -- it was taken apart, which undoes what was not committed
   pub spared_below : (conn : Held S) (store : S) → IsRolledBack (g.view conn.store) (g.view store)
@@ -119,15 +141,17 @@ module _ {S : Type 0} (g : Ghosts S) where
   }
 
   -- it was opened anew, and comes back after that
-  pub spared_anew : (was : State) (mid conn back : Held S) → was.now.schema ≡ hub_schema
+  pub spared_anew : (MayBe May : Trees → Type 0) (was : State) (mid conn back : Held S)
+      → (HasCleanDisk (state g back) → (trees : Trees) → MayBe trees → May trees)
+      → (version : Version) → was.now.schema ≡ schema_of version
       → (HasCleanDisk (state g mid) → IsAsBefore was (state g mid)) → (HasCleanDisk (state g mid) → HasCleanDisk was)
       → (HasCleanDisk (state g conn) → HasCleanDisk (state g mid))
       → (HasCleanDisk (state g conn) → (state g conn).now.trees ≡ (state g mid).committed.trees)
       → conn.step_limit ≡ was.step_limit
       → (HasCleanDisk (state g conn) → Opens (state g conn))
       → ((db : Trees) → IsTrue (state g conn).is_open → (state g conn).may_leave db → db ≡ (state g conn).committed.trees)
-      → SparesConnection g (λ _. ⊥) (state g conn) back → SparesConnection g (λ _. ⊥) was back
-  spared_anew was mid conn back hub before early between rows limit opens law it =
+      → SparesConnection g MayBe (state g conn) back → SparesConnection g May was back
+  spared_anew MayBe May was mid conn back may version known before early between rows limit opens law it =
       let same : HasCleanDisk (state g conn) → (state g conn).committed.trees ≡ was.committed.trees =
       λ (clean : HasCleanDisk (state g conn)). ap (λ d. d.trees) (sym (opens clean).clean) ∙ rows clean
       ∙ ap (λ d. d.trees) (before (between clean)).committed in
@@ -136,10 +160,33 @@ module _ {S : Type 0} (g : Ghosts S) where
         limit = it.limit ∙ limit;
         clean = λ clean. early (between (it.clean clean));
         rows = λ clean up. it.rows clean up ∙ same (it.clean clean);
-        schema = λ clean up. inr hub;
+        schema = λ clean up. inr (version, known);
         crash = λ clean trees left. elim (it.crash clean trees left) [
           | inl before ↦ inr (inl (law trees (opens (it.clean clean)).is_open before ∙ same (it.clean clean)))
           | inr (inl committed) ↦ inr (inl (committed ∙ same (it.clean clean)))
-          | inr (inr never) ↦ absurd never
+          | inr (inr made) ↦ inr (inr (may clean trees made))
         ];
       }
+
+  -- it was looked at, and comes back after that
+  pub spared_through : (MayBe : Trees → Type 0) (was mid back : Held S)
+      → (HasCleanDisk (state g mid) → IsAsBefore (state g was) (state g mid))
+      → (HasCleanDisk (state g mid) → HasCleanDisk (state g was)) → mid.step_limit ≡ was.step_limit
+      → SparesConnection g MayBe (state g mid) back → SparesConnection g MayBe (state g was) back
+  spared_through MayBe was mid back before early limit it = record {
+    idle = it.idle;
+    limit = it.limit ∙ limit;
+    clean = λ clean. early (it.clean clean);
+    rows = λ clean up. it.rows clean up ∙ ap (λ d. d.trees) (before (it.clean clean)).committed;
+    schema = λ clean up.
+        let shown = ap (λ d. d.schema) (before (it.clean clean)).shown in
+        elim (it.schema clean up) [
+          | inl same ↦ inl (same ∙ shown)
+          | inr known ↦ inr (known.0, sym shown ∙ known.1)
+        ];
+    crash = λ clean trees left. elim (it.crash clean trees left) [
+      | inl now ↦ inl ((before (it.clean clean)).crash trees now)
+      | inr (inl committed) ↦ inr (inl (committed ∙ ap (λ d. d.trees) (before (it.clean clean)).committed))
+      | inr (inr made) ↦ inr (inr made)
+    ];
+  }

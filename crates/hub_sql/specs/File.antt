@@ -13,6 +13,8 @@ use Rattle.hub_store.specs.declared.fault.StoreFault.TheVariants.{Memory, Disk}
 use Rattle.hub_parties.specs.Rows.{RegisterRows}
 use Rattle.hub_sql.specs.Opening.{Adopts, Founds, Refuses, RefusesFounding}
 use Rattle.hub_sql.specs.Stored.{Stored}
+use Rattle.hub_sql.specs.declared.fault.FoundFault.{FoundFault}
+use Rattle.hub_sql.specs.declared.fault.FoundFault.TheVariants as found
 use Rattle.hub_sql.specs.declared.file.LeftOfFile.{LeftOfFile}
 use Rattle.hub_sql.specs.declared.file.LeftOfFile.TheVariants.{Nothing, Files, Returned}
 
@@ -48,8 +50,9 @@ module _ {D : Type 0} {g : disk.Ghosts D} where
   LeavesFile IsFresh image fault left = LeavesUnopened IsFresh fault left
 
   -- or as `found` gives it
-  abbrev pub LeavesUnfounded : (Pair D → Type 0) → RegisterRows → Image → StoreFault → LeftOfFile D g → Type 0
+  abbrev pub LeavesUnfounded : (Pair D → Type 0) → RegisterRows → Image → FoundFault → LeftOfFile D g → Type 0
   LeavesUnfounded IsFresh register image fault (Returned back) =
       (conn : Held (FileStore D g)) × IsOver image conn
       × RefusesFounding over_files register (file_state conn) back fault
-  LeavesUnfounded IsFresh register image fault left = LeavesUnopened IsFresh fault left
+  LeavesUnfounded IsFresh register image fault left =
+      (unopened : StoreFault) × (fault ≡ found.Store unopened) × LeavesUnopened IsFresh unopened left

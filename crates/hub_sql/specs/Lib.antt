@@ -2,3 +2,4 @@ pub mod File
 pub mod Opening
 pub mod Settling
 pub mod Stored
+pub mod Version

@@ -1,108 +1,24 @@
 //! Stores over connections that may hold tables.
-ghost use Rattle.std.specs.Prelude.{◌≡◌, ◌≢◌, ◌⊎◌, false, None, [], ◌∷◌, IfOk, IfErr, IsTrue};
-ghost use Rattle.std.specs.List.{AllByRecursion};
-ghost use Rattle.sqlite.specs.Held.{state, IsNew};
+ghost use Rattle.std.specs.Prelude.{◌≡◌, ◌≢◌, false, None, IfOk, IfErr, IsTrue};
+ghost use Rattle.sqlite.specs.Held.{state};
 ghost use Rattle.sqlite.specs.State.{HasCleanDisk, Opens, IsLive};
-ghost use Rattle.sqlite_trees.specs.declared.store.Shape.TheVariants as shape;
 ghost use Rattle.hub_tables.specs.Tables.{Tables};
 ghost use Rattle.hub_schema.specs.Rows.{tables_in};
-ghost use Rattle.hub_schema.specs.Schema.{hub_schema};
 ghost use Rattle.hub_schema.specs.State.{AreOrdered, IsNumbered, IsHub};
 ghost use Rattle.hub_founding.specs.Founding.{HoldsNone};
 ghost use Rattle.hub_tables.specs.Register.{HoldsRegister};
-ghost use Rattle.hub_sql.specs.Opening.{Adopts, Refuses, HoldsHub, IsAsBefore, SparesConnection, SparesStore};
+ghost use Rattle.hub_sql.specs.Opening.{Adopts, Refuses, SparesConnection};
 ghost use Rattle.hub_sql.specs.Stored.{content, left, honest};
 
-use crate::opening::fault_by;
+use crate::reopening::{of_version, reopened};
 use crate::returned::Returned;
 use crate::store::SqliteStore;
-use hub_looks::{is_numbered, register};
+use crate::version::Version;
+use hub_looks::register;
 use hub_schema::is_hub_schema;
 use hub_store::StoreFault;
 use sqlite::{Alter, Connection};
-use sqlite_trees::store::Shape;
 use std::alloc::Global;
-
-// Whether a table stands under this number.
-fn is_table<S: Alter>(store: &S, tree: u32) -> bool
-    ensures { IsTrue result → (S.Store.view store.now).shape tree ≡ shape.Table }
-{
-    matches!(store.shape(tree), Shape::Table)
-}
-
-// Whether each of the hub's tables stands there.
-fn has_tables<S: Alter>(store: &S) -> bool
-    ensures { IsTrue result → AllByRecursion (λ tree. (S.Store.view store.now).shape tree ≡ shape.Table)
-        (0 ∷ 1 ∷ 3 ∷ 5 ∷ 7 ∷ 10 ∷ 12 ∷ 14 ∷ 16 ∷ 18 ∷ 20 ∷ 22 ∷ []) }
-{
-    is_table(store, 0)
-        && is_table(store, 1)
-        && is_table(store, 3)
-        && is_table(store, 5)
-        && is_table(store, 7)
-        && is_table(store, 10)
-        && is_table(store, 12)
-        && is_table(store, 14)
-        && is_table(store, 16)
-        && is_table(store, 18)
-        && is_table(store, 20)
-        && is_table(store, 22)
-}
-
-// The connection again, once what is below it has told that it is whole, and that the hub's tables stand there.
-fn reopened<S: Alter + Drop>(
-    alloc: Global,
-    conn: Connection<S>,
-) -> Result<Connection<S>, (StoreFault, S)>
-    ensures ordered { IfOk result (λ c. HasCleanDisk (state S.Store c) → AreOrdered (state S.Store c).now.trees) }
-    ensures rows { IfOk result (λ c. HasCleanDisk (state S.Store c) → (state S.Store c).now.trees ≡ (state S.Store conn).committed.trees) }
-    ensures opened { IfOk result (λ c. HasCleanDisk (state S.Store c) → Opens (state S.Store c) × IsLive (state S.Store c)) }
-    ensures fresh { IfOk result IsNew }
-    ensures clean { IfOk result (λ c. HasCleanDisk (state S.Store c) → HasCleanDisk (state S.Store conn)) }
-    ensures fails { IfErr result (λ e. (e.0 ≡ StoreFault.Memory) ⊎ (e.0 ≡ StoreFault.Disk)) }
-    ensures spared { IfErr result (λ e. SparesStore S.Store (state S.Store conn) e.1) }
-{
-    let store = conn.into_store();
-    if store.is_broken() {
-        return Err((StoreFault::Disk, store));
-    }
-    if !has_tables(&store) {
-        return Err((StoreFault::Disk, store));
-    }
-    match Connection::over(alloc, store) {
-        Ok(conn) => Ok(conn),
-        Err((error, store)) => Err((fault_by(&error), store)),
-    }
-}
-
-// The connection, where its tables are the hub's and their number is 2.
-fn of_this_version<S: Alter + Drop>(
-    mut conn: Connection<S>,
-) -> Result<Connection<S>, (Connection<S>, StoreFault)>
-    requires idle { conn.in_transaction ≡ false }
-    ensures idle { IfOk result (λ c. c.in_transaction ≡ false) }
-    ensures schema { IfOk result (λ _. conn.schema ≡ hub_schema) }
-    ensures hub { IfOk result (λ c. HasCleanDisk (state S.Store c) → HoldsHub (state S.Store conn).now × IsAsBefore (state S.Store conn) (state S.Store c)) }
-    ensures number { IfOk result (λ c. HasCleanDisk (state S.Store c) → IsNumbered (state S.Store c).committed.trees) }
-    ensures clean { IfOk result (λ c. HasCleanDisk (state S.Store c) → HasCleanDisk (state S.Store conn)) }
-    ensures refuses { IfErr result (λ e. e.1 ≡ StoreFault.Version → HasCleanDisk (state S.Store e.0) → ¬ HoldsHub (state S.Store conn).now × IsAsBefore (state S.Store conn) (state S.Store e.0)) }
-    ensures other { IfErr result (λ e. conn.schema ≢ hub_schema → e.1 ≡ StoreFault.Version) }
-    ensures unclean { IfErr result (λ e. e.1 ≢ StoreFault.Unclean) }
-    ensures spared { IfErr result (λ e. SparesConnection S.Store (λ _. ⊥) (state S.Store conn) e.0) }
-{
-    let _was_idle = conn.is_autocommit();
-    if !is_hub_schema(conn.schema()) {
-        return Err((conn, StoreFault::Version));
-    }
-    match is_numbered(&mut conn) {
-        Ok(true) => {
-            let _idle = conn.is_autocommit();
-            Ok(conn)
-        }
-        Ok(false) => Err((conn, StoreFault::Version)),
-        Err(fault) => Err((conn, fault)),
-    }
-}
 
 // The fault of a look-up: it has none of opening.
 fn look_fault(fault: StoreFault) -> StoreFault
@@ -182,11 +98,11 @@ impl<S: Alter + Drop> SqliteStore<S> {
         ensures adopts { IfOk result (Adopts S.Store (state S.Store conn)) }
         ensures refuses { IfErr result (λ e. Refuses S.Store (state S.Store conn) e.0 e.1) }
     {
-        let conn = match of_this_version(conn) {
+        let conn = match of_version(conn, Version::Second) {
             Ok(conn) => conn,
             Err((conn, fault)) => return Err((Returned::Connection(conn), fault)),
         };
-        let conn = match reopened(alloc, conn) {
+        let conn = match reopened(alloc, conn, Version::Second) {
             Ok(conn) => conn,
             Err((fault, store)) => return Err((Returned::Store(store), fault)),
         };

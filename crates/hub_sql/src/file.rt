@@ -4,6 +4,7 @@ ghost use Rattle.sqlite_std_file.specs.File.{IsFresh};
 ghost use Rattle.sqlite_wal.specs.Files.{image_at};
 ghost use Rattle.hub_sql.specs.File.{AdoptsFiles, FoundsFiles, IsOver, LeavesFile, LeavesUnfounded, LeavesUnopened};
 
+use crate::fault::FoundFault;
 use crate::opening::fault_by;
 use crate::returned::Returned;
 use crate::store::SqliteStore;
@@ -66,20 +67,24 @@ impl<S: Start> SqliteStore<FileStore<FileFrom<S>>> {
         }
     }
 
-    /// Founds a hub in a file, which is made where there is none, with the rows of the register alone, as `found` does.
-    /// `Version` where it has tables; `Disk` also where another program has it open, or where it is no
-    /// database. No committed row is lost with a fault, and what is left comes with it.
+    /// Founds a hub in a file, which is made where there is none, as `found` does: in a file of schema 1 beside its rows.
+    /// `Rows` where the register does not fit to these; `Version` where it has other tables; `Disk` also where another
+    /// program has it open, or where it is no database. No committed row is lost with a fault, and what is left comes
+    /// with it.
     pub fn found_at(
         rt: &HostRuntime,
         path: &str,
         start: S,
         register: &Register,
-    ) -> Result<Self, (StoreFault, LeftOfFile<FileFrom<S>>)>
+    ) -> Result<Self, (FoundFault, LeftOfFile<FileFrom<S>>)>
         ensures founds { IfOk result (FoundsFiles register.now (image_at S.Start)) }
         ensures leaves { IfErr result (λ e.
             LeavesUnfounded (λ files. IsFresh true files.log × IsFresh false files.db) register.now (image_at S.Start) e.0 e.1) }
     {
-        let conn = open_file(rt, path, start)?;
+        let conn = match open_file(rt, path, start) {
+            Ok(conn) => conn,
+            Err((fault, left)) => return Err((FoundFault::Store(fault), left)),
+        };
         match SqliteStore::found(rt.alloc(), conn, register) {
             Ok(store) => Ok(store),
             Err((back, fault)) => Err((fault, LeftOfFile::Returned(back))),

@@ -3,12 +3,17 @@
 
 mod adopting;
 mod calls;
+mod fault;
 mod file;
+mod migrating;
 mod opening;
 mod register;
+mod reopening;
 mod returned;
 mod store;
+mod version;
 
+pub use fault::FoundFault;
 pub use file::LeftOfFile;
 pub use returned::Returned;
 pub use store::SqliteStore;

@@ -7,10 +7,12 @@ ghost use Rattle.hub_schema.specs.Faults.{fault_of};
 ghost use Rattle.hub_schema.specs.Schema.{no_schema};
 ghost use Rattle.hub_parties.specs.Rows.{IsRegister};
 ghost use Rattle.hub_tables.specs.Register.{HoldsRegister, founded};
-ghost use Rattle.hub_tables.specs.Tables.{Tables};
-ghost use Rattle.hub_sql.specs.Opening.{Founds, MayBeFounded, RefusesFounding, SparesConnection};
+ghost use Rattle.hub_tables.specs.Tables.{Tables, empty};
+ghost use Rattle.hub_sql.specs.Opening.{Founds, MayBeBeside, RefusesFounding, SparesConnection};
 ghost use Rattle.hub_sql.specs.Stored.{content, left, honest};
 
+use crate::fault::FoundFault;
+use crate::migrating::migrated;
 use crate::returned::Returned;
 use crate::store::SqliteStore;
 use hub_founding::register_changes;
@@ -34,8 +36,8 @@ pub(crate) fn fault_by(error: &Error) -> StoreFault
     }
 }
 
-// The fault of a founding: rows that are none of the kinds do not come, as it begins with none.
-fn laying_fault(fault: StoreFault) -> StoreFault
+/// The fault of a founding: rows that are none of the kinds do not come, as those of a register are right.
+pub(crate) fn laying_fault(fault: StoreFault) -> StoreFault
     ensures { (result ≡ StoreFault.Memory) ⊎ (result ≡ StoreFault.Disk) }
 {
     match fault {
@@ -58,7 +60,7 @@ fn laid<S: Alter + Drop>(
     ensures clean { IfOk result (λ store. honest S.Store store → HasCleanDisk (state S.Store conn)) }
     ensures register { IsRegister register.now }
     ensures fails { IfErr result (λ e. (e.1 ≡ StoreFault.Memory) ⊎ (e.1 ≡ StoreFault.Disk)) }
-    ensures spared { IfErr result (λ e. SparesConnection S.Store (MayBeFounded register.now (state S.Store conn)) (state S.Store conn) e.0) }
+    ensures spared { IfErr result (λ e. SparesConnection S.Store (MayBeBeside empty register.now) (state S.Store conn) e.0) }
 {
     let _idle = conn.is_autocommit();
     let _hub = register.hub();
@@ -72,27 +74,27 @@ fn laid<S: Alter + Drop>(
 }
 
 impl<S: Alter + Drop> SqliteStore<S> {
-    /// Founds a hub in a connection in which no transaction is open and no statement is limited: its tables, with the
-    /// rows of the register alone, in one transaction. `Version` where it has tables, and only there; the connection that
-    /// comes back with it is as it was. With any fault no row is lost that was committed.
+    /// Founds a hub in a connection in which no transaction is open and no statement is limited: its tables with the rows
+    /// of the register, in one transaction. In a database of schema 1 they stand beside the rows that are there, none of
+    /// which changes; `Rows` where the register does not fit to these. `Version` where it has other tables, and only there;
+    /// the connection that comes back with it is as it was. With any fault no row is lost that was committed.
     pub fn found(
         alloc: Global,
         conn: Connection<S>,
         register: &Register,
-    ) -> Result<SqliteStore<S>, (Returned<S>, StoreFault)>
+    ) -> Result<SqliteStore<S>, (Returned<S>, FoundFault)>
         requires idle { conn.in_transaction ≡ false }
         requires unlimited { conn.step_limit ≡ None }
         ensures founds { IfOk result (Founds S.Store register.now (state S.Store conn)) }
         ensures refuses { IfErr result (λ e. RefusesFounding S.Store register.now (state S.Store conn) e.0 e.1) }
     {
-        let _was_idle = conn.is_autocommit();
         founded_tables_hold_their_register();
         if !is_no_schema(conn.schema()) {
-            return Err((Returned::Connection(conn), StoreFault::Version));
+            return migrated(alloc, conn, register);
         }
         match laid(alloc, conn, register) {
             Ok(store) => Ok(store),
-            Err((conn, fault)) => Err((Returned::Connection(conn), fault)),
+            Err((conn, fault)) => Err((Returned::Connection(conn), FoundFault::Store(fault))),
         }
     }
 }

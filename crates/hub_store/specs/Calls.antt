@@ -6,7 +6,9 @@ use Rattle.std.specs.Prelude.{Result, Ok, Err, IfOk}
 use Rattle.std.specs.Prelude.{IfErr, OnOk, OnErr}
 use Rattle.std.specs.List.{list_any}
 use Rattle.std.specs.Option.{IfSome}
+use Rattle.hub_parties.specs.Rows.{RegisterRows}
 use Rattle.hub_tables.specs.Change.{apply, apply_all}
+use Rattle.hub_tables.specs.Register.{HoldsRegister, register_of}
 use Rattle.hub_tables.specs.Rows.{same_line, same_pallet, same_mail}
 use Rattle.hub_tables.specs.Sets.{Rising}
 use Rattle.hub_tables.specs.Tables.{Tables}
@@ -52,6 +54,19 @@ pub record Looks {S X : Type 0} (content : S → Tables) (honest : S → Type 0)
   pub left_stays : honest new → (t : Tables) → left new t → left old t
   pub was_honest : honest new → honest old
   pub unclean : honest new → broken old ≡ None → result ≡ Err Unclean → are_clean (content old) ≡ false
+
+-- The register is asked for, whatever rows there are: where one is answered the rows hold one, and it is theirs. The
+-- content stays, and a crash may leave no more than before. A broken store answers its fault again. It fails as in each
+-- call, but that after `Unclean` it may be whole.
+pub record ReadsRegister {S : Type 0} (content : S → Tables) (honest : S → Type 0) (left : S → Tables → Type 0)
+    (broken : S → Option LastingFault) (plain : Bool) (old new : S) (result : Result RegisterRows StoreFault)
+    : Type 0 where
+  pub held : honest new → IfOk result (λ register. HoldsRegister (content old) × (register ≡ register_of (content old)))
+  pub content_stays : honest new → content new ≡ content old
+  pub left_stays : honest new → (t : Tables) → left new t → left old t
+  pub was_honest : honest new → honest old
+  pub again : IfSome (broken old) (λ fault. result ≡ Err (fault_of fault))
+  pub fails : result ≢ Err Unclean → Fails plain (broken old) (broken new) result
 
 -- changes fit where the tables after them rise by their keys, so that each key that they add is new
 abbrev pub Fit : List Change → Tables → Type 0

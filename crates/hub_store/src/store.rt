@@ -4,7 +4,7 @@ ghost use Rattle.hub_tables.specs.Register.{HoldsRegister, register_of};
 ghost use Rattle.hub_tables.specs.State.{knows_order, knows_advice, lines_of, pallet_of, contents_of, receipts_of, entry_at, untaken_after};
 ghost use Rattle.hub_tables.specs.State.{last_mail, remembered_content};
 ghost use Rattle.hub_tables.specs.Tables.{Tables, view, has_pallet};
-ghost use Rattle.hub_store.specs.Calls.{Fails, Looks, Commits};
+ghost use Rattle.hub_store.specs.Calls.{Fails, Looks, Commits, ReadsRegister};
 ghost use Rattle.hub_store.specs.Heads.{head_of};
 ghost use Rattle.hub_store.specs.declared.fault.LastingFault.{LastingFault as Lasting};
 
@@ -44,12 +44,15 @@ pub trait Store {
     fn fault(&self) -> Option<LastingFault>
         ensures { result ≡ broken self.now };
 
-    /// The register that the rows hold. Asked of rows that hold one, as those of each store do that is founded or opened:
-    /// whether they do is judged there, and here once more, since what is below may have changed.
+    /// The register that the rows hold. Whether they hold one is judged where a store is founded or opened, and here once
+    /// more, since what is below may have changed. Rows that hold none are never answered with one; whether later calls
+    /// answer that fault again is then open.
     fn register(&mut self) -> Result<Register, StoreFault>
-        requires { honest self.old → HoldsRegister (content self.old) }
-        ensures looks { Looks content honest left broken self.old self.new (register_of (content self.old)) result }
-        ensures fails { Fails plain (broken self.old) (broken self.new) result };
+        ensures looks { (honest self.old → HoldsRegister (content self.old)) →
+            Looks content honest left broken self.old self.new (register_of (content self.old)) result }
+        ensures fails { (honest self.old → HoldsRegister (content self.old)) →
+            Fails plain (broken self.old) (broken self.new) result }
+        ensures held { ReadsRegister content honest left broken plain self.old self.new result };
 
     /// The content that is remembered of a side under two references; a cancellation has no message reference.
     fn remembered(

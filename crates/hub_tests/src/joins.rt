@@ -1,6 +1,5 @@
 //! Suppliers that join while a hub runs.
 ghost use Rattle.std.specs.Prelude.{◌≡◌};
-ghost use Rattle.hub_tables.specs.Register.{HoldsRegister};
 
 use crate::lists::lists;
 use edi_base::MemoryFault;
@@ -9,6 +8,7 @@ use gs1_ids::{Gln, Prefix};
 use hub_core::{Hub, Join, Reply, Request, Role};
 use hub_list::VecStore;
 use hub_store::{Store, StoreFault};
+use hub_tables::{Change, PrefixRow};
 use hub_trial::TrialStore;
 use std::alloc::{AllocError, Global};
 use std::process::Abort;
@@ -31,9 +31,7 @@ fn join_of(
     Join::new(alloc, supplier, key, &[prefix])
 }
 
-fn hub_over<S: Store + Drop>(alloc: Global, store: S) -> Result<Hub<S>, StoreFault>
-    requires { S.honest store → HoldsRegister (S.content store) }
-{
+fn hub_over<S: Store + Drop>(alloc: Global, store: S) -> Result<Hub<S>, StoreFault> {
     match Hub::new(alloc, store) {
         Ok(hub) => Ok(hub),
         Err((_, fault)) => Err(fault),
@@ -185,5 +183,30 @@ fn a_hub_wants_its_register(rt: HostRuntime) -> Result<(), Fail> {
     for (is_of_disk, fault) in [(false, StoreFault::Memory), (true, StoreFault::Disk)] {
         assert_eq!(rt; fault_at_once(rt.alloc(), is_of_disk)?, Some(fault));
     }
+    Ok(())
+}
+
+// Lists with a prefix of a supplier that has no key: their rows hold no register.
+fn lists_without_a_register(alloc: Global) -> Result<VecStore, Fail> {
+    let mut lists = lists(alloc)?;
+    let supplier = Gln::parse(b"3512345000005").ok_or("a GLN")?;
+    let prefix = Prefix::parse(b"3512345").ok_or("a prefix")?;
+    lists.commit(&[Change::AddPrefix(PrefixRow { prefix, supplier })])?;
+    Ok(lists)
+}
+
+fn fault_without_a_register(alloc: Global) -> Result<Option<StoreFault>, Fail> {
+    match hub_over(alloc, lists_without_a_register(alloc)?) {
+        Err(StoreFault::Memory) => Err(AllocError.into()),
+        made => Ok(made.err()),
+    }
+}
+
+#[test]
+fn rows_that_hold_no_register_make_no_hub(rt: HostRuntime) -> Result<(), Fail> {
+    assert_eq!(rt;
+        fault_without_a_register(rt.alloc())?,
+        Some(StoreFault::Unclean)
+    );
     Ok(())
 }

@@ -1,11 +1,7 @@
 //! Lists with the rows of a register of one supplier.
-ghost use Rattle.std.specs.Prelude.{IfOk};
-ghost use Rattle.hub_tables.specs.Register.{HoldsRegister};
-
 use edi_base::MemoryFault;
 use hub_list::VecStore;
 use hub_register::{Register, RegisterFault};
-use hub_tables::founded_tables_hold_their_register;
 use std::alloc::Global;
 use std::test::Fail;
 
@@ -26,18 +22,12 @@ fn register(alloc: Global) -> Result<Register, RegisterFault> {
     Register::from_toml(alloc, OF_ONE)
 }
 
-fn founded(alloc: Global, register: &Register) -> Result<VecStore, MemoryFault>
-    ensures { IfOk result (λ lists. HoldsRegister lists) }
-{
-    founded_tables_hold_their_register();
-    let _hub = register.hub();
+fn founded(alloc: Global, register: &Register) -> Result<VecStore, MemoryFault> {
     VecStore::new(alloc, register)
 }
 
 /// Lists with the rows of a register alone.
-pub(crate) fn lists(alloc: Global) -> Result<VecStore, Fail>
-    ensures { IfOk result (λ lists. HoldsRegister lists) }
-{
+pub(crate) fn lists(alloc: Global) -> Result<VecStore, Fail> {
     let register = register(alloc)?;
     Ok(founded(alloc, &register)?)
 }

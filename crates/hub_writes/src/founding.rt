@@ -1,16 +1,19 @@
-//! The founding of a hub: its tables and their first rows, in one transaction.
-ghost use Rattle.std.specs.Prelude.{◌≡◌, OnOk, false};
+//! The founding of a hub: its tables and their first rows, in one transaction, in an empty database or beside the rows
+//! of schema 1.
+ghost use Rattle.std.specs.Prelude.{◌≡◌, IsTrue, OnOk, false};
 ghost use Rattle.sqlite.specs.Held.{state};
 ghost use Rattle.sqlite.specs.State.{HasCleanDisk, KeepsCommit, Survives};
+ghost use Rattle.sqlite_trees.specs.Tree.{no_trees};
 ghost use Rattle.hub_tables.specs.Change.{apply_all as all_applied};
 ghost use Rattle.hub_tables.specs.Tables.{empty};
 ghost use Rattle.hub_schema.specs.Making.{HasMade};
 ghost use Rattle.hub_schema.specs.Schema.{no_schema};
-ghost use Rattle.hub_schema.specs.State.{FoundsTo, Makes};
+ghost use Rattle.hub_schema.specs.State.{FoundsTo, IsOldHub, Makes};
+ghost use Rattle.hub_schema.specs.Rows.{traffic_in};
 
 use crate::changes::apply_all;
 use crate::faults::call_ended;
-use hub_schema::make_tables;
+use hub_schema::{make_party_tables, make_tables};
 use hub_store::StoreFault;
 use hub_tables::Change;
 use sqlite::{Alter, Connection, Transaction};
@@ -18,7 +21,8 @@ use sqlite::{Alter, Connection, Transaction};
 // Makes the tables, and in them the changes.
 fn lay<S: Alter>(tx: &mut Transaction<'_, S>, changes: &[Change]) -> Result<(), StoreFault>
     ensures same_reference { tx.new.conn.ghost_name ≡ tx.old.conn.ghost_name }
-    ensures makes { HasCleanDisk (state S.Store tx.new.conn.now) → HasMade no_schema (state S.Store tx.old.conn.now) →
+    ensures makes { HasCleanDisk (state S.Store tx.new.conn.now) →
+        HasMade no_trees no_schema (state S.Store tx.old.conn.now) →
         OnOk result (Makes (λ _. all_applied changes.now empty) (state S.Store tx.old.conn.now)
         (state S.Store tx.new.conn.now)) }
     ensures kept { HasCleanDisk (state S.Store tx.new.conn.now) →
@@ -26,6 +30,21 @@ fn lay<S: Alter>(tx: &mut Transaction<'_, S>, changes: &[Change]) -> Result<(), 
     ensures survives { Survives (state S.Store tx.old.conn.now) (state S.Store tx.new.conn.now) (λ _. ⊥) }
 {
     call_ended(make_tables(tx))?;
+    apply_all(tx, changes)
+}
+
+// Makes the tables of the register beside those of schema 1, and in all of them the changes.
+fn lay_beside<S: Alter>(tx: &mut Transaction<'_, S>, changes: &[Change]) -> Result<(), StoreFault>
+    ensures same_reference { tx.new.conn.ghost_name ≡ tx.old.conn.ghost_name }
+    ensures makes { HasCleanDisk (state S.Store tx.new.conn.now) → IsOldHub (state S.Store tx.old.conn.now) →
+        IsTrue (state S.Store tx.old.conn.now).in_transaction →
+        OnOk result (Makes (λ _. all_applied changes.now (traffic_in (state S.Store tx.old.conn.now).now.trees))
+        (state S.Store tx.old.conn.now) (state S.Store tx.new.conn.now)) }
+    ensures kept { HasCleanDisk (state S.Store tx.new.conn.now) →
+        KeepsCommit (state S.Store tx.old.conn.now) (state S.Store tx.new.conn.now) }
+    ensures survives { Survives (state S.Store tx.old.conn.now) (state S.Store tx.new.conn.now) (λ _. ⊥) }
+{
+    call_ended(make_party_tables(tx))?;
     apply_all(tx, changes)
 }
 
@@ -38,5 +57,19 @@ pub fn found<S: Alter>(conn: &mut Connection<S>, changes: &[Change]) -> Result<(
     let _idle = conn.is_autocommit();
     let mut tx = conn.transaction();
     lay(&mut tx, changes)?;
+    call_ended(tx.commit())
+}
+
+/// Brings a database of schema 1 to schema 2: makes the tables that it has not, sets the number, and makes the changes,
+/// all in one transaction, or at a fault nothing.
+pub fn migrate<S: Alter>(conn: &mut Connection<S>, changes: &[Change]) -> Result<(), StoreFault>
+    requires { (state S.Store conn.old).in_transaction ≡ false }
+    ensures { FoundsTo (IsOldHub (state S.Store conn.old))
+        (all_applied changes.now (traffic_in (state S.Store conn.old).now.trees)) (state S.Store conn.old)
+        (state S.Store conn.new) result }
+{
+    let _idle = conn.is_autocommit();
+    let mut tx = conn.transaction();
+    lay_beside(&mut tx, changes)?;
     call_ended(tx.commit())
 }

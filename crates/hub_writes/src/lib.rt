@@ -19,7 +19,7 @@ mod values;
 pub use advice::add_advice;
 pub use changes::{apply, apply_all};
 pub use content::add_content;
-pub use founding::found;
+pub use founding::{found, migrate};
 pub use line::{add_line, set_line};
 pub use mail::{add_mail, set_mail};
 pub use order::add_order;

@@ -1,15 +1,13 @@
-use Rattle.std.proofs.Common.{rules, ◌≡◌, refl, true, cond, sym, ap, subst, ◌∙◌, Ok, Err}
+use Rattle.std.proofs.Common.{rules, ◌≡◌, refl, cond, sym, ap, subst, ◌∙◌, Ok, Err}
 use Rattle.hub_parties.specs.declared.row.SupplierRow.{SupplierRow}
 use Rattle.hub_register.specs.Joined.{joined_by}
-use Rattle.hub_tables.specs.Register.{register_of}
-use Rattle.hub_rules.specs.JoinRules.{is_join, is_accepted, judge_join}
+use Rattle.hub_rules.specs.JoinRules.{is_join, judge_join}
 use Rattle.hub_rules.specs.declared.verdict.Verdict.TheVariants.{Accept, Refuse}
 use Rattle.hub_law.specs.Mark.{Whole}
 use Rattle.hub_law.specs.Replies.{act_reply}
 use Rattle.hub_law.specs.Requests.{joined}
 use Rattle.hub_law.specs.Told.{told}
 use Rattle.hub_acts.specs.Acts.{Carried, as_told}
-use Rattle.hub_acts.specs.Joins.{after_join}
 use Rattle.hub_acts.proofs.Joins as joins
 use Rattle.hub_acts.proofs.join.take_join.Goals as goal
 
@@ -77,6 +75,21 @@ returns-clause-same g c = λ honest here of_tables.
     (ap is_join c.row-row.ensures.value ∙ c.row-row.ensures.right) changes accepted here of_tables _
     c.in_ok-let_in.ensures.carried honest
 
+pub returns-clause-told : goal.returns-clause-told
+returns-clause-told g c =
+    let register = c.args.register.now in
+    let verdict : judge_join register c.args.join.now ≡ Accept c.in-Accept.changes = sym c.in_ok-verdict.ensures ∙ c.in-Accept.is in
+    joins.told_of register c.args.join.now c.in_ok-reply.reply c.row-row.ensures.right (Accept c.in-Accept.changes) verdict
+    (c.in_ok-reply.ensures ∙ ap act_reply (sym c.told_of_verdict.ensures ∙ ap told c.in-Accept.is))
+
+pub returns-clause-moves : goal.returns-clause-moves
+returns-clause-moves g c =
+    let register = c.args.register.now in
+    let verdict : judge_join register c.args.join.now ≡ Accept c.in-Accept.changes = sym c.in_ok-verdict.ensures ∙ c.in-Accept.is in
+    joins.moves_in register c.args.join.now c.in_ok-reply.reply c.row-row.ensures.right c.in-Accept.changes c.let_in.new.register verdict
+    (c.in_ok-reply.ensures ∙ ap act_reply (sym c.told_of_verdict.ensures ∙ ap told c.in-Accept.is))
+    (c.in_ok-let_in.ensures.taken ∙ ap (λ row. joined_by row register) c.row-row.ensures.value)
+
 pub returns-clause-taken : goal.returns-clause-taken
 returns-clause-taken g c =
     let register = c.args.register.now in
@@ -97,6 +110,18 @@ returns-in-Refuse-clause-carried g c = λ here of_tables.
     let row = c.args.join.now in
     joins.refused_carried g.S.Store.content g.S.Store.honest g.S.Store.left c.args.store.now c.args.store.now register row c.row-row.ensures.right
     (Refuse c.in-Refuse.field-0) c.in_ok-reply.reply (sym c.in_ok-verdict.ensures ∙ c.in-Refuse.is) (λ t. refl)
+    (c.in_ok-reply.ensures ∙ ap act_reply (sym c.told_of_verdict.ensures ∙ ap told c.in-Refuse.is))
+
+pub returns-in-Refuse-clause-told : goal.returns-in-Refuse-clause-told
+returns-in-Refuse-clause-told g c =
+    let register = c.args.register.now in
+    let verdict : judge_join register c.args.join.now ≡ Refuse c.in-Refuse.field-0 = sym c.in_ok-verdict.ensures ∙ c.in-Refuse.is in
+    joins.told_of register c.args.join.now c.in_ok-reply.reply c.row-row.ensures.right (Refuse c.in-Refuse.field-0) verdict
+    (c.in_ok-reply.ensures ∙ ap act_reply (sym c.told_of_verdict.ensures ∙ ap told c.in-Refuse.is))
+
+pub returns-in-Refuse-clause-moves : goal.returns-in-Refuse-clause-moves
+returns-in-Refuse-clause-moves g c =
+    joins.moves_not c.args.register.now c.args.join.now c.in_ok-reply.reply c.in-Refuse.field-0
     (c.in_ok-reply.ensures ∙ ap act_reply (sym c.told_of_verdict.ensures ∙ ap told c.in-Refuse.is))
 
 pub returns-in-Refuse-clause-taken : goal.returns-in-Refuse-clause-taken

@@ -3,8 +3,10 @@ use Rattle.hub_tables.specs.Register.{register_of}
 use Rattle.hub_core.specs.Callers.{acts_by, request_of, IsCaller}
 use Rattle.hub_core.specs.Steps.{input_of}
 use Rattle.hub_core.specs.declared.caller.Caller.TheVariants.{Retailer, Supplier}
-use Rattle.hub_core.proofs.Callers.{asked_as, may}
-use Rattle.hub_core.proofs.Keeping.{content_kept}
+use Rattle.hub_law.specs.Mark.{Whole}
+use Rattle.hub_core.specs.Broken.{does_input}
+use Rattle.hub_core.proofs.Callers.{asked_as, may, step_is}
+use Rattle.hub_core.proofs.Keeping.{content_kept, join_as}
 use Rattle.hub_core.proofs.step.answer.Goals as goal
 
 pub returns-in-Some-Supplier-clause-asked : goal.returns-in-Some-Supplier-clause-asked
@@ -36,3 +38,21 @@ returns-in-Some-Retailer-clause-asked g c here =
     let known : IsCaller register c.args.caller.now c.args.key.now Retailer = search rules in
     asked_as register input g.S.Store.content g.S.Store.honest g.S.Store.left c.args.store.now c.asked_by_retailer.new.store
     Retailer c.asked_by_retailer.result known (λ _. c.asked_by_retailer.ensures.asked here) here
+
+pub returns-in-Some-Supplier-clause-joined : goal.returns-in-Some-Supplier-clause-joined
+returns-in-Some-Supplier-clause-joined g c row is =
+    let register = c.args.register.now in
+    let input = input_of c.args.moment c.args.caller.now c.args.key.now c.args.request.now in
+    let known : IsCaller register c.args.caller.now c.args.key.now (Supplier c.in-Some-Supplier.supplier) = search rules in
+    join_as row register register (request_of register (Supplier c.in-Some-Supplier.supplier) c.args.moment c.args.request.now)
+    (does_input register input) c.asked_by_supplier.result
+    (step_is register input (Supplier c.in-Some-Supplier.supplier) known Whole) (c.asked_by_supplier.ensures.joined row is)
+
+pub returns-in-Some-Retailer-clause-joined : goal.returns-in-Some-Retailer-clause-joined
+returns-in-Some-Retailer-clause-joined g c row is =
+    let register = c.args.register.now in
+    let input = input_of c.args.moment c.args.caller.now c.args.key.now c.args.request.now in
+    let known : IsCaller register c.args.caller.now c.args.key.now Retailer = search rules in
+    join_as row register c.asked_by_retailer.new.register (request_of register Retailer c.args.moment c.args.request.now)
+    (does_input register input) c.asked_by_retailer.result
+    (step_is register input Retailer known Whole) (c.asked_by_retailer.ensures.joined row is)

@@ -4,6 +4,7 @@ use Rattle.std.proofs.lemmas.List.{drop_more}
 use Rattle.hub_law.specs.declared.reply.Reply.{Reply}
 use Rattle.hub_law.specs.declared.request.Input.{Input}
 use Rattle.hub_tables.specs.Register.{suppliers_of}
+use Rattle.hub_acts.proofs.Joins.{keeps_all, keeps_on}
 use Rattle.hub_core.specs.Broken.{Breaks, RunBreaks, does_input}
 use Rattle.hub_core.specs.Steps.{IsNoJoin, Stepped, Ran, input_of}
 use Rattle.hub_core.proofs.Breaking.{run_more, run_none, moved, moved_one}
@@ -62,6 +63,7 @@ loop-input-preserved g c =
           then earlier c.input-item.result c.loop-input.replies.items c.step-reply.result here.sound so_far one));
       held = λ honest here.
           c.step-reply.ensures.held honest (c.loop-input.invariant.held (c.step-reply.ensures.was_honest honest) here);
+      keeps = keeps_on c.args.register.now before_it register c.loop-input.invariant.keeps c.step-reply.ensures.keeps;
       same = λ none.
           c.step-reply.ensures.same (all_at (λ (input : Input). IsNoJoin input.request) c.args.inputs.now c.loop-input.input-index
           c.input-item.result none
@@ -88,6 +90,7 @@ loop-input-init g c = record {
       (c.each_line_balances.ensures (suppliers_of (g.S.Store.content c.args.store.now)) (g.S.Store.content c.args.store.now)
       here.sound.sound));
   held = λ honest here. here;
+  keeps = keeps_all c.args.register.now c.args.register.now refl;
   same = λ none. refl;
 }
 

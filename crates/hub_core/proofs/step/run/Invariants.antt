@@ -1,6 +1,7 @@
 use Rattle.std.proofs.Common.{◌≡◌, ◌≤◌, take, length, vec_len, vec_capacity}
 use Rattle.std.specs.List.{AllByRecursion}
 use Rattle.hub_law.specs.declared.request.Input.{Input}
+use Rattle.hub_acts.specs.Joins.{KeepsRows}
 use Rattle.hub_core.specs.Broken.{RunBreaks}
 use Rattle.hub_core.specs.Steps.{IsNoJoin, SoundWith, Ran}
 use Rattle.hub_core.proofs.step.run.Given as goal
@@ -18,5 +19,6 @@ invariant-loop-input g l = record {
       (g.S.Store.left l.store) (take l.input-index l.inputs) l.replies.items;
   held : g.S.Store.honest l.store → SoundWith l.fn.register (g.S.Store.content l.fn.store)
       → SoundWith l.register (g.S.Store.content l.store);
+  keeps : KeepsRows l.fn.register l.register;
   same : AllByRecursion (λ (input : Input). IsNoJoin input.request) l.inputs → l.register ≡ l.fn.register;
 }

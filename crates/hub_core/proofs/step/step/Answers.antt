@@ -1,11 +1,12 @@
-use Rattle.std.proofs.Common.{inl, inr, sym, ap, ◌∙◌}
+use Rattle.std.proofs.Common.{inl, inr, refl, sym, ap, ◌∙◌}
 use Rattle.hub_tables.specs.Register.{register_of, suppliers_of}
 use Rattle.hub_tables.specs.Tables.{Tables}
 use Rattle.hub_law.specs.declared.reply.Reply.{Reply}
-use Rattle.hub_core.proofs.Keeping.{register_kept, join_or_none}
+use Rattle.hub_core.proofs.Keeping.{register_kept, join_or_none, join_stopped, join_replied, rows_kept}
 use Rattle.hub_law.specs.Replies.{reply}
 use Rattle.hub_law.specs.declared.reply.Outcome.TheVariants.{Stopped}
 use Rattle.hub_core.specs.Steps.{input_of}
+use Rattle.hub_acts.proofs.Joins.{keeps_all}
 use Rattle.hub_core.proofs.Steps.{replied, unanswered, asked_with}
 use Rattle.hub_core.specs.Broken.{does_input}
 use Rattle.hub_core.proofs.Breaking.{replied_breaks}
@@ -54,3 +55,25 @@ returns-clause-breaks g c =
     (does_input c.args.register.now (input_of c.args.moment c.args.caller.now c.args.key.now c.args.request.now))
     (g.S.Store.broken c.args.store.now) (g.S.Store.broken c.answer-answered.new.store) c.answer-answered.result c.in-Ok.stopped
     c.replied.result c.replied.ensures.ok c.replied.ensures.err c.answer-answered.ensures.breaks
+
+pub returns-in_default-clause-joined : goal.returns-in_default-clause-joined
+returns-in_default-clause-joined g c row is =
+    join_stopped row c.args.register.now
+    (does_input c.args.register.now (input_of c.args.moment c.args.caller.now c.args.key.now c.args.request.now))
+    c.stopped_with.result c.args.register.now _ c.stopped_with.ensures refl
+
+pub returns-in_default-clause-keeps : goal.returns-in_default-clause-keeps
+returns-in_default-clause-keeps g c = keeps_all c.args.register.now c.args.register.now refl
+
+pub returns-clause-joined : goal.returns-clause-joined
+returns-clause-joined g c row is =
+    join_replied row c.args.register.now c.answer-answered.new.register
+    (does_input c.args.register.now (input_of c.args.moment c.args.caller.now c.args.key.now c.args.request.now))
+    c.answer-answered.result c.in-Ok.stopped c.replied.result (c.answer-answered.ensures.joined row is) c.answer-answered.ensures.undone
+    c.replied.ensures.ok c.replied.ensures.err
+
+pub returns-clause-keeps : goal.returns-clause-keeps
+returns-clause-keeps g c =
+    rows_kept c.args.request.now c.args.register.now c.answer-answered.new.register
+    (does_input c.args.register.now (input_of c.args.moment c.args.caller.now c.args.key.now c.args.request.now))
+    c.replied.result (returns-clause-joined g c) c.answer-answered.ensures.same

@@ -7,7 +7,7 @@ use Rattle.hub_looks.proofs.number.is_numbered.Goals as goal
 
 pub returns : goal.returns
 returns g c = record {
-  number = tells (state g.S.Store c.args.conn.now) (state g.S.Store c.ask.new.conn) _ c.is_two.result c.in_ok-rows.ensures.asks
+  number = tells c.args.number (state g.S.Store c.args.conn.now) (state g.S.Store c.ask.new.conn) _ c.is_alone.result c.in_ok-rows.ensures.asks
       (search rules);
 }
 
@@ -17,6 +17,6 @@ returns-in_err-rows g c =
     let new = state g.S.Store c.ask.new.conn in
     let failed = err_from_is_err_and c.from_residual.result c.from_residual.ensures.1 in
     record {
-      number = subst (TellsNumber old new) (sym (failed.1 ∙ ap Err failed.2))
-          (tells_none old new _ c.in_err-rows.ensures.fails c.in_err-rows.ensures.asks);
+      number = subst (TellsNumber c.args.number old new) (sym (failed.1 ∙ ap Err failed.2))
+          (tells_none c.args.number old new _ c.in_err-rows.ensures.fails c.in_err-rows.ensures.asks);
     }

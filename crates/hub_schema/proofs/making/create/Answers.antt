@@ -8,9 +8,9 @@ use Rattle.hub_schema.proofs.Makes.{made_one}
 use Rattle.hub_schema.proofs.making.create.Goals as goal
 
 pub returns-clause-makes : goal.returns-clause-makes
-returns-clause-makes g c clean schema table defines has =
+returns-clause-makes g c clean rows schema table defines bare has =
     made_one c.args.text.now (state g.S.Store c.args.tx.now.conn.now) (state g.S.Store c.execute.new.self.conn.now)
-    c.execute.result schema table defines has (c.execute.ensures.runs clean has.mode)
+    c.execute.result rows schema table defines bare has (c.execute.ensures.runs clean has.mode)
 
 pub returns-clause-kept : goal.returns-clause-kept
 returns-clause-kept g c clean = elim (cases_Bool c.args.tx.now.conn.now.in_transaction) [

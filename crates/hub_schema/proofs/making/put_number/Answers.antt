@@ -1,4 +1,5 @@
 use Rattle.sqlite.specs.Held.{state}
+use Rattle.sqlite_trees.specs.Tree.{no_trees}
 use Rattle.std.proofs.Common.{[]}
 use Rattle.hub_schema.proofs.Leaving.{executed_leaves}
 use Rattle.hub_schema.proofs.Makes.{number_put, number_leaves}
@@ -12,6 +13,6 @@ returns-clause-makes g c clean has =
 
 pub returns-clause-leaves : goal.returns-clause-leaves
 returns-clause-leaves g c =
-    number_leaves (state g.S.Store c.args.tx.now.conn.now) (state g.S.Store c.execute.new.self.conn.now) c.execute.result
+    number_leaves no_trees (state g.S.Store c.args.tx.now.conn.now) (state g.S.Store c.execute.new.self.conn.now) c.execute.result
     (executed_leaves g.S.Store put_number [] c.args.tx.now.conn.now c.execute.new.self.conn.now c.execute.result
     c.execute.ensures.ended c.execute.ensures.runs)

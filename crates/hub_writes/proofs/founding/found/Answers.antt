@@ -37,7 +37,7 @@ returns g c =
     let makes = rw c.transaction-tx.ensures.begun at c.in_ok-lay.ensures.makes in
     let founds = succeeded g.S.Store old mid end (old.schema ≡ no_schema) (apply_all c.args.changes.now empty) c.requires
     (c.is_autocommit-idle.ensures.settled idle) kept one c.commit.ensures.ended
-    (λ clean none. makes clean (record { schema = none; empty = tt; mode = refl }))
+    (λ clean none. makes clean (record { schema = none; same = tt; mode = refl }))
     c.commit.ensures.survives c.commit.result
     (λ clean. on_ok c.commit.result (λ h. h.1) (c.commit.ensures.ok clean)) c.commit.ensures.err (g.met.S.Store.settled
     end.store) in

@@ -1,6 +1,7 @@
 use Rattle.std.proofs.Common.{◌≡◌, inl, inr, refl, sym, subst, ◌∙◌}
 use Rattle.sqlite.specs.Held.{state}
 use Rattle.hub_store.specs.declared.fault.StoreFault.TheVariants.{Unclean, Version}
+use Rattle.hub_sql.specs.declared.version.Version.TheVariants.{Second}
 use Rattle.hub_sql.proofs.Adopted.{adopted, none_was, refused_later}
 use Rattle.hub_sql.proofs.Sparing.{spared_anew, spared_before}
 use Rattle.hub_sql.proofs.store.SqliteStore.adopt.Goals as goal
@@ -23,13 +24,13 @@ returns-in-Err-reopened-clause-refuses g c =
     (λ is. absurd (elim c.in-Err-reopened.ensures.fails [ inl memory ↦ cc | inr disk ↦ cc ]))
     (λ is. absurd (elim c.in-Err-reopened.ensures.fails [ inl memory ↦ cc | inr disk ↦ cc ]))
     (spared_before g.S.Store (state g.S.Store c.args.conn) c.in-Ok.conn c.in-Err-reopened.store
-    (λ clean. (c.in-Ok.ensures.hub clean).1) c.in-Ok.ensures.clean
+    (λ clean. (c.in-Ok.ensures.holds clean).1) c.in-Ok.ensures.clean
     c.in-Err-reopened.ensures.spared)
 
 pub returns-in-Ok-numbered-clause-adopts : goal.returns-in-Ok-numbered-clause-adopts
 returns-in-Ok-numbered-clause-adopts g c =
     adopted g.S.Store (state g.S.Store c.args.conn) c.in-Ok.conn c.in-Ok-reopened.conn
-    c.in-Ok.ensures.hub c.in-Ok-reopened.ensures.clean c.in-Ok.ensures.clean
+    c.in-Ok.ensures.holds c.in-Ok-reopened.ensures.clean c.in-Ok.ensures.clean
     c.in-Ok-reopened.ensures.rows c.in-Ok-numbered.store c.in-Ok-numbered.ensures.whole c.in-Ok-numbered.ensures.rows c.in-Ok-numbered.ensures.register
     c.in-Ok-numbered.ensures.crash c.in-Ok-numbered.ensures.clean
 
@@ -42,12 +43,12 @@ returns-in-Err-numbered-clause-refuses g c =
     (λ is. (
       c.in-Err-numbered.conn,
       refl,
-      λ clean. none_was g.S.Store was mid conn c.in-Ok.ensures.hub
+      λ clean. none_was g.S.Store was mid conn c.in-Ok.ensures.holds
           c.in-Ok-reopened.ensures.clean c.in-Ok.ensures.clean c.in-Ok-reopened.ensures.rows
           (c.in-Err-numbered.ensures.spared.clean clean) (c.in-Err-numbered.ensures.unclean is clean),
     ))
-    (spared_anew g.S.Store was mid conn c.in-Err-numbered.conn c.in-Ok.ensures.schema
-    (λ clean. (c.in-Ok.ensures.hub clean).1) c.in-Ok.ensures.clean
+    (spared_anew g.S.Store (λ _. ⊥) (λ _. ⊥) was mid conn c.in-Err-numbered.conn (λ clean trees never. never) Second c.in-Ok.ensures.schema
+    (λ clean. (c.in-Ok.ensures.holds clean).1) c.in-Ok.ensures.clean
     c.in-Ok-reopened.ensures.clean c.in-Ok-reopened.ensures.rows
     (c.in-Ok-reopened.ensures.fresh.unlimited ∙ sym c.requires.unlimited)
     (λ clean. (c.in-Ok-reopened.ensures.opened clean).0) (g.met.S.Store.settled conn.store) c.in-Err-numbered.ensures.spared)

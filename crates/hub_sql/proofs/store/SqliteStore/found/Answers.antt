@@ -1,29 +1,15 @@
 use Rattle.std.proofs.Common.{◌≡◌, inl, inr, IsTrue, rules, refl, sym, subst, ◌∙◌, true≢false}
 use Rattle.hub_tables.specs.Register.{HoldsRegister}
-use Rattle.hub_sql.proofs.Sparing.{spared_itself}
+use Rattle.hub_tables.specs.Tables.{empty}
+use Rattle.hub_sql.proofs.Sparing.{spared_more}
 use Rattle.hub_sql.proofs.store.SqliteStore.found.Goals as goal
-
-pub returns-then-not-is_no_schema-clause-refuses : goal.returns-then-not-is_no_schema-clause-refuses
-returns-then-not-is_no_schema-clause-refuses g c =
-    let idle : IsTrue c.is_autocommit-was_idle.result = search rules in
-    record {
-      version = λ is. (
-        c.args.conn,
-        refl,
-        λ clean. (
-          λ none. true≢false (sym (c.is_no_schema.ensures.1 (c.schema.ensures.value ∙ none)) ∙ c.if-not-is_no_schema.true),
-          record { shown = refl; committed = refl; crash = λ trees left. left },
-        ),
-      );
-      other = λ tables. refl;
-      unclean = λ is. cc;
-      spared = spared_itself g.S.Store _ c.args.conn (c.is_autocommit-was_idle.ensures.settled idle) c.requires.idle;
-    }
 
 pub returns-in-Ok-clause-founds : goal.returns-in-Ok-clause-founds
 returns-in-Ok-clause-founds g c = record {
+  before = empty;
   whole = c.in-Ok.ensures.whole;
-  bare = λ honest. sym c.schema.ensures.value ∙ c.is_no_schema.ensures.0 c.if-not-is_no_schema.false;
+  stood = λ honest. inl (sym c.schema.ensures.value ∙ c.is_no_schema.ensures.0 c.if-not-is_no_schema.false, refl);
+  fit = λ honest. refl;
   rows = c.in-Ok.ensures.rows;
   holds = λ honest. subst HoldsRegister (sym (c.in-Ok.ensures.rows honest))
       (c.founded_tables_hold_their_register.ensures.holds c.args.register.now c.in-Ok.ensures.register);
@@ -37,6 +23,7 @@ returns-in-Err-clause-refuses g c =
     record {
       version = λ is. absurd (elim c.in-Err.ensures.fails [ inl memory ↦ cc | inr disk ↦ cc ]);
       other = λ tables. absurd (tables bare);
-      unclean = λ is. absurd (elim c.in-Err.ensures.fails [ inl memory ↦ cc | inr disk ↦ cc ]);
-      spared = c.in-Err.ensures.spared;
+      rows = λ is. absurd cc;
+      unclean = λ is. elim c.in-Err.ensures.fails [ inl memory ↦ cc | inr disk ↦ cc ];
+      spared = spared_more g.S.Store _ _ _ c.in-Err.conn (λ trees made. (empty, inl (bare, refl), made)) c.in-Err.ensures.spared;
     }

@@ -1,0 +1,7 @@
+use Rattle.hub_schema.specs.Schema.{next_to}
+use Rattle.hub_schema.proofs.Compared.{none_numbered}
+use Rattle.hub_schema.proofs.compare.+are_behind.Goals as goal
+
+pub returns-in_default : goal.returns-in_default
+returns-in_default t c = none_numbered c.args.tables.now (next_to c.args.before.now) c.args.definitions.now
+    c.is_empty.result c.in_default.len_below c.is_empty.ensures

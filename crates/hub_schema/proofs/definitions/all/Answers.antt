@@ -1,0 +1,60 @@
+use Rattle.std.proofs.Common.{refl, arith}
+use Rattle.std.proofs.lemmas.Fmt.{decimal_digit}
+use Rattle.sqlite.specs.Listing.{understood}
+use Rattle.sqlite_tied.specs.Compute.{everything}
+use Rattle.hub_schema.proofs.definitions.all.Goals as goal
+
+pub returns-clause-indexes : goal.returns-clause-indexes
+returns-clause-indexes c = rw (decimal_digit 1 (omega arith), decimal_digit 2 (omega arith))
+
+pub returns-clause-texts : goal.returns-clause-texts
+unfolding understood everything
+returns-clause-texts c = (
+  record { command = refl; whole = refl; plain = (refl, refl); defined = refl; calm = refl },
+  refl,
+  (
+    record { command = refl; whole = refl; plain = (refl, refl); defined = refl; calm = refl },
+    refl,
+    (
+      record { command = refl; whole = refl; plain = (refl, refl); defined = refl; calm = refl },
+      refl,
+      (
+        record { command = refl; whole = refl; plain = (refl, refl); defined = refl; calm = refl },
+        refl,
+        (
+          record { command = refl; whole = refl; plain = (refl, refl); defined = refl; calm = refl },
+          refl,
+          (
+            record { command = refl; whole = refl; plain = (refl, refl); defined = refl; calm = refl },
+            refl,
+            (
+              record { command = refl; whole = refl; plain = (refl, refl); defined = refl; calm = refl },
+              refl,
+              (
+                record { command = refl; whole = refl; plain = (refl, refl); defined = refl; calm = refl },
+                refl,
+                (
+                  record { command = refl; whole = refl; plain = (refl, refl); defined = refl; calm = refl },
+                  refl,
+                  (
+                    record { command = refl; whole = refl; plain = (refl, refl); defined = refl; calm = refl },
+                    refl,
+                    (
+                      record { command = refl; whole = refl; plain = (refl, refl); defined = refl; calm = refl },
+                      refl,
+                      (
+                        record { command = refl; whole = refl; plain = (refl, refl); defined = refl; calm = refl },
+                        refl,
+                        tt,
+                      ),
+                    ),
+                  ),
+                ),
+              ),
+            ),
+          ),
+        ),
+      ),
+    ),
+  ),
+)

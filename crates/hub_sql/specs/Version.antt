@@ -1,0 +1,33 @@
+-- The versions of the tables: schema 1, which has no register, and schema 2.
+use Rattle.std.specs.Prelude.{◌≡◌, ℕ, List, [], ◌∷◌}
+use Rattle.std.specs.List.{AllByRecursion}
+use Rattle.sqlite.specs.Effect.{Database}
+use Rattle.sqlite.specs.Schema.{Schema}
+use Rattle.sqlite_trees.specs.Tree.{Trees}
+use Rattle.sqlite_trees.specs.View.{IsShaped}
+use Rattle.sqlite_trees.specs.declared.store.Shape.TheVariants as shape
+use Rattle.hub_schema.specs.Schema.{old_schema, hub_schema}
+use Rattle.hub_schema.specs.State.{HasNumber}
+use Rattle.hub_sql.specs.declared.version.Version.{Version}
+use Rattle.hub_sql.specs.declared.version.Version.TheVariants.{First, Second}
+
+abbrev pub schema_of : Version → Schema
+schema_of First = old_schema
+schema_of Second = hub_schema
+
+abbrev pub number_of : Version → ℕ
+number_of First = 1
+number_of Second = 2
+
+-- the numbers of its tables' trees
+abbrev pub trees_of : Version → List ℕ
+trees_of First = 0 ∷ 1 ∷ 3 ∷ 5 ∷ 7 ∷ 10 ∷ 12 ∷ 14 ∷ 16 ∷ []
+trees_of Second = 0 ∷ 1 ∷ 3 ∷ 5 ∷ 7 ∷ 10 ∷ 12 ∷ 14 ∷ 16 ∷ 18 ∷ 20 ∷ 22 ∷ []
+
+-- in each the row numbers rise
+abbrev pub AreShaped : Version → Trees → Type 0
+AreShaped version trees = AllByRecursion (λ tree. IsShaped shape.Table (trees tree)) (trees_of version)
+
+-- the tables are of this version, and so is their number
+abbrev pub HoldsTables : Version → Database → Type 0
+HoldsTables version db = (db.schema ≡ schema_of version) × HasNumber (number_of version) db.trees

@@ -1,0 +1,144 @@
+//! Stores in databases of schema 1.
+ghost use Rattle.std.specs.Prelude.{◌≡◌, ◌≢◌, true, false, None, IfOk, IfErr};
+ghost use Rattle.sqlite.specs.Held.{state};
+ghost use Rattle.sqlite.specs.State.{HasCleanDisk, Opens, IsLive};
+ghost use Rattle.hub_founding.specs.Fits.{fits as does_fit, founded_beside};
+ghost use Rattle.hub_parties.specs.Rows.{IsRegister};
+ghost use Rattle.hub_schema.specs.Rows.{traffic_in};
+ghost use Rattle.hub_schema.specs.Schema.{old_schema, no_schema};
+ghost use Rattle.hub_schema.specs.State.{HasNumber, IsOldHub};
+ghost use Rattle.hub_sql.specs.Opening.{Founds, IsAsBefore, IsOfFounding, MayBeBeside, RefusesFounding, SparesConnection};
+ghost use Rattle.hub_sql.specs.Stored.{content, left, honest};
+ghost use Rattle.hub_sql.specs.Version.{AreShaped};
+ghost use Rattle.hub_tables.specs.Tables.{Tables};
+
+use crate::fault::FoundFault;
+use crate::opening::laying_fault;
+use crate::reopening::{of_version, reopened};
+use crate::returned::Returned;
+use crate::store::SqliteStore;
+use crate::version::Version;
+use hub_founding::{register_changes, rows_beside_stay};
+use hub_looks::fits;
+use hub_register::Register;
+use hub_schema::is_old_schema;
+use hub_store::StoreFault;
+use hub_writes::migrate;
+use sqlite::{Alter, Connection};
+use std::alloc::Global;
+
+// The connection, where it still lists the tables of schema 1 and the register fits to their rows.
+fn fitting<S: Alter + Drop>(
+    mut conn: Connection<S>,
+    register: &Register,
+) -> Result<Connection<S>, (Connection<S>, FoundFault)>
+    requires idle { conn.in_transaction ≡ false }
+    requires shaped { HasCleanDisk (state S.Store conn) → AreShaped Version.First (state S.Store conn).now.trees }
+    requires number { HasCleanDisk (state S.Store conn) → HasNumber 1 (state S.Store conn).now.trees }
+    requires opened { HasCleanDisk (state S.Store conn) → Opens (state S.Store conn) × IsLive (state S.Store conn) }
+    ensures idle { IfOk result (λ c. c.in_transaction ≡ false) }
+    ensures hub { IfOk result (λ c. HasCleanDisk (state S.Store c) → IsOldHub (state S.Store c)) }
+    ensures limit { IfOk result (λ c. c.step_limit ≡ conn.step_limit) }
+    ensures before { IfOk result (λ c. HasCleanDisk (state S.Store c) → IsAsBefore (state S.Store conn) (state S.Store c)) }
+    ensures clean { IfOk result (λ c. HasCleanDisk (state S.Store c) → HasCleanDisk (state S.Store conn)) }
+    ensures fits { IfOk result (λ c. HasCleanDisk (state S.Store c) → does_fit register.now (traffic_in (state S.Store conn).now.trees) ≡ true) }
+    ensures rows { IfErr result (λ e. e.1 ≡ FoundFault.Rows → HasCleanDisk (state S.Store e.0) →
+        (e.0.schema ≡ old_schema) × (does_fit register.now (traffic_in (state S.Store conn).now.trees) ≡ false)) }
+    ensures fails { IfErr result (λ e. IsOfFounding e.1) }
+    ensures spared { IfErr result (λ e. SparesConnection S.Store (λ _. ⊥) (state S.Store conn) e.0) }
+{
+    let _was_idle = conn.is_autocommit();
+    if !is_old_schema(conn.schema()) {
+        return Err((conn, FoundFault::Store(StoreFault::Disk)));
+    }
+    match fits(&mut conn, register) {
+        Ok(true) => {
+            let _idle = conn.is_autocommit();
+            Ok(conn)
+        }
+        Ok(false) => Err((conn, FoundFault::Rows)),
+        Err(fault) => Err((conn, FoundFault::Store(laying_fault(fault)))),
+    }
+}
+
+// A store with the rows of the register beside those of schema 1, to which it fits.
+fn laid_beside<S: Alter + Drop>(
+    alloc: Global,
+    mut conn: Connection<S>,
+    register: &Register,
+) -> Result<SqliteStore<S>, (Connection<S>, FoundFault)>
+    requires idle { conn.in_transaction ≡ false }
+    requires hub { HasCleanDisk (state S.Store conn) → IsOldHub (state S.Store conn) }
+    requires fits { HasCleanDisk (state S.Store conn) → does_fit register.now (traffic_in (state S.Store conn).now.trees) ≡ true }
+    ensures whole { IfOk result (λ store. store.fault ≡ None) }
+    ensures rows { IfOk result (λ store. honest S.Store store → content S.Store store ≡ founded_beside (traffic_in (state S.Store conn).now.trees) register.now) }
+    ensures crash { IfOk result (λ store. honest S.Store store → (t : Tables) → left S.Store store t → t ≡ content S.Store store) }
+    ensures clean { IfOk result (λ store. honest S.Store store → HasCleanDisk (state S.Store conn)) }
+    ensures register { IsRegister register.now }
+    ensures fails { IfErr result (λ e. IsOfFounding e.1 × (e.1 ≢ FoundFault.Rows)) }
+    ensures spared { IfErr result (λ e. SparesConnection S.Store (MayBeBeside (traffic_in (state S.Store conn).now.trees) register.now) (state S.Store conn) e.0) }
+{
+    let _idle = conn.is_autocommit();
+    let _hub = register.hub();
+    let Ok(changes) = register_changes(alloc, register) else {
+        return Err((conn, FoundFault::Store(StoreFault::Memory)));
+    };
+    match migrate(&mut conn, changes.as_slice()) {
+        Ok(()) => Ok(SqliteStore::settled(alloc, conn)),
+        Err(fault) => Err((conn, FoundFault::Store(laying_fault(fault)))),
+    }
+}
+
+// The same of a connection that was opened again, where it still lists the tables of schema 1 and the register fits.
+fn beside<S: Alter + Drop>(
+    alloc: Global,
+    conn: Connection<S>,
+    register: &Register,
+) -> Result<SqliteStore<S>, (Connection<S>, FoundFault)>
+    requires idle { conn.in_transaction ≡ false }
+    requires shaped { HasCleanDisk (state S.Store conn) → AreShaped Version.First (state S.Store conn).now.trees }
+    requires number { HasCleanDisk (state S.Store conn) → HasNumber 1 (state S.Store conn).now.trees }
+    requires opened { HasCleanDisk (state S.Store conn) → Opens (state S.Store conn) × IsLive (state S.Store conn) }
+    ensures whole { IfOk result (λ store. store.fault ≡ None) }
+    ensures fits { IfOk result (λ store. honest S.Store store → does_fit register.now (traffic_in (state S.Store conn).now.trees) ≡ true) }
+    ensures rows { IfOk result (λ store. honest S.Store store → content S.Store store ≡ founded_beside (traffic_in (state S.Store conn).now.trees) register.now) }
+    ensures crash { IfOk result (λ store. honest S.Store store → (t : Tables) → left S.Store store t → t ≡ content S.Store store) }
+    ensures clean { IfOk result (λ store. honest S.Store store → HasCleanDisk (state S.Store conn)) }
+    ensures register { IfOk result (λ _. IsRegister register.now) }
+    ensures none { IfErr result (λ e. e.1 ≡ FoundFault.Rows → HasCleanDisk (state S.Store e.0) →
+        (e.0.schema ≡ old_schema) × (does_fit register.now (traffic_in (state S.Store conn).now.trees) ≡ false)) }
+    ensures fails { IfErr result (λ e. IsOfFounding e.1) }
+    ensures spared { IfErr result (λ e. SparesConnection S.Store (MayBeBeside (traffic_in (state S.Store conn).now.trees) register.now) (state S.Store conn) e.0) }
+{
+    match fitting(conn, register) {
+        Ok(conn) => laid_beside(alloc, conn, register),
+        Err((conn, fault)) => Err((conn, fault)),
+    }
+}
+
+/// Founds a hub in a database that has tables: where they are those of schema 1 and the register fits to their rows.
+pub(crate) fn migrated<S: Alter + Drop>(
+    alloc: Global,
+    conn: Connection<S>,
+    register: &Register,
+) -> Result<SqliteStore<S>, (Returned<S>, FoundFault)>
+    requires idle { conn.in_transaction ≡ false }
+    requires unlimited { conn.step_limit ≡ None }
+    requires tables { conn.schema ≢ no_schema }
+    ensures founds { IfOk result (Founds S.Store register.now (state S.Store conn)) }
+    ensures refuses { IfErr result (λ e. RefusesFounding S.Store register.now (state S.Store conn) e.0 e.1) }
+{
+    rows_beside_stay();
+    let conn = match of_version(conn, Version::First) {
+        Ok(conn) => conn,
+        Err((conn, fault)) => return Err((Returned::Connection(conn), FoundFault::Store(fault))),
+    };
+    let conn = match reopened(alloc, conn, Version::First) {
+        Ok(conn) => conn,
+        Err((fault, store)) => return Err((Returned::Store(store), FoundFault::Store(fault))),
+    };
+    match beside(alloc, conn, register) {
+        Ok(store) => Ok(store),
+        Err((conn, fault)) => Err((Returned::Connection(conn), fault)),
+    }
+}

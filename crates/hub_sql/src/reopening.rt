@@ -1,0 +1,71 @@
+//! Connections whose tables are of one version, and the same opened again.
+ghost use Rattle.std.specs.Prelude.{◌≡◌, ◌≢◌, ◌⊎◌, false, IfOk, IfErr};
+ghost use Rattle.sqlite.specs.Held.{state, IsNew};
+ghost use Rattle.sqlite.specs.State.{HasCleanDisk, Opens, IsLive};
+ghost use Rattle.hub_schema.specs.State.{HasNumber};
+ghost use Rattle.hub_sql.specs.Opening.{IsAsBefore, SparesConnection, SparesStore};
+ghost use Rattle.hub_sql.specs.Version.{schema_of, number_of, AreShaped, HoldsTables};
+
+use crate::opening::fault_by;
+use crate::version::Version;
+use hub_looks::is_numbered;
+use hub_store::StoreFault;
+use sqlite::{Alter, Connection};
+use std::alloc::Global;
+
+/// The connection, where its tables are of this version, and their number too.
+pub(crate) fn of_version<S: Alter + Drop>(
+    mut conn: Connection<S>,
+    version: Version,
+) -> Result<Connection<S>, (Connection<S>, StoreFault)>
+    requires idle { conn.in_transaction ≡ false }
+    ensures idle { IfOk result (λ c. c.in_transaction ≡ false) }
+    ensures schema { IfOk result (λ _. conn.schema ≡ schema_of version) }
+    ensures holds { IfOk result (λ c. HasCleanDisk (state S.Store c) → HoldsTables version (state S.Store conn).now × IsAsBefore (state S.Store conn) (state S.Store c)) }
+    ensures number { IfOk result (λ c. HasCleanDisk (state S.Store c) → HasNumber (number_of version) (state S.Store c).committed.trees) }
+    ensures clean { IfOk result (λ c. HasCleanDisk (state S.Store c) → HasCleanDisk (state S.Store conn)) }
+    ensures refuses { IfErr result (λ e. e.1 ≡ StoreFault.Version → HasCleanDisk (state S.Store e.0) → ¬ HoldsTables version (state S.Store conn).now × IsAsBefore (state S.Store conn) (state S.Store e.0)) }
+    ensures other { IfErr result (λ e. conn.schema ≢ schema_of version → e.1 ≡ StoreFault.Version) }
+    ensures unclean { IfErr result (λ e. e.1 ≢ StoreFault.Unclean) }
+    ensures spared { IfErr result (λ e. SparesConnection S.Store (λ _. ⊥) (state S.Store conn) e.0) }
+{
+    let _was_idle = conn.is_autocommit();
+    if !version.is_of(conn.schema()) {
+        return Err((conn, StoreFault::Version));
+    }
+    match is_numbered(&mut conn, version.number()) {
+        Ok(true) => {
+            let _idle = conn.is_autocommit();
+            Ok(conn)
+        }
+        Ok(false) => Err((conn, StoreFault::Version)),
+        Err(fault) => Err((conn, fault)),
+    }
+}
+
+/// The connection again, once what is below it has told that it is whole, and that the tables of this version stand there.
+pub(crate) fn reopened<S: Alter + Drop>(
+    alloc: Global,
+    conn: Connection<S>,
+    version: Version,
+) -> Result<Connection<S>, (StoreFault, S)>
+    ensures shaped { IfOk result (λ c. HasCleanDisk (state S.Store c) → AreShaped version (state S.Store c).now.trees) }
+    ensures rows { IfOk result (λ c. HasCleanDisk (state S.Store c) → (state S.Store c).now.trees ≡ (state S.Store conn).committed.trees) }
+    ensures opened { IfOk result (λ c. HasCleanDisk (state S.Store c) → Opens (state S.Store c) × IsLive (state S.Store c)) }
+    ensures fresh { IfOk result IsNew }
+    ensures clean { IfOk result (λ c. HasCleanDisk (state S.Store c) → HasCleanDisk (state S.Store conn)) }
+    ensures fails { IfErr result (λ e. (e.0 ≡ StoreFault.Memory) ⊎ (e.0 ≡ StoreFault.Disk)) }
+    ensures spared { IfErr result (λ e. SparesStore S.Store (state S.Store conn) e.1) }
+{
+    let store = conn.into_store();
+    if store.is_broken() {
+        return Err((StoreFault::Disk, store));
+    }
+    if !version.has_tables(&store) {
+        return Err((StoreFault::Disk, store));
+    }
+    match Connection::over(alloc, store) {
+        Ok(conn) => Ok(conn),
+        Err((error, store)) => Err((fault_by(&error), store)),
+    }
+}

@@ -1,0 +1,234 @@
+"""Cases of a database file of schema 1, which knew no register: no command opens it, and `edihub init` brings it to schema 2, with a register
+that fits to its rows. What it had stays."""
+import os
+import sqlite3
+import subprocess
+import tempfile
+
+import files
+from case import SECONDS
+from commands import EACH, FIRST_TWO, REGISTER, cancelled, found, founding_killed, init, mail, one, over, rows_of_register, status_of, step, steps, told
+from files import NAME, OLD_ROWS, OLD_TABLES, REGISTERED, file_of, has_rows, is_still
+from hubs import ALPHA, BETA, DESPATCH, KEYS, OTHER_PALLET, PALLET, RECEIPT, RESPONSE, RETAILER, SECOND, STATUS, TWO_SUPPLIERS
+from hubs import despatch, interchange, line_status, order, response
+from envelopes import ORDERS
+from registers import GAMMA, register
+
+KEPT = os.path.join(os.path.dirname(os.path.abspath(__file__)), "kept")
+FOUNDED, MISFIT, VERSION = told("ok 2 suppliers"), told("fault rows"), "store version\n"
+A, B = (ALPHA, "40123455", KEYS[ALPHA]), (BETA, "8712345", KEYS[BETA])
+# the rows of one of each kind that names a supplier
+ONE_OF_EACH = {
+    '"order"': [(ALPHA.encode(), b"128576")],
+    "line": [(ALPHA.encode(), b"128576", 1, b"04000862141404", 48, 24, 12, 0, ord("C"))],
+    "advice": [(ALPHA.encode(), b"DA1")],
+    "pallet": [(PALLET.encode(), ALPHA.encode(), b"DA1", 0)],
+    "remembered": [(ALPHA.encode(), ord("R"), b"1001", b"1", b"UNH")],
+    "mail": [(ALPHA.encode(), 1, 1748942400, ord("."), ord("O"), b"128576", b"UNH", 0)],
+}
+
+
+def kept(name):
+    """A file as it was once written, and the status of the first supplier in it."""
+    with open(os.path.join(KEPT, f"{name}.db"), "rb") as file:
+        data = file.read()
+    with open(os.path.join(KEPT, f"{name}.status"), encoding="ascii") as file:
+        return data, file.read()
+
+
+def rows_of(data, tables=OLD_ROWS):
+    """All rows of a file, by default of schema 1."""
+    with tempfile.TemporaryDirectory() as folder:
+        with open(os.path.join(folder, NAME), "wb") as file:
+            file.write(data)
+        read = sqlite3.connect(os.path.join(folder, NAME))
+        rows = {table: read.execute(f"SELECT * FROM {table}").fetchall() for table in tables}
+        read.close()
+        return rows
+
+
+def beside(rows, *suppliers):
+    """The rows of a file of schema 1 with those of a register beside them."""
+    return {**rows_of_register(*(suppliers or FIRST_TWO)), **{table: its for table, its in rows.items() if table != "schema"}}
+
+
+def old_file(rows=OLD_ROWS, *changes):
+    return file_of(OLD_TABLES, {"schema": [(1,)], **rows}, *changes)
+
+
+def brought_over(name):
+    """No command opens it before, each does afterwards, and a register that does not fit changes nothing."""
+    data, status = kept(name)
+    still, whole = is_still(data), has_rows(beside(rows_of(data)))
+    return steps(
+        f"a database file of schema 1, {name}",
+        step(EACH[0], "", 3, VERSION, {NAME: data}, still),
+        *(step(words, "", 3, VERSION, after=still) for words in EACH[1:]),
+        step(init("beta.toml"), MISFIT, 1, files={"beta.toml": register(B)}, after=still),
+        step(init("prefix.toml"), MISFIT, 1, files={"prefix.toml": register((ALPHA, "40123456", KEYS[ALPHA]), B)}, after=still),
+        step(init(), FOUNDED, after=whole),
+        step(over("status", ALPHA), status),
+        step(over("status", RETAILER, "--of", ALPHA), status),
+        status_of(BETA),
+        step(init(), "", 3, VERSION, after=whole),
+    )
+
+
+def of_schema_2():
+    """A file of schema 2 as it was once written: each command opens it, and shows what it showed; of its rows none but the schema's number may change."""
+    data, status = kept("schema2_received")
+    rows = {**rows_of(data, files.ROWS), "schema": REGISTERED["schema"]}
+    return steps(
+        "a database file of schema 2, in which a pallet was received",
+        step(init(), "", 3, VERSION, {NAME: data}, is_still(data)),
+        step(over("status", ALPHA), status, after=has_rows(rows)),
+        step(over("status", RETAILER, "--of", ALPHA), status),
+        one(RETAILER, "5", "1005", "RECADV", RECEIPT, "repeated"),
+        mail(ALPHA, "after", 2, told("             3 RECADV G1", "end")),
+        step(init(), "", 3, VERSION, after=has_rows(rows)),
+    )
+
+
+def works_on():
+    """What was accepted before is repeated, what comes is judged by what was there, and a supplier that joins begins with nothing."""
+    data, _ = kept("schema1_received")
+    join = ("--supplier", GAMMA, "--supplier-key", "gamma-key-1", "--prefixes", "7612345")
+    return steps(
+        "a file that was brought over goes on",
+        step(init(), FOUNDED, files={NAME: data}),
+        one(RETAILER, "1", "1001", "ORDERS", ORDERS, "repeated"),
+        one(RETAILER, "2", "1002", "ORDERS", SECOND, "repeated"),
+        one(ALPHA, "3", "S1", "ORDRSP", RESPONSE, "repeated"),
+        one(ALPHA, "4", "S2", "DESADV", DESPATCH, "repeated"),
+        one(RETAILER, "5", "1005", "RECADV", RECEIPT, "repeated"),
+        one(RETAILER, "6", "1006", "ORDERS", ORDERS.replace("1001'", "1006'"), "refused B04"),
+        mail(ALPHA, "after", 2, told("             3 RECADV G1", "end")),
+        step(over("join", RETAILER, *join), told("accepted")),
+        step(over("status", GAMMA, key="gamma-key-1"), told("end")),
+        cancelled("C1", "10", "accepted"),
+        status_of(ALPHA, line_status("128576", "C", 48, 14, 12, 10, 12), *STATUS[1:]),
+    )
+
+
+def misfits():
+    """Each kind of row is looked at, and each cell: a register fits where it knows every supplier and has each pallet under a prefix of its own."""
+    sound = {**{table: [] for table in OLD_ROWS if table != "schema"}, **ONE_OF_EACH}
+    fits = steps("a register that fits to a row of each kind", step(init(), FOUNDED, files={NAME: old_file(sound)}, after=has_rows(beside(sound))))
+
+    def refused(name, rows, text=TWO_SUPPLIERS, *changes):
+        data = old_file({**{table: [] for table in OLD_ROWS if table != "schema"}, **rows}, *changes)
+        return steps(f"a register that does not fit to {name}", step(init(), MISFIT, 1, files={REGISTER: text, NAME: data}, after=is_still(data)))
+
+    def of_kind(table, bytes_of):
+        place = 1 if table == "pallet" else 0
+        row = list(ONE_OF_EACH[table][0])
+        row[place] = bytes_of
+        return {table: [tuple(row)]}
+
+    unknown = [refused(f"a row of {table} whose supplier it does not know", {table: rows}, register(B)) for table, rows in ONE_OF_EACH.items()]
+    nobody = [refused(f"a row of {table} of no GLN", of_kind(table, bytes_of)) for table in ONE_OF_EACH for bytes_of in (b"", ALPHA.encode()[:12], b"4012345500005")]
+    prefixes = [
+        refused("a pallet under a prefix of another supplier", {"pallet": ONE_OF_EACH["pallet"]}, register((ALPHA, "40123456", KEYS[ALPHA]), (BETA, "40123455", KEYS[BETA]))),
+        refused("a pallet of no SSCC", {"pallet": [(PALLET.encode()[:17], ALPHA.encode(), b"DA1", 0)]}),
+        refused("the last pallet of three", {"pallet": [*ONE_OF_EACH["pallet"], (OTHER_PALLET.encode(), ALPHA.encode(), b"DA1", 0), (b"387123450000000018", ALPHA.encode(), b"DA1", 0)]}),
+        refused("the retailer as the supplier of an order", {'"order"': [(RETAILER.encode(), b"128576")]}),
+    ]
+    second = {"pallet": ONE_OF_EACH["pallet"]}
+    one_of_eight = register((ALPHA, ["40123456", "40123457", "40123455"], KEYS[ALPHA]), B)
+    eight = steps("a pallet under the last of three prefixes", step(init(), FOUNDED, files={REGISTER: one_of_eight, NAME: old_file({**{t: [] for t in OLD_ROWS if t != "schema"}, **second})}))
+    return [fits, *unknown, *nobody, *prefixes, eight]
+
+
+def not_of_this_schema():
+    """What is no file of schema 1 is `store version`, and stays as it was."""
+    others = [
+        ("number 9", old_file(OLD_ROWS, "UPDATE schema SET number = 9")),
+        ("number 2 over the tables of schema 1", old_file(OLD_ROWS, "UPDATE schema SET number = 2")),
+        ("number 0", old_file(OLD_ROWS, "UPDATE schema SET number = 0")),
+        ("no number", old_file(OLD_ROWS, "DELETE FROM schema")),
+        ("two numbers", old_file(OLD_ROWS, "INSERT INTO schema VALUES (1)")),
+        ("one table more", old_file(OLD_ROWS, "CREATE TABLE more (number INTEGER NOT NULL) STRICT")),
+        ("an index more", old_file(OLD_ROWS, "CREATE INDEX more ON line (gtin)")),
+        ("a view", old_file(OLD_ROWS, "CREATE VIEW more AS SELECT * FROM line")),
+        ("no table of mail", file_of("".join(line + "\n" for line in OLD_TABLES.split("\n") if "mail" not in line), {t: r for t, r in OLD_ROWS.items() if t != "mail"})),
+        ("a column of another name", file_of(OLD_TABLES.replace("gtin BLOB NOT NULL, ordered", "ean BLOB NOT NULL, ordered"), OLD_ROWS)),
+    ]
+    return [steps(f"a file of schema 1 with {name}, for a founding", step(init(), "", 3, VERSION, {NAME: data}, is_still(data))) for name, data in others]
+
+
+def bare():
+    """A file of schema 1 without rows becomes a hub as if it had been founded; the register's faults come first."""
+    data = old_file({})
+    wrong = register((ALPHA, "4012345", KEYS[ALPHA]), (BETA, "40123455", KEYS[BETA]))
+    return [
+        steps("a file of schema 1 without rows", step(init(), FOUNDED, files={NAME: data}, after=has_rows(rows_of_register(*FIRST_TWO)))),
+        steps("prefixes that overlap, before rows that do not fit", step(init(), told("fault overlap 1 2"), 1, files={REGISTER: wrong, NAME: old_file()}, after=is_still(old_file()))),
+    ]
+
+
+MIGRATIONS = [brought_over("schema1"), brought_over("schema1_received"), of_schema_2(), works_on(), *misfits(), *not_of_this_schema(), *bare()]
+
+
+def as_if_founded(program):
+    """What is wrong where a file that was brought over differs from one that was founded and fed the same inputs, if anything: in a row of a table, a
+    status or an entry of a mailbox."""
+
+    def ran(folder, words):
+        it = subprocess.run([program, *words], cwd=folder, capture_output=True, timeout=SECONDS)
+        return it.returncode, it.stdout, it.stderr
+
+    uploads = (
+        (RETAILER, ORDERS),
+        (RETAILER, SECOND),
+        (ALPHA, RESPONSE),
+        (ALPHA, DESPATCH),
+        (ALPHA, interchange(ALPHA, "S6", despatch("DA4", OTHER_PALLET, 12, order="128577"))),
+        (ALPHA, interchange(ALPHA, "S7", response("R2", 27, order="128577"))),
+        (RETAILER, RECEIPT),
+    )
+    looks = [over("status", ALPHA), over("status", BETA), over("mail", ALPHA, "--do", "after", "--n", "0")]
+    looks += [over("mail", ALPHA, "--do", "item", "--n", str(number)) for number in (1, 2, 3, 4)]
+    with tempfile.TemporaryDirectory() as one_folder, tempfile.TemporaryDirectory() as other:
+        found(program, one_folder)
+        for k, (who, text) in enumerate(uploads):
+            os.makedirs(os.path.join(one_folder, str(k)))
+            with open(os.path.join(one_folder, str(k), "in.edi"), "w", encoding="ascii") as file:
+                file.write(text)
+            if (it := ran(one_folder, over("import", who, "--folder", str(k))))[0]:
+                return f"upload {k}: {it!r:.300}"
+        with open(os.path.join(other, NAME), "wb") as file:
+            file.write(kept("schema1_received")[0])
+        found(program, other)
+        for words in looks:
+            if ran(one_folder, words) != ran(other, words):
+                return f"{words}: {ran(one_folder, words)!r:.300}, {ran(other, words)!r:.300}"
+        return None if files.rows_in(one_folder) == files.rows_in(other) else "the rows differ"
+
+
+def two_at_once(program):
+    """What is wrong where two foundings of one file of schema 1 come at once, if anything: one brings it over, the other finds it open or done."""
+    data, status = kept("schema1_received")
+    with tempfile.TemporaryDirectory() as folder:
+        for name, its in ((REGISTER, TWO_SUPPLIERS.encode()), (NAME, data)):
+            with open(os.path.join(folder, name), "wb") as file:
+                file.write(its)
+        both = [subprocess.Popen([program, *init()], cwd=folder, stdout=subprocess.PIPE, stderr=subprocess.PIPE) for _ in range(2)]
+        ended = sorted((*it.communicate(timeout=SECONDS), it.returncode) for it in both)
+        refused, done = ended[0], ended[1]
+        if done != (FOUNDED.encode(), b"", 0) or refused not in ((b"", b"store version\n", 3), (b"", b"store disk\n", 3)):
+            return f"{ended!r:.300}"
+        looked = subprocess.run([program, *over("status", ALPHA)], cwd=folder, capture_output=True, timeout=SECONDS)
+        return has_rows(beside(rows_of(data)))(folder) if looked.stdout == status.encode() else f"a status: {looked!r:.300}"
+
+
+def killed(program):
+    """What is wrong where a file is brought over by a command that is killed at a change of it, if anything."""
+    data, status = kept("schema1_received")
+    return founding_killed(program, data, beside(rows_of(data)), status)
+
+
+TRIALS = [
+    ("a file that was brought over, and one that was founded", as_if_founded),
+    ("two foundings of one file at once", two_at_once),
+    ("a file that is brought over by a command that is killed and made again", killed),
+]
