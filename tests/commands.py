@@ -8,6 +8,7 @@ import tempfile
 
 import files
 from case import SECONDS, Case
+from corrections import CORRECTED, CORRECTION, FOURTH_MAIL, TWELVE, corrected
 from envelopes import ORDERS, cut
 from files import NAME, REGISTERED, has_rows, is_still, is_whole
 from hubs import ALPHA, BETA, DELTA, DESPATCH, FIRST_MAIL, HUB, KEYS, RECEIPT, RESPONSE, RETAILER, SECOND, STATUS, TWO_SUPPLIERS
@@ -107,6 +108,31 @@ def in_turn():
         cancelled("C1", "010", "repeated", line="01"),
         cancelled("C2", "15", "refused B17", status=1),
         cancelled("C1", "11", "refused B03", status=1),
+    )
+
+
+def corrections():
+    """A pallet is received, and then counted again, each by a command of its own."""
+    entries = ("             1 ORDERS 128576", "             2 ORDERS 128577", "             3 RECADV G1", "             4 RECADV G3")
+    return founded(
+        "a receiving advice that replaces, by commands",
+        one(RETAILER, "1", "1001", "ORDERS", ORDERS),
+        one(RETAILER, "4", "1002", "ORDERS", SECOND),
+        one(ALPHA, "8", "S1", "ORDRSP", RESPONSE),
+        one(ALPHA, "9", "S2", "DESADV", DESPATCH),
+        one(ALPHA, "12", "S6", "DESADV", interchange(ALPHA, "S6", despatch("DA4", OTHER_PALLET, 12, order="128577"))),
+        one(ALPHA, "12b", "S7", "ORDRSP", interchange(ALPHA, "S7", response("R2", 27, order="128577"))),
+        one(RETAILER, "13", "1005", "RECADV", RECEIPT),
+        status_of(ALPHA, *STATUS),
+        one(RETAILER, "14", "1007", "RECADV", CORRECTION),
+        status_of(ALPHA, *CORRECTED),
+        step(over("status", RETAILER, "--of", ALPHA), told(*CORRECTED, "end")),
+        mail(ALPHA, "after", 0, told(*entries, "end")),
+        mail(ALPHA, "item", 4, FOURTH_MAIL),
+        one(RETAILER, "14", "1007", "RECADV", CORRECTION, "repeated"),
+        one(RETAILER, "15", "1008", "RECADV", corrected("1008", "G4", TWELVE, function="9"), "refused B15"),
+        one(RETAILER, "16", "1009", "RECADV", corrected("1009", "G5", TWELVE, function="4"), "refused M03"),
+        status_of(ALPHA, *CORRECTED),
     )
 
 
@@ -427,7 +453,7 @@ def broken_output():
     )
 
 
-COMMANDS = [in_turn(), folder_in_order(), what_is_no_file(), cuts(), long_mailbox(), long_reply(), too_long(), kept_mode(), sums_of_pages(), two_suppliers(), denied(), *begins(), *foundings(), joined(), *refused_joins(), by_the_clock(), broken_output()]
+COMMANDS = [in_turn(), corrections(), folder_in_order(), what_is_no_file(), cuts(), long_mailbox(), long_reply(), too_long(), kept_mode(), sums_of_pages(), two_suppliers(), denied(), *begins(), *foundings(), joined(), *refused_joins(), by_the_clock(), broken_output()]
 
 
 def found(program, folder, text=TWO_SUPPLIERS):

@@ -28,7 +28,7 @@ CREATE TABLE remembered (supplier BLOB NOT NULL, side INTEGER NOT NULL, control 
 CREATE TABLE mail (supplier BLOB NOT NULL, number INTEGER NOT NULL, moment INTEGER NOT NULL, decimal INTEGER NOT NULL, kind INTEGER NOT NULL, document BLOB NOT NULL, body BLOB NOT NULL, taken INTEGER NOT NULL, PRIMARY KEY (supplier, number)) STRICT;
 """
 
-# Those of schema 2, as every file has them.
+# Those of schema 2 and 3, as every file has them.
 TABLES = OLD_TABLES + """
 CREATE TABLE hub (hub BLOB NOT NULL, retailer BLOB NOT NULL, "key" BLOB NOT NULL, PRIMARY KEY (hub)) STRICT;
 CREATE TABLE supplier (supplier BLOB NOT NULL, "key" BLOB NOT NULL, PRIMARY KEY (supplier)) STRICT;
@@ -37,7 +37,7 @@ CREATE TABLE prefix (prefix BLOB NOT NULL, supplier BLOB NOT NULL, PRIMARY KEY (
 
 # What stands in them of the register of two suppliers.
 REGISTERED = {
-    "schema": [(2,)],
+    "schema": [(3,)],
     "hub": [(HUB.encode(), RETAILER.encode(), KEYS[RETAILER].encode())],
     "supplier": [(it.encode(), KEYS[it].encode()) for it in (ALPHA, BETA)],
     "prefix": [(b"40123455", ALPHA.encode()), (b"8712345", BETA.encode())],
@@ -187,6 +187,7 @@ OTHERS = [
     ("a schema without its number", file_of(TABLES, ROWS, "DELETE FROM schema")),
     ("a schema with two numbers", file_of(TABLES, ROWS, "INSERT INTO schema VALUES (2)")),
     ("the tables of schema 1 and number 2", file_of(OLD_TABLES, {**OLD_ROWS, "schema": [(2,)]})),
+    ("the tables of schema 1 and number 3", file_of(OLD_TABLES, {**OLD_ROWS, "schema": [(3,)]})),
     ("the tables of schema 2 and number 1", file_of(TABLES, {**ROWS, "schema": [(1,)]})),
     ("no table of prefixes", file_of(TABLES, ROWS, "DROP TABLE prefix")),
     ("tables without that of the number", file_of(without("CREATE TABLE schema (number INTEGER NOT NULL) STRICT;"), {})),
@@ -240,7 +241,7 @@ SPOILED = [
     ("a quantity past its limit", "UPDATE line SET ordered = 1000000000", "status"),
     ("nothing ordered", "UPDATE line SET ordered = 0, open_qty = 0, refused = 0", "status"),
     ("line 0", "UPDATE line SET line = 0", "status"),
-    ("a pallet neither announced nor received", "UPDATE pallet SET received = 2", "status"),
+    ("a pallet neither announced nor received", "UPDATE pallet SET received = 3", "status"),
     ("a pallet with a wrong check digit", "UPDATE pallet SET sscc = CAST('340123455000000013' AS BLOB)", "status"),
     ("an advice number of 36 bytes", "UPDATE pallet SET advice = CAST('123456789012345678901234567890123456' AS BLOB)", "status"),
     ("a content of nothing", "UPDATE content SET quantity = 0", "status"),

@@ -35,6 +35,12 @@ def receipt(first=received(10, 1, 0)):
     return advice("receipt", "G1", [SSCC, first, received(3, 0, 0, "04000862141411")])
 
 
+def replacing():
+    """The same of an advice that takes the place of those before."""
+    lines = receipt()
+    return [*lines[:3], "replaces what was received", *lines[3:]]
+
+
 # What is told of either advice where it is edited: `ok` or a code, the place that the edit replaces, what then stands there.
 HEADERS = """\
 ok|UNH|UNH
@@ -54,7 +60,7 @@ M02|BGM+|BGM+0
 M02|1+9'|1é+9'
 ok|1+9'|~ ?+1:y+9:z+AB'
 M03|+9'|+4'
-M03|+9'|+5'
+M03|+9'|+6'
 M03|+9'|+27'
 M03|+9'|+29'
 M03|+9'|+09'
@@ -273,6 +279,7 @@ READ_SEVERAL = advice(
 DESPATCHES = """\
 M02|DESADV|RECADV
 M02|DESADV|ORDERS
+M03|+9'|+5'
 M02|DESADV|ORDRSP
 M01|DESADV|DESAD
 M02|BGM+351|BGM+632
@@ -540,6 +547,7 @@ ok|LIN+1++96385074:SRV'QTY+194:500000000'CPS+2'GIN+BJ+340123455000000029'CPS+3'G
 ALL_LINES = "LIN+1++4000862141404:SRV'QTY+194:10'QTY+195:1'LIN+2++4000862141411:SRV'QTY+194:3'"
 
 RECEIVED = [
+    told("a receiving advice that replaces", edited(RECEIPT, "+9'", "+5'"), replacing()),
     *(told(f"a receiving advice with {words} for {place}", edited(RECEIPT, place, words), receipt()) for place, words in RECEIPT_UNREAD),
     told("units and lines of a receiving advice stay in their order", RECEIPT_SEVERAL, RECEIPT_READ_SEVERAL),
     *edits(RECEIPT, rows(RECEIPTS)),

@@ -155,14 +155,6 @@ def old_file_of(count):
             return file.read()
 
 
-def with_file(top, data):
-    """A folder with a register, and this file."""
-    folder = bare_folder(top)
-    with open(os.path.join(folder, NAME), "wb") as file:
-        file.write(data)
-    return folder
-
-
 def migrations_killed(program, top):
     data = old_file_of(10_000)
     whole = with_file(top, data)

@@ -14,12 +14,14 @@ from hubs import ALPHA, BETA, KEYS, RETAILER
 from hubs import Play, advice, interchange, message, order, parties, response
 from registers import DELTA, GAMMA
 
-RUNS, INPUTS = 300, 30
+# inputs of all kinds, and then receipts, which come when there is something to be received
+RUNS, INPUTS, RECEIPTS = 300, 30, 10
+KINDS = ("order", "order", "answer", "despatch", "despatch", "receipt", "two")
 PREFIXES = {ALPHA: "40123455", BETA: "8712345", GAMMA: "7612345", DELTA: "3512345"}
 KEYS_OF_ALL = {**KEYS, GAMMA: "gamma-key-1", DELTA: "delta-key-1"}
 # whom the inputs are of: mostly suppliers of the register, and at times one that joins or does not
 SUPPLIERS = (ALPHA, ALPHA, ALPHA, BETA, BETA, BETA, GAMMA, DELTA)
-ITEM = "4000862141404"
+ITEM, SECOND_ITEM = "4000862141404", "4000862141411"
 
 
 def with_check_digit(digits):
@@ -38,9 +40,9 @@ def lines_of_answer(draw):
 
 
 def receipt_of(draw, supplier):
-    segments = [f"BGM+632+G{draw.randrange(9)}+9", "DTM+137:20250605:102", *parties(supplier)]
+    segments = [f"BGM+632+G{draw.randrange(9)}+{draw.choice('9955')}", "DTM+137:20250605:102", *parties(supplier)]
     for place in range(draw.choice((1, 1, 2))):
-        segments += [f"CPS+{place + 1}", f"GIN+BJ+{pallet(draw, supplier)}", f"LIN+1++{ITEM}:SRV", f"QTY+194:{draw.randrange(20)}"]
+        segments += [f"CPS+{place + 1}", f"GIN+BJ+{pallet(draw, supplier)}", f"LIN+1++{draw.choice((ITEM, SECOND_ITEM))}:SRV", f"QTY+194:{draw.randrange(20)}"]
     return message("RECADV:D:01B:UN:EAN005", 1, *segments)
 
 
@@ -49,11 +51,11 @@ def despatch_of(draw, supplier, number):
     return advice(f"DA{draw.randrange(6)}", *units, order=number, supplier=supplier)
 
 
-def upload_of(draw):
+def upload_of(draw, kinds=KINDS):
     """Who uploads, and what."""
     supplier, number = draw.choice(SUPPLIERS), f"{draw.randrange(4)}"
-    kind = draw.choice(("order", "order", "answer", "despatch", "despatch", "receipt", "two"))
-    reference = f"{kind[0]}{draw.randrange(12)}"
+    kind = draw.choice(kinds)
+    reference = f"{kind[0]}{draw.randrange(30)}"
     if kind == "answer":
         whole = draw.random() < 0.3
         text = response(f"R{reference}", draw.choice((27, 29)), order=number, supplier=supplier) if whole else response(f"R{reference}", 4, *lines_of_answer(draw), order=number, supplier=supplier)
@@ -93,6 +95,9 @@ def script_of(seed):
             ask(supplier, draw.choice(("after 0", "after 1", "item 1", "item 2", "taken 1", "taken 2")))
         else:
             ask(*draw.choice(((supplier, "status"), (RETAILER, f"status-of {supplier}"))))
+    for _ in range(RECEIPTS):
+        who, text = upload_of(draw, ["receipt"])
+        ask(who, "upload", text)
     for supplier in PREFIXES:
         ask(supplier, "status")
         ask(supplier, "after 0")
@@ -110,13 +115,16 @@ def answers(program, seed):
 def compared(program):
     with ThreadPoolExecutor(len(os.sched_getaffinity(0))) as pool:
         found = list(pool.map(lambda seed: answers(program, seed), range(RUNS)))
-    told, alone = Counter(), Counter()
+    told, alone, corrected = Counter(), Counter(), 0
     for seed, (three, unsound) in enumerate(found):
         if any(it.returncode or it.stdout != three[0].stdout for it in three) or unsound:
             return f"run {seed}: {unsound or [it.stdout[:200] for it in three]}"
         told.update(re.findall(rb"^\d \w+ (accepted|refused \w+|repeated)$", three[0].stdout, re.MULTILINE))
         alone.update(re.findall(rb"^(accepted|refused B\w+|repeated)$", three[0].stdout, re.MULTILINE))
-    print(f"{RUNS} made runs alike over lists, SQL and files: " + ", ".join(f"{count} {word.decode()}" for word, count in told.most_common()))
+        corrected += re.search(rb"^P \d{18} \d{14} C ", three[0].stdout, re.MULTILINE) is not None
+    print(f"{RUNS} made runs alike over lists, SQL and files: " + ", ".join(f"{count} {word.decode()}" for word, count in told.most_common()) + f"; {corrected} of them show a pallet that was counted again")
+    if corrected < 20:
+        return "too few of them correct a receipt"
     if told[b"accepted"] < 1000 or len(told) < 12:
         return "too few of them were accepted, or refused for too few causes"
     if not all(alone[word] for word in (b"accepted", b"refused B18", b"refused B19")):

@@ -1,6 +1,7 @@
-"""Cases of a database file of schema 1, which knew no register: no command opens it, and `edihub init` brings it to schema 2, with a register
-that fits to its rows. What it had stays."""
+"""Cases of database files of before. One of schema 1 knew no register: no command opens it, and `edihub init` brings it to the schema of today, with a
+register that fits to its rows. One of schema 2 is brought there by whichever command opens it. What a file had stays."""
 import os
+import shutil
 import sqlite3
 import subprocess
 import tempfile
@@ -8,11 +9,13 @@ import tempfile
 import files
 from case import SECONDS
 from commands import EACH, FIRST_TWO, REGISTER, cancelled, found, founding_killed, init, mail, one, over, rows_of_register, status_of, step, steps, told
+from corrections import CORRECTED, CORRECTION
 from files import NAME, OLD_ROWS, OLD_TABLES, REGISTERED, file_of, has_rows, is_still
 from hubs import ALPHA, BETA, DESPATCH, KEYS, OTHER_PALLET, PALLET, RECEIPT, RESPONSE, RETAILER, SECOND, STATUS, TWO_SUPPLIERS
 from hubs import despatch, interchange, line_status, order, response
 from envelopes import ORDERS
 from registers import GAMMA, register
+from stops import SHIM, WAYS
 
 KEPT = os.path.join(os.path.dirname(os.path.abspath(__file__)), "kept")
 FOUNDED, MISFIT, VERSION = told("ok 2 suppliers"), told("fault rows"), "store version\n"
@@ -75,7 +78,8 @@ def brought_over(name):
 
 
 def of_schema_2():
-    """A file of schema 2 as it was once written: each command opens it, and shows what it showed; of its rows none but the schema's number may change."""
+    """A file of schema 2 as it was once written: a command opens it, and shows what it showed; of its rows none but the schema's number changes. Its receipt
+    can then be corrected."""
     data, status = kept("schema2_received")
     rows = {**rows_of(data, files.ROWS), "schema": REGISTERED["schema"]}
     return steps(
@@ -86,7 +90,34 @@ def of_schema_2():
         one(RETAILER, "5", "1005", "RECADV", RECEIPT, "repeated"),
         mail(ALPHA, "after", 2, told("             3 RECADV G1", "end")),
         step(init(), "", 3, VERSION, after=has_rows(rows)),
+        one(RETAILER, "6", "1007", "RECADV", CORRECTION),
+        status_of(ALPHA, *CORRECTED),
     )
+
+
+def of_schema_2_by_each():
+    """Each command that opens it sets the number, whatever else it does."""
+    data, status = kept("schema2_received")
+    join = ("--supplier", GAMMA, "--supplier-key", "gamma-key-1", "--prefixes", "7612345")
+    firsts = {
+        "status": step(over("status", ALPHA), status),
+        "mail": mail(ALPHA, "after", 2, told("             3 RECADV G1", "end")),
+        "import": one(RETAILER, "5", "1005", "RECADV", RECEIPT, "repeated"),
+        "cancel": cancelled("C1", "10", "accepted"),
+        "join": step(over("join", RETAILER, *join), told("accepted")),
+    }
+    for first in firsts.values():
+        first.files[NAME], first.after = data, has_rows({"schema": REGISTERED["schema"]})
+    return [steps(f"{command} with a database file of schema 2", first) for command, first in firsts.items()]
+
+
+def of_schema_2_and_unclean():
+    """A file of schema 2 whose rows hold no register is refused before its number is set."""
+    unclean = file_of(files.TABLES, {**files.ROWS, "schema": [(2,)]}, "DELETE FROM hub")
+    return [
+        steps(f"{words[0]} with a file of schema 2 that holds no register", step(words, "", 3, "store unclean\n", {NAME: unclean}, is_still(unclean)))
+        for words in EACH
+    ]
 
 
 def works_on():
@@ -107,6 +138,8 @@ def works_on():
         step(over("status", GAMMA, key="gamma-key-1"), told("end")),
         cancelled("C1", "10", "accepted"),
         status_of(ALPHA, line_status("128576", "C", 48, 14, 12, 10, 12), *STATUS[1:]),
+        one(RETAILER, "7", "1007", "RECADV", CORRECTION),
+        status_of(ALPHA, line_status("128576", "C", 48, 14, 12, 10, 12), *CORRECTED[1:]),
     )
 
 
@@ -166,7 +199,7 @@ def bare():
     ]
 
 
-MIGRATIONS = [brought_over("schema1"), brought_over("schema1_received"), of_schema_2(), works_on(), *misfits(), *not_of_this_schema(), *bare()]
+MIGRATIONS = [brought_over("schema1"), brought_over("schema1_received"), of_schema_2(), *of_schema_2_by_each(), *of_schema_2_and_unclean(), works_on(), *misfits(), *not_of_this_schema(), *bare()]
 
 
 def as_if_founded(program):
@@ -227,7 +260,49 @@ def killed(program):
     return founding_killed(program, data, beside(rows_of(data)), status)
 
 
+def raised(program):
+    """What is wrong where a file of schema 2 is opened by a command that is killed at a change of it, if anything: it is of schema 2 or 3, and each
+    row else is as it was."""
+    data, status = kept("schema2_received")
+    rows = rows_of(data, files.ROWS)
+    before, after = ({**rows, "schema": [(number,)]} for number in (2, 3))
+    with tempfile.TemporaryDirectory() as top:
+        shim, count_file = os.path.join(top, "stop.so"), os.path.join(top, "count")
+        subprocess.run(["cc", "-O2", "-shared", "-fPIC", "-o", shim, SHIM, "-ldl"], check=True)
+
+        def ran(folder, **variables):
+            it = subprocess.run([program, *over("status", ALPHA)], cwd=folder, capture_output=True, env=variables, timeout=SECONDS)
+            return it.returncode, it.stdout, it.stderr
+
+        def tried(number, **way):
+            with tempfile.TemporaryDirectory(dir=top) as folder:
+                for name in (NAME, f"{NAME}.synced"):
+                    with open(os.path.join(folder, name), "wb") as file:
+                        file.write(data)
+                variables = {"LD_PRELOAD": shim, "STOP_FILE": os.path.join(folder, NAME), "STOP": str(number), "COUNT": count_file, **way}
+                first, whole = ran(folder, **variables), (0, status.encode(), b"")
+                if not number:
+                    return has_rows(after)(folder) if first == whole else f"whole: {first!r:.300}"
+                if first[0] != 9 or first[1] not in (b"", whole[1]):
+                    return f"killed at {number}: {first!r:.300}"
+                looked = shutil.copytree(folder, folder + "looked")
+                if has_rows(before)(looked) and has_rows(after)(looked):
+                    return f"killed at {number}: {has_rows(after)(looked)}"
+                again = ran(folder)
+                return has_rows(after)(folder) if again == whole else f"killed at {number}, then: {again!r:.300}"
+
+        why = tried(0)
+        with open(count_file, encoding="ascii") as file:
+            changes = int(file.read().split()[0])
+        for number, way in ((number, way) for way in WAYS.values() for number in range(1, changes + 1)):
+            why = why or tried(number, **way)
+        if not why:
+            print(f"a file of schema 2 opened by a command that is killed at {changes} of {changes} changes of it in {len(WAYS)} ways, and given again")
+        return why
+
+
 TRIALS = [
+    ("a file of schema 2 that is opened by a command that is killed", raised),
     ("a file that was brought over, and one that was founded", as_if_founded),
     ("two foundings of one file at once", two_at_once),
     ("a file that is brought over by a command that is killed and made again", killed),

@@ -1,5 +1,5 @@
 """`make test`: whether each public function has a wrong body (untried.py); the gate (rt ci), and what each crate took of the processors in it; and
-then, on the two programs that the gate built, the cases of cases.py, commands.py, hubs.py, files.py, connections.py, joins.py and migrations.py and the trials of
+then, on the two programs that the gate built, the cases of cases.py, commands.py, hubs.py, files.py, connections.py, joins.py, corrections.py and migrations.py and the trials of
 commands.py, migrations.py, told.py, serving.py, files.py, made.py, stops.py, machine.py and refusals.py. The last line is `N passed, M failed` over all.
 
 With `--alone`, all but the gate, on the programs that stand. With `--anew`, nothing that an earlier gate proved is taken over."""
@@ -13,6 +13,7 @@ import tempfile
 import cases
 import commands
 import connections
+import corrections
 import files
 import hubs
 import joins
@@ -36,7 +37,7 @@ def built(crate):
 
 
 # each program, and its cases
-PROGRAMS = [(built("edihub"), cases.CASES + commands.COMMANDS + migrations.MIGRATIONS), (built("hub_script"), hubs.HUBS + hubs.OVER_SQL + files.FILES + connections.CONNECTIONS + joins.JOINS)]
+PROGRAMS = [(built("edihub"), cases.CASES + commands.COMMANDS + migrations.MIGRATIONS), (built("hub_script"), hubs.HUBS + hubs.OVER_SQL + files.FILES + connections.CONNECTIONS + joins.JOINS + corrections.CORRECTIONS)]
 
 # what is tried on a program many times over: each says what is wrong, if anything
 TRIALS = [

@@ -56,3 +56,7 @@ edihub status $a
 edihub status $b
 edihub status $c
 edihub status $retailer --of 8712345000004
+
+echo "Friday: two pieces stood behind the pallet. The retailer corrects the receipt (function 5), and A sees the new count."
+edihub import $retailer --moment 1749196800 --folder 8-correction
+edihub status $a

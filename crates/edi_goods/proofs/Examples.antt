@@ -1,8 +1,9 @@
 -- The definitions at small messages.
-use Rattle.std.proofs.Common.{◌≡◌, ℕ, List, [], ◌∷◌, Some, None, Ok, Err, codes, refl}
+use Rattle.std.proofs.Common.{◌≡◌, ℕ, Bool, true, false, List, [], ◌∷◌, Some, None, Ok, Err, codes, refl}
 use Rattle.edi_segments.specs.declared.segment.Segment.{Segment}
 use Rattle.edi_envelope.specs.declared.interchange.RawMessage.{RawMessage}
-use Rattle.edi_messages.specs.declared.fault.MessageFault.TheVariants.{Quantity, Reference, Unit, NoLine}
+use Rattle.edi_messages.specs.declared.fault.MessageFault.TheVariants.{Function, Quantity, Reference, Unit, NoLine}
+use Rattle.edi_goods.specs.declared.receipt.Receipt.{Receipt}
 use Rattle.edi_goods.specs.Despatch.{despatch_of}
 use Rattle.edi_goods.specs.Receipt.{receipt_of}
 
@@ -182,6 +183,7 @@ a_receipt : receipt_of (receipt (lin (codes "1") article
       number = codes "G1";
       buyer = Some (codes "5412345000013");
       supplier = codes "4012345500004";
+      replaces = false;
       units = record {
         sscc = first;
         lines = record { gtin = codes "04000862141404"; accepted = 10; returned = 1; destroyed = 0 }
@@ -192,6 +194,37 @@ a_receipt : receipt_of (receipt (lin (codes "1") article
     })
 unfolding receipt_of
 a_receipt = refl
+
+-- the same unit by an advice with another function
+abbrev with_function : List ℕ → RawMessage
+with_function code = message (codes "RECADV") (unh
+    ∷ segment (codes "BGM") (one (codes "632") ∷ one (codes "G3") ∷ one code ∷ [])
+    ∷ dtm ∷ buyer ∷ supplier ∷ cps ∷ gin first ∷ lin (codes "1") article ∷ qty (codes "194") (codes "12") ∷ unt ∷ [])
+
+abbrev replacing : Bool → Receipt
+replacing replaces = record {
+  number = codes "G3";
+  buyer = Some (codes "5412345000013");
+  supplier = codes "4012345500004";
+  replaces = replaces;
+  units = record {
+    sscc = first;
+    lines = record { gtin = codes "04000862141404"; accepted = 12; returned = 0; destroyed = 0 } ∷ [];
+  }
+      ∷ [];
+}
+
+an_original : receipt_of (with_function (codes "9")) ≡ Ok (replacing false)
+unfolding receipt_of
+an_original = refl
+
+one_that_replaces : receipt_of (with_function (codes "5")) ≡ Ok (replacing true)
+unfolding receipt_of
+one_that_replaces = refl
+
+another_function : receipt_of (with_function (codes "4")) ≡ Err Function
+unfolding receipt_of
+another_function = refl
 
 great_sum : receipt_of (receipt (lin (codes "1") article
     ∷ qty (codes "194") (codes "500000000")

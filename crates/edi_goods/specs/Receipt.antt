@@ -74,11 +74,18 @@ has_sums lines = sums_within (amounts Accepted lines) && sums_within (amounts Re
 abbrev pub has_quantities : List Segment → Bool
 has_quantities unit = list_all is_received (line_groups unit) && has_sums (lines_in_unit unit)
 
+-- the function of an advice (BGM 1225): 9, an original, or 5, which replaces what was received
+abbrev pub replaces : List Segment → Bool
+replaces message = bytes_eq (function message) (codes "5")
+
+abbrev pub has_function : List Segment → Bool
+has_function message = bytes_eq (function message) (codes "9") || replaces message
+
 -- Each condition, of the whole message. Each is defined also where another one holds.
 abbrev pub holds : MessageFault → RawMessage → Bool
 holds MessageType m = not (is_type (codes "RECADV") m)
 holds Beginning m = not (begins_as (codes "632") m.segments)
-holds Function m = not (bytes_eq (function m.segments) (codes "9"))
+holds Function m = not (has_function m.segments)
 holds Date m = not (has_date m.segments)
 holds Parties m = not (has_parties m.segments)
 holds Summary m = false
@@ -111,6 +118,7 @@ contents_of message = record {
   number = document_number message;
   buyer = buyer message;
   supplier = unwrap_or (party (codes "SU") message) [];
+  replaces = replaces message;
   units = map unit_from (read_units message);
 }
 

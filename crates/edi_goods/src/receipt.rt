@@ -16,7 +16,7 @@ use edi_envelope::RawMessage;
 use edi_messages::MessageFault;
 use edi_messages::header::{begins_as, document_number, function, has_date, is_type};
 use edi_messages::summary::{is_controlled, line_count};
-use edi_tokens::Items;
+use edi_tokens::{Items, Segment};
 use gs1_ids::{Gln, Gtin, Sscc};
 use std::alloc::Global;
 
@@ -29,6 +29,8 @@ pub struct Receipt {
     pub buyer: Option<Gln>,
     /// The supplier (NAD SU).
     pub supplier: Gln,
+    /// Whether it takes the place of what was received of its units (BGM 1225 5), or is an original (9).
+    pub replaces: bool,
     /// The units that have lines, in their order.
     pub units: Items<ReceiptUnit>,
 }
@@ -78,6 +80,20 @@ fn units_of(
     Ok(read)
 }
 
+// Whether the advice takes the place of what was received.
+fn replaces(message: &[Segment]) -> bool
+    ensures { result ≡ spec.replaces message.now }
+{
+    function(message) == b"5".as_slice()
+}
+
+// Whether its function is one that a receiving advice has.
+fn has_function(message: &[Segment]) -> bool
+    ensures { result ≡ spec.has_function message.now }
+{
+    function(message) == b"9".as_slice() || replaces(message)
+}
+
 // The parties, or the lowest fault of what stands before the lines.
 fn read_heading(message: &RawMessage) -> Result<Parties, MessageFault>
     ensures said { IfOk result (λ parties. (parties.buyer ≡ buyer message.now.segments)
@@ -92,7 +108,7 @@ fn read_heading(message: &RawMessage) -> Result<Parties, MessageFault>
     if !begins_as(b"632", segments) {
         return Err(MessageFault::Beginning);
     }
-    if function(segments) != b"9".as_slice() {
+    if !has_function(segments) {
         return Err(MessageFault::Function);
     }
     if !has_date(segments) {
@@ -141,7 +157,7 @@ fn read_received(alloc: Global, message: &RawMessage) -> Result<Items<ReceiptUni
 }
 
 impl Receipt {
-    /// The receiving advice that a message is: RECADV of the directory D.01B with BGM 1001 632 and 1225 9, one document
+    /// The receiving advice that a message is: RECADV of the directory D.01B with BGM 1001 632 and 1225 9 or 5, one document
     /// date, one supplier and at most one buyer, and units with lines, each unit with an identifier and an SSCC of its own,
     /// each line with an article and at least one of the quantities 194, 195 and 196, none twice. Else the lowest fault of the
     /// message, wherever in it that stands.
@@ -159,6 +175,7 @@ impl Receipt {
             number,
             buyer: parties.buyer,
             supplier: parties.supplier,
+            replaces: replaces(message.segments.as_slice()),
             units,
         })
     }

@@ -1,9 +1,10 @@
 -- The conditions of a receiving advice, and the advice that is read, are those that the relations say.
-use Rattle.std.proofs.Common.{◌≡◌, ℕ, ◌<◌, Bool, true, ◌&&◌, ◌||◌, List, [], ◌∷◌, map, Option, Ok, Err, refl, sym, ap, subst, ◌∙◌, arith}
+use Rattle.std.proofs.Common.{◌≡◌, ◌⊎◌, inl, inr, ℕ, ◌<◌, Bool, true, false, ◌&&◌, ◌||◌, List, [], ◌∷◌, map, Option, Ok, Err, refl, sym, ap, subst, ◌∙◌, arith}
 use Rattle.std.specs.Prelude.{◌↔◌, codes, is_some, unwrap_or, Decides}
 use Rattle.std.specs.List.{list_all, AllByRecursion, AllZip}
 use Rattle.std.proofs.lemmas.Bool.{and_parts, and_from}
-use Rattle.std.proofs.lemmas.Bool.Decides.{Decides-and}
+use Rattle.std.proofs.lemmas.Bool.Decides.{Decides-and, Decides-or}
+use Rattle.std.specs.Str.{bytes_eq}
 use Rattle.edi_segments.specs.declared.segment.Segment.{Segment}
 use Rattle.edi_envelope.specs.declared.interchange.RawMessage.{RawMessage}
 use Rattle.edi_messages.specs.Header.{party}
@@ -13,21 +14,22 @@ use Rattle.edi_messages.specs.declared.fault.MessageFault.{MessageFault}
 use Rattle.edi_messages.specs.declared.fault.MessageFault.TheVariants as faults
 use Rattle.edi_goods.specs.Parties.{buyer}
 use Rattle.edi_goods.specs.Receipt.{accepted, returned, destroyed, is_once_or_none, is_received, line_of, lines_in_unit}
-use Rattle.edi_goods.specs.Receipt.{has_sums, has_quantities, holds, unit_from, contents_of, receipt_of}
+use Rattle.edi_goods.specs.Receipt.{has_function, replaces, has_sums, has_quantities, holds, unit_from, contents_of, receipt_of}
 use Rattle.edi_goods.specs.Units.{read_units}
 use Rattle.edi_goods.specs.declared.receipt.Receipt.{Receipt}
 use Rattle.edi_goods.specs.declared.receipt.ReceiptLine.{ReceiptLine}
 use Rattle.edi_goods.specs.declared.receipt.ReceiptUnit.{ReceiptUnit}
-use Rattle.edi_law.specs.Header.{NamesParty}
+use Rattle.edi_law.specs.Header.{HasFunction, NamesParty}
 use Rattle.edi_law.specs.Lines.{IsLine, IsAmount}
 use Rattle.edi_law.specs.Lowest.{number, IsLowest, IsFaultless}
 use Rattle.edi_law.specs.Parts.{OfLines}
-use Rattle.edi_law.specs.Receipt.{HasKind, HasReceived, IsReceiptLine, AreWithin, AreReceived, IsRight, IsReceiptUnit, IsReceipt}
+use Rattle.edi_law.specs.Receipt.{HasFunctionOf, HasKind, HasReceived, IsReceiptLine, AreWithin, AreReceived, IsRight, IsReceiptUnit, IsReceipt}
 use Rattle.edi_law.specs.Segments.{says}
 use Rattle.edi_law.specs.Units.{OfUnits, AreLines, HasSscc, IsUnit, AreMarked}
 use Rattle.edi_law.proofs.Deciding.{Refutes, Refutes-not, Refutes-false, said_of, unwrap_of}
 use Rattle.edi_law.proofs.GoodsLemmas.{Decides-parties, buyer-from_NamesBuyer, NamesBuyer-buyer, zip_is}
 use Rattle.edi_law.proofs.HeaderLemmas.{Decides-type, Decides-begins, Decides-function, Decides-dated, Decides-party}
+use Rattle.edi_law.proofs.HeaderLemmas.{function-from_HasFunction}
 use Rattle.edi_law.proofs.HeaderLemmas.{Says-party, HasBeginning-begins_as, begins_as-from_HasBeginning, document_number-from_HasBeginning}
 use Rattle.edi_law.proofs.LineLemmas.{article-from_IsLine, Says-amount}
 use Rattle.edi_law.proofs.LowestLemmas.{judged_fault, judged_content}
@@ -37,6 +39,27 @@ use Rattle.edi_law.proofs.SumLemmas.{Decides-within}
 use Rattle.edi_law.proofs.SummaryLemmas.{Decides-controlled, Refutes-no_line}
 use Rattle.edi_law.proofs.UnitLemmas.{Decides-each_line, Decides-has_units, of_units, AreReadUnits-read_units}
 use Rattle.edi_law.proofs.UnitLemmas.{read_units-from_AreReadUnits, sscc-from_HasSscc}
+
+-- the function
+Decides-has_function : (message : List Segment)
+    → Decides (has_function message) ((replaces : Bool) × HasFunctionOf replaces message)
+Decides-has_function message =
+    let either = Decides-or _ _ (Decides-function message (codes "9") (λ e. cc)) (Decides-function message (codes "5") (λ e. cc)) in (
+      (λ e. elim (either.0 e) [ inl nine ↦ (false, nine) | inr five ↦ (true, five) ]),
+      (λ h. either.1 (either_of h.0 h.1)),
+    )
+  where
+    either_of : (replaces : Bool) → HasFunctionOf replaces message
+        → HasFunction message (codes "9") ⊎ HasFunction message (codes "5")
+    either_of false nine = inl nine
+    either_of true five = inr five
+
+replaces_is : (message : List Segment) (said : Bool) → HasFunctionOf said message → replaces message ≡ said
+replaces_is message false nine = ap (λ code. bytes_eq code (codes "5")) (function-from_HasFunction message (codes "9") nine)
+replaces_is message true five = (Decides-function message (codes "5") (λ e. cc)).1 five
+
+replaces_there : (message : List Segment) → (said : Bool) × HasFunctionOf said message → HasFunctionOf (replaces message) message
+replaces_there message (said, h) = subst (λ said. HasFunctionOf said message) (sym (replaces_is message said h)) h
 
 -- the quantities of a group
 module _ (kind : List ℕ) (group : List Segment) where
@@ -174,7 +197,7 @@ refutes : (m : RawMessage) (fault : MessageFault)
     → Refutes (holds fault m) (IsRight m fault)
 refutes m faults.MessageType lower = Refutes-not _ (Decides-type (codes "RECADV") m)
 refutes m faults.Beginning lower = Refutes-not _ (Decides-begins (codes "632") m.segments)
-refutes m faults.Function lower = Refutes-not _ (Decides-function m.segments (codes "9") (λ e. cc))
+refutes m faults.Function lower = Refutes-not _ (Decides-has_function m.segments)
 refutes m faults.Date lower = Refutes-not _ (Decides-dated m.segments)
 refutes m faults.Parties lower = Refutes-not _ (Decides-parties m.segments)
 refutes m faults.Summary lower = Refutes-false
@@ -238,6 +261,7 @@ contents_there m right =
       supplier_is =
           said_of (party (codes "SU") message) (NamesParty (codes "SU") message) [] (Says-party (codes "SU") message)
           ((Decides-party (codes "SU") message).1 parties.1);
+      replaces_is = replaces_there message (right faults.Function);
       units_are = record {
         units = read_units message;
         are_units = AreReadUnits-read_units message;
@@ -247,8 +271,9 @@ contents_there m right =
       };
     }
 
-abbrev receipt_from : List ℕ → Option (List ℕ) → List ℕ → List ReceiptUnit → Receipt
-receipt_from number_ buyer_ supplier units = record { number = number_; buyer = buyer_; supplier = supplier; units = units }
+abbrev receipt_from : List ℕ → Option (List ℕ) → List ℕ → Bool → List ReceiptUnit → Receipt
+receipt_from number_ buyer_ supplier said units =
+    record { number = number_; buyer = buyer_; supplier = supplier; replaces = said; units = units }
 
 contents_are : (message : List Segment) (receipt : Receipt) → IsReceipt message receipt → contents_of message ≡ receipt
 contents_are message receipt h =
@@ -257,10 +282,12 @@ contents_are message receipt h =
     let given = h.units_are in
     let supplier = unwrap_of (party (codes "SU") message) (NamesParty (codes "SU") message) [] receipt.supplier
     (Says-party (codes "SU") message) h.supplier_is in
-    ap (λ n. receipt_from n (buyer message) su units) (document_number-from_HasBeginning (codes "632") message receipt.number h.number_is)
-    ∙ ap (λ b. receipt_from receipt.number b su units) (buyer-from_NamesBuyer message receipt.buyer h.buyer_is)
-    ∙ ap (λ s. receipt_from receipt.number receipt.buyer s units) (sym supplier)
-    ∙ ap (λ us. receipt_from receipt.number receipt.buyer receipt.supplier us)
+    ap (λ n. receipt_from n (buyer message) su (replaces message) units) (document_number-from_HasBeginning (codes "632") message receipt.number h.number_is)
+    ∙ ap (λ b. receipt_from receipt.number b su (replaces message) units) (buyer-from_NamesBuyer message receipt.buyer h.buyer_is)
+    ∙ ap (λ s. receipt_from receipt.number receipt.buyer s (replaces message) units) (sym supplier)
+    ∙ ap (λ said. receipt_from receipt.number receipt.buyer receipt.supplier said units)
+    (replaces_is message receipt.replaces h.replaces_is)
+    ∙ ap (λ us. receipt_from receipt.number receipt.buyer receipt.supplier receipt.replaces us)
     (ap (map unit_from) (read_units-from_AreReadUnits given.units message given.are_units)
     ∙ zip_is unit_from IsReceiptUnit unit_is given.units receipt.units given.are)
 

@@ -1,5 +1,5 @@
 -- What is valid in a receiving advice (RECADV) under the number of each fault, and what an advice says.
-use Rattle.std.specs.Prelude.{◌≡◌, ◌≤◌, ◌||◌, ⊤, ℕ, true, List, filter, sum_by, is_some, unwrap_or, codes, Option}
+use Rattle.std.specs.Prelude.{◌≡◌, ◌≤◌, ◌||◌, ⊤, ℕ, Bool, true, false, List, filter, sum_by, is_some, unwrap_or, codes, Option}
 use Rattle.std.specs.List.{AllByRecursion, AllZip}
 use Rattle.std.specs.Str.{bytes_eq}
 use Rattle.edi_segments.specs.declared.segment.Segment.{Segment}
@@ -58,10 +58,15 @@ pub record AreReceived (groups : List (List Segment)) : Type 0 where
   pub lines_are : AllZip IsReceiptLine groups lines
   pub within : AreWithin lines
 
+-- the function of an advice: an original, or one that replaces
+abbrev pub HasFunctionOf : Bool → List Segment → Type 0
+HasFunctionOf false message = HasFunction message (codes "9")
+HasFunctionOf true message = HasFunction message (codes "5")
+
 abbrev pub IsRight : RawMessage → MessageFault → Type 0
 IsRight m MessageType = IsOfType (codes "RECADV") m
 IsRight m Beginning = (number : List ℕ) × HasBeginning (codes "632") m.segments number
-IsRight m Function = HasFunction m.segments (codes "9")
+IsRight m Function = (replaces : Bool) × HasFunctionOf replaces m.segments
 IsRight m Date = IsDated m.segments
 IsRight m Parties = ((buyer : Option (List ℕ)) × NamesBuyer m.segments buyer)
     × ((supplier : List ℕ) × NamesParty (codes "SU") m.segments supplier)
@@ -84,4 +89,5 @@ pub record IsReceipt (message : List Segment) (receipt : Receipt) : Type 0 where
   pub number_is : HasBeginning (codes "632") message receipt.number
   pub buyer_is : NamesBuyer message receipt.buyer
   pub supplier_is : NamesParty (codes "SU") message receipt.supplier
+  pub replaces_is : HasFunctionOf receipt.replaces message
   pub units_are : OfUnits (λ units. AllZip IsReceiptUnit units receipt.units) message

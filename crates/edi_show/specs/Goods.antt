@@ -1,5 +1,5 @@
 -- The lines of despatch advices and receiving advices.
-use Rattle.std.specs.Prelude.{ℕ, List, ◌++◌, codes}
+use Rattle.std.specs.Prelude.{ℕ, Bool, true, false, List, [], ◌++◌, codes}
 use Rattle.std.specs.List.{flat_map}
 use Rattle.std.specs.Fmt.{decimal}
 use Rattle.edi_goods.specs.declared.despatch.Despatch.{Despatch}
@@ -37,7 +37,12 @@ receipt_line l =
 unfoldable pub receipt_unit_lines : ReceiptUnit → List ℕ
 receipt_unit_lines unit = line (codes "  unit ") unit.sscc ++ flat_map receipt_line unit.lines
 
+-- of an advice that takes the place of what was received
+abbrev pub function_text : Bool → List ℕ
+function_text true = codes "  replaces what was received\n"
+function_text false = []
+
 unfoldable pub receipt_lines : Receipt → List ℕ
 receipt_lines receipt =
     head_lines (codes "  receipt ") receipt.number (buyer_text receipt.buyer) receipt.supplier
-    ++ flat_map receipt_unit_lines receipt.units
+    ++ (function_text receipt.replaces ++ flat_map receipt_unit_lines receipt.units)

@@ -133,6 +133,16 @@ fn put_receipt_units(
     Ok(())
 }
 
+// Appends that an advice takes the place of what was received, where it does.
+fn put_function(out: &mut Vec<u8>, replaces: bool) -> Result<(), MemoryFault>
+    ensures { OnOk result (out.new.items ≡ out.old.items ++ spec.function_text replaces) }
+{
+    if replaces {
+        out.extend_from_slice(b"  replaces what was received\n")?;
+    }
+    Ok(())
+}
+
 /// Appends what a receiving advice says.
 #[tactic(auto, unfolding(crate::specs::Goods::receipt_lines))]
 pub(crate) fn put_receipt(
@@ -145,6 +155,7 @@ pub(crate) fn put_receipt(
     let number = receipt.number.as_slice();
     let buyer = buyer_text(&receipt.buyer);
     put_head(out, b"  receipt ", number, buyer, &receipt.supplier)?;
+    put_function(out, receipt.replaces)?;
     put_receipt_units(alloc, out, receipt.units.as_slice())?;
     Ok(())
 }

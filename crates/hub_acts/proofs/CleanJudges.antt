@@ -1,6 +1,6 @@
 -- Of messages within their limits the rules accept changes of rows of the kinds alone.
-use Rattle.std.proofs.Common.{◌≡◌, ℕ, ◌+◌, ◌-◌, ◌≤◌, nat_lt, nat_le, Bool, true, false, cond, not, ◌||◌, ◌⊎◌, inl, inr}
-use Rattle.std.proofs.Common.{List, [], ◌∷◌, map, length, Option, Some, None, refl, arith}
+use Rattle.std.proofs.Common.{◌≡◌, ℕ, ◌+◌, ◌-◌, ◌≤◌, nat_lt, nat_le, Bool, true, false, cond, not, ◌&&◌, ◌||◌, ◌⊎◌, inl}
+use Rattle.std.proofs.Common.{inr, List, [], ◌∷◌, ◌++◌, map, length, Option, Some, None, refl, arith}
 use Rattle.std.specs.List.{AllByRecursion}
 use Rattle.std.proofs.lemmas.Bool.{and_parts, or_parts}
 use Rattle.std.proofs.lemmas.Bool.Decides.{nat_tests}
@@ -32,7 +32,7 @@ use Rattle.hub_tables.specs.State.{knows_order, knows_advice, lines_of, line_of,
 use Rattle.hub_tables.specs.State.{is_announced, remembered_of}
 use Rattle.hub_tables.specs.Tables.{Tables, has_pallet}
 use Rattle.hub_tables.specs.declared.cases.Answered.TheVariants as answers
-use Rattle.hub_tables.specs.declared.cases.Arrival.TheVariants.{Announced, Received}
+use Rattle.hub_tables.specs.declared.cases.Arrival.TheVariants.{Announced}
 use Rattle.hub_tables.specs.declared.cases.MailKind.{MailKind}
 use Rattle.hub_tables.specs.declared.cases.MailKind.TheVariants as kinds
 use Rattle.hub_tables.specs.declared.cases.Side.{Side}
@@ -52,7 +52,7 @@ use Rattle.hub_rules.specs.Judging.{Judge, gives, in_turn, in_order}
 use Rattle.hub_rules.specs.MailboxRules.{is_full, new_mail}
 use Rattle.hub_rules.specs.OrderRules.{new_line, judge_new_order}
 use Rattle.hub_rules.specs.PartyRules.{is_other_buyer}
-use Rattle.hub_rules.specs.ReceiptRules.{gtins, total, new_receipt, judge_received, judge_new_receipt}
+use Rattle.hub_rules.specs.ReceiptRules.{gtins, total, new_receipt, arrival_by, cleared, judge_received, judge_new_receipt}
 use Rattle.hub_rules.specs.RepeatRules.{Reference, remembered, once, judge_once}
 use Rattle.hub_rules.specs.ResponseRules.{answered, is_out_of_range, judge_answer, waiting, is_empty, judge_all}
 use Rattle.hub_rules.specs.ResponseRules.{judge_answers, judge_new_response}
@@ -427,34 +427,43 @@ module _ (unit : ReceiptUnit) (within : WithinReceiptUnit unit) where
       (λ line. line.destroyed) line.gtin unit.lines) greatest fine.destroyed))))
 
   clean_arrived : (pallet : PalletRow) → clean_pallet pallet ≡ true →
-      clean_pallet (record pallet { received = arrival_number Received }) ≡ true
-  clean_arrived pallet clean =
+      (replaces : Bool) → clean_pallet (record pallet { received = arrival_number (arrival_by replaces) }) ≡ true
+  clean_arrived pallet clean replaces =
       let a = and_parts (is_key 18 pallet.sscc) _ clean in
       let b = and_parts (is_gln pallet.supplier) _ a.1 in
       let c = and_parts (is_number pallet.advice) (is_arrival pallet.received) b.1 in
-      both_true a.0 (both_true b.0 (both_true c.0 refl))
+      both_true a.0 (both_true b.0 (both_true c.0 (arrived replaces)))
+    where
+      arrived : (replaces : Bool) → is_arrival (arrival_number (arrival_by replaces)) ≡ true
+      arrived true = refl
+      arrived false = refl
 
-  cleans_received : Cleans (judge_received unit)
-  cleans_received state changes rows h =
+  clean_cleared : (replaces : Bool) (later : List Change) → Clean later → Clean (cleared replaces unit.sscc ++ later)
+  clean_cleared true later clean = (tt, clean)
+  clean_cleared false later clean = clean
+
+  cleans_received : (replaces : Bool) → Cleans (judge_received replaces unit)
+  cleans_received replaces state changes rows h =
       let found = was_given (pallet_of state unit.sscc) codes.NoPallet _ changes h in
       let pallet = found.0 in
-      let a = not_refused (not (is_announced pallet)) codes.PalletReceived _ changes found.2 in
+      let a = not_refused (not replaces && not (is_announced pallet)) codes.PalletReceived _ changes found.2 in
       let clean = (all_found (λ pallet. clean_pallet pallet ≡ true)
       (λ pallet. same pallet.sscc unit.sscc) state.pallets pallet rows.pallets found.1).0 in
       let items = all_weaker (WithinReceiptLine unit.lines) (λ line. CleanChange
       (new_receipt unit.sscc unit.lines line.gtin)) clean_item unit.lines within.lines in
-      accepted (SetPallet (record pallet { received = arrival_number Received }) ∷ map
+      accepted (SetPallet (record pallet { received = arrival_number (arrival_by replaces) }) ∷ cleared replaces unit.sscc ++ map
       (new_receipt unit.sscc unit.lines)
       (gtins unit.lines)) changes a.1 (
-        clean_arrived pallet clean,
-        clean_receipts (gtins unit.lines) (all_gtins (λ gtin. CleanChange
-            (new_receipt unit.sscc unit.lines gtin)) unit.lines items),
+        clean_arrived pallet clean replaces,
+        clean_cleared replaces (map (new_receipt unit.sscc unit.lines) (gtins unit.lines))
+            (clean_receipts (gtins unit.lines) (all_gtins (λ gtin. CleanChange
+            (new_receipt unit.sscc unit.lines gtin)) unit.lines items)),
       )
 
-every_receipt : (units : List ReceiptUnit) → AllByRecursion WithinReceiptUnit units →
-    AllByRecursion (λ unit. Cleans (judge_received unit)) units
-every_receipt [] all = tt
-every_receipt (unit ∷ units) all = (cleans_received unit all.0, every_receipt units all.1)
+every_receipt : (replaces : Bool) (units : List ReceiptUnit) → AllByRecursion WithinReceiptUnit units →
+    AllByRecursion (λ unit. Cleans (judge_received replaces unit)) units
+every_receipt replaces [] all = tt
+every_receipt replaces (unit ∷ units) all = (cleans_received unit all.0 replaces, every_receipt replaces units all.1)
 
 module _ (s : SupplierRow) (gln : is_gln s.gln ≡ true) where
   cleans_new_receipt : (incoming : IncomingMessage) (body : List ℕ) (receipt : Receipt) → WithinIncoming incoming →
@@ -462,9 +471,9 @@ module _ (s : SupplierRow) (gln : is_gln s.gln ≡ true) where
   cleans_new_receipt incoming body receipt within bytes fine state changes rows h =
       let a = not_refused (is_full (length state.mail)) codes.MailboxFull _ changes h in
       cleans_rest (new_mail s.gln state incoming kinds.Receipt receipt.number body ∷ [])
-      (in_order judge_received receipt.units) state changes rows
+      (in_order (judge_received receipt.replaces) receipt.units) state changes rows
       (clean_new_mail s gln state incoming kinds.Receipt receipt.number body within a.0 fine.number bytes, tt)
-      (cleans_in_order judge_received receipt.units (every_receipt receipt.units fine.units)) a.1
+      (cleans_in_order (judge_received receipt.replaces) receipt.units (every_receipt receipt.replaces receipt.units fine.units)) a.1
 
   pub cleans_receipt : (retailer : List ℕ) (incoming : IncomingMessage) (body : List ℕ) (receipt : Receipt)
       → WithinIncoming incoming →

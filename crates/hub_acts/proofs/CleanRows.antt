@@ -1,5 +1,6 @@
 -- Changes of rows of the kinds leave tables of such rows.
-use Rattle.std.proofs.Common.{◌≡◌, ℕ, Bool, true, ◌&&◌, List, [], ◌∷◌, refl, ap, ◌∙◌}
+use Rattle.std.proofs.Common.{◌≡◌, ℕ, Bool, true, not, ◌&&◌, List, [], ◌∷◌, refl, ap, ◌∙◌}
+use Rattle.std.specs.Bool.{⊤}
 use Rattle.std.specs.List.{AllByRecursion, list_all}
 use Rattle.std.proofs.lemmas.Bool.{and_parts}
 use Rattle.hub_tables.specs.Change.{apply, apply_all}
@@ -10,7 +11,7 @@ use Rattle.hub_tables.specs.Tables.{Tables, view, holds}
 use Rattle.hub_tables.specs.declared.change.Change.{Change}
 use Rattle.hub_tables.specs.declared.change.Change.TheVariants.{AddHub, AddKey, AddPrefix}
 use Rattle.hub_tables.specs.declared.change.Change.TheVariants.{AddOrder, AddLine, SetLine, AddAdvice, AddPallet}
-use Rattle.hub_tables.specs.declared.change.Change.TheVariants.{SetPallet, AddContent, AddReceipt, Remember, AddMail}
+use Rattle.hub_tables.specs.declared.change.Change.TheVariants.{SetPallet, AddContent, AddReceipt, ClearReceipts, Remember, AddMail}
 use Rattle.hub_tables.specs.declared.change.Change.TheVariants.{SetMail}
 use Rattle.hub_tables.proofs.KeyOrder.{all_put}
 use Rattle.hub_tables.proofs.Lists.{all_filter, all_replace}
@@ -106,6 +107,7 @@ CleanChange (AddPallet row) = clean_pallet row ≡ true
 CleanChange (SetPallet row) = clean_pallet row ≡ true
 CleanChange (AddContent row) = clean_content row ≡ true
 CleanChange (AddReceipt row) = clean_receipt row ≡ true
+CleanChange (ClearReceipts sscc) = ⊤
 CleanChange (Remember row) = clean_remembered row ≡ true
 CleanChange (AddMail row) = clean_mail row ≡ true
 CleanChange (SetMail row) = clean_mail row ≡ true
@@ -251,6 +253,19 @@ clean_after (AddReceipt row) t c h = record {
   pallets = h.pallets;
   contents = h.contents;
   receipts = all_put receipt_cmp _ t.receipts row h.receipts c;
+  remembered = h.remembered;
+  mail = h.mail;
+}
+clean_after (ClearReceipts sscc) t c h = record {
+  hubs = h.hubs;
+  keys = h.keys;
+  prefixes = h.prefixes;
+  orders = h.orders;
+  lines = h.lines;
+  advices = h.advices;
+  pallets = h.pallets;
+  contents = h.contents;
+  receipts = all_filter _ (λ row. not (same row.sscc sscc)) t.receipts h.receipts;
   remembered = h.remembered;
   mail = h.mail;
 }

@@ -3,7 +3,7 @@ use Rattle.std.proofs.Common.{◌≡◌, inl, inr, ℕ, Bool, true, false, cond,
 use Rattle.std.proofs.Common.{◌≢◌, ◌&&◌, refl, sym, ap, subst, ◌∙◌}
 use Rattle.std.proofs.lemmas.Bool.{and_parts}
 use Rattle.std.specs.Option.{IfSome}
-use Rattle.std.specs.List.{list_any}
+use Rattle.std.specs.List.{AllByRecursion, list_any}
 use Rattle.std.specs.Ordering.{is_gt, is_eq, match_ordering, ordering_reverse}
 use Rattle.std.specs.declared.cmp.Ordering.TheVariants.{Less, Equal, Greater}
 use Rattle.std.proofs.lemmas.Bool.{or_parts}
@@ -16,10 +16,11 @@ use Rattle.hub_parties.specs.declared.row.SupplierRow.{SupplierRow}
 use Rattle.hub_register.specs.InOrder.{put}
 use Rattle.hub_register.specs.Joined.{joined_by, without, left_by}
 use Rattle.hub_tables.specs.Change.{apply_all}
-use Rattle.hub_tables.specs.Register.{register_of, register_by, hub_in, supplier_cmp, row_changes, founded}
+use Rattle.hub_tables.specs.Register.{register_of, register_by, hub_in, supplier_cmp, prefix_changes, row_changes, founded}
 use Rattle.hub_tables.specs.Rows.{same}
 use Rattle.hub_tables.specs.Tables.{Tables}
 use Rattle.hub_tables.specs.declared.change.Change.{Change}
+use Rattle.hub_tables.proofs.Back.{fit_uncleared}
 use Rattle.hub_tables.proofs.Founding.{register_back}
 use Rattle.hub_tables.proofs.Enrolling.{find_past}
 use Rattle.hub_tables.proofs.Lists.{same_if, same_is}
@@ -33,7 +34,7 @@ use Rattle.hub_store.specs.declared.fault.StoreFault.{StoreFault}
 use Rattle.hub_rules.proofs.Joining as joining
 use Rattle.hub_rules.proofs.Joining.{founded_sound}
 use Rattle.hub_rules.proofs.Verdicts.{not_refused}
-use Rattle.hub_tables.specs.Sets.{Rising}
+use Rattle.hub_tables.specs.Sets.{Fit, clears}
 use Rattle.hub_law.specs.Mark.{Whole}
 use Rattle.hub_law.specs.Replies.{act_reply, denied}
 use Rattle.hub_law.specs.Requests.{joined, replied_by}
@@ -155,6 +156,12 @@ module _ (register : RegisterRows) (row : SupplierRow) (changes : List Change)
       let here = founded_sound register right in
       subst IsRegister (sym (of_tables_with may t here of_tables)) (sound_with may t here of_tables).register.right
 
+-- it adds rows, and takes none away
+prefixes_clear_none : (gln : List ℕ) (prefixes : List (List ℕ))
+    → AllByRecursion (λ change. clears change ≡ false) (prefix_changes gln prefixes)
+prefixes_clear_none gln [] = tt
+prefixes_clear_none gln (prefix ∷ prefixes) = (refl, prefixes_clear_none gln prefixes)
+
 -- What a join is, by its verdict.
 pub joined_as : (register : RegisterRows) (row : SupplierRow) (verdict : Verdict)
     → judge_join register row ≡ verdict
@@ -183,32 +190,36 @@ module _ {S : Type 0} (content : S → Tables) (honest : S → Type 0) (left : S
 
   module _ (changes : List Change) (accepted : judge_join register row ≡ Accept changes)
       (here : SoundHub (content old)) (of_tables : register ≡ register_of (content old)) where
-    rises : Rising (apply_all changes (content old))
-    rises = sound_rises (apply_all changes (content old)) (sound_with register row changes accepted may (content old) here of_tables)
+    fits : Fit changes (content old)
+    fits =
+        fit_uncleared changes (content old)
+        (subst (AllByRecursion (λ change. clears change ≡ false)) (sym (changes_are register row changes accepted))
+        (refl, prefixes_clear_none row.gln row.prefixes))
+        (sound_rises (apply_all changes (content old)) (sound_with register row changes accepted may (content old) here of_tables))
 
     -- one that is let in
     pub let_in_carried : (reply : Reply) (done : Seen)
         → reply ≡ act_reply (told (Accept changes))
-        → (Rising (apply_all changes (content old)) → Carried content honest left old new (act (Accept changes)) (λ _. Accepted) (Ok done))
+        → (Fit changes (content old) → Carried content honest left old new (act (Accept changes)) (λ _. Accepted) (Ok done))
         → Carried content honest left old new (joined register Whole row) as_told (Ok reply)
     let_in_carried reply done says then = record {
       done = λ h. joined_as register row (Accept changes) accepted may (content old)
-          ∙ (λ i. (sym says i, ((then rises).done h i).1));
-      durable = (then rises).durable;
+          ∙ (λ i. (sym says i, ((then fits).done h i).1));
+      durable = (then fits).durable;
       crash = λ h. tt;
     }
 
     -- one that the store did not take
     pub let_in_failed : (fault other : StoreFault) (result : Result Reply StoreFault)
         → result ≡ Err other
-        → (Rising (apply_all changes (content old))
+        → (Fit changes (content old)
         → Carried {X = Seen} content honest left old new (act (Accept changes)) (λ _. Accepted) (Err fault))
         → Carried content honest left old new (joined register Whole row) as_told result
     let_in_failed fault other result is then =
         subst (λ (r : Result Reply StoreFault). Carried content honest left old new (joined register Whole row) as_told r) (sym is) (record {
           done = λ h. tt;
           durable = λ h. tt;
-          crash = λ h t l. elim ((then rises).crash h t l) [
+          crash = λ h t l. elim ((then fits).crash h t l) [
             | inl e ↦ inl e
             | inr e ↦ inr (e ∙ sym (ap (λ (after : Reply × Tables). after.1) (joined_as register row (Accept changes) accepted may (content old))))
           ];
@@ -216,12 +227,12 @@ module _ {S : Type 0} (content : S → Tables) (honest : S → Type 0) (left : S
 
     -- the register is that of the tables again
     pub let_in_same : (done : Seen)
-        → (Rising (apply_all changes (content old)) → Carried content honest left old new (act (Accept changes)) (λ _. Accepted) (Ok done))
+        → (Fit changes (content old) → Carried content honest left old new (act (Accept changes)) (λ _. Accepted) (Ok done))
         → honest new
         → joined_by row register ≡ register_of (content new)
     let_in_same done then h =
         of_tables_with register row changes accepted may (content old) here of_tables
-        ∙ ap register_of (λ i. ((then rises).done h i).1)
+        ∙ ap register_of (λ i. ((then fits).done h i).1)
 
 -- How it fails.
 module _ (plain : Bool) (old new : Option LastingFault) (may_answer : Reply → Type 0) (reply : Reply) where

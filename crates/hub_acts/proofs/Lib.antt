@@ -3,6 +3,7 @@ pub mod CleanJudges
 pub mod CleanRows
 pub mod CleanVerdicts
 pub mod Failing
+pub mod Fitted
 pub mod Joins
 pub mod LookUps
 pub mod Named

@@ -12,7 +12,7 @@ use Rattle.hub_tables.specs.declared.rows.LineRow.{LineRow}
 use Rattle.hub_tables.proofs.Lists.{all_passes, all_weaker, same_is}
 use Rattle.hub_lines.specs.Book.{place_cmp}
 use Rattle.hub_lines.specs.KnownLines.{is_covered, steps_up}
-use Rattle.hub_rules.proofs.Rising.{rises_filter}
+use Rattle.hub_tables.proofs.KeyOrder.{rises_filter}
 
 -- rows that rise step up
 steps_after : (before : LineRow) (rows : List LineRow) → Rises place_cmp (before ∷ rows) → steps_up (Some before) rows ≡ true

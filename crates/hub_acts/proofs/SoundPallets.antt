@@ -20,7 +20,7 @@ use Rattle.hub_tables.proofs.Lists.{all_filter, all_passes, same_is}
 use Rattle.gs1_ids.specs.Digits.{is_key}
 use Rattle.hub_store.specs.Clean.{clean_content, is_within, is_number, is_line, is_quantity}
 use Rattle.hub_rules.specs.Sound.{knows_line}
-use Rattle.hub_rules.proofs.Rising.{rises_filter}
+use Rattle.hub_tables.proofs.KeyOrder.{rises_filter}
 use Rattle.hub_texts.specs.Articles.{article_among}
 
 -- the line that a content names is there

@@ -1,21 +1,22 @@
 //! A cancellation.
 ghost use Rattle.std.specs.Prelude.{◌≡◌};
 ghost use Rattle.hub_lines.specs.KnownLines.{AreUnclean};
-ghost use Rattle.hub_tables.specs.Sets.{Rising};
 ghost use Rattle.hub_tables.specs.State.{lines_of};
 ghost use Rattle.hub_tables.specs.Tables.{view};
 ghost use Rattle.hub_rules.specs.Laws.{SoundUnder, PartiesRise};
 ghost use Rattle.hub_law.specs.Mark.{Whole};
 ghost use Rattle.hub_law.specs.Replies.{act_reply};
 ghost use Rattle.hub_law.specs.Requests.{cancel_named, answered, replied_by};
-ghost use Rattle.hub_law.specs.Told.{act, changed, told};
+ghost use Rattle.hub_law.specs.Told.{act, told};
 ghost use Rattle.hub_acts.specs.Acts.{Carried, FailsWith, Unharmed, any_answer, as_told, no_answer};
+ghost use Rattle.hub_acts.specs.Judged.{VerdictFits};
 
 use crate::carrying::{carry_out, reply_to_act, told_of_verdict};
 use crate::knowing::known_for_cancel;
 use hub_judges::{Cancel, Verdict, judge_cancel};
-use hub_law::{Reply, acts_stay_sound};
+use hub_law::Reply;
 use hub_register::Register;
+use hub_rules::accepted_changes_fit;
 use hub_store::{Store, StoreFault};
 use hub_texts::cancel_text;
 use std::alloc::Global;
@@ -23,7 +24,7 @@ use std::alloc::Global;
 // Carries out what comes of a cancellation, to which this is the reply.
 fn finish<S: Store>(store: &mut S, verdict: &Verdict, reply: Reply) -> Result<Reply, StoreFault>
     requires { reply ≡ act_reply (told verdict.now) }
-    ensures carried { Rising (changed verdict.now (S.content store.old)) →
+    ensures carried { VerdictFits verdict.now (S.content store.old) →
         Carried S.content S.honest S.left store.old store.new (λ t.
         replied_by act_reply (act verdict.now t)) as_told result }
     ensures fails { FailsWith S.plain ⊥ any_answer (S.broken store.old) (S.broken store.new) result }
@@ -49,7 +50,7 @@ pub fn take_cancel<S: Store>(
         no_answer (S.broken store.old) (S.broken store.new) result }
     ensures unharmed { Unharmed S.content S.honest store.old store.new result }
 {
-    acts_stay_sound();
+    accepted_changes_fit();
     let supplier = register.supplier(&cancel.supplier);
     let content = cancel_text(alloc, cancel)?;
     let known = known_for_cancel(alloc, store, cancel)?;

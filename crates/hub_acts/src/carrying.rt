@@ -1,13 +1,13 @@
 //! What comes of a message, a cancellation or a join is carried out.
 ghost use Rattle.std.specs.Prelude.{◌≡◌, ◌⊎◌, IfOk, OnOk, OnErr};
 ghost use Rattle.hub_tables.specs.Change.{apply_all};
-ghost use Rattle.hub_tables.specs.Sets.{Rising};
+ghost use Rattle.hub_tables.specs.Sets.{Fit};
 ghost use Rattle.hub_tables.specs.Tables.{Tables};
 ghost use Rattle.hub_rules.specs.declared.verdict.Verdict.TheVariants.{Accept};
 ghost use Rattle.hub_law.specs.Replies.{act_reply};
-ghost use Rattle.hub_law.specs.Told.{act, changed, told};
+ghost use Rattle.hub_law.specs.Told.{act, told};
 ghost use Rattle.hub_acts.specs.Acts.{Carried, FailsWith, Unharmed, any_answer};
-ghost use Rattle.hub_acts.specs.Judged.{act_of};
+ghost use Rattle.hub_acts.specs.Judged.{act_of, VerdictFits, JudgedFits};
 ghost use Rattle.hub_texts.specs.Decision.{told_of};
 
 use crate::judged::Judged;
@@ -63,7 +63,7 @@ pub(crate) fn told_of_judged(judged: &Judged) -> Decision
 
 // Makes the changes, where there are some.
 fn make<S: Store>(store: &mut S, changes: &[Change]) -> Result<(), StoreFault>
-    ensures done { Rising (apply_all changes.now (S.content store.old)) → S.honest store.new →
+    ensures done { Fit changes.now (S.content store.old) → S.honest store.new →
         OnOk result (S.content store.new ≡ apply_all changes.now (S.content store.old)) }
     ensures durable { S.honest store.new → OnOk result ((t : Tables) → S.left store.new t →
         (t ≡ S.content store.new) ⊎ ((S.content store.new ≡ S.content store.old) × S.left store.old t)) }
@@ -80,7 +80,7 @@ fn make<S: Store>(store: &mut S, changes: &[Change]) -> Result<(), StoreFault>
 
 /// Carries out what the rules say.
 pub(crate) fn carry_out<S: Store>(store: &mut S, verdict: &Verdict) -> Result<Decision, StoreFault>
-    ensures carried { Rising (changed verdict.now (S.content store.old)) →
+    ensures carried { VerdictFits verdict.now (S.content store.old) →
         Carried S.content S.honest S.left store.old store.new (act verdict.now) told_of result }
     ensures told { IfOk result (λ seen. told verdict.now ≡ told_of seen) }
     ensures fails { FailsWith S.plain ⊥ any_answer (S.broken store.old) (S.broken store.new) result }
@@ -100,7 +100,7 @@ pub(crate) fn carry_out_judged<S: Store>(
     store: &mut S,
     judged: &Judged,
 ) -> Result<Decision, StoreFault>
-    ensures carried { Rising (act_of judged.now (S.content store.old)).1 →
+    ensures carried { JudgedFits judged.now (S.content store.old) →
         Carried S.content S.honest S.left store.old store.new (act_of judged.now) told_of result }
     ensures told { IfOk result (λ seen. (t : Tables) → (act_of judged.now t).0 ≡ told_of seen) }
     ensures fails { FailsWith S.plain ⊥ any_answer (S.broken store.old) (S.broken store.new) result }

@@ -3,9 +3,8 @@ ghost use Rattle.std.specs.Prelude.{◌≡◌, false, IfOk, OnOk, OnErr};
 ghost use Rattle.std.specs.Option.{IfSome};
 ghost use Rattle.hub_parties.specs.Rows.{IsRegister};
 ghost use Rattle.hub_register.specs.Joined.{joined_by, left_by};
-ghost use Rattle.hub_tables.specs.Change.{apply_all};
 ghost use Rattle.hub_tables.specs.Register.{register_of, row_changes};
-ghost use Rattle.hub_tables.specs.Sets.{Rising};
+ghost use Rattle.hub_tables.specs.Sets.{Fit};
 ghost use Rattle.hub_tables.specs.Tables.{Tables};
 ghost use Rattle.hub_rules.specs.JoinRules.{joins};
 ghost use Rattle.hub_rules.specs.Laws.{SoundHub};
@@ -39,7 +38,7 @@ fn let_in<S: Store>(
     requires right { IsRegister register.old }
     requires takes { IsRegister (joined_by row.now register.old) }
     requires goes { left_by row.now.gln (joined_by row.now register.old) ≡ register.old }
-    ensures carried { Rising (apply_all changes.now (S.content store.old)) →
+    ensures carried { Fit changes.now (S.content store.old) →
         Carried S.content S.honest S.left store.old store.new (act (Accept changes.now)) (λ _. Accepted) result }
     ensures taken { OnOk result (register.new ≡ joined_by row.now register.old) }
     ensures kept { OnErr result (register.new ≡ register.old) }

@@ -6,13 +6,14 @@ ghost use Rattle.edi_goods.specs.Despatch.{despatch_of};
 ghost use Rattle.edi_goods.specs.Receipt.{receipt_of};
 ghost use Rattle.hub_parties.specs.Rows.{parties_of, supplier_row};
 ghost use Rattle.hub_tables.specs.Tables.{view, has_pallet};
+ghost use Rattle.hub_rules.specs.Laws.{SoundUnder, Registered, PartiesRise};
 ghost use Rattle.hub_rules.specs.Sound.{Kept};
 ghost use Rattle.hub_rules.specs.Rules as rules;
 ghost use Rattle.hub_law.specs.Messages.{named, body_of, deliver_suppliers};
 ghost use Rattle.hub_law.specs.Requests.{deliver_named};
 ghost use Rattle.hub_law.specs.Told.{read_act};
 ghost use Rattle.hub_acts.specs.Acts.{FailsWith, Stays};
-ghost use Rattle.hub_acts.specs.Judged.{act_of, CannotBeRead, UnreadOf};
+ghost use Rattle.hub_acts.specs.Judged.{act_of, JudgedFits, CannotBeRead, UnreadOf};
 ghost use Rattle.hub_acts.specs.Named.{MessageUnclean};
 
 use crate::despatches::known_for_despatch;
@@ -26,6 +27,7 @@ use hub_judges::{
 };
 use hub_parties::SupplierRow;
 use hub_register::Register;
+use hub_rules::accepted_changes_fit;
 use hub_store::{Store, StoreFault};
 use std::alloc::Global;
 
@@ -52,9 +54,12 @@ fn judged_order<S: Store>(
         rules.judge_order register.now.retailer (supplier_row register.now.suppliers (named message.now)) incoming
         (body_of message.now) order (view (named message.now) (S.content store.old))) (S.content store.old)
         ≡ act_of judged (S.content store.old)) }
+    ensures fit { S.honest store.new → SoundUnder register.now.suppliers (S.content store.old) → PartiesRise (S.content store.old) →
+        IfOk result (λ judged. JudgedFits judged (S.content store.old)) }
     ensures fails { FailsWith S.plain ⊥ (CannotBeRead (order_of message.now)) (S.broken store.old) (S.broken store.new) result }
     ensures stays { Stays S.content S.honest S.left store.old store.new }
 {
+    accepted_changes_fit();
     let order = match Order::read(alloc, message) {
         Ok(order) => order,
         Err(MessageFault::Memory) => return Err(StoreFault::Memory),
@@ -82,9 +87,12 @@ fn judged_receipt<S: Store>(
         rules.judge_receipt register.now.retailer (supplier_row register.now.suppliers (named message.now)) incoming
         (body_of message.now) receipt (view (named message.now) (S.content store.old))) (S.content store.old)
         ≡ act_of judged (S.content store.old)) }
+    ensures fit { S.honest store.new → SoundUnder register.now.suppliers (S.content store.old) → PartiesRise (S.content store.old) →
+        IfOk result (λ judged. JudgedFits judged (S.content store.old)) }
     ensures fails { FailsWith S.plain ⊥ (CannotBeRead (receipt_of message.now)) (S.broken store.old) (S.broken store.new) result }
     ensures stays { Stays S.content S.honest S.left store.old store.new }
 {
+    accepted_changes_fit();
     let receipt = match Receipt::read(alloc, message) {
         Ok(receipt) => receipt,
         Err(MessageFault::Memory) => return Err(StoreFault::Memory),
@@ -112,10 +120,13 @@ fn judged_response<S: Store>(
         read_act (response_of message.now) (λ response.
         rules.judge_response register.now.retailer (Some supplier.now) incoming response
         (view supplier.now.gln (S.content store.old))) (S.content store.old) ≡ act_of judged (S.content store.old)) }
+    ensures fit { S.honest store.new → Registered register.now.suppliers supplier.now (S.content store.old) →
+        PartiesRise (S.content store.old) → IfOk result (λ judged. JudgedFits judged (S.content store.old)) }
     ensures fails { FailsWith S.plain (S.honest store.new → MessageUnclean message.now (view supplier.now.gln (S.content store.old)))
         (CannotBeRead (response_of message.now)) (S.broken store.old) (S.broken store.new) result }
     ensures stays { Stays S.content S.honest S.left store.old store.new }
 {
+    accepted_changes_fit();
     let response = match Response::read(alloc, message) {
         Ok(response) => response,
         Err(MessageFault::Memory) => return Err(StoreFault::Memory),
@@ -142,10 +153,13 @@ fn judged_despatch<S: Store>(
         rules.judge_despatch register.now.retailer (Some supplier.now)
         (has_pallet (S.content store.old)) incoming despatch (view supplier.now.gln (S.content store.old)))
         (S.content store.old) ≡ act_of judged (S.content store.old)) }
+    ensures fit { S.honest store.new → Registered register.now.suppliers supplier.now (S.content store.old) →
+        PartiesRise (S.content store.old) → IfOk result (λ judged. JudgedFits judged (S.content store.old)) }
     ensures fails { FailsWith S.plain (S.honest store.new → MessageUnclean message.now (view supplier.now.gln (S.content store.old)))
         (CannotBeRead (despatch_of message.now)) (S.broken store.old) (S.broken store.new) result }
     ensures stays { Stays S.content S.honest S.left store.old store.new }
 {
+    accepted_changes_fit();
     let despatch = match Despatch::read(alloc, message) {
         Ok(despatch) => despatch,
         Err(MessageFault::Memory) => return Err(StoreFault::Memory),
@@ -168,6 +182,8 @@ pub(crate) fn judged_for_retailer<S: Store>(
     ensures judged { S.honest store.new → Kept (view (named message.now) (S.content store.old)) →
         IfOk result (λ judged. deliver_named register.now (message.now, incoming) (S.content store.old)
         ≡ act_of judged (S.content store.old)) }
+    ensures fit { S.honest store.new → SoundUnder register.now.suppliers (S.content store.old) → PartiesRise (S.content store.old) →
+        IfOk result (λ judged. JudgedFits judged (S.content store.old)) }
     ensures fails { FailsWith S.plain ⊥
         (UnreadOf (deliver_named register.now (message.now, incoming))) (S.broken store.old) (S.broken store.new) result }
     ensures stays { Stays S.content S.honest S.left store.old store.new }
@@ -194,6 +210,8 @@ pub(crate) fn judged_for_supplier<S: Store>(
     ensures judged { S.honest store.new → Kept (view supplier.now.gln (S.content store.old)) →
         IfOk result (λ judged. deliver_suppliers (view supplier.now.gln) (parties_of register.now) supplier.now
         (message.now, incoming) (S.content store.old) ≡ act_of judged (S.content store.old)) }
+    ensures fit { S.honest store.new → Registered register.now.suppliers supplier.now (S.content store.old) →
+        PartiesRise (S.content store.old) → IfOk result (λ judged. JudgedFits judged (S.content store.old)) }
     ensures fails { FailsWith S.plain (S.honest store.new → MessageUnclean message.now (view supplier.now.gln (S.content store.old)))
         (UnreadOf (deliver_suppliers (view supplier.now.gln) (parties_of register.now) supplier.now
         (message.now, incoming))) (S.broken store.old) (S.broken store.new) result }

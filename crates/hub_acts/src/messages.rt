@@ -1,7 +1,6 @@
 //! One message of an interchange.
 ghost use Rattle.std.specs.Prelude.{◌≡◌, ◌∷◌, ◌++◌, ◌+◌, ◌≤◌, IfOk, OnErr, vec_len, vec_capacity};
 ghost use Rattle.hub_parties.specs.Rows.{parties_of};
-ghost use Rattle.hub_tables.specs.Sets.{Rising};
 ghost use Rattle.hub_tables.specs.Tables.{Tables, view};
 ghost use Rattle.hub_rules.specs.Laws.{SoundUnder, Registered, PartiesRise};
 ghost use Rattle.hub_law.specs.Messages.{incoming, deliver_suppliers};
@@ -9,7 +8,7 @@ ghost use Rattle.hub_law.specs.Replies.{told_words};
 ghost use Rattle.hub_law.specs.Requests.{deliver_named};
 ghost use Rattle.hub_law.specs.Widths.{line};
 ghost use Rattle.hub_acts.specs.Acts.{Carried, FailsWith, OfAny, Unharmed};
-ghost use Rattle.hub_acts.specs.Judged.{act_of};
+ghost use Rattle.hub_acts.specs.Judged.{act_of, JudgedFits};
 ghost use Rattle.hub_acts.specs.Named.{MessageUnclean};
 ghost use Rattle.hub_texts.specs.Decision.{told_of};
 
@@ -17,7 +16,6 @@ use crate::carrying::{carry_out_judged, told_of_judged};
 use crate::incoming::incoming_of;
 use crate::judged::{Judged, judged_for_retailer, judged_for_supplier};
 use edi_envelope::{Interchange, Moment, RawMessage};
-use hub_law::acts_stay_sound;
 use hub_parties::SupplierRow;
 use hub_register::Register;
 use hub_store::{Store, StoreFault};
@@ -33,7 +31,7 @@ fn finish<S: Store>(
     judged: &Judged,
     reply: &mut Vec<u8>,
 ) -> Result<Decision, StoreFault>
-    ensures carried { Rising (act_of judged.now (S.content store.old)).1 →
+    ensures carried { JudgedFits judged.now (S.content store.old) →
         Carried S.content S.honest S.left store.old store.new (act_of judged.now) told_of result }
     ensures fails { FailsWith S.plain ⊥
         (λ told. (t : Tables) → (act_of judged.now t).0 ≡ told_of told) (S.broken store.old) (S.broken store.new) result }
@@ -73,7 +71,6 @@ pub fn take_retailers_message<S: Store>(
     ensures kept { OnErr result (reply.new.items ≡ reply.old.items) }
     ensures room { vec_len reply.old + 8 ≤ vec_capacity reply.old → vec_len reply.new + 8 ≤ vec_capacity reply.new }
 {
-    acts_stay_sound();
     let came = incoming_of(alloc, moment, interchange, message)?;
     let judged = judged_for_retailer(alloc, register, store, message, came)?;
     finish(alloc, store, message, &judged, reply)
@@ -104,7 +101,6 @@ pub fn take_suppliers_message<S: Store>(
     ensures kept { OnErr result (reply.new.items ≡ reply.old.items) }
     ensures room { vec_len reply.old + 8 ≤ vec_capacity reply.old → vec_len reply.new + 8 ≤ vec_capacity reply.new }
 {
-    acts_stay_sound();
     let came = incoming_of(alloc, moment, interchange, message)?;
     let judged = judged_for_supplier(alloc, register, supplier, store, message, came)?;
     finish(alloc, store, message, &judged, reply)

@@ -200,7 +200,11 @@ Exit status: 0 founded; 1 the register has a fault, or does not fit; 2 usage err
 
 static INIT_OPTIONS: [Choice; 2] = [
     Choice::Wanted("register", "FILE", "The register, a TOML file"),
-    Choice::Wanted("db", "FILE", "The hub's database, which is made or brought over"),
+    Choice::Wanted(
+        "db",
+        "FILE",
+        "The hub's database, which is made or brought over",
+    ),
 ];
 
 fn init_command<'a>(alloc: Global) -> Result<Command<'a>, AllocError>

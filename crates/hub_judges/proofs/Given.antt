@@ -11,12 +11,13 @@ use Rattle.hub_parties.specs.KeyOrder.{bytes_cmp, Rises}
 use Rattle.hub_tables.specs.Rows.{line_cmp}
 use Rattle.hub_tables.specs.Tables.{Tables, view}
 use Rattle.hub_tables.specs.declared.rows.LineRow.{LineRow}
+use Rattle.hub_tables.proofs.KeyOrder.{rises_filter}
 use Rattle.hub_tables.proofs.Lists.{all_filter}
 use Rattle.hub_lines.specs.Book.{facts_cmp, IsCovered}
 use Rattle.hub_lines.specs.KnownLines.{is_covered, steps_up}
 use Rattle.hub_rules.specs.Sound.{Balanced, Sound}
 use Rattle.hub_rules.proofs.OwnChanges.{good_view}
-use Rattle.hub_rules.proofs.Rising.{rises_filter, view_rises}
+use Rattle.hub_rules.proofs.Rising.{view_rises}
 use Rattle.hub_judges.specs.Facts.{fact_in, facts_in}
 
 module _ (state : Tables) where

@@ -1,7 +1,7 @@
 -- The rules of lines and units once more, without a state: what comes of what is known. The loops of the judges meet
 -- these by their invariants, and a lemma for each says that they are the rules' cases. They are steps of those
 -- proofs; no public clause rests on them.
-use Rattle.std.specs.Prelude.{ℕ, Bool, ◌+◌, ◌-◌, nat_lt, not, List, [], ◌∷◌, map, filter, Option, Some, Result, Ok, Err}
+use Rattle.std.specs.Prelude.{ℕ, Bool, ◌+◌, ◌-◌, nat_lt, not, ◌&&◌, List, [], ◌∷◌, ◌++◌, map, filter, Option, Some, Result, Ok, Err}
 use Rattle.edi_base.specs.Seen.{is_among}
 use Rattle.gs1_ids.specs.Sscc.{under_some}
 use Rattle.edi_orders.specs.declared.response.Answer.{Answer}
@@ -20,13 +20,13 @@ use Rattle.hub_tables.specs.Rows.{same}
 use Rattle.hub_tables.specs.State.{waits, is_announced}
 use Rattle.hub_tables.specs.declared.change.Change.TheVariants.{SetLine, SetPallet, AddAdvice, AddPallet, AddContent}
 use Rattle.hub_tables.specs.declared.change.Change.{Change}
-use Rattle.hub_tables.specs.declared.cases.Arrival.TheVariants.{Announced, Received}
+use Rattle.hub_tables.specs.declared.cases.Arrival.TheVariants.{Announced}
 use Rattle.hub_tables.specs.declared.rows.PalletRow.{PalletRow}
 use Rattle.hub_tables.specs.declared.rows.LineRow.{LineRow}
 use Rattle.hub_lines.specs.Book.{facts_of, facts_among, with_row}
 use Rattle.hub_lines.specs.declared.facts.LineFacts.{LineFacts}
 use Rattle.hub_rules.specs.Judging.{refuse_if, given, joined}
-use Rattle.hub_rules.specs.ReceiptRules.{gtins, new_receipt}
+use Rattle.hub_rules.specs.ReceiptRules.{gtins, new_receipt, arrival_by, cleared}
 use Rattle.hub_rules.specs.ResponseRules.{answered, is_out_of_range, is_empty}
 use Rattle.hub_rules.specs.declared.code.Code.TheVariants.{NoOrder, NoLine, NotWaiting, OutOfRange, OtherArticle}
 use Rattle.hub_rules.specs.declared.code.Code.TheVariants.{MoreThanOpen, OtherPrefix, SsccUsed, AdviceKnown, NoPallet}
@@ -94,19 +94,20 @@ cancelled_from cancel known =
       cancelled = line.row.cancelled + cancel.quantity;
     }) ∷ []))))
 
--- what comes of a unit on a pallet: the pallet is received, with the sums of each article
-abbrev pub received : PalletRow → ReceiptUnit → List Change
-received pallet unit = SetPallet (record pallet { received = arrival_number Received })
-    ∷ map (new_receipt unit.sscc unit.lines) (gtins unit.lines)
+-- what comes of a unit on a pallet: the pallet is received, what was received of it goes where the advice replaces, and
+-- the sums of each article come
+abbrev pub received : Bool → PalletRow → ReceiptUnit → List Change
+received replaces pallet unit = SetPallet (record pallet { received = arrival_number (arrival_by replaces) })
+    ∷ cleared replaces unit.sscc ++ map (new_receipt unit.sscc unit.lines) (gtins unit.lines)
 
 -- the units of a RECADV, each with its pallet; both lists have one length
-abbrev pub receipts_from : List ReceiptUnit → List (Option PalletRow) → Verdict
-receipts_from [] pallets = Accept []
-receipts_from (unit ∷ units) [] = Accept []
-receipts_from (unit ∷ units) (pallet ∷ pallets) =
+abbrev pub receipts_from : Bool → List ReceiptUnit → List (Option PalletRow) → Verdict
+receipts_from replaces [] pallets = Accept []
+receipts_from replaces (unit ∷ units) [] = Accept []
+receipts_from replaces (unit ∷ units) (pallet ∷ pallets) =
     given pallet NoPallet (λ row.
-    refuse_if (not (is_announced row)) PalletReceived (
-    joined (received row unit) (receipts_from units pallets)))
+    refuse_if (not replaces && not (is_announced row)) PalletReceived (
+    joined (received replaces row unit) (receipts_from replaces units pallets)))
 
 -- a line after so much of it is despatched
 abbrev pub after_despatch : DespatchLine → LineFacts → LineRow

@@ -1,8 +1,9 @@
 //! The rules of RECADV.
-ghost use Rattle.std.specs.Prelude.{◌≡◌, ◌++◌, true, false, length, map, IfOk, option_copied};
+ghost use Rattle.std.specs.Prelude.{◌≡◌, ◌++◌, true, false, not, length, map, IfOk, option_copied};
 ghost use Rattle.std.specs.List.{list_all};
 ghost use Rattle.edi_base.specs.Seen.{has_twice};
 ghost use Rattle.edi_goods.specs.Receipt.{has_sums};
+ghost use Rattle.hub_tables.specs.State.{is_announced};
 ghost use Rattle.hub_tables.specs.Tables.{Tables};
 ghost use Rattle.hub_rules.specs.Judging.{joined};
 ghost use Rattle.hub_rules.specs.ReceiptRules.{gtins, new_receipt};
@@ -48,51 +49,72 @@ fn add_receipts(
     Ok(())
 }
 
-// Puts what comes of a unit on a pallet after the changes.
+// Whether a pallet was received.
+fn is_received(pallet: &PalletRow) -> bool
+    ensures { result ≡ not (is_announced pallet.now) }
+{
+    match pallet.received.case() {
+        Arrival::Announced => false,
+        Arrival::Received | Arrival::Replaced => true,
+    }
+}
+
+// Puts what comes of a unit on a pallet after the changes; where the advice replaces, what was received of it goes first.
 fn receive(
     alloc: Global,
+    replaces: bool,
     pallet: &PalletRow,
     unit: &ReceiptUnit,
     changes: &mut Items<Change>,
 ) -> Result<(), MemoryFault>
     requires { has_sums unit.now.lines ≡ true }
-    ensures { IfOk result (λ _. changes.new ≡ changes.old ++ received pallet.now unit.now) }
+    ensures { IfOk result (λ _. changes.new ≡ changes.old ++ received replaces pallet.now unit.now) }
 {
+    let arrival = if replaces {
+        Arrival::Replaced
+    } else {
+        Arrival::Received
+    };
     changes.push(Change::SetPallet(PalletRow {
         sscc: pallet.sscc,
         supplier: pallet.supplier,
         advice: copied(alloc, pallet.advice.as_slice())?,
-        received: Column::of(Arrival::Received),
+        received: Column::of(arrival),
     }))?;
+    if replaces {
+        changes.push(Change::ClearReceipts(unit.sscc))?;
+    }
     add_receipts(alloc, unit, changes)
 }
 
-// What comes of the units after these changes: of each B14 and B15 are asked.
+// What comes of the units after these changes: of each B14 is asked, and B15 where the advice does not replace.
 fn judge_units(
     alloc: Global,
+    replaces: bool,
     units: &[ReceiptUnit],
     pallets: &[Option<PalletRow>],
     mut changes: Items<Change>,
 ) -> Result<Verdict, MemoryFault>
     requires each_unit { length pallets.now ≡ length units.now }
     requires sums { list_all (λ unit. has_sums unit.lines) units.now ≡ true }
-    ensures { IfOk result (λ verdict. verdict ≡ joined changes (receipts_from units.now pallets.now)) }
+    ensures { IfOk result (λ verdict. verdict ≡ joined changes (receipts_from replaces units.now pallets.now)) }
 {
     for (place, unit) in units.iter().enumerate() {
         let Some(pallet) = &pallets[place] else {
             return Ok(Verdict::Refuse(Code::NoPallet));
         };
-        match pallet.received.case() {
-            Arrival::Announced => receive(alloc, pallet, unit, &mut changes)?,
-            Arrival::Received => return Ok(Verdict::Refuse(Code::PalletReceived)),
+        if !replaces && is_received(pallet) {
+            return Ok(Verdict::Refuse(Code::PalletReceived));
         }
+        receive(alloc, replaces, pallet, unit, &mut changes)?;
     }
     Ok(Verdict::Accept(changes))
 }
 
-/// What comes of a RECADV: B01, B02, B03 and B16 are asked in this order, and then of each unit B14 and B15. Asks that the pallet
-/// of each unit is known, or that there is none; and that no SSCC stands in two units, and no sum of an article in a unit is past its
-/// limit, as `Receipt::read` promises. `body` is the canonical text of the message's segments, UNH to UNT, with `1` for its
+/// What comes of a RECADV: B01, B02, B03 and B16 are asked in this order, and then of each unit B14, and B15 where it does
+/// not replace; where it does, all that was received of the pallets of its units goes. Asks that the pallet of each unit is
+/// known, or that there is none; and that no SSCC stands in two units, and no sum of an article in a unit is past its limit,
+/// as `Receipt::read` promises. `body` is the canonical text of the message's segments, UNH to UNT, with `1` for its
 /// reference, as the mailbox entry keeps it. `MemoryFault` where memory ran out.
 pub fn judge_receipt(
     alloc: Global,
@@ -124,5 +146,5 @@ pub fn judge_receipt(
     let changes = remembered_and_mailed(alloc, row, known.mails, incoming, kind, number, body)?;
     let units = receipt.units.as_slice();
     let pallets = known.pallets.as_slice();
-    judge_units(alloc, units, pallets, changes)
+    judge_units(alloc, receipt.replaces, units, pallets, changes)
 }

@@ -1,11 +1,9 @@
 -- Acts of one supplier in the tables of all, and the same acts in its own rows alone.
-use Rattle.std.proofs.Common.{◌≡◌, List, map, refl, sym, ◌∙◌, subst}
-use Rattle.hub_parties.specs.KeyOrder.{Rises}
+use Rattle.std.proofs.Common.{◌≡◌, List, map, refl, ◌∙◌}
 use Rattle.hub_parties.specs.declared.row.SupplierRow.{SupplierRow}
 use Rattle.hub_tables.specs.Register.{suppliers_of, row_in, register_of, register_by, hub_in}
-use Rattle.hub_tables.specs.Rows.{hub_cmp, key_cmp, prefix_cmp}
 use Rattle.hub_tables.specs.Tables.{Tables}
-use Rattle.hub_rules.specs.Laws.{Apart, PartiesStay, PartiesRise}
+use Rattle.hub_rules.specs.Laws.{Apart, PartiesStay}
 use Rattle.hub_rules.specs.Sound.{Sound}
 
 -- the supplier is apart from the others, and the same is told of it
@@ -36,10 +34,3 @@ register_same t after stay = λ i. register_by (hub_in (stay.hubs i)) (suppliers
 
 pub stays_same : (suppliers : List SupplierRow) (t : Tables) → Sound suppliers t → Stays suppliers t t
 stays_same suppliers t sound = record { sound = sound; parties = parties_same t }
-
-pub parties_still_rise : (t after : Tables) → PartiesStay t after → PartiesRise t → PartiesRise after
-parties_still_rise t after stay rise = record {
-  hubs = subst (Rises hub_cmp) (sym stay.hubs) rise.hubs;
-  keys = subst (Rises key_cmp) (sym stay.keys) rise.keys;
-  prefixes = subst (Rises prefix_cmp) (sym stay.prefixes) rise.prefixes;
-}

@@ -280,6 +280,60 @@ unfolding interchange_in interchange_of fault_of contents_of is_framed is_row_of
     response_of despatch_of receipt_of entry_text list_text status_text digits
 goods_come = refl
 
+-- a receipt of the first pallet, by an advice with a function; and one that says nothing of its second article
+abbrev receipt_by : List ℕ → List ℕ → List ℕ → List ℕ
+receipt_by control number function =
+    codes "UNB+UNOC:3+5412345000013:14+5412345000006:14+250605:0900+" ++ control
+    ++ codes "'UNH+1+RECADV:D:01B:UN:EAN005'BGM+632+" ++ number ++ codes "+" ++ function
+    ++ codes "'DTM+137:20250605:102'NAD+BY+5412345000013::9'NAD+SU+4012345500004::9'CPS+1'PAC+1'"
+    ++ codes "PCI+33E'GIN+BJ+340123455000000012'LIN+1++4000862141404:SRV'QTY+194:12'UNT+12+1'UNZ+1+"
+    ++ control ++ codes "'"
+
+abbrev status_corrected : List ℕ
+status_corrected = lines (
+    codes "L 128576                                   1 04000862141404 C        48        24        12         0        12"
+    ∷ codes
+    "P 340123455000000012 04000862141404 C             12             12              0              0              +0"
+    ∷ codes "end"
+    ∷ []
+    )
+
+-- an advice that replaces: of what was received before nothing stays; it may come again, and one that does not replace may not
+receipt_is_replaced : replies (
+    by_retailer (requests.Upload (first_order))
+    ∷ by alpha (requests.Upload (answer))
+    ∷ by_retailer (requests.Upload (receipt_by (codes "1004") (codes "G0") (codes "5")))
+    ∷ by alpha (requests.Upload (advice))
+    ∷ by_retailer (requests.Upload (receipt))
+    ∷ by_retailer (requests.Upload (receipt_by (codes "1006") (codes "G2") (codes "9")))
+    ∷ by_retailer (requests.Upload (receipt_by (codes "1007") (codes "G3") (codes "5")))
+    ∷ by alpha requests.Status
+    ∷ by_retailer (requests.Upload (receipt_by (codes "1008") (codes "G4") (codes "9")))
+    ∷ by_retailer (requests.Upload (receipt_by (codes "1009") (codes "G5") (codes "5")))
+    ∷ by_retailer (requests.StatusOf alpha.gln)
+    ∷ by alpha (requests.MailAfter 0) ∷ []) ≡ (
+    done (lines (codes "interchange 1001 messages 1" ∷ codes "1 ORDERS accepted" ∷ []))
+    ∷ done (lines (codes "interchange S1 messages 1" ∷ codes "1 ORDRSP accepted" ∷ []))
+    ∷ refused (codes "interchange 1004 messages 1" ∷ codes "1 RECADV refused B14" ∷ [])
+    ∷ done (lines (codes "interchange S2 messages 1" ∷ codes "1 DESADV accepted" ∷ []))
+    ∷ done (lines (codes "interchange 1005 messages 1" ∷ codes "1 RECADV accepted" ∷ []))
+    ∷ refused (codes "interchange 1006 messages 1" ∷ codes "1 RECADV refused B15" ∷ [])
+    ∷ done (lines (codes "interchange 1007 messages 1" ∷ codes "1 RECADV accepted" ∷ []))
+    ∷ done status_corrected
+    ∷ refused (codes "interchange 1008 messages 1" ∷ codes "1 RECADV refused B15" ∷ [])
+    ∷ done (lines (codes "interchange 1009 messages 1" ∷ codes "1 RECADV accepted" ∷ []))
+    ∷ done status_corrected
+    ∷ done (lines (codes "             1 ORDERS 128576"
+    ∷ codes "             2 RECADV G1"
+    ∷ codes "             3 RECADV G3"
+    ∷ codes "             4 RECADV G5"
+    ∷ codes "end"
+    ∷ []))
+    ∷ [])
+unfolding interchange_in interchange_of fault_of contents_of is_framed is_row_of_messages is_outside_set order_of
+    response_of despatch_of receipt_of entry_text list_text status_text digits
+receipt_is_replaced = refl
+
 -- each kind of message once more
 what_was_accepted_is_repeated : replies (
     by_retailer (requests.Upload (first_order))

@@ -6,7 +6,7 @@ use Rattle.std.specs.List.{flat_map, list_any}
 use Rattle.std.specs.Option.{unwrap_or}
 use Rattle.hub_parties.specs.KeyOrder.{bytes_cmp, put}
 use Rattle.hub_tables.specs.Rows.{same}
-use Rattle.hub_tables.specs.State.{line_of, despatched, contents_of, receipts_of, is_announced}
+use Rattle.hub_tables.specs.State.{line_of, despatched, contents_of, receipts_of, is_announced, is_replaced}
 use Rattle.hub_tables.specs.Tables.{Tables}
 use Rattle.hub_tables.specs.declared.rows.ContentRow.{ContentRow}
 use Rattle.hub_tables.specs.declared.rows.LineRow.{LineRow}
@@ -59,6 +59,11 @@ signed number less =
     if nat_le less number then codes "+" ++ decimal (number - less)
     else codes "-" ++ decimal (less - number)
 
+-- how far it has come: A announced, R received, C corrected by an advice that replaces
+abbrev pub arrival_text : PalletRow → List ℕ
+arrival_text pallet =
+    if is_announced pallet then codes "A" else if is_replaced pallet then codes "C" else codes "R"
+
 -- received in all minus despatched, and `+0` while the pallet is announced
 abbrev pub difference : PalletRow → ℕ → ℕ → List ℕ
 difference pallet received despatched = if is_announced pallet then signed 0 0 else signed received despatched
@@ -67,7 +72,7 @@ difference pallet received despatched = if is_announced pallet then signed 0 0 e
 -- each, and the difference right in 15
 abbrev pub article_text : PalletRow → List ℕ → ℕ → ℕ → ℕ → ℕ → List ℕ
 article_text pallet gtin despatched accepted returned destroyed = line (
-    codes "P" ∷ pallet.sscc ∷ gtin ∷ (if is_announced pallet then codes "A" else codes "R")
+    codes "P" ∷ pallet.sscc ∷ gtin ∷ arrival_text pallet
     ∷ map (λ quantity. right 14 (decimal quantity)) (despatched ∷ accepted ∷ returned ∷ destroyed ∷ [])
     ++ right 15 (difference pallet (accepted + returned + destroyed) despatched) ∷ [])
 

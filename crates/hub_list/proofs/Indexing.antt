@@ -9,7 +9,7 @@ use Rattle.std.specs.Cmp.{IsTotalOrder}
 use Rattle.std.proofs.lemmas.Cmp.{tied_itself}
 use Rattle.hub_parties.specs.KeyOrder.{InOrder, put, replace, Rises}
 use Rattle.hub_tables.specs.Rows.{same}
-use Rattle.hub_tables.proofs.KeyOrder.{filter_put_in, filter_put_out, in_order_filter, put_first}
+use Rattle.hub_tables.proofs.KeyOrder.{filter_put_in, filter_put_out, in_order_filter, put_first, rises_filter}
 use Rattle.hub_tables.proofs.Lists.{decide, same_is, same_if, all_filter, all_weaker, all_passes, filter_alike}
 use Rattle.hub_tables.proofs.Lists.{filter_none}
 use Rattle.hub_list.specs.Index.{IsIndex}
@@ -26,17 +26,6 @@ module _ {X : Type 0} (cmp : X → X → Ordering) where
         (λ y less. ap is_gt less) xs rises.0,
     rises_in_order xs rises.1,
   )
-
-  pub rises_filter : (p : X → Bool) (xs : List X) → Rises cmp xs → Rises cmp (filter p xs)
-  rises_filter p [] rises = tt
-  rises_filter p (x ∷ xs) rises = elim (p x) as (λ v. Rises cmp (cond v (x ∷ filter p xs) (filter p xs))) [
-    | true ↦ (
-      all_filter
-          (λ y. cmp x y ≡ Less) p xs rises.0,
-      rises_filter p xs rises.1,
-    )
-    | false ↦ rises_filter p xs rises.1
-  ]
 
 module _ {X : Type 0} {cmp : X → X → Ordering} (total : IsTotalOrder cmp) (r : X) where
   abbrev pub at : X → Bool

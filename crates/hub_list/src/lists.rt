@@ -1,11 +1,11 @@
 //! A list of rows for each kind, and changes of them.
 ghost use Rattle.std.specs.Prelude.{◌≡◌, ℕ, ◌+◌, length, IfOk, OnOk};
 ghost use Rattle.hub_tables.specs.Change.{apply, apply_all};
-ghost use Rattle.hub_tables.specs.Sets.{Rising};
+ghost use Rattle.hub_tables.specs.Sets.{Rising, Fit};
 ghost use Rattle.hub_list.specs.Lists.{tables_in, AreInOrder, Room};
 
 use crate::index::{EntryKey, PalletKey, put_indexed, set_indexed};
-use crate::table::{put_row, set_row};
+use crate::table::{clear_receipts, put_row, set_row};
 use edi_base::MemoryFault;
 use hub_rows::Row;
 use hub_tables::{
@@ -71,6 +71,7 @@ pub(crate) fn copy_of(alloc: Global, change: &Change) -> Result<Change, MemoryFa
         Change::SetPallet(row) => Change::SetPallet(row.copy(alloc)?),
         Change::AddContent(row) => Change::AddContent(row.copy(alloc)?),
         Change::AddReceipt(row) => Change::AddReceipt(row.copy(alloc)?),
+        Change::ClearReceipts(sscc) => Change::ClearReceipts(*sscc),
         Change::Remember(row) => Change::Remember(row.copy(alloc)?),
         Change::AddMail(row) => Change::AddMail(row.copy(alloc)?),
         Change::SetMail(row) => Change::SetMail(row.copy(alloc)?),
@@ -97,6 +98,7 @@ pub(crate) fn apply_one(lists: &mut Lists, change: Change)
         Change::SetPallet(row) => set_indexed(&mut lists.pallets, &mut lists.owned, row),
         Change::AddContent(row) => put_row(&mut lists.contents, row),
         Change::AddReceipt(row) => put_row(&mut lists.receipts, row),
+        Change::ClearReceipts(sscc) => clear_receipts(&mut lists.receipts, &sscc),
         Change::Remember(row) => put_row(&mut lists.remembered, row),
         Change::AddMail(row) => put_indexed(&mut lists.mail, &mut lists.untaken, row),
         Change::SetMail(row) => set_indexed(&mut lists.mail, &mut lists.untaken, row),
@@ -119,7 +121,7 @@ pub(crate) fn apply_each(lists: &mut Lists, changes: Vec<Change>)
     requires room { Room (length changes.items) lists.old }
     requires kept { AreInOrder lists.old }
     ensures kept { AreInOrder lists.new }
-    ensures tables { Rising (apply_all changes.items (tables_in lists.old)) →
+    ensures tables { Fit changes.items (tables_in lists.old) →
         tables_in lists.new ≡ apply_all changes.items (tables_in lists.old) }
 {
     for change in changes {

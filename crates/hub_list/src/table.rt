@@ -3,10 +3,13 @@ ghost use Rattle.std.specs.Prelude.{◌≡◌, ◌+◌, ◌<◌, ◌≤◌, fals
 ghost use Rattle.std.specs.List.{insert, list_any};
 ghost use Rattle.std.specs.Ordering.{is_eq};
 ghost use Rattle.hub_parties.specs.KeyOrder.{put, replace, Rises};
+ghost use Rattle.hub_tables.specs.Rows.{same, receipt_cmp};
 
 use crate::key::SameKey;
 use crate::search::{count_below, rows_at};
+use gs1_ids::Sscc;
 use hub_rows::{Row, Settable};
+use hub_tables::ReceiptRow;
 
 /// Whether a row has the key of this one.
 #[tactic(auto, using(crate::proofs::Filters::any_filtered))]
@@ -60,6 +63,17 @@ pub(crate) fn drop_row<T: Row>(rows: &mut Vec<T>, row: &T)
     if is_there {
         drop(rows.remove(at));
     }
+}
+
+/// Takes out all receipts of a pallet.
+pub(crate) fn clear_receipts(receipts: &mut Vec<ReceiptRow>, sscc: &Sscc)
+    requires { Rises receipt_cmp receipts.old.items }
+    ensures rises { Rises receipt_cmp receipts.new.items }
+    ensures items { receipts.new.items ≡ filter (λ row. not (same row.sscc sscc.now)) receipts.old.items }
+    ensures len { vec_len receipts.new ≤ vec_len receipts.old }
+    ensures capacity { vec_capacity receipts.new ≡ vec_capacity receipts.old }
+{
+    receipts.retain(|row| row.sscc != *sscc);
 }
 
 /// Sets a row in the place of the one that has its key. Where none has, it is left out.

@@ -8,9 +8,9 @@ use Rattle.hub_store.specs.declared.fault.StoreFault.TheVariants.{Unclean}
 use Rattle.hub_tables.specs.Sets.{Rising}
 use Rattle.hub_tables.specs.Tables.{Tables}
 use Rattle.hub_schema.specs.Rows.{tables_in}
-use Rattle.hub_schema.specs.State.{IsHub, Holds, IsNumbered, AreOrdered, LooksAmong, LooksFor, LooksUp}
+use Rattle.hub_schema.specs.State.{HasTables, IsHub, IsNumbered, AreOrdered, LooksAmong, LooksFor, LooksIn, LooksUp}
 use Rattle.hub_schema.proofs.Leaving.{spared, spares_then}
-use Rattle.hub_schema.proofs.Single.{hub_rises}
+use Rattle.hub_schema.proofs.Single.{held_rise, hub_has_tables}
 use Rattle.sqlite.specs.Effect.{Database, IsDatabase}
 use Rattle.hub_schema.specs.Schema.{hub_schema}
 use Rattle.sqlite_schema.specs.declared.schema.Schema.{Schema}
@@ -91,6 +91,13 @@ still_hub old new same hub = record {
   sound = subst IsDatabase (sym same) hub.sound;
 }
 
+still_tables : (old new : State) → new.now ≡ old.now → HasTables old → HasTables new
+still_tables old new same has = record {
+  schema = subst (λ (db : Database). db.schema ≡ hub_schema) (sym same) has.schema;
+  ordered = subst (λ (db : Database). AreOrdered db.trees) (sym same) has.ordered;
+  sound = subst IsDatabase (sym same) has.sound;
+}
+
 -- a second look-up, which the first answer leads to
 module _ {schema : Schema} {Are : State → Type 0} (still : (old new : State) → new.now ≡ old.now → Are old → Are new) {X Y : Type 0}
     (one : Tables → X → Type 0) (two all : Tables → Y → Type 0) (spoilt worse worst : Tables → Type 0) (old mid new : State) (x : X) where
@@ -145,6 +152,14 @@ pub found_then : {X Y : Type 0} (one : Tables → X → Type 0) (two all : Table
     → LooksFor all worst old new result
 found_then = then_among still_hub
 
+pub held_then : {X Y : Type 0} (one : Tables → X → Type 0) (two all : Tables → Y → Type 0) (spoilt worse worst : Tables → Type 0)
+    (old mid new : State) (x : X)
+    → ((t : Tables) → one t x → (y : Y) → two t y → all t y)
+    → ((t : Tables) → one t x → worse t → worst t)
+    → LooksIn one spoilt old mid (Ok x) → (result : Result Y StoreFault) → LooksIn two worse mid new result
+    → LooksIn all worst old new result
+held_then = then_among still_tables
+
 pub looks_then : {X Y : Type 0} (one : Tables → X) (two : Tables → Y) (all : Tables → Y) (old mid new : State) (x : X)
     → ((t : Tables) → x ≡ one t → two t ≡ all t)
     → LooksUp one old mid (Ok x) → (result : Result Y StoreFault) → LooksUp two mid new result → LooksUp all old new result
@@ -152,9 +167,22 @@ looks_then one two all old mid new x follows a result b =
     found_then (λ t x. x ≡ one t) (λ t y. y ≡ two t) (λ t y. y ≡ all t) (λ t. are_clean t ≡ false) (λ t. are_clean t ≡ false)
     (λ t. are_clean t ≡ false) old mid new x (λ t is y h. h ∙ follows t is) (λ t is h. h) a result b
 
--- rows of a hub rise by their keys
+-- what is found in tables, whatever their number, is found in a hub's
+pub of_hub : {X : Type 0} (says : Tables → X → Type 0) (spoilt : Tables → Type 0) (old new : State) (result : Result X StoreFault)
+    → LooksIn says spoilt old new result → LooksFor says spoilt old new result
+of_hub says spoilt old new result it = record {
+  answers = λ clean holds. it.answers clean (λ up. hub_has_tables old (holds up));
+  same = it.same;
+  stays = it.stays;
+  leaves = it.leaves;
+  mode = it.mode;
+  crash = it.crash;
+  unclean = λ clean holds. it.unclean clean (λ up. hub_has_tables old (holds up));
+}
+
+-- rows rise by their keys
 pub as_it_rises : {X : Type 0} (says : Tables → X → Type 0) (spoilt : Tables → Type 0) (old new : State) (result : Result X StoreFault)
-    → LooksFor (λ t x. Rising t → says t x) spoilt old new result → LooksFor says spoilt old new result
+    → LooksIn (λ t x. Rising t → says t x) spoilt old new result → LooksIn says spoilt old new result
 as_it_rises {X} says spoilt old new result it = record {
   answers = λ clean holds. go result (it.same clean) (it.answers clean holds) holds;
   same = it.same;
@@ -166,7 +194,7 @@ as_it_rises {X} says spoilt old new result it = record {
 }
   where
     go : (r : Result X StoreFault) → OnOk r (IsTrue old.is_open × IsTrue new.is_open × (new.now ≡ old.now))
-        → IfOk r (λ x. Rising (tables_in old.now.trees) → says (tables_in old.now.trees) x) → Holds old
+        → IfOk r (λ x. Rising (tables_in old.now.trees) → says (tables_in old.now.trees) x) → (IsTrue old.is_open → HasTables old)
         → IfOk r (says (tables_in old.now.trees))
-    go (Ok x) same h holds = h (hub_rises old (holds same.0))
+    go (Ok x) same h holds = h (held_rise old (holds same.0))
     go (Err e) same h holds = tt

@@ -15,7 +15,7 @@ use Rattle.hub_store.specs.declared.fault.StoreFault.{StoreFault}
 use Rattle.hub_tables.specs.Tables.{Tables}
 use Rattle.hub_schema.specs.Rows.{tables_in}
 use Rattle.hub_schema.specs.Schema.{hub_schema}
-use Rattle.hub_schema.specs.State.{IsHub, LooksAmong, LooksFor, LooksUp}
+use Rattle.hub_schema.specs.State.{HasTables, IsHub, LooksAmong, LooksFor, LooksIn, LooksUp}
 use Rattle.hub_looks.specs.Asks.{OnlyReads, Asks}
 use Rattle.hub_looks.proofs.Asking.{shown_same, reads_no_commit}
 use Rattle.hub_looks.proofs.Selecting.{begins_query, only_reads}
@@ -83,6 +83,15 @@ module _ {text : List ℕ} {query : Query} {names : List (List ℕ)} (it : Selec
       → spoilt (tables_in old.now.trees))
       → (result : Result X StoreFault) → Asks Reads Spoil text params old new result → LooksFor says spoilt old new result
   looks_for = looks_among (λ s (hub : IsHub s). hub.schema) it
+
+  pub looks_in : {X : Type 0} (says : Tables → X → Type 0) (spoilt : Tables → Type 0) (Reads : List Row → X → Type 0)
+      (Spoil : List Row → Type 0) (params : Row) (old new : State)
+      → (HasTables old → (rows : List Row) → IsAnswer query (overlay old.now.trees []) params rows → (x : X) → Reads rows x
+      → says (tables_in old.now.trees) x)
+      → (HasTables old → (rows : List Row) → IsAnswer query (overlay old.now.trees []) params rows → Spoil rows
+      → spoilt (tables_in old.now.trees))
+      → (result : Result X StoreFault) → Asks Reads Spoil text params old new result → LooksIn says spoilt old new result
+  looks_in = looks_among (λ s (has : HasTables s). has.schema) it
 
   pub looks : {X : Type 0} (answer : Tables → X) (Reads : List Row → X → Type 0) (Spoil : List Row → Type 0) (params : Row)
       (old new : State)

@@ -18,13 +18,13 @@ use Rattle.hub_tables.specs.declared.rows.KeyRow.{KeyRow}
 use Rattle.hub_tables.specs.declared.rows.PrefixRow.{PrefixRow}
 use Rattle.hub_tables.proofs.KindOrders.{hub_total, key_total, prefix_total}
 use Rattle.hub_schema.specs.Rows.{hub_row_in, key_row_in, prefix_row_in, in_key_order, tables_in}
-use Rattle.hub_schema.specs.State.{IsHub, LooksFor}
-use Rattle.hub_schema.proofs.Single.{hub_kinds, hub_cells, key_kinds, key_cells, prefix_kinds, prefix_cells, hub_rises}
+use Rattle.hub_schema.specs.State.{HasTables, LooksIn}
+use Rattle.hub_schema.proofs.Single.{hub_kinds, hub_cells, key_kinds, key_cells, prefix_kinds, prefix_cells, held_rise}
 use Rattle.hub_looks.specs.Asks.{Asks}
 use Rattle.hub_looks.specs.Shown.{shown_hub, shown_key, shown_prefix}
 use Rattle.hub_looks.proofs.Finding.{all_of, no_limit, Finds, finds}
 use Rattle.hub_looks.proofs.Listing.{rows_are, rows_spoil}
-use Rattle.hub_looks.proofs.Looking.{looks_for}
+use Rattle.hub_looks.proofs.Looking.{looks_in}
 use Rattle.hub_looks.proofs.Ranking.{then_none, rank_bytes}
 use Rattle.hub_looks.proofs.Texts.{rising, hubs_text, hubs_select, keys_text, keys_select, prefixes_text, prefixes_select}
 
@@ -56,7 +56,7 @@ module _ {X : Type 0} {cmp : X → X → Ordering} (total : IsTotalOrder cmp) (f
 abbrev hub_columns : List Term
 hub_columns = col 1 1 ∷ col 1 2 ∷ col 1 3 ∷ []
 
-module _ (s : State) (hub : IsHub s) (rows : List Row)
+module _ (s : State) (hub : HasTables s) (rows : List Row)
     (answer : IsAnswer (all_of 18 [] hub_columns (rising 1 ∷ [])) (overlay s.now.trees []) [] rows) where
   hub_found : Finds (s.now.trees 18) [] hub_columns (rising 1 ∷ []) no_limit [] rows
   hub_found = finds s.now.trees 18 [] hub_columns (rising 1 ∷ []) no_limit [] rows refl answer
@@ -65,7 +65,7 @@ module _ (s : State) (hub : IsHub s) (rows : List Row)
   hubs_are =
       all_are hub_total hub_row_in shown_hub hub_columns (s.now.trees 18) rows (λ row. refl) hub_found
       (AreOf hub_kinds 0) (λ x y a b. then_none _ ∙ rank_bytes (column x 1) (column y 1) a.0 b.0)
-      (hub_cells s.now hub.schema hub.sound hub.ordered) (hub_rises s hub).hubs
+      (hub_cells s.now hub.schema hub.sound hub.ordered) (held_rise s hub).hubs
 
   hubs_spoil : list_all clean_hub (map shown_hub rows) ≡ false → list_all clean_hub (tables_in s.now.trees).hubs ≡ false
   hubs_spoil spoilt =
@@ -75,15 +75,15 @@ module _ (s : State) (hub : IsHub s) (rows : List Row)
 pub hubs_look : (old new : State) (result : Result (List HubRow) StoreFault)
     → Asks (λ rows items. items ≡ map shown_hub rows) (λ rows. list_all clean_hub (map shown_hub rows) ≡ false)
     hubs_text [] old new result
-    → LooksFor (λ t x. x ≡ t.hubs) (λ t. list_all clean_hub t.hubs ≡ false) old new result
+    → LooksIn (λ t x. x ≡ t.hubs) (λ t. list_all clean_hub t.hubs ≡ false) old new result
 hubs_look old new =
-    looks_for hubs_select _ _ _ _ [] old new (λ hub rows answer items is. is ∙ hubs_are old hub rows answer)
+    looks_in hubs_select _ _ _ _ [] old new (λ hub rows answer items is. is ∙ hubs_are old hub rows answer)
     (λ hub rows answer spoilt. hubs_spoil old hub rows answer spoilt)
 
 abbrev key_columns : List Term
 key_columns = col 1 1 ∷ col 1 2 ∷ []
 
-module _ (s : State) (hub : IsHub s) (rows : List Row)
+module _ (s : State) (hub : HasTables s) (rows : List Row)
     (answer : IsAnswer (all_of 20 [] key_columns (rising 1 ∷ [])) (overlay s.now.trees []) [] rows) where
   key_found : Finds (s.now.trees 20) [] key_columns (rising 1 ∷ []) no_limit [] rows
   key_found = finds s.now.trees 20 [] key_columns (rising 1 ∷ []) no_limit [] rows refl answer
@@ -92,7 +92,7 @@ module _ (s : State) (hub : IsHub s) (rows : List Row)
   keys_are =
       all_are key_total key_row_in shown_key key_columns (s.now.trees 20) rows (λ row. refl) key_found
       (AreOf key_kinds 0) (λ x y a b. then_none _ ∙ rank_bytes (column x 1) (column y 1) a.0 b.0)
-      (key_cells s.now hub.schema hub.sound hub.ordered) (hub_rises s hub).keys
+      (key_cells s.now hub.schema hub.sound hub.ordered) (held_rise s hub).keys
 
   keys_spoil : list_all clean_key (map shown_key rows) ≡ false → list_all clean_key (tables_in s.now.trees).keys ≡ false
   keys_spoil spoilt =
@@ -102,15 +102,15 @@ module _ (s : State) (hub : IsHub s) (rows : List Row)
 pub keys_look : (old new : State) (result : Result (List KeyRow) StoreFault)
     → Asks (λ rows items. items ≡ map shown_key rows) (λ rows. list_all clean_key (map shown_key rows) ≡ false)
     keys_text [] old new result
-    → LooksFor (λ t x. x ≡ t.keys) (λ t. list_all clean_key t.keys ≡ false) old new result
+    → LooksIn (λ t x. x ≡ t.keys) (λ t. list_all clean_key t.keys ≡ false) old new result
 keys_look old new =
-    looks_for keys_select _ _ _ _ [] old new (λ hub rows answer items is. is ∙ keys_are old hub rows answer)
+    looks_in keys_select _ _ _ _ [] old new (λ hub rows answer items is. is ∙ keys_are old hub rows answer)
     (λ hub rows answer spoilt. keys_spoil old hub rows answer spoilt)
 
 abbrev prefix_columns : List Term
 prefix_columns = col 1 1 ∷ col 1 2 ∷ []
 
-module _ (s : State) (hub : IsHub s) (rows : List Row)
+module _ (s : State) (hub : HasTables s) (rows : List Row)
     (answer : IsAnswer (all_of 22 [] prefix_columns (rising 1 ∷ [])) (overlay s.now.trees []) [] rows) where
   prefix_found : Finds (s.now.trees 22) [] prefix_columns (rising 1 ∷ []) no_limit [] rows
   prefix_found = finds s.now.trees 22 [] prefix_columns (rising 1 ∷ []) no_limit [] rows refl answer
@@ -119,7 +119,7 @@ module _ (s : State) (hub : IsHub s) (rows : List Row)
   prefixes_are =
       all_are prefix_total prefix_row_in shown_prefix prefix_columns (s.now.trees 22) rows (λ row. refl) prefix_found
       (AreOf prefix_kinds 0) (λ x y a b. then_none _ ∙ rank_bytes (column x 1) (column y 1) a.0 b.0)
-      (prefix_cells s.now hub.schema hub.sound hub.ordered) (hub_rises s hub).prefixes
+      (prefix_cells s.now hub.schema hub.sound hub.ordered) (held_rise s hub).prefixes
 
   prefixes_spoil : list_all clean_prefix (map shown_prefix rows) ≡ false → list_all clean_prefix (tables_in s.now.trees).prefixes ≡ false
   prefixes_spoil spoilt =
@@ -129,7 +129,7 @@ module _ (s : State) (hub : IsHub s) (rows : List Row)
 pub prefixes_look : (old new : State) (result : Result (List PrefixRow) StoreFault)
     → Asks (λ rows items. items ≡ map shown_prefix rows) (λ rows. list_all clean_prefix (map shown_prefix rows) ≡ false)
     prefixes_text [] old new result
-    → LooksFor (λ t x. x ≡ t.prefixes) (λ t. list_all clean_prefix t.prefixes ≡ false) old new result
+    → LooksIn (λ t x. x ≡ t.prefixes) (λ t. list_all clean_prefix t.prefixes ≡ false) old new result
 prefixes_look old new =
-    looks_for prefixes_select _ _ _ _ [] old new (λ hub rows answer items is. is ∙ prefixes_are old hub rows answer)
+    looks_in prefixes_select _ _ _ _ [] old new (λ hub rows answer items is. is ∙ prefixes_are old hub rows answer)
     (λ hub rows answer spoilt. prefixes_spoil old hub rows answer spoilt)

@@ -189,6 +189,7 @@ pub(crate) fn arrival_at(row: &Row, at: usize) -> Result<Column<Arrival>, StoreF
     match number_at(row, at)? {
         0 => Ok(Column::of(Arrival::Announced)),
         1 => Ok(Column::of(Arrival::Received)),
+        2 => Ok(Column::of(Arrival::Replaced)),
         _ => Err(StoreFault::Unclean),
     }
 }

@@ -4,7 +4,7 @@ ghost use Rattle.std.specs.List.{list_all};
 ghost use Rattle.sqlite.specs.Held.{state};
 ghost use Rattle.hub_store.specs.Clean.{clean_hub, clean_key, clean_prefix};
 ghost use Rattle.hub_founding.specs.Founding.{IsHeldBy, HoldsNone};
-ghost use Rattle.hub_schema.specs.State.{LooksFor};
+ghost use Rattle.hub_schema.specs.State.{LooksIn};
 ghost use Rattle.hub_tables.specs.Sets.{Rising};
 
 use crate::ask::rows_of;
@@ -21,7 +21,7 @@ pub fn all_hubs<S: Alter>(
     conn: &mut Connection<S>,
     alloc: Global,
 ) -> Result<Items<HubRow>, StoreFault>
-    ensures looks { LooksFor (λ t rows. rows ≡ t.hubs) (λ t. list_all clean_hub t.hubs ≡ false)
+    ensures looks { LooksIn (λ t rows. rows ≡ t.hubs) (λ t. list_all clean_hub t.hubs ≡ false)
         (state S.Store conn.old) (state S.Store conn.new) result }
     ensures clean { IfOk result (λ rows. IsTrue (list_all clean_hub rows)) }
 {
@@ -38,7 +38,7 @@ pub fn all_keys<S: Alter>(
     conn: &mut Connection<S>,
     alloc: Global,
 ) -> Result<Items<KeyRow>, StoreFault>
-    ensures looks { LooksFor (λ t rows. rows ≡ t.keys) (λ t. list_all clean_key t.keys ≡ false)
+    ensures looks { LooksIn (λ t rows. rows ≡ t.keys) (λ t. list_all clean_key t.keys ≡ false)
         (state S.Store conn.old) (state S.Store conn.new) result }
     ensures clean { IfOk result (λ rows. IsTrue (list_all clean_key rows)) }
 {
@@ -55,7 +55,7 @@ pub fn all_prefixes<S: Alter>(
     conn: &mut Connection<S>,
     alloc: Global,
 ) -> Result<Items<PrefixRow>, StoreFault>
-    ensures looks { LooksFor (λ t rows. rows ≡ t.prefixes) (λ t. list_all clean_prefix t.prefixes ≡ false)
+    ensures looks { LooksIn (λ t rows. rows ≡ t.prefixes) (λ t. list_all clean_prefix t.prefixes ≡ false)
         (state S.Store conn.old) (state S.Store conn.new) result }
     ensures clean { IfOk result (λ rows. IsTrue (list_all clean_prefix rows)) }
 {
@@ -74,7 +74,7 @@ fn register_by<S: Alter>(
     hubs: &[HubRow],
     keys: &[KeyRow],
 ) -> Result<Option<Register>, StoreFault>
-    ensures { LooksFor (λ t register. t.hubs ≡ hubs.now → t.keys ≡ keys.now → Rising t → IsHeldBy t register) HoldsNone
+    ensures { LooksIn (λ t register. t.hubs ≡ hubs.now → t.keys ≡ keys.now → Rising t → IsHeldBy t register) HoldsNone
         (state S.Store conn.old) (state S.Store conn.new) result }
 {
     let prefixes = all_prefixes(conn, alloc)?;
@@ -87,7 +87,7 @@ fn register_of_hubs<S: Alter>(
     alloc: Global,
     hubs: &[HubRow],
 ) -> Result<Option<Register>, StoreFault>
-    ensures { LooksFor (λ t register. t.hubs ≡ hubs.now → Rising t → IsHeldBy t register) HoldsNone
+    ensures { LooksIn (λ t register. t.hubs ≡ hubs.now → Rising t → IsHeldBy t register) HoldsNone
         (state S.Store conn.old) (state S.Store conn.new) result }
 {
     let keys = all_keys(conn, alloc)?;
@@ -99,7 +99,7 @@ pub fn register<S: Alter>(
     conn: &mut Connection<S>,
     alloc: Global,
 ) -> Result<Option<Register>, StoreFault>
-    ensures { LooksFor IsHeldBy HoldsNone (state S.Store conn.old) (state S.Store conn.new) result }
+    ensures { LooksIn IsHeldBy HoldsNone (state S.Store conn.old) (state S.Store conn.new) result }
 {
     let hubs = all_hubs(conn, alloc)?;
     register_of_hubs(conn, alloc, hubs.as_slice())

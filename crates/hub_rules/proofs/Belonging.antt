@@ -7,12 +7,13 @@ use Rattle.hub_tables.specs.Tables.{Tables, has_pallet, view}
 use Rattle.hub_tables.specs.declared.change.Change.{Change}
 use Rattle.hub_tables.specs.declared.change.Change.TheVariants.{AddHub, AddKey, AddPrefix}
 use Rattle.hub_tables.specs.declared.change.Change.TheVariants.{AddOrder, AddLine, SetLine, AddAdvice, AddPallet, SetPallet}
-use Rattle.hub_tables.specs.declared.change.Change.TheVariants.{AddContent, AddReceipt, Remember, AddMail, SetMail}
+use Rattle.hub_tables.specs.declared.change.Change.TheVariants.{AddContent, AddReceipt, ClearReceipts, Remember, AddMail, SetMail}
 use Rattle.hub_rules.specs.Laws.{PartiesStay}
 use Rattle.hub_rules.specs.Sound.{IsOwn, Kept, Rooted}
 
 -- No row of the hub, no key and no prefix. Rows name the supplier; a new pallet's SSCC is under its prefixes and new to it; a
--- pallet that is set, or gets a content or a receipt, is one of its own.
+-- pallet that is set, or gets a content or a receipt, is one of its own; and so is one of which the receipts go, from rows
+-- that are as they are to be.
 abbrev pub Belongs : SupplierRow → Tables → Change → Type 0
 Belongs s state (AddHub row) = ⊥
 Belongs s state (AddKey row) = ⊥
@@ -25,6 +26,7 @@ Belongs s state (AddPallet row) = (row.supplier ≡ s.gln) × (under_some row.ss
 Belongs s state (SetPallet row) = (row.supplier ≡ s.gln) × (has_pallet state row.sscc ≡ true)
 Belongs s state (AddContent row) = has_pallet state row.sscc ≡ true
 Belongs s state (AddReceipt row) = has_pallet state row.sscc ≡ true
+Belongs s state (ClearReceipts sscc) = (has_pallet state sscc ≡ true) × Kept state
 Belongs s state (Remember row) = row.supplier ≡ s.gln
 Belongs s state (AddMail row) = row.supplier ≡ s.gln
 Belongs s state (SetMail row) = row.supplier ≡ s.gln

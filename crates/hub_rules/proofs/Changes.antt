@@ -1,5 +1,5 @@
 -- What a change of one supplier's rows does to what each supplier sees.
-use Rattle.std.proofs.Common.{◌≡◌, ◌≢◌, ℕ, true, false, ◌&&◌, ◌||◌, ◌==◌, inl, inr, List, [], ◌∷◌, filter, Some, refl, sym}
+use Rattle.std.proofs.Common.{◌≡◌, ◌≢◌, ℕ, true, false, not, ◌&&◌, ◌||◌, ◌==◌, inl, inr, List, [], ◌∷◌, filter, Some, refl, sym}
 use Rattle.std.proofs.Common.{◌∙◌, ap, subst, arith}
 use Rattle.std.specs.List.{AllByRecursion, list_any}
 use Rattle.std.proofs.lemmas.Bool.{and_parts}
@@ -16,18 +16,19 @@ use Rattle.hub_tables.specs.Change.{apply, apply_all}
 use Rattle.hub_tables.specs.declared.change.Change.{Change}
 use Rattle.hub_tables.specs.declared.change.Change.TheVariants.{AddHub, AddKey, AddPrefix}
 use Rattle.hub_tables.specs.declared.change.Change.TheVariants.{AddOrder, AddLine, SetLine, AddAdvice, AddPallet, SetPallet}
-use Rattle.hub_tables.specs.declared.change.Change.TheVariants.{AddContent, AddReceipt, Remember, AddMail, SetMail}
+use Rattle.hub_tables.specs.declared.change.Change.TheVariants.{AddContent, AddReceipt, ClearReceipts, Remember, AddMail, SetMail}
 use Rattle.hub_tables.specs.declared.rows.LineRow.{LineRow}
 use Rattle.hub_tables.specs.declared.rows.PalletRow.{PalletRow}
 use Rattle.hub_tables.specs.declared.rows.MailRow.{MailRow}
 use Rattle.hub_tables.proofs.Lists.{decide, same_is, same_if, differ, filter_alike, filter_replace, filter_replace_out}
-use Rattle.hub_tables.proofs.Lists.{all_replace, all_weaker, all_always}
+use Rattle.hub_tables.proofs.Lists.{all_filter, all_replace, all_weaker, all_always}
 use Rattle.hub_tables.proofs.KeyOrder.{all_put, any_put, filter_put_in, filter_put_out}
 use Rattle.hub_tables.proofs.KindOrders.{order_total, line_total, advice_total, pallet_total, content_total, receipt_total}
 use Rattle.hub_tables.proofs.KindOrders.{remembered_total, mail_total, ordered_after}
 use Rattle.hub_rules.specs.Laws.{PartiesStay}
 use Rattle.hub_rules.specs.Sound.{IsRooted, Rooted}
 use Rattle.hub_rules.proofs.Belonging.{Belongs, BelongAll, Follows}
+use Rattle.hub_rules.proofs.Filters.{filter_again, filter_swap}
 use Rattle.hub_rules.proofs.Prefixes.{ours, under_held, holds_seen, holds_all, holds_none}
 
 -- a pallet set keeps its SSCC and supplier, so each supplier holds what it held
@@ -175,6 +176,9 @@ module _ (suppliers : List SupplierRow) (free : PrefixFree (company_prefixes sup
   seen (AddReceipt r) h =
       ap (λ xs. record (view s.gln t) { receipts = xs })
       (filter_put_in receipt_total (λ c. holds s.gln t.pallets c.sscc) t.receipts r (rooted.ordered).receipts (held r.sscc h))
+  seen (ClearReceipts sscc) h =
+      ap (λ xs. record (view s.gln t) { receipts = xs })
+      (filter_swap (λ c. holds s.gln t.pallets c.sscc) (λ c. not (same c.sscc sscc)) t.receipts)
   seen (Remember r) h =
       ap (λ xs. record (view s.gln t) { remembered = xs })
       (filter_put_in remembered_total (λ r. same r.supplier s.gln) t.remembered r (rooted.ordered).remembered
@@ -227,6 +231,13 @@ module _ (suppliers : List SupplierRow) (free : PrefixFree (company_prefixes sup
       ap (λ xs. record (view other t) { receipts = xs })
       (filter_put_out receipt_cmp (λ c. holds other t.pallets c.sscc) t.receipts r
       (holds_none s.gln other t.pallets r.sscc ne (mine r.sscc (below_held r.sscc h))))
+  unseen (ClearReceipts sscc) h other ne =
+      ap (λ xs. record (view other t) { receipts = xs })
+      (filter_again (λ c. holds other t.pallets c.sscc) (λ c. not (same c.sscc sscc)) t.receipts (λ c there.
+      ap not (differ c.sscc sscc (λ e.
+      let none = holds_none s.gln other t.pallets sscc ne (mine sscc (below_held sscc h.0)) in
+      let here = ap (holds other t.pallets) e in
+      (cc)))))
   unseen (Remember r) h other ne =
       ap (λ xs. record (view other t) { remembered = xs })
       (filter_put_out remembered_cmp (λ r. same r.supplier other) t.remembered r (not_theirs r.supplier other ne h))
@@ -320,6 +331,13 @@ module _ (suppliers : List SupplierRow) (free : PrefixFree (company_prefixes sup
         contents = rooted.contents;
         receipts = all_put receipt_cmp (λ c. has_pallet t c.sscc ≡ true) t.receipts r rooted.receipts (in_all r.sscc h);
       }
+  rooted_after (ClearReceipts sscc) h =
+      record {
+        ordered = ordered_after (ClearReceipts sscc) t rooted.ordered;
+        pallets = rooted.pallets;
+        contents = rooted.contents;
+        receipts = all_filter (λ c. has_pallet t c.sscc ≡ true) (λ c. not (same c.sscc sscc)) t.receipts rooted.receipts;
+      }
   rooted_after (Remember r) h =
       record {
         ordered = ordered_after (Remember r) t rooted.ordered;
@@ -343,7 +361,7 @@ module _ (suppliers : List SupplierRow) (free : PrefixFree (company_prefixes sup
       }
 
 -- nothing of the register is changed
-parties_stay : (s : SupplierRow) (state t : Tables) (c : Change) → Belongs s state c → PartiesStay t (apply c t)
+pub parties_stay : (s : SupplierRow) (state t : Tables) (c : Change) → Belongs s state c → PartiesStay t (apply c t)
 parties_stay s state t (AddHub r) h = absurd h
 parties_stay s state t (AddKey r) h = absurd h
 parties_stay s state t (AddPrefix r) h = absurd h
@@ -355,6 +373,7 @@ parties_stay s state t (AddPallet r) h = record { hubs = refl; keys = refl; pref
 parties_stay s state t (SetPallet r) h = record { hubs = refl; keys = refl; prefixes = refl }
 parties_stay s state t (AddContent r) h = record { hubs = refl; keys = refl; prefixes = refl }
 parties_stay s state t (AddReceipt r) h = record { hubs = refl; keys = refl; prefixes = refl }
+parties_stay s state t (ClearReceipts sscc) h = record { hubs = refl; keys = refl; prefixes = refl }
 parties_stay s state t (Remember r) h = record { hubs = refl; keys = refl; prefixes = refl }
 parties_stay s state t (AddMail r) h = record { hubs = refl; keys = refl; prefixes = refl }
 parties_stay s state t (SetMail r) h = record { hubs = refl; keys = refl; prefixes = refl }

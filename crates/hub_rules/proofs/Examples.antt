@@ -1,5 +1,5 @@
 -- The rules at small states.
-use Rattle.std.proofs.Common.{◌≡◌, ℕ, ◌+◌, nat_lt, Bool, true, false, List, [], ◌∷◌, length, Option, Some, None, codes, refl, ◌∙◌}
+use Rattle.std.proofs.Common.{◌≡◌, ℕ, ◌+◌, nat_lt, Bool, true, false, List, [], ◌∷◌, ◌++◌, length, map, Option, Some, None, codes, refl, ◌∙◌}
 use Rattle.edi_orders.specs.declared.order.Order.{Order}
 use Rattle.edi_orders.specs.declared.response.Answer.TheVariants as answers
 use Rattle.edi_orders.specs.declared.response.LineAnswer.{LineAnswer}
@@ -11,14 +11,16 @@ use Rattle.edi_goods.specs.declared.receipt.ReceiptLine.{ReceiptLine}
 use Rattle.edi_goods.specs.declared.receipt.ReceiptUnit.{ReceiptUnit}
 use Rattle.hub_parties.specs.declared.row.SupplierRow.{SupplierRow}
 use Rattle.hub_tables.specs.Cases.{answer_letter, arrival_number}
+use Rattle.hub_tables.specs.Change.{apply_all}
 use Rattle.hub_tables.specs.State.{knows_order}
 use Rattle.hub_tables.specs.Tables.{Tables, empty}
 use Rattle.hub_tables.specs.declared.cases.Answered.{Answered}
 use Rattle.hub_tables.specs.declared.cases.Answered.TheVariants.{Waiting, Accepted, NotAccepted, Changed}
 use Rattle.hub_tables.specs.declared.cases.Arrival.TheVariants.{Announced, Received}
 use Rattle.hub_tables.specs.declared.change.Change.TheVariants.{AddOrder, AddLine, SetLine, AddAdvice, AddPallet, SetPallet}
-use Rattle.hub_tables.specs.declared.change.Change.TheVariants.{AddContent, AddReceipt, Remember, AddMail}
+use Rattle.hub_tables.specs.declared.change.Change.TheVariants.{AddContent, AddReceipt, ClearReceipts, Remember, AddMail}
 use Rattle.hub_tables.specs.declared.rows.LineRow.{LineRow}
+use Rattle.hub_tables.specs.declared.rows.MailRow.{MailRow}
 use Rattle.hub_tables.specs.declared.rows.PalletRow.{PalletRow}
 use Rattle.hub_rules.specs.CancellationRules.{judge_new_cancel}
 use Rattle.hub_rules.specs.DespatchRules.{judge_new_despatch}
@@ -214,12 +216,18 @@ sscc_of_an_earlier_unit = refl
 abbrev incoming : List ℕ → List ℕ → IncomingMessage
 incoming control content = record { control = control; message = codes "1"; content = content; moment = 1748942400; decimal = 46 }
 
--- a receipt of units, on what is on the pallet
-abbrev received_of : List ReceiptUnit → Verdict
-received_of units =
+-- a receipt of units, that takes the place of those before or not
+abbrev received_on : Bool → Tables → List ReceiptUnit → Verdict
+received_on replaces state units =
     judge_new_receipt gln (incoming (codes "1005") []) (codes "body")
-    (record { number = codes "G1"; buyer = Some buyer; supplier = gln; units = units })
-    (with_content 12 (with_lines (line 1 48 24 12 0 Changed ∷ [])))
+    (record { number = codes "G1"; replaces = replaces; buyer = Some buyer; supplier = gln; units = units }) state
+
+abbrev announced : Tables
+announced = with_content 12 (with_lines (line 1 48 24 12 0 Changed ∷ []))
+
+-- on what is on the pallet
+abbrev received_of : List ReceiptUnit → Verdict
+received_of = received_on false announced
 
 abbrev received_line : List ℕ → ℕ → ℕ → ReceiptLine
 received_line gtin accepted returned = record { gtin = gtin; accepted = accepted; returned = returned; destroyed = 0 }
@@ -254,6 +262,100 @@ received_twice_before_unknown : received_of (record { sscc = sscc; lines = recei
     ∷ [])
     ≡ Refuse codes_of.PalletReceived
 received_twice_before_unknown = refl
+
+-- The pallet is received with two articles, and then by an advice that replaces, with twelve of one of them alone.
+abbrev first_units : List ReceiptUnit
+first_units = record { sscc = sscc; lines = received_line article 10 1 ∷ received_line other_article 3 0 ∷ [] } ∷ []
+
+abbrev units_of_twelve : List ReceiptUnit
+units_of_twelve = record { sscc = sscc; lines = received_line article 12 0 ∷ [] } ∷ []
+
+abbrev left_by : (Tables → Verdict) → Tables → Tables
+left_by judge state = done (judge state) state
+  where
+    done : Verdict → Tables → Tables
+    done (Accept changes) t = apply_all changes t
+    done (Refuse code) t = t
+
+abbrev once_received : Tables
+once_received = left_by (λ t. received_on false t first_units) announced
+
+abbrev replaced : Tables
+replaced = left_by (λ t. received_on true t units_of_twelve) once_received
+
+first_sums : once_received.receipts
+    ≡ record { sscc = sscc; gtin = article; accepted = 10; returned = 1; destroyed = 0 }
+    ∷ record { sscc = sscc; gtin = other_article; accepted = 3; returned = 0; destroyed = 0 }
+    ∷ []
+first_sums = refl
+
+sums_replaced : replaced.receipts ≡ record { sscc = sscc; gtin = article; accepted = 12; returned = 0; destroyed = 0 } ∷ []
+sums_replaced = refl
+
+arrival_replaced : replaced.pallets ≡ record pallet { received = 2 } ∷ []
+arrival_replaced = refl
+
+both_told_in_the_mailbox : map (λ (entry : MailRow). entry.number) replaced.mail ≡ 1 ∷ 2 ∷ []
+both_told_in_the_mailbox = refl
+
+-- the receipts go between the pallet and the new sums
+replaced_by : received_on true once_received units_of_twelve
+    ≡ Accept (
+    AddMail (record {
+      supplier = gln;
+      number = 2;
+      moment = 1748942400;
+      decimal = 46;
+      kind = 0x52;
+      document = codes "G1";
+      body = codes "body";
+      taken = 0;
+    })
+    ∷ SetPallet (record pallet { received = 2 })
+    ∷ ClearReceipts sscc
+    ∷ AddReceipt (record { sscc = sscc; gtin = article; accepted = 12; returned = 0; destroyed = 0 })
+    ∷ [])
+replaced_by = refl
+
+received_after_it_was_replaced : received_on false replaced units_of_twelve ≡ Refuse codes_of.PalletReceived
+received_after_it_was_replaced = refl
+
+replaced_again : (left_by (λ t. received_on true t first_units) replaced).receipts ≡ once_received.receipts
+replaced_again = refl
+
+no_pallet_to_replace : received_on true replaced (record { sscc = next_sscc; lines = received_line article 1 0 ∷ [] } ∷ [])
+    ≡ Refuse codes_of.NoPallet
+no_pallet_to_replace = refl
+
+no_pallet_to_receive : received_on false replaced (record { sscc = next_sscc; lines = received_line article 1 0 ∷ [] } ∷ [])
+    ≡ Refuse codes_of.NoPallet
+no_pallet_to_receive = refl
+
+-- a pallet that was not received is received so
+replaced_at_first : (left_by (λ t. received_on true t units_of_twelve) announced).pallets ≡ record pallet { received = 2 } ∷ []
+replaced_at_first = refl
+
+sums_at_first : (left_by (λ t. received_on true t units_of_twelve) announced).receipts
+    ≡ record { sscc = sscc; gtin = article; accepted = 12; returned = 0; destroyed = 0 } ∷ []
+sums_at_first = refl
+
+-- what was received of another pallet stays, and so does the pallet
+abbrev beside : Tables
+beside = record once_received {
+  pallets = once_received.pallets ++ record pallet { sscc = next_sscc; received = arrival_number Received } ∷ [];
+  receipts =
+      once_received.receipts ++ record { sscc = next_sscc; gtin = article; accepted = 7; returned = 0; destroyed = 0 } ∷ [];
+}
+
+others_stay : (left_by (λ t. received_on true t units_of_twelve) beside).receipts
+    ≡ record { sscc = sscc; gtin = article; accepted = 12; returned = 0; destroyed = 0 }
+    ∷ record { sscc = next_sscc; gtin = article; accepted = 7; returned = 0; destroyed = 0 }
+    ∷ []
+others_stay = refl
+
+other_pallets_stay : (left_by (λ t. received_on true t units_of_twelve) beside).pallets
+    ≡ record pallet { received = 2 } ∷ record pallet { sscc = next_sscc; received = 1 } ∷ []
+other_pallets_stay = refl
 
 -- a cancellation of line 1, 24 of it open, where C1 with ten is remembered, or nothing
 abbrev cancelled : List ℕ → List ℕ → ℕ → Cancel
@@ -399,7 +501,7 @@ response_remembered = refl
 
 receipt_remembered :
     judge_receipt buyer (Some alpha) (record (incoming (codes "1005") (codes "content")) { decimal = 44 }) (codes "body")
-    (record { number = codes "G1"; buyer = None; supplier = gln; units = [] }) empty
+    (record { number = codes "G1"; replaces = false; buyer = None; supplier = gln; units = [] }) empty
     ≡ Accept (
     Remember (record { supplier = gln; side = 0x52; control = codes "1005"; message = codes "1"; content = codes "content" })
     ∷ AddMail (record {
@@ -455,9 +557,9 @@ full_for_an_order state new full =
     passed_at (knows_order state number) codes_of.OrderKnown _ new
     ∙ refused_at (nat_lt 99_999_999_999_999 (length state.mail + 1)) codes_of.MailboxFull _ full
 
-full_for_a_receipt : (state : Tables) (units : List ReceiptUnit)
+full_for_a_receipt : (state : Tables) (replaces : Bool) (units : List ReceiptUnit)
     → nat_lt 99_999_999_999_999 (length state.mail + 1) ≡ true
-    → judge_new_receipt gln (incoming [] []) [] (record { number = codes "G1"; buyer = None; supplier = gln; units = units })
-    state
+    → judge_new_receipt gln (incoming [] []) []
+    (record { number = codes "G1"; replaces = replaces; buyer = None; supplier = gln; units = units }) state
     ≡ Refuse codes_of.MailboxFull
-full_for_a_receipt state units full = refused_at (nat_lt 99_999_999_999_999 (length state.mail + 1)) codes_of.MailboxFull _ full
+full_for_a_receipt state replaces units full = refused_at (nat_lt 99_999_999_999_999 (length state.mail + 1)) codes_of.MailboxFull _ full

@@ -1,6 +1,6 @@
 -- What receipts leave of a supplier's rows.
-use Rattle.std.proofs.Common.{◌≡◌, ℕ, Bool, true, false, cond, not, ◌||◌, inl, inr, List, [], ◌∷◌, map, filter, Some, refl}
-use Rattle.std.proofs.Common.{sym, ◌∙◌, ap, ap₂, arith, length}
+use Rattle.std.proofs.Common.{◌≡◌, ℕ, Bool, true, false, cond, not, ◌&&◌, ◌||◌, inl, inr, List, [], ◌∷◌, ◌++◌, map, filter, Some}
+use Rattle.std.proofs.Common.{refl, sym, ◌∙◌, ap, ap₂, subst, arith, length}
 use Rattle.std.specs.List.{AllByRecursion, list_any}
 use Rattle.std.proofs.lemmas.Bool.{or_parts, or_from}
 use Rattle.edi_base.proofs.Twice.{bytes_eq-sym}
@@ -13,24 +13,25 @@ use Rattle.hub_tables.specs.Change.{apply}
 use Rattle.hub_tables.specs.Rows.{same, receipt_cmp}
 use Rattle.hub_tables.specs.State.{pallet_of}
 use Rattle.hub_tables.specs.Tables.{Tables, has_pallet}
-use Rattle.hub_tables.specs.declared.cases.Arrival.TheVariants.{Received}
 use Rattle.hub_tables.specs.declared.cases.MailKind.TheVariants as kinds
 use Rattle.hub_tables.specs.declared.cases.Side.TheVariants as sides
 use Rattle.hub_tables.specs.declared.change.Change.{Change}
-use Rattle.hub_tables.specs.declared.change.Change.TheVariants.{SetPallet, AddReceipt}
+use Rattle.hub_tables.specs.declared.change.Change.TheVariants.{SetPallet, AddReceipt, ClearReceipts}
 use Rattle.hub_tables.specs.declared.rows.PalletRow.{PalletRow}
 use Rattle.hub_tables.specs.declared.rows.ReceiptRow.{ReceiptRow}
 use Rattle.hub_tables.proofs.KeyOrder.{any_put, filter_put_in}
 use Rattle.hub_tables.proofs.KindOrders.{receipt_total}
-use Rattle.hub_tables.proofs.Lists.{decide, same_is, same_if, differ, all_weaker, all_always, all_found, any_if_found, filter_none}
+use Rattle.hub_tables.proofs.Lists.{decide, same_is, same_if, differ, all_filter, all_weaker, all_always, all_found, any_if_found}
+use Rattle.hub_tables.proofs.Lists.{filter_none}
 use Rattle.hub_rules.specs.Laws.{KeptOwn}
 use Rattle.hub_rules.specs.Judging.{in_order}
-use Rattle.hub_rules.specs.Sound.{Single, was_received}
+use Rattle.hub_rules.specs.Sound.{Single, Kept, same_gtin, was_received}
 use Rattle.hub_rules.specs.MailboxRules.{is_full, new_mail}
-use Rattle.hub_rules.specs.ReceiptRules.{gtins, total, new_receipt, judge_received, judge_new_receipt}
+use Rattle.hub_rules.specs.ReceiptRules.{gtins, total, new_receipt, arrival_by, cleared, judge_received, judge_new_receipt}
 use Rattle.hub_rules.specs.Rules.{judge_receipt}
 use Rattle.hub_rules.specs.declared.code.Code.TheVariants as codes
 use Rattle.hub_rules.specs.declared.incoming.IncomingMessage.{IncomingMessage}
+use Rattle.hub_rules.proofs.Filters.{filter_swap, filter_opposite}
 use Rattle.hub_rules.proofs.GoodRows.{good_after, leaves_good}
 use Rattle.hub_rules.proofs.Keeping.{kept_received, kept_receipt, kept_mail}
 use Rattle.hub_rules.proofs.KeptByMessages.{leads_message}
@@ -54,6 +55,26 @@ single_filter alike p [] a = tt
 single_filter alike p (x ∷ xs) a =
     elim (p x) as (λ v. Single alike (cond v (x ∷ filter p xs) (filter p xs)))
     [ true ↦ (any_less (alike x) p xs a.0, single_filter alike p xs a.1) | false ↦ single_filter alike p xs a.1 ]
+
+-- the receipts of a pallet go
+kept_cleared : (state : Tables) (sscc : List ℕ) → Kept state → Kept (apply (ClearReceipts sscc) state)
+kept_cleared state sscc kept = record {
+  orders = kept.orders;
+  lines = kept.lines;
+  advices = kept.advices;
+  pallets = kept.pallets;
+  contents = kept.contents;
+  receipts = λ of.
+      subst (Single same_gtin) (filter_swap (λ (r : ReceiptRow). not (same r.sscc sscc)) (λ r. same r.sscc of) state.receipts)
+      (single_filter same_gtin (λ r. not (same r.sscc sscc)) (filter (λ r. same r.sscc of) state.receipts) (kept.receipts of));
+  remembered = kept.remembered;
+  mail = kept.mail;
+  line_orders = kept.line_orders;
+  content_lines = kept.content_lines;
+  receipt_pallets =
+      all_filter (λ r. was_received state r.sscc ≡ true) (λ r. not (same r.sscc sscc)) state.receipts kept.receipt_pallets;
+  balanced = kept.balanced;
+}
 
 gone : (gtin : List ℕ) (gtins : List (List ℕ)) → list_any (same gtin) (filter (λ other. not (same other gtin)) gtins) ≡ false
 gone gtin [] = refl
@@ -80,6 +101,12 @@ receipt_of sscc lines gtin = record {
 -- no receipt on the pallet has the article
 abbrev Lacks : List ℕ → Tables → List ℕ → Type 0
 Lacks sscc state gtin = list_any (λ y. same y.gtin gtin) (filter (λ y. same y.sscc sscc) state.receipts) ≡ false
+
+abbrev arrived_by : Bool → PalletRow → PalletRow
+arrived_by replaces pallet = record pallet { received = arrival_number (arrival_by replaces) }
+
+abbrev set : Tables → Bool → PalletRow → Tables
+set state replaces pallet = apply (SetPallet (arrived_by replaces pallet)) state
 
 module _ (s : SupplierRow) where
   still_lacking : (sscc : List ℕ) (lines : List ReceiptLine) (gtin : List ℕ) (state : Tables)
@@ -115,41 +142,90 @@ module _ (s : SupplierRow) where
       (kept_receipt state good.kept row good.own.ordered.receipts received lacking.0)) there received single.1
       (still_lacking sscc lines gtin state good gtins single.0 lacking.1))
 
-  leads_received : (unit : ReceiptUnit) → Leads s (KeptOwn s) (KeptOwn s) (judge_received unit)
-  leads_received unit state changes good h =
+  -- a pallet of the supplier is received, and then come changes of what is received
+  leaves_arrived : (sscc : List ℕ) (row : PalletRow) (state : Tables) (later : List Change)
+      → KeptOwn s state
+      → row.sscc ≡ sscc
+      → row.supplier ≡ s.gln
+      → is_received row ≡ true
+      → has_pallet state sscc ≡ true
+      → (KeptOwn s (apply (SetPallet row) state)
+      → has_pallet (apply (SetPallet row) state) sscc ≡ true
+      → was_received (apply (SetPallet row) state) sscc ≡ true
+      → Leaves s (KeptOwn s) (apply (SetPallet row) state) later)
+      → Leaves s (KeptOwn s) state (SetPallet row ∷ later)
+  leaves_arrived sscc row state later good which whose now there f =
+      let here : has_pallet state row.sscc ≡ true = ap (has_pallet state) which ∙ there in
+      let after : Tables = apply (SetPallet row) state in
+      let belongs : (row.supplier ≡ s.gln) × (has_pallet state row.sscc ≡ true) = (whose, here) in
+      leaves_next s (KeptOwn s) state (SetPallet row) later belongs
+      (f (good_after s state (SetPallet row) belongs good.own (kept_received state good.kept row now))
+      (pallet_stays sscc state (SetPallet row) there)
+      (ap (was_received after) (sym which) ∙ received_now row state.pallets now here))
+
+  -- no receipt is there of a pallet that was not received
+  none_yet : (sscc : List ℕ) (state : Tables)
+      → KeptOwn s state
+      → was_received state sscc ≡ false
+      → filter (λ y. same y.sscc sscc) state.receipts ≡ []
+  none_yet sscc state good not_yet =
+      filter_none (λ y. same y.sscc sscc) state.receipts
+      (all_weaker (λ r. was_received state r.sscc ≡ true) (λ r. same r.sscc sscc ≡ false)
+      (λ r was. differ r.sscc sscc (λ e. let both = ap (was_received state) e in (cc))) state.receipts
+      good.kept.receipt_pallets)
+
+  all_lacking : (sscc : List ℕ) (state : Tables) (gtins : List (List ℕ))
+      → filter (λ y. same y.sscc sscc) state.receipts ≡ []
+      → AllByRecursion (Lacks sscc state) gtins
+  all_lacking sscc state gtins none =
+      all_always (Lacks sscc state) (λ gtin. ap (list_any (λ (y : ReceiptRow). same y.gtin gtin)) none) gtins
+
+  leads_received : (replaces : Bool) (unit : ReceiptUnit) → Leads s (KeptOwn s) (KeptOwn s) (judge_received replaces unit)
+  leads_received replaces unit state changes good h =
       let p = was_given (pallet_of state unit.sscc) codes.NoPallet _ changes h in
-      let a = not_refused (is_received p.0) codes.PalletReceived _ changes p.2 in
+      let a = not_refused (not replaces && is_received p.0) codes.PalletReceived _ changes p.2 in
       let found = all_found (λ p. p.supplier ≡ s.gln) (λ p. same p.sscc unit.sscc) state.pallets p.0 good.own.pallets p.1 in
       let which : p.0.sscc ≡ unit.sscc = same_is p.0.sscc unit.sscc found.1 in
       let there : has_pallet state unit.sscc ≡ true = any_if_found (λ p. same p.sscc unit.sscc) state.pallets p.0 p.1 in
-      let here : has_pallet state p.0.sscc ≡ true = ap (has_pallet state) which ∙ there in
-      let row : PalletRow = record p.0 { received = arrival_number Received } in
-      let after : Tables = apply (SetPallet row) state in
-      let received : was_received after unit.sscc ≡ true = ap (was_received after) (sym which) ∙ received_now row state.pallets refl here in
-      let not_yet = found_unreceived unit.sscc state.pallets p.0 good.kept.pallets p.1 a.0 in
-      let none : filter (λ y. same y.sscc unit.sscc) state.receipts ≡ [] =
-      filter_none (λ y. same y.sscc unit.sscc) state.receipts
-      (all_weaker (λ r. was_received state r.sscc ≡ true) (λ r. same r.sscc unit.sscc ≡ false)
-      (λ r was. differ r.sscc unit.sscc (λ e. let both = ap (was_received state) e in (cc))) state.receipts
-      good.kept.receipt_pallets) in
-      let lacking : AllByRecursion (Lacks unit.sscc after) (gtins unit.lines) =
-      all_always (Lacks unit.sscc after) (λ gtin. ap (list_any (λ (y : ReceiptRow). same y.gtin gtin)) none)
-      (gtins unit.lines) in
-      let belongs : (row.supplier ≡ s.gln) × (has_pallet state row.sscc ≡ true) = (found.0, here) in
-      leaves_given s (KeptOwn s) state (SetPallet row ∷ map (new_receipt unit.sscc unit.lines) (gtins unit.lines)) changes a.1
-      (leaves_next s (KeptOwn s) state (SetPallet row) (map (new_receipt unit.sscc unit.lines) (gtins unit.lines)) belongs
-      (leaves_receipts unit.sscc unit.lines (gtins unit.lines) after
-      (good_after s state (SetPallet row) belongs good.own (kept_received state good.kept row refl))
-      (pallet_stays unit.sscc state (SetPallet row) there) received (gtins_single unit.lines) lacking))
+      leaves_given s (KeptOwn s) state _ changes a.1
+      (leaves_arrived unit.sscc _ state _ good which found.0 (arrived p.0 replaces) there
+      (later replaces p.0 a.0 p.1))
+    where
+      arrived : (p : PalletRow) (replaces : Bool) → is_received (arrived_by replaces p) ≡ true
+      arrived p true = refl
+      arrived p false = refl
+
+      sums : List Change
+      sums = map (new_receipt unit.sscc unit.lines) (gtins unit.lines)
+
+      later : (replaces : Bool) (p : PalletRow)
+          → (not replaces && is_received p) ≡ false
+          → pallet_of state unit.sscc ≡ Some p
+          → KeptOwn s (set state replaces p)
+          → has_pallet (set state replaces p) unit.sscc ≡ true
+          → was_received (set state replaces p) unit.sscc ≡ true
+          → Leaves s (KeptOwn s) (set state replaces p) (cleared replaces unit.sscc ++ sums)
+      later true p asked found set_good there received =
+          let clear : Change = ClearReceipts unit.sscc in
+          let belongs : (has_pallet (set state true p) unit.sscc ≡ true) × Kept (set state true p) = (there, set_good.kept) in
+          leaves_next s (KeptOwn s) (set state true p) clear sums belongs
+          (leaves_receipts unit.sscc unit.lines (gtins unit.lines) (apply clear (set state true p))
+          (good_after s (set state true p) clear belongs set_good.own (kept_cleared (set state true p) unit.sscc set_good.kept)) there
+          received (gtins_single unit.lines) (all_lacking unit.sscc (apply clear (set state true p)) (gtins unit.lines)
+          (filter_opposite (λ (y : ReceiptRow). same y.sscc unit.sscc) state.receipts)))
+      later false p asked found set_good there received =
+          leaves_receipts unit.sscc unit.lines (gtins unit.lines) (set state false p) set_good there received
+          (gtins_single unit.lines) (all_lacking unit.sscc (set state false p) (gtins unit.lines)
+          (none_yet unit.sscc state good (found_unreceived unit.sscc state.pallets p good.kept.pallets found asked)))
 
   leads_new_receipt : (incoming : IncomingMessage) (body : List ℕ) (receipt : Receipt)
       → Leads s (KeptOwn s) (KeptOwn s) (judge_new_receipt s.gln incoming body receipt)
   leads_new_receipt incoming body receipt state changes good h =
       let a = not_refused (is_full (length state.mail)) codes.MailboxFull _ changes h in
       let mail : Change = new_mail s.gln state incoming kinds.Receipt receipt.number body in
-      leaves_in_turn s (KeptOwn s) (KeptOwn s) (mail ∷ []) (in_order judge_received receipt.units) state changes
+      leaves_in_turn s (KeptOwn s) (KeptOwn s) (mail ∷ []) (in_order (judge_received receipt.replaces) receipt.units) state changes
       (leaves_good s state mail refl good.own (kept_mail state good.kept s.gln _ good.own.mail refl refl))
-      (leads_in_order s (KeptOwn s) judge_received leads_received receipt.units) a.1
+      (leads_in_order s (KeptOwn s) (judge_received receipt.replaces) (leads_received receipt.replaces) receipt.units) a.1
 
   pub leads_receipt : (retailer : List ℕ) (incoming : IncomingMessage) (body : List ℕ) (receipt : Receipt)
       → Leads s (KeptOwn s) (KeptOwn s) (judge_receipt retailer (Some s) incoming body receipt)

@@ -2,6 +2,8 @@ pub mod Alike
 pub mod Belonging
 pub mod Changes
 mod Examples
+pub mod Filters
+pub mod Fitting
 pub mod GoodRows
 mod JoinExamples
 pub mod Joining

@@ -1,5 +1,5 @@
 -- Each change that is the supplier's leaves its rows its own.
-use Rattle.std.proofs.Common.{◌≡◌, ℕ, true, ◌||◌, List, [], ◌∷◌, ◌∙◌, ap}
+use Rattle.std.proofs.Common.{◌≡◌, ℕ, true, not, ◌||◌, List, [], ◌∷◌, ◌∙◌, ap}
 use Rattle.std.specs.List.{list_any}
 use Rattle.hub_parties.specs.declared.row.SupplierRow.{SupplierRow}
 use Rattle.hub_tables.specs.Change.{apply}
@@ -9,10 +9,10 @@ use Rattle.hub_tables.specs.Tables.{Tables, has_pallet}
 use Rattle.hub_tables.specs.declared.change.Change.{Change}
 use Rattle.hub_tables.specs.declared.change.Change.TheVariants.{AddHub, AddKey, AddPrefix}
 use Rattle.hub_tables.specs.declared.change.Change.TheVariants.{AddOrder, AddLine, SetLine, AddAdvice, AddPallet, SetPallet}
-use Rattle.hub_tables.specs.declared.change.Change.TheVariants.{AddContent, AddReceipt, Remember, AddMail, SetMail}
+use Rattle.hub_tables.specs.declared.change.Change.TheVariants.{AddContent, AddReceipt, ClearReceipts, Remember, AddMail, SetMail}
 use Rattle.hub_tables.proofs.KeyOrder.{all_put, any_put}
 use Rattle.hub_tables.proofs.KindOrders.{ordered_after}
-use Rattle.hub_tables.proofs.Lists.{all_replace, all_weaker}
+use Rattle.hub_tables.proofs.Lists.{all_filter, all_replace, all_weaker}
 use Rattle.hub_rules.specs.Sound.{IsOwn}
 use Rattle.hub_rules.proofs.Belonging.{Belongs}
 use Rattle.hub_rules.proofs.Changes.{has_set}
@@ -33,6 +33,7 @@ pallet_stays sscc state (AddPallet r) h =
 pallet_stays sscc state (SetPallet r) h = has_set r state.pallets sscc ∙ h
 pallet_stays sscc state (AddContent r) h = h
 pallet_stays sscc state (AddReceipt r) h = h
+pallet_stays sscc state (ClearReceipts cleared) h = h
 pallet_stays sscc state (Remember r) h = h
 pallet_stays sscc state (AddMail r) h = h
 pallet_stays sscc state (SetMail r) h = h
@@ -162,6 +163,20 @@ own_after s state (AddReceipt r) h own = record {
   pallets = own.pallets;
   contents = own.contents;
   receipts = all_put receipt_cmp (λ c. has_pallet state c.sscc ≡ true) state.receipts r own.receipts h;
+  remembered = own.remembered;
+  mail = own.mail;
+}
+own_after s state (ClearReceipts sscc) h own = record {
+  ordered = ordered_after (ClearReceipts sscc) state own.ordered;
+  hubs = own.hubs;
+  keys = own.keys;
+  prefixes = own.prefixes;
+  orders = own.orders;
+  lines = own.lines;
+  advices = own.advices;
+  pallets = own.pallets;
+  contents = own.contents;
+  receipts = all_filter (λ c. has_pallet state c.sscc ≡ true) (λ c. not (same c.sscc sscc)) state.receipts own.receipts;
   remembered = own.remembered;
   mail = own.mail;
 }

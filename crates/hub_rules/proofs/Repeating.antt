@@ -15,7 +15,7 @@ use Rattle.hub_tables.specs.Tables.{Tables, view}
 use Rattle.hub_tables.specs.declared.change.Change.{Change}
 use Rattle.hub_tables.specs.declared.change.Change.TheVariants.{AddHub, AddKey, AddPrefix}
 use Rattle.hub_tables.specs.declared.change.Change.TheVariants.{AddOrder, AddLine, SetLine, AddAdvice, AddPallet, SetPallet}
-use Rattle.hub_tables.specs.declared.change.Change.TheVariants.{AddContent, AddReceipt, Remember, AddMail, SetMail}
+use Rattle.hub_tables.specs.declared.change.Change.TheVariants.{AddContent, AddReceipt, ClearReceipts, Remember, AddMail, SetMail}
 use Rattle.hub_tables.specs.declared.rows.RememberedRow.{RememberedRow}
 use Rattle.hub_tables.proofs.Lists.{same_if}
 use Rattle.hub_tables.proofs.Members.{none_of, has_filter}
@@ -69,6 +69,7 @@ has_after (AddPallet r) t row h = h
 has_after (SetPallet r) t row h = h
 has_after (AddContent r) t row h = h
 has_after (AddReceipt r) t row h = h
+has_after (ClearReceipts sscc) t row h = h
 has_after (Remember r) t row h = put_has remembered_cmp t.remembered r row (inr h)
 has_after (AddMail r) t row h = h
 has_after (SetMail r) t row h = h

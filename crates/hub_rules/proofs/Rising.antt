@@ -19,11 +19,12 @@ use Rattle.hub_tables.specs.Rows.{same, order_cmp, line_cmp, advice_cmp, pallet_
 use Rattle.hub_tables.specs.Sets.{Rising}
 use Rattle.hub_tables.specs.Tables.{Tables, Ordered, has_pallet, holds, view}
 use Rattle.hub_tables.specs.declared.rows.MailRow.{MailRow}
-use Rattle.hub_tables.proofs.KeyOrder.{in_order_filter}
-use Rattle.hub_tables.proofs.Lists.{decide, same_is, same_if, filter_none, all_filter, all_weaker, all_always}
+use Rattle.hub_tables.proofs.KeyOrder.{in_order_filter, rises_filter}
+use Rattle.hub_tables.proofs.Lists.{decide, same_is, same_if, filter_none, all_weaker, all_always}
 use Rattle.hub_rules.specs.Laws.{PartiesRise}
 use Rattle.hub_rules.specs.Sound.{Numbered, Single, same_order, same_line_number, same_advice, same_sscc, same_place}
 use Rattle.hub_rules.specs.Sound.{same_gtin, same_reference, Kept, IsRooted, Rooted}
+use Rattle.hub_rules.proofs.Filters.{filter_again}
 use Rattle.hub_rules.proofs.Prefixes.{any_found, owner}
 use Rattle.hub_rules.proofs.Views.{ordered_view}
 
@@ -53,12 +54,6 @@ only_less : (o : Ordering) → is_gt o ≡ false → (o ≡ Equal → ⊥) → o
 only_less Less g ne = refl
 only_less Equal g ne = absurd (ne refl)
 only_less Greater g ne = cc
-
-pub rises_filter : {X : Type 0} (cmp : X → X → Ordering) (p : X → Bool) (xs : List X) → Rises cmp xs → Rises cmp (filter p xs)
-rises_filter cmp p [] a = tt
-rises_filter cmp p (x ∷ xs) a =
-    elim (p x) as (λ v. Rises cmp (cond v (x ∷ filter p xs) (filter p xs)))
-    [ true ↦ (all_filter (λ y. cmp x y ≡ Less) p xs a.0, rises_filter cmp p xs a.1) | false ↦ rises_filter cmp p xs a.1 ]
 
 -- rows in order of which no two are alike, where those of one key are alike
 module _ {X : Type 0} (cmp : X → X → Ordering) (alike : X → X → Bool) (tied : (x y : X) → cmp x y ≡ Equal → alike x y ≡ true) where
@@ -193,15 +188,6 @@ kept_rises state ordered kept = record {
 -- what a supplier sees of tables in key order rises, where it is as it is to be
 pub view_rises : (gln : List ℕ) (t : Tables) → Ordered t → Kept (view gln t) → KindsRise (view gln t)
 view_rises gln t ordered kept = kept_rises (view gln t) (ordered_view gln t ordered) kept
-
-filter_again : {X : Type 0} (p q : X → Bool) (xs : List X) → ((x : X) → p x ≡ true → q x ≡ true) → filter p (filter q xs) ≡ filter p xs
-filter_again p q [] f = refl
-filter_again p q (x ∷ xs) f =
-    let ih = filter_again p q xs f in
-    elim (decide (p x)) [
-      | inl a ↦ let b : q x ≡ true = f x a in grind (arith, a, b, ih)
-      | inr a ↦ elim (decide (q x)) [ inl b ↦ grind (arith, a, b, ih) | inr b ↦ grind (arith, a, b, ih) ]
-    ]
 
 -- the rows of one pallet are among those that its supplier sees
 module _ {X : Type 0} (cmp : X → X → Ordering) (sscc : X → List ℕ) (t : Tables) (xs : List X) where

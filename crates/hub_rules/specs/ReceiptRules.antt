@@ -1,15 +1,16 @@
 -- The rules of RECADV (B14, B15, and B16 of MailboxRules).
-use Rattle.std.specs.Prelude.{ℕ, not, List, [], ◌∷◌, length, map, filter, sum_by}
+use Rattle.std.specs.Prelude.{ℕ, Bool, true, false, not, ◌&&◌, List, [], ◌∷◌, ◌++◌, length, map, filter, sum_by}
 use Rattle.edi_goods.specs.declared.receipt.Receipt.{Receipt}
 use Rattle.edi_goods.specs.declared.receipt.ReceiptLine.{ReceiptLine}
 use Rattle.edi_goods.specs.declared.receipt.ReceiptUnit.{ReceiptUnit}
 use Rattle.hub_tables.specs.Cases.{arrival_number}
 use Rattle.hub_tables.specs.Rows.{same}
 use Rattle.hub_tables.specs.State.{pallet_of, is_announced}
-use Rattle.hub_tables.specs.declared.cases.Arrival.TheVariants.{Received}
+use Rattle.hub_tables.specs.declared.cases.Arrival.{Arrival}
+use Rattle.hub_tables.specs.declared.cases.Arrival.TheVariants.{Received, Replaced}
 use Rattle.hub_tables.specs.declared.cases.MailKind.TheVariants as kinds
 use Rattle.hub_tables.specs.declared.change.Change.{Change}
-use Rattle.hub_tables.specs.declared.change.Change.TheVariants.{SetPallet, AddReceipt}
+use Rattle.hub_tables.specs.declared.change.Change.TheVariants.{SetPallet, AddReceipt, ClearReceipts}
 use Rattle.hub_rules.specs.Judging.{Judge, gives, refuse_if, given, in_turn, in_order}
 use Rattle.hub_rules.specs.MailboxRules.{is_full, new_mail}
 use Rattle.hub_rules.specs.declared.code.Code.TheVariants.{NoPallet, PalletReceived, MailboxFull}
@@ -35,17 +36,26 @@ new_receipt sscc lines gtin = AddReceipt (record {
   destroyed = total (λ line. line.destroyed) gtin lines;
 })
 
--- B14, B15 at a unit; then the pallet is received, with the sums of each article
-abbrev pub judge_received : ReceiptUnit → Judge
-judge_received unit state =
+-- what becomes of a pallet: an advice that replaces takes the place of all that was received of it
+abbrev pub arrival_by : Bool → Arrival
+arrival_by true = Replaced
+arrival_by false = Received
+
+abbrev pub cleared : Bool → List ℕ → List Change
+cleared true sscc = ClearReceipts sscc ∷ []
+cleared false sscc = []
+
+-- B14, and B15 unless it replaces, at a unit; then the pallet is received, with the sums of each article
+abbrev pub judge_received : Bool → ReceiptUnit → Judge
+judge_received replaces unit state =
     given (pallet_of state unit.sscc) NoPallet (λ pallet.
-    refuse_if (not (is_announced pallet)) PalletReceived (
-    Accept (SetPallet (record pallet { received = arrival_number Received })
-    ∷ map (new_receipt unit.sscc unit.lines) (gtins unit.lines))))
+    refuse_if (not replaces && not (is_announced pallet)) PalletReceived (
+    Accept (SetPallet (record pallet { received = arrival_number (arrival_by replaces) })
+    ∷ cleared replaces unit.sscc ++ map (new_receipt unit.sscc unit.lines) (gtins unit.lines))))
 
 -- B16; then the mailbox entry, and the units
 abbrev pub judge_new_receipt : List ℕ → IncomingMessage → List ℕ → Receipt → Judge
 judge_new_receipt supplier incoming body receipt state =
     refuse_if (is_full (length state.mail)) MailboxFull (
     in_turn (gives (new_mail supplier state incoming kinds.Receipt receipt.number body ∷ []))
-    (in_order judge_received receipt.units) state)
+    (in_order (judge_received receipt.replaces) receipt.units) state)

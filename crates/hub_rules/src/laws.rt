@@ -11,11 +11,12 @@ ghost use Rattle.hub_parties.specs.Rows.{RegisterRows, IsRegister, company_prefi
 ghost use Rattle.hub_parties.specs.declared.row.SupplierRow.{SupplierRow};
 ghost use Rattle.hub_tables.specs.Change.{apply_all};
 ghost use Rattle.hub_tables.specs.Register.{register_of, founded};
+ghost use Rattle.hub_tables.specs.Sets.{Fit};
 ghost use Rattle.hub_tables.specs.Tables.{Tables, has_pallet, view, empty};
 ghost use Rattle.hub_tables.specs.declared.cases.Side.TheVariants as sides;
 ghost use Rattle.hub_tables.specs.declared.change.Change.{Change};
 ghost use Rattle.hub_rules.specs.JoinRules.{is_join, judge_join};
-ghost use Rattle.hub_rules.specs.Laws.{KeptOwn, SoundHub, Registered, KeepsApart, JoinedBy, Remembers};
+ghost use Rattle.hub_rules.specs.Laws.{KeptOwn, SoundHub, Registered, PartiesRise, KeepsApart, JoinedBy, Remembers};
 ghost use Rattle.hub_rules.specs.PartyRules.{is_other_buyer};
 ghost use Rattle.hub_rules.specs.Rules.{referred_by, cancelled_by, judge_order, judge_response, judge_despatch};
 ghost use Rattle.hub_rules.specs.Rules.{judge_receipt, judge_cancel};
@@ -89,6 +90,31 @@ pub fn rules_keep_suppliers_apart()
         (cancel : Cancel) (changes : List Change) →
         Registered suppliers s t →
         judge_cancel (Some s) content cancel (view s.gln t) ≡ Accept changes → KeepsApart suppliers s t changes }
+{}
+
+/// What the rules accept of what a supplier sees of sound tables fits these, where the rows of the register rise: they
+/// rise by their keys after it, and before rows go.
+pub fn accepted_changes_fit()
+    ensures order { (suppliers : List SupplierRow) (s : SupplierRow) (t : Tables) (retailer : List ℕ)
+        (incoming : IncomingMessage) (body : List ℕ) (order : Order) (changes : List Change) →
+        Registered suppliers s t → PartiesRise t → has_number_twice (map (λ line. line.line) order.lines) ≡ false →
+        judge_order retailer (Some s) incoming body order (view s.gln t) ≡ Accept changes → Fit changes t }
+    ensures response { (suppliers : List SupplierRow) (s : SupplierRow) (t : Tables) (retailer : List ℕ)
+        (incoming : IncomingMessage) (response : Response) (changes : List Change) →
+        Registered suppliers s t → PartiesRise t →
+        judge_response retailer (Some s) incoming response (view s.gln t) ≡ Accept changes → Fit changes t }
+    ensures despatch { (suppliers : List SupplierRow) (s : SupplierRow) (t : Tables) (retailer : List ℕ)
+        (used : List ℕ → Bool) (incoming : IncomingMessage) (despatch : Despatch) (changes : List Change) →
+        Registered suppliers s t → PartiesRise t →
+        judge_despatch retailer (Some s) used incoming despatch (view s.gln t) ≡ Accept changes → Fit changes t }
+    ensures receipt { (suppliers : List SupplierRow) (s : SupplierRow) (t : Tables) (retailer : List ℕ)
+        (incoming : IncomingMessage) (body : List ℕ) (receipt : Receipt) (changes : List Change) →
+        Registered suppliers s t → PartiesRise t →
+        judge_receipt retailer (Some s) incoming body receipt (view s.gln t) ≡ Accept changes → Fit changes t }
+    ensures cancel { (suppliers : List SupplierRow) (s : SupplierRow) (t : Tables) (content : List ℕ)
+        (cancel : Cancel) (changes : List Change) →
+        Registered suppliers s t → PartiesRise t →
+        judge_cancel (Some s) content cancel (view s.gln t) ≡ Accept changes → Fit changes t }
 {}
 
 /// A supplier that the register takes which sound tables hold is one more of their suppliers (B18, B19, B20): it sees what

@@ -14,8 +14,8 @@ pub use code::Code;
 pub use incoming::IncomingMessage;
 pub use join::Join;
 pub use laws::{
-    accepted_is_remembered, empty_tables_are_rooted, founded_tables_are_sound,
-    joins_keep_suppliers_apart, pallet_is_its_prefixes_suppliers, rules_keep_rows,
-    rules_keep_suppliers_apart,
+    accepted_changes_fit, accepted_is_remembered, empty_tables_are_rooted,
+    founded_tables_are_sound, joins_keep_suppliers_apart, pallet_is_its_prefixes_suppliers,
+    rules_keep_rows, rules_keep_suppliers_apart,
 };
 pub use verdict::Verdict;

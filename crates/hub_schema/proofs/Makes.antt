@@ -188,9 +188,9 @@ number_put old new (Ok count) has h =
     let w : Writes old new _ _ _ [] count =
     runs_as put_number [] old new hub_schema has.schema _ put_number_is put_number_plain count h.0 in
     let did = inserts hub_schema 0 0 _ _ _ _ _ refl (λ _ _. refl) old new [] _ _ _ count has.schema w in
-    let row : Row = Int (next_rowid (db 0)) ∷ Int (pos 2) ∷ [] in
-    let edit : edited db (edit_of db schema_table [] Chosen 0 ((Null ∷ Int (pos 2) ∷ []) ∷ [])) ≡ put_row row (db 0) =
-    rw (cast_null, cast_int (pos 2)) in
+    let row : Row = Int (next_rowid (db 0)) ∷ Int (pos 3) ∷ [] in
+    let edit : edited db (edit_of db schema_table [] Chosen 0 ((Null ∷ Int (pos 3) ∷ []) ∷ [])) ≡ put_row row (db 0) =
+    rw (cast_null, cast_int (pos 3)) in
     let first : new.now.trees 0 ≡ row ∷ [] = did.step.rows ∙ edit ∙ ap (put_row row) has.same.0 in
     let rest = did.step.tables.1 in
     let orders : new.now.trees 1 ≡ [] = rest.0 (λ e. absurd (omega (arith, e))) ∙ has.same.1.0 in

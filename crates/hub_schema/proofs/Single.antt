@@ -39,7 +39,7 @@ use Rattle.hub_schema.specs.Rows.{order_in, line_in, advice_in, pallet_in, conte
 use Rattle.hub_schema.specs.Rows.{mail_in, hub_row_in, key_row_in, prefix_row_in, tables_in}
 use Rattle.hub_schema.specs.Schema.{order_table, line_table, advice_table, pallet_table, content_table, receipt_table}
 use Rattle.hub_schema.specs.Schema.{remembered_table, mail_table, hub_table, supplier_table, prefix_table, hub_schema}
-use Rattle.hub_schema.specs.State.{AreOrdered, IsHub}
+use Rattle.hub_schema.specs.State.{AreOrdered, HasTables, IsHub}
 use Rattle.hub_tables.proofs.Lists.{decide, same_is, same_if}
 use Rattle.sql_rows.proofs.Answers.{is_truth, same_bytes}
 use Rattle.hub_schema.specs.Cells.{bytes_in, number_in, natural}
@@ -454,5 +454,12 @@ module _ (db : Database) (has : db.schema ≡ hub_schema) (sound : IsDatabase db
     mail = mail_rise;
   }
 
+pub held_rise : (s : State) → HasTables s → Rising (tables_in s.now.trees)
+held_rise s has = tables_rise s.now has.schema has.sound has.ordered
+
+-- a hub's tables are all tables
+pub hub_has_tables : (s : State) → IsHub s → HasTables s
+hub_has_tables s hub = record { schema = hub.schema; ordered = hub.ordered; sound = hub.sound }
+
 pub hub_rises : (s : State) → IsHub s → Rising (tables_in s.now.trees)
-hub_rises s hub = tables_rise s.now hub.schema hub.sound hub.ordered
+hub_rises s hub = held_rise s (hub_has_tables s hub)

@@ -11,9 +11,9 @@ use Rattle.sql_rows.proofs.Updates.{one_table}
 use Rattle.hub_schema.specs.Schema.{hub_schema}
 
 abbrev pub put_number : List ℕ
-put_number = codes "INSERT INTO schema (number) VALUES (2)"
+put_number = codes "INSERT INTO schema (number) VALUES (3)"
 
-pub put_number_is : command_of (understood hub_schema put_number) ≡ Insert 0 (Values (lit Null ∷ lit (Int (pos 2))
+pub put_number_is : command_of (understood hub_schema put_number) ≡ Insert 0 (Values (lit Null ∷ lit (Int (pos 3))
     ∷ []) 2)
 unfolding understood everything
 put_number_is = refl
@@ -23,11 +23,11 @@ unfolding understood everything
 put_number_plain = (refl, refl)
 
 abbrev pub set_number : List ℕ
-set_number = codes "UPDATE schema SET number = 2"
+set_number = codes "UPDATE schema SET number = 3"
 
 -- the row's number, twice, and the schema's as it becomes
 abbrev pub set_number_shows : List Term
-set_number_shows = col 1 0 ∷ col 1 0 ∷ lit (Int (pos 2)) ∷ []
+set_number_shows = col 1 0 ∷ col 1 0 ∷ lit (Int (pos 3)) ∷ []
 
 pub set_number_is : command_of (understood hub_schema set_number) ≡ Update 0 (record {
   lets = [];

@@ -107,6 +107,6 @@ indexes_of (table ∷ tables) = automatics table 0 (table.tree + 1) table.unique
 abbrev pub old_schema : Schema
 old_schema = record { tables = traffic_tables; indexes = indexes_of traffic_tables; views = [] }
 
--- schema 2: all tables
+-- schema 2 and schema 3: all tables
 abbrev pub hub_schema : Schema
 hub_schema = record { tables = hub_tables; indexes = indexes_of hub_tables; views = [] }

@@ -11,7 +11,7 @@ use Rattle.sqlite.specs.Effect.{IsDatabase}
 use Rattle.sqlite.specs.Schema.{Schema}
 use Rattle.sqlite.specs.State.{State, HasCleanDisk, Survives}
 use Rattle.hub_tables.specs.Change.{apply_all}
-use Rattle.hub_tables.specs.Sets.{Rising}
+use Rattle.hub_tables.specs.Sets.{Fit}
 use Rattle.hub_tables.specs.Tables.{Tables}
 use Rattle.hub_tables.specs.declared.change.Change.{Change}
 use Rattle.hub_store.specs.Calls.{have_places}
@@ -33,9 +33,15 @@ AreOldOrdered trees = AllByRecursion (λ table. IsShaped Table (trees table.tree
 abbrev pub HasNumber : ℕ → Trees → Type 0
 HasNumber number trees = map (λ row. column row 1) (trees 0) ≡ Int (pos number) ∷ []
 
--- it is 2
+-- it is 3
 abbrev pub IsNumbered : Trees → Type 0
-IsNumbered = HasNumber 2
+IsNumbered = HasNumber 3
+
+-- the connection holds all tables, those of schema 2 or of a hub
+pub record HasTables (s : State) : Type 0 where
+  pub schema : s.now.schema ≡ hub_schema
+  pub ordered : AreOrdered s.now.trees
+  pub sound : IsDatabase s.now
 
 -- the connection holds the tables of a hub
 pub record IsHub (s : State) : Type 0 where
@@ -68,7 +74,7 @@ pub record Makes (change : Tables → Tables) (old new : State) : Type 0 where
 -- before or after them
 abbrev pub MayRefuse : List Change → Tables → Type 0
 MayRefuse changes t =
-    Rising (apply_all changes t) → have_places changes t ≡ true
+    Fit changes t → have_places changes t ≡ true
     → (are_clean t ≡ false) ⊎ (are_clean (apply_all changes t) ≡ false)
 
 -- where the connection is open it holds the tables of a hub
@@ -118,6 +124,11 @@ pub record LooksAmong {X : Type 0} (schema : Schema) (Are : State → Type 0) (s
       HasCleanDisk new → (IsTrue old.is_open → Are old) → result ≡ Err Unclean →
       IsTrue old.is_open × spoilt (tables_in old.now.trees)
 
+-- in all tables, whatever their number
+abbrev pub LooksIn : {X : Type 0} → (Tables → X → Type 0) → (Tables → Type 0) → State → State → Result X StoreFault
+    → Type 0
+LooksIn = LooksAmong hub_schema HasTables
+
 -- in the tables of a hub
 abbrev pub LooksFor : {X : Type 0} → (Tables → X → Type 0) → (Tables → Type 0) → State → State → Result X StoreFault
     → Type 0
@@ -148,7 +159,8 @@ pub record CommitsTo (changes : List Change) (old new : State) (result : Result 
   pub mode : new.in_transaction ≡ false
   pub crash :
       Survives old new (λ trees. Holds old →
-      IsTrue old.is_open × Rising (tables_in trees) × (tables_in trees ≡ apply_all changes (tables_in old.now.trees)))
+      IsTrue old.is_open × Fit changes (tables_in old.now.trees)
+      × (tables_in trees ≡ apply_all changes (tables_in old.now.trees)))
   pub durable : HasCleanDisk new → OnOk result ((trees : Trees) → new.may_leave trees → trees ≡ new.now.trees)
   pub unclean :
       HasCleanDisk new → Holds old → result ≡ Err Unclean →

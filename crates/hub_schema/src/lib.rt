@@ -6,4 +6,4 @@ mod definitions;
 mod making;
 
 pub use compare::{is_hub_schema, is_no_schema, is_old_schema};
-pub use making::{make_party_tables, make_tables};
+pub use making::{make_party_tables, make_tables, set_number};

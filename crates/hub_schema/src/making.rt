@@ -1,5 +1,5 @@
 //! The making of the tables.
-ghost use Rattle.std.specs.Prelude.{◌≡◌, ◌⊎◌, ◌++◌, List, false, IsTrue, OnOk, OnErr, []};
+ghost use Rattle.std.specs.Prelude.{◌≡◌, ◌⊎◌, ◌++◌, ℕ, List, false, IsTrue, OnOk, OnErr, []};
 ghost use Rattle.sqlite.specs.State.{HasCleanDisk, Survives, KeepsCommit};
 ghost use Rattle.sqlite.specs.Schema.{Schema};
 ghost use Rattle.sqlite.specs.Table.{Table};
@@ -10,9 +10,9 @@ ghost use Rattle.hub_tables.specs.Tables.{empty};
 ghost use Rattle.hub_schema.specs.Definitions.{Make};
 ghost use Rattle.hub_schema.specs.Making.{HasMade, HaveNoRows, Defines, MakesOn, MakesFirstTables, LeavesTables};
 ghost use Rattle.hub_schema.specs.Making.{schema_with, traffic_rows};
-ghost use Rattle.hub_schema.specs.Rows.{traffic_in};
+ghost use Rattle.hub_schema.specs.Rows.{tables_in, traffic_in};
 ghost use Rattle.hub_schema.specs.Schema.{no_schema, hub_schema, hub_tables, traffic_tables};
-ghost use Rattle.hub_schema.specs.State.{AreOldOrdered, HasNumber, IsOldHub, IsUndone, Makes, ShowsTheSame};
+ghost use Rattle.hub_schema.specs.State.{AreOrdered, HasNumber, IsOldHub, IsUndone, Makes, ShowsTheSame};
 ghost use Rattle.hub_schema.specs.State.{StatementLeaves};
 
 use crate::definitions::{Definition, all, parties};
@@ -73,25 +73,25 @@ fn put_number<S: Alter>(tx: &mut Transaction<'_, S>) -> Result<usize, Error>
     ensures leaves { LeavesTables no_trees hub_tables (state S.Store tx.old.conn.now) (state S.Store tx.new.conn.now)
         result }
 {
-    tx.execute("INSERT INTO schema (number) VALUES (2)", &[])
+    tx.execute("INSERT INTO schema (number) VALUES (3)", &[])
 }
 
-// Sets the number of the schema, in the one row of its table.
-fn set_number<S: Alter>(tx: &mut Transaction<'_, S>) -> Result<usize, Error>
+/// Sets the number of the schema to 3, in the one row of its table. No other row changes.
+pub fn set_number<S: Alter>(tx: &mut Transaction<'_, S>) -> Result<usize, Error>
     ensures same_reference { tx.new.conn.ghost_name ≡ tx.old.conn.ghost_name }
-    ensures makes { HasCleanDisk (state S.Store tx.new.conn.now) → (rows : Trees) → HasNumber 1 rows →
-        AreOldOrdered rows → HasMade (traffic_rows rows) hub_schema (state S.Store tx.old.conn.now) →
-        OnOk result (Makes (λ _. traffic_in rows) (state S.Store tx.old.conn.now) (state S.Store tx.new.conn.now)) }
+    ensures makes { HasCleanDisk (state S.Store tx.new.conn.now) → (number : ℕ) (rows : Trees) →
+        HasNumber number rows → AreOrdered rows → HasMade rows hub_schema (state S.Store tx.old.conn.now) →
+        OnOk result (Makes (λ _. tables_in rows) (state S.Store tx.old.conn.now) (state S.Store tx.new.conn.now)) }
     ensures kept { HasCleanDisk (state S.Store tx.new.conn.now) →
         KeepsCommit (state S.Store tx.old.conn.now) (state S.Store tx.new.conn.now) }
     ensures survives { Survives (state S.Store tx.old.conn.now) (state S.Store tx.new.conn.now) (λ _. ⊥) }
     ensures leaves { (rows : Trees) →
         LeavesTables rows hub_tables (state S.Store tx.old.conn.now) (state S.Store tx.new.conn.now) result }
 {
-    tx.execute("UPDATE schema SET number = 2", &[])
+    tx.execute("UPDATE schema SET number = 3", &[])
 }
 
-/// Makes the tables of schema 2 in a database that has none, without rows but the one with the schema's number.
+/// Makes the tables of schema 3 in a database that has none, without rows but the one with the schema's number.
 pub fn make_tables<S: Alter>(tx: &mut Transaction<'_, S>) -> Result<(), Error>
     ensures same_reference { tx.new.conn.ghost_name ≡ tx.old.conn.ghost_name }
     ensures makes { HasCleanDisk (state S.Store tx.new.conn.now) →
@@ -108,7 +108,7 @@ pub fn make_tables<S: Alter>(tx: &mut Transaction<'_, S>) -> Result<(), Error>
 }
 
 /// Makes in a database of schema 1 the tables of the register, which it has not, without rows, and sets the schema's
-/// number to 2.
+/// number to 3.
 pub fn make_party_tables<S: Alter>(tx: &mut Transaction<'_, S>) -> Result<(), Error>
     ensures same_reference { tx.new.conn.ghost_name ≡ tx.old.conn.ghost_name }
     ensures makes { HasCleanDisk (state S.Store tx.new.conn.now) → IsOldHub (state S.Store tx.old.conn.now) →

@@ -116,11 +116,7 @@ fn over_stopped(
 // The bytes of a file.
 fn bytes_of(rt: &HostRuntime, path: &str) -> Result<Vec<u8>, ScriptFault> {
     let file = File::open(rt, path).map_err(|_| ScriptFault::File)?;
-    Ok(read_to_limit(
-        rt.alloc(),
-        &mut OfRead::new(file),
-        SCRIPT_LIMIT,
-    )?)
+    Ok(read_to_limit(rt.alloc(), &mut OfRead::new(file), SCRIPT_LIMIT)?)
 }
 
 // Plays it over the store that the words name.

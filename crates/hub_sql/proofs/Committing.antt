@@ -5,7 +5,7 @@ use Rattle.std.specs.List.{last_or}
 use Rattle.sqlite.specs.Held.{state}
 use Rattle.sqlite_trees.specs.declared.store.Store.{Ghosts}
 use Rattle.hub_tables.specs.Change.{apply_all}
-use Rattle.hub_tables.specs.Sets.{Rising}
+use Rattle.hub_tables.specs.Sets.{Fit}
 use Rattle.hub_tables.specs.Tables.{Tables}
 use Rattle.hub_tables.specs.declared.change.Change.{Change}
 use Rattle.hub_store.specs.Calls.{Commits, Fails}
@@ -83,7 +83,7 @@ module _ {S : Type 0} (g : Ghosts S) (old new : Stored S) (settled : IsSettled g
           | inr all ↦
               let now = all (held_before clean) in
               let is : tables_in it.0 ≡ after = now.2 ∙ ap (apply_all changes) (before_is clean now.0) in
-              inr (subst Rising is now.1, it.2 ∙ is)
+              inr (subst (Fit changes) (before_is clean now.0) now.1, it.2 ∙ is)
         ]
       ];
       was_honest = back;

@@ -5,15 +5,15 @@ use Rattle.sqlite.specs.State.{State, HasCleanDisk}
 use Rattle.sqlite_trees.specs.Tree.{Trees}
 use Rattle.sqlite_trees.specs.declared.store.Store.{Ghosts}
 use Rattle.hub_founding.specs.Fits.{fits, founded_beside}
-use Rattle.hub_parties.specs.Rows.{RegisterRows, IsRegister}
+use Rattle.hub_parties.specs.Rows.{RegisterRows}
 use Rattle.hub_tables.specs.Register.{HoldsRegister}
 use Rattle.hub_tables.specs.Tables.{Tables}
 use Rattle.hub_schema.specs.Rows.{traffic_in}
 use Rattle.hub_schema.specs.Schema.{no_schema}
 use Rattle.hub_store.specs.declared.fault.StoreFault.{StoreFault}
-use Rattle.hub_store.specs.declared.fault.StoreFault.TheVariants.{Memory, Disk, Unclean, Version}
+use Rattle.hub_store.specs.declared.fault.StoreFault.TheVariants.{Unclean, Version}
 use Rattle.hub_sql.specs.Opening.{ComesBack, Founds, IsAsBefore, IsOfFounding, IsSpared, MayBeBeside, MayBeFounded}
-use Rattle.hub_sql.specs.Opening.{RefusesFounding, SparesConnection, Stood}
+use Rattle.hub_sql.specs.Opening.{RefusesFounding, SparesConnection}
 use Rattle.hub_sql.specs.Stored.{Stored, content, left, honest}
 use Rattle.hub_sql.specs.Version.{HoldsTables, schema_of}
 use Rattle.hub_sql.specs.declared.fault.FoundFault.{FoundFault}

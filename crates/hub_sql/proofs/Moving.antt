@@ -2,7 +2,7 @@
 use Rattle.std.proofs.Common.{◌≡◌, ap, sym, subst, ◌∙◌}
 use Rattle.sqlite.specs.Effect.{IsDatabase}
 use Rattle.sqlite.specs.State.{State}
-use Rattle.hub_schema.specs.State.{IsHub, IsOldHub, AreOrdered, AreOldOrdered, IsNumbered, HasNumber}
+use Rattle.hub_schema.specs.State.{HasTables, IsHub, IsOldHub, AreOrdered, AreOldOrdered, IsNumbered, HasNumber}
 
 pub hub_moved : (old new : State) → new.now ≡ old.now → IsHub old → IsHub new
 hub_moved old new same hub = record {
@@ -19,3 +19,15 @@ old_hub_moved old new same hub = record {
   ordered = subst (λ d. AreOldOrdered d.trees) (sym same) hub.ordered;
   sound = subst IsDatabase (sym same) hub.sound;
 }
+
+pub tables_moved : (old new : State) → new.now ≡ old.now → HasTables old → HasTables new
+tables_moved old new same has = record {
+  schema = ap (λ d. d.schema) same ∙ has.schema;
+  ordered = subst (λ d. AreOrdered d.trees) (sym same) has.ordered;
+  sound = subst IsDatabase (sym same) has.sound;
+}
+
+-- with the number of schema 3 all tables are a hub's
+pub numbered_hub : (s : State) → HasTables s → IsNumbered s.now.trees → IsHub s
+numbered_hub s has number =
+    record { schema = has.schema; numbered = number; ordered = has.ordered; sound = has.sound }

@@ -16,7 +16,8 @@ use Rattle.hub_store.specs.declared.fault.StoreFault.{StoreFault}
 use Rattle.hub_store.specs.declared.fault.StoreFault.TheVariants.{Unclean}
 use Rattle.hub_schema.specs.Rows.{tables_in}
 use Rattle.hub_schema.specs.Schema.{hub_schema}
-use Rattle.hub_schema.specs.State.{LooksFor, LooksUp}
+use Rattle.hub_schema.specs.State.{LooksFor, LooksIn, LooksUp}
+use Rattle.hub_looks.proofs.Joining.{of_hub}
 use Rattle.hub_sql.specs.Settling.{Settles}
 use Rattle.hub_sql.specs.Stored.{Stored, content, left, IsSettled, honest}
 use Rattle.hub_sql.proofs.Looking.{failed, holds, still, same_content, looked, refused_fails}
@@ -31,9 +32,9 @@ as_fault (Ok (Some register)) = Ok register
 as_fault (Ok None) = Err Unclean
 as_fault (Err fault) = Err fault
 
-pub held : (old new : State) (found : Result (Option RegisterRows) StoreFault) → LooksFor IsHeldBy HoldsNone old new found
+held_one : (old new : State) (found : Result (Option RegisterRows) StoreFault) → LooksFor IsHeldBy HoldsNone old new found
     → LooksFor Holds HoldsNone old new (as_fault found)
-held old new (Ok (Some register)) looks = record {
+held_one old new (Ok (Some register)) looks = record {
   answers = looks.answers;
   same = looks.same;
   stays = looks.stays;
@@ -42,7 +43,7 @@ held old new (Ok (Some register)) looks = record {
   crash = looks.crash;
   unclean = λ clean are is. cc;
 }
-held old new (Ok None) looks = record {
+held_one old new (Ok None) looks = record {
   answers = λ clean are. tt;
   same = λ clean. tt;
   stays = looks.stays;
@@ -51,7 +52,7 @@ held old new (Ok None) looks = record {
   crash = looks.crash;
   unclean = λ clean are is. ((looks.same clean).0, looks.answers clean are);
 }
-held old new (Err fault) looks = record {
+held_one old new (Err fault) looks = record {
   answers = λ clean are. tt;
   same = λ clean. tt;
   stays = looks.stays;
@@ -60,6 +61,11 @@ held old new (Err fault) looks = record {
   crash = looks.crash;
   unclean = λ clean are is. let same : fault ≡ Unclean = cc in looks.unclean clean are (ap Err same);
 }
+
+-- it is looked up in all tables, and so in a hub's
+pub held : (old new : State) (found : Result (Option RegisterRows) StoreFault) → LooksIn IsHeldBy HoldsNone old new found
+    → LooksFor Holds HoldsNone old new (as_fault found)
+held old new found looks = held_one old new found (of_hub IsHeldBy HoldsNone old new found looks)
 
 ok_of : {X E : Type 0} (P : X → Type 0) (found : Result X E) (x : X) → found ≡ Ok x → IfOk found P → P x
 ok_of P (Ok y) x e h = let same : y ≡ x = cc in subst P same h

@@ -14,9 +14,10 @@ use Rattle.hub_tables.specs.Tables.{Tables}
 use Rattle.hub_founding.specs.Fits.{fits, founded_beside}
 use Rattle.sqlite.specs.Schema.{Schema}
 use Rattle.hub_schema.specs.State.{IsUndone, FoundsTo, LooksAmong, ShowsTheSame, Spares}
-use Rattle.hub_sql.specs.Opening.{LeftAfter, MayBeBeside, SparesConnection, SparesStore, IsAsBefore}
+use Rattle.hub_sql.specs.Opening.{LeftAfter, MayBeBeside, MayBeRenumbered, SparesConnection, SparesStore, IsAsBefore}
 use Rattle.hub_sql.specs.Version.{schema_of}
 use Rattle.hub_sql.specs.declared.version.Version.{Version}
+use Rattle.hub_sql.specs.declared.version.Version.TheVariants.{Second}
 
 module _ {S : Type 0} (g : Ghosts S) where
   -- where it is not shut, an idle connection shows what is committed
@@ -106,6 +107,16 @@ module _ {S : Type 0} (g : Ghosts S) where
       let early = clean_before (state g was) (state g new) _ it.crash in
       spared_so was new settled it.mode (MayBeBeside before register) it.crash
       (λ clean trees made. inr (inr (fit (early clean), made (so (early clean)))))
+      (λ clean up. inl (it.kept clean (so (early clean)) up))
+
+  -- the number of schema 2 was not set
+  pub spared_number_set : (asked : Type 0) (rows : Tables) (was new : Held S) (fault : StoreFault) → IsSettled was
+      → (HasCleanDisk (state g was) → asked) → FoundsTo asked rows (state g was) (state g new) (Err fault)
+      → SparesConnection g (MayBeRenumbered Second rows) (state g was) new
+  spared_number_set asked rows was new fault settled so it =
+      let early = clean_before (state g was) (state g new) _ it.crash in
+      spared_so was new settled it.mode (MayBeRenumbered Second rows) it.crash
+      (λ clean trees made. inr (inr (refl, made (so (early clean)))))
       (λ clean up. inl (it.kept clean (so (early clean)) up))
 
   -- it was taken apart, which undoes what was not committed

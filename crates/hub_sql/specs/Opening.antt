@@ -13,10 +13,10 @@ use Rattle.hub_tables.specs.Tables.{Tables, empty}
 use Rattle.hub_store.specs.declared.fault.StoreFault.{StoreFault}
 use Rattle.hub_store.specs.declared.fault.StoreFault.TheVariants.{Memory, Disk, Unclean, Version}
 use Rattle.hub_schema.specs.Rows.{tables_in, traffic_in}
-use Rattle.hub_schema.specs.Schema.{no_schema}
+use Rattle.hub_schema.specs.Schema.{hub_schema, no_schema}
 use Rattle.hub_schema.specs.State.{IsFounded}
 use Rattle.hub_sql.specs.Stored.{Stored, content, left, honest}
-use Rattle.hub_sql.specs.Version.{HoldsTables, schema_of}
+use Rattle.hub_sql.specs.Version.{HoldsHub, HoldsTables, schema_of}
 use Rattle.hub_sql.specs.declared.fault.FoundFault.{FoundFault}
 use Rattle.hub_sql.specs.declared.fault.FoundFault.TheVariants as found
 use Rattle.hub_sql.specs.declared.returned.Returned.{Returned}
@@ -30,10 +30,10 @@ pub record IsAsBefore (was now : State) : Type 0 where
   pub committed : now.committed ≡ was.committed
   pub crash : (trees : Trees) → now.may_leave trees → was.may_leave trees
 
--- with the rows that the connection had, which hold a register; a crash leaves these alone
+-- with the rows that the connection had, in schema 2 or 3, which hold a register; a crash leaves these alone
 pub record Adopts {S : Type 0} (g : Ghosts S) (was : State) (store : Stored S) : Type 0 where
   pub whole : store.fault ≡ None
-  pub hub : honest g store → HoldsTables Second was.now
+  pub hub : honest g store → HoldsHub was.now
   pub rows : honest g store → content g store ≡ tables_in was.committed.trees
   pub holds : honest g store → HoldsRegister (content g store)
   pub crash : honest g store → (t : Tables) → left g store t → t ≡ content g store
@@ -73,6 +73,14 @@ MayBeFounded register was trees = (before : Tables) × Stood was before × MayBe
 abbrev pub LeftAfter : (Trees → Type 0) → State → Trees → Type 0
 LeftAfter MayBe was trees = was.may_leave trees ⊎ ((trees ≡ was.committed.trees) ⊎ MayBe trees)
 
+-- what may be left of the tables of a version with these rows: where they are those of schema 2, the same rows in schema 3
+abbrev pub MayBeRenumbered : Stage → Tables → Trees → Type 0
+MayBeRenumbered version rows trees = (version ≡ Second) × IsFounded rows trees
+
+-- where the tables were those of schema 2
+abbrev pub MayBeRaised : State → Trees → Type 0
+MayBeRaised was trees = HoldsTables Second was.now × IsFounded (tables_in was.committed.trees) trees
+
 -- the schema is that of a version
 abbrev pub IsKnown : State → Type 0
 IsKnown was = (version : Stage) × (was.now.schema ≡ schema_of version)
@@ -106,13 +114,14 @@ IsSpared g MayBe was (Store store) = SparesStore g was store
 abbrev pub ComesBack : {S : Type 0} → Ghosts S → Returned S → (State → Type 0) → Type 0
 ComesBack {S} g back so = (conn : Held S) × (back ≡ Connection conn) × (HasCleanDisk (state g conn) → so (state g conn))
 
--- `Version` comes with the connection as it was, and only where it has no tables or others than a hub's of that number;
--- where they are of another schema, no other fault comes. `Unclean` comes with a connection whose rows hold no register.
+-- `Version` comes with the connection as it was, and only where it has no tables or others than a hub's, or another number
+-- than 2 and 3; where they are of another schema, no other fault comes. `Unclean` comes with a connection whose rows hold
+-- no register, and which is as it was committed: its number is not raised.
 pub record Refuses {S : Type 0} (g : Ghosts S) (was : State) (back : Returned S) (fault : StoreFault) : Type 0 where
-  pub version : fault ≡ Version → ComesBack g back (λ now. (¬ HoldsTables Second was.now) × IsAsBefore was now)
-  pub other : was.now.schema ≢ schema_of Second → fault ≡ Version
-  pub unclean : fault ≡ Unclean → ComesBack g back (λ now. HoldsNone (tables_in was.committed.trees))
-  pub spared : IsSpared g (λ _. ⊥) was back
+  pub version : fault ≡ Version → ComesBack g back (λ now. (¬ HoldsHub was.now) × IsAsBefore was now)
+  pub other : was.now.schema ≢ hub_schema → fault ≡ Version
+  pub unclean : fault ≡ Unclean → ComesBack g back (λ now. HoldsNone (tables_in was.committed.trees)) × IsSpared g (λ _. ⊥) was back
+  pub spared : IsSpared g (MayBeRaised was) was back
 
 -- `Version` comes with the connection as it was, and only where it has tables, and not those of schema 1; where they are
 -- of another schema, no other fault comes. `Rows` comes where there are those of schema 1, to whose rows the register does

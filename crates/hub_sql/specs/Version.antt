@@ -1,5 +1,6 @@
--- The versions of the tables: schema 1, which has no register, and schema 2.
-use Rattle.std.specs.Prelude.{◌≡◌, ℕ, List, [], ◌∷◌}
+-- The versions of the tables: schema 1, which has no register, schema 2, and schema 3, which has the same tables as
+-- schema 2.
+use Rattle.std.specs.Prelude.{◌≡◌, ◌⊎◌, ℕ, List, [], ◌∷◌}
 use Rattle.std.specs.List.{AllByRecursion}
 use Rattle.sqlite.specs.Effect.{Database}
 use Rattle.sqlite.specs.Schema.{Schema}
@@ -9,20 +10,23 @@ use Rattle.sqlite_trees.specs.declared.store.Shape.TheVariants as shape
 use Rattle.hub_schema.specs.Schema.{old_schema, hub_schema}
 use Rattle.hub_schema.specs.State.{HasNumber}
 use Rattle.hub_sql.specs.declared.version.Version.{Version}
-use Rattle.hub_sql.specs.declared.version.Version.TheVariants.{First, Second}
+use Rattle.hub_sql.specs.declared.version.Version.TheVariants.{First, Second, Third}
 
 abbrev pub schema_of : Version → Schema
 schema_of First = old_schema
 schema_of Second = hub_schema
+schema_of Third = hub_schema
 
 abbrev pub number_of : Version → ℕ
 number_of First = 1
 number_of Second = 2
+number_of Third = 3
 
 -- the numbers of its tables' trees
 abbrev pub trees_of : Version → List ℕ
 trees_of First = 0 ∷ 1 ∷ 3 ∷ 5 ∷ 7 ∷ 10 ∷ 12 ∷ 14 ∷ 16 ∷ []
 trees_of Second = 0 ∷ 1 ∷ 3 ∷ 5 ∷ 7 ∷ 10 ∷ 12 ∷ 14 ∷ 16 ∷ 18 ∷ 20 ∷ 22 ∷ []
+trees_of Third = 0 ∷ 1 ∷ 3 ∷ 5 ∷ 7 ∷ 10 ∷ 12 ∷ 14 ∷ 16 ∷ 18 ∷ 20 ∷ 22 ∷ []
 
 -- in each the row numbers rise
 abbrev pub AreShaped : Version → Trees → Type 0
@@ -31,3 +35,7 @@ AreShaped version trees = AllByRecursion (λ tree. IsShaped shape.Table (trees t
 -- the tables are of this version, and so is their number
 abbrev pub HoldsTables : Version → Database → Type 0
 HoldsTables version db = (db.schema ≡ schema_of version) × HasNumber (number_of version) db.trees
+
+-- the tables are those of schema 2 or 3
+abbrev pub HoldsHub : Database → Type 0
+HoldsHub db = HoldsTables Second db ⊎ HoldsTables Third db

@@ -1,22 +1,25 @@
 //! Stores over connections that may hold tables.
-ghost use Rattle.std.specs.Prelude.{◌≡◌, ◌≢◌, false, None, IfOk, IfErr, IsTrue};
+ghost use Rattle.std.specs.Prelude.{◌≡◌, ◌≢◌, ◌⊎◌, false, None, IfOk, IfErr, IsTrue};
 ghost use Rattle.sqlite.specs.Held.{state};
 ghost use Rattle.sqlite.specs.State.{HasCleanDisk, Opens, IsLive};
 ghost use Rattle.hub_tables.specs.Tables.{Tables};
 ghost use Rattle.hub_schema.specs.Rows.{tables_in};
-ghost use Rattle.hub_schema.specs.State.{AreOrdered, IsNumbered, IsHub};
+ghost use Rattle.hub_schema.specs.State.{AreOrdered, HasNumber, HasTables, IsHub};
 ghost use Rattle.hub_founding.specs.Founding.{HoldsNone};
 ghost use Rattle.hub_tables.specs.Register.{HoldsRegister};
-ghost use Rattle.hub_sql.specs.Opening.{Adopts, Refuses, SparesConnection};
+ghost use Rattle.hub_sql.specs.Opening.{Adopts, IsAsBefore, MayBeRenumbered, Refuses, SparesConnection};
 ghost use Rattle.hub_sql.specs.Stored.{content, left, honest};
+ghost use Rattle.hub_sql.specs.Version.{number_of};
 
-use crate::reopening::{of_version, reopened};
+use crate::opening::laying_fault;
+use crate::reopening::{of_hub, reopened};
 use crate::returned::Returned;
 use crate::store::SqliteStore;
 use crate::version::Version;
 use hub_looks::register;
 use hub_schema::is_hub_schema;
 use hub_store::StoreFault;
+use hub_writes::renumber;
 use sqlite::{Alter, Connection};
 use std::alloc::Global;
 
@@ -32,47 +35,21 @@ fn look_fault(fault: StoreFault) -> StoreFault
     }
 }
 
-// The store of a connection that has the hub's tables, where its rows hold a register.
+// The connection, where it still lists all tables and their rows hold a register.
 fn judged<S: Alter + Drop>(
     alloc: Global,
     mut conn: Connection<S>,
-) -> Result<SqliteStore<S>, (Connection<S>, StoreFault)>
-    requires idle { conn.in_transaction ≡ false }
-    requires hub { HasCleanDisk (state S.Store conn) → IsHub (state S.Store conn) }
-    ensures whole { IfOk result (λ store. store.fault ≡ None) }
-    ensures rows { IfOk result (λ store. honest S.Store store → content S.Store store ≡ tables_in (state S.Store conn).now.trees) }
-    ensures register { IfOk result (λ store. honest S.Store store → HoldsRegister (tables_in (state S.Store conn).now.trees)) }
-    ensures crash { IfOk result (λ store. honest S.Store store → (t : Tables) → left S.Store store t → t ≡ content S.Store store) }
-    ensures clean { IfOk result (λ store. honest S.Store store → HasCleanDisk (state S.Store conn)) }
-    ensures opened { IfErr result (λ e. e.1 ≢ StoreFault.Version) }
-    ensures unclean { IfErr result (λ e. e.1 ≡ StoreFault.Unclean → HasCleanDisk (state S.Store e.0) → HoldsNone (tables_in (state S.Store conn).now.trees)) }
-    ensures spared { IfErr result (λ e. SparesConnection S.Store (λ _. ⊥) (state S.Store conn) e.0) }
-{
-    let _was_idle = conn.is_autocommit();
-    match register(&mut conn, alloc) {
-        Ok(Some(_register)) => {
-            let _idle = conn.is_autocommit();
-            Ok(SqliteStore::settled(alloc, conn))
-        }
-        Ok(None) => Err((conn, StoreFault::Unclean)),
-        Err(fault) => Err((conn, look_fault(fault))),
-    }
-}
-
-// The store of a connection that was opened again, where it still lists the hub's tables and its rows hold a register.
-fn numbered<S: Alter + Drop>(
-    alloc: Global,
-    conn: Connection<S>,
-) -> Result<SqliteStore<S>, (Connection<S>, StoreFault)>
+) -> Result<Connection<S>, (Connection<S>, StoreFault)>
     requires idle { conn.in_transaction ≡ false }
     requires ordered { HasCleanDisk (state S.Store conn) → AreOrdered (state S.Store conn).now.trees }
-    requires number { HasCleanDisk (state S.Store conn) → IsNumbered (state S.Store conn).now.trees }
     requires opened { HasCleanDisk (state S.Store conn) → Opens (state S.Store conn) × IsLive (state S.Store conn) }
-    ensures whole { IfOk result (λ store. store.fault ≡ None) }
-    ensures rows { IfOk result (λ store. honest S.Store store → content S.Store store ≡ tables_in (state S.Store conn).now.trees) }
-    ensures register { IfOk result (λ store. honest S.Store store → HoldsRegister (tables_in (state S.Store conn).now.trees)) }
-    ensures crash { IfOk result (λ store. honest S.Store store → (t : Tables) → left S.Store store t → t ≡ content S.Store store) }
-    ensures clean { IfOk result (λ store. honest S.Store store → HasCleanDisk (state S.Store conn)) }
+    ensures idle { IfOk result (λ c. c.in_transaction ≡ false) }
+    ensures tables { IfOk result (λ c. HasCleanDisk (state S.Store c) → HasTables (state S.Store c)) }
+    ensures open { IfOk result (λ c. HasCleanDisk (state S.Store c) → IsTrue (state S.Store c).is_open) }
+    ensures limit { IfOk result (λ c. c.step_limit ≡ conn.step_limit) }
+    ensures before { IfOk result (λ c. HasCleanDisk (state S.Store c) → IsAsBefore (state S.Store conn) (state S.Store c)) }
+    ensures clean { IfOk result (λ c. HasCleanDisk (state S.Store c) → HasCleanDisk (state S.Store conn)) }
+    ensures register { IfOk result (λ c. HasCleanDisk (state S.Store c) → HoldsRegister (tables_in (state S.Store conn).now.trees)) }
     ensures opened { IfErr result (λ e. e.1 ≢ StoreFault.Version) }
     ensures unclean { IfErr result (λ e. e.1 ≡ StoreFault.Unclean → HasCleanDisk (state S.Store e.0) → HoldsNone (tables_in (state S.Store conn).now.trees)) }
     ensures spared { IfErr result (λ e. SparesConnection S.Store (λ _. ⊥) (state S.Store conn) e.0) }
@@ -81,13 +58,96 @@ fn numbered<S: Alter + Drop>(
     if !is_hub_schema(conn.schema()) {
         return Err((conn, StoreFault::Disk));
     }
-    judged(alloc, conn)
+    match register(&mut conn, alloc) {
+        Ok(Some(_register)) => {
+            let _idle = conn.is_autocommit();
+            Ok(conn)
+        }
+        Ok(None) => Err((conn, StoreFault::Unclean)),
+        Err(fault) => Err((conn, look_fault(fault))),
+    }
+}
+
+// The store of a connection that has the tables of schema 2, once their number is set.
+fn renumbered<S: Alter + Drop>(
+    alloc: Global,
+    mut conn: Connection<S>,
+) -> Result<SqliteStore<S>, (Connection<S>, StoreFault)>
+    requires idle { conn.in_transaction ≡ false }
+    requires tables { HasCleanDisk (state S.Store conn) → HasTables (state S.Store conn) }
+    requires number { HasCleanDisk (state S.Store conn) → HasNumber 2 (state S.Store conn).now.trees }
+    ensures whole { IfOk result (λ store. store.fault ≡ None) }
+    ensures rows { IfOk result (λ store. honest S.Store store → content S.Store store ≡ tables_in (state S.Store conn).now.trees) }
+    ensures crash { IfOk result (λ store. honest S.Store store → (t : Tables) → left S.Store store t → t ≡ content S.Store store) }
+    ensures clean { IfOk result (λ store. honest S.Store store → HasCleanDisk (state S.Store conn)) }
+    ensures fails { IfErr result (λ e. (e.1 ≡ StoreFault.Memory) ⊎ (e.1 ≡ StoreFault.Disk)) }
+    ensures spared { IfErr result (λ e. SparesConnection S.Store (MayBeRenumbered Version.Second (tables_in (state S.Store conn).now.trees)) (state S.Store conn) e.0) }
+{
+    let _was_idle = conn.is_autocommit();
+    match renumber(&mut conn) {
+        Ok(()) => Ok(SqliteStore::settled(alloc, conn)),
+        Err(fault) => Err((conn, laying_fault(fault))),
+    }
+}
+
+// The store of a connection that has the tables of schema 2 or 3.
+fn raised<S: Alter + Drop>(
+    alloc: Global,
+    conn: Connection<S>,
+    version: Version,
+) -> Result<SqliteStore<S>, (Connection<S>, StoreFault)>
+    requires idle { conn.in_transaction ≡ false }
+    requires later { version ≢ Version.First }
+    requires tables { HasCleanDisk (state S.Store conn) → HasTables (state S.Store conn) }
+    requires open { HasCleanDisk (state S.Store conn) → IsTrue (state S.Store conn).is_open }
+    requires number { HasCleanDisk (state S.Store conn) → HasNumber (number_of version) (state S.Store conn).now.trees }
+    ensures whole { IfOk result (λ store. store.fault ≡ None) }
+    ensures rows { IfOk result (λ store. honest S.Store store → content S.Store store ≡ tables_in (state S.Store conn).now.trees) }
+    ensures crash { IfOk result (λ store. honest S.Store store → (t : Tables) → left S.Store store t → t ≡ content S.Store store) }
+    ensures clean { IfOk result (λ store. honest S.Store store → HasCleanDisk (state S.Store conn)) }
+    ensures fails { IfErr result (λ e. (e.1 ≡ StoreFault.Memory) ⊎ (e.1 ≡ StoreFault.Disk)) }
+    ensures spared { IfErr result (λ e. SparesConnection S.Store (MayBeRenumbered version (tables_in (state S.Store conn).now.trees)) (state S.Store conn) e.0) }
+{
+    let _idle = conn.is_autocommit();
+    match version {
+        Version::Second => renumbered(alloc, conn),
+        Version::First | Version::Third => Ok(SqliteStore::settled(alloc, conn)),
+    }
+}
+
+// The store of a connection that was opened again, where its rows hold a register.
+fn taken<S: Alter + Drop>(
+    alloc: Global,
+    conn: Connection<S>,
+    version: Version,
+) -> Result<SqliteStore<S>, (Connection<S>, StoreFault)>
+    requires idle { conn.in_transaction ≡ false }
+    requires later { version ≢ Version.First }
+    requires ordered { HasCleanDisk (state S.Store conn) → AreOrdered (state S.Store conn).now.trees }
+    requires number { HasCleanDisk (state S.Store conn) → HasNumber (number_of version) (state S.Store conn).now.trees }
+    requires opened { HasCleanDisk (state S.Store conn) → Opens (state S.Store conn) × IsLive (state S.Store conn) }
+    ensures whole { IfOk result (λ store. store.fault ≡ None) }
+    ensures rows { IfOk result (λ store. honest S.Store store → content S.Store store ≡ tables_in (state S.Store conn).now.trees) }
+    ensures register { IfOk result (λ store. honest S.Store store → HoldsRegister (tables_in (state S.Store conn).now.trees)) }
+    ensures crash { IfOk result (λ store. honest S.Store store → (t : Tables) → left S.Store store t → t ≡ content S.Store store) }
+    ensures clean { IfOk result (λ store. honest S.Store store → HasCleanDisk (state S.Store conn)) }
+    ensures opened { IfErr result (λ e. e.1 ≢ StoreFault.Version) }
+    ensures unclean { IfErr result (λ e. e.1 ≡ StoreFault.Unclean →
+        (HasCleanDisk (state S.Store e.0) → HoldsNone (tables_in (state S.Store conn).now.trees))
+        × SparesConnection S.Store (λ _. ⊥) (state S.Store conn) e.0) }
+    ensures spared { IfErr result (λ e. SparesConnection S.Store (MayBeRenumbered version (tables_in (state S.Store conn).now.trees)) (state S.Store conn) e.0) }
+{
+    match judged(alloc, conn) {
+        Ok(conn) => raised(alloc, conn, version),
+        Err((conn, fault)) => Err((conn, fault)),
+    }
 }
 
 impl<S: Alter + Drop> SqliteStore<S> {
     /// Takes over a connection in which no transaction is open and no statement is limited, with the hub that is in it.
-    /// `Version` where it has no tables, others than a hub's or another number of the schema, and only there; the
-    /// connection that comes back with it is as it was. `Unclean` where its rows hold no register; a row of another kind
+    /// Schema 2 becomes schema 3: its number is set, and no other row changes. `Version` where it has no tables, others
+    /// than a hub's or another number of the schema, and only there; the connection that comes back with it is as it was.
+    /// `Unclean` where its rows hold no register, which then stay as they are, with their number; a row of another kind
     /// that is none shows when it is looked up. With any fault no row is lost that was committed.
     pub fn adopt(
         alloc: Global,
@@ -98,15 +158,15 @@ impl<S: Alter + Drop> SqliteStore<S> {
         ensures adopts { IfOk result (Adopts S.Store (state S.Store conn)) }
         ensures refuses { IfErr result (λ e. Refuses S.Store (state S.Store conn) e.0 e.1) }
     {
-        let conn = match of_version(conn, Version::Second) {
-            Ok(conn) => conn,
+        let (conn, version) = match of_hub(conn) {
+            Ok((conn, version)) => (conn, version),
             Err((conn, fault)) => return Err((Returned::Connection(conn), fault)),
         };
-        let conn = match reopened(alloc, conn, Version::Second) {
+        let conn = match reopened(alloc, conn, version) {
             Ok(conn) => conn,
             Err((fault, store)) => return Err((Returned::Store(store), fault)),
         };
-        match numbered(alloc, conn) {
+        match taken(alloc, conn, version) {
             Ok(store) => Ok(store),
             Err((conn, fault)) => Err((Returned::Connection(conn), fault)),
         }

@@ -47,10 +47,11 @@ fn open_file<S: Start>(
 }
 
 impl<S: Start> SqliteStore<FileStore<FileFrom<S>>> {
-    /// Opens the hub in a file, with a log beside it. `Disk` also where another program has it open, or where it is no
-    /// database; `Version` where it has no tables or others than a hub's, also where there was no file, which is made
-    /// then, and empty; `Unclean` where its rows hold no register. No committed row is lost with a fault, and what is left
-    /// comes with it. `start` says what a crash may have done to the file.
+    /// Opens the hub in a file, with a log beside it; one of schema 2 becomes one of schema 3. `Disk` also where another
+    /// program has it open, or where it is no database; `Version` where it has no tables or others than a hub's, also
+    /// where there was no file, which is made then, and empty; `Unclean` where its rows hold no register, in a file that
+    /// stays of its schema. No committed row is lost with a fault, and what is left comes with it. `start` says what a
+    /// crash may have done to the file.
     pub fn at_path(
         rt: &HostRuntime,
         path: &str,

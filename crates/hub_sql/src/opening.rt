@@ -36,7 +36,8 @@ pub(crate) fn fault_by(error: &Error) -> StoreFault
     }
 }
 
-/// The fault of a founding: rows that are none of the kinds do not come, as those of a register are right.
+/// The fault of a founding, or of a number that was not set: rows that are none of the kinds do not come, as those of a
+/// register are right.
 pub(crate) fn laying_fault(fault: StoreFault) -> StoreFault
     ensures { (result ≡ StoreFault.Memory) ⊎ (result ≡ StoreFault.Disk) }
 {

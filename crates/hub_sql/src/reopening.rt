@@ -4,11 +4,13 @@ ghost use Rattle.sqlite.specs.Held.{state, IsNew};
 ghost use Rattle.sqlite.specs.State.{HasCleanDisk, Opens, IsLive};
 ghost use Rattle.hub_schema.specs.State.{HasNumber};
 ghost use Rattle.hub_sql.specs.Opening.{IsAsBefore, SparesConnection, SparesStore};
-ghost use Rattle.hub_sql.specs.Version.{schema_of, number_of, AreShaped, HoldsTables};
+ghost use Rattle.hub_schema.specs.Schema.{hub_schema};
+ghost use Rattle.hub_sql.specs.Version.{schema_of, number_of, AreShaped, HoldsHub, HoldsTables};
 
 use crate::opening::fault_by;
 use crate::version::Version;
 use hub_looks::is_numbered;
+use hub_schema::is_hub_schema;
 use hub_store::StoreFault;
 use sqlite::{Alter, Connection};
 use std::alloc::Global;
@@ -40,6 +42,37 @@ pub(crate) fn of_version<S: Alter + Drop>(
         }
         Ok(false) => Err((conn, StoreFault::Version)),
         Err(fault) => Err((conn, fault)),
+    }
+}
+
+/// The connection and the version of its tables, where they are those of schema 3 or 2.
+pub(crate) fn of_hub<S: Alter + Drop>(
+    conn: Connection<S>,
+) -> Result<(Connection<S>, Version), (Connection<S>, StoreFault)>
+    requires idle { conn.in_transaction ≡ false }
+    ensures idle { IfOk result (λ found. found.0.in_transaction ≡ false) }
+    ensures schema { IfOk result (λ _. conn.schema ≡ hub_schema) }
+    ensures known { IfOk result (λ found. conn.schema ≡ schema_of found.1) }
+    ensures later { IfOk result (λ found. found.1 ≢ Version.First) }
+    ensures holds { IfOk result (λ found. HasCleanDisk (state S.Store found.0) → HoldsTables found.1 (state S.Store conn).now × IsAsBefore (state S.Store conn) (state S.Store found.0)) }
+    ensures number { IfOk result (λ found. HasCleanDisk (state S.Store found.0) → HasNumber (number_of found.1) (state S.Store found.0).committed.trees) }
+    ensures clean { IfOk result (λ found. HasCleanDisk (state S.Store found.0) → HasCleanDisk (state S.Store conn)) }
+    ensures refuses { IfErr result (λ e. e.1 ≡ StoreFault.Version → HasCleanDisk (state S.Store e.0) → ¬ HoldsHub (state S.Store conn).now × IsAsBefore (state S.Store conn) (state S.Store e.0)) }
+    ensures other { IfErr result (λ e. conn.schema ≢ hub_schema → e.1 ≡ StoreFault.Version) }
+    ensures unclean { IfErr result (λ e. e.1 ≢ StoreFault.Unclean) }
+    ensures spared { IfErr result (λ e. SparesConnection S.Store (λ _. ⊥) (state S.Store conn) e.0) }
+{
+    let _was_idle = conn.is_autocommit();
+    if !is_hub_schema(conn.schema()) {
+        return Err((conn, StoreFault::Version));
+    }
+    match of_version(conn, Version::Third) {
+        Ok(conn) => Ok((conn, Version::Third)),
+        Err((conn, StoreFault::Version)) => match of_version(conn, Version::Second) {
+            Ok(conn) => Ok((conn, Version::Second)),
+            Err((conn, fault)) => Err((conn, fault)),
+        },
+        Err((conn, fault)) => Err((conn, fault)),
     }
 }
 

@@ -14,8 +14,10 @@ use sqlite_trees::store::Shape;
 pub(crate) enum Version {
     /// Schema 1, in which no register stands.
     First,
-    /// Schema 2.
+    /// Schema 2, in which no receipt stands in the place of another.
     Second,
+    /// Schema 3.
+    Third,
 }
 
 // Whether a table stands under this number.
@@ -57,6 +59,7 @@ impl Version {
         match self {
             Version::First => 1,
             Version::Second => 2,
+            Version::Third => 3,
         }
     }
 
@@ -66,7 +69,7 @@ impl Version {
     {
         match self {
             Version::First => is_old_schema(schema),
-            Version::Second => is_hub_schema(schema),
+            Version::Second | Version::Third => is_hub_schema(schema),
         }
     }
 
@@ -76,7 +79,9 @@ impl Version {
     {
         match self {
             Version::First => has_traffic_tables(store),
-            Version::Second => has_traffic_tables(store) && has_party_tables(store),
+            Version::Second | Version::Third => {
+                has_traffic_tables(store) && has_party_tables(store)
+            }
         }
     }
 }

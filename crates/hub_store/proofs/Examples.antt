@@ -8,7 +8,7 @@ use Rattle.hub_tables.specs.Tables.{Tables, empty}
 use Rattle.hub_tables.specs.declared.cases.Answered.TheVariants.{Waiting, Accepted, NotAccepted, Changed}
 use Rattle.hub_tables.specs.declared.cases.Side.TheVariants.{Retailer, Supplier, Cancellation}
 use Rattle.hub_tables.specs.declared.cases.MailKind.TheVariants.{Orders, Receipt}
-use Rattle.hub_tables.specs.declared.cases.Arrival.TheVariants.{Announced, Received}
+use Rattle.hub_tables.specs.declared.cases.Arrival.TheVariants.{Announced, Received, Replaced}
 use Rattle.hub_tables.specs.declared.rows.HubRow.{HubRow}
 use Rattle.hub_tables.specs.declared.rows.KeyRow.{KeyRow}
 use Rattle.hub_tables.specs.declared.rows.PrefixRow.{PrefixRow}
@@ -165,13 +165,13 @@ module _ (gln no_gln item no_item sscc no_sscc : List ℕ)
   pallet = record { sscc = sscc; supplier = gln; advice = codes "DES1"; received = arrival_number Announced }
 
   pallets_within : list_all clean_pallet
-      (pallet ∷ record pallet { advice = bytes_35 } ∷ record pallet { received = arrival_number Received } ∷ []) ≡ true
+      (pallet ∷ record pallet { advice = bytes_35 } ∷ record pallet { received = arrival_number Received } ∷ record pallet { received = arrival_number Replaced } ∷ []) ≡ true
   pallets_within = simp (right_g, right_s) refl
 
   pallets_past :
       list_any clean_pallet (
       record pallet { sscc = no_sscc } ∷ record pallet { supplier = no_gln } ∷ record pallet { advice = [] }
-      ∷ record pallet { advice = bytes_36 } ∷ record pallet { received = 2 } ∷ []) ≡ false
+      ∷ record pallet { advice = bytes_36 } ∷ record pallet { received = 3 } ∷ []) ≡ false
   pallets_past = simp (right_g, wrong_g, right_s, wrong_s) refl
 
   abbrev content : ContentRow
@@ -292,7 +292,7 @@ module _ (gln no_gln item no_item sscc no_sscc : List ℕ)
       ∷ record tables { orders = order ∷ record order { number = [] } ∷ [] }
       ∷ record tables { lines = line ∷ record line { line = 0 } ∷ [] }
       ∷ record tables { advices = advice ∷ record advice { number = [] } ∷ [] }
-      ∷ record tables { pallets = pallet ∷ record pallet { received = 2 } ∷ [] }
+      ∷ record tables { pallets = pallet ∷ record pallet { received = 3 } ∷ [] }
       ∷ record tables { contents = content ∷ record content { place = 0 } ∷ [] }
       ∷ record tables { receipts = receipt ∷ record receipt { gtin = no_item } ∷ [] }
       ∷ record tables { remembered = remembered ∷ record remembered { side = 0 } ∷ [] }

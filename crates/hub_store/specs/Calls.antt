@@ -10,7 +10,7 @@ use Rattle.hub_parties.specs.Rows.{RegisterRows}
 use Rattle.hub_tables.specs.Change.{apply, apply_all}
 use Rattle.hub_tables.specs.Register.{HoldsRegister, register_of}
 use Rattle.hub_tables.specs.Rows.{same_line, same_pallet, same_mail}
-use Rattle.hub_tables.specs.Sets.{Rising}
+pub use Rattle.hub_tables.specs.Sets.{Fit}
 use Rattle.hub_tables.specs.Tables.{Tables}
 use Rattle.hub_tables.specs.declared.change.Change.{Change}
 use Rattle.hub_tables.specs.declared.change.Change.TheVariants.{SetLine, SetPallet, SetMail}
@@ -67,10 +67,6 @@ pub record ReadsRegister {S : Type 0} (content : S → Tables) (honest : S → T
   pub was_honest : honest new → honest old
   pub again : IfSome (broken old) (λ fault. result ≡ Err (fault_of fault))
   pub fails : result ≢ Err Unclean → Fails plain (broken old) (broken new) result
-
--- changes fit where the tables after them rise by their keys, so that each key that they add is new
-abbrev pub Fit : List Change → Tables → Type 0
-Fit changes t = Rising (apply_all changes t)
 
 -- a row that is set has one in its place
 abbrev pub has_place : Change → Tables → Bool

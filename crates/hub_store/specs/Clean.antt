@@ -63,7 +63,7 @@ abbrev pub is_kind : ℕ → Bool
 is_kind n = list_any (λ kind. n == kind_letter kind) (kinds.Orders ∷ kinds.Receipt ∷ [])
 
 abbrev pub is_arrival : ℕ → Bool
-is_arrival n = list_any (λ arrival. n == arrival_number arrival) (arrivals.Announced ∷ arrivals.Received ∷ [])
+is_arrival n = list_any (λ arrival. n == arrival_number arrival) (arrivals.Announced ∷ arrivals.Received ∷ arrivals.Replaced ∷ [])
 
 abbrev pub is_truth : ℕ → Bool
 is_truth n = list_any (λ truth. n == truth_number truth) (true ∷ false ∷ [])

@@ -1,4 +1,4 @@
--- Where tables rise after changes, they rose before each.
+-- Where changes fit, tables rise before each of them, and after all.
 use Rattle.std.proofs.Common.{◌≡◌, Bool, true, false, cond, List, [], ◌∷◌, sym, ◌∙◌}
 use Rattle.std.specs.List.{AllByRecursion}
 use Rattle.std.specs.Ordering.{is_gt}
@@ -9,12 +9,12 @@ use Rattle.hub_tables.specs.Change.{apply, apply_all}
 use Rattle.hub_tables.specs.Rows.{hub_cmp, key_cmp, prefix_cmp}
 use Rattle.hub_tables.specs.Rows.{order_cmp, line_cmp, advice_cmp, pallet_cmp, content_cmp, receipt_cmp, remembered_cmp}
 use Rattle.hub_tables.specs.Rows.{mail_cmp, same_line, same_pallet, same_mail}
-use Rattle.hub_tables.specs.Sets.{Rising}
+use Rattle.hub_tables.specs.Sets.{Rising, RisesAt, Fit, clears}
 use Rattle.hub_tables.specs.Tables.{Tables}
 use Rattle.hub_tables.specs.declared.change.Change.{Change}
 use Rattle.hub_tables.specs.declared.change.Change.TheVariants.{AddHub, AddKey, AddPrefix}
 use Rattle.hub_tables.specs.declared.change.Change.TheVariants.{AddOrder, AddLine, SetLine, AddAdvice, AddPallet}
-use Rattle.hub_tables.specs.declared.change.Change.TheVariants.{SetPallet, AddContent, AddReceipt, Remember, AddMail}
+use Rattle.hub_tables.specs.declared.change.Change.TheVariants.{SetPallet, AddContent, AddReceipt, ClearReceipts, Remember, AddMail}
 use Rattle.hub_tables.specs.declared.change.Change.TheVariants.{SetMail}
 use Rattle.hub_tables.proofs.KindOrders.{line_set, pallet_set, mail_set}
 
@@ -55,8 +55,9 @@ module _ {X : Type 0} (cmp : X → X → Ordering) (at : X → Bool) (r : X) (al
   rises_replace_back [] h = tt
   rises_replace_back (x ∷ xs) h = (below_back x xs h.0, rises_replace_back xs h.1)
 
-pub rising_back : (c : Change) (t : Tables) → Rising (apply c t) → Rising t
-rising_back (AddHub r) t h = record {
+rising_back : (c : Change) (t : Tables) → RisesAt c t → Rising (apply c t) → Rising t
+rising_back (ClearReceipts sscc) t at h = at
+rising_back (AddHub r) t at h = record {
   hubs = rises_put_back hub_cmp r t.hubs h.hubs;
   keys = h.keys;
   prefixes = h.prefixes;
@@ -69,7 +70,7 @@ rising_back (AddHub r) t h = record {
   remembered = h.remembered;
   mail = h.mail;
 }
-rising_back (AddKey r) t h = record {
+rising_back (AddKey r) t at h = record {
   hubs = h.hubs;
   keys = rises_put_back key_cmp r t.keys h.keys;
   prefixes = h.prefixes;
@@ -82,7 +83,7 @@ rising_back (AddKey r) t h = record {
   remembered = h.remembered;
   mail = h.mail;
 }
-rising_back (AddPrefix r) t h = record {
+rising_back (AddPrefix r) t at h = record {
   hubs = h.hubs;
   keys = h.keys;
   prefixes = rises_put_back prefix_cmp r t.prefixes h.prefixes;
@@ -95,7 +96,7 @@ rising_back (AddPrefix r) t h = record {
   remembered = h.remembered;
   mail = h.mail;
 }
-rising_back (AddOrder r) t h = record {
+rising_back (AddOrder r) t at h = record {
   hubs = h.hubs;
   keys = h.keys;
   prefixes = h.prefixes;
@@ -108,7 +109,7 @@ rising_back (AddOrder r) t h = record {
   remembered = h.remembered;
   mail = h.mail;
 }
-rising_back (AddLine r) t h = record {
+rising_back (AddLine r) t at h = record {
   hubs = h.hubs;
   keys = h.keys;
   prefixes = h.prefixes;
@@ -121,7 +122,7 @@ rising_back (AddLine r) t h = record {
   remembered = h.remembered;
   mail = h.mail;
 }
-rising_back (AddAdvice r) t h = record {
+rising_back (AddAdvice r) t at h = record {
   hubs = h.hubs;
   keys = h.keys;
   prefixes = h.prefixes;
@@ -134,7 +135,7 @@ rising_back (AddAdvice r) t h = record {
   remembered = h.remembered;
   mail = h.mail;
 }
-rising_back (AddPallet r) t h = record {
+rising_back (AddPallet r) t at h = record {
   hubs = h.hubs;
   keys = h.keys;
   prefixes = h.prefixes;
@@ -147,7 +148,7 @@ rising_back (AddPallet r) t h = record {
   remembered = h.remembered;
   mail = h.mail;
 }
-rising_back (AddContent r) t h = record {
+rising_back (AddContent r) t at h = record {
   hubs = h.hubs;
   keys = h.keys;
   prefixes = h.prefixes;
@@ -160,7 +161,7 @@ rising_back (AddContent r) t h = record {
   remembered = h.remembered;
   mail = h.mail;
 }
-rising_back (AddReceipt r) t h = record {
+rising_back (AddReceipt r) t at h = record {
   hubs = h.hubs;
   keys = h.keys;
   prefixes = h.prefixes;
@@ -173,7 +174,7 @@ rising_back (AddReceipt r) t h = record {
   remembered = h.remembered;
   mail = h.mail;
 }
-rising_back (Remember r) t h = record {
+rising_back (Remember r) t at h = record {
   hubs = h.hubs;
   keys = h.keys;
   prefixes = h.prefixes;
@@ -186,7 +187,7 @@ rising_back (Remember r) t h = record {
   remembered = rises_put_back remembered_cmp r t.remembered h.remembered;
   mail = h.mail;
 }
-rising_back (AddMail r) t h = record {
+rising_back (AddMail r) t at h = record {
   hubs = h.hubs;
   keys = h.keys;
   prefixes = h.prefixes;
@@ -199,7 +200,7 @@ rising_back (AddMail r) t h = record {
   remembered = h.remembered;
   mail = rises_put_back mail_cmp r t.mail h.mail;
 }
-rising_back (SetLine r) t h = record {
+rising_back (SetLine r) t at h = record {
   hubs = h.hubs;
   keys = h.keys;
   prefixes = h.prefixes;
@@ -213,7 +214,7 @@ rising_back (SetLine r) t h = record {
   remembered = h.remembered;
   mail = h.mail;
 }
-rising_back (SetPallet r) t h = record {
+rising_back (SetPallet r) t at h = record {
   hubs = h.hubs;
   keys = h.keys;
   prefixes = h.prefixes;
@@ -226,7 +227,7 @@ rising_back (SetPallet r) t h = record {
   remembered = h.remembered;
   mail = h.mail;
 }
-rising_back (SetMail r) t h = record {
+rising_back (SetMail r) t at h = record {
   hubs = h.hubs;
   keys = h.keys;
   prefixes = h.prefixes;
@@ -240,6 +241,26 @@ rising_back (SetMail r) t h = record {
   mail = rises_replace_back mail_cmp (same_mail r) r (mail_set r) t.mail h.mail;
 }
 
-pub rising_before : (cs : List Change) (t : Tables) → Rising (apply_all cs t) → Rising t
-rising_before [] t h = h
-rising_before (c ∷ cs) t h = rising_back c t (rising_before cs (apply c t) h)
+-- before them
+pub fit_before : (cs : List Change) (t : Tables) → Fit cs t → Rising t
+fit_before [] t fit = fit
+fit_before (c ∷ cs) t fit = rising_back c t fit.0 (fit_before cs (apply c t) fit.1)
+
+-- after them
+pub fit_after : (cs : List Change) (t : Tables) → Fit cs t → Rising (apply_all cs t)
+fit_after [] t fit = fit
+fit_after (c ∷ cs) t fit = fit_after cs (apply c t) fit.1
+
+-- where tables rise, they do so where rows go
+pub rises_at : (c : Change) (t : Tables) → Rising t → RisesAt c t
+rises_at (ClearReceipts sscc) t rising = rising
+rises_at _ t rising = tt
+
+-- changes at which no rows go fit where the tables rise after them
+pub fit_uncleared : (cs : List Change) (t : Tables) → AllByRecursion (λ c. clears c ≡ false) cs → Rising (apply_all cs t) → Fit cs t
+fit_uncleared [] t none rising = rising
+fit_uncleared (c ∷ cs) t none rising = (uncleared c none.0, fit_uncleared cs (apply c t) none.1 rising)
+  where
+    uncleared : (c : Change) → clears c ≡ false → RisesAt c t
+    uncleared (ClearReceipts sscc) e = cc
+    uncleared _ e = tt

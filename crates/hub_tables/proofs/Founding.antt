@@ -12,13 +12,14 @@ use Rattle.hub_parties.specs.Rows.{RegisterRows, IsRegister, company_prefixes}
 use Rattle.hub_parties.specs.declared.row.SupplierRow.{SupplierRow}
 use Rattle.hub_tables.specs.Change.{apply, apply_all}
 use Rattle.hub_tables.specs.Register.{supplier_cmp, HoldsRegister, has_key, row_in, suppliers_of, register_of, register_by, hub_in}
-use Rattle.hub_tables.specs.Register.{row_changes, suppliers_changes, founded}
+use Rattle.hub_tables.specs.Register.{prefix_changes, row_changes, suppliers_changes, register_changes, founded}
 use Rattle.hub_tables.specs.Rows.{same, hub_cmp}
-use Rattle.hub_tables.specs.Sets.{Has, Rising}
+use Rattle.hub_tables.specs.Sets.{Has, Rising, Fit, clears}
 use Rattle.hub_tables.specs.Tables.{Tables, empty}
 use Rattle.hub_tables.specs.declared.change.Change.{Change}
 use Rattle.hub_tables.specs.declared.change.Change.TheVariants.{AddHub}
 use Rattle.hub_tables.specs.declared.rows.HubRow.{HubRow}
+use Rattle.hub_tables.proofs.Back.{fit_uncleared}
 use Rattle.hub_tables.proofs.Enrolling.{Enrolled, with_row, row_added, suppliers_after, enrolled_after}
 use Rattle.hub_tables.proofs.Freedom.{Apart, Free, free_from, apart_back}
 use Rattle.hub_tables.proofs.KeyOrder.{put_last}
@@ -177,3 +178,18 @@ module _ (register : RegisterRows) (right : IsRegister register) where
     remembered = tt;
     mail = tt;
   })
+
+-- no row goes as a register is founded
+prefixes_clear_none : (supplier : List ℕ) (prefixes : List (List ℕ)) (rest : List Change) → AllByRecursion (λ c. clears c ≡ false) rest
+    → AllByRecursion (λ c. clears c ≡ false) (prefix_changes supplier prefixes ++ rest)
+prefixes_clear_none supplier [] rest none = none
+prefixes_clear_none supplier (prefix ∷ prefixes) rest none = (refl, prefixes_clear_none supplier prefixes rest none)
+
+suppliers_clear_none : (rows : List SupplierRow) → AllByRecursion (λ c. clears c ≡ false) (suppliers_changes rows)
+suppliers_clear_none [] = tt
+suppliers_clear_none (row ∷ rows) = (refl, prefixes_clear_none row.gln row.prefixes (suppliers_changes rows) (suppliers_clear_none rows))
+
+-- so its changes fit
+pub founded_fits : (register : RegisterRows) → IsRegister register → Fit (register_changes register) empty
+founded_fits register right =
+    fit_uncleared (register_changes register) empty (refl, suppliers_clear_none register.suppliers) (founded_rises register right)

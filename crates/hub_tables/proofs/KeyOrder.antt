@@ -8,7 +8,7 @@ use Rattle.std.specs.Ordering.{is_gt, ordering_reverse}
 use Rattle.std.specs.Cmp.{IsTotalOrder}
 use Rattle.std.proofs.lemmas.Cmp.{upto}
 use Rattle.std.proofs.lemmas.List.Sums.{sum_by-cons}
-use Rattle.hub_parties.specs.KeyOrder.{InOrder, put}
+use Rattle.hub_parties.specs.KeyOrder.{InOrder, Rises, put}
 use Rattle.hub_tables.proofs.Lists.{decide, all_filter, all_weaker}
 
 -- Without any order.
@@ -139,3 +139,10 @@ module _ {X : Type 0} {cmp : X → X → Ordering} (total : IsTotalOrder cmp) wh
             ∙ sym first
         | inr g ↦ elim (decide (p y)) [ inl h ↦ grind (arith, g, h, ih) | inr h ↦ grind (arith, g, h, ih) ]
       ]
+
+-- what passes a test of rows that rise
+pub rises_filter : {X : Type 0} (cmp : X → X → Ordering) (p : X → Bool) (xs : List X) → Rises cmp xs → Rises cmp (filter p xs)
+rises_filter cmp p [] a = tt
+rises_filter cmp p (x ∷ xs) a =
+    elim (p x) as (λ v. Rises cmp (cond v (x ∷ filter p xs) (filter p xs)))
+    [ true ↦ (all_filter (λ y. cmp x y ≡ Less) p xs a.0, rises_filter cmp p xs a.1) | false ↦ rises_filter cmp p xs a.1 ]

@@ -1,5 +1,5 @@
 -- The order of each kind, and that each change keeps it.
-use Rattle.std.proofs.Common.{◌≡◌, ℕ, Bool, true, false, cond, List, ◌&&◌, ◌==◌, refl, sym, ap₂, arith}
+use Rattle.std.proofs.Common.{◌≡◌, ℕ, Bool, true, false, cond, not, List, ◌&&◌, ◌==◌, refl, sym, ap₂, arith}
 use Rattle.std.specs.declared.cmp.Ordering.{Ordering}
 use Rattle.std.specs.Ordering.{nat_cmp, ordering_then}
 use Rattle.std.specs.Cmp.{IsTotalOrder}
@@ -15,12 +15,12 @@ use Rattle.hub_tables.specs.Change.{apply}
 use Rattle.hub_tables.specs.declared.change.Change.{Change}
 use Rattle.hub_tables.specs.declared.change.Change.TheVariants.{AddHub, AddKey, AddPrefix}
 use Rattle.hub_tables.specs.declared.change.Change.TheVariants.{AddOrder, AddLine, SetLine, AddAdvice, AddPallet, SetPallet}
-use Rattle.hub_tables.specs.declared.change.Change.TheVariants.{AddContent, AddReceipt, Remember, AddMail, SetMail}
+use Rattle.hub_tables.specs.declared.change.Change.TheVariants.{AddContent, AddReceipt, ClearReceipts, Remember, AddMail, SetMail}
 use Rattle.hub_tables.specs.declared.rows.LineRow.{LineRow}
 use Rattle.hub_tables.specs.declared.rows.PalletRow.{PalletRow}
 use Rattle.hub_tables.specs.declared.rows.MailRow.{MailRow}
 use Rattle.hub_tables.proofs.Lists.{same_is}
-use Rattle.hub_tables.proofs.KeyOrder.{in_order_put, in_order_map}
+use Rattle.hub_tables.proofs.KeyOrder.{in_order_put, in_order_map, in_order_filter}
 
 pub hub_total : IsTotalOrder hub_cmp
 hub_total = on_total (λ r. r.hub) nat_list_cmp_total
@@ -251,6 +251,20 @@ ordered_after (AddReceipt r) t o =
       pallets = o.pallets;
       contents = o.contents;
       receipts = in_order_put receipt_total t.receipts r o.receipts;
+      remembered = o.remembered;
+      mail = o.mail;
+    }
+ordered_after (ClearReceipts sscc) t o =
+    record {
+      hubs = o.hubs;
+      keys = o.keys;
+      prefixes = o.prefixes;
+      orders = o.orders;
+      lines = o.lines;
+      advices = o.advices;
+      pallets = o.pallets;
+      contents = o.contents;
+      receipts = in_order_filter receipt_cmp (λ row. not (same row.sscc sscc)) t.receipts o.receipts;
       remembered = o.remembered;
       mail = o.mail;
     }

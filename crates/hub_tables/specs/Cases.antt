@@ -27,10 +27,11 @@ abbrev pub kind_letter : MailKind → ℕ
 kind_letter kinds.Orders = 0x4F
 kind_letter kinds.Receipt = 0x52
 
--- 0 announced, 1 received
+-- 0 announced, 1 received, 2 received by an advice that replaces
 abbrev pub arrival_number : Arrival → ℕ
 arrival_number arrivals.Announced = 0
 arrival_number arrivals.Received = 1
+arrival_number arrivals.Replaced = 2
 
 -- 0 no, 1 yes
 abbrev pub truth_number : Bool → ℕ

@@ -1,14 +1,14 @@
 -- What changes do to tables.
-use Rattle.std.specs.Prelude.{List, [], ◌∷◌}
+use Rattle.std.specs.Prelude.{List, [], ◌∷◌, filter, not}
 use Rattle.hub_parties.specs.KeyOrder.{put, replace}
 use Rattle.hub_tables.specs.Rows.{hub_cmp, key_cmp, prefix_cmp}
 use Rattle.hub_tables.specs.Rows.{order_cmp, line_cmp, advice_cmp, pallet_cmp, content_cmp, receipt_cmp, remembered_cmp}
-use Rattle.hub_tables.specs.Rows.{mail_cmp, same_line, same_pallet, same_mail}
+use Rattle.hub_tables.specs.Rows.{mail_cmp, same, same_line, same_pallet, same_mail}
 use Rattle.hub_tables.specs.Tables.{Tables}
 use Rattle.hub_tables.specs.declared.change.Change.{Change}
 use Rattle.hub_tables.specs.declared.change.Change.TheVariants.{AddHub, AddKey, AddPrefix}
 use Rattle.hub_tables.specs.declared.change.Change.TheVariants.{AddOrder, AddLine, SetLine, AddAdvice, AddPallet}
-use Rattle.hub_tables.specs.declared.change.Change.TheVariants.{SetPallet, AddContent, AddReceipt, Remember, AddMail}
+use Rattle.hub_tables.specs.declared.change.Change.TheVariants.{SetPallet, AddContent, AddReceipt, ClearReceipts, Remember, AddMail}
 use Rattle.hub_tables.specs.declared.change.Change.TheVariants.{SetMail}
 
 abbrev pub apply : Change → Tables → Tables
@@ -23,6 +23,7 @@ apply (AddPallet row) t = record t { pallets = put pallet_cmp row t.pallets }
 apply (SetPallet row) t = record t { pallets = replace (same_pallet row) row t.pallets }
 apply (AddContent row) t = record t { contents = put content_cmp row t.contents }
 apply (AddReceipt row) t = record t { receipts = put receipt_cmp row t.receipts }
+apply (ClearReceipts sscc) t = record t { receipts = filter (λ row. not (same row.sscc sscc)) t.receipts }
 apply (Remember row) t = record t { remembered = put remembered_cmp row t.remembered }
 apply (AddMail row) t = record t { mail = put mail_cmp row t.mail }
 apply (SetMail row) t = record t { mail = replace (same_mail row) row t.mail }

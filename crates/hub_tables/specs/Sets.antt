@@ -1,6 +1,9 @@
--- Tables as sets of rows.
-use Rattle.std.specs.Prelude.{◌≡◌, ◌⊎◌, List, [], ◌∷◌}
+-- Tables as sets of rows, and which changes leave them so.
+use Rattle.std.specs.Prelude.{◌≡◌, ◌⊎◌, ⊤, Bool, true, false, List, [], ◌∷◌}
 use Rattle.hub_parties.specs.KeyOrder.{Rises}
+use Rattle.hub_tables.specs.Change.{apply}
+use Rattle.hub_tables.specs.declared.change.Change.{Change}
+use Rattle.hub_tables.specs.declared.change.Change.TheVariants.{ClearReceipts}
 use Rattle.hub_tables.specs.Rows.{hub_cmp, key_cmp, prefix_cmp}
 use Rattle.hub_tables.specs.Rows.{order_cmp, line_cmp, advice_cmp, pallet_cmp, content_cmp, receipt_cmp, remembered_cmp}
 use Rattle.hub_tables.specs.Rows.{mail_cmp}
@@ -28,6 +31,22 @@ pub record Rising (t : Tables) : Type 0 where
   pub receipts : Rises receipt_cmp t.receipts
   pub remembered : Rises remembered_cmp t.remembered
   pub mail : Rises mail_cmp t.mail
+
+-- rows go by it
+abbrev pub clears : Change → Bool
+clears (ClearReceipts sscc) = true
+clears change = false
+
+-- where rows go, the tables rise by their keys
+abbrev pub RisesAt : Change → Tables → Type 0
+RisesAt (ClearReceipts sscc) t = Rising t
+RisesAt change t = ⊤
+
+-- Changes fit where the tables rise by their keys after all of them, and before each by which rows go, so that each key
+-- that they add is new: a row that is added twice does not fit because it goes later.
+abbrev pub Fit : List Change → Tables → Type 0
+Fit [] t = Rising t
+Fit (change ∷ changes) t = RisesAt change t × Fit changes (apply change t)
 
 -- both have the same rows of each kind
 pub record SameRows (t u : Tables) : Type 0 where

@@ -7,7 +7,7 @@ use Rattle.hub_tables.specs.Cases.{answer_letter, side_letter, arrival_number, t
 use Rattle.hub_tables.specs.Rows.{same}
 use Rattle.hub_tables.specs.Tables.{Tables}
 use Rattle.hub_tables.specs.declared.cases.Answered.TheVariants.{Waiting}
-use Rattle.hub_tables.specs.declared.cases.Arrival.TheVariants.{Announced}
+use Rattle.hub_tables.specs.declared.cases.Arrival.TheVariants.{Announced, Replaced}
 use Rattle.hub_tables.specs.declared.cases.Side.{Side}
 use Rattle.hub_tables.specs.declared.rows.LineRow.{LineRow}
 use Rattle.hub_tables.specs.declared.rows.ContentRow.{ContentRow}
@@ -58,6 +58,10 @@ pallet_of state sscc = find (λ pallet. same pallet.sscc sscc) state.pallets
 -- it has not been received
 abbrev pub is_announced : PalletRow → Bool
 is_announced pallet = pallet.received == arrival_number Announced
+
+-- it was received by an advice that takes the place of those before
+abbrev pub is_replaced : PalletRow → Bool
+is_replaced pallet = pallet.received == arrival_number Replaced
 
 -- what is on a pallet, and what of it was received
 abbrev pub contents_of : Tables → List ℕ → List ContentRow

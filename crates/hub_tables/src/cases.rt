@@ -59,6 +59,8 @@ pub enum Arrival {
     Announced,
     /// 1: received.
     Received,
+    /// 2: received by an advice that takes the place of those before, if there were any.
+    Replaced,
 }
 
 impl Case for Arrival {

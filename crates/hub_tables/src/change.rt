@@ -3,8 +3,9 @@ use crate::rows::{
     AdviceRow, ContentRow, HubRow, KeyRow, LineRow, MailRow, OrderRow, PalletRow, PrefixRow,
     ReceiptRow, RememberedRow,
 };
+use gs1_ids::Sscc;
 
-/// A row that is added, or that is set in the place of the one that has its key.
+/// A row that is added, one that is set in the place of the one that has its key, or rows that go.
 #[derive(Debug, Drop)]
 pub enum Change {
     /// The hub and its retailer.
@@ -29,6 +30,8 @@ pub enum Change {
     AddContent(ContentRow),
     /// A new receipt of an article.
     AddReceipt(ReceiptRow),
+    /// All receipts of a pallet go.
+    ClearReceipts(Sscc),
     /// A message or cancellation that is remembered.
     Remember(RememberedRow),
     /// A new entry of a mailbox.

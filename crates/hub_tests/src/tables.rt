@@ -19,7 +19,7 @@ static SIDES: [Side; 3] = [Side::Retailer, Side::Supplier, Side::Cancellation];
 
 static KINDS: [MailKind; 2] = [MailKind::Orders, MailKind::Receipt];
 
-static ARRIVALS: [Arrival; 2] = [Arrival::Announced, Arrival::Received];
+static ARRIVALS: [Arrival; 3] = [Arrival::Announced, Arrival::Received, Arrival::Replaced];
 
 #[test]
 fn columns_keep_their_cases(rt: HostRuntime) {

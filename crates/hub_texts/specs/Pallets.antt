@@ -1,17 +1,13 @@
 -- The lines of articles on a pallet.
-use Rattle.std.specs.Prelude.{ℕ, List, ◌∷◌, ◌++◌, if◌then◌else◌, codes}
+use Rattle.std.specs.Prelude.{ℕ, List, ◌∷◌, ◌++◌, codes}
 use Rattle.hub_tables.specs.declared.rows.PalletRow.{PalletRow}
-use Rattle.hub_tables.specs.State.{is_announced}
+use Rattle.hub_law.specs.StatusText.{arrival_text}
 use Rattle.hub_texts.specs.Lines.{number_text}
 use Rattle.hub_texts.specs.declared.totals.Totals.{Totals}
 
--- `A` announced or `R` received
-abbrev pub letter_of : PalletRow → List ℕ
-letter_of pallet = if is_announced pallet then codes "A" else codes "R"
-
 -- which article on which pallet, and whether it is received
 abbrev pub article_start : PalletRow → List ℕ → List ℕ
-article_start pallet gtin = codes "P" ++ (0x20 ∷ pallet.sscc ++ (0x20 ∷ gtin ++ 0x20 ∷ letter_of pallet))
+article_start pallet gtin = codes "P" ++ (0x20 ∷ pallet.sscc ++ (0x20 ∷ gtin ++ 0x20 ∷ arrival_text pallet))
 
 -- what of it is despatched, accepted, returned and destroyed
 abbrev pub totals_text : Totals → List ℕ

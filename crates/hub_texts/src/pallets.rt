@@ -30,9 +30,13 @@ fn is_announced(pallet: &PalletRow) -> bool
 
 // The letter of a pallet's arrival.
 fn letter_of(pallet: &PalletRow) -> &'static str
-    ensures { result.now ≡ spec.letter_of pallet.now }
+    ensures { result.now ≡ law.arrival_text pallet.now }
 {
-    if is_announced(pallet) { "A" } else { "R" }
+    match pallet.received.case() {
+        Arrival::Announced => "A",
+        Arrival::Received => "R",
+        Arrival::Replaced => "C",
+    }
 }
 
 // Appends a number with its sign at the right of 15 places, after a field.

@@ -63,7 +63,7 @@ pub still_hub : (tree : ℕ) (rows : List Row) (old new : State) → 0 ≢ tree 
     → IsHub new
 still_hub tree rows old new other hub it = record {
   schema = it.schema;
-  numbered = subst (λ (rs : List Row). map (λ row. column row 1) rs ≡ Int (pos 2)
+  numbered = subst (λ (rs : List Row). map (λ row. column row 1) rs ≡ Int (pos 3)
       ∷ []) (sym (it.others.0 other)) hub.numbered;
   ordered = still_shaped tree all_trees old.now.trees new.now.trees (subst (IsShaped shape.Table) (sym it.rows)
       it.shaped) it.others hub.ordered;

@@ -14,7 +14,7 @@ use Rattle.sqlite.proofs.Callers.{survives_begin}
 use Rattle.sqlite.proofs.StateLemmas.{survives_then}
 use Rattle.sql_rows.proofs.Transactions.{clean_before, undone, lasts}
 use Rattle.hub_tables.specs.Change.{apply_all}
-use Rattle.hub_tables.specs.Sets.{Rising}
+use Rattle.hub_tables.specs.Sets.{Fit}
 use Rattle.hub_tables.specs.Tables.{Tables}
 use Rattle.hub_tables.specs.declared.change.Change.{Change}
 use Rattle.hub_tables.specs.declared.rows.ContentRow.{ContentRow}
@@ -32,7 +32,6 @@ use Rattle.hub_store.specs.Clean.{is_quantity, is_kind, is_truth, are_bytes}
 use Rattle.hub_store.specs.declared.fault.StoreFault.{StoreFault}
 use Rattle.hub_schema.specs.Rows.{tables_in}
 use Rattle.hub_schema.specs.State.{IsHub, Makes, Holds, CommitsTo}
-use Rattle.hub_schema.proofs.Single.{hub_rises}
 use Rattle.hub_writes.specs.Acts.{great_place, great_entry, has_great, Acts}
 use Rattle.hub_writes.specs.Faults.{ended}
 use Rattle.hub_writes.proofs.Outcomes.{no_unclean}
@@ -123,8 +122,8 @@ module _ {S : Type 0} (g : Ghosts S) (old mid end : Held S) (changes : List Chan
         unclean = λ clean holds e. elim (it.unclean (early clean) e) [
           | inl refused ↦ inl (
             refused.0,
-            λ rising have. inr (great_unclean (apply_all changes (tables_in (state g old).now.trees))
-                (refused.1 (begun_hub (holds refused.0)) rising have)),
+            λ fit have. inr (great_unclean (apply_all changes (tables_in (state g old).now.trees))
+                (refused.1 (begun_hub (holds refused.0)) fit have)),
           )
           | inr great ↦ inr (λ t have. great_unclean (apply_all changes t) (great t have))
         ];
@@ -152,13 +151,13 @@ module _ {S : Type 0} (g : Ghosts S) (old mid end : Held S) (changes : List Chan
     none_done settled clean holds o e (inr late) = absurd (true≢false (sym (made clean holds).mode ∙ late.1))
 
     survived : Survives (state g old) (state g end)
-        (λ trees. Holds (state g old) → IsTrue (state g old).is_open × Rising (tables_in trees)
+        (λ trees. Holds (state g old) → IsTrue (state g old).is_open × Fit changes (tables_in (state g old).now.trees)
         × (tables_in trees ≡ apply_all changes (tables_in (state g old).now.trees)))
     survived = survives_then (state g old) (state g mid) (state g end) _ _ _ (λ _ db none. absurd none)
         (λ clean db is holds.
         let did = made clean holds in (
           was_open (early clean),
-          subst (λ trees. Rising (tables_in trees)) (sym is) (hub_rises (state g mid) did.hub),
+          it.fits (early clean) (begun_hub (holds (was_open (early clean)))) refl,
           ap tables_in is ∙ did.tables,
         ))
         (survives_begin g old (state g mid) _ it.survives) last

@@ -18,6 +18,11 @@ use Rattle.hub_schema.specs.State.{IsHub, IsFounded, Makes, ShowsTheSame, Founds
 use Rattle.hub_writes.specs.Faults.{ended}
 use Rattle.hub_writes.proofs.Hubs.{same_hub}
 
+-- what a statement did that succeeded
+pub ended_ok : {X : Type 0} (r : Result X Error) (P : Type 0) → OnOk r P → OnOk (ended r) P
+ended_ok (Ok x) P h = h
+ended_ok (Err e) P h = tt
+
 -- a database that is a hub's, by its rows
 is_founded : (rows : Tables) (s : State) → IsHub s → tables_in s.now.trees ≡ rows → IsFounded rows s.now.trees
 is_founded rows s hub same = record {

@@ -8,7 +8,7 @@ use Rattle.hub_tables.specs.Tables.{Tables}
 use Rattle.hub_tables.specs.declared.change.Change.{Change}
 use Rattle.hub_tables.specs.declared.change.Change.TheVariants.{AddHub, AddKey, AddPrefix}
 use Rattle.hub_tables.specs.declared.change.Change.TheVariants.{AddOrder, AddLine, SetLine, AddAdvice, AddPallet}
-use Rattle.hub_tables.specs.declared.change.Change.TheVariants.{SetPallet, AddContent, AddReceipt, Remember, AddMail}
+use Rattle.hub_tables.specs.declared.change.Change.TheVariants.{SetPallet, AddContent, AddReceipt, ClearReceipts, Remember, AddMail}
 use Rattle.hub_tables.specs.declared.change.Change.TheVariants.{SetMail}
 use Rattle.hub_store.specs.Calls.{have_places}
 
@@ -45,5 +45,6 @@ unplaced (AddAdvice row) t none = absurd cc
 unplaced (AddPallet row) t none = absurd cc
 unplaced (AddContent row) t none = absurd cc
 unplaced (AddReceipt row) t none = absurd cc
+unplaced (ClearReceipts sscc) t none = absurd cc
 unplaced (Remember row) t none = absurd cc
 unplaced (AddMail row) t none = absurd cc

@@ -13,9 +13,11 @@ use Rattle.sqlite.specs.declared.error.ErrorCode.TheVariants as code
 use Rattle.sqlite.specs.Held.{Held, state}
 use Rattle.sqlite.specs.State.{State, HasCleanDisk, KeepsCommit, Survives, ExecutesInside}
 use Rattle.sql_rows.proofs.Refusals.{not_unique}
-use Rattle.sql_rows.proofs.Transactions.{kept_ran, kept_still}
+use Rattle.sql_rows.proofs.Transactions.{kept_ran, kept_still, on_ok}
 use Rattle.hub_tables.specs.Change.{apply_all}
-use Rattle.hub_tables.specs.Sets.{Rising}
+use Rattle.hub_tables.specs.Sets.{Rising, Fit}
+use Rattle.hub_tables.proofs.Back.{fit_after, rises_at}
+use Rattle.hub_schema.proofs.Single.{hub_rises}
 use Rattle.hub_tables.specs.Tables.{Tables}
 use Rattle.hub_tables.specs.declared.change.Change.{Change}
 use Rattle.hub_store.specs.Calls.{have_places}
@@ -56,6 +58,18 @@ on_err (Err e) f h = f h
 err_inserted : (A : Type 0) (r : Result ℕ Error) → OnErr r A → OnErr (inserted r) A
 err_inserted A (Ok count) h = tt
 err_inserted A (Err e) h = h
+
+err_ended : (A : Type 0) (r : Result ℕ Error) → OnErr r A → OnErr (ended r) A
+err_ended A (Ok count) h = tt
+err_ended A (Err e) h = h
+
+-- a change that a hub's tables take fits to them
+fits_one : (change : Change) (old new : State) → IsHub old → Makes (apply_all (change ∷ [])) old new
+    → Fit (change ∷ []) (tables_in old.now.trees)
+fits_one change old new hub did = (
+  rises_at change (tables_in old.now.trees) (hub_rises old hub),
+  subst Rising did.tables (hub_rises new did.hub),
+)
 
 -- only a key that is there is `Unclean`
 refused_so : (e : Error) → refusal_of e ≡ Unclean → e ≡ not_unique
@@ -224,12 +238,14 @@ module _ {S : Type 0} (g : Ghosts S) (sql : List ℕ) (params : Row) (old new : 
   insert_acts change there makes fits_not out is = subst (Acts (change ∷ []) (state g old) (state g new)) (sym is) (record {
     makes = λ clean hub begun. on_inserted _ r (makes hub begun (did.runs clean begun));
     places = λ clean hub begun. at_ok (inserted r) (there (tables_in (state g old).now.trees));
+    fits = λ clean hub begun. on_inserted _ r
+        (on_ok r (fits_one change (state g old) (state g new) hub) (makes hub begun (did.runs clean begun)));
     unclean = λ clean h. let e = error_of r refl h in
         inl (elim (cases_Bool old.in_transaction) [
           | inl begun ↦
               let no_fit = fits_not (subst (ExecutesInside 0 sql params (state g old) (state g new)) e (did.runs clean
               begun)) in
-              (no_fit.0, λ hub rising _. absurd (no_fit.1 hub rising))
+              (no_fit.0, λ hub fit _. absurd (no_fit.1 hub (fit_after (change ∷ []) (tables_in (state g old).now.trees) fit)))
           | inr none ↦ absurd (let no = sym e ∙ (did.ended none).0 in cc)
         ]);
     stands = λ clean. on_inserted _ r (stands clean);
@@ -249,6 +265,7 @@ module _ {S : Type 0} (g : Ghosts S) (sql : List ℕ) (params : Row) (old new : 
   touch_acts undone makes out is = subst (Acts [] (state g old) (state g new)) (sym is) (record {
     makes = λ clean hub begun. on_ended _ r (makes hub begun (did.runs clean begun));
     places = λ clean hub begun. at_ok (ended r) refl;
+    fits = λ clean hub begun. at_ok (ended r) (hub_rises (state g old) hub);
     unclean = λ clean h. absurd (no_unclean r h);
     stands = λ clean. on_ended _ r (stands clean);
     fault = λ clean begun. fails r (did.runs clean begun);
@@ -261,6 +278,25 @@ module _ {S : Type 0} (g : Ghosts S) (sql : List ℕ) (params : Row) (old new : 
           → OnErr (ended out) (MakesFirst [] (state g old) (state g new) ⊎ IsUndone (state g old) (state g new))
       fails (Ok count) h = tt
       fails (Err e) h = inr (undone e h)
+
+  -- a DELETE, whatever rows it meets
+  pub delete_acts : (change : Change) → ((t : Tables) → have_places (change ∷ []) t ≡ true)
+      → (IsHub (state g old) → old.in_transaction ≡ true
+      → ExecutesInside 0 sql params (state g old) (state g new) r
+      → OnOk r (Makes (apply_all (change ∷ [])) (state g old) (state g new)))
+      → (out : Result (Unit {0}) StoreFault) → out ≡ ended r → Acts (change ∷ []) (state g old) (state g new) out
+  delete_acts change there makes out is = subst (Acts (change ∷ []) (state g old) (state g new)) (sym is) (record {
+    makes = λ clean hub begun. on_ended _ r (makes hub begun (did.runs clean begun));
+    places = λ clean hub begun. at_ok (ended r) (there (tables_in (state g old).now.trees));
+    fits = λ clean hub begun. on_ended _ r
+        (on_ok r (fits_one change (state g old) (state g new) hub) (makes hub begun (did.runs clean begun)));
+    unclean = λ clean h. absurd (no_unclean r h);
+    stands = λ clean. on_ended _ r (stands clean);
+    fault = λ clean begun. err_ended _ r (stops change clean begun);
+    ended = λ none. (on_ended _ r (left_by.ended none).0, (left_by.ended none).1);
+    kept = kept;
+    survives = did.survives;
+  })
 
   -- an UPDATE that is to meet a row, and tells how many it met
   module _ (change : Change) (makes : IsHub (state g old) → old.in_transaction ≡ true
@@ -307,6 +343,8 @@ module _ {S : Type 0} (g : Ghosts S) (sql : List ℕ) (params : Row) (old new : 
     counted count is false e = record {
       makes = λ clean hub begun. on_ok_at is (makes hub begun (did.runs clean begun));
       places = λ clean hub begun. met hub begun count (ran count is clean).1 ∙ ap not e;
+      fits = λ clean hub begun.
+          fits_one change (state g old) (state g new) hub (on_ok_at is (makes hub begun (did.runs clean begun)));
       unclean = λ clean h. absurd (let bad = h in cc);
       stands = λ clean. on_ok_at is (stands clean);
       fault = λ clean begun. tt;
@@ -317,6 +355,7 @@ module _ {S : Type 0} (g : Ghosts S) (sql : List ℕ) (params : Row) (old new : 
     counted count is true e = record {
       makes = λ clean hub begun. tt;
       places = λ clean hub begun. tt;
+      fits = λ clean hub begun. tt;
       unclean = λ clean h.
           let it = ran count is clean in
           inl (it.1.1.was_open, λ hub rising have. absurd (true≢false (sym have ∙ met hub it.0 count it.1 ∙ ap not e)));
@@ -332,6 +371,7 @@ module _ {S : Type 0} (g : Ghosts S) (sql : List ℕ) (params : Row) (old new : 
     sets (Err e) is = record {
       makes = λ clean hub begun. tt;
       places = λ clean hub begun. tt;
+      fits = λ clean hub begun. tt;
       unclean = λ clean h. absurd (never_unclean e (let same : fault_of e ≡ Unclean = cc in same));
       stands = λ clean. tt;
       fault = λ clean begun. on_err_at is (stops change clean begun);

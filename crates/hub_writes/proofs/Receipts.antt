@@ -1,18 +1,21 @@
 -- Receipts of articles in SQL.
-use Rattle.std.proofs.Common.{◌≡◌, ◌&&◌, ◌<◌, ◌^◌, ℕ, pos, true, None, List, [], ◌∷◌, map, codes, Ok, Err, Result, OnOk}
+use Rattle.std.proofs.Common.{◌≡◌, ◌&&◌, ◌<◌, ◌^◌, ℕ, pos, Bool, true, not, filter, inl, inr, None, List, [], ◌∷◌, map, codes, Ok, Err, Result, OnOk}
 use Rattle.std.proofs.Common.{IsTrue, refl, sym, ap, subst, ◌∙◌, arith}
+use Rattle.std.specs.List.{AllByRecursion}
 use Rattle.std.specs.Ordering.{is_eq}
-use Rattle.std.proofs.lemmas.Bool.{and_parts}
+use Rattle.std.proofs.lemmas.Bool.{and_parts, cases_Bool}
 use Rattle.std.proofs.lemmas.Cmp.{tied_itself}
 use Rattle.sqlite_value.specs.declared.value.Value.TheVariants.{Null, Int, Blob}
 use Rattle.sqlite_value.specs.declared.keys.Collation.TheVariants.{Binary}
 use Rattle.sqlite_value.specs.Keys.{plain, first_key}
 use Rattle.sqlite_value.specs.Order.{Row, column}
-use Rattle.sqlite_sql.specs.Term.{Term, lit, col}
+use Rattle.sqlite_sql.specs.declared.ops.BinaryOp.TheVariants.{Compare}
+use Rattle.sqlite_sql.specs.declared.ops.CompareOp.TheVariants.{Eq}
+use Rattle.sqlite_sql.specs.Term.{Term, lit, col, op2}
 use Rattle.sqlite_trees.specs.Tree.{Trees, put_row, with_tree}
 use Rattle.sqlite_schema.specs.declared.schema.Constraint.TheVariants.{Unique}
 use Rattle.sqlite_schema.specs.declared.command.Source.TheVariants.{Values}
-use Rattle.sqlite_schema.specs.declared.command.Command.TheVariants.{Insert}
+use Rattle.sqlite_schema.specs.declared.command.Command.TheVariants.{Insert, Delete}
 use Rattle.sqlite_schema.specs.Rules.{agree, equal, Keeps, Obeys}
 use Rattle.sqlite_rules.specs.declared.error.Rowids.TheVariants.{Chosen}
 use Rattle.sqlite_rules.specs.Edit.{edit_of, edited, next_rowid}
@@ -22,23 +25,27 @@ use Rattle.sqlite.specs.Listing.{understood}
 use Rattle.sqlite.specs.State.{State, Writes, ExecutesInside}
 use Rattle.sqlite.proofs.Callers.{IsPlain, command_of, runs_as}
 use Rattle.sql_rows.specs.Cells.{AreOf}
+use Rattle.sql_rows.proofs.Answers.{and_true}
+use Rattle.sql_rows.proofs.Deletes.{removes}
 use Rattle.sql_rows.proofs.Inserts.{cast_null, cast_int}
 use Rattle.sql_rows.proofs.Refusals.{not_unique, refused}
 use Rattle.sql_rows.proofs.Rowids.{put_next}
 use Rattle.sql_rows.proofs.Unique.{keeps_unique}
+use Rattle.sql_rows.proofs.Updates.{one_table, passes}
 use Rattle.hub_tables.specs.Change.{apply_all}
 use Rattle.hub_parties.specs.KeyOrder.{put}
-use Rattle.hub_tables.specs.Rows.{receipt_cmp}
+use Rattle.hub_tables.specs.Rows.{receipt_cmp, same}
 use Rattle.hub_tables.specs.Sets.{Rising}
-use Rattle.hub_tables.specs.declared.change.Change.TheVariants.{AddReceipt}
+use Rattle.hub_tables.specs.declared.change.Change.TheVariants.{AddReceipt, ClearReceipts}
 use Rattle.hub_tables.specs.declared.rows.ReceiptRow.{ReceiptRow}
 use Rattle.hub_tables.proofs.KindOrders.{receipt_total}
 use Rattle.hub_schema.specs.Rows.{receipt_in, in_key_order, tables_in}
 use Rattle.hub_schema.specs.Schema.{hub_schema, receipt_table}
 use Rattle.hub_schema.specs.State.{IsHub, Makes}
+use Rattle.hub_schema.proofs.InKeyOrder.{listed_filter}
 use Rattle.hub_schema.proofs.Single.{receipt_kinds, receipt_cells}
-use Rattle.hub_writes.proofs.Alters.{Alters, adds, still_hub}
-use Rattle.hub_writes.proofs.Keys.{listed_last, is_new, number_shown, bytes_are}
+use Rattle.hub_writes.proofs.Alters.{Alters, adds, altered, still_hub}
+use Rattle.hub_writes.proofs.Keys.{listed_last, is_new, number_shown, bytes_are, bytes_equal}
 
 abbrev pub add_receipt : List ℕ
 add_receipt = codes "INSERT INTO receipt (sscc, gtin, accepted, returned, destroyed) VALUES (?1, ?2, ?3, ?4, ?5)"
@@ -180,3 +187,69 @@ module _ (row : ReceiptRow) where
       let it = refused hub_schema 6 12 _ _ _ _ _ refl (λ _ _. refl) add_receipt terms 6 add_receipt_is
       add_receipt_plain old new cells h in
       (it.0, λ hub rising. it.1 hub.schema (keeps old hub rising))
+
+-- A DELETE.
+
+abbrev pub clear_receipts : List ℕ
+clear_receipts = codes "DELETE FROM receipt WHERE sscc = ?1"
+
+-- the row is of the pallet
+abbrev tests : List Term
+tests = op2 (Compare Eq Binary) (col 1 1) (col 0 0) ∷ []
+
+-- its number
+abbrev shows : List Term
+shows = col 1 0 ∷ []
+
+pub clear_receipts_is : command_of (understood hub_schema clear_receipts)
+    ≡ Delete 6 (record { lets = []; body = one_table 12 (λ _. refl) tests shows [] })
+unfolding understood everything
+clear_receipts_is = refl
+
+pub clear_receipts_plain : IsPlain (understood hub_schema clear_receipts)
+unfolding understood everything
+clear_receipts_plain = (refl, refl)
+
+module _ (sscc : List ℕ) where
+  abbrev pub cleared_cells : Row
+  cleared_cells = Blob sscc ∷ []
+
+  abbrev passes_all : Row → Bool
+  passes_all = passes 12 (λ _. refl) tests shows cleared_cells
+
+  passes_is : (r : Row) → AreOf receipt_kinds 0 r → passes_all r ≡ same (receipt_in r).sscc sscc
+  passes_is r typed = and_true _ ∙ bytes_equal (column r 1) sscc typed.0
+
+  all_left : (rows : List Row) → AllByRecursion (AreOf receipt_kinds 0) rows
+      → map receipt_in (filter (λ r. not (passes_all r)) rows) ≡ filter (λ row. not (same row.sscc sscc)) (map receipt_in rows)
+  all_left [] typed = refl
+  all_left (r ∷ rows) typed = elim (cases_Bool (same (receipt_in r).sscc sscc)) [
+    | inl e ↦ rw (passes_is r typed.0 ∙ e, e) (all_left rows typed.1)
+    | inr e ↦ rw (passes_is r typed.0 ∙ e, e) (ap (λ more. receipt_in r ∷ more) (all_left rows typed.1))
+  ]
+
+  clears_receipts : (old new : State) (text : List ℕ) (count : ℕ) → IsHub old → old.in_transaction ≡ true
+      → Writes old new None (Delete 6 (record { lets = []; body = one_table 12 (λ _. refl) tests shows cleared_cells })) text
+      cleared_cells count
+      → Makes (apply_all (ClearReceipts sscc ∷ [])) old new
+  clears_receipts old new text count hub begun w =
+      let db = old.now.trees in
+      let did = removes hub_schema 6 12 _ _ _ _ _ refl (λ _ _. refl) (λ _. refl) tests shows cleared_cells (λ r. refl)
+      old new text count hub.schema hub.ordered.1.1.1.1.1.1.0 w in
+      let it = altered 12 _ old new begun did.schema_is w.sound did.shaped did.rows did.others w.shown in
+      let rows = ap (in_key_order receipt_cmp) (all_left (db 12) (receipt_cells old.now hub.schema hub.sound hub.ordered))
+      ∙ sym (listed_filter receipt_total (λ row. not (same row.sscc sscc)) (map receipt_in (db 12))) in
+      record {
+        hub = still_hub 12 _ old new (λ e. absurd (omega (arith, e))) hub it;
+        tables = tables_are (record { sscc = sscc; gtin = []; accepted = 0; returned = 0; destroyed = 0 }) _ old new it
+            ∙ ap (λ rows. record (tables_in db) { receipts = rows }) rows;
+        committed = it.committed;
+        mode = it.mode;
+      }
+
+  pub clear_makes : (old new : State) (r : Result ℕ Error) → IsHub old → old.in_transaction ≡ true
+      → ExecutesInside 0 clear_receipts cleared_cells old new r → OnOk r (Makes (apply_all (ClearReceipts sscc ∷ [])) old new)
+  clear_makes old new (Err e) hub begun h = tt
+  clear_makes old new (Ok count) hub begun h =
+      clears_receipts old new _ count hub begun (runs_as clear_receipts cleared_cells old new hub_schema hub.schema _
+      clear_receipts_is clear_receipts_plain count h.0)

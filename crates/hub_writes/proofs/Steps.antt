@@ -20,17 +20,17 @@ use Rattle.hub_parties.specs.KeyOrder.{replace}
 use Rattle.hub_tables.specs.Rows.{same, same_mail, content_cmp, mail_cmp}
 use Rattle.hub_tables.specs.declared.change.Change.TheVariants.{AddHub, AddKey, AddPrefix}
 use Rattle.hub_tables.specs.declared.change.Change.TheVariants.{AddOrder, AddLine, SetLine, AddAdvice, AddPallet}
-use Rattle.hub_tables.specs.declared.change.Change.TheVariants.{SetPallet, AddContent, AddReceipt, Remember, AddMail}
+use Rattle.hub_tables.specs.declared.change.Change.TheVariants.{SetPallet, AddContent, AddReceipt, ClearReceipts, Remember, AddMail}
 use Rattle.hub_tables.specs.declared.change.Change.TheVariants.{SetMail}
 use Rattle.hub_tables.specs.declared.rows.ContentRow.{ContentRow}
 use Rattle.hub_tables.specs.declared.rows.MailRow.{MailRow}
 use Rattle.hub_tables.proofs.KeyOrder.{any_put}
 use Rattle.hub_tables.proofs.Lists.{decide}
 use Rattle.hub_tables.specs.Change.{apply, apply_all}
-use Rattle.hub_tables.specs.Sets.{Rising}
+use Rattle.hub_tables.specs.Sets.{Fit}
 use Rattle.hub_tables.specs.Tables.{Tables, empty}
 use Rattle.hub_tables.specs.declared.change.Change.{Change}
-use Rattle.hub_tables.proofs.Back.{rising_before}
+use Rattle.hub_tables.proofs.Back.{fit_before, rises_at}
 use Rattle.hub_store.specs.Calls.{has_place, have_places}
 use Rattle.hub_store.specs.declared.fault.StoreFault.{StoreFault}
 use Rattle.hub_store.specs.declared.fault.StoreFault.TheVariants.{Unclean}
@@ -85,6 +85,7 @@ run_none all a b it met = record {
         hub = did.hub;
         tables = ap (apply_all all) did.tables;
         places = ap (have_places all) did.tables;
+        fits = (subst (Fit all) did.tables, subst (Fit all) (sym did.tables));
         committed = did.committed;
         mode = did.mode;
       };
@@ -129,6 +130,10 @@ run_one all left change a b c so_far it =
             places = ap (have_places left) did.tables
                 ∙ placed_later (has_place change (tables_in b.now.trees)) _ (it.places clean was.hub was.mode)
                 ∙ was.places;
+            fits = (
+              λ later. was.fits.0 (rises_at change (tables_in b.now.trees) (hub_rises b was.hub), subst (Fit left) did.tables later),
+              λ fit. subst (Fit left) (sym did.tables) (was.fits.1 fit).1,
+            );
             committed = did.committed
                 ∙ was.committed;
             mode = did.mode;
@@ -153,6 +158,7 @@ run_all all a b it = record {
   makes = λ clean hub begun. let did = it.makes clean hub in
       record { hub = did.hub; tables = did.tables; committed = did.committed; mode = did.mode };
   places = λ clean hub begun. sym (it.makes clean hub).places;
+  fits = λ clean hub begun. let did = it.makes clean hub in did.fits.0 (hub_rises b did.hub);
   unclean = λ clean no. absurd (let e = no in cc);
   stands = λ clean. let up = it.stands clean in (up.1, up.2);
   fault = λ clean begun. tt;
@@ -205,6 +211,7 @@ great_stays (AddContent row) t h =
     ap (λ b. b || list_any great_entry t.mail) (any_put content_cmp great_place t.contents row)
     ∙ more_great (list_any great_place t.contents) (list_any great_entry t.mail) (great_place row) h
 great_stays (AddReceipt row) t h = h
+great_stays (ClearReceipts sscc) t h = h
 great_stays (Remember row) t h = h
 great_stays (AddMail row) t h =
     ap (λ b. list_any great_place t.contents || b) (any_put mail_cmp great_entry t.mail row)
@@ -267,6 +274,7 @@ pub refused_before : (change : Change) (s : State)
 refused_before change s great = record {
   makes = λ clean hub begun. tt;
   places = λ clean hub begun. tt;
+  fits = λ clean hub begun. tt;
   unclean = λ clean e. inr great;
   stands = λ clean. tt;
   fault = λ clean begun. inl (first_failed change s s begun (still s));
@@ -286,10 +294,11 @@ pub none_run : (all : List Change) (a b : State) (fault : StoreFault) → Acts [
 none_run all a b fault it = record {
   makes = λ clean hub begun. tt;
   places = λ clean hub begun. tt;
+  fits = λ clean hub begun. tt;
   unclean = λ clean e. elim (it.unclean clean e) [
     | inl refused ↦ inl (
       refused.0,
-      λ hub rising _. great_later all (tables_in a.now.trees) (refused.1 hub (hub_rises a hub) refl),
+      λ hub fit _. great_later all (tables_in a.now.trees) (refused.1 hub (hub_rises a hub) refl),
     )
     | inr great ↦ absurd (true≢false (sym (great empty refl)))
   ];
@@ -342,13 +351,14 @@ run_failed all left change a b c fault so_far it =
     record {
       makes = λ clean hub begun. tt;
       places = λ clean hub begun. tt;
+      fits = λ clean hub begun. tt;
       unclean = λ clean e. elim (it.unclean clean e) [
         | inl refused ↦ inl (
           (so_far.stands (before clean)).0,
-          λ hub rising have.
+          λ hub fit have.
               let was = so_far.makes (before clean) hub in
-              let great = refused.1 was.hub (rising_before left (apply_all (change
-              ∷ []) (tables_in b.now.trees)) (subst Rising (sym was.tables) rising))
+              let here = was.fits.1 fit in
+              let great = refused.1 was.hub (here.0, fit_before left (apply change (tables_in b.now.trees)) here.1)
               (first_placed (has_place change (tables_in b.now.trees)) _ (was.places ∙ have)) in
               subst (λ t. has_great t ≡ true) was.tables (great_later left (apply_all (change
               ∷ []) (tables_in b.now.trees)) great),

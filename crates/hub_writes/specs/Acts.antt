@@ -1,10 +1,10 @@
 -- What the statements of some changes do inside a transaction.
-use Rattle.std.specs.Prelude.{◌≡◌, ◌⊎◌, ◌^◌, ◌++◌, ◌∷◌, nat_le, Bool, true, false, ◌||◌, IsTrue, List, Result}
+use Rattle.std.specs.Prelude.{◌≡◌, ◌⊎◌, ◌↔◌, ◌^◌, ◌++◌, ◌∷◌, nat_le, Bool, true, false, ◌||◌, IsTrue, List, Result}
 use Rattle.std.specs.Prelude.{Err, OnOk, OnErr}
 use Rattle.std.specs.List.{list_any}
 use Rattle.sqlite.specs.State.{State, HasCleanDisk, KeepsCommit, Survives}
 use Rattle.hub_tables.specs.Change.{apply_all}
-use Rattle.hub_tables.specs.Sets.{Rising}
+use Rattle.hub_tables.specs.Sets.{Fit}
 use Rattle.hub_tables.specs.Tables.{Tables}
 use Rattle.hub_tables.specs.declared.change.Change.{Change}
 use Rattle.hub_tables.specs.declared.rows.ContentRow.{ContentRow}
@@ -35,7 +35,7 @@ pub record MakesFirst (changes : List Change) (old new : State) : Type 0 where
   pub makes : IsHub old → Makes (apply_all made) old new
   pub is_open : new.is_open ≡ old.is_open
 
--- At Ok all changes are made, in the transaction alone, and each row that is set had one in its place. `Unclean` comes
+-- At Ok all changes are made, in the transaction alone, they fit, and each row that is set had one in its place. `Unclean` comes
 -- where a key is there that is to be added, where a row is to be set that is not there, or where a number is none of
 -- SQL. After a fault the transaction stands with the changes before the one that failed, or it is undone; where it had
 -- ended before, nothing is done at all. At no time is anything committed.
@@ -44,9 +44,11 @@ pub record Acts (changes : List Change) (old new : State) (result : Result (Unit
   pub places :
       HasCleanDisk new → IsHub old → IsTrue old.in_transaction →
       OnOk result (have_places changes (tables_in old.now.trees) ≡ true)
+  pub fits :
+      HasCleanDisk new → IsHub old → IsTrue old.in_transaction → OnOk result (Fit changes (tables_in old.now.trees))
   pub unclean :
       HasCleanDisk new → result ≡ Err Unclean →
-      (IsTrue old.is_open × (IsHub old → Rising (apply_all changes (tables_in old.now.trees))
+      (IsTrue old.is_open × (IsHub old → Fit changes (tables_in old.now.trees)
       → have_places changes (tables_in old.now.trees) ≡ true
       → has_great (apply_all changes (tables_in old.now.trees)) ≡ true))
       ⊎ ((t : Tables) → have_places changes t ≡ true → has_great (apply_all changes t) ≡ true)
@@ -62,6 +64,7 @@ pub record IsUnderWay (all left : List Change) (old now : State) : Type 0 where
   pub hub : IsHub now
   pub tables : apply_all left (tables_in now.now.trees) ≡ apply_all all (tables_in old.now.trees)
   pub places : have_places left (tables_in now.now.trees) ≡ have_places all (tables_in old.now.trees)
+  pub fits : Fit left (tables_in now.now.trees) ↔ Fit all (tables_in old.now.trees)
   pub committed : now.committed ≡ old.committed
   pub mode : IsTrue now.in_transaction
 

@@ -6,13 +6,13 @@ ghost use Rattle.hub_writes.specs.Acts.{Acts};
 
 use crate::advice::add_advice;
 use crate::content::add_content;
-use crate::faults::touch_ended;
+use crate::faults::statement_ended;
 use crate::line::{add_line, set_line};
 use crate::mail::{add_mail, set_mail};
 use crate::order::add_order;
 use crate::pallet::{add_pallet, set_pallet};
 use crate::party::{add_hub, add_key, add_prefix};
-use crate::receipt::add_receipt;
+use crate::receipt::{add_receipt, clear_receipts};
 use crate::remembered::remember;
 use hub_store::StoreFault;
 use hub_tables::Change;
@@ -26,7 +26,7 @@ fn touch<S: Alter>(tx: &mut Transaction<'_, S>) -> Result<(), StoreFault>
         OnOk result (IsTrue (state S.Store tx.old.conn.now).is_open
         × IsTrue (state S.Store tx.old.conn.now).in_transaction) }
 {
-    touch_ended(tx.execute("", &[]))
+    statement_ended(tx.execute("", &[]))
 }
 
 /// Makes one change.
@@ -46,6 +46,7 @@ pub fn apply<S: Alter>(tx: &mut Transaction<'_, S>, change: &Change) -> Result<(
         Change::SetPallet(row) => set_pallet(tx, row),
         Change::AddContent(row) => add_content(tx, row),
         Change::AddReceipt(row) => add_receipt(tx, row),
+        Change::ClearReceipts(sscc) => clear_receipts(tx, sscc),
         Change::Remember(row) => remember(tx, row),
         Change::AddMail(row) => add_mail(tx, row),
         Change::SetMail(row) => set_mail(tx, row),

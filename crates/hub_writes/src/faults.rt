@@ -49,8 +49,8 @@ pub(crate) fn update_ended(given: Result<usize, Error>) -> Result<(), StoreFault
     }
 }
 
-/// What a statement comes to that does nothing.
-pub(crate) fn touch_ended(given: Result<usize, Error>) -> Result<(), StoreFault>
+/// What a statement comes to whatever rows it met.
+pub(crate) fn statement_ended(given: Result<usize, Error>) -> Result<(), StoreFault>
     ensures { result ≡ ended given }
 {
     match given {

@@ -1,5 +1,5 @@
 //! The founding of a hub: its tables and their first rows, in one transaction, in an empty database or beside the rows
-//! of schema 1.
+//! of schema 1. And the number of schema 2, which becomes 3.
 ghost use Rattle.std.specs.Prelude.{◌≡◌, IsTrue, OnOk, false};
 ghost use Rattle.sqlite.specs.Held.{state};
 ghost use Rattle.sqlite.specs.State.{HasCleanDisk, KeepsCommit, Survives};
@@ -8,12 +8,12 @@ ghost use Rattle.hub_tables.specs.Change.{apply_all as all_applied};
 ghost use Rattle.hub_tables.specs.Tables.{empty};
 ghost use Rattle.hub_schema.specs.Making.{HasMade};
 ghost use Rattle.hub_schema.specs.Schema.{no_schema};
-ghost use Rattle.hub_schema.specs.State.{FoundsTo, IsOldHub, Makes};
-ghost use Rattle.hub_schema.specs.Rows.{traffic_in};
+ghost use Rattle.hub_schema.specs.State.{FoundsTo, HasNumber, HasTables, IsOldHub, Makes};
+ghost use Rattle.hub_schema.specs.Rows.{tables_in, traffic_in};
 
 use crate::changes::apply_all;
-use crate::faults::call_ended;
-use hub_schema::{make_party_tables, make_tables};
+use crate::faults::{call_ended, statement_ended};
+use hub_schema::{make_party_tables, make_tables, set_number};
 use hub_store::StoreFault;
 use hub_tables::Change;
 use sqlite::{Alter, Connection, Transaction};
@@ -48,6 +48,20 @@ fn lay_beside<S: Alter>(tx: &mut Transaction<'_, S>, changes: &[Change]) -> Resu
     apply_all(tx, changes)
 }
 
+// Sets the number of schema 2 to that of schema 3.
+fn raise<S: Alter>(tx: &mut Transaction<'_, S>) -> Result<(), StoreFault>
+    ensures same_reference { tx.new.conn.ghost_name ≡ tx.old.conn.ghost_name }
+    ensures makes { HasCleanDisk (state S.Store tx.new.conn.now) → HasTables (state S.Store tx.old.conn.now) →
+        HasNumber 2 (state S.Store tx.old.conn.now).now.trees → IsTrue (state S.Store tx.old.conn.now).in_transaction →
+        OnOk result (Makes (λ _. tables_in (state S.Store tx.old.conn.now).now.trees)
+        (state S.Store tx.old.conn.now) (state S.Store tx.new.conn.now)) }
+    ensures kept { HasCleanDisk (state S.Store tx.new.conn.now) →
+        KeepsCommit (state S.Store tx.old.conn.now) (state S.Store tx.new.conn.now) }
+    ensures survives { Survives (state S.Store tx.old.conn.now) (state S.Store tx.new.conn.now) (λ _. ⊥) }
+{
+    statement_ended(set_number(tx))
+}
+
 /// Founds a hub in a database that has no tables: makes all of them, and in them the changes, or at a fault nothing.
 pub fn found<S: Alter>(conn: &mut Connection<S>, changes: &[Change]) -> Result<(), StoreFault>
     requires { (state S.Store conn.old).in_transaction ≡ false }
@@ -60,7 +74,7 @@ pub fn found<S: Alter>(conn: &mut Connection<S>, changes: &[Change]) -> Result<(
     call_ended(tx.commit())
 }
 
-/// Brings a database of schema 1 to schema 2: makes the tables that it has not, sets the number, and makes the changes,
+/// Brings a database of schema 1 to schema 3: makes the tables that it has not, sets the number, and makes the changes,
 /// all in one transaction, or at a fault nothing.
 pub fn migrate<S: Alter>(conn: &mut Connection<S>, changes: &[Change]) -> Result<(), StoreFault>
     requires { (state S.Store conn.old).in_transaction ≡ false }
@@ -71,5 +85,18 @@ pub fn migrate<S: Alter>(conn: &mut Connection<S>, changes: &[Change]) -> Result
     let _idle = conn.is_autocommit();
     let mut tx = conn.transaction();
     lay_beside(&mut tx, changes)?;
+    call_ended(tx.commit())
+}
+
+/// Brings a database of schema 2 to schema 3: sets the number, and changes no other row, in one transaction, or at a fault
+/// nothing.
+pub fn renumber<S: Alter>(conn: &mut Connection<S>) -> Result<(), StoreFault>
+    requires { (state S.Store conn.old).in_transaction ≡ false }
+    ensures { FoundsTo (HasTables (state S.Store conn.old) × HasNumber 2 (state S.Store conn.old).now.trees)
+        (tables_in (state S.Store conn.old).now.trees) (state S.Store conn.old) (state S.Store conn.new) result }
+{
+    let _idle = conn.is_autocommit();
+    let mut tx = conn.transaction();
+    raise(&mut tx)?;
     call_ended(tx.commit())
 }

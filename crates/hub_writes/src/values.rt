@@ -133,6 +133,7 @@ pub(crate) fn arrival_value<'a>(arrival: &Column<Arrival>) -> ValueRef<'a>
     number_value(match arrival.case() {
         Arrival::Announced => 0,
         Arrival::Received => 1,
+        Arrival::Replaced => 2,
     })
 }
 

@@ -1,6 +1,7 @@
 pub mod Answers
 pub mod Cells
 pub mod Creates
+pub mod Deletes
 pub mod Inserts
 pub mod Refusals
 pub mod Rowids

@@ -222,3 +222,56 @@ module _ (table : Table) (show : Row → Row) (p : Row → Bool) (rows answer : 
         (λ y h. let r = has_mapped changed rows y h in subst (λ v. IsTrue (is_int v))
         (sym (ap rowid r.2 ∙ all_has (λ q. rowid (changed q) ≡ rowid q) rows r.0 keeps r.1)) (int_at r.0 r.1)),
   )
+
+-- The rows that pass are taken out, each by its rowid.
+module _ (show : Row → Row) (p : Row → Bool) (rows answer : List Row) (up : IsShaped shape.Table rows)
+    (same : IsPermutation (map show (filter p rows)) answer) (shows : (r : Row) → rowid (show r) ≡ rowid r) where
+  abbrev kept : List Row
+  kept = filter (λ r. not (p r)) rows
+
+  number_of : (r : Row) → Has rows r → Int (id_in (rowid (show r))) ≡ rowid r
+  number_of r h = ap (λ v. Int (id_in v)) (shows r) ∙ sym (int_is (rowid r) (all_has _ rows r up.1 h))
+
+  -- a row that passes is asked to go
+  goes : (x : Row) → Has rows x → p x ≡ true → Lacks (ids_of answer) x → ⊥
+  goes x h hit lacks =
+      let there = shuffled_has (map show (filter p rows)) answer (show x) same
+      (mapped_has show (filter p rows) x (has_kept p rows x h hit)) in
+      let found : has_rowid (id_in (rowid (show x))) x ≡ true =
+      ap (λ v. is_eq (value_cmp (rowid x) v)) (number_of x h) ∙ ap is_eq (tied_itself value_cmp_total (rowid x)) in
+      true≢false (sym found ∙ lacks (id_in (rowid (show x))) (mapped_has (λ r. id_in (rowid r)) answer (show x) there))
+
+  -- one that does not is not
+  lacks_it : (x : Row) → Has rows x → p x ≡ false → Lacks (ids_of answer) x
+  lacks_it x h miss id k = false_from_ne_true _ (λ has.
+      let s = has_mapped (λ row. id_in (rowid row)) answer id k in
+      let r = has_mapped show (filter p rows) s.0
+      (shuffled_has answer (map show (filter p rows)) s.0
+      (IsPermutation-sym (map show (filter p rows)) answer same) s.1) in
+      let q = has_filtered p rows r.0 r.1 in
+      let at : Int id ≡ rowid r.0 = ap Int s.2 ∙ ap (λ row. Int (id_in (rowid row))) r.2 ∙ number_of r.0 q.0 in
+      let tie : Tied x r.0 = equal_is _ (subst (λ v. is_eq (value_cmp (rowid x) v) ≡ true) at has) in
+      true≢false (sym q.1 ∙ ap p (sym (tied_same rows x r.0 up.0 h q.0 tie)) ∙ miss))
+
+  remains : (x : Row) → Has (without_all rows (ids_of answer)) x → Has kept x
+  remains x h =
+      let was = left_from (ids_of answer) rows x h in
+      elim (cases_Bool (p x)) [
+        | inl hit ↦ absurd (goes x was.0 hit was.1)
+        | inr miss ↦ has_kept (λ r. not (p r)) rows x was.0 (ap not miss)
+      ]
+
+  remained : (x : Row) → Has kept x → Has (without_all rows (ids_of answer)) x
+  remained x h =
+      let was = has_filtered (λ r. not (p r)) rows x h in
+      left_has (ids_of answer) rows x was.0 (lacks_it x was.0 (not-true (p x) was.1))
+
+  pub taken_out : without_all rows (ids_of answer) ≡ kept
+  taken_out = same_rows _ _ (without_all_table (ids_of answer) rows up.0) (filter_table (λ r. not (p r)) rows up.0)
+      remains remained
+
+  pub kept_shaped : IsShaped shape.Table kept
+  kept_shaped = (
+    filter_table (λ r. not (p r)) rows up.0,
+    all_from _ kept (λ y h. all_has _ rows y up.1 (has_filtered (λ r. not (p r)) rows y h).0),
+  )

@@ -15,6 +15,8 @@ use hub_tables::{Arrival, Column, PalletRow};
 struct ReceiptCase {
     name: &'static str,
     parties: &'static str,
+    // BGM 1225: 9 an original, 5 one that replaces.
+    function: &'static str,
     is_registered: bool,
     remembered: Option<&'static str>,
     mails: u64,
@@ -34,6 +36,7 @@ const RECEIVED: Option<Arrival> = Some(Arrival::Received);
 const BOTH: ReceiptCase = ReceiptCase {
     name: "an advice receives each pallet with the sums of its items",
     parties: "NAD+BY+5412345000013::9'NAD+SU+4012345500004::9'",
+    function: "9",
     is_registered: true,
     remembered: None,
     mails: 2,
@@ -48,8 +51,52 @@ set 340123455000000029 4012345500004 DA1 Received
 receipt 340123455000000029 04000862141404 0 12 0",
 };
 
-static CASES: [ReceiptCase; 12] = [
+const REPLACED: Option<Arrival> = Some(Arrival::Replaced);
+
+// The same advice in the place of those before: what was received of each pallet goes before its new sums.
+const REPLACING: ReceiptCase = ReceiptCase {
+    name: "an advice that replaces clears each pallet, received or not",
+    function: "5",
+    pallets: [RECEIVED, THERE],
+    want: "accepted
+remember 4012345500004 Retailer 1001/7 said
+mail 4012345500004 3 1748942400 44 Receipt G1 body false
+set 340123455000000012 4012345500004 DA1 Replaced
+clear 340123455000000012
+receipt 340123455000000012 04000862141404 10 1 2
+receipt 340123455000000012 04000862141411 3 0 0
+set 340123455000000029 4012345500004 DA1 Replaced
+clear 340123455000000029
+receipt 340123455000000029 04000862141404 0 12 0",
+    ..BOTH
+};
+
+static CASES: [ReceiptCase; 17] = [
     BOTH,
+    REPLACING,
+    ReceiptCase {
+        name: "an advice that replaced is replaced",
+        pallets: [REPLACED, REPLACED],
+        ..REPLACING
+    },
+    ReceiptCase {
+        name: "an advice that replaces names pallets that are there",
+        pallets: [RECEIVED, None],
+        want: "B14",
+        ..REPLACING
+    },
+    ReceiptCase {
+        name: "a full mailbox goes before a pallet that is replaced",
+        mails: FULL,
+        want: "B16",
+        ..REPLACING
+    },
+    ReceiptCase {
+        name: "what was replaced is not received",
+        pallets: [THERE, REPLACED],
+        want: "B15",
+        ..BOTH
+    },
     ReceiptCase {
         name: "an advice need not name its buyer",
         parties: "NAD+SU+4012345500004::9'",
@@ -123,9 +170,9 @@ static CASES: [ReceiptCase; 12] = [
     },
 ];
 
-fn receipt_message(alloc: Global, parties: &str) -> Result<RawMessage, Fail> {
+fn receipt_message(alloc: Global, function: &str, parties: &str) -> Result<RawMessage, Fail> {
     let segments = format!(in alloc;
-        "UNH+1+RECADV:D:01B:UN:EAN005'BGM+632+G1+9'DTM+137:20250605:102'{parties}{UNITS}"
+        "UNH+1+RECADV:D:01B:UN:EAN005'BGM+632+G1+{function}'DTM+137:20250605:102'{parties}{UNITS}"
     )?;
     message(alloc, segments.as_str())
 }
@@ -137,12 +184,12 @@ fn read_receipt(alloc: Global, message: &RawMessage) -> Result<Receipt, Fail>
     Ok(Receipt::read(alloc, message)?)
 }
 
-// The receiving advice of both units, with these parties.
-fn receipt(alloc: Global, parties: &str) -> Result<Receipt, Fail>
+// The receiving advice of both units, with this function and these parties.
+fn receipt(alloc: Global, function: &str, parties: &str) -> Result<Receipt, Fail>
     ensures apart { IfOk result (λ receipt. has_twice (map (λ unit. unit.sscc) receipt.units) ≡ false) }
     ensures sums { IfOk result (λ receipt. list_all (λ unit. has_sums unit.lines) receipt.units ≡ true) }
 {
-    let message = receipt_message(alloc, parties)?;
+    let message = receipt_message(alloc, function, parties)?;
     read_receipt(alloc, &message)
 }
 
@@ -234,7 +281,7 @@ fn known_of(alloc: Global, case: &ReceiptCase) -> Result<Known, Fail> {
 
 fn verdict(alloc: Global, case: &ReceiptCase) -> Result<Verdict, Fail> {
     let known = known_of(alloc, case)?;
-    let receipt = receipt(alloc, case.parties)?;
+    let receipt = receipt(alloc, case.function, case.parties)?;
     verdict_on(alloc, case.is_registered, &known, &receipt)
 }
 

@@ -108,6 +108,7 @@ fn tell_change(out: &mut String, change: &Change) -> Result<(), AllocError> {
         Change::AddPallet(row) => tell_pallet(out, "pallet", row),
         Change::SetPallet(row) => tell_pallet(out, "set", row),
         Change::AddReceipt(row) => tell_receipt(out, row),
+        Change::ClearReceipts(sscc) => write!(out, "clear {sscc}"),
         Change::AddContent(row) => tell_content(out, row),
         Change::AddKey(row) => tell_key(out, row),
         Change::AddPrefix(row) => tell_prefix(out, row),

@@ -4,7 +4,7 @@ use Rattle.hub_law.specs.Messages.{incoming, named}
 use Rattle.hub_law.specs.Requests.{deliver_named}
 use Rattle.hub_texts.specs.Decision.{told_of}
 use Rattle.hub_acts.specs.Acts.{FailsWith}
-use Rattle.hub_acts.specs.Judged.{act_of, UnreadOf}
+use Rattle.hub_acts.specs.Judged.{act_of, JudgedFits, UnreadOf}
 use Rattle.hub_acts.proofs.Afterwards.{after_looking}
 use Rattle.hub_acts.proofs.Failing.{after_judging}
 use Rattle.hub_acts.proofs.messages.take_retailers_message.Goals as goal
@@ -16,11 +16,11 @@ returns-clause-carried g c = λ hub rise.
     let came = incoming c.args.moment c.args.interchange.now message in
     let t = g.S.Store.content c.args.store.now in
     after_looking g.S.Store.content g.S.Store.honest g.S.Store.left c.args.store.now c.judged_for_retailer.new.store c.finish.new.store
-    (deliver_named register (message, came)) (act_of c.in_ok-judged.judged) told_of
+    (deliver_named register (message, came)) (act_of c.in_ok-judged.judged) told_of (JudgedFits c.in_ok-judged.judged)
     c.in_ok-judged.ensures.stays c.finish.ensures.unharmed.was_honest
     (λ honest. ap (λ one. deliver_named register (message, one) t) (sym c.in_ok-came.ensures)
     ∙ c.in_ok-judged.ensures.judged honest (hub.sound.kept (named message)))
-    (c.acts_stay_sound.ensures.retailers register message came t hub rise).rising
+    (λ honest. c.in_ok-judged.ensures.fit honest hub rise)
     c.finish.result c.finish.ensures.carried
 
 pub returns-clause-fails : goal.returns-clause-fails

@@ -6,7 +6,7 @@ use Rattle.hub_law.specs.Messages.{incoming, deliver_suppliers}
 use Rattle.hub_texts.specs.Decision.{told_of}
 use Rattle.hub_acts.specs.Acts.{FailsWith}
 use Rattle.hub_acts.specs.Named.{MessageUnclean}
-use Rattle.hub_acts.specs.Judged.{act_of, UnreadOf}
+use Rattle.hub_acts.specs.Judged.{act_of, JudgedFits, UnreadOf}
 use Rattle.hub_acts.proofs.Afterwards.{after_looking}
 use Rattle.hub_acts.proofs.Failing.{after_judging}
 use Rattle.hub_acts.proofs.messages.take_suppliers_message.Goals as goal
@@ -19,12 +19,12 @@ returns-clause-carried g c = λ here rise.
     let came = incoming c.args.moment c.args.interchange.now message in
     let t = g.S.Store.content c.args.store.now in
     after_looking g.S.Store.content g.S.Store.honest g.S.Store.left c.args.store.now c.judged_for_supplier.new.store c.finish.new.store
-    (deliver_suppliers (view s.gln) (parties_of register) s (message, came)) (act_of c.in_ok-judged.judged) told_of
+    (deliver_suppliers (view s.gln) (parties_of register) s (message, came)) (act_of c.in_ok-judged.judged) told_of (JudgedFits c.in_ok-judged.judged)
     c.in_ok-judged.ensures.stays c.finish.ensures.unharmed.was_honest
     (λ honest.
     ap (λ one. deliver_suppliers (view s.gln) (parties_of register) s (message, one) t) (sym c.in_ok-came.ensures)
     ∙ c.in_ok-judged.ensures.judged honest (here.sound.kept s.gln))
-    (c.acts_stay_sound.ensures.suppliers register s message came t here rise).rising
+    (λ honest. c.in_ok-judged.ensures.fit honest here rise)
     c.finish.result c.finish.ensures.carried
 
 pub returns-clause-fails : goal.returns-clause-fails

@@ -30,13 +30,13 @@ returns c =
     c.in_ok-changes.ensures
     ∙ ap (λ number. memory ∷ mail_entry s.gln (known.mails + 1) incoming kinds.Receipt number body ∷ []) c.as_slice-number.ensures in
     IfOk-weaker c.judge_units.result (λ verdict.
-    verdict ≡ joined c.in_ok-changes.changes (receipts_from c.as_slice-units.result.now c.as_slice-pallets.result.now)) _
+    verdict ≡ joined c.in_ok-changes.changes (receipts_from receipt.replaces c.as_slice-units.result.now c.as_slice-pallets.result.now)) _
     (λ verdict judged state told.
     let row = remembered_of state sides.Retailer incoming.control incoming.message in
     let fresh : Verdict = joined (memory ∷ []) (judge_new_receipt s.gln incoming body receipt (apply memory state)) in
     judged
-    ∙ ap (λ all. joined all (receipts_from c.as_slice-units.result.now c.as_slice-pallets.result.now)) changes
-    ∙ ap₂ (λ units pallets. joined (memory ∷ entry ∷ []) (receipts_from units pallets)) c.as_slice-units.ensures c.as_slice-pallets.ensures
+    ∙ ap (λ all. joined all (receipts_from receipt.replaces c.as_slice-units.result.now c.as_slice-pallets.result.now)) changes
+    ∙ ap₂ (λ units pallets. joined (memory ∷ entry ∷ []) (receipts_from receipt.replaces units pallets)) c.as_slice-units.ensures c.as_slice-pallets.ensures
     ∙ sym (
     c.in-Ok.ensures.ok (λ s.
     judge_once (referred_by s sides.Retailer incoming) incoming.content (judge_new_receipt s.gln incoming body receipt)

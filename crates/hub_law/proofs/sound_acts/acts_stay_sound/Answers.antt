@@ -5,10 +5,10 @@ use Rattle.hub_parties.specs.declared.row.SupplierRow.{SupplierRow}
 use Rattle.hub_tables.specs.Tables.{Tables}
 use Rattle.hub_rules.specs.Laws.{PartiesRise, PartiesStay}
 use Rattle.hub_rules.specs.Sound.{Sound}
+use Rattle.hub_rules.proofs.Fitting.{parties_still_rise}
 use Rattle.hub_rules.proofs.Rising.{all_rise, rising_from}
 use Rattle.hub_law.specs.Laws.{StaySound}
 use Rattle.hub_law.specs.Mark.{Whole}
-use Rattle.hub_law.proofs.Acting.{parties_still_rise}
 use Rattle.hub_law.proofs.Acts.{suppliers_act, taking_act}
 use Rattle.hub_law.proofs.Going.{join_goes}
 use Rattle.hub_law.proofs.Retailers.{message_stays, cancelled_stays}

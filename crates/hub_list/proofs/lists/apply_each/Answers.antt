@@ -1,10 +1,10 @@
 use Rattle.std.proofs.Common.{◌≡◌, ◌∷◌, ◌∙◌, List, sym, ap, subst, length, add-one, ◌+◌}
 use Rattle.std.specs.Vec.Iter.{into_iter_items}
 use Rattle.hub_tables.specs.Change.{apply, apply_all}
-use Rattle.hub_tables.specs.Sets.{Rising}
+use Rattle.hub_tables.specs.Sets.{Fit}
 use Rattle.hub_tables.specs.declared.change.Change.{Change}
 use Rattle.hub_list.specs.Lists.{tables_in, Room}
-use Rattle.hub_tables.proofs.Back.{rising_before}
+use Rattle.hub_tables.proofs.Back.{fit_before}
 use Rattle.hub_list.proofs.lists.apply_each.Goals as goal
 
 pub loop-change-preserved : goal.loop-change-preserved
@@ -18,8 +18,12 @@ loop-change-preserved c =
     record {
       kept = c.apply_one.ensures.kept;
       left = λ fit.
-          let was : apply_all (c.in-Some.change ∷ later) t ≡ end = sym (ap (λ cs. apply_all cs t) cut) ∙ c.loop-change.invariant.left fit in
-          let fits = rising_before later (apply c.in-Some.change t) (subst Rising (sym was) fit) in
-          ap (apply_all later) (c.apply_one.ensures.tables fits) ∙ was;
+          let before = c.loop-change.invariant.left fit in
+          let was : apply_all (c.in-Some.change ∷ later) t ≡ end = sym (ap (λ cs. apply_all cs t) cut) ∙ before.1 in
+          let fits = (subst (λ (cs : List Change). Fit cs t) cut before.0).1 in
+          let now = c.apply_one.ensures.tables (fit_before later (apply c.in-Some.change t) fits) in (
+            subst (Fit later) (sym now) fits,
+            ap (apply_all later) now ∙ was,
+          );
       room = c.apply_one.ensures.room (length later) room;
     }

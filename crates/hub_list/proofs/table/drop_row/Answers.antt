@@ -2,7 +2,8 @@ use Rattle.std.proofs.Common.{◌≡◌, ◌∙◌, ◌<◌, true, false, not, l
 use Rattle.std.specs.List.{list_any, prefix_len, remove}
 use Rattle.std.specs.Ordering.{is_lt, is_eq}
 use Rattle.hub_parties.specs.KeyOrder.{Rises}
-use Rattle.hub_list.proofs.Indexing.{all_kept, removed, rises_filter}
+use Rattle.hub_list.proofs.Indexing.{all_kept, removed}
+use Rattle.hub_tables.proofs.KeyOrder.{rises_filter}
 use Rattle.hub_tables.proofs.Setting.{found_within}
 use Rattle.hub_list.proofs.table.drop_row.Goals as goal
 

@@ -3,16 +3,16 @@ use Rattle.std.specs.List.{list_all}
 use Rattle.sqlite.specs.Held.{state}
 use Rattle.hub_founding.specs.Founding.{IsHeldBy, HoldsNone}
 use Rattle.hub_tables.specs.Sets.{Rising}
-use Rattle.hub_schema.specs.State.{LooksFor}
+use Rattle.hub_schema.specs.State.{LooksIn}
 use Rattle.hub_store.specs.Clean.{clean_hub}
 use Rattle.hub_looks.proofs.Held.{no_hubs}
-use Rattle.hub_looks.proofs.Joining.{as_it_rises, failed_for, found_then}
+use Rattle.hub_looks.proofs.Joining.{as_it_rises, failed_for, held_then}
 use Rattle.hub_looks.proofs.parties.register.Goals as goal
 
 pub returns : goal.returns
 returns g c =
     as_it_rises IsHeldBy HoldsNone (state g.S.Store c.args.conn.now) (state g.S.Store c.register_of_hubs.new.conn) c.register_of_hubs.result
-    (found_then (λ t rows. rows ≡ t.hubs) (λ t register. t.hubs ≡ c.as_slice.result.now → Rising t → IsHeldBy t register)
+    (held_then (λ t rows. rows ≡ t.hubs) (λ t register. t.hubs ≡ c.as_slice.result.now → Rising t → IsHeldBy t register)
     (λ t register. Rising t → IsHeldBy t register) _ HoldsNone HoldsNone
     (state g.S.Store c.args.conn.now) (state g.S.Store c.all_hubs.new.conn) (state g.S.Store c.register_of_hubs.new.conn) c.in_ok-hubs.hubs
     (λ t is register held. held (sym is ∙ sym c.as_slice.ensures)) (λ t is none. none)
@@ -24,6 +24,6 @@ returns-in_err-hubs g c =
     let given : c.from_residual.result ≡ Err fault = search rules in
     let old = state g.S.Store c.args.conn.now in
     let new = state g.S.Store c.all_hubs.new.conn in
-    let looks = subst (LooksFor (λ t rows. rows ≡ t.hubs) (λ t. list_all clean_hub t.hubs ≡ false) old new) c.in_err-hubs.was c.all_hubs.ensures.looks in
-    subst (LooksFor IsHeldBy HoldsNone old new) (sym given)
+    let looks = subst (LooksIn (λ t rows. rows ≡ t.hubs) (λ t. list_all clean_hub t.hubs ≡ false) old new) c.in_err-hubs.was c.all_hubs.ensures.looks in
+    subst (LooksIn IsHeldBy HoldsNone old new) (sym given)
     (failed_for (λ t rows. rows ≡ t.hubs) IsHeldBy (λ t. list_all clean_hub t.hubs ≡ false) HoldsNone old new no_hubs fault looks)

@@ -6,7 +6,7 @@ use Rattle.hub_store.specs.Clean.{clean_prefix}
 use Rattle.hub_tables.specs.Sets.{Rising}
 use Rattle.hub_tables.specs.Tables.{Tables}
 use Rattle.hub_parties.specs.Rows.{RegisterRows}
-use Rattle.hub_schema.specs.State.{LooksFor}
+use Rattle.hub_schema.specs.State.{LooksIn}
 use Rattle.hub_looks.proofs.Held.{no_prefixes}
 use Rattle.hub_looks.proofs.Joining.{failed_for, found_on}
 use Rattle.hub_looks.proofs.parties.register_by.Goals as goal
@@ -25,6 +25,6 @@ returns-in_err-prefixes g c =
     let says : Tables → Option RegisterRows → Type 0 = λ t register. t.hubs ≡ c.args.hubs.now → t.keys ≡ c.args.keys.now → Rising t → IsHeldBy t register in
     let old = state g.S.Store c.args.conn.now in
     let new = state g.S.Store c.all_prefixes.new.conn in
-    let looks = subst (LooksFor (λ t rows. rows ≡ t.prefixes) (λ t. list_all clean_prefix t.prefixes ≡ false) old new) c.in_err-prefixes.was c.all_prefixes.ensures.looks in
-    subst (LooksFor says HoldsNone old new) (sym given)
+    let looks = subst (LooksIn (λ t rows. rows ≡ t.prefixes) (λ t. list_all clean_prefix t.prefixes ≡ false) old new) c.in_err-prefixes.was c.all_prefixes.ensures.looks in
+    subst (LooksIn says HoldsNone old new) (sym given)
     (failed_for (λ t rows. rows ≡ t.prefixes) says (λ t. list_all clean_prefix t.prefixes ≡ false) HoldsNone old new no_prefixes fault looks)

@@ -5,15 +5,15 @@ use Rattle.hub_founding.specs.Founding.{IsHeldBy, HoldsNone}
 use Rattle.hub_tables.specs.Sets.{Rising}
 use Rattle.hub_tables.specs.Tables.{Tables}
 use Rattle.hub_parties.specs.Rows.{RegisterRows}
-use Rattle.hub_schema.specs.State.{LooksFor}
+use Rattle.hub_schema.specs.State.{LooksIn}
 use Rattle.hub_store.specs.Clean.{clean_key}
 use Rattle.hub_looks.proofs.Held.{no_keys}
-use Rattle.hub_looks.proofs.Joining.{failed_for, found_then}
+use Rattle.hub_looks.proofs.Joining.{failed_for, held_then}
 use Rattle.hub_looks.proofs.parties.register_of_hubs.Goals as goal
 
 pub returns : goal.returns
 returns g c =
-    found_then (λ t rows. rows ≡ t.keys)
+    held_then (λ t rows. rows ≡ t.keys)
     (λ t register. t.hubs ≡ c.args.hubs.now → t.keys ≡ c.as_slice.result.now → Rising t → IsHeldBy t register)
     (λ t register. t.hubs ≡ c.args.hubs.now → Rising t → IsHeldBy t register) _ HoldsNone HoldsNone
     (state g.S.Store c.args.conn.now) (state g.S.Store c.all_keys.new.conn) (state g.S.Store c.register_by.new.conn) c.in_ok-keys.keys
@@ -27,6 +27,6 @@ returns-in_err-keys g c =
     let says : Tables → Option RegisterRows → Type 0 = λ t register. t.hubs ≡ c.args.hubs.now → Rising t → IsHeldBy t register in
     let old = state g.S.Store c.args.conn.now in
     let new = state g.S.Store c.all_keys.new.conn in
-    let looks = subst (LooksFor (λ t rows. rows ≡ t.keys) (λ t. list_all clean_key t.keys ≡ false) old new) c.in_err-keys.was c.all_keys.ensures.looks in
-    subst (LooksFor says HoldsNone old new) (sym given)
+    let looks = subst (LooksIn (λ t rows. rows ≡ t.keys) (λ t. list_all clean_key t.keys ≡ false) old new) c.in_err-keys.was c.all_keys.ensures.looks in
+    subst (LooksIn says HoldsNone old new) (sym given)
     (failed_for (λ t rows. rows ≡ t.keys) says (λ t. list_all clean_key t.keys ≡ false) HoldsNone old new no_keys fault looks)

@@ -3,7 +3,7 @@ use Rattle.sqlite.specs.Held.{state}
 use Rattle.sql_rows.proofs.Transactions.{clean_before}
 use Rattle.hub_schema.specs.Making.{LeavesTables, traffic_rows}
 use Rattle.hub_schema.specs.Schema.{hub_tables, party_tables, traffic_tables}
-use Rattle.hub_schema.proofs.Beside.{none_beside, old_made}
+use Rattle.hub_schema.proofs.Beside.{none_beside, old_made, old_ordered}
 use Rattle.hub_schema.proofs.Makes.{stops_first, stops_later, stops_nowhere, some_made}
 use Rattle.hub_schema.proofs.making.make_party_tables.Goals as goal
 
@@ -14,7 +14,8 @@ returns-clause-makes g c clean hub begun =
     c.set_number.new.tx.conn.now) _ c.set_number.ensures.survives clean in
     let made = c.in_ok-make_all.ensures.makes early (traffic_rows old.now.trees) traffic_tables party_tables
     c.parties.ensures (none_beside old.now.trees) (old_made old hub begun) in
-    let set = c.in_ok-set_number.ensures.makes clean old.now.trees hub.numbered hub.ordered made.made in
+    let set = c.in_ok-set_number.ensures.makes clean 1 (traffic_rows old.now.trees) hub.numbered (old_ordered old.now.trees hub.ordered)
+    made.made in
     record { hub = set.hub; tables = set.tables; committed = set.committed ∙ made.committed; mode = set.mode }
 
 pub returns-in_err-make_all-clause-leaves : goal.returns-in_err-make_all-clause-leaves

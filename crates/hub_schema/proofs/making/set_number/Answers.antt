@@ -7,8 +7,8 @@ use Rattle.hub_schema.proofs.Texts.{set_number}
 use Rattle.hub_schema.proofs.making.set_number.Goals as goal
 
 pub returns-clause-makes : goal.returns-clause-makes
-returns-clause-makes g c clean rows one ordered has =
-    number_set rows (state g.S.Store c.args.tx.now.conn.now) (state g.S.Store c.execute.new.self.conn.now)
+returns-clause-makes g c clean number rows one ordered has =
+    number_set number rows (state g.S.Store c.args.tx.now.conn.now) (state g.S.Store c.execute.new.self.conn.now)
     c.execute.result one ordered has (c.execute.ensures.runs clean has.mode)
 
 pub returns-clause-leaves : goal.returns-clause-leaves

@@ -1,4 +1,4 @@
-use Rattle.std.proofs.Common.{◌≡◌, ◌≢◌, inl, inr, refl, sym, ◌∙◌}
+use Rattle.std.proofs.Common.{inl, inr, sym, ◌∙◌}
 use Rattle.sqlite.specs.Held.{state}
 use Rattle.hub_sql.specs.declared.version.Version.TheVariants.{First}
 use Rattle.hub_sql.proofs.Migrated.{may_be_founded, migrates, refused_old, refused_version, rows_refused}

@@ -33,6 +33,9 @@ returns-in-AddContent-clause-acts g c = rw c.in-AddContent.is c.add_content.ensu
 pub returns-in-AddReceipt-clause-acts : goal.returns-in-AddReceipt-clause-acts
 returns-in-AddReceipt-clause-acts g c = rw c.in-AddReceipt.is c.add_receipt.ensures.acts
 
+pub returns-in-ClearReceipts-clause-acts : goal.returns-in-ClearReceipts-clause-acts
+returns-in-ClearReceipts-clause-acts g c = rw c.in-ClearReceipts.is c.clear_receipts.ensures.acts
+
 pub returns-in-Remember-clause-acts : goal.returns-in-Remember-clause-acts
 returns-in-Remember-clause-acts g c = rw c.in-Remember.is c.remember.ensures.acts
 

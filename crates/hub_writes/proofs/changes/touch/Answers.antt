@@ -13,8 +13,8 @@ returns-clause-acts g c =
       runs = c.execute.ensures.runs;
       survives = c.execute.ensures.survives;
     } in
-    touch_acts g.S.Store _ _ _ _ c.execute.result did (nothing_undone _ _) (nothing_made _ _ c.execute.result) c.touch_ended.result
-    c.touch_ended.ensures
+    touch_acts g.S.Store _ _ _ _ c.execute.result did (nothing_undone _ _) (nothing_made _ _ c.execute.result) c.statement_ended.result
+    c.statement_ended.ensures
 
 pub returns-clause-was_open : goal.returns-clause-was_open
 returns-clause-was_open g c clean =
@@ -24,5 +24,5 @@ returns-clause-was_open g c clean =
       survives = c.execute.ensures.survives;
     } in
     subst (λ (r : Result (Unit {0}) StoreFault). OnOk r (IsTrue (state g.S.Store c.args.tx.now.conn.now).is_open
-    × IsTrue (state g.S.Store c.args.tx.now.conn.now).in_transaction)) (sym c.touch_ended.ensures) (was_open
+    × IsTrue (state g.S.Store c.args.tx.now.conn.now).in_transaction)) (sym c.statement_ended.ensures) (was_open
     g.S.Store _ _ _ _ c.execute.result did clean)

@@ -1,9 +1,9 @@
-use Rattle.std.proofs.Common.{◌≡◌, ap₂, sym, subst, ◌∙◌}
+use Rattle.std.proofs.Common.{◌≡◌, ap₂, sym, subst₂, ◌∙◌}
 use Rattle.hub_tables.specs.Change.{apply_all}
 use Rattle.hub_tables.specs.Register.{founded}
-use Rattle.hub_tables.specs.Sets.{Rising}
+use Rattle.hub_tables.specs.Sets.{Fit}
 use Rattle.hub_tables.specs.Tables.{empty}
-use Rattle.hub_tables.proofs.Founding.{founded_rises}
+use Rattle.hub_tables.proofs.Founding.{founded_fits}
 use Rattle.hub_list.specs.Lists.{tables_in}
 use Rattle.hub_list.proofs.vec_store.VecStore.new.Goals as goal
 
@@ -13,4 +13,6 @@ returns c =
     let none : tables_in c.take_room.new.lists ≡ empty = c.in_ok-take_room.ensures.same ∙ c.no_rows-lists.ensures.none in
     let made : apply_all c.in_ok-changes.changes.items (tables_in c.take_room.new.lists) ≡ founded register =
     ap₂ apply_all c.in_ok-changes.ensures.changes none in
-    c.apply_each.ensures.tables (subst Rising (sym made) (founded_rises register c.in_ok-changes.ensures.register)) ∙ made
+    let fits : Fit c.in_ok-changes.changes.items (tables_in c.take_room.new.lists) =
+    subst₂ Fit (sym c.in_ok-changes.ensures.changes) (sym none) (founded_fits register c.in_ok-changes.ensures.register) in
+    c.apply_each.ensures.tables fits ∙ made

@@ -1,4 +1,4 @@
-use Rattle.std.proofs.Common.{◌≡◌, inl, inr, IsTrue, rules, refl, sym, subst, ◌∙◌, true≢false}
+use Rattle.std.proofs.Common.{inl, inr, refl, sym, subst, ◌∙◌}
 use Rattle.hub_tables.specs.Register.{HoldsRegister}
 use Rattle.hub_tables.specs.Tables.{empty}
 use Rattle.hub_sql.proofs.Sparing.{spared_more}
