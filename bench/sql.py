@@ -20,6 +20,8 @@ ROUNDS, MESSAGES = 5, 600
 LINES = (10, 1_000, 100_000)
 # the bounds: times of the plain program, growth from the fewest lines to the most, syncs a message
 MOST, MOST_GROWTH, MOST_SYNCS = 2, 1.3, 4
+# and how much of opening 10,000 orders the register of a few suppliers may cost
+MOST_OF_REGISTER = 0.1
 # lines that make a file of about 10 MB and one of about 50
 OPENED = (45_000, 225_000)
 # MB by which two runs may differ in what they take
@@ -132,18 +134,29 @@ def opening(program, folder, top):
 
 
 def by_register(edihub, top):
-    """What a register costs as a file is opened: of two suppliers, and of 1,000 with eight prefixes each, no order in either."""
+    """What a register costs as a file is opened: of two suppliers without orders and with 10,000, and of 1,000 suppliers with eight prefixes each.
+    Whether all that the first costs is more than a tenth of what the second does."""
     few = register((ALPHA, "40123455", "alpha-key-1"), (BETA, "8712345", "beta-key-1"))
     many = register(*((gln(k), [f"4{k:03}{last}00" for last in range(8)], f"key-{k:04}") for k in range(1000)))
-    times = []
-    for name, text, who, key in (("2 suppliers", few, ALPHA, "alpha-key-1"), ("1,000 suppliers of eight prefixes", many, gln(7), "key-0007")):
+    uploads = [orders_text(min(999, 10_000 - first), first) for first in range(0, 10_000, 999)]
+
+    def opened_with(name, text, who, key, uploads=()):
         folder = tempfile.mkdtemp(dir=top)
         with open(os.path.join(folder, "register.toml"), "w", encoding="ascii") as file:
             file.write(text)
         timed([edihub, "init", "--register", "register.toml", "--db", "hub.db"], folder)
+        folder, words = importing(edihub, folder, uploads, top)
+        timed(words, folder)
         words = [edihub, "status", "--db", "hub.db", "--as", who, "--key", key, "--moment", MOMENT]
-        times.append(min(timed(words, folder)[0] for _ in range(ROUNDS)))
-        print(f"opening a hub of {name}, without orders: {1000 * times[-1]:.0f} ms of processor time", flush=True)
+        time = min(timed(words, folder)[0] for _ in range(ROUNDS))
+        print(f"opening a hub of {name}: {1000 * time:.0f} ms of processor time", flush=True)
+        return time
+
+    alone = opened_with("2 suppliers without orders", few, BETA, "beta-key-1")
+    among = opened_with("2 suppliers with 10,000 orders", few, BETA, "beta-key-1", uploads)
+    opened_with("1,000 suppliers of eight prefixes without orders", many, gln(7), "key-0007")
+    print(f"all that opening costs without orders is {alone / among:.3f} of what it costs with them")
+    return alone > MOST_OF_REGISTER * among
 
 
 def importing(edihub, folder, uploads, top):
@@ -213,13 +226,13 @@ def main(ours, plain, edihub):
             run(ours, base(lines), folder)
             close(folder)
             opening(ours, folder, top)
-        by_register(edihub, top)
+        too_much |= by_register(edihub, top)
     for name in LOADS:
         growth = times[name, LINES[-1]] / times[name, LINES[0]]
         print(f"{name}: from {LINES[0]} to {LINES[-1]:,} lines it grows by {growth:.2f}")
         too_much |= growth > MOST_GROWTH
     if too_much:
-        print(f"more than {MOST} times the processor time of the plain program, {MOST_SYNCS} syncs a message, or a growth of {MOST_GROWTH}")
+        print(f"more than {MOST} times the processor time of the plain program, {MOST_SYNCS} syncs a message, a growth of {MOST_GROWTH}, or {MOST_OF_REGISTER} of an opening for the register")
     return too_much
 
 

@@ -11,7 +11,7 @@
   stops, or makes up for it; and the same command with ample memory leaves the rows that it would have left, and says `repeated`
   of what was done.
 - A database file is cut at each 512 bytes, has bytes changed all over each page, or is replaced by other files: a named refusal, or
-  the right answers; and so an import into it. A file of today has sums of its pages, so no changed byte of a row is answered from.
+  the right answers; and so an import into it. So is a file of schema 2, whose number is set as it is opened. A file of today has sums of its pages, so no changed byte of a row is answered from.
 
 - A mailbox of 101 entries of a megabyte each is listed by a server that may take four megabytes beside its open store, and no more.
 
@@ -37,6 +37,7 @@ from commands import REGISTER, found as found_hub, init, over, told
 from files import NAME, OLD_ROWS, OLD_TABLES, REGISTERED, TABLES as CREATED, file_of, is_whole
 from http_texts import response
 from hubs import ALPHA, BETA, DESPATCH, HUB, MOMENT, ORDERS as ORDER, RECEIPT, RESPONSE, RETAILER, SECOND, SPELLED, TWO_SUPPLIERS, interchange, order
+from migrations import kept
 from refusals import SHIM, refusals
 from registers import GAMMA, of_prefixes
 from serving import Server, all_of, free_port, get, listed, upload
@@ -427,7 +428,7 @@ def file_damaged(program, top, data, has_sums):
 
 
 def files_damaged(program, top):
-    for name, data, has_sums in (("of today", file_of_today(program, top), True), ("that SQLite made, without sums", file_of(), False)):
+    for name, data, has_sums in (("of today", file_of_today(program, top), True), ("of schema 2", kept("schema2_received")[0], True), ("that SQLite made, without sums", file_of(), False)):
         counts = file_damaged(program, top, data, has_sums)
         if isinstance(counts, str):
             return f"a file {name}, {counts}"
