@@ -21,7 +21,7 @@ def head(*lines):
 def asking(method, target, who=None, body=None, *fields):
     """A request of this caller, with its length where it has a body."""
     data = b"" if body is None else bytes_of(body)
-    key = [] if who is None else [f"X-Hub-Key: {KEYS[who]}"]
+    key = [] if who is None else [f"X-Hub-Key: {KEYS.get(who, 'a-key-of-nobody')}"]
     length = [] if body is None else [f"Content-Length: {len(data)}"]
     return head(f"{method} {target} HTTP/1.1", *key, *length, *fields) + data
 
