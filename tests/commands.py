@@ -79,6 +79,18 @@ def mail(supplier, what, number, printed, status=0):
     return step(over("mail", supplier, "--do", what, "--n", str(number)), printed, status)
 
 
+def goods():
+    """What comes of two orders, each by a command of its own: answers, despatches, a receipt, and then the status."""
+    return [
+        one(ALPHA, "8", "S1", "ORDRSP", RESPONSE),
+        one(ALPHA, "9", "S2", "DESADV", DESPATCH),
+        one(ALPHA, "12", "S6", "DESADV", interchange(ALPHA, "S6", despatch("DA4", OTHER_PALLET, 12, order="128577"))),
+        one(ALPHA, "12b", "S7", "ORDRSP", interchange(ALPHA, "S7", response("R2", 27, order="128577"))),
+        one(RETAILER, "13", "1005", "RECADV", RECEIPT),
+        status_of(ALPHA, *STATUS),
+    ]
+
+
 def in_turn():
     """Orders, answers, despatches, receipts and cancellations of one supplier, each by a command of its own."""
     return founded(
@@ -90,12 +102,7 @@ def in_turn():
         one(RETAILER, "4", "1002", "ORDERS", SECOND),
         imported(RETAILER, "5", ("5.edi", ORDERS.replace("1001'", "1003'").replace("UNT+10+1", "UNT+9+1"), "refused E12"), status=1),
         imported(RETAILER, "6", ("6.edi", "", "refused E06"), status=1),
-        one(ALPHA, "8", "S1", "ORDRSP", RESPONSE),
-        one(ALPHA, "9", "S2", "DESADV", DESPATCH),
-        one(ALPHA, "12", "S6", "DESADV", interchange(ALPHA, "S6", despatch("DA4", OTHER_PALLET, 12, order="128577"))),
-        one(ALPHA, "12b", "S7", "ORDRSP", interchange(ALPHA, "S7", response("R2", 27, order="128577"))),
-        one(RETAILER, "13", "1005", "RECADV", RECEIPT),
-        status_of(ALPHA, *STATUS),
+        *goods(),
         step(over("status", RETAILER, "--of", ALPHA), told(*STATUS, "end")),
         status_of(BETA),
         mail(ALPHA, "after", 0, told("             1 ORDERS 128576", "             2 ORDERS 128577", "             3 RECADV G1", "end")),
@@ -118,12 +125,7 @@ def corrections():
         "a receiving advice that replaces, by commands",
         one(RETAILER, "1", "1001", "ORDERS", ORDERS),
         one(RETAILER, "4", "1002", "ORDERS", SECOND),
-        one(ALPHA, "8", "S1", "ORDRSP", RESPONSE),
-        one(ALPHA, "9", "S2", "DESADV", DESPATCH),
-        one(ALPHA, "12", "S6", "DESADV", interchange(ALPHA, "S6", despatch("DA4", OTHER_PALLET, 12, order="128577"))),
-        one(ALPHA, "12b", "S7", "ORDRSP", interchange(ALPHA, "S7", response("R2", 27, order="128577"))),
-        one(RETAILER, "13", "1005", "RECADV", RECEIPT),
-        status_of(ALPHA, *STATUS),
+        *goods(),
         one(RETAILER, "14", "1007", "RECADV", CORRECTION),
         status_of(ALPHA, *CORRECTED),
         step(over("status", RETAILER, "--of", ALPHA), told(*CORRECTED, "end")),
@@ -594,6 +596,16 @@ def own_file(program):
     return None
 
 
+def at_each_change(tried, count_file):
+    """What is wrong where a command goes to its end, or is killed at a change of its files in one of the ways, if anything; and how many changes it makes."""
+    why = tried(0)
+    with open(count_file, encoding="ascii") as file:
+        changes = int(file.read().split()[0])
+    for number, way in ((number, way) for way in WAYS.values() for number in range(1, changes + 1)):
+        why = why or tried(number, **way)
+    return why, changes
+
+
 def founding_killed(program, before=None, rows=None, shown="end\n"):
     """What is wrong where a founding is killed at a change of its files, if anything: either nothing is founded, and a founding that is made again
     goes through, or all is. `before`: a file that is there, `rows`: those of the file that is founded, `shown`: the status of a supplier then."""
@@ -626,11 +638,7 @@ def founding_killed(program, before=None, rows=None, shown="end\n"):
                 looked = ran(over("status", ALPHA), folder)
                 return whole(folder) if looked == (0, shown.encode(), b"") else f"killed at {number}, then a status: {looked!r:.300}"
 
-        why = tried(0)
-        with open(count_file, encoding="ascii") as file:
-            changes = int(file.read().split()[0])
-        for number, way in ((number, way) for way in WAYS.values() for number in range(1, changes + 1)):
-            why = why or tried(number, **way)
+        why, changes = at_each_change(tried, count_file)
         if not why:
             print(f"a founding {'of schema 1 ' if before else ''}killed at {changes} of {changes} changes of its files in {len(WAYS)} ways, and made again")
         return why

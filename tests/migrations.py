@@ -8,7 +8,7 @@ import tempfile
 
 import files
 from case import SECONDS
-from commands import EACH, FIRST_TWO, REGISTER, cancelled, found, founding_killed, init, mail, one, over, rows_of_register, status_of, step, steps, told
+from commands import EACH, FIRST_TWO, REGISTER, at_each_change, cancelled, found, founding_killed, init, mail, one, over, rows_of_register, status_of, step, steps, told
 from corrections import CORRECTED, CORRECTION
 from files import NAME, OLD_ROWS, OLD_TABLES, REGISTERED, file_of, has_rows, is_still
 from hubs import ALPHA, BETA, DESPATCH, KEYS, OTHER_PALLET, PALLET, RECEIPT, RESPONSE, RETAILER, SECOND, STATUS, TWO_SUPPLIERS
@@ -291,11 +291,7 @@ def raised(program):
                 again = ran(folder)
                 return has_rows(after)(folder) if again == whole else f"killed at {number}, then: {again!r:.300}"
 
-        why = tried(0)
-        with open(count_file, encoding="ascii") as file:
-            changes = int(file.read().split()[0])
-        for number, way in ((number, way) for way in WAYS.values() for number in range(1, changes + 1)):
-            why = why or tried(number, **way)
+        why, changes = at_each_change(tried, count_file)
         if not why:
             print(f"a file of schema 2 opened by a command that is killed at {changes} of {changes} changes of it in {len(WAYS)} ways, and given again")
         return why
