@@ -68,8 +68,8 @@ arrival_text pallet =
 abbrev pub difference : PalletRow → ℕ → ℕ → List ℕ
 difference pallet received despatched = if is_announced pallet then signed 0 0 else signed received despatched
 
--- `P`, SSCC, GTIN, `A` announced or `R` received; then despatched, accepted, returned and destroyed, right in 14 places
--- each, and the difference right in 15
+-- `P`, SSCC, GTIN, `A` announced, `R` received or `C` corrected; then despatched, accepted, returned and destroyed, right
+-- in 14 places each, and the difference right in 15
 abbrev pub article_text : PalletRow → List ℕ → ℕ → ℕ → ℕ → ℕ → List ℕ
 article_text pallet gtin despatched accepted returned destroyed = line (
     codes "P" ∷ pallet.sscc ∷ gtin ∷ arrival_text pallet
