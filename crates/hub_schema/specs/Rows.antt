@@ -19,6 +19,8 @@ use Rattle.hub_tables.specs.declared.rows.ReceiptRow.{ReceiptRow}
 use Rattle.hub_tables.specs.declared.rows.RememberedRow.{RememberedRow}
 use Rattle.hub_tables.specs.declared.rows.MailRow.{MailRow}
 use Rattle.hub_schema.specs.Cells.{bytes_in, number_in}
+use Rattle.hub_schema.specs.Schema.{order_table, line_table, advice_table, pallet_table, content_table, receipt_table}
+use Rattle.hub_schema.specs.Schema.{remembered_table, mail_table, hub_table, supplier_table, prefix_table}
 
 abbrev pub hub_row_in : Row → HubRow
 hub_row_in row = record {
@@ -106,17 +108,17 @@ in_key_order cmp = fold (λ sorted row. put cmp row sorted) []
 -- what the rows of all tables say
 abbrev pub tables_in : Trees → Tables
 tables_in trees = record {
-  hubs = in_key_order hub_cmp (map hub_row_in (trees 18));
-  keys = in_key_order key_cmp (map key_row_in (trees 20));
-  prefixes = in_key_order prefix_cmp (map prefix_row_in (trees 22));
-  orders = in_key_order order_cmp (map order_in (trees 1));
-  lines = in_key_order line_cmp (map line_in (trees 3));
-  advices = in_key_order advice_cmp (map advice_in (trees 5));
-  pallets = in_key_order pallet_cmp (map pallet_in (trees 7));
-  contents = in_key_order content_cmp (map content_in (trees 10));
-  receipts = in_key_order receipt_cmp (map receipt_in (trees 12));
-  remembered = in_key_order remembered_cmp (map remembered_in (trees 14));
-  mail = in_key_order mail_cmp (map mail_in (trees 16));
+  hubs = in_key_order hub_cmp (map hub_row_in (trees hub_table.tree));
+  keys = in_key_order key_cmp (map key_row_in (trees supplier_table.tree));
+  prefixes = in_key_order prefix_cmp (map prefix_row_in (trees prefix_table.tree));
+  orders = in_key_order order_cmp (map order_in (trees order_table.tree));
+  lines = in_key_order line_cmp (map line_in (trees line_table.tree));
+  advices = in_key_order advice_cmp (map advice_in (trees advice_table.tree));
+  pallets = in_key_order pallet_cmp (map pallet_in (trees pallet_table.tree));
+  contents = in_key_order content_cmp (map content_in (trees content_table.tree));
+  receipts = in_key_order receipt_cmp (map receipt_in (trees receipt_table.tree));
+  remembered = in_key_order remembered_cmp (map remembered_in (trees remembered_table.tree));
+  mail = in_key_order mail_cmp (map mail_in (trees mail_table.tree));
 }
 
 -- what the rows of schema 1 say, which has no tables of a register

@@ -6,10 +6,12 @@ use Rattle.sqlite_value.specs.declared.value.Value.TheVariants.{Int}
 use Rattle.sqlite_value.specs.Order.{column}
 use Rattle.sqlite_trees.specs.Tree.{Trees}
 use Rattle.sqlite_trees.specs.View.{IsShaped}
+use Rattle.sqlite_trees.specs.declared.store.Shape.{Shape}
 use Rattle.sqlite_trees.specs.declared.store.Shape.TheVariants.{Table}
 use Rattle.sqlite.specs.Effect.{IsDatabase}
 use Rattle.sqlite.specs.Schema.{Schema}
 use Rattle.sqlite.specs.State.{State, HasCleanDisk, Survives}
+use Rattle.sqlite.specs.Table as declared
 use Rattle.hub_tables.specs.Change.{apply_all}
 use Rattle.hub_tables.specs.Sets.{Fit}
 use Rattle.hub_tables.specs.Tables.{Tables}
@@ -19,7 +21,11 @@ use Rattle.hub_store.specs.Clean.{are_clean}
 use Rattle.hub_store.specs.declared.fault.StoreFault.{StoreFault}
 use Rattle.hub_store.specs.declared.fault.StoreFault.TheVariants.{Unclean}
 use Rattle.hub_schema.specs.Rows.{tables_in}
-use Rattle.hub_schema.specs.Schema.{old_schema, hub_schema, hub_tables, traffic_tables}
+use Rattle.hub_schema.specs.Schema.{old_schema, hub_schema, hub_tables, schema_table, traffic_tables}
+
+-- under the number of each of these tables stands a table
+abbrev pub AreTables : (ℕ → Shape) → List declared.Table → Type 0
+AreTables shape tables = AllByRecursion (λ table. shape table.tree ≡ Table) tables
 
 -- the row numbers of each table rise
 abbrev pub AreOrdered : Trees → Type 0
@@ -31,7 +37,7 @@ AreOldOrdered trees = AllByRecursion (λ table. IsShaped Table (trees table.tree
 
 -- the one row of the table with the schema's number
 abbrev pub HasNumber : ℕ → Trees → Type 0
-HasNumber number trees = map (λ row. column row 1) (trees 0) ≡ Int (pos number) ∷ []
+HasNumber number trees = map (λ row. column row 1) (trees schema_table.tree) ≡ Int (pos number) ∷ []
 
 -- it is 3
 abbrev pub IsNumbered : Trees → Type 0

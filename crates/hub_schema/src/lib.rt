@@ -4,6 +4,8 @@
 mod compare;
 mod definitions;
 mod making;
+mod standing;
 
 pub use compare::{is_hub_schema, is_no_schema, is_old_schema};
 pub use making::{make_party_tables, make_tables, set_number};
+pub use standing::{has_hub_tables, has_old_tables};

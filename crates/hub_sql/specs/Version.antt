@@ -1,13 +1,14 @@
 -- The versions of the tables: schema 1, which has no register, schema 2, and schema 3, which has the same tables as
 -- schema 2.
-use Rattle.std.specs.Prelude.{◌≡◌, ◌⊎◌, ℕ, List, [], ◌∷◌}
+use Rattle.std.specs.Prelude.{◌≡◌, ◌⊎◌, ℕ, List}
 use Rattle.std.specs.List.{AllByRecursion}
 use Rattle.sqlite.specs.Effect.{Database}
 use Rattle.sqlite.specs.Schema.{Schema}
+use Rattle.sqlite.specs.Table.{Table}
 use Rattle.sqlite_trees.specs.Tree.{Trees}
 use Rattle.sqlite_trees.specs.View.{IsShaped}
 use Rattle.sqlite_trees.specs.declared.store.Shape.TheVariants as shape
-use Rattle.hub_schema.specs.Schema.{old_schema, hub_schema}
+use Rattle.hub_schema.specs.Schema.{old_schema, hub_schema, hub_tables, traffic_tables}
 use Rattle.hub_schema.specs.State.{HasNumber}
 use Rattle.hub_sql.specs.declared.version.Version.{Version}
 use Rattle.hub_sql.specs.declared.version.Version.TheVariants.{First, Second, Third}
@@ -22,15 +23,14 @@ number_of First = 1
 number_of Second = 2
 number_of Third = 3
 
--- the numbers of its tables' trees
-abbrev pub trees_of : Version → List ℕ
-trees_of First = 0 ∷ 1 ∷ 3 ∷ 5 ∷ 7 ∷ 10 ∷ 12 ∷ 14 ∷ 16 ∷ []
-trees_of Second = 0 ∷ 1 ∷ 3 ∷ 5 ∷ 7 ∷ 10 ∷ 12 ∷ 14 ∷ 16 ∷ 18 ∷ 20 ∷ 22 ∷ []
-trees_of Third = 0 ∷ 1 ∷ 3 ∷ 5 ∷ 7 ∷ 10 ∷ 12 ∷ 14 ∷ 16 ∷ 18 ∷ 20 ∷ 22 ∷ []
+abbrev pub tables_of : Version → List Table
+tables_of First = traffic_tables
+tables_of Second = hub_tables
+tables_of Third = hub_tables
 
 -- in each the row numbers rise
 abbrev pub AreShaped : Version → Trees → Type 0
-AreShaped version trees = AllByRecursion (λ tree. IsShaped shape.Table (trees tree)) (trees_of version)
+AreShaped version trees = AllByRecursion (λ table. IsShaped shape.Table (trees table.tree)) (tables_of version)
 
 -- the tables are of this version, and so is their number
 abbrev pub HoldsTables : Version → Database → Type 0

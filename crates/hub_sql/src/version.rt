@@ -1,13 +1,11 @@
 //! The versions of the tables.
 ghost use Rattle.std.specs.Prelude.{◌≡◌, ◌↔◌, IsTrue};
-ghost use Rattle.std.specs.List.{AllByRecursion};
-ghost use Rattle.sqlite_trees.specs.declared.store.Shape.TheVariants as shape;
-ghost use Rattle.hub_sql.specs.Version.{schema_of, number_of, trees_of};
+ghost use Rattle.hub_schema.specs.State.{AreTables};
+ghost use Rattle.hub_sql.specs.Version.{schema_of, number_of, tables_of};
 
-use hub_schema::{is_hub_schema, is_old_schema};
+use hub_schema::{has_hub_tables, has_old_tables, is_hub_schema, is_old_schema};
 use sqlite::Alter;
 use sqlite_schema::schema::Schema;
-use sqlite_trees::store::Shape;
 
 /// A version of the tables.
 #[derive(Clone, Copy, Debug, PartialEq, Eq)]
@@ -18,37 +16,6 @@ pub(crate) enum Version {
     Second,
     /// Schema 3.
     Third,
-}
-
-// Whether a table stands under this number.
-fn is_table<S: Alter>(store: &S, tree: u32) -> bool
-    ensures { IsTrue result → (S.Store.view store.now).shape tree ≡ shape.Table }
-{
-    matches!(store.shape(tree), Shape::Table)
-}
-
-// Whether each table of goods and messages stands there.
-fn has_traffic_tables<S: Alter>(store: &S) -> bool
-    ensures { IsTrue result → AllByRecursion (λ tree. (S.Store.view store.now).shape tree ≡ shape.Table) (trees_of Version.First) }
-{
-    is_table(store, 0)
-        && is_table(store, 1)
-        && is_table(store, 3)
-        && is_table(store, 5)
-        && is_table(store, 7)
-        && is_table(store, 10)
-        && is_table(store, 12)
-        && is_table(store, 14)
-        && is_table(store, 16)
-}
-
-// Whether each table of the register stands there too.
-fn has_party_tables<S: Alter>(store: &S) -> bool
-    ensures { IsTrue result →
-        AllByRecursion (λ tree. (S.Store.view store.now).shape tree ≡ shape.Table) (trees_of Version.First) →
-        AllByRecursion (λ tree. (S.Store.view store.now).shape tree ≡ shape.Table) (trees_of Version.Second) }
-{
-    is_table(store, 18) && is_table(store, 20) && is_table(store, 22)
 }
 
 impl Version {
@@ -75,13 +42,11 @@ impl Version {
 
     /// Whether each table of this version stands there.
     pub(crate) fn has_tables<S: Alter>(self, store: &S) -> bool
-        ensures { IsTrue result → AllByRecursion (λ tree. (S.Store.view store.now).shape tree ≡ shape.Table) (trees_of self) }
+        ensures { IsTrue result → AreTables (S.Store.view store.now).shape (tables_of self) }
     {
         match self {
-            Version::First => has_traffic_tables(store),
-            Version::Second | Version::Third => {
-                has_traffic_tables(store) && has_party_tables(store)
-            }
+            Version::First => has_old_tables(store),
+            Version::Second | Version::Third => has_hub_tables(store),
         }
     }
 }

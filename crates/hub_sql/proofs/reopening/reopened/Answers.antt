@@ -1,7 +1,7 @@
 use Rattle.std.proofs.Common.{◌≡◌, false, sym, subst, ◌∙◌, arith}
 use Rattle.sqlite.specs.Held.{state}
 use Rattle.sqlite_trees.specs.View.{IsClean}
-use Rattle.hub_sql.specs.Version.{AreShaped, trees_of}
+use Rattle.hub_sql.specs.Version.{AreShaped, tables_of}
 use Rattle.hub_sql.proofs.Shapes.{open_if_whole, all_shaped}
 use Rattle.hub_sql.proofs.Sparing.{spared_below, spared_again}
 use Rattle.hub_sql.proofs.reopening.reopened.Goals as goal
@@ -13,7 +13,7 @@ returns-in-Ok-clause-shaped g c clean =
     let whole : (g.S.Store.view store).is_broken ≡ false = sym (c.is_broken.ensures early) ∙ c.if-is_broken.false in
     let tables = c.has_tables.ensures c.if-not-has_tables.false in
     subst (AreShaped c.args.version) (sym (c.in-Ok.ensures.trees clean))
-    (all_shaped (g.S.Store.view store).shape (g.S.Store.view store).trees (trees_of c.args.version)
+    (all_shaped (g.S.Store.view store).shape (g.S.Store.view store).trees (tables_of c.args.version)
     (g.met.S.Store.ordered store whole) tables)
 
 pub returns-in-Ok-clause-rows : goal.returns-in-Ok-clause-rows
