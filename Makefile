@@ -20,16 +20,14 @@ serve: edihub
 	folder=$$(mktemp -d) && trap 'rm -rf "$$folder"' EXIT && ./edihub init --register examples/register.toml --db "$$folder/hub.db" && trap : INT && \
 		{ ./edihub serve --db "$$folder/hub.db" --port $(PORT) --count $(COUNT) || case $$? in 1|3|130) ;; *) exit 1 ;; esac; }
 
-# Proves and builds the program. With no change since, nothing is proved again.
+# Proves and builds the program, a line for each crate. With no change since, nothing is proved again.
 edihub:
-	mkdir -p crates/edihub/out
-	cd crates/edihub && rt run -- --help > out/help 2> out/log || { cat out/log; exit 1; }
+	python3 tests/prove.py edihub --help
 	cp $(PROVED) edihub
 
 # Proves and builds the program that plays scripts on a hub, for trials.
 hub_script:
-	mkdir -p crates/hub_script/out
-	cd crates/hub_script && rt run < stdin > out/printed 2> out/log || { cat out/log; exit 1; }
+	python3 tests/prove.py hub_script
 
 # Proves and runs the tests of calls, whose programs are left for the hostile trials.
 TESTS = edi_tests http_tests judge_tests hub_tests app_tests

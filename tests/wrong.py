@@ -23,24 +23,19 @@ import hashlib
 import os
 import re
 import shutil
-import subprocess
 import sys
-import tempfile
 import threading
 import time
 from concurrent.futures import FIRST_COMPLETED, ThreadPoolExecutor, wait
 from dataclasses import dataclass
 
+from copies import copied, crates, lanes, library_proved, linked, room_beside, run
 from functions import ROOT, edits, functions_of, pairs_of, sources
 
 PARTS = ("src", "specs", "proofs")
-# the most memory that a check is taken to need, in bytes
-CHECK_MEMORY = 5 << 30
 # an error of a proof that names what an edit took away
 BY_NAMES = r"(\./)?proofs/.*(has no field|is not in scope|has no `|was not admitted)"
 PLACE = re.compile(r"(?:note: )?(?:\./)?(\S+?):(\d+):\d+: ")
-# one crate's proved work is taken over at a time, and not while it is copied
-TAKEN_OVER = threading.Lock()
 REFUSED, NAMES_ALONE, NOT_REFUSED = "refused", "refused by names alone", "not refused"
 # the crates of which each edit was refused, as the tree keeps it
 TOLD = os.path.join(ROOT, "tests", "refused.txt")
@@ -57,18 +52,6 @@ class Wrong:
     refused_by: str = ""
 
 
-def crates():
-    """The crates and all crates of the repository below each, lowest first."""
-    below = {}
-    with open(os.path.join(ROOT, "crates.txt"), encoding="utf-8") as lines:
-        for line in lines:
-            name, colon, needs = line.partition("#")[0].partition(":")
-            if colon:
-                direct = [it for it in needs.split() if it in below]
-                below[name.split()[0]] = {it for crate in direct for it in below[crate] | {crate}}
-    return below
-
-
 def library(crate):
     """The wrong bodies and definitions of a crate, by name."""
     for folder in ("must-fail", "wrong"):
@@ -78,11 +61,6 @@ def library(crate):
                 yield Wrong(crate, folder, name, rest, first.removeprefix("refused by: ").strip())
             else:
                 yield Wrong(crate, folder, name, text)
-
-
-def run(words, folder):
-    ran = subprocess.run(["rt", *words], cwd=folder, stdin=subprocess.DEVNULL, stdout=subprocess.PIPE, stderr=subprocess.STDOUT, text=True, errors="replace")
-    return ran.returncode, ran.stdout.rstrip("\n").split("\n")
 
 
 class Kept:
@@ -158,36 +136,6 @@ class Kept:
         with self.lock, open(self.place(wrong.crate), "a", encoding="utf-8") as file:
             file.write(f"{self.key(wrong)} {told}\n")
             self.known[self.key(wrong)] = told
-
-
-def text_copied(room):
-    """A copy of the tree's crates, without their edits."""
-    listed = subprocess.run(["git", "ls-files", "-z", "--cached", "--others", "--exclude-standard"], cwd=ROOT, stdout=subprocess.PIPE, text=True, check=True)
-    for path in filter(None, listed.stdout.split("\0")):
-        if path.startswith("crates") and "/must-fail/" not in path and "/wrong/" not in path and os.path.isfile(os.path.join(ROOT, path)):
-            os.makedirs(os.path.dirname(os.path.join(room, path)), exist_ok=True)
-            shutil.copy2(os.path.join(ROOT, path), os.path.join(room, path))
-
-
-def copied(room, anew):
-    """The same with the libraries that its checks built, and, of the crates in `anew`, what these kept."""
-    text_copied(room)
-    for crate in os.listdir(os.path.join(ROOT, "crates")):
-        for part in ("rlib", "incremental") if crate in anew else ("rlib",):
-            work = os.path.join(ROOT, "crates", crate, "out", part)
-            with TAKEN_OVER:
-                if os.path.isdir(work):
-                    linked(work, os.path.join(room, "crates", crate, "out", part))
-
-
-def linked(folder, to):
-    """A copy of kept work, what was proved by links: a check replaces such a file, and changes none."""
-    shutil.copytree(folder, to, symlinks=True, copy_function=lambda one, other: os.link(one, other) if one.endswith((".oantt", ".a")) else shutil.copy2(one, other))
-
-
-def room_beside():
-    """A folder on the file system of the tree, so that kept work can be shared by links."""
-    return tempfile.TemporaryDirectory(prefix="wrong-", dir=os.path.dirname(ROOT))
 
 
 def different(bodies):
@@ -322,26 +270,6 @@ def definition_tried(wrong, below):
                     return NOT_REFUSED, f"{crate} refuses it, and not {wrong.refused_by}: {check_told(lines)[1]}"
         status, lines = run(["check", "--jobs", "1"], os.path.join(room, "crates", wrong.refused_by))
         return check_told(lines) if status else (NOT_REFUSED, f"{wrong.refused_by} is still proved")
-
-
-def lanes():
-    with open("/proc/meminfo", encoding="ascii") as lines:
-        free = next(int(it.split()[1]) for it in lines if it.startswith("MemAvailable:")) << 10
-    return max(1, min(len(os.sched_getaffinity(0)), free // CHECK_MEMORY))
-
-
-def library_proved(crate):
-    """Proves a crate's library in a copy of the tree, since a check locks all that it stands on, and takes over the work. Says why it is not proved."""
-    with room_beside() as room:
-        copied(room, {crate})
-        status, lines = run(["lib", "--jobs", "1"], os.path.join(room, "crates", crate))
-        for part in ("rlib", "incremental") if not status else ():
-            work = os.path.join(ROOT, "crates", crate, "out", part)
-            os.makedirs(os.path.dirname(work), exist_ok=True)
-            with TAKEN_OVER:
-                shutil.rmtree(work, ignore_errors=True)
-                os.rename(os.path.join(room, "crates", crate, "out", part), work)
-        return lines[-1] if status else ""
 
 
 def counted(told, count):

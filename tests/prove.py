@@ -1,0 +1,118 @@
+"""`make edihub` and `make hub_script`: proves the crates below a program, as many at a time as processors and memory allow, and builds it.
+
+    python3 tests/prove.py PROGRAM [WORD ..]
+
+The program is run once, with these words, as it is built. Prints a line for each crate as it is proved: its place among all, its name
+and the seconds that it took, or `as before` where nothing has changed since it was proved. While a crate takes long, a line every half
+minute says how many of its functions are checked."""
+import os
+import re
+import shutil
+import subprocess
+import sys
+import threading
+import time
+from concurrent.futures import FIRST_COMPLETED, ThreadPoolExecutor, wait
+
+from copies import crates, lanes, library_proved
+from functions import ROOT
+
+# seconds between two lines of a crate that takes long
+SILENCE = 30
+
+
+def stamp(crate):
+    """What a check notes of a library that it proved."""
+    path = os.path.join(ROOT, "crates", crate, "out", "rlib", "stamp")
+    if not os.path.isfile(path):
+        return ""
+    with open(path, encoding="utf-8") as file:
+        return file.read()
+
+
+class Proving:
+    def __init__(self, program, below):
+        self.below, self.number, self.done = below, len(below[program]) + 1, 0
+        self.left = [it for it in below if it in below[program]]
+        self.proved, self.begun, self.said = set(), {}, threading.Lock()
+
+    def tell(self, crate, took):
+        with self.said:
+            self.done += 1
+            print(f"{self.done:3} of {self.number}  {crate:15} {took}", flush=True)
+
+    def library(self, crate):
+        """Why it is not proved, or nothing."""
+        self.begun[crate], before = time.time(), stamp(crate)
+        why = library_proved(crate)
+        begun = self.begun.pop(crate)
+        if not why:
+            self.tell(crate, "as before" if before and stamp(crate) == before else f"{time.time() - begun:5.0f} s")
+            self.proved.add(crate)
+        return f"{crate} is not proved: {why}" if why else ""
+
+    def libraries(self):
+        """Proves all libraries, each once those below it are proved. Why one is not, or nothing."""
+        running, failed, most = set(), "", lanes()
+        with ThreadPoolExecutor(most) as pool:
+            while True:
+                ready = [it for it in self.left if self.below[it] <= self.proved] if not failed else []
+                for crate in ready[: most - len(running)]:
+                    self.left.remove(crate)
+                    running.add(pool.submit(self.library, crate))
+                if not running:
+                    return failed
+                done, running = wait(running, timeout=SILENCE, return_when=FIRST_COMPLETED)
+                failed = next(filter(None, (it.result() for it in done)), failed)
+                if not done:
+                    waited = ", ".join(f"{it} {time.time() - since:.0f} s" for it, since in list(self.begun.items()))
+                    print(f"    still at {waited}", flush=True)
+
+    def built(self, program, words):
+        """The status of proving, building and running the program itself."""
+        folder, begun = os.path.join(ROOT, "crates", program), time.time()
+        os.makedirs(os.path.join(folder, "out"), exist_ok=True)
+        log = os.path.join(folder, "out", "log")
+        given, asked = os.path.join(folder, "stdin"), ["rt", "run", *(["--", *words] if words else [])]
+        with open(given if os.path.isfile(given) else os.devnull, "rb") as source, open(log, "wb") as errors:
+            child = subprocess.Popen(asked, cwd=folder, stdin=source, stdout=subprocess.DEVNULL, stderr=errors)
+            while (status := ended(child)) is None:
+                print(f"    still at {program} {time.time() - begun:.0f} s{last_count(log)}", flush=True)
+        if status:
+            with open(log, encoding="utf-8", errors="replace") as lines:
+                shutil.copyfileobj(lines, sys.stdout)
+        else:
+            self.tell(program, f"{time.time() - begun:5.0f} s")
+        return status
+
+
+def ended(child):
+    """Its status, where it ends soon."""
+    try:
+        return child.wait(SILENCE)
+    except subprocess.TimeoutExpired:
+        return None
+
+
+def last_count(log):
+    """How many functions the log says are checked, if it says so."""
+    with open(log, encoding="utf-8", errors="replace") as lines:
+        counts = re.findall(r"(\d+ of \d+) functions checked|^checked .*, (\d+ of \d+)$", lines.read(), re.MULTILINE)
+    return f", {next(filter(None, counts[-1]))} functions" if counts else ""
+
+
+def main(words):
+    below = crates()
+    if not words or words[0] not in below:
+        print("usage: prove.py PROGRAM [WORD ..]")
+        return 2
+    proving = Proving(words[0], below)
+    why = proving.libraries()
+    if why:
+        print(why)
+        return 1
+    return 1 if proving.built(words[0], words[1:]) else 0
+
+
+if __name__ == "__main__":
+    sys.exit(main(sys.argv[1:]))
