@@ -17,7 +17,7 @@ use Rattle.hub_store.specs.declared.fault.StoreFault.TheVariants.{Unclean, Versi
 use Rattle.hub_sql.specs.Opening.{Adopts, ComesBack, Refuses, IsAsBefore, IsSpared, MayBeRaised, MayBeRenumbered}
 use Rattle.hub_sql.specs.declared.returned.Returned.{Returned}
 use Rattle.hub_sql.specs.Stored.{Stored, content, left, honest}
-use Rattle.hub_sql.specs.Version.{AreShaped, HoldsHub, HoldsTables, number_of}
+use Rattle.hub_sql.specs.Version.{AreRising, AreShaped, HoldsHub, HoldsTables, number_of}
 use Rattle.hub_sql.specs.declared.version.Version.{Version as Stage}
 use Rattle.hub_sql.specs.declared.version.Version.TheVariants.{First, Second, Third}
 
@@ -40,6 +40,12 @@ pub hub_shaped : (version : Stage) (trees : Trees) → version ≢ First → Are
 hub_shaped First trees later it = absurd (later refl)
 hub_shaped Second trees later it = it
 hub_shaped Third trees later it = it
+
+-- so they do where they did as the connection was looked at first
+pub rise_as_before : (was now : State) → was.now.schema ≡ hub_schema → IsAsBefore was now
+    → AreRising was.now.trees was.now.schema.tables → AreOrdered now.now.trees
+rise_as_before was now has same rise =
+    subst (λ (db : Database). AreOrdered db.trees) (sym same.shown) (subst (λ (s : Schema). AreRising was.now.trees s.tables) has rise)
 
 -- the number of all but schema 1 that is not schema 2
 pub third_number : (version : Stage) (db : Database) → version ≢ First → version ≢ Second

@@ -1,5 +1,6 @@
 pub mod Adopted
 pub mod Committing
+pub mod FilesOrder
 pub mod Looking
 pub mod Migrated
 pub mod Moving

@@ -1,6 +1,8 @@
 -- A hub that is founded in a database of schema 1, beside its rows.
 use Rattle.std.proofs.Common.{◌≡◌, ◌≢◌, inl, inr, [], true, false, None, refl, sym, ap, subst, ◌∙◌}
+use Rattle.sqlite.specs.Effect.{Database}
 use Rattle.sqlite.specs.Held.{Held, state}
+use Rattle.sqlite.specs.Schema.{Schema}
 use Rattle.sqlite.specs.State.{State, HasCleanDisk}
 use Rattle.sqlite_trees.specs.Tree.{Trees}
 use Rattle.sqlite_trees.specs.declared.store.Store.{Ghosts}
@@ -15,12 +17,19 @@ use Rattle.hub_store.specs.declared.fault.StoreFault.TheVariants.{Unclean, Versi
 use Rattle.hub_sql.specs.Opening.{ComesBack, Founds, IsAsBefore, IsOfFounding, IsSpared, MayBeBeside, MayBeFounded}
 use Rattle.hub_sql.specs.Opening.{RefusesFounding, SparesConnection}
 use Rattle.hub_sql.specs.Stored.{Stored, content, left, honest}
-use Rattle.hub_sql.specs.Version.{HoldsTables, schema_of}
+use Rattle.hub_sql.specs.Version.{AreRising, AreShaped, HoldsTables, schema_of}
 use Rattle.hub_sql.specs.declared.fault.FoundFault.{FoundFault}
 use Rattle.hub_sql.specs.declared.fault.FoundFault.TheVariants as found
 use Rattle.hub_sql.specs.declared.returned.Returned.{Returned}
 use Rattle.hub_sql.specs.declared.returned.Returned.TheVariants.{Connection}
 use Rattle.hub_sql.specs.declared.version.Version.TheVariants.{First}
+
+-- the row numbers of its tables rise where they did as the connection was looked at first
+pub shaped_as_before : (was now : State) → was.now.schema ≡ schema_of First → IsAsBefore was now
+    → AreRising was.now.trees was.now.schema.tables → AreShaped First now.now.trees
+shaped_as_before was now has same rise =
+    subst (λ (db : Database). AreShaped First db.trees) (sym same.shown)
+    (subst (λ (s : Schema). AreRising was.now.trees s.tables) has rise)
 
 -- faults of founding that are equal are of one fault of the store
 same_fault : (a b : StoreFault) → found.Store a ≡ found.Store b → a ≡ b

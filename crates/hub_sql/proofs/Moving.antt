@@ -1,8 +1,9 @@
 -- What is known of a connection that shows the tables of another.
-use Rattle.std.proofs.Common.{◌≡◌, ap, sym, subst, ◌∙◌}
+use Rattle.std.proofs.Common.{◌≡◌, IsTrue, ap, sym, subst, ◌∙◌}
 use Rattle.sqlite.specs.Effect.{IsDatabase}
 use Rattle.sqlite.specs.State.{State}
 use Rattle.hub_schema.specs.State.{HasTables, IsHub, IsOldHub, AreOrdered, AreOldOrdered, IsNumbered, HasNumber}
+use Rattle.hub_sql.specs.Opening.{IsReady}
 
 pub hub_moved : (old new : State) → new.now ≡ old.now → IsHub old → IsHub new
 hub_moved old new same hub = record {
@@ -25,6 +26,14 @@ tables_moved old new same has = record {
   schema = ap (λ d. d.schema) same ∙ has.schema;
   ordered = subst (λ d. AreOrdered d.trees) (sym same) has.ordered;
   sound = subst IsDatabase (sym same) has.sound;
+}
+
+pub ready_as_before : (old new : State) → new.now ≡ old.now → new.committed ≡ old.committed → IsTrue new.is_open
+    → IsReady old → IsReady new
+ready_as_before old new same committed is_open ready = record {
+  up = is_open;
+  shown = same ∙ ready.shown ∙ sym committed;
+  sound = subst IsDatabase (sym same) ready.sound;
 }
 
 -- with the number of schema 3 all tables are a hub's

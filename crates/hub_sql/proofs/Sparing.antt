@@ -5,7 +5,7 @@ use Rattle.sqlite_trees.specs.Tree.{Trees}
 use Rattle.sqlite_trees.specs.View.{IsClean, IsQuiet, IsRolledBack}
 use Rattle.sqlite_trees.specs.declared.store.Store.{Ghosts}
 use Rattle.sqlite.specs.Held.{Held, state}
-use Rattle.sqlite.specs.State.{State, HasCleanDisk, Survives, Opens}
+use Rattle.sqlite.specs.State.{State, HasCleanDisk, Survives}
 use Rattle.sql_rows.proofs.Transactions.{clean_before}
 use Rattle.hub_store.specs.declared.fault.StoreFault.{StoreFault}
 use Rattle.hub_looks.specs.Numbered.{TellsNumber}
@@ -14,7 +14,7 @@ use Rattle.hub_tables.specs.Tables.{Tables}
 use Rattle.hub_founding.specs.Fits.{fits, founded_beside}
 use Rattle.sqlite.specs.Schema.{Schema}
 use Rattle.hub_schema.specs.State.{IsUndone, FoundsTo, LooksAmong, ShowsTheSame, Spares}
-use Rattle.hub_sql.specs.Opening.{LeftAfter, MayBeBeside, MayBeRenumbered, SparesConnection, SparesStore, IsAsBefore}
+use Rattle.hub_sql.specs.Opening.{LeftAfter, MayBeBeside, MayBeRenumbered, SparesConnection, SparesStore, IsAsBefore, IsReady}
 use Rattle.hub_sql.specs.Version.{schema_of}
 use Rattle.hub_sql.specs.declared.version.Version.{Version}
 use Rattle.hub_sql.specs.declared.version.Version.TheVariants.{Second}
@@ -159,12 +159,12 @@ module _ {S : Type 0} (g : Ghosts S) where
       → (HasCleanDisk (state g conn) → HasCleanDisk (state g mid))
       → (HasCleanDisk (state g conn) → (state g conn).now.trees ≡ (state g mid).committed.trees)
       → conn.step_limit ≡ was.step_limit
-      → (HasCleanDisk (state g conn) → Opens (state g conn))
+      → (HasCleanDisk (state g conn) → IsReady (state g conn))
       → ((db : Trees) → IsTrue (state g conn).is_open → (state g conn).may_leave db → db ≡ (state g conn).committed.trees)
       → SparesConnection g MayBe (state g conn) back → SparesConnection g May was back
-  spared_anew MayBe May was mid conn back may version known before early between rows limit opens law it =
+  spared_anew MayBe May was mid conn back may version known before early between rows limit ready law it =
       let same : HasCleanDisk (state g conn) → (state g conn).committed.trees ≡ was.committed.trees =
-      λ (clean : HasCleanDisk (state g conn)). ap (λ d. d.trees) (sym (opens clean).clean) ∙ rows clean
+      λ (clean : HasCleanDisk (state g conn)). ap (λ d. d.trees) (sym (ready clean).shown) ∙ rows clean
       ∙ ap (λ d. d.trees) (before (between clean)).committed in
       record {
         idle = it.idle;
@@ -173,7 +173,7 @@ module _ {S : Type 0} (g : Ghosts S) where
         rows = λ clean up. it.rows clean up ∙ same (it.clean clean);
         schema = λ clean up. inr (version, known);
         crash = λ clean trees left. elim (it.crash clean trees left) [
-          | inl before ↦ inr (inl (law trees (opens (it.clean clean)).is_open before ∙ same (it.clean clean)))
+          | inl before ↦ inr (inl (law trees (ready (it.clean clean)).up before ∙ same (it.clean clean)))
           | inr (inl committed) ↦ inr (inl (committed ∙ same (it.clean clean)))
           | inr (inr made) ↦ inr (inr (may clean trees made))
         ];

@@ -1,6 +1,7 @@
 -- What a store is that takes over a connection or founds a hub in one, and when none does.
 use Rattle.std.specs.Prelude.{◌≡◌, ◌≢◌, ◌⊎◌, IsTrue, true, false, None}
 use Rattle.sqlite.specs.Held.{Held, state}
+use Rattle.sqlite.specs.Effect.{IsDatabase}
 use Rattle.sqlite.specs.State.{State, HasCleanDisk}
 use Rattle.sqlite_trees.specs.Tree.{Trees}
 use Rattle.sqlite_trees.specs.View.{IsClean}
@@ -23,6 +24,12 @@ use Rattle.hub_sql.specs.declared.returned.Returned.{Returned}
 use Rattle.hub_sql.specs.declared.returned.Returned.TheVariants.{Connection, Store}
 use Rattle.hub_sql.specs.declared.version.Version.{Version as Stage}
 use Rattle.hub_sql.specs.declared.version.Version.TheVariants.{First, Second}
+
+-- it is open, shows what was committed, and obeys its schema
+pub record IsReady (s : State) : Type 0 where
+  pub up : IsTrue s.is_open
+  pub shown : s.now ≡ s.committed
+  pub sound : IsDatabase s.now
 
 -- the same database is shown, and no crash leaves what it did not leave before
 pub record IsAsBefore (was now : State) : Type 0 where

@@ -28,9 +28,13 @@ tables_of First = traffic_tables
 tables_of Second = hub_tables
 tables_of Third = hub_tables
 
--- in each the row numbers rise
+-- in each of these tables the row numbers rise
+abbrev pub AreRising : Trees → List Table → Type 0
+AreRising trees tables = AllByRecursion (λ table. IsShaped shape.Table (trees table.tree)) tables
+
+-- in those of this version
 abbrev pub AreShaped : Version → Trees → Type 0
-AreShaped version trees = AllByRecursion (λ table. IsShaped shape.Table (trees table.tree)) (tables_of version)
+AreShaped version trees = AreRising trees (tables_of version)
 
 -- the tables are of this version, and so is their number
 abbrev pub HoldsTables : Version → Database → Type 0

@@ -1,15 +1,15 @@
 //! Stores over connections that may hold tables.
 ghost use Rattle.std.specs.Prelude.{◌≡◌, ◌≢◌, ◌⊎◌, false, None, IfOk, IfErr, IsTrue};
 ghost use Rattle.sqlite.specs.Held.{state};
-ghost use Rattle.sqlite.specs.State.{HasCleanDisk, Opens, IsLive};
+ghost use Rattle.sqlite.specs.State.{HasCleanDisk};
 ghost use Rattle.hub_tables.specs.Tables.{Tables};
 ghost use Rattle.hub_schema.specs.Rows.{tables_in};
 ghost use Rattle.hub_schema.specs.State.{AreOrdered, HasNumber, HasTables, IsHub};
 ghost use Rattle.hub_founding.specs.Founding.{HoldsNone};
 ghost use Rattle.hub_tables.specs.Register.{HoldsRegister};
-ghost use Rattle.hub_sql.specs.Opening.{Adopts, IsAsBefore, MayBeRenumbered, Refuses, SparesConnection};
+ghost use Rattle.hub_sql.specs.Opening.{Adopts, IsAsBefore, IsReady, MayBeRenumbered, Refuses, SparesConnection};
 ghost use Rattle.hub_sql.specs.Stored.{content, left, honest};
-ghost use Rattle.hub_sql.specs.Version.{number_of};
+ghost use Rattle.hub_sql.specs.Version.{AreRising, number_of};
 
 use crate::opening::laying_fault;
 use crate::reopening::{of_hub, reopened};
@@ -42,7 +42,7 @@ fn judged<S: Alter + Drop>(
 ) -> Result<Connection<S>, (Connection<S>, StoreFault)>
     requires idle { conn.in_transaction ≡ false }
     requires ordered { HasCleanDisk (state S.Store conn) → AreOrdered (state S.Store conn).now.trees }
-    requires opened { HasCleanDisk (state S.Store conn) → Opens (state S.Store conn) × IsLive (state S.Store conn) }
+    requires ready { HasCleanDisk (state S.Store conn) → IsReady (state S.Store conn) }
     ensures idle { IfOk result (λ c. c.in_transaction ≡ false) }
     ensures tables { IfOk result (λ c. HasCleanDisk (state S.Store c) → HasTables (state S.Store c)) }
     ensures open { IfOk result (λ c. HasCleanDisk (state S.Store c) → IsTrue (state S.Store c).is_open) }
@@ -125,7 +125,7 @@ fn taken<S: Alter + Drop>(
     requires later { version ≢ Version.First }
     requires ordered { HasCleanDisk (state S.Store conn) → AreOrdered (state S.Store conn).now.trees }
     requires number { HasCleanDisk (state S.Store conn) → HasNumber (number_of version) (state S.Store conn).now.trees }
-    requires opened { HasCleanDisk (state S.Store conn) → Opens (state S.Store conn) × IsLive (state S.Store conn) }
+    requires ready { HasCleanDisk (state S.Store conn) → IsReady (state S.Store conn) }
     ensures whole { IfOk result (λ store. store.fault ≡ None) }
     ensures rows { IfOk result (λ store. honest S.Store store → content S.Store store ≡ tables_in (state S.Store conn).now.trees) }
     ensures register { IfOk result (λ store. honest S.Store store → HoldsRegister (tables_in (state S.Store conn).now.trees)) }
@@ -165,6 +165,28 @@ impl<S: Alter + Drop> SqliteStore<S> {
         let conn = match reopened(alloc, conn, version) {
             Ok(conn) => conn,
             Err((fault, store)) => return Err((Returned::Store(store), fault)),
+        };
+        match taken(alloc, conn, version) {
+            Ok(store) => Ok(store),
+            Err((conn, fault)) => Err((Returned::Connection(conn), fault)),
+        }
+    }
+
+    /// The same of a connection that was opened this moment, in whose tables the row numbers rise: what is below it is not
+    /// asked, and the file not read again.
+    pub(crate) fn adopt_opened(
+        alloc: Global,
+        conn: Connection<S>,
+    ) -> Result<SqliteStore<S>, (Returned<S>, StoreFault)>
+        requires idle { conn.in_transaction ≡ false }
+        requires ready { HasCleanDisk (state S.Store conn) → IsReady (state S.Store conn) }
+        requires rising { HasCleanDisk (state S.Store conn) → AreRising (state S.Store conn).now.trees conn.schema.tables }
+        ensures adopts { IfOk result (Adopts S.Store (state S.Store conn)) }
+        ensures refuses { IfErr result (λ e. Refuses S.Store (state S.Store conn) e.0 e.1) }
+    {
+        let (conn, version) = match of_hub(conn) {
+            Ok((conn, version)) => (conn, version),
+            Err((conn, fault)) => return Err((Returned::Connection(conn), fault)),
         };
         match taken(alloc, conn, version) {
             Ok(store) => Ok(store),

@@ -1,8 +1,12 @@
 //! Stores of files.
-ghost use Rattle.std.specs.Prelude.{◌≡◌, true, false, None, IfOk, IfErr};
+ghost use Rattle.std.specs.Prelude.{◌≡◌, true, false, IfOk, IfErr};
 ghost use Rattle.sqlite_std_file.specs.File.{IsFresh};
 ghost use Rattle.sqlite_wal.specs.Files.{image_at};
+ghost use Rattle.sqlite.specs.Files.{file_state};
+ghost use Rattle.sqlite.specs.State.{HasCleanDisk};
 ghost use Rattle.hub_sql.specs.File.{AdoptsFiles, FoundsFiles, IsOver, LeavesFile, LeavesUnfounded, LeavesUnopened};
+ghost use Rattle.hub_sql.specs.Opening.{IsReady};
+ghost use Rattle.hub_sql.specs.Version.{AreRising};
 
 use crate::fault::FoundFault;
 use crate::opening::fault_by;
@@ -36,7 +40,9 @@ fn open_file<S: Start>(
     start: S,
 ) -> Result<Connection<FileStore<FileFrom<S>>>, (StoreFault, LeftOfFile<FileFrom<S>>)>
     ensures over { IfOk result (IsOver (image_at S.Start)) }
-    ensures idle { IfOk result (λ conn. (conn.in_transaction ≡ false) × (conn.step_limit ≡ None)) }
+    ensures idle { IfOk result (λ conn. conn.in_transaction ≡ false) }
+    ensures ready { IfOk result (λ conn. HasCleanDisk (file_state conn) → IsReady (file_state conn)) }
+    ensures rising { IfOk result (λ conn. HasCleanDisk (file_state conn) → AreRising (file_state conn).now.trees conn.schema.tables) }
     ensures leaves { IfErr result (λ e. LeavesUnopened (λ files. IsFresh true files.log × IsFresh false files.db) e.0 e.1) }
 {
     match Connection::open_from(rt, path, NEW_HAS_SUMS, start) {
@@ -62,7 +68,7 @@ impl<S: Start> SqliteStore<FileStore<FileFrom<S>>> {
             LeavesFile (λ files. IsFresh true files.log × IsFresh false files.db) (image_at S.Start) e.0 e.1) }
     {
         let conn = open_file(rt, path, start)?;
-        match SqliteStore::adopt(rt.alloc(), conn) {
+        match SqliteStore::adopt_opened(rt.alloc(), conn) {
             Ok(store) => Ok(store),
             Err((back, fault)) => Err((fault, LeftOfFile::Returned(back))),
         }
@@ -86,7 +92,7 @@ impl<S: Start> SqliteStore<FileStore<FileFrom<S>>> {
             Ok(conn) => conn,
             Err((fault, left)) => return Err((FoundFault::Store(fault), left)),
         };
-        match SqliteStore::found(rt.alloc(), conn, register) {
+        match SqliteStore::found_opened(rt.alloc(), conn, register) {
             Ok(store) => Ok(store),
             Err((back, fault)) => Err((fault, LeftOfFile::Returned(back))),
         }

@@ -1,15 +1,15 @@
 //! Stores in databases of schema 1.
 ghost use Rattle.std.specs.Prelude.{◌≡◌, ◌≢◌, true, false, None, IfOk, IfErr};
 ghost use Rattle.sqlite.specs.Held.{state};
-ghost use Rattle.sqlite.specs.State.{HasCleanDisk, Opens, IsLive};
+ghost use Rattle.sqlite.specs.State.{HasCleanDisk};
 ghost use Rattle.hub_founding.specs.Fits.{fits as does_fit, founded_beside};
 ghost use Rattle.hub_parties.specs.Rows.{IsRegister};
 ghost use Rattle.hub_schema.specs.Rows.{traffic_in};
 ghost use Rattle.hub_schema.specs.Schema.{old_schema, no_schema};
 ghost use Rattle.hub_schema.specs.State.{HasNumber, IsOldHub};
-ghost use Rattle.hub_sql.specs.Opening.{Founds, IsAsBefore, IsOfFounding, MayBeBeside, RefusesFounding, SparesConnection};
+ghost use Rattle.hub_sql.specs.Opening.{Founds, IsAsBefore, IsOfFounding, IsReady, MayBeBeside, RefusesFounding, SparesConnection};
 ghost use Rattle.hub_sql.specs.Stored.{content, left, honest};
-ghost use Rattle.hub_sql.specs.Version.{AreShaped};
+ghost use Rattle.hub_sql.specs.Version.{AreRising, AreShaped};
 ghost use Rattle.hub_tables.specs.Tables.{Tables};
 
 use crate::fault::FoundFault;
@@ -35,7 +35,7 @@ fn fitting<S: Alter + Drop>(
     requires idle { conn.in_transaction ≡ false }
     requires shaped { HasCleanDisk (state S.Store conn) → AreShaped Version.First (state S.Store conn).now.trees }
     requires number { HasCleanDisk (state S.Store conn) → HasNumber 1 (state S.Store conn).now.trees }
-    requires opened { HasCleanDisk (state S.Store conn) → Opens (state S.Store conn) × IsLive (state S.Store conn) }
+    requires ready { HasCleanDisk (state S.Store conn) → IsReady (state S.Store conn) }
     ensures idle { IfOk result (λ c. c.in_transaction ≡ false) }
     ensures hub { IfOk result (λ c. HasCleanDisk (state S.Store c) → IsOldHub (state S.Store c)) }
     ensures limit { IfOk result (λ c. c.step_limit ≡ conn.step_limit) }
@@ -98,7 +98,7 @@ fn beside<S: Alter + Drop>(
     requires idle { conn.in_transaction ≡ false }
     requires shaped { HasCleanDisk (state S.Store conn) → AreShaped Version.First (state S.Store conn).now.trees }
     requires number { HasCleanDisk (state S.Store conn) → HasNumber 1 (state S.Store conn).now.trees }
-    requires opened { HasCleanDisk (state S.Store conn) → Opens (state S.Store conn) × IsLive (state S.Store conn) }
+    requires ready { HasCleanDisk (state S.Store conn) → IsReady (state S.Store conn) }
     ensures whole { IfOk result (λ store. store.fault ≡ None) }
     ensures fits { IfOk result (λ store. honest S.Store store → does_fit register.now (traffic_in (state S.Store conn).now.trees) ≡ true) }
     ensures rows { IfOk result (λ store. honest S.Store store → content S.Store store ≡ founded_beside (traffic_in (state S.Store conn).now.trees) register.now) }
@@ -136,6 +136,30 @@ pub(crate) fn migrated<S: Alter + Drop>(
     let conn = match reopened(alloc, conn, Version::First) {
         Ok(conn) => conn,
         Err((fault, store)) => return Err((Returned::Store(store), FoundFault::Store(fault))),
+    };
+    match beside(alloc, conn, register) {
+        Ok(store) => Ok(store),
+        Err((conn, fault)) => Err((Returned::Connection(conn), fault)),
+    }
+}
+
+/// The same of a connection that was opened this moment, in whose tables the row numbers rise.
+pub(crate) fn migrated_opened<S: Alter + Drop>(
+    alloc: Global,
+    conn: Connection<S>,
+    register: &Register,
+) -> Result<SqliteStore<S>, (Returned<S>, FoundFault)>
+    requires idle { conn.in_transaction ≡ false }
+    requires tables { conn.schema ≢ no_schema }
+    requires ready { HasCleanDisk (state S.Store conn) → IsReady (state S.Store conn) }
+    requires rising { HasCleanDisk (state S.Store conn) → AreRising (state S.Store conn).now.trees conn.schema.tables }
+    ensures founds { IfOk result (Founds S.Store register.now (state S.Store conn)) }
+    ensures refuses { IfErr result (λ e. RefusesFounding S.Store register.now (state S.Store conn) e.0 e.1) }
+{
+    rows_beside_stay();
+    let conn = match of_version(conn, Version::First) {
+        Ok(conn) => conn,
+        Err((conn, fault)) => return Err((Returned::Connection(conn), FoundFault::Store(fault))),
     };
     match beside(alloc, conn, register) {
         Ok(store) => Ok(store),

@@ -8,11 +8,12 @@ ghost use Rattle.hub_schema.specs.Schema.{no_schema};
 ghost use Rattle.hub_parties.specs.Rows.{IsRegister};
 ghost use Rattle.hub_tables.specs.Register.{HoldsRegister, founded};
 ghost use Rattle.hub_tables.specs.Tables.{Tables, empty};
-ghost use Rattle.hub_sql.specs.Opening.{Founds, MayBeBeside, RefusesFounding, SparesConnection};
+ghost use Rattle.hub_sql.specs.Opening.{Founds, IsReady, MayBeBeside, RefusesFounding, SparesConnection};
 ghost use Rattle.hub_sql.specs.Stored.{content, left, honest};
+ghost use Rattle.hub_sql.specs.Version.{AreRising};
 
 use crate::fault::FoundFault;
-use crate::migrating::migrated;
+use crate::migrating::{migrated, migrated_opened};
 use crate::returned::Returned;
 use crate::store::SqliteStore;
 use hub_founding::register_changes;
@@ -74,6 +75,24 @@ fn laid<S: Alter + Drop>(
     }
 }
 
+// A hub is founded in a database without tables.
+fn founded_bare<S: Alter + Drop>(
+    alloc: Global,
+    conn: Connection<S>,
+    register: &Register,
+) -> Result<SqliteStore<S>, (Returned<S>, FoundFault)>
+    requires idle { conn.in_transaction ≡ false }
+    requires bare { conn.schema ≡ no_schema }
+    ensures founds { IfOk result (Founds S.Store register.now (state S.Store conn)) }
+    ensures refuses { IfErr result (λ e. RefusesFounding S.Store register.now (state S.Store conn) e.0 e.1) }
+{
+    founded_tables_hold_their_register();
+    match laid(alloc, conn, register) {
+        Ok(store) => Ok(store),
+        Err((conn, fault)) => Err((Returned::Connection(conn), FoundFault::Store(fault))),
+    }
+}
+
 impl<S: Alter + Drop> SqliteStore<S> {
     /// Founds a hub in a connection in which no transaction is open and no statement is limited: its tables with the rows
     /// of the register, in one transaction. In a database of schema 1 they stand beside the rows that are there, none of
@@ -89,13 +108,29 @@ impl<S: Alter + Drop> SqliteStore<S> {
         ensures founds { IfOk result (Founds S.Store register.now (state S.Store conn)) }
         ensures refuses { IfErr result (λ e. RefusesFounding S.Store register.now (state S.Store conn) e.0 e.1) }
     {
-        founded_tables_hold_their_register();
-        if !is_no_schema(conn.schema()) {
-            return migrated(alloc, conn, register);
+        if is_no_schema(conn.schema()) {
+            founded_bare(alloc, conn, register)
+        } else {
+            migrated(alloc, conn, register)
         }
-        match laid(alloc, conn, register) {
-            Ok(store) => Ok(store),
-            Err((conn, fault)) => Err((Returned::Connection(conn), FoundFault::Store(fault))),
+    }
+
+    /// The same of a connection that was opened this moment, in whose tables the row numbers rise.
+    pub(crate) fn found_opened(
+        alloc: Global,
+        conn: Connection<S>,
+        register: &Register,
+    ) -> Result<SqliteStore<S>, (Returned<S>, FoundFault)>
+        requires idle { conn.in_transaction ≡ false }
+        requires ready { HasCleanDisk (state S.Store conn) → IsReady (state S.Store conn) }
+        requires rising { HasCleanDisk (state S.Store conn) → AreRising (state S.Store conn).now.trees conn.schema.tables }
+        ensures founds { IfOk result (Founds S.Store register.now (state S.Store conn)) }
+        ensures refuses { IfErr result (λ e. RefusesFounding S.Store register.now (state S.Store conn) e.0 e.1) }
+    {
+        if is_no_schema(conn.schema()) {
+            founded_bare(alloc, conn, register)
+        } else {
+            migrated_opened(alloc, conn, register)
         }
     }
 }

@@ -36,7 +36,7 @@ returns-in-Ok-Some-clause-tables g c clean =
     tables_moved old new shown.2 (record {
       schema = sym c.schema.ensures.value ∙ c.is_hub_schema.ensures.0 c.if-not-is_hub_schema.false;
       ordered = c.requires.ordered early;
-      sound = ((c.requires.opened early).1 shown.0).0;
+      sound = (c.requires.ready early).sound;
     })
 
 pub returns-in-Ok-Some-clause-before : goal.returns-in-Ok-Some-clause-before

@@ -15,5 +15,5 @@ returns-in-Ok-true-clause-hub g c clean =
       schema = sym c.schema.ensures.value ∙ c.is_old_schema.ensures.0 c.if-not-is_old_schema.false;
       numbered = c.requires.number early;
       ordered = c.requires.shaped early;
-      sound = ((c.requires.opened early).1 shown.0).0;
+      sound = (c.requires.ready early).sound;
     })

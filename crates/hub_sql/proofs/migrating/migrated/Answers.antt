@@ -45,4 +45,4 @@ returns-in-Err-beside-clause-refuses g c =
     First c.in-Ok.ensures.schema (λ clean. (c.in-Ok.ensures.holds clean).1) c.in-Ok.ensures.clean
     c.in-Ok-reopened.ensures.clean c.in-Ok-reopened.ensures.rows
     (c.in-Ok-reopened.ensures.fresh.unlimited ∙ sym c.requires.unlimited)
-    (λ clean. (c.in-Ok-reopened.ensures.opened clean).0) (g.met.S.Store.settled conn.store) spared)
+    c.in-Ok-reopened.ensures.ready (g.met.S.Store.settled conn.store) spared)

@@ -24,3 +24,9 @@ returns-in-Err-of_version-clause-spared g c =
     spared_through g.S.Store (λ _. ⊥) c.args.conn third.conn c.in-Err-of_version.conn
     (λ clean. (third.ensures.refuses third.field-0-1-is clean).1) third.ensures.spared.clean third.ensures.spared.limit
     c.in-Err-of_version.ensures.spared
+
+pub returns-in-Ok-of_version-clause-ready : goal.returns-in-Ok-of_version-clause-ready
+returns-in-Ok-of_version-clause-ready g c clean ready =
+    let third = c.in-Err-default-Version in
+    let second = c.in-Ok-of_version in
+    second.ensures.ready clean (third.ensures.stays third.field-0-1-is (second.ensures.clean clean) ready)

@@ -56,3 +56,8 @@ over-requires g c early =
       clean = (undone.undone up).0 ∙ sym ((undone.kept early).committed up);
       unmarked = (undone.kept early).marks up;
     }
+
+pub returns-in-Ok-clause-ready : goal.returns-in-Ok-clause-ready
+returns-in-Ok-clause-ready g c clean =
+    let it = c.in-Ok.ensures.opens clean in
+    record { up = it.0.is_open; shown = it.0.clean; sound = (it.1 it.0.is_open).0 }

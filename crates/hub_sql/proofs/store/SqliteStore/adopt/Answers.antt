@@ -53,7 +53,7 @@ returns-in-Err-taken-clause-refuses g c =
           (λ clean. (c.in-Ok.ensures.holds clean).1) c.in-Ok.ensures.clean
           c.in-Ok-reopened.ensures.clean c.in-Ok-reopened.ensures.rows
           (c.in-Ok-reopened.ensures.fresh.unlimited ∙ sym c.requires.unlimited)
-          (λ clean. (c.in-Ok-reopened.ensures.opened clean).0) (g.met.S.Store.settled conn.store) none.1,
+          c.in-Ok-reopened.ensures.ready (g.met.S.Store.settled conn.store) none.1,
     ))
     (spared_anew g.S.Store _ (MayBeRaised was) was mid conn back
     (may_be_raised g.S.Store was version c.in-Ok.ensures.later mid conn c.in-Ok.ensures.holds c.in-Ok-reopened.ensures.clean
@@ -62,7 +62,7 @@ returns-in-Err-taken-clause-refuses g c =
     (λ clean. (c.in-Ok.ensures.holds clean).1) c.in-Ok.ensures.clean
     c.in-Ok-reopened.ensures.clean c.in-Ok-reopened.ensures.rows
     (c.in-Ok-reopened.ensures.fresh.unlimited ∙ sym c.requires.unlimited)
-    (λ clean. (c.in-Ok-reopened.ensures.opened clean).0) (g.met.S.Store.settled conn.store) spared)
+    c.in-Ok-reopened.ensures.ready (g.met.S.Store.settled conn.store) spared)
 
 pub taken-requires-clause-ordered : goal.taken-requires-clause-ordered
 taken-requires-clause-ordered g c clean =

@@ -1,14 +1,14 @@
-use Rattle.std.proofs.Common.{inl, inr, refl, sym, subst, ◌∙◌}
+use Rattle.std.proofs.Common.{inl, inr, refl, sym, subst}
 use Rattle.hub_tables.specs.Register.{HoldsRegister}
 use Rattle.hub_tables.specs.Tables.{empty}
 use Rattle.hub_sql.proofs.Sparing.{spared_more}
-use Rattle.hub_sql.proofs.store.SqliteStore.found.Goals as goal
+use Rattle.hub_sql.proofs.opening.founded_bare.Goals as goal
 
 pub returns-in-Ok-clause-founds : goal.returns-in-Ok-clause-founds
 returns-in-Ok-clause-founds g c = record {
   before = empty;
   whole = c.in-Ok.ensures.whole;
-  stood = λ honest. inl (sym c.schema.ensures.value ∙ c.is_no_schema.ensures.0 c.if-not-is_no_schema.false, refl);
+  stood = λ honest. inl (c.requires.bare, refl);
   fit = λ honest. refl;
   rows = c.in-Ok.ensures.rows;
   holds = λ honest. subst HoldsRegister (sym (c.in-Ok.ensures.rows honest))
@@ -19,7 +19,7 @@ returns-in-Ok-clause-founds g c = record {
 
 pub returns-in-Err-clause-refuses : goal.returns-in-Err-clause-refuses
 returns-in-Err-clause-refuses g c =
-    let bare = sym c.schema.ensures.value ∙ c.is_no_schema.ensures.0 c.if-not-is_no_schema.false in
+    let bare = c.requires.bare in
     record {
       version = λ is. absurd (elim c.in-Err.ensures.fails [ inl memory ↦ cc | inr disk ↦ cc ]);
       other = λ tables. absurd (tables bare);
