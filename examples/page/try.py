@@ -1,0 +1,71 @@
+"""`make page`: a hub of the example register with the orders of the example day, in a temporary folder, and a proxy before it that serves
+the page. For trying alone: it is thrown away in the end. `python3 try.py PROGRAM PORT`"""
+import os
+import signal
+import socket
+import subprocess
+import sys
+import tempfile
+
+from proxy import Proxy
+
+EXAMPLES = os.path.dirname(os.path.dirname(os.path.abspath(__file__)))
+RETAILER = ["--as", "5412345000013", "--key", "retail-key"]
+SAID = """The page is at {address}  (^C ends it)
+
+  This is for trying alone: without TLS, on this machine only, and all of it is thrown away in the end.
+
+  sign in as                 GLN            key
+  the retailer               5412345000013  retail-key
+  supplier Alpha             4012345500004  alpha-key-1   (company prefix 40123455)
+  supplier Beta              8712345000004  beta-key-1    (company prefix 8712345)
+
+  Alpha and Beta each have an order. Once Alpha has despatched two pallets and Beta one, with the SSCC that the page proposes,
+  upload the files of examples/day/7-receipts as the retailer."""
+
+
+def free_port():
+    with socket.socket() as one:
+        one.bind(("127.0.0.1", 0))
+        return one.getsockname()[1]
+
+
+def founded(program, folder):
+    """A new hub's database file, with the orders of the example day."""
+    file = os.path.join(folder, "hub.db")
+    for words in (
+        ["init", "--register", os.path.join(EXAMPLES, "register.toml"), "--db", file],
+        ["import", "--db", file, *RETAILER, "--folder", os.path.join(EXAMPLES, "day", "1-orders")],
+    ):
+        subprocess.run([program, *words], check=True, stdout=subprocess.DEVNULL)
+    return file
+
+
+def serving(program, file):
+    """The hub, once it listens, and its port."""
+    port = free_port()
+    child = subprocess.Popen([program, "serve", "--db", file, "--port", str(port), "--count", "1000000"], stdout=subprocess.PIPE)
+    if not child.stdout.readline().startswith(b"listening"):
+        raise OSError("the hub does not listen")
+    return child, port
+
+
+def main(program, port):
+    with tempfile.TemporaryDirectory() as folder:
+        child, hub_port = serving(program, founded(program, folder))
+        try:
+            with Proxy(port, hub_port) as proxy:
+                print(SAID.format(address=proxy.address), flush=True)
+                proxy.serve_forever()
+        except KeyboardInterrupt:
+            print()
+        finally:
+            child.terminate()
+            child.wait()
+
+
+if __name__ == "__main__":
+    # being told to end is as ^C, so that the hub ends too; a shell's background would leave ^C out
+    for told in (signal.SIGINT, signal.SIGTERM):
+        signal.signal(told, signal.default_int_handler)
+    main(os.path.abspath(sys.argv[1]), int(sys.argv[2]))

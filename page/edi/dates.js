@@ -1,0 +1,41 @@
+// @ts-check
+// Dates as interchanges spell them, and as a person reads them.
+
+/** @param {number} number @param {number} [places] */
+const padded = (number, places = 2) => String(number).padStart(places, "0");
+
+/** CCYYMMDD of the day on the clock of whoever writes.
+ * @param {Date} date */
+export const day = (date) => padded(date.getFullYear(), 4) + padded(date.getMonth() + 1) + padded(date.getDate());
+
+/** HHMM. @param {Date} date */
+export const minute = (date) => padded(date.getHours()) + padded(date.getMinutes());
+
+/** Whether CCYYMMDD (102) or CCYYMMDDHHMM (203) names a day of the Gregorian calendar, and a minute of it.
+ * @param {string} text @param {string} format */
+export function isDate(text, format) {
+  const found = (format === "102" ? /^(\d{4})(\d\d)(\d\d)$/ : format === "203" ? /^(\d{4})(\d\d)(\d\d)(\d\d)(\d\d)$/ : null)?.exec(text);
+  if (!found) return false;
+  const [year, month, of, hour, min] = found.slice(1).map(Number);
+  return month >= 1 && month <= 12 && of >= 1 && of <= daysOf(year, month) && !(hour > 23) && !(min > 59);
+}
+
+/** @param {number} year @param {number} month */
+function daysOf(year, month) {
+  const leap = (year % 4 === 0 && year % 100 !== 0) || year % 400 === 0;
+  return month === 2 ? (leap ? 29 : 28) : [4, 6, 9, 11].includes(month) ? 30 : 31;
+}
+
+const MONTHS = ["January", "February", "March", "April", "May", "June", "July", "August", "September", "October", "November", "December"];
+
+/** `3 June 2025`, or `3 June 2025, 09:15`, or the text as it stands where it is no date.
+ * @param {string} text @param {string} format */
+export function dateInWords(text, format) {
+  if (!isDate(text, format)) return text;
+  const date = `${Number(text.slice(6, 8))} ${MONTHS[Number(text.slice(4, 6)) - 1]} ${text.slice(0, 4)}`;
+  return format === "203" ? `${date}, ${text.slice(8, 10)}:${text.slice(10)}` : date;
+}
+
+/** The date and time of a UNB, whose year has two digits.
+ * @param {string} date @param {string} time */
+export const preparedInWords = (date, time) => `${dateInWords(`20${date}${time}`, "203")} UTC`;

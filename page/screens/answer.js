@@ -1,0 +1,198 @@
+// @ts-check
+// The answer to an order (ORDRSP): each line accepted, refused or changed to a quantity.
+
+import { interchangeText } from "../edi/envelope.js";
+import { day } from "../edi/dates.js";
+import { gtinAsPrinted } from "../edi/identifiers.js";
+import { responseText } from "../edi/response.js";
+import { ANSWERS } from "../hub/codes.js";
+import { readUploadOfOne } from "../hub/replies.js";
+import { actions, button, element, exact, figure, heading, link, newId, saying } from "../parts/dom.js";
+import { proposedNumber, wrongNumber } from "../parts/document_number.js";
+import { Field, check, focusFirstWrong, wholeNumber } from "../parts/field.js";
+import { sendingForm } from "../parts/sending_form.js";
+import { Table } from "../parts/table.js";
+import { linesWithStatus } from "./order.js";
+
+/** @typedef {import("../edi/response.js").Answer} Answer */
+/** @typedef {ReturnType<typeof linesWithStatus>[number]} Line */
+
+const CHOICES = /** @type {[Answer, string][]} */ ([["accepted", "Accept"], ["refused", "Refuse"], ["changed", "Change"]]);
+
+/** A line of the form, of which the answer is chosen. */
+class LineAnswer {
+  /** @param {Line} line */
+  constructor(line) {
+    this.line = line;
+    const name = newId("answer");
+    this.radios = CHOICES.map(([value, label]) => radio(name, value, label));
+    const label = `Changed quantity of line ${line.line}`;
+    this.quantity = new Field({ label, hidden: true, inputmode: "numeric", maxlength: 9, class: "short" });
+    this.quantity.input.addEventListener("input", () => this.choose("changed"));
+    const legend = element("legend", { class: "spoken" }, `Answer to line ${line.line}`);
+    this.choices = element("fieldset", { class: "choices" }, legend, ...this.radios.map((it) => it.element));
+    this.choices.addEventListener("change", () => this.quantity.say(""));
+  }
+
+  get waits() {
+    return this.line.status?.answer === "W";
+  }
+
+  /** What the hub knows of the answer, in words. */
+  get known() {
+    return ANSWERS[this.line.status?.answer ?? ""] ?? "not known";
+  }
+
+  /** @returns {Answer | null} */
+  get answer() {
+    return /** @type {Answer | undefined} */ (this.radios.find((it) => it.input.checked)?.input.value) ?? null;
+  }
+
+  /** @param {Answer} answer */
+  choose(answer) {
+    for (const { input } of this.radios) input.checked = input.value === answer;
+  }
+
+  /** The quantities that a change may have: what is despatched stays. */
+  get bounds() {
+    const { despatched = 0, open = 0 } = this.line.status ?? {};
+    return { least: despatched, most: despatched + open };
+  }
+
+  check() {
+    if (!this.waits) return check(this.quantity, `This line waits no more: it is ${this.known}.`);
+    if (this.answer !== "changed") return check(this.quantity, "");
+    const { least, most } = this.bounds;
+    const quantity = wholeNumber(this.quantity.value);
+    const right = quantity >= least && quantity <= most;
+    return check(this.quantity, right ? "" : `Give a whole number from ${figure(least)} to ${figure(most)}.`);
+  }
+}
+
+/** @param {string} name @param {Answer} value @param {string} label */
+function radio(name, value, label) {
+  const input = /** @type {HTMLInputElement} */ (element("input", { type: "radio", name, value }));
+  return { input, element: element("label", { class: "choice" }, input, element("span", {}, label)) };
+}
+
+/** @param {import("../start.js").Context} context @param {string} word the entry's number */
+export async function answerScreen(context, word) {
+  const entry = await context.session.entry(Number(word));
+  if (!entry?.order || !entry.interchange) return { title: "No order", content: [heading("This entry is no order")] };
+  const { session } = context;
+  const { order, interchange } = entry;
+  const answers = linesWithStatus(order, (await session.status()).lines).map((it) => new LineAnswer(it));
+  const hint = "As you like; proposed from the clock.";
+  const document = new Field({ label: "Number of your answer", hint, value: proposedNumber(), maxlength: 35 });
+  const wrong = element("div", { role: "alert" });
+  const next = element("div", {});
+  const waiting = () => answers.filter((it) => it.waits);
+  const title = `Answer order ${order.document}`;
+  const form = sendingForm({
+    session,
+    what: `Your answer to order ${order.document}`,
+    label: "Send answer",
+    content: [tools(waiting()), table(answers), wrong, document.element],
+    check: () => checked(waiting(), document, wrong),
+    write: ({ reference, moment }) => {
+      const words = { sender: session.hub.caller, recipient: interchange.sender, reference, moment };
+      return isComplete(waiting()) ? interchangeText(words, messageOf(order, answers, document.value, moment)) : null;
+    },
+    ask: (bytes) => session.hub.upload(bytes),
+    read: readUploadOfOne,
+    settled: ({ outcome, code }) => {
+      if (outcome === "refused") showAtItsPlace(session, code, { order, answers, document });
+      else next.replaceChildren(nextSteps(Number(word)));
+    },
+  });
+  return {
+    title,
+    content: [
+      element("p", { class: "back" }, link(["‹ Order ", exact(order.document)], `entry/${word}`)),
+      heading("Answer order ", exact(order.document)),
+      ...(waiting().length ? [form] : [saying("plain", "No line of this order waits for an answer."), table(answers)]),
+      next,
+    ],
+  };
+}
+
+/** @param {LineAnswer[]} waiting */
+function tools(waiting) {
+  const all = (/** @type {Answer} */ answer) => () => waiting.forEach((it) => it.choose(answer));
+  return actions(
+    button(waiting.length === 1 ? "Accept the line" : `Accept all ${waiting.length} lines`, all("accepted"), { class: "accept-all" }),
+    button("Refuse all", all("refused"), { class: "quiet refuse-all" }),
+  );
+}
+
+/** @param {LineAnswer[]} answers */
+function table(answers) {
+  return new Table({
+    caption: "Lines of the order, each with your answer",
+    kind: "answers",
+    rows: answers,
+    columns: [
+      { title: "Line", cell: (it) => it.line.line },
+      { title: "Article (GTIN)", cell: (it) => gtinAsPrinted(it.line.gtin), kind: "digits" },
+      { title: "Ordered", cell: (it) => figure(it.line.quantity), number: true },
+      { title: "Open", cell: (it) => (it.line.status ? figure(it.line.status.open) : "–"), number: true },
+      { title: "Your answer", kind: "choice-cell", cell: (it) => (it.waits ? it.choices : it.known) },
+      { title: "Changed to", cell: (it) => (it.waits ? it.quantity.element : "") },
+    ],
+  }).element;
+}
+
+// Whether the answer can be written, right or not.
+/** @param {LineAnswer[]} waiting */
+const isComplete = (waiting) =>
+  waiting.some((it) => it.answer) && waiting.every((it) => it.answer !== "changed" || !Number.isNaN(wholeNumber(it.quantity.value)));
+
+/** @param {LineAnswer[]} waiting @param {Field} document @param {HTMLElement} wrong */
+function checked(waiting, document, wrong) {
+  const fields = [...waiting.map((it) => it.quantity), document];
+  const right = waiting.map((it) => it.check()).every(Boolean) && check(document, wrongNumber(document.value));
+  const some = waiting.some((it) => it.answer);
+  wrong.replaceChildren(...(some ? [] : [saying("bad", "Choose an answer for at least one line.")]));
+  if (!right) focusFirstWrong(fields);
+  return right && some;
+}
+
+/** @param {import("../edi/order.js").Order} order @param {LineAnswer[]} answers @param {string} document @param {Date} moment */
+function messageOf(order, answers, document, moment) {
+  const given = answers.filter((it) => it.waits && it.answer);
+  const alike = given.length === answers.length && new Set(given.map((it) => it.answer)).size === 1 ? given[0].answer : null;
+  const purpose = alike === "accepted" ? "29" : alike === "refused" ? "27" : "4";
+  const lines = given.map((it) => ({
+    line: it.line.line,
+    gtin: it.line.gtin,
+    answer: it.answer ?? "accepted",
+    quantity: wholeNumber(it.quantity.value),
+  }));
+  const words = { document, date: day(moment), order: order.document, buyer: order.buyer, supplier: order.supplier, function: purpose };
+  return responseText({ ...words, lines: purpose === "4" ? lines : [] });
+}
+
+// What the hub refused, at the field that its code speaks of, by the status as it is now: what is answered or despatched meanwhile tells
+// which.
+/** @param {import("../session.js").Session} session @param {string} code
+ * @param {{ order: import("../edi/order.js").Order, answers: LineAnswer[], document: Field }} form */
+async function showAtItsPlace(session, code, { order, answers, document }) {
+  const given = answers.filter((it) => it.waits && it.answer);
+  const lines = linesWithStatus(order, (await session.status()).lines);
+  answers.forEach((it, place) => (it.line = lines[place]));
+  const right = given.map((it) => it.check()).every(Boolean);
+  const changed = given.filter((it) => it.answer === "changed");
+  const ofQuantity = right && ["B08", "M08"].includes(code);
+  if (ofQuantity) changed.forEach((it) => it.quantity.say("The hub does not take one of the changed quantities."));
+  if (code === "M02") document.say("The hub does not take this number.");
+  focusFirstWrong([...given.map((it) => it.quantity), document]);
+}
+
+/** @param {number} entry */
+function nextSteps(entry) {
+  return actions(
+    link("Announce a despatch", `despatch/${entry}`, { class: "button primary" }),
+    link("Back to the order", `entry/${entry}`, { class: "button" }),
+    link("Mailbox", "mailbox", { class: "button quiet" }),
+  );
+}

@@ -1,0 +1,142 @@
+// @ts-check
+// The mailbox: what is new, and apart from it what was marked as taken.
+
+import { dateInWords, preparedInWords } from "../edi/dates.js";
+import { TYPES } from "../hub/codes.js";
+import { button, element, exact, heading, link } from "../parts/dom.js";
+import { notUnderstood } from "../parts/raw.js";
+import { Table } from "../parts/table.js";
+
+/** @typedef {{ number: number, type: string, document: string, date: Text, sortDate: string, arrived: Text }} Row */
+
+const AT_ONCE = 20;
+
+/** @param {import("../start.js").Context} context */
+export async function mailboxScreen({ session }) {
+  const { entries, raw } = await session.untaken();
+  const rows = entries.reverse().map((it) => ({ ...it, date: new Text("…"), sortDate: "", arrived: new Text("…") }));
+  const table = new Table({
+    caption: "New entries of the mailbox",
+    kind: "mailbox",
+    columns: columns((row) => button("Mark as taken", () => take(row), { class: "quiet", "aria-label": `Mark ${row.document} as taken` })),
+    rows,
+    empty: "No new mail. What you marked as taken stands below.",
+  });
+  fillDates(session, rows);
+
+  /** @param {Row} row */
+  async function take(row) {
+    await session.hub.takeMail(row.number);
+    session.taken.add(row.number);
+    rows.splice(rows.indexOf(row), 1);
+    table.show(rows);
+    count.textContent = newOnes(rows.length);
+  }
+
+  const count = element("p", { class: "lead", role: "status" }, newOnes(rows.length));
+  return {
+    title: "Mailbox",
+    content: [
+      heading("Mailbox"),
+      count,
+      table.element,
+      raw.length ? notUnderstood("The page does not understand these lines of the list:", raw.join("\n")) : null,
+      takenPart(session, new Set(entries.map((it) => it.number))),
+    ],
+  };
+}
+
+/** @param {number} number */
+const newOnes = (number) => (number === 1 ? "1 new entry" : `${number} new entries`);
+
+/** @param {(row: Row) => Node} [action] @returns {import("../parts/table.js").Column<Row>[]} */
+function columns(action) {
+  const badge = (/** @type {Row} */ { type }) => element("span", { class: `badge ${type.toLowerCase()}` }, TYPES[type] ?? type);
+  return [
+    { title: "Number", cell: (it) => it.number, value: (it) => it.number },
+    { title: "Type", cell: badge, value: (it) => it.type },
+    { title: "Document", cell: (it) => link(exact(it.document), `entry/${it.number}`), value: (it) => it.document },
+    { title: "Date", cell: (it) => it.date, value: (it) => it.sortDate },
+    { title: "Came in", cell: (it) => it.arrived },
+    ...(action ? [{ title: "", cell: action, kind: "action" }] : []),
+  ];
+}
+
+// The list names no dates, so each entry is asked for its own, one after another.
+/** @param {import("../session.js").Session} session @param {Row[]} rows */
+async function fillDates(session, rows) {
+  for (const row of [...rows]) {
+    try {
+      const found = datesOf(await session.entry(row.number));
+      row.date.data = found.date;
+      row.sortDate = found.sortDate;
+      row.arrived.data = found.arrived;
+    } catch {
+      row.date.data = row.arrived.data = "not read";
+    }
+  }
+}
+
+/** @param {import("../session.js").Entry | null} entry */
+function datesOf(entry) {
+  const record = entry?.order ?? entry?.receipt;
+  const { interchange } = entry ?? {};
+  return {
+    date: record ? dateInWords(record.date, record.format) : "not understood",
+    sortDate: record?.date ?? "",
+    arrived: interchange ? preparedInWords(interchange.date, interchange.time) : "",
+  };
+}
+
+/** @param {import("../session.js").Session} session @param {Set<number>} untaken */
+function takenPart(session, untaken) {
+  /** @type {Row[]} */
+  const rows = [];
+  const words = { caption: "Entries marked as taken", empty: "Nothing was marked as taken." };
+  const table = new Table({ ...words, kind: "mailbox", columns: columns(), rows });
+  table.element.hidden = true;
+  let next = 0;
+  let begun = false;
+  const more = button("Show what was taken", show);
+
+  async function show() {
+    more.disabled = true;
+    if (!begun) next = await lastEntry(session, Math.max(0, ...untaken));
+    begun = true;
+    for (let found = 0; next > 0 && found < AT_ONCE; next -= 1) {
+      if (untaken.has(next) && !session.taken.has(next)) continue;
+      rows.push(rowOf(await session.entry(next), next));
+      found += 1;
+    }
+    table.show(rows);
+    table.element.hidden = false;
+    more.textContent = "Show earlier ones";
+    more.disabled = false;
+    more.hidden = next === 0;
+  }
+
+  const hint = element("p", { class: "hint" }, "Entries that you marked stay readable.");
+  return element("section", { class: "taken" }, element("h2", {}, "Taken"), hint, table.element, more);
+}
+
+/** @param {import("../session.js").Entry | null} entry @param {number} number @returns {Row} */
+function rowOf(entry, number) {
+  const type = entry?.interchange?.messages[0]?.type ?? "";
+  const document = (entry?.order ?? entry?.receipt)?.document ?? `Entry ${number}`;
+  const { date, sortDate, arrived } = datesOf(entry);
+  return { number, type, document, date: new Text(date), sortDate, arrived: new Text(arrived) };
+}
+
+// The number of the last entry: the hub lists only what is not taken, so it is looked for, by steps that double and then halve.
+/** @param {import("../session.js").Session} session @param {number} known */
+async function lastEntry(session, known) {
+  let step = 1;
+  while (await session.entry(known + step)) {
+    known += step;
+    step *= 2;
+  }
+  for (step = Math.floor(step / 2); step >= 1; step = Math.floor(step / 2)) {
+    if (await session.entry(known + step)) known += step;
+  }
+  return known;
+}

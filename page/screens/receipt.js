@@ -1,0 +1,80 @@
+// @ts-check
+// A receiving advice beside what was announced: for each pallet and article what was sent, what was received, and the difference.
+
+import { dateInWords, preparedInWords } from "../edi/dates.js";
+import { gtinAsPrinted } from "../edi/identifiers.js";
+import { sumsOf } from "../edi/receipt.js";
+import { figure, saying, terms } from "../parts/dom.js";
+import { difference } from "../parts/difference.js";
+import { Table } from "../parts/table.js";
+
+/** @typedef {import("../hub/replies.js").StatusPallet} StatusPallet */
+/** @typedef {import("../edi/receipt.js").ReceiptLine} ReceiptLine */
+/** @typedef {{ sscc: string, gtin: string, announced: number | null, now: StatusPallet | null, received: ReceiptLine }} Row */
+
+const REPLACES = "This advice replaces an earlier one (function 5): what was said of these pallets before counts no more.";
+
+/** @param {import("../edi/receipt.js").Receipt} receipt
+ * @param {import("../session.js").Entry} entry
+ * @param {{ pallets: StatusPallet[] }} status */
+export function receiptView(receipt, entry, status) {
+  const rows = receipt.units.flatMap((unit) => rowsOf(unit, status.pallets.filter((it) => it.sscc === unit.sscc)));
+  return [
+    terms([
+      ["From", receipt.buyer || "the retailer"],
+      ["Date of the advice", dateInWords(receipt.date, receipt.format)],
+      ["Came in", entry.interchange ? preparedInWords(entry.interchange.date, entry.interchange.time) : ""],
+    ]),
+    receipt.replaces && saying("plain", REPLACES),
+    new Table({ caption: "Pallets received, beside what was announced", columns: columns(), rows, sums: true }).element,
+    ...correctedSince(receipt, rows),
+  ];
+}
+
+// The rows of a pallet: each article that the advice names, and each that was announced and is not named.
+/** @param {import("../edi/receipt.js").ReceiptUnit} unit @param {StatusPallet[]} announced @returns {Row[]} */
+function rowsOf(unit, announced) {
+  const sums = sumsOf(unit);
+  const articles = [...new Set([...announced.map((it) => it.gtin), ...sums.keys()])].sort();
+  const nothing = (/** @type {string} */ gtin) => ({ gtin, accepted: 0, returned: 0, destroyed: 0 });
+  return articles.map((gtin) => {
+    const now = announced.find((it) => it.gtin === gtin) ?? null;
+    return { sscc: unit.sscc, gtin, announced: now && now.despatched, now, received: sums.get(gtin) ?? nothing(gtin) };
+  });
+}
+
+/** @param {ReceiptLine} it */
+const inAll = (it) => it.accepted + it.returned + it.destroyed;
+
+/** @returns {import("../parts/table.js").Column<Row>[]} */
+function columns() {
+  const quantity = (/** @type {string} */ title, /** @type {"accepted" | "returned" | "destroyed"} */ name) => ({
+    title,
+    cell: (/** @type {Row} */ it) => figure(it.received[name]),
+    value: (/** @type {Row} */ it) => it.received[name],
+    number: true,
+    sum: true,
+  });
+  const announced = (/** @type {Row} */ it) => it.announced ?? 0;
+  const lack = (/** @type {Row} */ it) => inAll(it.received) - announced(it);
+  return [
+    { title: "Pallet (SSCC)", cell: (it) => it.sscc, value: (it) => it.sscc, kind: "digits" },
+    { title: "Article (GTIN)", cell: (it) => gtinAsPrinted(it.gtin), value: (it) => it.gtin, kind: "digits" },
+    { title: "Announced", cell: (it) => (it.announced === null ? "–" : figure(it.announced)), value: announced, number: true, sum: true },
+    quantity("Accepted", "accepted"),
+    quantity("Returned", "returned"),
+    quantity("Destroyed", "destroyed"),
+    { title: "Difference", cell: (it) => difference(lack(it)), value: lack, number: true },
+  ];
+}
+
+// Where the status has other sums than this advice, a later one took its place.
+/** @param {import("../edi/receipt.js").Receipt} receipt @param {Row[]} rows */
+function correctedSince(receipt, rows) {
+  const kinds = /** @type {const} */ (["accepted", "returned", "destroyed"]);
+  const other = rows.filter(({ now, received }) => kinds.some((it) => now?.[it] !== received[it]));
+  const pallets = [...new Set(other.map((it) => it.sscc))];
+  if (!pallets.length) return [];
+  const named = `${pallets.length === 1 ? "pallet" : "pallets"} ${pallets.join(", ")}`;
+  return [saying("warn", `A later advice replaced what ${receipt.document} says of ${named}. The status has what counts now.`)];
+}

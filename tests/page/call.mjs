@@ -1,0 +1,7 @@
+// Calls functions of the page's modules: an array of a module, a name and words in JSON on standard input, an array of what they answer on
+// standard output.
+let input = "";
+for await (const piece of process.stdin.setEncoding("utf8")) input += piece;
+const answers = [];
+for (const [module, name, ...words] of JSON.parse(input)) answers.push((await import(`../../page/${module}`))[name](...words) ?? null);
+console.log(JSON.stringify(answers));

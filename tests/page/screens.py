@@ -1,0 +1,116 @@
+"""Each screen of the page as a person finds it: a hub with a day on it, and the way to each screen."""
+import os
+
+from stage import ALPHA, BETA, DAY, RETAILER, gtin, interchange, message, order, released, signed_in
+
+
+def furnished(stage):
+    """Some days: orders of several lines, answers, despatches, receipts of which one corrects another, and a cancellation."""
+    by = {"1-orders": RETAILER, "2-answer-of-a": ALPHA, "4-despatch-of-a": ALPHA, "7-receipts": RETAILER, "8-correction": RETAILER}
+    for folder, who in by.items():
+        for name in sorted(os.listdir(os.path.join(DAY, folder))):
+            with open(os.path.join(DAY, folder, name), encoding="latin-1") as file:
+                text = file.read()
+            # what supplier B would have to announce first is left out
+            if BETA not in text or folder == "1-orders":
+                stage.upload(who, text)
+    texts = ["FTX+AAI+++" + released("Please deliver to gate 3, before noon.")]
+    stage.upload(RETAILER, interchange(RETAILER, "2001", order("128590", [120, 60, 36, 24, 48, 12, 240, 30, 18, 6], texts=texts)))
+    stage.upload(RETAILER, interchange(RETAILER, "2002", order("128591", [80, 40])))
+    parties = ("DTM+137:20250606:102", f"NAD+BY+{RETAILER}::9", f"NAD+SU+{ALPHA}::9")
+    line = ("CPS+1", "GIN+BJ+340123455000000036", f"LIN+1++{gtin(1)}:SRV", "QTY+12:30", "RFF+ON:128591:1")
+    stage.upload(ALPHA, interchange(ALPHA, "3001", message("DESADV:D:01B:UN:EAN007", "BGM+351+A-D2+9", *parties, *line)))
+    assert stage.ask(RETAILER, "cancellations", f"{ALPHA}\nC9\n128591\n2\n15\n") == "accepted\n"
+    stage.ask(ALPHA, "mail/item/1/taken", "")
+
+
+def wait_dates(browser):
+    browser.until_says("June 2025", "table.mailbox tbody tr:last-child")
+
+
+def taken(browser):
+    browser.press("Show what was taken")
+    browser.until_says("128576", ".taken")
+
+
+def mailbox(browser):
+    wait_dates(browser)
+    taken(browser)
+
+
+def answer(browser):
+    browser.press("Accept all 10 lines")
+    browser.type(browser.labelled("Changed quantity of line 2"), "40")
+    browser.run("document.activeElement.blur()")
+
+
+def despatch(browser):
+    browser.type(browser.labelled("Your GS1 company prefix"), "40123455")
+    browser.keys("tab")
+    browser.press("Put all that is open on it")
+    browser.run("scrollTo(0, 0); document.activeElement.blur()")
+
+
+def sent(browser):
+    """An answer that the hub refused: somebody answered meanwhile."""
+    browser.press("Accept all 2 lines")
+    browser.press("Send answer")
+    browser.until_says("The hub said")
+
+
+def no_answer(browser):
+    browser.press("Accept all 10 lines")
+    browser.press("Send answer")
+    browser.until_says("No answer from the hub")
+
+
+def uploaded(browser):
+    text = interchange(RETAILER, "4001", order("128600", [10], supplier=BETA), order("128577", [10], supplier=BETA, reference=2))
+    browser.drop("orders-of-today.edi", text)
+    browser.drop("letter.txt", "no EDIFACT")
+    browser.until_says("Refused, and nothing of it was taken.")
+
+
+def cancel(browser):
+    browser.type(browser.labelled("Quantity to cancel"), "999")
+    browser.press("Send cancellation")
+    browser.until_says("The hub said")
+
+
+def nothing(_browser):
+    """The screen as it opens."""
+
+
+# each screen: who sees it, its address, what it says when it is there, and what is done on it
+SCREENS = {
+    "sign-in": (None, "", "Your key stays in the memory of this tab", nothing),
+    "mailbox": (ALPHA, "mailbox", "new entries", mailbox),
+    "order": (ALPHA, "entry/4", "gate 3", nothing),
+    "answer": (ALPHA, "answer/4", "Accept all 10 lines", answer),
+    "despatch": (ALPHA, "despatch/4", "Pallet 1", despatch),
+    "receipt": (ALPHA, "entry/2", "A later advice replaced", nothing),
+    "status": (ALPHA, "status", "Sum of", nothing),
+    "sent": (ALPHA, "answer/5", "Accept all 2 lines", sent),
+    "no-answer": (ALPHA, "answer/4", "Accept all 10 lines", no_answer),
+    "upload": (RETAILER, "upload", "Choose .edi files", uploaded),
+    "supplier": (RETAILER, f"supplier/{ALPHA}", "Cancel…", nothing),
+    "cancel": (RETAILER, f"cancel/{ALPHA}/128591/2", "25 are open", cancel),
+}
+
+
+def lost(handler, _body):
+    handler.cut()
+
+
+def opened(browser, stage, name):
+    """This screen, as SCREENS says."""
+    who, address, said, act = SCREENS[name]
+    if who is None:
+        browser.go("about:blank")
+        browser.go(stage.address)
+    elif browser.run("return document.querySelector('.who .digits')?.textContent ?? ''") != who:
+        signed_in(browser, stage, who)
+    browser.run("location.hash = arguments[0]", address)
+    browser.until_says(said)
+    stage.proxy.breaks[:] = [lost, lost] if name == "no-answer" else []
+    act(browser)

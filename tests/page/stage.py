@@ -1,0 +1,185 @@
+"""What a trial of the page stands on: a hub of the example register in a folder of its own, the proxy before it, which keeps what was sent,
+and who signs in where."""
+import http.client
+import importlib.util
+import os
+import shutil
+import subprocess
+import sys
+import tempfile
+import threading
+from datetime import datetime, timezone
+
+ROOT = os.path.dirname(os.path.dirname(os.path.dirname(os.path.abspath(__file__))))
+EXAMPLES = os.path.join(ROOT, "examples")
+DAY = os.path.join(EXAMPLES, "day")
+sys.path.insert(0, os.path.join(EXAMPLES, "page"))
+
+from proxy import Handler, Proxy  # noqa: E402
+
+HUB, RETAILER, ALPHA, BETA = "5412345000006", "5412345000013", "4012345500004", "8712345000004"
+KEYS = {RETAILER: "retail-key", ALPHA: "alpha-key-1", BETA: "beta-key-1"}
+
+
+def module(name, *path):
+    """A Python file that is no module of a package, as one."""
+    spec = importlib.util.spec_from_file_location(name, os.path.join(*path))
+    found = importlib.util.module_from_spec(spec)
+    spec.loader.exec_module(found)
+    return found
+
+
+free_port = module("page_try", EXAMPLES, "page", "try.py").free_port
+
+
+class Keeping(Handler):
+    """The proxy's handler, which keeps each body that is sent, and whose way to the hub and back a trial can break."""
+
+    def asked(self, body):
+        if body is not None:
+            self.server.sent.append((self.path, body))
+        breaks = self.server.breaks.pop(0) if body and self.server.breaks else None
+        return breaks(self, body) if breaks else super().asked(body)
+
+    def passed(self, body):
+        """What the hub answers, whatever becomes of it then."""
+        return super().asked(body)
+
+    def cut(self, sent=b""):
+        """Ends the connection, behind these bytes."""
+        self.wfile.write(sent)
+        self.wfile.flush()
+        self.connection.close()
+        raise ConnectionAbortedError
+
+    def handle(self):
+        # a connection that a trial cut has nothing more to be flushed
+        try:
+            super().handle()
+        except (ConnectionError, ValueError):
+            self.close_connection = True
+
+    def pass_on(self, body):
+        try:
+            status, answer = self.asked(body)
+        except ConnectionAbortedError:
+            self.close_connection = True
+            return
+        except OSError:
+            status, answer = 502, b"the hub does not answer\n"
+        self.answer(status, answer)
+
+    def finish(self):
+        try:
+            super().finish()
+        except (ConnectionError, ValueError):
+            pass
+
+
+class Stage:
+    def __init__(self, program):
+        self.program = program
+        self.folder = tempfile.mkdtemp()
+        self.file = os.path.join(self.folder, "hub.db")
+        self.hub = None
+        self.command("init", "--register", os.path.join(EXAMPLES, "register.toml"))
+        self.begin_hub()
+        self.proxy = Proxy(0, self.hub_port, Keeping)
+        self.proxy.sent, self.proxy.breaks = [], []
+        threading.Thread(target=self.proxy.serve_forever, daemon=True).start()
+        self.address = self.proxy.address
+
+    def __enter__(self):
+        return self
+
+    def __exit__(self, *_):
+        self.proxy.shutdown()
+        self.proxy.server_close()
+        self.end_hub()
+        shutil.rmtree(self.folder, ignore_errors=True)
+
+    @property
+    def sent(self):
+        """The bodies that were sent, each with its path."""
+        return self.proxy.sent
+
+    def command(self, name, *words):
+        """What a command over the hub's file prints; the hub must not run."""
+        ran = subprocess.run([self.program, name, "--db", self.file, *words], stdout=subprocess.PIPE, check=True)
+        return ran.stdout.decode("latin-1")
+
+    def begin_hub(self):
+        self.hub_port = free_port()
+        words = ["serve", "--db", self.file, "--port", str(self.hub_port), "--count", "1000000"]
+        self.hub = subprocess.Popen([self.program, *words], stdout=subprocess.PIPE)
+        assert self.hub.stdout.readline().startswith(b"listening"), "the hub does not listen"
+        if hasattr(self, "proxy"):
+            self.proxy.hub_port = self.hub_port
+
+    def end_hub(self):
+        if self.hub:
+            self.hub.kill()
+            self.hub.communicate()
+            self.hub = None
+
+    def ask(self, who, path, body=None):
+        """What the hub answers a party, without the page."""
+        hub = http.client.HTTPConnection("127.0.0.1", self.hub_port, timeout=60)
+        data = body.encode("latin-1") if isinstance(body, str) else body
+        hub.request("GET" if body is None else "POST", f"/p/{who}/{path}", data, {"X-Hub-Key": KEYS[who]})
+        answer = hub.getresponse().read().decode("latin-1")
+        hub.close()
+        return answer
+
+    def upload(self, who, text):
+        """Uploads without the page, and sees that all of it is accepted."""
+        answer = self.ask(who, "interchanges", text)
+        assert all(line.endswith(" accepted") for line in answer.splitlines()[1:]) and answer.startswith("interchange"), answer
+        return answer
+
+
+def signed_in(browser, stage, who):
+    """A tab that is loaded anew, and its first screen."""
+    sign_in(browser, stage, who)
+    browser.one("nav a[aria-current]")
+
+
+def sign_in(browser, stage, who, key=None):
+    """The button is pressed, whatever comes of it."""
+    browser.go("about:blank")
+    browser.go(stage.address)
+    browser.type(browser.labelled("GLN"), who)
+    browser.type(browser.labelled("Key"), key or KEYS[who])
+    browser.press("Sign in")
+
+
+def milliseconds(*moment):
+    """A moment at UTC."""
+    return int(datetime(*moment, tzinfo=timezone.utc).timestamp() * 1000)
+
+
+def released(text):
+    return "".join("?" + it if it in "?'+:" else it for it in text)
+
+
+def message(kind, *segments, reference=1):
+    return f"UNH+{reference}+{kind}'" + "".join(it + "'" for it in segments) + f"UNT+{len(segments) + 2}+{reference}'"
+
+
+def interchange(sender, reference, *messages, to=HUB, prepared="250603:0915"):
+    return f"UNA:+.? 'UNB+UNOC:3+{sender}:14+{to}:14+{prepared}+{reference}'{''.join(messages)}UNZ+{len(messages)}+{reference}'"
+
+
+def gtin(number):
+    """The article of this number, of a company of no account."""
+    digits = f"4000862{number:05d}"
+    total = sum(int(it) * (3 if place % 2 else 1) for place, it in enumerate(digits))
+    return digits + str(-total % 10)
+
+
+def order(number, quantities, supplier=ALPHA, reference=1, texts=()):
+    """An order of so much of one article after the other."""
+    lines = [it for place, quantity in enumerate(quantities, 1) for it in (f"LIN+{place}++{gtin(place)}:SRV", f"QTY+21:{quantity}")]
+    head = [f"BGM+220+{released(number)}+9", "DTM+137:20250603:102", "DTM+2:20250606:102", *texts]
+    parties = [f"NAD+BY+{RETAILER}::9", f"NAD+SU+{supplier}::9"]
+    return message("ORDERS:D:01B:UN:EAN010", *head, *parties, *lines, "UNS+S", f"CNT+2:{len(quantities)}", reference=reference)

@@ -1,0 +1,52 @@
+"""`make page-test`: the page in headless Chromium, driven by its driver, and its readers and writers in Node: `python3 test.py PROGRAM
+[NAME]`, of which the last tries those alone whose name has this in it. The last line is `N passed, M failed`."""
+import os
+import sys
+import time
+import traceback
+
+import access
+import agreement
+import breaks
+import clicks
+import day
+import hostile_texts
+import keys
+import many_lines
+import refusals_told
+import small_parts
+import trying
+from driver import Browser
+
+# what needs no browser, and what does
+ALONE = {**small_parts.TRIALS, **trying.TRIALS, **agreement.TRIALS}
+PARTS = (day, keys, breaks, hostile_texts, refusals_told, many_lines, access, clicks)
+IN_BROWSER = {name: trial for part in PARTS for name, trial in part.TRIALS.items()}
+
+
+def tried(name, trial, *words):
+    begun = time.monotonic()
+    try:
+        said = trial(*words)
+    except Exception:  # noqa: BLE001: whatever goes wrong in a trial is its failure
+        print(f"{name}: FAILED\n{traceback.format_exc()}", flush=True)
+        return False
+    print(f"{name}: {said}, {time.monotonic() - begun:.1f} s", flush=True)
+    return True
+
+
+def main(program, some=""):
+    results = [tried(name, trial, program) for name, trial in ALONE.items() if some in name]
+    chosen = {name: trial for name, trial in IN_BROWSER.items() if some in name}
+    if chosen:
+        with Browser() as browser:
+            for name, trial in chosen.items():
+                browser.look()
+                browser.run_clock()
+                results.append(tried(name, trial, browser, program))
+    print(f"{sum(results)} passed, {len(results) - sum(results)} failed")
+    return 0 if results and all(results) else 1
+
+
+if __name__ == "__main__":
+    sys.exit(main(os.path.abspath(sys.argv[1]), *sys.argv[2:3]))
