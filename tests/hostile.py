@@ -5,6 +5,8 @@
 - An import of 999 orders is killed at 100 moments spread over it and made again to its end: mailbox, status and every table are
   those of one that nobody disturbed, and SQLite finds the file whole after each kill.
 - `serve` is killed at 100 moments while a client uploads: every answer that the client had read is kept.
+- An import and a server are halted at changes of their files, a copy of the log into the file among them, and copied by the script of
+  examples/backup: each copy has every message that was told of and at most one more, and the same inputs over it end with the same tables.
 - The disk is full: a file may not grow past some size. Each command, a founding too, ends with its named fault or `stopped`, status 3, nothing is
   done in part, and the same again with room goes through.
 - Each allocation of the program is refused in turn, command by command, `serve` with an upload among them: it says `memory`, or
@@ -41,6 +43,7 @@ from migrations import kept
 from refusals import SHIM, refusals
 from registers import GAMMA, of_prefixes
 from serving import Server, all_of, free_port, get, listed, upload
+from stops import SHIM as STOP
 
 HEAP = os.path.join(os.path.dirname(os.path.abspath(__file__)), "heap.c")
 ORDERS, MOMENTS = 999, 100
@@ -48,6 +51,9 @@ ORDERS, MOMENTS = 999, 100
 PAGE, CHANGES = 4096, 12
 # how many of the kills have to come in the midst of an import or of what a server does, and how many different counts they keep
 IN_THE_MIDST, DIFFERENT = 20, 10
+# how many orders come while copies are made, and about how many copies
+COPIED, HALTS = 500, 60
+BACKUP = os.path.join(os.path.dirname(os.path.dirname(os.path.abspath(__file__))), "examples", "backup", "backup.sh")
 TABLES = ("order", "line", "advice", "pallet", "content", "receipt", "remembered", "mail", "hub", "supplier", "prefix")
 STORE_FAULTS = {b"store disk\n", b"store version\n", b"store unclean\n", b"store memory\n"}
 
@@ -294,6 +300,167 @@ def servers_killed(program, top):
             return why
     print(f"a server killed at {MOMENTS} moments; its client had read {min(counts)} to {max(counts)} answers, {len(set(counts))} different counts, all of them kept")
     return None if sum(count > 0 for count in counts) >= IN_THE_MIDST and len(set(counts)) >= DIFFERENT else "the kills did not come while the client uploaded"
+
+
+def halts(child):
+    """Each time that a child halts, until it has ended."""
+    while True:
+        _, state = os.waitpid(child.pid, os.WUNTRACED)
+        if not os.WIFSTOPPED(state):
+            child.returncode = os.waitstatus_to_exitcode(state)
+            return
+        yield
+
+
+def backed_up(pid, folder, copies):
+    """A copy of a running program's files, as the operator makes it."""
+    ran = subprocess.run(["sh", BACKUP, str(pid), os.path.join(folder, NAME), copies], capture_output=True, text=True, timeout=60)
+    if ran.returncode or ran.stderr:
+        raise OSError(f"no backup: {ran.returncode}, {ran.stderr}")
+    return ran.stdout.strip()
+
+
+def is_between(folder):
+    """Whether the log is being copied into the file: the last frame of some page stands there already, and that of another does not."""
+    pages, path = {}, os.path.join(folder, f"{NAME}-wal")
+    with open(os.path.join(folder, NAME), "rb") as file:
+        data = file.read()
+    if not os.path.exists(path):
+        return False
+    with open(path, "rb") as file:
+        log = file.read()
+    for at in range(32, len(log) - 24 - PAGE + 1, 24 + PAGE):
+        # the frames of an earlier round have other salts
+        if log[at + 8 : at + 16] != log[16:24]:
+            break
+        pages[int.from_bytes(log[at : at + 4], "big")] = log[at + 24 : at + 24 + PAGE]
+    there = sum(data[(number - 1) * PAGE : number * PAGE] == page for number, page in pages.items())
+    return 0 < there < len(pages)
+
+
+def kept_in(copy):
+    """How many of the messages 0, 1, .. a copy remembers; or what is wrong with it. A copy of it is looked at."""
+    looked = shutil.copytree(copy, copy + "looked")
+    why = is_whole(looked)
+    base = sqlite3.connect(os.path.join(looked, NAME))
+    found = sorted(int(control[1:]) for (control,) in base.execute("SELECT CAST(control AS TEXT) FROM remembered"))
+    base.close()
+    shutil.rmtree(looked)
+    return why or (len(found) if found == [*range(len(found))] else f"it remembers {found!r:.100}")
+
+
+def copies_are_right(copies, again, wanted):
+    """What is wrong with copies, if anything. Each was made when so many messages were told of, and so many at most were done. `again`
+    brings the same inputs to a hub over a copy that has so many of them, and says what is wrong with its answers. Then how many
+    messages each has, and how many came while the log was copied into the file."""
+
+    def tried(one):
+        copy, told_of, most = one
+        between, kept = is_between(copy), kept_in(copy)
+        if isinstance(kept, str) or not told_of <= kept <= most:
+            return f"{told_of} told of, {kept} kept"
+        why = again(copy, kept)
+        return why or ((kept, between) if rows_of(copy) == wanted and not is_whole(copy) else f"{kept} kept, then other rows")
+
+    with ThreadPoolExecutor(len(os.sched_getaffinity(0))) as pool:
+        found = list(pool.map(tried, copies))
+    wrong = [it for it in found if isinstance(it, str)]
+    if wrong:
+        return f"{len(wrong)} of {len(copies)} copies are wrong, first {wrong[0]}", (), 0
+    return None, [kept for kept, _ in found], sum(between for _, between in found)
+
+
+def of_files(program, top, count):
+    """A folder with a founded hub, and so many orders in as many files."""
+    folder = new_folder(program, top)
+    names = {f"in/{k:04}.edi": interchange(RETAILER, f"U{k}", order(str(k))) for k in range(count)}
+    put(folder, names)
+    return folder
+
+
+def halting(top, folder, **more):
+    """The variables with which a program halts at some changes of its files."""
+    shim = os.path.join(top, "stop.so")
+    if not os.path.exists(shim):
+        subprocess.run(["cc", "-O2", "-shared", "-fPIC", "-o", shim, STOP, "-ldl"], check=True)
+    return {**os.environ, "LD_PRELOAD": shim, "STOP_FILE": os.path.join(folder, NAME), **more}
+
+
+def changes_of(program, words, folder, top):
+    """How many changes of its files a command makes."""
+    count = os.path.join(top, "changes")
+    if run(program, words, folder, env=halting(top, folder, COUNT=count))[0]:
+        return 0
+    with open(count, encoding="ascii") as file:
+        return int(file.read().split()[0])
+
+
+def told_well(copies, kept, between, what):
+    """Says what the copies were, and whether too few of them came in the midst."""
+    midst = sum(0 < it < COPIED for it in kept)
+    print(f"{what}, halted and copied {len(copies)} times, {midst} in its midst, {between} while the log goes into the file", end="; ")
+    print(f"from {min(kept)} to {max(kept)} orders are kept, {len(set(kept))} different counts")
+    return None if midst >= IN_THE_MIDST and len(set(kept)) >= DIFFERENT and between >= 3 else "the copies did not come in the midst"
+
+
+def imports_copied(program, top):
+    whole, folder = of_files(program, top, COPIED), of_files(program, top, COPIED)
+    changes = changes_of(program, IMPORT, whole, top)
+    wanted, copies, made = rows_of(whole), [], tempfile.mkdtemp(dir=top)
+    with open(os.path.join(folder, "printed"), "wb") as printed:
+        child = subprocess.Popen([program, *IMPORT], cwd=folder, stdout=printed, env=halting(top, folder, HALT=str(changes // HALTS)))
+    for _ in halts(child):
+        with open(os.path.join(folder, "printed"), "rb") as printed:
+            told_of = printed.read().count(b" accepted\n")
+        copies.append((backed_up(child.pid, folder, made), told_of, told_of + 1))
+    if child.returncode or rows_of(folder) != wanted:
+        return f"the import that is halted ends with {child.returncode}, or with other rows"
+
+    def again(copy, kept):
+        status, printed, error = run(program, over("import", RETAILER, "--folder", os.path.join(folder, "in")), copy)
+        words = [line.rsplit(b" ", 1)[-1] for line in printed.split(b"\n")[2::3]]
+        wanted_words = [b"repeated"] * kept + [b"accepted"] * (COPIED - kept)
+        return None if (status, error, words) == (0, b"", wanted_words) else f"again: {status}, {error!r}, {words!r:.200}"
+
+    why, kept, between = copies_are_right(copies, again, wanted)
+    return why or told_well(copies, kept, between, f"an import of {COPIED} orders")
+
+
+def orders_served(server, counts, kept=0):
+    """Uploads all orders, of which the first so many are there, and counts those that are answered. What is wrong, if anything."""
+    for k in range(COPIED):
+        _, request, _, body = one_order(k)
+        found = server.ask(request)
+        if found != response(200, body.replace("accepted", "repeated") if k < kept else body):
+            return f"order {k} is answered {found!r:.200}"
+        counts.append(k)
+    return None
+
+
+def servers_copied(program, top):
+    whole, folder, made = of_files(program, top, COPIED), new_folder(program, top), tempfile.mkdtemp(dir=top)
+    changes = changes_of(program, IMPORT, whole, top)
+    wanted, answered, copies = rows_of(whole), [], []
+    server = Server(program, COPIED, folder=folder, env=halting(top, folder, HALT=str(changes // HALTS)))
+    with ThreadPoolExecutor(2) as pool:
+        asked = pool.submit(orders_served, server, answered)
+        lines = pool.submit(server.child.stdout.read)
+        for _ in halts(server.child):
+            # what was answered is read by then
+            time.sleep(0.05)
+            told_of = len(answered)
+            copies.append((backed_up(server.child.pid, folder, made), told_of, told_of + 1))
+        why = asked.result() or (None if lines.result().count(b" 200\n") == COPIED else "the server did not answer all")
+    if why or server.child.returncode or rows_of(folder) != wanted:
+        return why or f"the server that is halted ends with {server.child.returncode}, or with other rows"
+
+    def again(copy, kept):
+        it = Server(program, COPIED, folder=copy)
+        why = orders_served(it, [], kept=kept)
+        return why or (None if it.end()[0] == 0 else "a server over a copy ends otherwise")
+
+    why, kept, between = copies_are_right(copies, again, wanted)
+    return why or told_well(copies, kept, between, f"a server that takes {COPIED} orders")
 
 
 def one_order(k):
@@ -671,6 +838,7 @@ def script_refused(scripts, top):
 
 # what is tried of the program, and of the program that plays scripts and the tests
 TRIALS = (files_damaged, disks_full, migrations_on_full_disks, founding_refused, migration_refused, memory_refused, serving_refused, listed_in_little, foundings_killed, migrations_killed, imports_killed, servers_killed)
+TRIALS += (imports_copied, servers_copied)
 OF_SCRIPTS = (script_refused, calls_refused)
 
 

@@ -1,10 +1,12 @@
 /* Loaded before the C library: the program ends at the change of a database file or its log whose number is in STOP.
    Of a write that is stopped, half of the bytes are written where TORN is set. Where LOST is set, the files are then as
-   they were when they were last synced. Where COUNT names a file, the number of changes is written there at the end, and how many of them were syncs. */
+   they were when they were last synced. Where HALT is a number, the program halts at each change whose number is a multiple of
+   it, until it is sent SIGCONT. Where COUNT names a file, the number of changes is written there at the end, and how many of them were syncs. */
 #define _GNU_SOURCE
 #include <dlfcn.h>
 #include <fcntl.h>
 #include <limits.h>
+#include <signal.h>
 #include <stdio.h>
 #include <stdlib.h>
 #include <string.h>
@@ -69,9 +71,10 @@ static void stop(void) {
 /* Whether this change is the one at which the program ends. */
 static int is_last(int fd) {
     char path[PATH_MAX];
-    const char *number = getenv("STOP");
+    const char *number = getenv("STOP"), *every = getenv("HALT");
     if (!is_kept(fd, path)) return 0;
     changes++;
+    if (every && changes % atol(every) == 0) raise(SIGSTOP);
     return number && changes == atol(number);
 }
 
