@@ -9,6 +9,7 @@ from functions import ROOT
 
 # the most memory that a check is taken to need, in bytes
 CHECK_MEMORY = 5 << 30
+PARTS = ("src", "specs", "proofs")
 # one crate's proved work is taken over at a time, and not while it is copied
 TAKEN_OVER = threading.Lock()
 
@@ -32,13 +33,12 @@ def run(words, folder):
 
 
 def text_copied(room):
-    """A copy of the tree's crates, without their edits."""
-    asked = ["git", "ls-files", "-z", "--cached", "--others", "--exclude-standard"]
-    listed = subprocess.run(asked, cwd=ROOT, stdout=subprocess.PIPE, text=True, check=True)
-    for path in filter(None, listed.stdout.split("\0")):
-        if path.startswith("crates") and "/must-fail/" not in path and "/wrong/" not in path and os.path.isfile(os.path.join(ROOT, path)):
-            os.makedirs(os.path.dirname(os.path.join(room, path)), exist_ok=True)
-            shutil.copy2(os.path.join(ROOT, path), os.path.join(room, path))
+    """A copy of the tree's crates, without their edits and what checks left."""
+    shutil.copy2(os.path.join(ROOT, "crates.txt"), room)
+    for crate in os.listdir(os.path.join(ROOT, "crates")):
+        for part in PARTS:
+            if os.path.isdir(os.path.join(ROOT, "crates", crate, part)):
+                shutil.copytree(os.path.join(ROOT, "crates", crate, part), os.path.join(room, "crates", crate, part))
 
 
 def copied(room, anew):
@@ -71,7 +71,7 @@ def lanes():
 
 def library_proved(crate):
     """Proves a crate's library in a copy of the tree, since a check locks all that it stands on, and takes over the work.
-    Says why it is not proved."""
+    Leaves what the check printed in the crate's out/log, and says why it is not proved."""
     with room_beside() as room:
         copied(room, {crate})
         status, lines = run(["lib", "--jobs", "1"], os.path.join(room, "crates", crate))
@@ -81,4 +81,7 @@ def library_proved(crate):
             with TAKEN_OVER:
                 shutil.rmtree(work, ignore_errors=True)
                 os.rename(os.path.join(room, "crates", crate, "out", part), work)
-        return lines[-1] if status else ""
+        os.makedirs(os.path.join(ROOT, "crates", crate, "out"), exist_ok=True)
+        with open(os.path.join(ROOT, "crates", crate, "out", "log"), "w", encoding="utf-8") as log:
+            log.writelines(f"{line}\n" for line in lines)
+        return (lines[-1] or f"rt ended with {status}") if status else ""

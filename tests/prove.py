@@ -3,8 +3,9 @@
     python3 tests/prove.py PROGRAM [WORD ..]
 
 The program is run once, with these words, as it is built. Prints a line for each crate as it is proved: its place among all, its name
-and the seconds that it took, or `as before` where nothing has changed since it was proved. While a crate takes long, a line every half
-minute says how many of its functions are checked."""
+and the seconds that it took, or `as before` where nothing has changed since it was proved; the program's own line has its seconds
+always. Where nothing ends for half a minute, a line says what is being proved and for how long, and of the program itself how many of
+its functions are checked. Of a crate that is not proved it prints what the check says, which stands in its out/log too."""
 import os
 import re
 import shutil
@@ -49,11 +50,12 @@ class Proving:
         if not why:
             self.tell(crate, "as before" if before and stamp(crate) == before else f"{time.time() - begun:5.0f} s")
             self.proved.add(crate)
-        return f"{crate} is not proved: {why}" if why else ""
+            return ""
+        return f"{said_of(crate)}\n{crate} is not proved: {why}"
 
     def libraries(self):
-        """Proves all libraries, each once those below it are proved. Why one is not, or nothing."""
-        running, failed, most = set(), "", lanes()
+        """Proves all libraries, each once those below it are proved. Why some are not, or nothing."""
+        running, failed, most = set(), [], lanes()
         with ThreadPoolExecutor(most) as pool:
             while True:
                 ready = [it for it in self.left if self.below[it] <= self.proved] if not failed else []
@@ -61,9 +63,9 @@ class Proving:
                     self.left.remove(crate)
                     running.add(pool.submit(self.library, crate))
                 if not running:
-                    return failed
+                    return "\n".join(failed)
                 done, running = wait(running, timeout=SILENCE, return_when=FIRST_COMPLETED)
-                failed = next(filter(None, (it.result() for it in done)), failed)
+                failed += filter(None, (it.result() for it in done))
                 if not done:
                     waited = ", ".join(f"{it} {time.time() - since:.0f} s" for it, since in list(self.begun.items()))
                     print(f"    still at {waited}", flush=True)
@@ -84,6 +86,12 @@ class Proving:
         else:
             self.tell(program, f"{time.time() - begun:5.0f} s")
         return status
+
+
+def said_of(crate):
+    """What the check of a crate printed, but for what it says of the libraries."""
+    with open(os.path.join(ROOT, "crates", crate, "out", "log"), encoding="utf-8") as lines:
+        return "".join(it for it in lines if not it.startswith(("statements ", "logic ", "checked "))).rstrip("\n")
 
 
 def ended(child):
@@ -115,4 +123,7 @@ def main(words):
 
 
 if __name__ == "__main__":
-    sys.exit(main(sys.argv[1:]))
+    try:
+        sys.exit(main(sys.argv[1:]))
+    except KeyboardInterrupt:
+        sys.exit(130)

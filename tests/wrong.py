@@ -13,8 +13,9 @@ and that counts.
 
 What was refused is kept in crates/NAME/out/refused, under a sum of the edit and of all that it was tried on, and is not tried
 again, and of what a library was proved in crates/NAME/out/proved: so a run goes on where the last one was stopped. A crate of
-which each edit was refused has its line in tests/refused.txt, with the number of its edits and a sum of theirs, which is kept
-with the tree: while that sum is theirs they are not tried again on any machine. `--anew` looks at none of this.
+which each edit was refused has its line in tests/refused.txt, with the number of its edits and a sum of theirs; of another
+crate each edit that was refused has one, with the beginning of its own sum. They are kept with the tree: while a sum is right,
+its edits are not tried again on any machine. `--anew` looks at none of this.
 
 Prints each edit that is not refused and each that is refused by names alone (which says little of the contract). The last line
 is `N refused, K of them by names alone, M not`, and the status is 1 where M is not 0."""
@@ -29,15 +30,16 @@ import time
 from concurrent.futures import FIRST_COMPLETED, ThreadPoolExecutor, wait
 from dataclasses import dataclass
 
-from copies import copied, crates, lanes, library_proved, linked, room_beside, run
+from copies import PARTS, copied, crates, lanes, library_proved, linked, room_beside, run
 from functions import ROOT, edits, functions_of, pairs_of, sources
 
-PARTS = ("src", "specs", "proofs")
 # an error of a proof that names what an edit took away
 BY_NAMES = r"(\./)?proofs/.*(has no field|is not in scope|has no `|was not admitted)"
 PLACE = re.compile(r"(?:note: )?(?:\./)?(\S+?):(\d+):\d+: ")
 REFUSED, NAMES_ALONE, NOT_REFUSED = "refused", "refused by names alone", "not refused"
-# the crates of which each edit was refused, as the tree keeps it
+# so much of a sum tells an edit from all others
+SHORT = 16
+# what was refused, as the tree keeps it
 TOLD = os.path.join(ROOT, "tests", "refused.txt")
 
 
@@ -69,8 +71,10 @@ class Kept:
     def __init__(self, below, anew):
         """`anew`: the crates of which nothing is known."""
         self.below, self.lock, self.known = below, threading.Lock(), {}
-        with open(TOLD, encoding="utf-8") if os.path.isfile(TOLD) else open(os.devnull, encoding="utf-8") as lines:
-            self.whole = {name: total for name, _, total in map(str.split, lines) if name not in anew}
+        with open(TOLD if os.path.isfile(TOLD) else os.devnull, encoding="utf-8") as lines:
+            told = [line.split() for line in lines]
+        self.whole = {it[0]: it[2] for it in told if len(it) == 3 and it[0] not in anew}
+        self.single = {it[1] for it in told if len(it) == 2 and it[0].partition("/")[0] not in anew}
         for crate in below:
             is_there = crate not in anew and os.path.isfile(self.place(crate))
             with open(self.place(crate) if is_there else os.devnull, encoding="utf-8") as lines:
@@ -122,15 +126,20 @@ class Kept:
         return hashlib.sha256("".join(sorted(self.key(it) for it in library(crate))).encode()).hexdigest()
 
     def told(self, wrong):
-        return REFUSED if self.whole.get(wrong.crate) == self.total(wrong.crate) else self.known.get(self.key(wrong))
+        key = self.key(wrong)
+        is_told = self.whole.get(wrong.crate) == self.total(wrong.crate) or key[:SHORT] in self.single
+        return REFUSED if is_told else self.known.get(key)
 
     def keep_whole(self):
-        """Writes which crates had each of their edits refused, as these stand."""
+        """Writes of which crates each edit was refused, as these stand, and of the others which."""
         with open(TOLD, "w", encoding="utf-8") as file:
             for crate in self.below:
                 edits_of = list(library(crate))
-                if edits_of and all(self.told(it) == REFUSED for it in edits_of):
+                refused = [it for it in edits_of if self.told(it) == REFUSED]
+                if edits_of and refused == edits_of:
                     file.write(f"{crate} {len(edits_of)} {self.total(crate)}\n")
+                else:
+                    file.writelines(f"{crate}/{it.name} {self.key(it)[:SHORT]}\n" for it in refused)
 
     def keep(self, wrong, told):
         with self.lock, open(self.place(wrong.crate), "a", encoding="utf-8") as file:
