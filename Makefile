@@ -1,7 +1,7 @@
 RELAY = relay --hub 5412345000006 --owner 4012345500004 --moment 1748942400 --number 1
 PROVED = crates/edihub/out/edihub
 
-.PHONY: run day serve try test wrong found hostile fuzz bench edihub hub_script tests_of_calls clean
+.PHONY: run day serve page page-test page-pictures try test wrong found hostile fuzz year crowd hubs bench edihub hub_script tests_of_calls install uninstall clean
 
 # The main job, with the proved program: the example's ORDERS interchange becomes the supplier's mailbox interchange.
 run: edihub
@@ -20,6 +20,20 @@ serve: edihub
 	folder=$$(mktemp -d) && trap 'rm -rf "$$folder"' EXIT && ./edihub init --register examples/register.toml --db "$$folder/hub.db" && trap : INT && \
 		{ ./edihub serve --db "$$folder/hub.db" --port $(PORT) --count $(COUNT) || case $$? in 1|3|130) ;; *) exit 1 ;; esac; }
 
+# The page for people, for trying alone: a hub of the example register with the orders of the example day, and a proxy before it that serves the page.
+# ^C ends it. `make page PAGE_PORT=8001` takes another port.
+PAGE_PORT = 8000
+
+page: edihub
+	python3 examples/page/try.py ./edihub $(PAGE_PORT)
+
+# The page in headless Chromium and its readers in Node, some minutes, no part of the gate; and its pictures, made anew.
+page-test: edihub
+	python3 tests/page/test.py ./edihub
+
+page-pictures: edihub
+	python3 tests/page/pictures.py ./edihub docs/page
+
 # Proves and builds the program, a line for each crate. With no change since, nothing is proved again.
 edihub:
 	python3 tests/prove.py edihub --help
@@ -35,10 +49,27 @@ TESTS = edi_tests http_tests judge_tests hub_tests app_tests
 tests_of_calls:
 	for crate in $(TESTS); do (mkdir -p crates/$$crate/out && cd crates/$$crate && rt test > out/log 2>&1 || { cat out/log; exit 1; }) || exit 1; done
 
-# The same job without any proof, in seconds.
+# The same job without any proof, in some three minutes.
 try:
 	@echo "make try: this run proves nothing" >&2
 	cd crates/edihub && rt try -- $(RELAY) < ../../examples/orders.edi
+
+# Puts the program that `make edihub` left into PREFIX, with its man page, completions for bash and a unit: make install PREFIX=/usr
+PREFIX = /usr/local
+INTO = $(DESTDIR)$(PREFIX)
+PAGE = $(INTO)/share/man/man1/edihub.1
+COMPLETIONS = $(INTO)/share/bash-completion/completions/edihub
+UNIT = $(INTO)/lib/systemd/system/edihub.service
+
+install:
+	test -x edihub || { echo "make edihub first" >&2; exit 1; }
+	made=$$(mktemp -d) && trap 'rm -rf "$$made"' EXIT && \
+		python3 install/from_help.py man ./edihub > "$$made/page" && python3 install/from_help.py bash ./edihub > "$$made/completions" && \
+		sed 's|/usr/local|$(PREFIX)|' examples/front/edihub.service > "$$made/unit" && install -D -m 755 edihub $(INTO)/bin/edihub && \
+		install -D -m 644 "$$made/page" $(PAGE) && install -D -m 644 "$$made/completions" $(COMPLETIONS) && install -D -m 644 "$$made/unit" $(UNIT)
+
+uninstall:
+	rm -f $(INTO)/bin/edihub $(PAGE) $(COMPLETIONS) $(UNIT)
 
 # The gate, and then the end-to-end tests of the program that the gate built.
 test:
@@ -63,10 +94,26 @@ NUMBER = 100000
 fuzz: edihub
 	python3 tests/fuzz.py crates/edihub/out/edihub $(SEED) $(NUMBER)
 
+# A retailer's year with 1,000 suppliers over HTTP, each answer compared with the right one: ORDERS=100000 for a whole one, which takes
+# 1 GB in TMPDIR.
+ORDERS = 10000
+
+year: edihub
+	python3 bench/year.py crates/edihub/out/edihub $(ORDERS)
+
+# 1,000 suppliers at once, through HAProxy as examples/front has it; no part of the gate.
+crowd: edihub
+	python3 bench/crowd.py crates/edihub/out/edihub
+
+# One hub, and three behind HAProxy as examples/hubs has them, asked the same; no part of the gate.
+hubs: edihub
+	python3 tests/spread.py crates/edihub/out/edihub
+
 bench: edihub hub_script
 	rustc --edition 2021 -O -o crates/edihub/out/plain bench/plain.rs
 	rustc --edition 2021 -O -o crates/edihub/out/flat bench/flat.rs
 	python3 bench/run.py ./edihub crates/edihub/out/plain crates/edihub/out/flat
+	python3 bench/opening.py ./edihub
 	python3 bench/store.py
 	rustc --edition 2021 -O -o crates/hub_script/out/plain bench/hub.rs
 	python3 bench/hub.py crates/hub_script/out/hub_script crates/hub_script/out/plain
