@@ -41,10 +41,10 @@ def text_copied(room):
                 shutil.copytree(os.path.join(ROOT, "crates", crate, part), os.path.join(room, "crates", crate, part))
 
 
-def copied(room, anew):
-    """The same with the libraries that its checks built, and, of the crates in `anew`, what these kept."""
+def copied(room, anew, used=None):
+    """The same with the libraries that its checks built, all or those that are used, and, of the crates in `anew`, what these kept."""
     text_copied(room)
-    for crate in os.listdir(os.path.join(ROOT, "crates")):
+    for crate in os.listdir(os.path.join(ROOT, "crates")) if used is None else [*used, *anew]:
         for part in ("rlib", "incremental") if crate in anew else ("rlib",):
             work = os.path.join(ROOT, "crates", crate, "out", part)
             with TAKEN_OVER:
@@ -69,11 +69,11 @@ def lanes():
     return max(1, min(len(os.sched_getaffinity(0)), free // CHECK_MEMORY))
 
 
-def library_proved(crate):
-    """Proves a crate's library in a copy of the tree, since a check locks all that it stands on, and takes over the work.
+def library_proved(crate, below):
+    """Proves a crate's library, over those below it, in a copy of the tree, since a check locks all that it stands on, and takes over the work.
     Leaves what the check printed in the crate's out/log, and says why it is not proved."""
     with room_beside() as room:
-        copied(room, {crate})
+        copied(room, {crate}, below)
         status, lines = run(["lib", "--jobs", "1"], os.path.join(room, "crates", crate))
         for part in ("rlib", "incremental") if not status else ():
             work = os.path.join(ROOT, "crates", crate, "out", part)

@@ -17,23 +17,15 @@ from concurrent.futures import FIRST_COMPLETED, ThreadPoolExecutor, wait
 
 from copies import crates, lanes, library_proved
 from functions import ROOT
+from wrong import Kept
 
 # seconds between two lines of a crate that takes long
 SILENCE = 30
 
 
-def stamp(crate):
-    """What a check notes of a library that it proved."""
-    path = os.path.join(ROOT, "crates", crate, "out", "rlib", "stamp")
-    if not os.path.isfile(path):
-        return ""
-    with open(path, encoding="utf-8") as file:
-        return file.read()
-
-
 class Proving:
     def __init__(self, program, below):
-        self.below, self.number, self.done = below, len(below[program]) + 1, 0
+        self.below, self.kept, self.number, self.done = below, Kept(below, []), len(below[program]) + 1, 0
         self.left = [it for it in below if it in below[program]]
         self.proved, self.begun, self.said = set(), {}, threading.Lock()
 
@@ -44,14 +36,19 @@ class Proving:
 
     def library(self, crate):
         """Why it is not proved, or nothing."""
-        self.begun[crate], before = time.time(), stamp(crate)
-        why = library_proved(crate)
-        begun = self.begun.pop(crate)
-        if not why:
-            self.tell(crate, "as before" if before and stamp(crate) == before else f"{time.time() - begun:5.0f} s")
+        if self.kept.is_proved(crate):
+            self.tell(crate, "as before")
             self.proved.add(crate)
             return ""
-        return f"{said_of(crate)}\n{crate} is not proved: {why}"
+        self.begun[crate] = time.time()
+        why = library_proved(crate, self.below[crate])
+        begun = self.begun.pop(crate)
+        if why:
+            return f"{said_of(crate)}\n{crate} is not proved: {why}"
+        self.kept.keep_proved(crate)
+        self.tell(crate, f"{time.time() - begun:5.0f} s")
+        self.proved.add(crate)
+        return ""
 
     def libraries(self):
         """Proves all libraries, each once those below it are proved. Why some are not, or nothing."""

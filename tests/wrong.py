@@ -110,7 +110,7 @@ class Kept:
 
     def is_proved(self, crate):
         path, sum_now = self.library(crate)
-        if not os.path.isfile(path):
+        if not os.path.isfile(path) or not os.path.isdir(os.path.join(os.path.dirname(path), "rlib")):
             return False
         with open(path, encoding="ascii") as file:
             return file.read() == sum_now
@@ -316,7 +316,7 @@ class Tried:
     # Each gives the edits with what became of them, a line to print, and why nothing more can be tried.
 
     def library(self, crate):
-        why = "" if self.kept.is_proved(crate) else library_proved(crate)
+        why = "" if self.kept.is_proved(crate) else library_proved(crate, self.below[crate])
         if why:
             return [], "", f"{crate} is not proved as it stands: {why}"
         self.kept.keep_proved(crate)
