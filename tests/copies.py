@@ -70,8 +70,8 @@ def lanes():
 
 
 def library_proved(crate, below):
-    """Proves a crate's library, over those below it, in a copy of the tree, since a check locks all that it stands on, and takes over the work.
-    Leaves what the check printed in the crate's out/log, and says why it is not proved."""
+    """Proves a crate's library, over those below it, in a copy of the tree, since a check locks all that it stands on, and takes
+    over the work. Leaves what the check printed in the crate's out/log, and says why it is not proved."""
     with room_beside() as room:
         copied(room, {crate}, below)
         status, lines = run(["lib", "--jobs", "1"], os.path.join(room, "crates", crate))
