@@ -12,25 +12,25 @@ from stage import ALPHA, BETA, DAY, EXAMPLES, RETAILER, Stage, milliseconds, sig
 # by hand: the page's references are the moment in milliseconds, to the base of 36, and a counter
 ANSWER_OF_A = (
     "UNA:+.? 'UNB+UNOC:3+4012345500004:14+5412345000006:14+250603:0810+MBG8NBUO001'"
-    "UNH+1+ORDRSP:D:01B:UN:EAN009'BGM+231+A-R1+4'DTM+137:20250603:102'RFF+ON:128576'NAD+BY+5412345000013::9'NAD+SU+4012345500004::9'"
+    "UNH+1+ORDRSP:D:01B:UN:EAN009'BGM+231+ANSWER-A+4'DTM+137:20250603:102'RFF+ON:128576'NAD+BY+5412345000013::9'NAD+SU+4012345500004::9'"
     "LIN+1+5+4000862141404:SRV'RFF+ON:128576:1'LIN+2+3+4000862141411:SRV'QTY+113:20'RFF+ON:128576:2'"
     "UNS+S'CNT+2:2'UNT+14+1'UNZ+1+MBG8NBUO001'"
 )
 ANSWER_OF_B = (
     "UNA:+.? 'UNB+UNOC:3+8712345000004:14+5412345000006:14+250603:0900+MBGAFMO0001'"
-    "UNH+1+ORDRSP:D:01B:UN:EAN009'BGM+231+B-R1+29'DTM+137:20250603:102'RFF+ON:128577'NAD+BY+5412345000013::9'NAD+SU+8712345000004::9'"
+    "UNH+1+ORDRSP:D:01B:UN:EAN009'BGM+231+ANSWER-B+29'DTM+137:20250603:102'RFF+ON:128577'NAD+BY+5412345000013::9'NAD+SU+8712345000004::9'"
     "UNS+S'UNT+8+1'UNZ+1+MBGAFMO0001'"
 )
 CANCELLATION = "8712345000004\nMBGASHMO001\n128577\n1\n10\n"
 DESPATCH_OF_A = (
     "UNA:+.? 'UNB+UNOC:3+4012345500004:14+5412345000006:14+250604:0800+MBHNQBK0001'"
-    "UNH+1+DESADV:D:01B:UN:EAN007'BGM+351+A-D1+9'DTM+137:20250604:102'NAD+BY+5412345000013::9'NAD+SU+4012345500004::9'"
+    "UNH+1+DESADV:D:01B:UN:EAN007'BGM+351+ADVICE-A+9'DTM+137:20250604:102'NAD+BY+5412345000013::9'NAD+SU+4012345500004::9'"
     "CPS+1'PAC+1'PCI+33E'GIN+BJ+340123455000000012'LIN+1++4000862141404:SRV'QTY+12:48'RFF+ON:128576:1'"
     "CPS+2'PAC+1'PCI+33E'GIN+BJ+340123455000000029'LIN+2++4000862141411:SRV'QTY+12:20'RFF+ON:128576:2'CNT+2:2'UNT+21+1'UNZ+1+MBHNQBK0001'"
 )
 DESPATCH_OF_B = (
     "UNA:+.? 'UNB+UNOC:3+8712345000004:14+5412345000006:14+250604:0900+MBHPVHC0001'"
-    "UNH+1+DESADV:D:01B:UN:EAN007'BGM+351+B-D1+9'DTM+137:20250604:102'NAD+BY+5412345000013::9'NAD+SU+8712345000004::9'"
+    "UNH+1+DESADV:D:01B:UN:EAN007'BGM+351+ADVICE-B+9'DTM+137:20250604:102'NAD+BY+5412345000013::9'NAD+SU+8712345000004::9'"
     "CPS+1'PAC+1'PCI+33E'GIN+BJ+387123450000000012'LIN+1++8712345000011:SRV'QTY+12:40'RFF+ON:128577:1'CNT+2:1'UNT+14+1'UNZ+1+MBHPVHC0001'"
 )
 
@@ -91,7 +91,7 @@ def answer_in_part(browser, stage):
     browser.press("Answer", "a")
     browser.press("Accept all 2 lines")
     browser.type(browser.labelled("Changed quantity of line 2"), "20")
-    browser.type(browser.labelled("Number of your answer"), "A-R1")
+    browser.type(browser.labelled("Number of your answer"), "ANSWER-A")
     browser.press("Show what will be sent", "summary")
     browser.until_says("QTY+113:20'")
     assert browser.text("details pre").replace("\n", "") == ANSWER_OF_A, browser.text("details pre")
@@ -109,7 +109,7 @@ def answer_whole_and_cancel(browser, stage):
     browser.press("128577", "a")
     browser.press("Answer", "a")
     browser.press("Accept the line")
-    browser.type(browser.labelled("Number of your answer"), "B-R1")
+    browser.type(browser.labelled("Number of your answer"), "ANSWER-B")
     browser.press("Send answer")
     browser.until_says("Accepted: the hub has taken it")
     sent_is(stage, BETA, "interchanges", ANSWER_OF_B)
@@ -138,7 +138,7 @@ def despatch(browser, stage, who, moment, prefix, number):
 
 def despatches(browser, stage):
     """Both announce: Alpha two pallets, Beta 40 of its 50. More than open is not sent."""
-    despatch(browser, stage, ALPHA, milliseconds(2025, 6, 4, 8, 0), "40123455", "A-D1")
+    despatch(browser, stage, ALPHA, milliseconds(2025, 6, 4, 8, 0), "40123455", "ADVICE-A")
     browser.type(browser.labelled("Quantity of order 128576, line 1"), "48")
     browser.press("Add a pallet")
     browser.type(browser.labelled("Quantity of order 128576, line 2", 1), "21")
@@ -149,7 +149,7 @@ def despatches(browser, stage):
     browser.press("Send despatch advice")
     browser.until_says("Accepted: the hub has taken it")
     sent_is(stage, ALPHA, "interchanges", DESPATCH_OF_A)
-    despatch(browser, stage, BETA, milliseconds(2025, 6, 4, 9, 0), "8712345", "B-D1")
+    despatch(browser, stage, BETA, milliseconds(2025, 6, 4, 9, 0), "8712345", "ADVICE-B")
     browser.type(browser.labelled("Quantity of order 128577, line 1"), "40")
     browser.press("Send despatch advice")
     browser.until_says("Accepted: the hub has taken it")
