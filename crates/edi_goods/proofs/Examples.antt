@@ -2,7 +2,7 @@
 use Rattle.std.proofs.Common.{◌≡◌, ℕ, Bool, true, false, List, [], ◌∷◌, Some, None, Ok, Err, codes, refl}
 use Rattle.edi_segments.specs.declared.segment.Segment.{Segment}
 use Rattle.edi_envelope.specs.declared.interchange.RawMessage.{RawMessage}
-use Rattle.edi_messages.specs.declared.fault.MessageFault.TheVariants.{Function, Quantity, Reference, Unit, NoLine}
+use Rattle.edi_messages.specs.declared.fault.MessageFault.TheVariants as fault
 use Rattle.edi_goods.specs.declared.receipt.Receipt.{Receipt}
 use Rattle.edi_goods.specs.Despatch.{despatch_of}
 use Rattle.edi_goods.specs.Receipt.{receipt_of}
@@ -116,7 +116,7 @@ own_order = refl
 
 line_outside_of_units : despatch_of
     (despatch (lin (codes "0") article ∷ cps ∷ gin first ∷ lin (codes "1") article ∷ qty (codes "12") (codes "12") ∷ unt ∷ []))
-    ≡ Err Unit
+    ≡ Err fault.Unit
 unfolding despatch_of
 line_outside_of_units = refl
 
@@ -129,7 +129,7 @@ quantity_of_the_second_unit : despatch_of (despatch (cps
     ∷ qty (codes "12") (codes "0")
     ∷ unt
     ∷ []))
-    ≡ Err Quantity
+    ≡ Err fault.Quantity
 unfolding despatch_of
 quantity_of_the_second_unit = refl
 
@@ -142,13 +142,13 @@ no_order : despatch_of (message (codes "DESADV") (unh
     ∷ qty (codes "12") (codes "12")
     ∷ unt
     ∷ []))
-    ≡ Err Reference
+    ≡ Err fault.Reference
 unfolding despatch_of
 no_order = refl
 
 wrong_check_digit : despatch_of
     (despatch (cps ∷ gin (codes "340123455000000013") ∷ lin (codes "1") article ∷ qty (codes "12") (codes "12") ∷ unt ∷ []))
-    ≡ Err Unit
+    ≡ Err fault.Unit
 unfolding despatch_of
 wrong_check_digit = refl
 
@@ -162,11 +162,11 @@ one_sscc_twice : despatch_of (despatch (cps
     ∷ qty (codes "12") (codes "12")
     ∷ unt
     ∷ []))
-    ≡ Err Unit
+    ≡ Err fault.Unit
 unfolding despatch_of
 one_sscc_twice = refl
 
-no_line : despatch_of (despatch (cps ∷ unt ∷ [])) ≡ Err NoLine
+no_line : despatch_of (despatch (cps ∷ unt ∷ [])) ≡ Err fault.WithoutLines
 unfolding despatch_of
 no_line = refl
 
@@ -222,7 +222,7 @@ one_that_replaces : receipt_of (with_function (codes "5")) ≡ Ok (replacing tru
 unfolding receipt_of
 one_that_replaces = refl
 
-another_function : receipt_of (with_function (codes "4")) ≡ Err Function
+another_function : receipt_of (with_function (codes "4")) ≡ Err fault.Function
 unfolding receipt_of
 another_function = refl
 
@@ -232,11 +232,11 @@ great_sum : receipt_of (receipt (lin (codes "1") article
     ∷ qty (codes "194") (codes "500000000")
     ∷ unt
     ∷ []))
-    ≡ Err Quantity
+    ≡ Err fault.Quantity
 unfolding receipt_of
 great_sum = refl
 
-no_quantity : receipt_of (receipt (lin (codes "1") article ∷ qty (codes "12") (codes "10") ∷ unt ∷ [])) ≡ Err Quantity
+no_quantity : receipt_of (receipt (lin (codes "1") article ∷ qty (codes "12") (codes "10") ∷ unt ∷ [])) ≡ Err fault.Quantity
 unfolding receipt_of
 no_quantity = refl
 
@@ -248,6 +248,6 @@ section_in_a_unit : receipt_of (receipt (lin (codes "1") article
     ∷ lin (codes "2") article
     ∷ unt
     ∷ []))
-    ≡ Err Quantity
+    ≡ Err fault.Quantity
 unfolding receipt_of
 section_in_a_unit = refl

@@ -6,17 +6,16 @@ use Rattle.std.proofs.lemmas.Simd.{map-map}
 use Rattle.edi_base.specs.Seen.{has_twice}
 use Rattle.edi_segments.specs.declared.segment.Segment.{Segment}
 use Rattle.edi_envelope.specs.declared.interchange.RawMessage.{RawMessage}
-use Rattle.edi_messages.specs.Fault.{faults, unless}
+use Rattle.edi_messages.specs.Fault.{faults, faults_from, unless}
 use Rattle.edi_messages.specs.Parts.{line_groups}
 use Rattle.edi_messages.specs.declared.fault.MessageFault.{MessageFault}
-use Rattle.edi_messages.specs.declared.fault.MessageFault.TheVariants.{Quantity, Unit}
-use Rattle.edi_messages.proofs.Judged.{judged_is, judged_at}
+use Rattle.edi_messages.specs.declared.fault.MessageFault.TheVariants as fault
+use Rattle.edi_messages.proofs.Judged.{judged_is, judged_none}
 use Rattle.edi_goods.specs.Despatch.{holds as despatch_holds, header_order, unit_from as despatch_unit}
-use Rattle.edi_goods.specs.Despatch.{contents_of as despatch_contents, despatch_of, line_faults as despatch_line_faults}
-use Rattle.edi_goods.specs.Despatch.{lowest as despatch_lowest}
+use Rattle.edi_goods.specs.Despatch.{contents_of as despatch_contents, despatch_of, lowest as despatch_lowest}
 use Rattle.edi_goods.specs.Receipt.{is_received, lines_in_unit, has_sums, has_quantities, holds as receipt_holds}
 use Rattle.edi_goods.specs.Receipt.{unit_from as receipt_unit, contents_of as receipt_contents, receipt_of}
-use Rattle.edi_goods.specs.Receipt.{line_faults as receipt_line_faults, lowest as receipt_lowest}
+use Rattle.edi_goods.specs.Receipt.{lowest as receipt_lowest}
 use Rattle.edi_goods.specs.Units.{read_units, has_line_outside, is_unit, has_units, sscc_or_none}
 use Rattle.edi_goods.specs.declared.despatch.Despatch.{Despatch}
 use Rattle.edi_goods.specs.declared.despatch.Unit.{Unit as DespatchUnit}
@@ -59,9 +58,9 @@ pub receipt_apart : (m : RawMessage) (receipt : Receipt)
     → has_twice (map (λ unit. unit.sscc) receipt.units) ≡ false
 unfolding receipt_of
 receipt_apart m receipt h =
-    let right = judged_at (λ fault. receipt_holds fault m) (receipt_contents m.segments) receipt 9 Unit h refl in
+    let right = judged_none (λ f. receipt_holds f m) (receipt_contents m.segments) receipt refl h fault.Unit in
     ap (λ (r : Receipt). has_twice (map (λ unit. unit.sscc) r.units))
-    (sym (judged_is (λ fault. receipt_holds fault m) (receipt_contents m.segments) receipt h))
+    (sym (judged_is (λ f. receipt_holds f m) (receipt_contents m.segments) receipt h))
     ∙ receipt_units_apart m.segments (not-false _ right)
 
 -- no article's sum in a unit of it is too great
@@ -70,9 +69,9 @@ pub receipt_sums : (m : RawMessage) (receipt : Receipt)
     → list_all (λ unit. has_sums unit.lines) receipt.units ≡ true
 unfolding receipt_of
 receipt_sums m receipt h =
-    let right = judged_at (λ fault. receipt_holds fault m) (receipt_contents m.segments) receipt 7 Quantity h refl in
+    let right = judged_none (λ f. receipt_holds f m) (receipt_contents m.segments) receipt refl h fault.Quantity in
     ap (λ (r : Receipt). list_all (λ unit. has_sums unit.lines) r.units)
-    (sym (judged_is (λ fault. receipt_holds fault m) (receipt_contents m.segments) receipt h))
+    (sym (judged_is (λ f. receipt_holds f m) (receipt_contents m.segments) receipt h))
     ∙ receipt_units_sums (read_units m.segments) (not-false _ right)
 
 -- no SSCC of a despatch advice stands twice
@@ -81,15 +80,15 @@ pub despatch_apart : (m : RawMessage) (despatch : Despatch)
     → has_twice (map (λ unit. unit.sscc) despatch.units) ≡ false
 unfolding despatch_of
 despatch_apart m despatch h =
-    let right = judged_at (λ fault. despatch_holds fault m) (despatch_contents m.segments) despatch 9 Unit h refl in
+    let right = judged_none (λ f. despatch_holds f m) (despatch_contents m.segments) despatch refl h fault.Unit in
     ap (λ (d : Despatch). has_twice (map (λ unit. unit.sscc) d.units))
-    (sym (judged_is (λ fault. despatch_holds fault m) (despatch_contents m.segments) despatch h))
+    (sym (judged_is (λ f. despatch_holds f m) (despatch_contents m.segments) despatch h))
     ∙ despatch_units_apart (header_order m.segments) m.segments (not-false _ right)
 
 -- the receiving advice of a message in which no condition holds
 pub receipt_when : (m : RawMessage) (receipt : Receipt)
-    → receipt_lowest faults m ≡ receipt_lowest receipt_line_faults m
-    → receipt_lowest receipt_line_faults m ≡ None
+    → receipt_lowest faults m ≡ receipt_lowest (faults_from fault.Line) m
+    → receipt_lowest (faults_from fault.Line) m ≡ None
     → receipt_contents m.segments ≡ receipt
     → receipt_of m ≡ Ok receipt
 unfolding receipt_of
@@ -99,8 +98,8 @@ receipt_when m receipt headed none same =
 
 -- the despatch advice of a message in which no condition holds
 pub despatch_when : (m : RawMessage) (despatch : Despatch)
-    → despatch_lowest faults m ≡ despatch_lowest despatch_line_faults m
-    → despatch_lowest despatch_line_faults m ≡ None
+    → despatch_lowest faults m ≡ despatch_lowest (faults_from fault.Line) m
+    → despatch_lowest (faults_from fault.Line) m ≡ None
     → despatch_contents m.segments ≡ despatch
     → despatch_of m ≡ Ok despatch
 unfolding despatch_of

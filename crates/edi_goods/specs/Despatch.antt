@@ -1,5 +1,5 @@
 -- The despatch advice that a message is (DESADV), or its message fault.
-use Rattle.std.specs.Prelude.{ℕ, ◌==◌, Bool, false, not, ◌&&◌, List, [], ◌∷◌, map, find, is_some, codes}
+use Rattle.std.specs.Prelude.{ℕ, ◌==◌, Bool, false, not, ◌&&◌, List, [], map, find, is_some, codes}
 use Rattle.std.specs.Prelude.{Option, Some, None, Result}
 use Rattle.std.specs.List.{list_all}
 use Rattle.std.specs.Option.{unwrap_or}
@@ -14,9 +14,7 @@ use Rattle.edi_messages.specs.References.{has_reference, reference, none_or_one_
 use Rattle.edi_messages.specs.References.{is_order_reference, order, group_order, group_line}
 use Rattle.edi_messages.specs.Summary.{line_count, is_controlled}
 use Rattle.edi_messages.specs.declared.fault.MessageFault.{MessageFault}
-use Rattle.edi_messages.specs.declared.fault.MessageFault.TheVariants.{MessageType, Beginning, Function, Date, Parties}
-use Rattle.edi_messages.specs.declared.fault.MessageFault.TheVariants.{Summary, Line, Quantity, Reference, Unit}
-use Rattle.edi_messages.specs.declared.fault.MessageFault.TheVariants.{Control, NoLine, Memory}
+use Rattle.edi_messages.specs.declared.fault.MessageFault.TheVariants as fault
 use Rattle.edi_goods.specs.Parties.{has_parties, buyer}
 use Rattle.edi_goods.specs.Units.{read_units, has_lines, has_units, sscc_or_none}
 use Rattle.edi_goods.specs.declared.despatch.Despatch.{Despatch}
@@ -60,33 +58,24 @@ header_order message = unwrap_or (order message) []
 
 -- Each condition, of the whole message. Each is defined also where another one holds.
 abbrev pub holds : MessageFault → RawMessage → Bool
-holds MessageType m = not (is_type (codes "DESADV") m)
-holds Beginning m = not (begins_as (codes "351") m.segments)
-holds Function m = not (bytes_eq (function m.segments) (codes "9"))
-holds Date m = not (has_date m.segments)
-holds Parties m = not (has_parties m.segments)
-holds Summary m = false
-holds Line m = not (list_all has_lines (read_units m.segments))
-holds Quantity m = not (list_all has_quantities (read_units m.segments))
-holds Reference m =
+holds fault.MessageType m = not (is_type (codes "DESADV") m)
+holds fault.Beginning m = not (begins_as (codes "351") m.segments)
+holds fault.Function m = not (bytes_eq (function m.segments) (codes "9"))
+holds fault.Date m = not (has_date m.segments)
+holds fault.Parties m = not (has_parties m.segments)
+holds fault.Line m = not (list_all has_lines (read_units m.segments))
+holds fault.Quantity m = not (list_all has_quantities (read_units m.segments))
+holds fault.Reference m =
     not (has_header_reference_or_none m.segments
     && list_all (has_references (inherits m.segments)) (read_units m.segments))
-holds Unit m = not (has_units m.segments)
-holds Control m = not (is_controlled m.segments)
-holds NoLine m = line_count m.segments == 0
-holds Memory m = false
+holds fault.Unit m = not (has_units m.segments)
+holds fault.Control m = not (is_controlled m.segments)
+holds fault.WithoutLines m = line_count m.segments == 0
+holds other m = false
 
 -- the lowest of these faults whose condition holds
 abbrev pub lowest : List MessageFault → RawMessage → Option MessageFault
 lowest among m = find (λ fault. holds fault m) among
-
--- the faults of references, and those behind them
-abbrev pub reference_faults : List MessageFault
-reference_faults = Reference ∷ Unit ∷ Control ∷ NoLine ∷ []
-
--- the faults of lines, and those behind them
-abbrev pub line_faults : List MessageFault
-line_faults = Line ∷ Quantity ∷ reference_faults
 
 abbrev pub line_of : List ℕ → List Segment → DespatchLine
 line_of order group = record {

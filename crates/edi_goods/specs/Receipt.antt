@@ -1,6 +1,5 @@
 -- The receiving advice that a message is (RECADV), or its message fault.
-use Rattle.std.specs.Prelude.{ℕ, ◌==◌, Bool, false, not, ◌&&◌, ◌||◌, List, [], ◌∷◌, map, find, is_some, codes, Option}
-use Rattle.std.specs.Prelude.{Result}
+use Rattle.std.specs.Prelude.{ℕ, ◌==◌, Bool, false, not, ◌&&◌, ◌||◌, List, [], map, find, is_some, codes, Option, Result}
 use Rattle.std.specs.List.{list_all}
 use Rattle.std.specs.Option.{unwrap_or}
 use Rattle.std.specs.Str.{bytes_eq}
@@ -12,9 +11,7 @@ use Rattle.edi_messages.specs.Lines.{gtin, amount, quantity_of}
 use Rattle.edi_messages.specs.Parts.{line_groups, none_or_one, is_read}
 use Rattle.edi_messages.specs.Summary.{line_count, is_controlled}
 use Rattle.edi_messages.specs.declared.fault.MessageFault.{MessageFault}
-use Rattle.edi_messages.specs.declared.fault.MessageFault.TheVariants.{MessageType, Beginning, Function, Date, Parties}
-use Rattle.edi_messages.specs.declared.fault.MessageFault.TheVariants.{Summary, Line, Quantity, Reference, Unit}
-use Rattle.edi_messages.specs.declared.fault.MessageFault.TheVariants.{Control, NoLine, Memory}
+use Rattle.edi_messages.specs.declared.fault.MessageFault.TheVariants as fault
 use Rattle.edi_goods.specs.Parties.{has_parties, buyer}
 use Rattle.edi_goods.specs.Units.{read_units, has_lines, has_units, sscc_or_none}
 use Rattle.edi_goods.specs.Sums.{sums_within}
@@ -83,31 +80,21 @@ has_function message = bytes_eq (function message) (codes "9") || replaces messa
 
 -- Each condition, of the whole message. Each is defined also where another one holds.
 abbrev pub holds : MessageFault → RawMessage → Bool
-holds MessageType m = not (is_type (codes "RECADV") m)
-holds Beginning m = not (begins_as (codes "632") m.segments)
-holds Function m = not (has_function m.segments)
-holds Date m = not (has_date m.segments)
-holds Parties m = not (has_parties m.segments)
-holds Summary m = false
-holds Line m = not (list_all has_lines (read_units m.segments))
-holds Quantity m = not (list_all has_quantities (read_units m.segments))
-holds Reference m = false
-holds Unit m = not (has_units m.segments)
-holds Control m = not (is_controlled m.segments)
-holds NoLine m = line_count m.segments == 0
-holds Memory m = false
+holds fault.MessageType m = not (is_type (codes "RECADV") m)
+holds fault.Beginning m = not (begins_as (codes "632") m.segments)
+holds fault.Function m = not (has_function m.segments)
+holds fault.Date m = not (has_date m.segments)
+holds fault.Parties m = not (has_parties m.segments)
+holds fault.Line m = not (list_all has_lines (read_units m.segments))
+holds fault.Quantity m = not (list_all has_quantities (read_units m.segments))
+holds fault.Unit m = not (has_units m.segments)
+holds fault.Control m = not (is_controlled m.segments)
+holds fault.WithoutLines m = line_count m.segments == 0
+holds other m = false
 
 -- the lowest of these faults whose condition holds
 abbrev pub lowest : List MessageFault → RawMessage → Option MessageFault
 lowest among m = find (λ fault. holds fault m) among
-
--- the faults of units, and those behind them
-abbrev pub unit_faults : List MessageFault
-unit_faults = Reference ∷ Unit ∷ Control ∷ NoLine ∷ []
-
--- the faults of lines, and those behind them
-abbrev pub line_faults : List MessageFault
-line_faults = Line ∷ Quantity ∷ unit_faults
 
 abbrev pub unit_from : List Segment → ReceiptUnit
 unit_from unit = record { sscc = sscc_or_none unit; lines = lines_in_unit unit }

@@ -1,7 +1,7 @@
 //! Despatch advices (DESADV).
 ghost use Rattle.std.specs.Prelude.{◌≡◌, ◌≢◌, IfOk, IfErr, Ok, Err, Some, None, true, false, map, codes};
 ghost use Rattle.edi_base.specs.Seen.{has_twice};
-ghost use Rattle.edi_messages.specs.Fault.{faults};
+ghost use Rattle.edi_messages.specs.Fault.{faults, faults_from};
 ghost use Rattle.edi_messages.specs.Header.{party};
 ghost use Rattle.edi_goods.specs.Despatch as spec;
 ghost use Rattle.edi_goods.specs.Parties.{buyer};
@@ -98,7 +98,7 @@ fn units_of(
 fn read_heading(message: &RawMessage) -> Result<Parties, MessageFault>
     ensures said { IfOk result (λ parties. (parties.buyer ≡ buyer message.now.segments)
         × (party (codes "SU") message.now.segments ≡ Some parties.supplier)) }
-    ensures ok { IfOk result (λ _. spec.lowest faults message.now ≡ spec.lowest spec.line_faults message.now) }
+    ensures ok { IfOk result (λ _. spec.lowest faults message.now ≡ spec.lowest (faults_from MessageFault.Line) message.now) }
     ensures err { IfErr result (λ fault. spec.lowest faults message.now ≡ Some fault) }
 {
     let segments = message.segments.as_slice();
@@ -128,8 +128,9 @@ fn read_referred(
     requires despatched { despatched.now ≡ read_units message.now.segments }
     ensures said { IfOk result (λ units. units ≡ map (spec.unit_from (spec.header_order message.now.segments)) (read_units message.now.segments)) }
     ensures units { IfOk result (λ _. has_units message.now.segments ≡ true) }
-    ensures ok { IfOk result (λ _. spec.lowest spec.reference_faults message.now ≡ None) }
-    ensures err { IfErr result (λ fault. fault ≢ MessageFault.Memory → spec.lowest spec.reference_faults message.now ≡ Some fault) }
+    ensures ok { IfOk result (λ _. spec.lowest (faults_from MessageFault.Reference) message.now ≡ None) }
+    ensures err { IfErr result (λ fault. fault ≢ MessageFault.Memory →
+        spec.lowest (faults_from MessageFault.Reference) message.now ≡ Some fault) }
 {
     let segments = message.segments.as_slice();
     let order = header_order(segments)?;
@@ -140,7 +141,7 @@ fn read_referred(
         return Err(MessageFault::Control);
     }
     if line_count(segments) == 0 {
-        return Err(MessageFault::NoLine);
+        return Err(MessageFault::WithoutLines);
     }
     let units = units_of(alloc, order, referred.as_slice(), ssccs.as_slice())?;
     Ok(units)
@@ -150,8 +151,9 @@ fn read_referred(
 fn read_announced(alloc: Global, message: &RawMessage) -> Result<Items<Unit>, MessageFault>
     ensures said { IfOk result (λ units. units ≡ map (spec.unit_from (spec.header_order message.now.segments)) (read_units message.now.segments)) }
     ensures units { IfOk result (λ _. has_units message.now.segments ≡ true) }
-    ensures ok { IfOk result (λ _. spec.lowest spec.line_faults message.now ≡ None) }
-    ensures err { IfErr result (λ fault. fault ≢ MessageFault.Memory → spec.lowest spec.line_faults message.now ≡ Some fault) }
+    ensures ok { IfOk result (λ _. spec.lowest (faults_from MessageFault.Line) message.now ≡ None) }
+    ensures err { IfErr result (λ fault. fault ≢ MessageFault.Memory →
+        spec.lowest (faults_from MessageFault.Line) message.now ≡ Some fault) }
 {
     let items = item_units(alloc, message.segments.as_slice())?;
     let despatched = despatch_units(alloc, items.as_slice())?;

@@ -2,7 +2,7 @@
 ghost use Rattle.std.specs.Prelude.{◌≡◌, ◌≢◌, IfOk, IfErr, Ok, Err, Some, None, true, false, codes, map};
 ghost use Rattle.std.specs.List.{list_all};
 ghost use Rattle.edi_base.specs.Seen.{has_twice};
-ghost use Rattle.edi_messages.specs.Fault.{faults};
+ghost use Rattle.edi_messages.specs.Fault.{faults, faults_from};
 ghost use Rattle.edi_messages.specs.Header.{party};
 ghost use Rattle.edi_goods.specs.Parties.{buyer};
 ghost use Rattle.edi_goods.specs.Receipt as spec;
@@ -98,7 +98,7 @@ fn has_function(message: &[Segment]) -> bool
 fn read_heading(message: &RawMessage) -> Result<Parties, MessageFault>
     ensures said { IfOk result (λ parties. (parties.buyer ≡ buyer message.now.segments)
         × (party (codes "SU") message.now.segments ≡ Some parties.supplier)) }
-    ensures ok { IfOk result (λ _. spec.lowest faults message.now ≡ spec.lowest spec.line_faults message.now) }
+    ensures ok { IfOk result (λ _. spec.lowest faults message.now ≡ spec.lowest (faults_from MessageFault.Line) message.now) }
     ensures err { IfErr result (λ fault. spec.lowest faults message.now ≡ Some fault) }
 {
     let segments = message.segments.as_slice();
@@ -128,8 +128,9 @@ fn read_identified(
     requires received { received.now ≡ read_units message.now.segments }
     ensures said { IfOk result (λ units. units ≡ map spec.unit_from (read_units message.now.segments)) }
     ensures units { IfOk result (λ _. has_units message.now.segments ≡ true) }
-    ensures ok { IfOk result (λ _. spec.lowest spec.unit_faults message.now ≡ None) }
-    ensures err { IfErr result (λ fault. fault ≢ MessageFault.Memory → spec.lowest spec.unit_faults message.now ≡ Some fault) }
+    ensures ok { IfOk result (λ _. spec.lowest (faults_from MessageFault.Reference) message.now ≡ None) }
+    ensures err { IfErr result (λ fault. fault ≢ MessageFault.Memory →
+        spec.lowest (faults_from MessageFault.Reference) message.now ≡ Some fault) }
 {
     let segments = message.segments.as_slice();
     let ssccs = ssccs(alloc, items, segments)?;
@@ -137,7 +138,7 @@ fn read_identified(
         return Err(MessageFault::Control);
     }
     if line_count(segments) == 0 {
-        return Err(MessageFault::NoLine);
+        return Err(MessageFault::WithoutLines);
     }
     let units = units_of(alloc, received, ssccs.as_slice())?;
     Ok(units)
@@ -148,8 +149,9 @@ fn read_received(alloc: Global, message: &RawMessage) -> Result<Items<ReceiptUni
     ensures said { IfOk result (λ units. units ≡ map spec.unit_from (read_units message.now.segments)) }
     ensures units { IfOk result (λ _. has_units message.now.segments ≡ true) }
     ensures quantities { IfOk result (λ _. list_all spec.has_quantities (read_units message.now.segments) ≡ true) }
-    ensures ok { IfOk result (λ _. spec.lowest spec.line_faults message.now ≡ None) }
-    ensures err { IfErr result (λ fault. fault ≢ MessageFault.Memory → spec.lowest spec.line_faults message.now ≡ Some fault) }
+    ensures ok { IfOk result (λ _. spec.lowest (faults_from MessageFault.Line) message.now ≡ None) }
+    ensures err { IfErr result (λ fault. fault ≢ MessageFault.Memory →
+        spec.lowest (faults_from MessageFault.Line) message.now ≡ Some fault) }
 {
     let items = item_units(alloc, message.segments.as_slice())?;
     let received = received_units(alloc, items.as_slice())?;

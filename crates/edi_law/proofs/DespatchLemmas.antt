@@ -136,7 +136,6 @@ refutes m faults.Beginning = Refutes-not _ (Decides-begins (codes "351") m.segme
 refutes m faults.Function = Refutes-not _ (Decides-function m.segments (codes "9") (λ e. cc))
 refutes m faults.Date = Refutes-not _ (Decides-dated m.segments)
 refutes m faults.Parties = Refutes-not _ (Decides-parties m.segments)
-refutes m faults.Summary = Refutes-false
 refutes m faults.Line = Refutes-not _ (Decides-each_line m.segments)
 refutes m faults.Quantity =
     Refutes-not _ (Decides-unit_lines (list_all (λ group. is_some (despatched group))) _
@@ -145,8 +144,8 @@ refutes m faults.Quantity =
 refutes m faults.Reference = Refutes-not _ (Decides-references m.segments)
 refutes m faults.Unit = Refutes-not _ (Decides-has_units m.segments)
 refutes m faults.Control = Refutes-not _ (Decides-controlled m.segments)
-refutes m faults.NoLine = Refutes-no_line m.segments
-refutes m faults.Memory = Refutes-false
+refutes m faults.WithoutLines = Refutes-no_line m.segments
+refutes m other = Refutes-false
 
 -- what a line says
 order_of_none : (group : List Segment) → HasNone is_rff_on group → group_order group ≡ None

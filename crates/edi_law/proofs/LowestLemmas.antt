@@ -1,50 +1,21 @@
 -- The first fault that is found in their order is the one with the lowest number.
-use Rattle.std.proofs.Common.{◌≡◌, ℕ, zero, suc, ◌<◌, ◌⊎◌, inl, inr, true, false, Bool, Option, Some, None}
-use Rattle.std.proofs.Common.{Ok, Err, refl, sym, ap, ◌∙◌, arith, find}
+use Rattle.std.proofs.Common.{◌≡◌, ℕ, zero, suc, ◌<◌, true, false, Bool, Option, Some, None, Ok, Err, sym, ap, ◌∙◌}
+use Rattle.std.proofs.Common.{arith, find}
 use Rattle.std.specs.Prelude.{◌↔◌}
 use Rattle.std.proofs.lemmas.Bool.{true≢false, true_from_ne_false}
-use Rattle.edi_base.proofs.Lowest.{Among, Above, Above-from_test, holds_here, none_lower, is_found, all_false, is_none}
+use Rattle.edi_base.proofs.Lowest.{holds_here, none_lower, is_found, all_false, is_none}
 use Rattle.edi_messages.specs.declared.fault.MessageFault.{MessageFault}
 use Rattle.edi_messages.specs.declared.fault.MessageFault.TheVariants as faulty
-use Rattle.edi_messages.specs.Fault.{faults, unless, judged}
-use Rattle.edi_law.specs.Lowest.{number, IsLowest, IsFaultless}
+use Rattle.edi_messages.specs.Fault.{number, faults, unless, judged}
+use Rattle.edi_messages.proofs.Judged.{rising, listed_or_false, content_found}
+use Rattle.edi_law.specs.Lowest.{IsLowest, IsFaultless}
 use Rattle.edi_law.proofs.Deciding.{Refutes}
-
-rising : Above number 0 faults
-rising = Above-from_test number 0 faults refl
-
--- each fault but out of memory is listed
-listed : (f : MessageFault) → (f ≡ faulty.Memory) ⊎ Among f faults
-listed faulty.MessageType = inr (inl refl)
-listed faulty.Beginning = inr (inr (inl refl))
-listed faulty.Function = inr (inr (inr (inl refl)))
-listed faulty.Date = inr (inr (inr (inr (inl refl))))
-listed faulty.Parties = inr (inr (inr (inr (inr (inl refl)))))
-listed faulty.Summary = inr (inr (inr (inr (inr (inr (inl refl))))))
-listed faulty.Line = inr (inr (inr (inr (inr (inr (inr (inl refl)))))))
-listed faulty.Quantity = inr (inr (inr (inr (inr (inr (inr (inr (inl refl))))))))
-listed faulty.Reference = inr (inr (inr (inr (inr (inr (inr (inr (inr (inl refl)))))))))
-listed faulty.Unit = inr (inr (inr (inr (inr (inr (inr (inr (inr (inr (inl refl))))))))))
-listed faulty.Control = inr (inr (inr (inr (inr (inr (inr (inr (inr (inr (inr (inl refl)))))))))))
-listed faulty.NoLine = inr (inr (inr (inr (inr (inr (inr (inr (inr (inr (inr (inr (inl refl))))))))))))
-listed faulty.Memory = inl refl
-
--- a test of each fault, which out of memory never passes
-listed_or_false : (p : MessageFault → Bool) → p faulty.Memory ≡ false → (f : MessageFault) → (p f ≡ false)
-    ⊎ Among f faults
-listed_or_false p no_memory f =
-    elim (listed f) [ inl memory ↦ inl (ap p memory ∙ no_memory) | inr among ↦ inr among ]
 
 module _ {X : Type 0} where
   fault_found : (found : Option MessageFault) (content : X) (f : MessageFault) → unless found content ≡ Err f
       → found ≡ Some f
   fault_found None content f h = absurd cc
   fault_found (Some g) content f h = let e : g ≡ f = cc in ap Some e
-
-  content_found : (found : Option MessageFault) (content right : X) → unless found content ≡ Ok right → (found ≡ None)
-      × (content ≡ right)
-  content_found None content right h = (refl, cc)
-  content_found (Some g) content right h = absurd cc
 
   -- Where all is valid under lower numbers, the test of a fault is false exactly where what is valid under its number holds.
   module _ (p : MessageFault → Bool) (IsRight : MessageFault → Type 0)

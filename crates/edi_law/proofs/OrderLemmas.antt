@@ -77,11 +77,9 @@ refutes m faults.Parties = Refutes-not _ (Decides-and _ _ (Decides-party (codes 
 refutes m faults.Summary = Refutes-not _ (Decides-closed m.segments)
 refutes m faults.Line = Refutes-lines are_numbered AreNumbered Refutes-numbered m.segments
 refutes m faults.Quantity = Refutes-not _ (Decides-lines _ _ (Decides-all (λ group. is_some (ordered group)) _ Decides-ordered) m.segments)
-refutes m faults.Reference = Refutes-false
-refutes m faults.Unit = Refutes-false
 refutes m faults.Control = Refutes-not _ (Decides-controlled m.segments)
-refutes m faults.NoLine = Refutes-no_line m.segments
-refutes m faults.Memory = Refutes-false
+refutes m faults.WithoutLines = Refutes-no_line m.segments
+refutes m other = Refutes-false
 
 -- what the order says
 lines_there : (groups : List (List Segment))

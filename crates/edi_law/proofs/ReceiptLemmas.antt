@@ -7,6 +7,7 @@ use Rattle.std.proofs.lemmas.Bool.Decides.{Decides-and, Decides-or}
 use Rattle.std.specs.Str.{bytes_eq}
 use Rattle.edi_segments.specs.declared.segment.Segment.{Segment}
 use Rattle.edi_envelope.specs.declared.interchange.RawMessage.{RawMessage}
+use Rattle.edi_messages.specs.Fault.{number}
 use Rattle.edi_messages.specs.Header.{party}
 use Rattle.edi_messages.specs.Lines.{amount, quantity_of}
 use Rattle.edi_messages.specs.Parts.{line_groups}
@@ -21,7 +22,7 @@ use Rattle.edi_goods.specs.declared.receipt.ReceiptLine.{ReceiptLine}
 use Rattle.edi_goods.specs.declared.receipt.ReceiptUnit.{ReceiptUnit}
 use Rattle.edi_law.specs.Header.{HasFunction, NamesParty}
 use Rattle.edi_law.specs.Lines.{IsLine, IsAmount}
-use Rattle.edi_law.specs.Lowest.{number, IsLowest, IsFaultless}
+use Rattle.edi_law.specs.Lowest.{IsLowest, IsFaultless}
 use Rattle.edi_law.specs.Parts.{OfLines}
 use Rattle.edi_law.specs.Receipt.{HasFunctionOf, HasKind, HasReceived, IsReceiptLine, AreWithin, AreReceived, IsRight, IsReceiptUnit, IsReceipt}
 use Rattle.edi_law.specs.Segments.{says}
@@ -200,14 +201,12 @@ refutes m faults.Beginning lower = Refutes-not _ (Decides-begins (codes "632") m
 refutes m faults.Function lower = Refutes-not _ (Decides-has_function m.segments)
 refutes m faults.Date lower = Refutes-not _ (Decides-dated m.segments)
 refutes m faults.Parties lower = Refutes-not _ (Decides-parties m.segments)
-refutes m faults.Summary lower = Refutes-false
 refutes m faults.Line lower = Refutes-not _ (Decides-each_line m.segments)
 refutes m faults.Quantity lower = Refutes-not _ (Decides-quantities m.segments (lower faults.Line (omega arith)))
-refutes m faults.Reference lower = Refutes-false
 refutes m faults.Unit lower = Refutes-not _ (Decides-has_units m.segments)
 refutes m faults.Control lower = Refutes-not _ (Decides-controlled m.segments)
-refutes m faults.NoLine lower = Refutes-no_line m.segments
-refutes m faults.Memory lower = Refutes-false
+refutes m faults.WithoutLines lower = Refutes-no_line m.segments
+refutes m other lower = Refutes-false
 
 -- what a unit says
 received_lines : (unit : List Segment)

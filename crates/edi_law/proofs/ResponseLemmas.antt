@@ -297,10 +297,9 @@ refutes m faults.Quantity =
     Refutes-not _ (Decides-read_lines (list_all (λ group. is_some (line_answer group))) (AllByRecursion IsChangeRight) refl
     (Decides-all (λ group. is_some (line_answer group)) IsChangeRight Decides-change) m.segments)
 refutes m faults.Reference = Refutes-not _ (Decides-references m.segments)
-refutes m faults.Unit = Refutes-false
 refutes m faults.Control = Refutes-not _ (Decides-controlled m.segments)
-refutes m faults.NoLine = Refutes-and _ _ (Decides-has_lines m.segments) (Refutes-no_line m.segments)
-refutes m faults.Memory = Refutes-false
+refutes m faults.WithoutLines = Refutes-and _ _ (Decides-has_lines m.segments) (Refutes-no_line m.segments)
+refutes m other = Refutes-false
 
 -- what the response says
 answer_there : (group : List Segment) (a : Action)

@@ -4,9 +4,7 @@ use Rattle.std.specs.List.{AllByRecursion, AllZip}
 use Rattle.edi_segments.specs.declared.segment.Segment.{Segment}
 use Rattle.edi_envelope.specs.declared.interchange.RawMessage.{RawMessage}
 use Rattle.edi_messages.specs.declared.fault.MessageFault.{MessageFault}
-use Rattle.edi_messages.specs.declared.fault.MessageFault.TheVariants.{MessageType, Beginning, Function, Date, Parties}
-use Rattle.edi_messages.specs.declared.fault.MessageFault.TheVariants.{Summary, Line, Quantity, Reference, Unit}
-use Rattle.edi_messages.specs.declared.fault.MessageFault.TheVariants.{Control, NoLine, Memory}
+use Rattle.edi_messages.specs.declared.fault.MessageFault.TheVariants as fault
 use Rattle.edi_goods.specs.declared.despatch.Despatch.{Despatch}
 use Rattle.edi_goods.specs.declared.despatch.DespatchLine.{DespatchLine}
 use Rattle.edi_goods.specs.declared.despatch.Unit.{Unit as DespatchUnit}
@@ -34,22 +32,21 @@ IsReferred inherited group =
     ⊎ (HasNone is_rff_on group × ((order : List ℕ) × (inherited ≡ Some order)))
 
 abbrev pub IsRight : RawMessage → MessageFault → Type 0
-IsRight m MessageType = IsOfType (codes "DESADV") m
-IsRight m Beginning = (number : List ℕ) × HasBeginning (codes "351") m.segments number
-IsRight m Function = HasFunction m.segments (codes "9")
-IsRight m Date = IsDated m.segments
-IsRight m Parties = ((buyer : Option (List ℕ)) × NamesBuyer m.segments buyer)
+IsRight m fault.MessageType = IsOfType (codes "DESADV") m
+IsRight m fault.Beginning = (number : List ℕ) × HasBeginning (codes "351") m.segments number
+IsRight m fault.Function = HasFunction m.segments (codes "9")
+IsRight m fault.Date = IsDated m.segments
+IsRight m fault.Parties = ((buyer : Option (List ℕ)) × NamesBuyer m.segments buyer)
     × ((supplier : List ℕ) × NamesParty (codes "SU") m.segments supplier)
-IsRight m Summary = ⊤
-IsRight m Line = AreLines m.segments
-IsRight m Quantity =
+IsRight m fault.Line = AreLines m.segments
+IsRight m fault.Quantity =
     OfUnitLines (AllByRecursion (λ group. (quantity : ℕ) × HasQuantity (codes "12") 1 group quantity)) m.segments
-IsRight m Reference = (inherited : Option (List ℕ)) × Inherits m.segments inherited
+IsRight m fault.Reference = (inherited : Option (List ℕ)) × Inherits m.segments inherited
     × OfUnitLines (AllByRecursion (IsReferred inherited)) m.segments
-IsRight m Unit = HasUnits m.segments
-IsRight m Control = IsControlled m.segments
-IsRight m NoLine = HasLine m.segments
-IsRight m Memory = ⊤
+IsRight m fault.Unit = HasUnits m.segments
+IsRight m fault.Control = IsControlled m.segments
+IsRight m fault.WithoutLines = HasLine m.segments
+IsRight m other = ⊤
 
 -- a line of the advice is what its group says
 pub record IsDespatchLine (inherited : Option (List ℕ)) (group : List Segment) (line : DespatchLine) : Type 0 where

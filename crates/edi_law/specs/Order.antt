@@ -4,9 +4,7 @@ use Rattle.std.specs.List.{AllByRecursion, AllZip}
 use Rattle.edi_segments.specs.declared.segment.Segment.{Segment}
 use Rattle.edi_envelope.specs.declared.interchange.RawMessage.{RawMessage}
 use Rattle.edi_messages.specs.declared.fault.MessageFault.{MessageFault}
-use Rattle.edi_messages.specs.declared.fault.MessageFault.TheVariants.{MessageType, Beginning, Function, Date, Parties}
-use Rattle.edi_messages.specs.declared.fault.MessageFault.TheVariants.{Summary, Line, Quantity, Reference, Unit}
-use Rattle.edi_messages.specs.declared.fault.MessageFault.TheVariants.{Control, NoLine, Memory}
+use Rattle.edi_messages.specs.declared.fault.MessageFault.TheVariants as fault
 use Rattle.edi_orders.specs.declared.order.Order.{Order}
 use Rattle.edi_orders.specs.declared.order.OrderLine.{OrderLine}
 use Rattle.edi_law.specs.Header.{IsOfType, HasBeginning, HasFunction, IsDated, NamesParty}
@@ -21,21 +19,19 @@ pub record AreNumbered (groups : List (List Segment)) : Type 0 where
   pub apart : NoneTwice numbers
 
 abbrev pub IsRight : RawMessage → MessageFault → Type 0
-IsRight m MessageType = IsOfType (codes "ORDERS") m
-IsRight m Beginning = (number : List ℕ) × HasBeginning (codes "220") m.segments number
-IsRight m Function = HasFunction m.segments (codes "9")
-IsRight m Date = IsDated m.segments
-IsRight m Parties = ((buyer : List ℕ) × NamesParty (codes "BY") m.segments buyer)
+IsRight m fault.MessageType = IsOfType (codes "ORDERS") m
+IsRight m fault.Beginning = (number : List ℕ) × HasBeginning (codes "220") m.segments number
+IsRight m fault.Function = HasFunction m.segments (codes "9")
+IsRight m fault.Date = IsDated m.segments
+IsRight m fault.Parties = ((buyer : List ℕ) × NamesParty (codes "BY") m.segments buyer)
     × ((supplier : List ℕ) × NamesParty (codes "SU") m.segments supplier)
-IsRight m Summary = IsClosed m.segments
-IsRight m Line = OfLines AreNumbered m.segments
-IsRight m Quantity =
+IsRight m fault.Summary = IsClosed m.segments
+IsRight m fault.Line = OfLines AreNumbered m.segments
+IsRight m fault.Quantity =
     OfLines (AllByRecursion (λ group. (quantity : ℕ) × HasQuantity (codes "21") 1 group quantity)) m.segments
-IsRight m Reference = ⊤
-IsRight m Unit = ⊤
-IsRight m Control = IsControlled m.segments
-IsRight m NoLine = HasLine m.segments
-IsRight m Memory = ⊤
+IsRight m fault.Control = IsControlled m.segments
+IsRight m fault.WithoutLines = HasLine m.segments
+IsRight m other = ⊤
 
 -- a line of the order is what its group says
 pub record IsOrderLine (group : List Segment) (line : OrderLine) : Type 0 where

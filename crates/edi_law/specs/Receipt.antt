@@ -5,9 +5,7 @@ use Rattle.std.specs.Str.{bytes_eq}
 use Rattle.edi_segments.specs.declared.segment.Segment.{Segment}
 use Rattle.edi_envelope.specs.declared.interchange.RawMessage.{RawMessage}
 use Rattle.edi_messages.specs.declared.fault.MessageFault.{MessageFault}
-use Rattle.edi_messages.specs.declared.fault.MessageFault.TheVariants.{MessageType, Beginning, Function, Date, Parties}
-use Rattle.edi_messages.specs.declared.fault.MessageFault.TheVariants.{Summary, Line, Quantity, Reference, Unit}
-use Rattle.edi_messages.specs.declared.fault.MessageFault.TheVariants.{Control, NoLine, Memory}
+use Rattle.edi_messages.specs.declared.fault.MessageFault.TheVariants as fault
 use Rattle.edi_goods.specs.declared.receipt.Receipt.{Receipt}
 use Rattle.edi_goods.specs.declared.receipt.ReceiptLine.{ReceiptLine}
 use Rattle.edi_goods.specs.declared.receipt.ReceiptUnit.{ReceiptUnit}
@@ -64,20 +62,18 @@ HasFunctionOf false message = HasFunction message (codes "9")
 HasFunctionOf true message = HasFunction message (codes "5")
 
 abbrev pub IsRight : RawMessage → MessageFault → Type 0
-IsRight m MessageType = IsOfType (codes "RECADV") m
-IsRight m Beginning = (number : List ℕ) × HasBeginning (codes "632") m.segments number
-IsRight m Function = (replaces : Bool) × HasFunctionOf replaces m.segments
-IsRight m Date = IsDated m.segments
-IsRight m Parties = ((buyer : Option (List ℕ)) × NamesBuyer m.segments buyer)
+IsRight m fault.MessageType = IsOfType (codes "RECADV") m
+IsRight m fault.Beginning = (number : List ℕ) × HasBeginning (codes "632") m.segments number
+IsRight m fault.Function = (replaces : Bool) × HasFunctionOf replaces m.segments
+IsRight m fault.Date = IsDated m.segments
+IsRight m fault.Parties = ((buyer : Option (List ℕ)) × NamesBuyer m.segments buyer)
     × ((supplier : List ℕ) × NamesParty (codes "SU") m.segments supplier)
-IsRight m Summary = ⊤
-IsRight m Line = AreLines m.segments
-IsRight m Quantity = OfUnits (AllByRecursion (OfLines AreReceived)) m.segments
-IsRight m Reference = ⊤
-IsRight m Unit = HasUnits m.segments
-IsRight m Control = IsControlled m.segments
-IsRight m NoLine = HasLine m.segments
-IsRight m Memory = ⊤
+IsRight m fault.Line = AreLines m.segments
+IsRight m fault.Quantity = OfUnits (AllByRecursion (OfLines AreReceived)) m.segments
+IsRight m fault.Unit = HasUnits m.segments
+IsRight m fault.Control = IsControlled m.segments
+IsRight m fault.WithoutLines = HasLine m.segments
+IsRight m other = ⊤
 
 -- a unit of the advice is what the unit of the message says
 pub record IsReceiptUnit (segments : List Segment) (unit : ReceiptUnit) : Type 0 where

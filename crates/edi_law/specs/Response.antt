@@ -5,9 +5,7 @@ use Rattle.edi_segments.specs.declared.segment.Segment.{Segment}
 use Rattle.edi_envelope.specs.Segments.{component}
 use Rattle.edi_envelope.specs.declared.interchange.RawMessage.{RawMessage}
 use Rattle.edi_messages.specs.declared.fault.MessageFault.{MessageFault}
-use Rattle.edi_messages.specs.declared.fault.MessageFault.TheVariants.{MessageType, Beginning, Function, Date, Parties}
-use Rattle.edi_messages.specs.declared.fault.MessageFault.TheVariants.{Summary, Line, Quantity, Reference, Unit}
-use Rattle.edi_messages.specs.declared.fault.MessageFault.TheVariants.{Control, NoLine, Memory}
+use Rattle.edi_messages.specs.declared.fault.MessageFault.TheVariants as fault
 use Rattle.edi_orders.specs.declared.response.Answer.{Answer}
 use Rattle.edi_orders.specs.declared.response.Answer.TheVariants as answers
 use Rattle.edi_orders.specs.declared.response.AnswerLine.{AnswerLine}
@@ -75,21 +73,20 @@ IsReferred order group = HasNone is_rff_on group
     ⊎ OfOnly is_rff_on group (λ rff. NamesOrder order rff × NamesLineOrNone rff)
 
 abbrev pub IsRight : RawMessage → MessageFault → Type 0
-IsRight m MessageType = IsOfType (codes "ORDRSP") m
-IsRight m Beginning = (number : List ℕ) × HasBeginning (codes "231") m.segments number
-IsRight m Function = (extent : Extent) × HasExtent m.segments extent
-IsRight m Date = IsDated m.segments
-IsRight m Parties = ((buyer : List ℕ) × NamesParty (codes "BY") m.segments buyer)
+IsRight m fault.MessageType = IsOfType (codes "ORDRSP") m
+IsRight m fault.Beginning = (number : List ℕ) × HasBeginning (codes "231") m.segments number
+IsRight m fault.Function = (extent : Extent) × HasExtent m.segments extent
+IsRight m fault.Date = IsDated m.segments
+IsRight m fault.Parties = ((buyer : List ℕ) × NamesParty (codes "BY") m.segments buyer)
     × ((supplier : List ℕ) × NamesParty (codes "SU") m.segments supplier)
-IsRight m Summary = IsClosed m.segments
-IsRight m Line = OfReadLines AreAnswered m.segments
-IsRight m Quantity = OfReadLines (AllByRecursion IsChangeRight) m.segments
-IsRight m Reference = (order : List ℕ) × HeaderNames m.segments order
+IsRight m fault.Summary = IsClosed m.segments
+IsRight m fault.Line = OfReadLines AreAnswered m.segments
+IsRight m fault.Quantity = OfReadLines (AllByRecursion IsChangeRight) m.segments
+IsRight m fault.Reference = (order : List ℕ) × HeaderNames m.segments order
     × OfReadLines (AllByRecursion (IsReferred order)) m.segments
-IsRight m Unit = ⊤
-IsRight m Control = IsControlled m.segments
-IsRight m NoLine = HasExtent m.segments EachLine → HasLine m.segments
-IsRight m Memory = ⊤
+IsRight m fault.Control = IsControlled m.segments
+IsRight m fault.WithoutLines = HasExtent m.segments EachLine → HasLine m.segments
+IsRight m other = ⊤
 
 -- the answer to a line
 abbrev pub HasAnswer : List Segment → LineAnswer → Type 0

@@ -1,57 +1,49 @@
 -- What is known of a message whose record is valid.
-use Rattle.std.proofs.Common.{◌≡◌, ℕ, zero, suc, Bool, true, false, List, [], ◌∷◌, cond, slice_get, Option, Some, None, Ok, refl}
-use Rattle.std.proofs.Common.{◌==◌, arith, ap, ◌∙◌}
-use Rattle.std.specs.List.{find}
-use Rattle.std.proofs.lemmas.Bool.Decides.{nat_tests}
-use Rattle.edi_messages.specs.Fault.{faults, unless, judged}
+use Rattle.std.proofs.Common.{◌≡◌, ◌⊎◌, inl, inr, Bool, false, List, [], ◌∷◌, find, Option, Some, None, Ok, refl, sym, ap}
+use Rattle.std.proofs.Common.{◌==◌, ◌∙◌}
+use Rattle.std.proofs.lemmas.Bool.{cases_Bool}
+use Rattle.edi_base.proofs.Lowest.{Among, Above, Above-from_test, all_false}
+use Rattle.edi_messages.specs.Fault.{number, faults, unless, judged}
 use Rattle.edi_messages.specs.declared.fault.MessageFault.{MessageFault}
+use Rattle.edi_messages.specs.declared.fault.MessageFault.TheVariants as fault
 
-found_none : {X : Type 0} (found : Option MessageFault) (content right : X)
+pub rising : Above number 0 faults
+rising = Above-from_test number 0 faults refl
+
+found_among : (p : MessageFault → Bool) (among : List MessageFault) (f : MessageFault) → find p among ≡ Some f → Among f among
+found_among p [] f h = absurd cc
+found_among p (first ∷ others) f h =
+    elim (cases_Bool (p first)) [
+      | inl is ↦ let same : Some first ≡ Some f = sym (rw is refl) ∙ h in inl cc
+      | inr not_ ↦ inr (found_among p others f (sym (rw not_ refl) ∙ h))
+    ]
+
+-- each fault but out of memory is listed: it is found by its number
+listed : (f : MessageFault) → (f ≡ fault.Memory) ⊎ Among f faults
+listed fault.Memory = inl refl
+listed other = inr (found_among (λ one. number one == number other) faults other refl)
+
+-- a test of each fault, which out of memory never passes
+pub listed_or_false : (p : MessageFault → Bool) → p fault.Memory ≡ false → (f : MessageFault) → (p f ≡ false)
+    ⊎ Among f faults
+listed_or_false p no_memory f =
+    elim (listed f) [ inl memory ↦ inl (ap p memory ∙ no_memory) | inr among ↦ inr among ]
+
+pub content_found : {X : Type 0} (found : Option MessageFault) (content right : X)
     → unless found content ≡ Ok right
     → (found ≡ None) × (content ≡ right)
-found_none None content right h = (refl, cc)
-found_none (Some fault) content right h = absurd cc
-
-passed_over : (here : Bool) (fault : MessageFault) (later : Option MessageFault)
-    → cond here (Some fault) later ≡ None
-    → (here ≡ false) × (later ≡ None)
-passed_over true fault later h = absurd cc
-passed_over false fault later h = (refl, h)
-
-none_at : (holds : MessageFault → Bool) (among : List MessageFault) (place : ℕ) (fault : MessageFault)
-    → find holds among ≡ None
-    → slice_get among place ≡ Some fault
-    → holds fault ≡ false
-none_at holds [] place fault h at = absurd cc
-none_at holds (first ∷ others) zero fault h at =
-    let same : first ≡ fault = cc in rw (← same) (passed_over (holds first) first (find holds others) h).0
-none_at holds (first ∷ others) (suc place) fault h at =
-    none_at holds others place fault (passed_over (holds first) first (find holds others) h).1 at
+content_found None content right h = (refl, cc)
+content_found (Some f) content right h = absurd cc
 
 -- the record is the one that was to be judged
 pub judged_is : {X : Type 0} (holds : MessageFault → Bool) (content right : X) → judged holds content ≡ Ok right → content ≡ right
-judged_is holds content right h = (found_none (find holds faults) content right h).1
+judged_is holds content right h = (content_found (find holds faults) content right h).1
 
--- no condition holds, such as that of the fault at a place in their order
-pub judged_at : {X : Type 0} (holds : MessageFault → Bool) (content right : X) (place : ℕ) (fault : MessageFault)
+-- no condition holds
+pub judged_none : {X : Type 0} (holds : MessageFault → Bool) (content right : X)
+    → holds fault.Memory ≡ false
     → judged holds content ≡ Ok right
-    → slice_get faults place ≡ Some fault
-    → holds fault ≡ false
-judged_at holds content right place fault h at = none_at holds faults place fault (found_none (find holds faults) content right h).0 at
-
--- where no condition holds, the record is what was to be judged
-none_found : (holds : MessageFault → Bool) (among : List MessageFault)
-    → ((fault : MessageFault) → holds fault ≡ false)
-    → find holds among ≡ None
-none_found holds [] none = refl
-none_found holds (first ∷ others) none = rw (none first) (none_found holds others none)
-
-pub judged_when : {X : Type 0} (holds : MessageFault → Bool) (content right : X)
-    → ((fault : MessageFault) → holds fault ≡ false)
-    → content ≡ right
-    → judged holds content ≡ Ok right
-judged_when holds content right none same = ap (λ found. unless found content) (none_found holds faults none) ∙ ap Ok same
-
--- a count that is not none
-pub some_counted : (n : ℕ) → (n ≡ 0 → ⊥) → (n == 0) ≡ false
-some_counted n h = grind (arith, nat_tests)
+    → (f : MessageFault)
+    → holds f ≡ false
+judged_none holds content right no_memory h =
+    all_false number holds faults rising (listed_or_false holds no_memory) (content_found (find holds faults) content right h).0

@@ -1,33 +1,45 @@
--- The faults of a message: which one goes before another, and what is printed for each.
-use Rattle.std.specs.Prelude.{ℕ, Bool, List, [], ◌∷◌, find, codes, Option, Some, None, Result, Ok, Err}
+-- The faults of a message: the number of each, which one goes before another, and what is printed.
+use Rattle.std.specs.Prelude.{ℕ, ◌+◌, ◌/◌, ◌%◌, Bool, not, nat_lt, List, [], ◌∷◌, ◌++◌, filter, find, codes}
+use Rattle.std.specs.Prelude.{Option, Some, None, Result, Ok, Err}
 use Rattle.edi_messages.specs.declared.fault.MessageFault.{MessageFault}
-use Rattle.edi_messages.specs.declared.fault.MessageFault.TheVariants.{MessageType, Beginning, Function, Date, Parties}
-use Rattle.edi_messages.specs.declared.fault.MessageFault.TheVariants.{Summary, Line, Quantity, Reference, Unit}
-use Rattle.edi_messages.specs.declared.fault.MessageFault.TheVariants.{Control, NoLine, Memory}
+use Rattle.edi_messages.specs.declared.fault.MessageFault.TheVariants as fault
+
+-- the number that is printed of a fault; out of memory has none
+abbrev pub number : MessageFault → ℕ
+number fault.MessageType = 1
+number fault.Beginning = 2
+number fault.Function = 3
+number fault.Date = 4
+number fault.Parties = 5
+number fault.Summary = 6
+number fault.Line = 7
+number fault.Quantity = 8
+number fault.Reference = 9
+number fault.Unit = 10
+number fault.Control = 11
+number fault.WithoutLines = 12
+number fault.Memory = 0
+
+-- M and the two digits of a number
+abbrev pub numbered : ℕ → List ℕ
+numbered n = codes "M" ++ (48 + n / 10) ∷ (48 + n % 10) ∷ []
 
 abbrev pub code_text : MessageFault → List ℕ
-code_text MessageType = codes "M01"
-code_text Beginning = codes "M02"
-code_text Function = codes "M03"
-code_text Date = codes "M04"
-code_text Parties = codes "M05"
-code_text Summary = codes "M06"
-code_text Line = codes "M07"
-code_text Quantity = codes "M08"
-code_text Reference = codes "M09"
-code_text Unit = codes "M10"
-code_text Control = codes "M11"
-code_text NoLine = codes "M12"
-code_text Memory = codes "memory"
+code_text fault.Memory = codes "memory"
+code_text other = numbered (number other)
 
 -- the faults by rising number
 abbrev pub faults : List MessageFault
-faults = MessageType ∷ Beginning ∷ Function ∷ Date ∷ Parties ∷ Summary ∷ Line ∷ Quantity ∷ Reference ∷ Unit ∷ Control
-    ∷ NoLine ∷ []
+faults = fault.MessageType ∷ fault.Beginning ∷ fault.Function ∷ fault.Date ∷ fault.Parties ∷ fault.Summary ∷ fault.Line
+    ∷ fault.Quantity ∷ fault.Reference ∷ fault.Unit ∷ fault.Control ∷ fault.WithoutLines ∷ []
+
+-- this fault and those behind it
+abbrev pub faults_from : MessageFault → List MessageFault
+faults_from first = filter (λ later. not (nat_lt (number later) (number first))) faults
 
 abbrev pub unless : {X : Type 0} → Option MessageFault → X → Result X MessageFault
 unless None content = Ok content
-unless (Some fault) content = Err fault
+unless (Some found) content = Err found
 
 -- a record where no condition holds, else the lowest fault whose condition does
 abbrev pub judged : {X : Type 0} → (MessageFault → Bool) → X → Result X MessageFault

@@ -30,7 +30,7 @@ pub enum MessageFault {
     /// M11: the number of lines in CNT.
     Control,
     /// M12: there is no line.
-    NoLine,
+    WithoutLines,
     /// Out of memory.
     Memory,
 }
@@ -54,7 +54,7 @@ impl MessageFault {
             MessageFault::Reference => "M09",
             MessageFault::Unit => "M10",
             MessageFault::Control => "M11",
-            MessageFault::NoLine => "M12",
+            MessageFault::WithoutLines => "M12",
             MessageFault::Memory => "memory",
         }
     }

@@ -9,8 +9,7 @@ use Rattle.edi_orders.specs.declared.response.Answer.{Answer}
 use Rattle.edi_orders.specs.declared.response.Answer.TheVariants.{Lines, AllAccepted, AllRefused}
 use Rattle.edi_orders.specs.declared.response.LineAnswer.TheVariants.{Changed}
 use Rattle.edi_orders.specs.declared.response.Response.{Response}
-use Rattle.edi_messages.specs.declared.fault.MessageFault.TheVariants.{Beginning, Date, Parties, Summary, Line, Quantity}
-use Rattle.edi_messages.specs.declared.fault.MessageFault.TheVariants.{Reference, Control, NoLine}
+use Rattle.edi_messages.specs.declared.fault.MessageFault.TheVariants as fault
 
 abbrev dtm : List ℕ → Segment
 dtm day = segment (codes "DTM") ((codes "137" ∷ day ∷ codes "102" ∷ []) ∷ [])
@@ -45,34 +44,34 @@ an_order : order_of (order (dtm (codes "20250603")) (lin (codes "1")) (qty (code
 unfolding order_of
 an_order = refl
 
-quantity_zero : order_of (order (dtm (codes "20250603")) (lin (codes "1")) (qty (codes "0"))) ≡ Err Quantity
+quantity_zero : order_of (order (dtm (codes "20250603")) (lin (codes "1")) (qty (codes "0"))) ≡ Err fault.Quantity
 unfolding order_of
 quantity_zero = refl
 
-no_leap_day : order_of (order (dtm (codes "20250229")) (lin (codes "1")) (qty (codes "48"))) ≡ Err Date
+no_leap_day : order_of (order (dtm (codes "20250229")) (lin (codes "1")) (qty (codes "48"))) ≡ Err fault.Date
 unfolding order_of
 no_leap_day = refl
 
-line_zero_before_quantity_zero : order_of (order (dtm (codes "20250603")) (lin (codes "0")) (qty (codes "0"))) ≡ Err Line
+line_zero_before_quantity_zero : order_of (order (dtm (codes "20250603")) (lin (codes "0")) (qty (codes "0"))) ≡ Err fault.Line
 unfolding order_of
 line_zero_before_quantity_zero = refl
 
 -- two BGM, no DTM and quantity 0
 three_faults : order_of
     (message (unh ∷ bgm ∷ bgm ∷ buyer ∷ supplier ∷ lin (codes "1") ∷ qty (codes "0") ∷ uns ∷ cnt (codes "1") ∷ unt ∷ []))
-    ≡ Err Beginning
+    ≡ Err fault.Beginning
 unfolding order_of
 three_faults = refl
 
 no_supplier : order_of
     (message (unh ∷ bgm ∷ dtm (codes "20250603") ∷ buyer ∷ lin (codes "1") ∷ supplier ∷ qty (codes "48") ∷ uns ∷ unt ∷ []))
-    ≡ Err Parties
+    ≡ Err fault.Parties
 unfolding order_of
 no_supplier = refl
 
 line_in_the_summary : order_of
     (message (unh ∷ bgm ∷ dtm (codes "20250603") ∷ buyer ∷ supplier ∷ uns ∷ lin (codes "1") ∷ qty (codes "48") ∷ unt ∷ []))
-    ≡ Err Summary
+    ≡ Err fault.Summary
 unfolding order_of
 line_in_the_summary = refl
 
@@ -88,15 +87,17 @@ one_number_twice : order_of (message (unh
     ∷ uns
     ∷ unt
     ∷ []))
-    ≡ Err Line
+    ≡ Err fault.Line
 unfolding order_of
 one_number_twice = refl
 
-wrong_control : order_of (message (unh ∷ bgm ∷ dtm (codes "20250603") ∷ buyer ∷ supplier ∷ uns ∷ cnt (codes "1") ∷ unt ∷ [])) ≡ Err Control
+wrong_control : order_of (message (unh ∷ bgm ∷ dtm (codes "20250603") ∷ buyer ∷ supplier ∷ uns ∷ cnt (codes "1") ∷ unt ∷ []))
+    ≡ Err fault.Control
 unfolding order_of
 wrong_control = refl
 
-no_line : order_of (message (unh ∷ bgm ∷ dtm (codes "20250603") ∷ buyer ∷ supplier ∷ uns ∷ cnt (codes "0") ∷ unt ∷ [])) ≡ Err NoLine
+no_line : order_of (message (unh ∷ bgm ∷ dtm (codes "20250603") ∷ buyer ∷ supplier ∷ uns ∷ cnt (codes "0") ∷ unt ∷ []))
+    ≡ Err fault.WithoutLines
 unfolding order_of
 no_line = refl
 
@@ -149,10 +150,10 @@ all_accepted = refl
 
 another_order : response_of (response (codes "4")
     (answered (codes "5") ∷ segment (codes "RFF") ((codes "ON" ∷ codes "128577" ∷ []) ∷ []) ∷ uns ∷ unt ∷ []))
-    ≡ Err Reference
+    ≡ Err fault.Reference
 unfolding response_of
 another_order = refl
 
-no_answered_line : response_of (response (codes "9") (uns ∷ unt ∷ [])) ≡ Err NoLine
+no_answered_line : response_of (response (codes "9") (uns ∷ unt ∷ [])) ≡ Err fault.WithoutLines
 unfolding response_of
 no_answered_line = refl

@@ -1,6 +1,5 @@
 -- The order that a message is (ORDERS), or its message fault.
-use Rattle.std.specs.Prelude.{ℕ, ◌==◌, Bool, false, not, ◌&&◌, ◌||◌, List, [], ◌∷◌, map, find, is_some, codes, Option}
-use Rattle.std.specs.Prelude.{Result}
+use Rattle.std.specs.Prelude.{ℕ, ◌==◌, Bool, false, not, ◌&&◌, ◌||◌, List, [], map, find, is_some, codes, Option, Result}
 use Rattle.std.specs.List.{list_all}
 use Rattle.std.specs.Option.{unwrap_or}
 use Rattle.std.specs.Str.{bytes_eq}
@@ -13,9 +12,7 @@ use Rattle.edi_messages.specs.Lines.{number_or_zero, gtin, is_line, quantity_of}
 use Rattle.edi_messages.specs.Summary.{has_summary, line_count, is_controlled}
 use Rattle.edi_messages.specs.Fault.{judged}
 use Rattle.edi_messages.specs.declared.fault.MessageFault.{MessageFault}
-use Rattle.edi_messages.specs.declared.fault.MessageFault.TheVariants.{MessageType, Beginning, Function, Date, Parties}
-use Rattle.edi_messages.specs.declared.fault.MessageFault.TheVariants.{Summary, Line, Quantity, Reference, Unit}
-use Rattle.edi_messages.specs.declared.fault.MessageFault.TheVariants.{Control, NoLine, Memory}
+use Rattle.edi_messages.specs.declared.fault.MessageFault.TheVariants as fault
 use Rattle.edi_orders.specs.declared.order.Order.{Order}
 use Rattle.edi_orders.specs.declared.order.OrderLine.{OrderLine}
 
@@ -25,32 +22,22 @@ ordered group = quantity_of (codes "21") 1 group
 
 -- Each condition, of the whole message. Each is defined also where another one holds.
 abbrev pub holds : MessageFault → RawMessage → Bool
-holds MessageType m = not (is_type (codes "ORDERS") m)
-holds Beginning m = not (begins_as (codes "220") m.segments)
-holds Function m = not (bytes_eq (function m.segments) (codes "9"))
-holds Date m = not (has_date m.segments)
-holds Parties m = not (is_some (party (codes "BY") m.segments) && is_some (party (codes "SU") m.segments))
-holds Summary m = not (has_summary m.segments)
-holds Line m = not (list_all is_line (line_groups m.segments))
+holds fault.MessageType m = not (is_type (codes "ORDERS") m)
+holds fault.Beginning m = not (begins_as (codes "220") m.segments)
+holds fault.Function m = not (bytes_eq (function m.segments) (codes "9"))
+holds fault.Date m = not (has_date m.segments)
+holds fault.Parties m = not (is_some (party (codes "BY") m.segments) && is_some (party (codes "SU") m.segments))
+holds fault.Summary m = not (has_summary m.segments)
+holds fault.Line m = not (list_all is_line (line_groups m.segments))
     || has_number_twice (map number_or_zero (line_groups m.segments))
-holds Quantity m = not (list_all (λ group. is_some (ordered group)) (line_groups m.segments))
-holds Reference m = false
-holds Unit m = false
-holds Control m = not (is_controlled m.segments)
-holds NoLine m = line_count m.segments == 0
-holds Memory m = false
+holds fault.Quantity m = not (list_all (λ group. is_some (ordered group)) (line_groups m.segments))
+holds fault.Control m = not (is_controlled m.segments)
+holds fault.WithoutLines m = line_count m.segments == 0
+holds other m = false
 
 -- the lowest of these faults whose condition holds
 abbrev pub lowest : List MessageFault → RawMessage → Option MessageFault
 lowest among m = find (λ fault. holds fault m) among
-
--- the faults of no line
-abbrev pub end_faults : List MessageFault
-end_faults = Reference ∷ Unit ∷ Control ∷ NoLine ∷ []
-
--- the faults of lines, and those behind them
-abbrev pub line_faults : List MessageFault
-line_faults = Line ∷ Quantity ∷ end_faults
 
 abbrev pub line_of : List Segment → OrderLine
 line_of group =

@@ -1,5 +1,5 @@
 -- The response that a message is (ORDRSP), or its message fault.
-use Rattle.std.specs.Prelude.{ℕ, ◌==◌, Bool, true, false, not, ◌&&◌, ◌||◌, if◌then◌else◌, List, [], ◌∷◌, map, find}
+use Rattle.std.specs.Prelude.{ℕ, ◌==◌, Bool, true, false, not, ◌&&◌, ◌||◌, if◌then◌else◌, List, [], map, find}
 use Rattle.std.specs.Prelude.{is_some, codes, Option, Some, None, option_map, Result}
 use Rattle.std.specs.List.{list_all}
 use Rattle.std.specs.Option.{unwrap_or}
@@ -18,9 +18,7 @@ use Rattle.edi_orders.specs.declared.extent.Extent.{Extent}
 use Rattle.edi_orders.specs.declared.extent.Extent.TheVariants as extents
 use Rattle.edi_messages.specs.Fault.{judged}
 use Rattle.edi_messages.specs.declared.fault.MessageFault.{MessageFault}
-use Rattle.edi_messages.specs.declared.fault.MessageFault.TheVariants.{MessageType, Beginning, Function, Date, Parties}
-use Rattle.edi_messages.specs.declared.fault.MessageFault.TheVariants.{Summary, Line, Quantity, Reference, Unit}
-use Rattle.edi_messages.specs.declared.fault.MessageFault.TheVariants.{Control, NoLine, Memory}
+use Rattle.edi_messages.specs.declared.fault.MessageFault.TheVariants as fault
 use Rattle.edi_orders.specs.declared.response.Response.{Response}
 use Rattle.edi_orders.specs.declared.response.Answer.{Answer}
 use Rattle.edi_orders.specs.declared.response.Answer.TheVariants as answers
@@ -91,33 +89,24 @@ is_referred order group = none_or_one_reference (is_referred_by order) group
 
 -- Each condition, of the whole message. Each is defined also where another one holds.
 abbrev pub holds : MessageFault → RawMessage → Bool
-holds MessageType m = not (is_type (codes "ORDRSP") m)
-holds Beginning m = not (begins_as (codes "231") m.segments)
-holds Function m = not (is_some (extent m.segments))
-holds Date m = not (has_date m.segments)
-holds Parties m = not (is_some (party (codes "BY") m.segments) && is_some (party (codes "SU") m.segments))
-holds Summary m = not (has_summary m.segments)
-holds Line m = not (list_all is_line (read_groups m.segments)
+holds fault.MessageType m = not (is_type (codes "ORDRSP") m)
+holds fault.Beginning m = not (begins_as (codes "231") m.segments)
+holds fault.Function m = not (is_some (extent m.segments))
+holds fault.Date m = not (has_date m.segments)
+holds fault.Parties m = not (is_some (party (codes "BY") m.segments) && is_some (party (codes "SU") m.segments))
+holds fault.Summary m = not (has_summary m.segments)
+holds fault.Line m = not (list_all is_line (read_groups m.segments)
     && list_all (λ group. is_some (action group)) (read_groups m.segments))
-holds Quantity m = not (list_all (λ group. is_some (line_answer group)) (read_groups m.segments))
-holds Reference m =
+holds fault.Quantity m = not (list_all (λ group. is_some (line_answer group)) (read_groups m.segments))
+holds fault.Reference m =
     not (is_some (order m.segments) && list_all (is_referred (order m.segments)) (read_groups m.segments))
-holds Unit m = false
-holds Control m = not (is_controlled m.segments)
-holds NoLine m = has_lines (extent m.segments) && line_count m.segments == 0
-holds Memory m = false
+holds fault.Control m = not (is_controlled m.segments)
+holds fault.WithoutLines m = has_lines (extent m.segments) && line_count m.segments == 0
+holds other m = false
 
 -- the lowest of these faults whose condition holds
 abbrev pub lowest : List MessageFault → RawMessage → Option MessageFault
 lowest among m = find (λ fault. holds fault m) among
-
--- the faults of no line
-abbrev pub end_faults : List MessageFault
-end_faults = Unit ∷ Control ∷ NoLine ∷ []
-
--- the faults of lines, and those behind them
-abbrev pub line_faults : List MessageFault
-line_faults = Line ∷ Quantity ∷ Reference ∷ end_faults
 
 abbrev pub line_of : List Segment → AnswerLine
 line_of group =

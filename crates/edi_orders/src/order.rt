@@ -2,7 +2,7 @@
 ghost use Rattle.std.specs.Prelude.{◌≡◌, ◌≢◌, IfOk, IfErr, Ok, Err, Some, true, false, codes, map, is_some};
 ghost use Rattle.std.specs.List.{list_all};
 ghost use Rattle.edi_base.specs.Seen.{has_number_twice as twice};
-ghost use Rattle.edi_messages.specs.Fault.{faults};
+ghost use Rattle.edi_messages.specs.Fault.{faults, faults_from};
 ghost use Rattle.edi_messages.specs.Header.{party};
 ghost use Rattle.edi_messages.specs.Lines.{number_or_zero};
 ghost use Rattle.edi_messages.specs.Parts.{line_groups};
@@ -72,7 +72,7 @@ struct Heading {
 fn read_heading(message: &RawMessage) -> Result<Heading, MessageFault>
     ensures said { IfOk result (λ heading. (party (codes "BY") message.now.segments ≡ Some heading.buyer)
         × (party (codes "SU") message.now.segments ≡ Some heading.supplier)) }
-    ensures ok { IfOk result (λ _. spec.lowest faults message.now ≡ spec.lowest spec.line_faults message.now) }
+    ensures ok { IfOk result (λ _. spec.lowest faults message.now ≡ spec.lowest (faults_from MessageFault.Line) message.now) }
     ensures err { IfErr result (λ fault. spec.lowest faults message.now ≡ Some fault) }
 {
     let segments = message.segments.as_slice();
@@ -100,8 +100,10 @@ fn read_heading(message: &RawMessage) -> Result<Heading, MessageFault>
 fn read_lines(alloc: Global, message: &RawMessage) -> Result<Items<OrderLine>, MessageFault>
     ensures said { IfOk result (λ lines. lines ≡ map spec.line_of (line_groups message.now.segments)) }
     ensures apart { IfOk result (λ _. twice (map number_or_zero (line_groups message.now.segments)) ≡ false) }
-    ensures ok { IfOk result (λ _. spec.lowest spec.line_faults message.now ≡ spec.lowest spec.end_faults message.now) }
-    ensures err { IfErr result (λ fault. fault ≢ MessageFault.Memory → spec.lowest spec.line_faults message.now ≡ Some fault) }
+    ensures ok { IfOk result (λ _. spec.lowest (faults_from MessageFault.Line) message.now
+        ≡ spec.lowest (faults_from MessageFault.Reference) message.now) }
+    ensures err { IfErr result (λ fault. fault ≢ MessageFault.Memory →
+        spec.lowest (faults_from MessageFault.Line) message.now ≡ Some fault) }
 {
     let items = line_items(alloc, message.segments.as_slice())?;
     if has_number_twice(alloc, items.as_slice())? {
@@ -127,7 +129,7 @@ impl Order {
             return Err(MessageFault::Control);
         }
         if line_count(segments) == 0 {
-            return Err(MessageFault::NoLine);
+            return Err(MessageFault::WithoutLines);
         }
         Ok(Order {
             number: copied(alloc, document_number(segments))?,

@@ -1,7 +1,7 @@
 //! Responses to orders (ORDRSP).
 ghost use Rattle.std.specs.Prelude.{◌≡◌, ◌≢◌, IfOk, IfErr, Ok, Err, Some, true, false, map, codes};
 ghost use Rattle.std.specs.List.{list_all};
-ghost use Rattle.edi_messages.specs.Fault.{faults};
+ghost use Rattle.edi_messages.specs.Fault.{faults, faults_from};
 ghost use Rattle.edi_messages.specs.Header.{party};
 ghost use Rattle.edi_messages.specs.Lines.{is_line};
 ghost use Rattle.edi_messages.specs.References.{order};
@@ -117,7 +117,7 @@ fn read_heading(message: &RawMessage) -> Result<Heading, MessageFault>
     ensures said { IfOk result (λ heading. (spec.extent message.now.segments ≡ Some heading.extent)
         × (party (codes "BY") message.now.segments ≡ Some heading.buyer)
         × (party (codes "SU") message.now.segments ≡ Some heading.supplier)) }
-    ensures ok { IfOk result (λ _. spec.lowest faults message.now ≡ spec.lowest spec.line_faults message.now) }
+    ensures ok { IfOk result (λ _. spec.lowest faults message.now ≡ spec.lowest (faults_from MessageFault.Line) message.now) }
     ensures err { IfErr result (λ fault. spec.lowest faults message.now ≡ Some fault) }
 {
     let segments = message.segments.as_slice();
@@ -152,8 +152,10 @@ fn read_answers(
     requires { spec.extent message.now.segments ≡ Some extent }
     ensures said { IfOk result (λ answers. (order message.now.segments ≡ Some answers.order.now)
         × (answers.lines ≡ map spec.line_of (spec.read_groups message.now.segments))) }
-    ensures ok { IfOk result (λ _. spec.lowest spec.line_faults message.now ≡ spec.lowest spec.end_faults message.now) }
-    ensures err { IfErr result (λ fault. fault ≢ MessageFault.Memory → spec.lowest spec.line_faults message.now ≡ Some fault) }
+    ensures ok { IfOk result (λ _. spec.lowest (faults_from MessageFault.Line) message.now
+        ≡ spec.lowest (faults_from MessageFault.Unit) message.now) }
+    ensures err { IfErr result (λ fault. fault ≢ MessageFault.Memory →
+        spec.lowest (faults_from MessageFault.Line) message.now ≡ Some fault) }
 {
     let segments = message.segments.as_slice();
     let items = read_items(alloc, extent, segments)?;
@@ -186,7 +188,7 @@ impl Response {
             return Err(MessageFault::Control);
         }
         if extent == Extent::Lines && line_count(segments) == 0 {
-            return Err(MessageFault::NoLine);
+            return Err(MessageFault::WithoutLines);
         }
         Ok(Response {
             number: copied(alloc, document_number(segments))?,

@@ -6,8 +6,7 @@ use Rattle.edi_segments.specs.declared.fault.TokenFault.{TokenFault}
 use Rattle.edi_segments.specs.Reading.{tokens_of}
 use Rattle.edi_envelope.specs.declared.fault.EnvelopeFault.TheVariants.{InterchangeFrame, MessageFrame, MessageHeader}
 use Rattle.edi_envelope.specs.declared.fault.EnvelopeFault.TheVariants.{SegmentCount, RepeatedReference}
-use Rattle.edi_messages.specs.declared.fault.MessageFault.TheVariants.{Beginning, Date, Parties, Summary, Line, Quantity}
-use Rattle.edi_messages.specs.declared.fault.MessageFault.TheVariants.{Reference, Unit, Control}
+use Rattle.edi_messages.specs.declared.fault.MessageFault.TheVariants as fault
 use Rattle.edi_places.specs.Envelope.{envelope_place}
 use Rattle.edi_places.specs.Goods.{despatch_place, receipt_place}
 use Rattle.edi_places.specs.Orders.{order_place, response_place}
@@ -57,49 +56,49 @@ a_wrong_count_of_segments = refl
 a_repeated_reference : envelope_place RepeatedReference (segments (codes "UNB'UNH+1'UNT'UNH+2'UNT'UNH+1'UNT'UNZ'")) ≡ Some 6
 a_repeated_reference = refl
 
-another_beginning : order_place Beginning (segments (codes "UNH'BGM'DTM'BGM'UNT'")) ≡ 4
+another_beginning : order_place fault.Beginning (segments (codes "UNH'BGM'DTM'BGM'UNT'")) ≡ 4
 another_beginning = refl
 
-no_beginning : order_place Beginning (segments (codes "UNH'DTM'BGM'UNT'")) ≡ 2
+no_beginning : order_place fault.Beginning (segments (codes "UNH'DTM'BGM'UNT'")) ≡ 2
 no_beginning = refl
 
-two_dates : order_place Date (segments (codes "UNH'BGM'DTM+137:x'DTM+2'DTM+137:y'UNT'")) ≡ 5
+two_dates : order_place fault.Date (segments (codes "UNH'BGM'DTM+137:x'DTM+2'DTM+137:y'UNT'")) ≡ 5
 two_dates = refl
 
-no_date : order_place Date (segments (codes "UNH'BGM'UNS'DTM+137'UNT'")) ≡ 1
+no_date : order_place fault.Date (segments (codes "UNH'BGM'UNS'DTM+137'UNT'")) ≡ 1
 no_date = refl
 
-the_buyer_before_the_supplier : order_place Parties (segments (codes "UNH'BGM'NAD+SU'NAD+BY'UNT'")) ≡ 4
+the_buyer_before_the_supplier : order_place fault.Parties (segments (codes "UNH'BGM'NAD+SU'NAD+BY'UNT'")) ≡ 4
 the_buyer_before_the_supplier = refl
 
-a_line_behind_uns : order_place Summary (segments (codes "UNH'BGM'UNS+D'LIN'UNT'")) ≡ 4
+a_line_behind_uns : order_place fault.Summary (segments (codes "UNH'BGM'UNS+D'LIN'UNT'")) ≡ 4
 a_line_behind_uns = refl
 
 one_number_twice :
-    order_place Line (segments (codes "UNH'LIN+1++96385074:SRV'LIN+2++96385074:SRV'LIN+01++96385074:SRV'UNT'")) ≡ 4
+    order_place fault.Line (segments (codes "UNH'LIN+1++96385074:SRV'LIN+2++96385074:SRV'LIN+01++96385074:SRV'UNT'")) ≡ 4
 one_number_twice = refl
 
-no_quantity : order_place Quantity (segments (codes "UNH'LIN'QTY+21:1'LIN'QTY+12:1'UNT'")) ≡ 4
+no_quantity : order_place fault.Quantity (segments (codes "UNH'LIN'QTY+21:1'LIN'QTY+12:1'UNT'")) ≡ 4
 no_quantity = refl
 
-two_quantities : order_place Quantity (segments (codes "UNH'LIN'QTY+21:1'QTY+21:1'UNT'")) ≡ 4
+two_quantities : order_place fault.Quantity (segments (codes "UNH'LIN'QTY+21:1'QTY+21:1'UNT'")) ≡ 4
 two_quantities = refl
 
-a_line_of_another_order : response_place Reference (segments (codes "UNH'RFF+ON:A'LIN'RFF+ON:A'LIN'QTY'RFF+ON:B'UNT'")) ≡ 7
+a_line_of_another_order : response_place fault.Reference (segments (codes "UNH'RFF+ON:A'LIN'RFF+ON:A'LIN'QTY'RFF+ON:B'UNT'")) ≡ 7
 a_line_of_another_order = refl
 
-no_reference : despatch_place Reference (segments (codes "UNH'CPS+1'LIN'RFF+ON:A'LIN'UNT'")) ≡ 5
+no_reference : despatch_place fault.Reference (segments (codes "UNH'CPS+1'LIN'RFF+ON:A'LIN'UNT'")) ≡ 5
 no_reference = refl
 
-a_line_outside_of_units : despatch_place Unit (segments (codes "UNH'BGM'LIN'CPS'LIN'UNT'")) ≡ 3
+a_line_outside_of_units : despatch_place fault.Unit (segments (codes "UNH'BGM'LIN'CPS'LIN'UNT'")) ≡ 3
 a_line_outside_of_units = refl
 
 one_sscc_in_two_units :
-    receipt_place Unit (segments (codes "UNH'CPS+1'GIN+BJ+340123455000000012'LIN'CPS+2'GIN+BJ+340123455000000012'LIN'UNT'")) ≡ 6
+    receipt_place fault.Unit (segments (codes "UNH'CPS+1'GIN+BJ+340123455000000012'LIN'CPS+2'GIN+BJ+340123455000000012'LIN'UNT'")) ≡ 6
 one_sscc_in_two_units = refl
 
-the_first_kind_that_is_wrong : receipt_place Quantity (segments (codes "UNH'CPS'LIN'QTY+195:x'QTY+194:x'UNT'")) ≡ 5
+the_first_kind_that_is_wrong : receipt_place fault.Quantity (segments (codes "UNH'CPS'LIN'QTY+195:x'QTY+194:x'UNT'")) ≡ 5
 the_first_kind_that_is_wrong = refl
 
-two_controls : receipt_place Control (segments (codes "UNH'CNT+1'CNT+2'CNT+2'UNT'")) ≡ 4
+two_controls : receipt_place fault.Control (segments (codes "UNH'CNT+1'CNT+2'CNT+2'UNT'")) ≡ 4
 two_controls = refl

@@ -7,9 +7,7 @@ use Rattle.edi_envelope.specs.Segments.{first_segment}
 use Rattle.edi_messages.specs.Parts.{is_lin, is_cps, group_of, is_qualified}
 use Rattle.edi_messages.specs.Lines.{is_line}
 use Rattle.edi_messages.specs.declared.fault.MessageFault.{MessageFault}
-use Rattle.edi_messages.specs.declared.fault.MessageFault.TheVariants.{Beginning, Function, Date, Parties}
-use Rattle.edi_messages.specs.declared.fault.MessageFault.TheVariants.{Line, Quantity, Reference, Unit}
-use Rattle.edi_messages.specs.declared.fault.MessageFault.TheVariants.{Control}
+use Rattle.edi_messages.specs.declared.fault.MessageFault.TheVariants as fault
 use Rattle.edi_goods.specs.Units.{unit_of, head, has_identifier, sscc, sscc_or_none, has_line_outside}
 use Rattle.edi_goods.specs.Despatch.{despatched, inherits, has_header_reference_or_none, is_referred}
 use Rattle.edi_goods.specs.Receipt.{is_once_or_none, is_received}
@@ -23,15 +21,15 @@ outside message = prefix_len (λ segment. not (is_cps segment)) message
 
 -- the conditions of a line group of a despatch advice, whose header has a reference or none
 abbrev pub despatch_shows : MessageFault → Bool → List Segment → Bool
-despatch_shows Line inherited group = not (is_line group)
-despatch_shows Quantity inherited group = not (is_some (despatched group))
-despatch_shows Reference inherited group = not (is_referred inherited group)
+despatch_shows fault.Line inherited group = not (is_line group)
+despatch_shows fault.Quantity inherited group = not (is_some (despatched group))
+despatch_shows fault.Reference inherited group = not (is_referred inherited group)
 despatch_shows _ inherited group = false
 
 -- the segment of such a line group that shows it
 abbrev pub despatch_number : MessageFault → List Segment → ℕ
-despatch_number Quantity group = quantity_in (codes "12") group
-despatch_number Reference group = reference_in group
+despatch_number fault.Quantity group = quantity_in (codes "12") group
+despatch_number fault.Reference group = reference_in group
 despatch_number _ group = 1
 
 abbrev pub begins_wrong_despatch : MessageFault → Bool → List Segment → Bool
@@ -49,8 +47,8 @@ despatch_group_place fault inherited message =
 
 -- the conditions of a line group of a receiving advice
 abbrev pub receipt_shows : MessageFault → List Segment → Bool
-receipt_shows Line group = not (is_line group)
-receipt_shows Quantity group = not (is_received group)
+receipt_shows fault.Line group = not (is_line group)
+receipt_shows fault.Quantity group = not (is_received group)
 receipt_shows _ group = false
 
 -- the quantity of the first kind that is wrong, in the order of the kinds; LIN where there is none of them
@@ -61,7 +59,7 @@ received_in group =
     else quantity_in (codes "196") group
 
 abbrev pub receipt_number : MessageFault → List Segment → ℕ
-receipt_number Quantity group = received_in group
+receipt_number fault.Quantity group = received_in group
 receipt_number _ group = 1
 
 abbrev pub begins_wrong_receipt : MessageFault → List Segment → Bool
@@ -111,17 +109,17 @@ unit_place message = if has_line_outside message then up_to is_lin message else 
 
 -- the segment that shows each fault of a despatch advice
 abbrev pub despatch_place : MessageFault → List Segment → ℕ
-despatch_place Beginning message = beginning_place message
-despatch_place Function message = 2
-despatch_place Date message = date_place message
-despatch_place Parties message = goods_parties_place message
-despatch_place Line message = despatch_group_place Line (inherits message) message
-despatch_place Quantity message = despatch_group_place Quantity (inherits message) message
-despatch_place Reference message =
-    if has_header_reference_or_none message then despatch_group_place Reference (inherits message) message
+despatch_place fault.Beginning message = beginning_place message
+despatch_place fault.Function message = 2
+despatch_place fault.Date message = date_place message
+despatch_place fault.Parties message = goods_parties_place message
+despatch_place fault.Line message = despatch_group_place fault.Line (inherits message) message
+despatch_place fault.Quantity message = despatch_group_place fault.Quantity (inherits message) message
+despatch_place fault.Reference message =
+    if has_header_reference_or_none message then despatch_group_place fault.Reference (inherits message) message
     else reference_place message
-despatch_place Unit message = unit_place message
-despatch_place Control message = control_place message
+despatch_place fault.Unit message = unit_place message
+despatch_place fault.Control message = control_place message
 despatch_place _ message = 1
 
 -- there is such a line group
@@ -132,16 +130,16 @@ has_wrong_receipt fault (segment ∷ rest) = begins_wrong_receipt fault (segment
 -- the same of a quantity; UNH where each line group is valid, since no one segment shows a sum that is too great
 abbrev pub receipt_quantity_place : List Segment → ℕ
 receipt_quantity_place message =
-    if has_wrong_receipt Quantity (drop (outside message) message) then receipt_group_place Quantity message else 1
+    if has_wrong_receipt fault.Quantity (drop (outside message) message) then receipt_group_place fault.Quantity message else 1
 
 -- the segment that shows each fault of a receiving advice
 abbrev pub receipt_place : MessageFault → List Segment → ℕ
-receipt_place Beginning message = beginning_place message
-receipt_place Function message = 2
-receipt_place Date message = date_place message
-receipt_place Parties message = goods_parties_place message
-receipt_place Line message = receipt_group_place Line message
-receipt_place Quantity message = receipt_quantity_place message
-receipt_place Unit message = unit_place message
-receipt_place Control message = control_place message
+receipt_place fault.Beginning message = beginning_place message
+receipt_place fault.Function message = 2
+receipt_place fault.Date message = date_place message
+receipt_place fault.Parties message = goods_parties_place message
+receipt_place fault.Line message = receipt_group_place fault.Line message
+receipt_place fault.Quantity message = receipt_quantity_place message
+receipt_place fault.Unit message = unit_place message
+receipt_place fault.Control message = control_place message
 receipt_place _ message = 1

@@ -8,9 +8,7 @@ use Rattle.edi_messages.specs.Parts.{is_lin, group_of, is_qualified, has_qualifi
 use Rattle.edi_messages.specs.Lines.{is_line, number_or_zero}
 use Rattle.edi_messages.specs.References.{order}
 use Rattle.edi_messages.specs.declared.fault.MessageFault.{MessageFault}
-use Rattle.edi_messages.specs.declared.fault.MessageFault.TheVariants.{Beginning, Function, Date, Parties}
-use Rattle.edi_messages.specs.declared.fault.MessageFault.TheVariants.{Summary, Line, Quantity, Reference}
-use Rattle.edi_messages.specs.declared.fault.MessageFault.TheVariants.{Control}
+use Rattle.edi_messages.specs.declared.fault.MessageFault.TheVariants as fault
 use Rattle.edi_orders.specs.Order.{ordered}
 use Rattle.edi_orders.specs.Response.{action, line_answer, is_referred}
 use Rattle.edi_places.specs.Counting.{shown_by, number_from}
@@ -54,21 +52,21 @@ ordered_place message =
 
 -- the segment that shows each fault of an order
 abbrev pub order_place : MessageFault → List Segment → ℕ
-order_place Beginning message = beginning_place message
-order_place Function message = 2
-order_place Date message = date_place message
-order_place Parties message = parties_place message
-order_place Summary message = summary_place message
-order_place Line message = up_to_line [] message
-order_place Quantity message = ordered_place message
-order_place Control message = control_place message
+order_place fault.Beginning message = beginning_place message
+order_place fault.Function message = 2
+order_place fault.Date message = date_place message
+order_place fault.Parties message = parties_place message
+order_place fault.Summary message = summary_place message
+order_place fault.Line message = up_to_line [] message
+order_place fault.Quantity message = ordered_place message
+order_place fault.Control message = control_place message
 order_place _ message = 1
 
 -- the conditions of a line group of a response to this order
 abbrev pub response_shows : MessageFault → List ℕ → List Segment → Bool
-response_shows Line order group = not (is_line group && is_some (action group))
-response_shows Quantity order group = not (is_some (line_answer group))
-response_shows Reference order group = not (is_referred (Some order) group)
+response_shows fault.Line order group = not (is_line group && is_some (action group))
+response_shows fault.Quantity order group = not (is_some (line_answer group))
+response_shows fault.Reference order group = not (is_referred (Some order) group)
 response_shows _ order group = false
 
 -- the quantity of a line that is changed
@@ -78,8 +76,8 @@ changed_in group =
 
 -- the segment of such a line group that shows it
 abbrev pub response_number : MessageFault → List Segment → ℕ
-response_number Quantity group = changed_in group
-response_number Reference group = reference_in group
+response_number fault.Quantity group = changed_in group
+response_number fault.Reference group = reference_in group
 response_number _ group = 1
 
 abbrev pub begins_wrong_response : MessageFault → List ℕ → List Segment → Bool
@@ -94,17 +92,17 @@ response_group_place fault order message =
 -- of the header where it names no order, else of a line group
 abbrev pub response_reference_place : Option (List ℕ) → List Segment → ℕ
 response_reference_place None message = reference_place message
-response_reference_place (Some order) message = response_group_place Reference order message
+response_reference_place (Some order) message = response_group_place fault.Reference order message
 
 -- the segment that shows each fault of a response
 abbrev pub response_place : MessageFault → List Segment → ℕ
-response_place Beginning message = beginning_place message
-response_place Function message = 2
-response_place Date message = date_place message
-response_place Parties message = parties_place message
-response_place Summary message = summary_place message
-response_place Line message = response_group_place Line [] message
-response_place Quantity message = response_group_place Quantity [] message
-response_place Reference message = response_reference_place (order message) message
-response_place Control message = control_place message
+response_place fault.Beginning message = beginning_place message
+response_place fault.Function message = 2
+response_place fault.Date message = date_place message
+response_place fault.Parties message = parties_place message
+response_place fault.Summary message = summary_place message
+response_place fault.Line message = response_group_place fault.Line [] message
+response_place fault.Quantity message = response_group_place fault.Quantity [] message
+response_place fault.Reference message = response_reference_place (order message) message
+response_place fault.Control message = control_place message
 response_place _ message = 1

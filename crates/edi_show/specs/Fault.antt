@@ -48,7 +48,7 @@ message_words message.Quantity = codes "quantity"
 message_words message.Reference = codes "reference to an order"
 message_words message.Unit = codes "despatch unit"
 message_words message.Control = codes "control count"
-message_words message.NoLine = codes "no line"
+message_words message.WithoutLines = codes "no line"
 message_words message.Memory = codes "memory"
 
 -- the code and the words of a fault of the whole

@@ -70,7 +70,7 @@ pub(crate) fn message_words(fault: MessageFault) -> &'static str
         MessageFault::Reference => "reference to an order",
         MessageFault::Unit => "despatch unit",
         MessageFault::Control => "control count",
-        MessageFault::NoLine => "no line",
+        MessageFault::WithoutLines => "no line",
         MessageFault::Memory => "memory",
     }
 }
