@@ -1,2 +1,4 @@
 pub mod Written
 pub mod ReadOn
+pub mod Lines
+pub mod Taken

@@ -1,3 +1,5 @@
+pub mod Exit
 pub mod Relay
 pub mod Mails
 pub mod Relaying
+pub mod Run

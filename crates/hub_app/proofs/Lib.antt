@@ -1,7 +1,6 @@
 pub mod Asked
 pub mod Commands
-pub mod Lines
-pub mod Taken
+pub mod Showing
 pub mod Simple
 pub mod Texts
 pub mod Verdicts

@@ -7,7 +7,7 @@ use Rattle.hub_parties.specs.Rows.{RegisterRows}
 use Rattle.hub_register.specs.declared.fault.RegisterFault.{RegisterFault}
 use Rattle.edi_segments.specs.Spelling.{text_limit}
 use Rattle.hub_app.specs.Check.{IsRegisterText, verdict_status}
-use Rattle.hub_app.specs.Run.{read_limit}
+use Rattle.edi_relay.specs.Run.{read_limit}
 
 -- what was read up to a limit that it does not reach is all
 all_read : (limit : ℕ) (bytes read : List ℕ) → read ≡ take (limit + 1) bytes → length read ≤ limit → read ≡ bytes

@@ -6,7 +6,7 @@ use Rattle.edi_base.specs.Buffer.{AppendsFront}
 use Rattle.hub_parties.specs.Rows.{RegisterRows}
 use Rattle.hub_register.specs.declared.fault.RegisterFault.{RegisterFault}
 use Rattle.hub_app.specs.Check.{verdict_line, verdict_status}
-use Rattle.hub_app.specs.Exit.{Tells}
+use Rattle.edi_relay.specs.Exit.{Tells}
 use Rattle.hub_app.proofs.Texts.{never_failed}
 
 module _ (verdict : Result RegisterRows RegisterFault) (status result : ℕ) (line : List ℕ) (old new : Option (List ℕ))

@@ -4,7 +4,7 @@ use Rattle.std.specs.Io.KnownBytes.{Appends}
 use Rattle.edi_base.specs.Buffer.{AppendsFront}
 use Rattle.edi_show.specs.Shown.{shown_of, is_refused}
 use Rattle.edi_show.specs.Text.{shown_lines}
-use Rattle.hub_app.specs.Run.{read_limit}
+use Rattle.edi_relay.specs.Run.{read_limit}
 
 -- the lines of a text
 abbrev pub lines_shown : List ℕ → List ℕ

@@ -5,12 +5,11 @@ ghost use Rattle.std.specs.Io.KnownBytes.{Appends, Keeps};
 ghost use Rattle.edi_base.specs.Buffer.{AppendsFront};
 ghost use Rattle.edi_base.specs.Source.{TakesAtMost};
 ghost use Rattle.hub_app.specs.Check.{IsRegisterText, fault_line, verdict_line, verdict_status};
-ghost use Rattle.hub_app.specs.Run.{read_limit};
-ghost use Rattle.hub_app.specs.Exit.{Tells};
+ghost use Rattle.edi_relay.specs.Run.{read_limit};
+ghost use Rattle.edi_relay.specs.Exit.{Tells};
 ghost use Rattle.hub_register.specs.Register.{register_of};
 
-use crate::exit::{DONE, FAILED, REFUSED, tell};
-use crate::run::READ_LIMIT;
+use edi_relay::{DONE, FAILED, READ_LIMIT, REFUSED, tell};
 use edi_tokens::{MemoryFault, ReadFault, Sink, Source, TEXT_LIMIT, read_to_limit, write_bytes};
 use hub_register::{Register, RegisterFault};
 use std::alloc::{AllocError, Global};

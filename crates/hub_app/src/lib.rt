@@ -2,17 +2,13 @@
 #![tactic(auto)]
 
 mod check;
-mod exit;
 mod options;
 mod program;
-mod run;
 mod show;
 mod words;
 
 pub use check::{TextFault, Verdict, check_run, print_verdict, read_register_text};
-pub use edi_relay::{RelayFault, RelayWords, relay_text};
-pub use exit::FAILED;
-pub use run::relay_run;
+pub use edi_relay::{FAILED, RelayFault, RelayWords, relay_run, relay_text};
 pub use show::show_run;
 pub use words::{
     CheckWords, HubTask, HubWords, InitWords, ServeWords, Words, WordsFault, read_words,

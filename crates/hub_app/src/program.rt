@@ -326,8 +326,8 @@ const REPORT_HELP: &str =
 It prints a line L for each order line: order number, line number, GTIN, the answer's letter, and what is
 ordered, open, refused, cancelled and despatched; then a line P for each article on a pallet: SSCC, GTIN, A
 for announced, R for received or C for corrected, what is despatched, accepted, returned and destroyed, and
-the difference; and last 'end'. Where it is 'denied', caller and key are not those of a party of the hub, or the other side asks
-this; where it is 'unknown', there is no such supplier.
+the difference; and last 'end'. Where it is 'denied', caller and key are not those of a party of the hub,
+or the other side asks this; where it is 'unknown', there is no such supplier.
 
 Exit status: 0 done; 1 denied or unknown; 2 usage error; 3 a file or the database failed, the hub stopped, or out of memory";
 
@@ -463,7 +463,8 @@ fn serve_command<'a>(alloc: Global) -> Result<Command<'a>, AllocError>
     )
 }
 
-const VERSION: &str = "1.0.0";
+// With the number of the database's schema, and what proved it: `rt version`.
+const VERSION: &str = "1.0.0 (schema 3, rattle-kit-13f logic dac8208d650f15bf)";
 
 // The program without its commands.
 fn bare_program<'a>(alloc: Global) -> Command<'a>

@@ -3,12 +3,11 @@
 ghost use Rattle.std.specs.Prelude.{◌≡◌, ◌≢◌, ◌⊎◌, true, take, codes, IfOk, IfSome};
 ghost use Rattle.std.specs.Io.KnownBytes.{Consumes, Keeps};
 ghost use Rattle.edi_base.specs.Source.{TakesAtMost};
-ghost use Rattle.hub_app.specs.Run.{read_limit};
-ghost use Rattle.hub_app.specs.Exit.{Tells};
+ghost use Rattle.edi_relay.specs.Run.{read_limit};
+ghost use Rattle.edi_relay.specs.Exit.{Tells};
 ghost use Rattle.hub_app.specs.Show.{Shows, ShowsFront, lines_shown, status_of};
 
-use crate::exit::{DONE, FAILED, REFUSED, tell};
-use crate::run::{READ_LIMIT, tell_read_fault};
+use edi_relay::{DONE, FAILED, READ_LIMIT, REFUSED, tell, tell_read_fault};
 use edi_show::show_text;
 use edi_tokens::{MemoryFault, Sink, Source, read_to_limit, write_bytes};
 use std::alloc::Global;

@@ -1,6 +1,6 @@
 use Rattle.std.proofs.Common.{◌∙◌, inl, inr}
 use Rattle.std.proofs.KnownBytes.{Keeps-refl}
-use Rattle.hub_app.proofs.Lines.{stands, read_or_told, failed_unwritten, is_shown, is_front_shown}
+use Rattle.hub_app.proofs.Showing.{stands, read_or_told, failed_unwritten, is_shown, is_front_shown}
 use Rattle.hub_app.proofs.show.show_run.Goals as goal
 
 pub returns-in-Ok-write_bytes-clause-stands : goal.returns-in-Ok-write_bytes-clause-stands

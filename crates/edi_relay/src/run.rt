@@ -6,18 +6,18 @@ ghost use Rattle.edi_base.specs.Buffer.{AppendsFront};
 ghost use Rattle.edi_base.specs.Source.{TakesAtMost};
 ghost use Rattle.edi_relay.specs.declared.relay.RelayFault.{RelayFault};
 ghost use Rattle.edi_relay.specs.Relay.{AreRelayWords};
-ghost use Rattle.hub_app.specs.Exit.{Tells};
-ghost use Rattle.hub_app.specs.Run.{Delivers, DeliversFront, IsRefused, Ran, read_limit, refusal};
+ghost use Rattle.edi_relay.specs.Exit.{Tells};
+ghost use Rattle.edi_relay.specs.Run.{Delivers, DeliversFront, IsRefused, Ran, read_limit, refusal};
 
 use crate::exit::{DONE, FAILED, REFUSED, tell};
-use edi_relay::{RelayFault, RelayWords, relay_lent};
+use crate::relay::{RelayFault, RelayWords, relay_lent};
 use edi_tokens::{
     Lender, ReadFault, Sink, Source, TEXT_LIMIT, TokenFault, WriteFault, write_bytes,
 };
 use std::alloc::Global;
 
 /// One byte more than the longest text is read, so that a longer one shows.
-pub(crate) const READ_LIMIT: usize = TEXT_LIMIT + 1;
+pub const READ_LIMIT: usize = TEXT_LIMIT + 1;
 
 // Writes the line that a refusal prints.
 fn write_refusal<E: Sink>(fault: RelayFault, err: &mut E) -> Result<(), WriteFault>
@@ -38,7 +38,7 @@ fn tell_refusal<E: Sink>(fault: RelayFault, err: &mut E)
 }
 
 /// Prints why an interchange was not read, and answers the exit status.
-pub(crate) fn tell_read_fault<E: Sink>(fault: ReadFault, err: &mut E) -> u8
+pub fn tell_read_fault<E: Sink>(fault: ReadFault, err: &mut E) -> u8
     ensures status { result ≡ 3 }
     ensures file { fault ≡ ReadFault.Read → Tells (E.contents err.old) (E.contents err.new) (E.failed err.new) (codes "file\n") }
     ensures memory { fault ≡ ReadFault.Memory → Tells (E.contents err.old) (E.contents err.new) (E.failed err.new) (codes "memory\n") }

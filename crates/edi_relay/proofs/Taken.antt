@@ -21,7 +21,7 @@ use Rattle.edi_relay.specs.declared.relay.RelayFault.TheVariants.{Token, Envelop
 use Rattle.edi_relay.specs.Relay.{relayed, tokens_mailed, Relays, RelaysRead, without_read}
 use Rattle.edi_relay.specs.Relaying.{Flagged}
 use Rattle.edi_relay.proofs.ReadOn.{never_read}
-use Rattle.hub_app.specs.Run.{read_limit, Delivers, DeliversFront, IfToEnd, IsRefused, Ran}
+use Rattle.edi_relay.specs.Run.{read_limit, Delivers, DeliversFront, IfToEnd, IsRefused, Ran}
 
 -- ---- one byte more than the longest text tells as much as all
 

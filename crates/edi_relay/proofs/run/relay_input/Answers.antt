@@ -1,7 +1,7 @@
 use Rattle.std.proofs.Common.{ℕ, List, Vec, Global}
 use Rattle.std.proofs.lemmas.Result.{err_from_is_err_and}
-use Rattle.hub_app.proofs.Taken.{out_of_memory, cut_short, read_away, read_failed}
-use Rattle.hub_app.proofs.run.relay_input.Goals as goal
+use Rattle.edi_relay.proofs.Taken.{out_of_memory, cut_short, read_away, read_failed}
+use Rattle.edi_relay.proofs.run.relay_input.Goals as goal
 
 abbrev view : Vec ℕ Global → List ℕ
 view out = out.items

@@ -4,8 +4,8 @@ use Rattle.std.specs.Io.KnownBytes.{Appends}
 use Rattle.std.proofs.lemmas.Result.{on_err_weaker}
 use Rattle.edi_base.specs.Buffer.{AppendsFront}
 use Rattle.edi_relay.specs.Relay.{code_of}
-use Rattle.hub_app.proofs.Lines.{on_err, front_of_first, front_of_second}
-use Rattle.hub_app.proofs.run.write_refusal.Goals as goal
+use Rattle.edi_relay.proofs.Lines.{on_err, front_of_first, front_of_second}
+use Rattle.edi_relay.proofs.run.write_refusal.Goals as goal
 
 pub returns-in_err-write_bytes-clause-err : goal.returns-in_err-write_bytes-clause-err
 returns-in_err-write_bytes-clause-err g c =

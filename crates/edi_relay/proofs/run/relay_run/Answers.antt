@@ -4,9 +4,9 @@ use Rattle.std.proofs.KnownBytes.{Keeps-refl}
 use Rattle.edi_base.specs.Buffer.{AppendsFront}
 use Rattle.edi_relay.specs.declared.relay.RelayFault.TheVariants.{Token, Envelope}
 use Rattle.edi_relay.proofs.ReadOn.{not_read}
-use Rattle.hub_app.proofs.Lines.{at_ok, at_err}
-use Rattle.hub_app.proofs.Taken.{is_delivered, is_front_delivered, is_refused, was_to_end, same_flag}
-use Rattle.hub_app.proofs.run.relay_run.Goals as goal
+use Rattle.edi_relay.proofs.Lines.{at_ok, at_err}
+use Rattle.edi_relay.proofs.Taken.{is_delivered, is_front_delivered, is_refused, was_to_end, same_flag}
+use Rattle.edi_relay.proofs.run.relay_run.Goals as goal
 
 abbrev view : Vec ℕ Global → List ℕ
 view out = out.items

@@ -1,6 +1,6 @@
-use Rattle.hub_app.specs.Run.{refusal}
-use Rattle.hub_app.proofs.Lines.{tells}
-use Rattle.hub_app.proofs.run.tell_refusal.Goals as goal
+use Rattle.edi_relay.specs.Run.{refusal}
+use Rattle.edi_relay.proofs.Lines.{tells}
+use Rattle.edi_relay.proofs.run.tell_refusal.Goals as goal
 
 pub returns : goal.returns
 returns g c =
