@@ -43,7 +43,7 @@ pub(crate) fn sink_with_room(alloc: Global, room: usize, fails: bool) -> OfWrite
     })
 }
 
-/// What came of a write: whether it succeeded, whether the sink has failed, and what was taken.
+/// The outcome of a write: whether it succeeded, whether the sink has failed, and what was taken.
 fn outcome(wrote: Result<(), WriteFault>, sink: OfWrite<Dribble>) -> (bool, bool, Vec<u8>) {
     let failed = sink.failed();
     let Dribble { written, .. } = sink.into_inner();

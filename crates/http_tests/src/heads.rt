@@ -275,7 +275,7 @@ fn heads_are_read(rt: HostRuntime) -> Result<(), AllocError> {
 
 const WHOLE: &[u8] = b"GET /a HTTP/1.1\r\nX-Key: k\r\n\r\n";
 
-// Whether a head is none where it is cut, and takes all that is there.
+// Whether a head that is cut is no head, and takes all that is there.
 fn is_none_cut_at(end: usize) -> bool {
     let Some(front) = WHOLE.get(..end) else {
         return false;

@@ -212,17 +212,25 @@ fn files_come_one_after_another(rt: HostRuntime) -> Result<(), Fail> {
     Ok(())
 }
 
-#[test]
-fn the_key_of_an_input_is_not_shown(rt: HostRuntime) -> Result<(), Fail> {
+// The retailer asks for a status.
+fn asked(alloc: Global) -> Result<Input, Fail> {
     let (caller, moment) = retailer().ok_or("a GLN")?;
-    let key = copied(rt.alloc(), b"retail-key")?;
-    let input = Input {
+    Ok(Input {
         moment,
         caller,
-        key,
+        key: copied(alloc, b"retail-key")?,
         request: Request::Status,
-    };
-    let shown = format!(in rt.alloc(); "{input:?}")?;
+    })
+}
+
+fn shown(alloc: Global) -> Result<String, Fail> {
+    let input = asked(alloc)?;
+    Ok(format!(in alloc; "{input:?}")?)
+}
+
+#[test]
+fn the_key_of_an_input_is_not_shown(rt: HostRuntime) -> Result<(), Fail> {
+    let shown = shown(rt.alloc())?;
     assert!(rt; shown.contains("key: Key(..), request: Status"));
     assert!(rt; !shown.contains("114, 101, 116"));
     Ok(())

@@ -11,7 +11,6 @@ use hub_store::{Store, StoreFault};
 use hub_tables::{Change, PrefixRow};
 use hub_trial::TrialStore;
 use std::alloc::{AllocError, Global};
-use std::process::Abort;
 use std::test::Fail;
 
 // Who joins, with which key and which prefix.
@@ -53,12 +52,13 @@ fn joining(alloc: Global, row: &Joining) -> Result<Join, Fail> {
     Ok(join_of(alloc, supplier, key, prefix)?.ok_or("a join")?)
 }
 
-// What is answered to the retailer that lets a supplier in. Nothing is answered where there is no memory even for that.
+// What is answered to the retailer that lets a supplier in. Lists stop for want of memory alone, and nothing is answered where
+// there is none even for that.
 fn told<S: Store>(hub: &mut Hub<S>, join: Join) -> Result<Reply, Fail> {
     let caller = Gln::parse(b"5412345000013").ok_or("a GLN")?;
     let moment = Moment::new(1_748_942_400).ok_or("a moment")?;
     let reply = replied(hub, moment, &caller, join);
-    if reply.body.is_empty() {
+    if reply.body.is_empty() || reply.body.as_slice() == b"stopped\n".as_slice() {
         return Err(AllocError.into());
     }
     Ok(reply)
@@ -94,18 +94,11 @@ static ANSWERS: [Answer; 6] = [
     (GAMMA, b"refused B18\n", true),
 ];
 
-fn assert_answer<S: Store>(
-    rt: &impl Abort,
-    alloc: Global,
-    hub: &mut Hub<S>,
-    answer: &Answer,
-) -> Result<(), Fail> {
+fn is_answered<S: Store>(alloc: Global, hub: &mut Hub<S>, answer: &Answer) -> Result<bool, Fail> {
     let (row, want, is_there) = answer;
     let join = joining(alloc, row)?;
     let reply = told(hub, join)?;
-    assert_eq!(*rt; reply.body.as_slice(), *want);
-    assert_eq!(*rt; is_known(hub, row)?, *is_there);
-    Ok(())
+    Ok(reply.body.as_slice() == *want && is_known(hub, row)? == *is_there)
 }
 
 fn hub_of_lists(alloc: Global) -> Result<Hub<VecStore>, Fail> {
@@ -117,13 +110,17 @@ fn hub_of_lists(alloc: Global) -> Result<Hub<VecStore>, Fail> {
 fn suppliers_join_a_hub_over_lists(rt: HostRuntime) -> Result<(), Fail> {
     let mut hub = hub_of_lists(rt.alloc())?;
     for answer in &ANSWERS {
-        assert_answer(&rt, rt.alloc(), &mut hub, answer)?;
+        assert!(rt;
+            is_answered(rt.alloc(), &mut hub, answer)?,
+            "{:?}",
+            answer.1
+        );
     }
     Ok(())
 }
 
-// Lists that fail at the call after so many others, of which the first gives their register.
-fn failing(lists: VecStore, calls: u64, is_of_disk: bool) -> TrialStore<VecStore>
+// Lists that fail at their first call, which gives their register.
+fn failing(lists: VecStore, is_of_disk: bool) -> TrialStore<VecStore>
     ensures { result.0 ≡ lists }
 {
     let fault = if is_of_disk {
@@ -131,51 +128,19 @@ fn failing(lists: VecStore, calls: u64, is_of_disk: bool) -> TrialStore<VecStore
     } else {
         StoreFault::Memory
     };
-    TrialStore::failing(lists, calls, fault)
+    TrialStore::failing(lists, 0, fault)
 }
 
 fn hub_that_fails(
     alloc: Global,
-    calls: u64,
     is_of_disk: bool,
 ) -> Result<Result<Hub<TrialStore<VecStore>>, StoreFault>, Fail> {
     let lists = lists(alloc)?;
-    Ok(hub_over(alloc, failing(lists, calls, is_of_disk)))
-}
-
-// Behind how many calls a fault comes, and whether it is of the disk; and what comes of two joins of one supplier.
-type Failure = (u64, bool, Answer, Answer);
-
-const STOPPED: Answer = (GAMMA, b"stopped\n", false);
-
-const ACCEPTED: Answer = (GAMMA, b"accepted\n", true);
-
-const KNOWN: Answer = (GAMMA, b"refused B18\n", true);
-
-static FAILURES: [Failure; 4] = [
-    (1, false, STOPPED, ACCEPTED),
-    (1, true, STOPPED, STOPPED),
-    (2, false, ACCEPTED, KNOWN),
-    (2, true, ACCEPTED, KNOWN),
-];
-
-fn assert_failure(rt: &impl Abort, alloc: Global, failure: &Failure) -> Result<(), Fail> {
-    let (calls, is_of_disk, first, second) = failure;
-    let mut hub = hub_that_fails(alloc, *calls, *is_of_disk)??;
-    assert_answer(rt, alloc, &mut hub, first)?;
-    assert_answer(rt, alloc, &mut hub, second)
-}
-
-#[test]
-fn a_join_that_is_not_committed_leaves_the_register(rt: HostRuntime) -> Result<(), Fail> {
-    for failure in &FAILURES {
-        assert_failure(&rt, rt.alloc(), failure)?;
-    }
-    Ok(())
+    Ok(hub_over(alloc, failing(lists, is_of_disk)))
 }
 
 fn fault_at_once(alloc: Global, is_of_disk: bool) -> Result<Option<StoreFault>, Fail> {
-    Ok(hub_that_fails(alloc, 0, is_of_disk)?.err())
+    Ok(hub_that_fails(alloc, is_of_disk)?.err())
 }
 
 #[test]

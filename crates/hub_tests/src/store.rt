@@ -1,12 +1,3 @@
-ghost use Rattle.std.specs.Prelude.{◌≡◌, ◌∷◌, [], IsTrue, IfOk, IfErr, OnOk, OnErr};
-ghost use Rattle.std.specs.Option.{is_some};
-ghost use Rattle.hub_tables.specs.Change.{apply_all};
-ghost use Rattle.hub_tables.specs.State.{entry_at};
-ghost use Rattle.hub_tables.specs.Tables.{Tables, view, has_pallet};
-ghost use Rattle.hub_store.specs.Calls.{Fit};
-ghost use Rattle.hub_store.specs.declared.fault.StoreFault.TheVariants.{Memory};
-ghost use Rattle.hub_tests.specs.Taking.{Takes, as_taken, taking};
-
 use crate::lists::lists;
 use edi_base::{Items, MemoryFault, copied};
 use edi_envelope::Moment;
@@ -20,7 +11,6 @@ use hub_tables::{
 use hub_trial::TrialStore;
 use std::alloc::Global;
 use std::process::Abort;
-use std::slice;
 use std::test::Fail;
 
 const ALPHA: &[u8] = b"4012345500004";
@@ -371,61 +361,6 @@ fn look_ups<S: Store>(store: &mut S, ids: &Ids) -> Result<Seen, StoreFault> {
     Ok(seen)
 }
 
-// Sets an entry of a mailbox as taken.
-fn set_taken<S: Store>(store: &mut S, mut entry: MailRow) -> Result<(), StoreFault>
-    ensures takes { Takes S.content S.honest S.left store.old store.new (as_taken entry ∷ []) result }
-    ensures only_memory { IsTrue S.plain → IfErr result (λ fault. fault ≡ Memory) }
-{
-    entry.taken = Column::of(true);
-    store.commit(slice::from_ref(&Change::SetMail(entry)))
-}
-
-// Marks an entry of a mailbox as taken, where it is there.
-fn take_entry<S: Store>(store: &mut S, supplier: &Gln, number: u64) -> Result<bool, StoreFault>
-    ensures found { S.honest store.new →
-        IfOk result (λ found. found ≡ is_some (entry_at (view supplier.now (S.content store.old)) number)) }
-    ensures takes { Takes S.content S.honest S.left store.old store.new (taking supplier.now number (S.content store.old)) result }
-    ensures only_memory { IsTrue S.plain → IfErr result (λ fault. fault ≡ Memory) }
-{
-    let Some(entry) = store.mail_item(supplier, number)? else {
-        return Ok(false);
-    };
-    set_taken(store, entry)?;
-    Ok(true)
-}
-
-// The same in lists, where only memory can be short and no premise is left but that the change fits.
-fn take_listed(store: &mut VecStore, supplier: &Gln, number: u64) -> Result<bool, StoreFault>
-    ensures found { IfOk result (λ found. found ≡ is_some (entry_at (view supplier.now store.old) number)) }
-    ensures done { Fit (taking supplier.now number store.old) store.old →
-        OnOk result (store.new ≡ apply_all (taking supplier.now number store.old) store.old) }
-    ensures kept { OnErr result (store.new ≡ store.old) }
-    ensures only_memory { IfErr result (λ fault. fault ≡ Memory) }
-{
-    take_entry(store, supplier, number)
-}
-
-fn is_taken(store: &mut VecStore, supplier: &Gln, number: u64) -> Result<bool, StoreFault> {
-    take_listed(store, supplier, number)
-}
-
-// Whether any supplier has the pallet: lists always answer.
-fn used_listed(store: &mut VecStore, sscc: &Sscc) -> bool
-    ensures answer { result ≡ has_pallet store.old sscc.now }
-    ensures same { store.new ≡ store.old }
-{
-    store.used(sscc).unwrap()
-}
-
-// What a crash may leave of a store between two calls.
-fn between_calls<S: Store>(store: &S)
-    ensures there { S.honest store.now → S.left store.now (S.content store.now) }
-    ensures honest { IsTrue S.plain → S.honest store.now }
-    ensures alone { IsTrue S.plain → (t : Tables) → S.left store.now t → t ≡ S.content store.now }
-{
-    let _ = store;
-}
-
 // Commits changes, of which there are some.
 fn commit<S: Store>(store: &mut S, changes: &[Change]) -> Result<(), StoreFault> {
     if changes.is_empty() {
@@ -468,49 +403,12 @@ fn assert_counted(
     Ok(())
 }
 
-// An entry; whether it is there; and the numbers of those that are not taken, after it was.
-type Entry = (u64, bool, u64);
-
-static ENTRIES: [Entry; 3] = [(1, true, 2), (2, true, 0), (3, false, 0)];
-
-fn is_taken_so(list: &mut VecStore, alpha: &Ids, entry: &Entry) -> Result<bool, StoreFault> {
-    let (number, is_there, untaken) = *entry;
-    let want = Seen { untaken, ..ALL };
-    let is_right = is_taken(list, &alpha.supplier, number)? == is_there;
-    Ok(is_right && is_seen(list, alpha, &want)?)
-}
-
-fn assert_used(rt: &impl Abort, list: &mut VecStore, alpha: &Ids) {
-    between_calls(list);
-    assert!(*rt; used_listed(list, &alpha.pallet), "used");
-}
-
-fn assert_taken(rt: &impl Abort, list: &mut VecStore, alpha: &Ids) -> Result<(), StoreFault> {
-    for entry in &ENTRIES {
-        assert!(*rt; is_taken_so(list, alpha, entry)?, "entry {}", entry.0);
-    }
-    assert_used(rt, list, alpha);
-    Ok(())
-}
-
-fn assert_look_ups(
-    rt: &impl Abort,
-    alloc: Global,
-    lists: VecStore,
-    alpha: &Ids,
-    beta: &Ids,
-) -> Result<(), StoreFault> {
-    let mut store = TrialStore::new(lists);
-    assert_counted(rt, alloc, &mut store, alpha, beta)?;
-    assert_taken(rt, &mut store.into_store(), alpha)
-}
-
 #[test]
 fn lists_answer_each_look_up(rt: HostRuntime) -> Result<(), Fail> {
     let alpha = ids_of(ALPHA).ok_or("alpha")?;
     let beta = ids_of(BETA).ok_or("beta")?;
-    let lists = lists(rt.alloc())?;
-    Ok(assert_look_ups(&rt, rt.alloc(), lists, &alpha, &beta)?)
+    let mut store = TrialStore::new(lists(rt.alloc())?);
+    Ok(assert_counted(&rt, rt.alloc(), &mut store, &alpha, &beta)?)
 }
 
 // The rows are there after they were added, and after they were added again.

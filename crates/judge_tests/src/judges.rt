@@ -1,6 +1,5 @@
 mod cancellations;
 mod despatches;
-mod joins;
 mod orders;
 mod receipts;
 mod responses;

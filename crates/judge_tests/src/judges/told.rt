@@ -3,14 +3,12 @@
 use edi_base::Items;
 use gs1_ids::Gln;
 use hub_rules::Verdict;
-use hub_tables::{
-    Change, ContentRow, KeyRow, LineRow, MailRow, PalletRow, PrefixRow, ReceiptRow, RememberedRow,
-};
+use hub_tables::{Change, ContentRow, LineRow, MailRow, PalletRow, ReceiptRow, RememberedRow};
 use std::alloc::{AllocError, Global};
 use std::fmt::Write;
 use std::test::Fail;
 
-// Bytes as text. Where they are none, what is told is nothing that is wanted.
+// Bytes as text. Where they are no text, what is told is nothing that is wanted.
 fn text(bytes: &Items<u8>) -> &str {
     str::from_utf8(bytes.as_slice()).unwrap_or("no text")
 }
@@ -76,16 +74,6 @@ fn tell_content(out: &mut String, row: &ContentRow) -> Result<(), AllocError> {
     write!(out, "content {sscc} {place} {number} {line} {quantity}")
 }
 
-// A supplier's key, and one of its prefixes.
-fn tell_key(out: &mut String, row: &KeyRow) -> Result<(), AllocError> {
-    let key = str::from_utf8(row.key.bytes()).unwrap_or("no text");
-    write!(out, "key {} {key}", row.supplier)
-}
-
-fn tell_prefix(out: &mut String, row: &PrefixRow) -> Result<(), AllocError> {
-    write!(out, "prefix {} {}", row.prefix, row.supplier)
-}
-
 // An order or a despatch advice: its supplier and its number.
 fn tell_document(
     out: &mut String,
@@ -110,11 +98,9 @@ fn tell_change(out: &mut String, change: &Change) -> Result<(), AllocError> {
         Change::AddReceipt(row) => tell_receipt(out, row),
         Change::ClearReceipts(sscc) => write!(out, "clear {sscc}"),
         Change::AddContent(row) => tell_content(out, row),
-        Change::AddKey(row) => tell_key(out, row),
-        Change::AddPrefix(row) => tell_prefix(out, row),
-        // No verdict sets a mail or adds a hub, so that none is wanted.
+        // No message and no cancellation sets a mail or adds a party, so that none is wanted.
         Change::SetMail(_) => out.push_str("set mail"),
-        Change::AddHub(_) => out.push_str("hub"),
+        Change::AddHub(_) | Change::AddKey(_) | Change::AddPrefix(_) => out.push_str("party"),
     }
 }
 
