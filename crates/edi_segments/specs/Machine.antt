@@ -28,7 +28,7 @@ segment_of o = record { tag = o.tag; elements = without_empty_end o.elements }
 abbrev pub lent_of : Machine → Segment
 lent_of m = segment_of m.«open»
 
--- what came of a byte, which may have ended a segment
+-- what is read after a byte, which may have ended a segment
 abbrev pub after : List Segment → Bool → Machine → Reading
 after lent true m = reading_of (lent ++ segment_of m.open ∷ []) m
 after lent false m = reading_of lent m

@@ -40,7 +40,7 @@ pub no_asker : (register : RegisterRows) (party key : List ℕ) → IsRegister r
 no_asker register party key right none =
     ap (option_map (λ role. asker role party key)) (sym (nobody register party key right none))
 
--- what is read as no GLN is none
+-- what is not read as a GLN is no GLN
 pub no_gln : (text : List ℕ) → gln_of text ≡ None → is_gln text ≡ false
 no_gln text none =
     false_from_ne_true (is_gln text) (λ is. none-some text (sym none ∙ ap (λ (b : Bool). cond b (Some text) None) is))

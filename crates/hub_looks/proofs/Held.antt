@@ -84,7 +84,7 @@ module _ (t : Tables) (held : HoldsRegister t) where
       (has_map (λ (found : PrefixRow). found.prefix) _ row (has_filter (λ (found : PrefixRow). same found.supplier k.supplier) t.prefixes row there mine)))
       (ap is_gln (sym is) ∙ gln_right k had.1))
 
--- where one of them is none of its kind, no register is held
+-- where one of them lacks the form of its kind, no register is held
 pub no_hubs : (t : Tables) → list_all clean_hub t.hubs ≡ false → HoldsNone t
 no_hubs t bad held = true≢false (sym (clean_hubs t held) ∙ bad)
 

@@ -75,7 +75,7 @@ pub looks_on : {X Y : Type 0} (one : Tables → X) (other : Tables → Y) (old n
 looks_on one other old new x y follows it =
     found_on (λ t x. x ≡ one t) (λ t y. y ≡ other t) (λ t. are_clean t ≡ false) (λ t. are_clean t ≡ false) old new x y follows it
 
--- an answer by which some row is none of its kind
+-- an answer by which some row lacks the form of its kind
 pub looks_spoilt : {X Y : Type 0} (one : Tables → X) (other : Tables → Y) (old new : State) (x : X)
     → ((t : Tables) → x ≡ one t → are_clean t ≡ false) → LooksUp one old new (Ok x) → LooksUp other old new (Err Unclean)
 looks_spoilt one other old new x follows it =

@@ -1,4 +1,4 @@
--- When a row is none of its kind.
+-- When a row lacks the form of its kind.
 use Rattle.std.proofs.Common.{◌≡◌, ℕ, ◌+◌, ◌-◌, ◌<◌, nat_lt, List, length, get_or, Bool, true, false, ◌&&◌, Option}
 use Rattle.std.proofs.Common.{Some, None, if◌then◌else◌, nat_le, refl, arith}
 use Rattle.std.proofs.lemmas.Bool.Decides.{nat_tests}
@@ -56,7 +56,7 @@ fits ordered open_qty refused cancelled h g k = grind (arith, nat_tests)
 pub no_more : (most n : ℕ) → is_within 0 most n ≡ true → nat_le n most ≡ true
 no_more most n h = grind (arith, nat_tests)
 
--- where a row of one table is none of its kind
+-- where a row of one table lacks the form of its kind
 module _ (t : Tables) where
   -- the tables behind those of the register
   abbrev traffic : Bool

@@ -18,7 +18,7 @@ use hub_store::StoreFault;
 use hub_tables::{Answered, Arrival, Column, MailKind};
 use sqlite::{Error, ErrorCode, Row};
 
-// Out of memory, or a row that is none of the kinds.
+// Out of memory, or a row without the form of its kind.
 fn unread(error: &Error) -> StoreFault
     ensures unclean { result ≡ StoreFault.Unclean → error.now ≢ Error.SqliteFailure ErrorCode.OutOfMemory }
     ensures which { (result ≡ StoreFault.Memory) ⊎ (result ≡ StoreFault.Unclean) }

@@ -98,7 +98,7 @@ pub fn mail_item<S: Alter>(
     Ok(None)
 }
 
-// The most rows of an answer, as a parameter; a number that is none sets no limit.
+// The most rows of an answer, as a parameter; a number that SQL does not have sets no limit.
 fn most_rows<'a>(limit: usize) -> ValueRef<'a>
     ensures { (owned result ≡ Int (pos limit)) ⊎ ((2 ^ 63 ≤ limit) × (owned result ≡ Int (negsuc 0))) }
 {

@@ -43,7 +43,7 @@ fn is_party_key(text: &[u8]) -> bool
 }
 
 impl Key {
-    /// The key of these bytes; `None` where they are none.
+    /// The key of these bytes; `None` where they are no key.
     pub fn parse(text: &[u8]) -> Option<Self>
         ensures { SomeIff result (IsTrue (spec.is_party_key text.now)) text.now }
     {

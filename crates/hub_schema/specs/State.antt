@@ -76,7 +76,7 @@ pub record Makes (change : Tables → Tables) (old new : State) : Type 0 where
   pub committed : new.committed ≡ old.committed
   pub mode : IsTrue new.in_transaction
 
--- the changes do not fit to the tables, or set a row that has none in its place, or some row is none of the kinds,
+-- the changes do not fit to the tables, or set a row that is not there, or some row does not have the form of its kind,
 -- before or after them
 abbrev pub MayRefuse : List Change → Tables → Type 0
 MayRefuse changes t =
@@ -145,14 +145,15 @@ abbrev pub LooksForOld : {X : Type 0} → (Tables → X → Type 0) → (Tables 
     → Type 0
 LooksForOld = LooksAmong old_schema IsOldHub
 
--- the same where the answer is this of the tables, and `Unclean` comes only where some row is none of the kinds
+-- the same where the answer is this of the tables, and `Unclean` comes only where some row does not have the form of
+-- its kind
 abbrev pub LooksUp : {X : Type 0} → (Tables → X) → State → State → Result X StoreFault → Type 0
 LooksUp answer old new result = LooksFor (λ t x. x ≡ answer t) (λ t. are_clean t ≡ false) old new result
 
 -- a commit: all changes at Ok, where each row that is set has one in its place, and none at a fault. A crash leaves
 -- what it did before, or all changes. `Unclean` comes where the changes do not fit to the rows, where one is to be set
--- that is not there, where some row is none of the kinds, before or after them, or where they make such a row of any
--- tables.
+-- that is not there, where some row does not have the form of its kind, before or after them, or where they make such a
+-- row of any tables.
 pub record CommitsTo (changes : List Change) (old new : State) (result : Result (Unit {0}) StoreFault) : Type 0 where
   pub done :
       HasCleanDisk new → Holds old →

@@ -7,9 +7,9 @@ use std::fmt;
 /// Why a script was not played to its end.
 #[derive(Clone, Copy)]
 pub enum ScriptFault {
-    /// A line that is none of a script, or bytes that are cut.
+    /// A line that no script has, or bytes that are cut.
     Line,
-    /// A register that is none.
+    /// A text that is no register.
     Register,
     /// A failed read or write.
     File,

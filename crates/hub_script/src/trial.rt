@@ -39,7 +39,7 @@ pub struct Trial<S: Store + Drop, O: Opener<S>> {
     quiet: bool,
 }
 
-// How a store fails, at the call after so many others, of which the one that gives its register is none.
+// How a store fails, at the call after so many others. The one that gives its register does not count.
 #[derive(Clone, Copy)]
 enum Failure {
     Memory(u64),

@@ -115,7 +115,7 @@ fn raised<S: Alter + Drop>(
     }
 }
 
-// The store of a connection that was opened again, where its rows hold a register.
+// The store of a connection, where its rows hold a register.
 fn taken<S: Alter + Drop>(
     alloc: Global,
     conn: Connection<S>,
@@ -148,7 +148,7 @@ impl<S: Alter + Drop> SqliteStore<S> {
     /// Schema 2 becomes schema 3: its number is set, and no other row changes. `Version` where it has no tables, others
     /// than a hub's or another number of the schema, and only there; the connection that comes back with it is as it was.
     /// `Unclean` where its rows hold no register, which then stay as they are, with their number; a row of another kind
-    /// that is none shows when it is looked up. With any fault no row is lost that was committed.
+    /// without its form shows when it is looked up. With any fault no row is lost that was committed.
     pub fn adopt(
         alloc: Global,
         conn: Connection<S>,

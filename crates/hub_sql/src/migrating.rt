@@ -89,7 +89,7 @@ fn laid_beside<S: Alter + Drop>(
     }
 }
 
-// The same of a connection that was opened again, where it still lists the tables of schema 1 and the register fits.
+// The same of a connection that still lists the tables of schema 1, where the register fits.
 fn beside<S: Alter + Drop>(
     alloc: Global,
     conn: Connection<S>,

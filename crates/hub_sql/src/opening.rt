@@ -37,8 +37,8 @@ pub(crate) fn fault_by(error: &Error) -> StoreFault
     }
 }
 
-/// The fault of a founding, or of a number that was not set: rows that are none of the kinds do not come, as those of a
-/// register are right.
+/// The fault of a founding, or of a number that was not set. It is never a row without the form of its kind, since those
+/// of a register have it.
 pub(crate) fn laying_fault(fault: StoreFault) -> StoreFault
     ensures { (result ≡ StoreFault.Memory) ⊎ (result ≡ StoreFault.Disk) }
 {

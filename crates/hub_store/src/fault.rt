@@ -11,7 +11,7 @@ pub enum StoreFault {
     Memory,
     /// A call of the store below failed for another cause.
     Disk,
-    /// A stored row is none of the kinds that a hub keeps, or changes would make one, or do not fit to the rows.
+    /// A stored row does not have the form of its kind, or changes would make such a row, or do not fit to the rows.
     Unclean,
     /// The stored tables are of an unknown version. Answered by opening alone.
     Version,

@@ -22,8 +22,8 @@ use hub_tables::{Change, ContentRow, LineRow, MailRow, PalletRow, ReceiptRow, Si
 /// mailbox entries count from 1.
 ///
 /// Faults: a look-up or commit can answer `Memory`, and the content stays. `Disk` comes of a store below alone.
-/// `Unclean` comes where a row is none of the kinds, and of a commit also where its changes would make such a row or
-/// do not fit. After `Disk` and `Unclean` each look-up and commit answers that fault. None answers `Version`.
+/// `Unclean` comes where a row does not have the form of its kind, and of a commit also where its changes would make
+/// such a row or do not fit. After `Disk` and `Unclean` each look-up and commit answers that fault. None answers `Version`.
 pub trait Store {
     /// The rows.
     ghost content: { Self → Tables };

@@ -37,7 +37,7 @@ use Rattle.hub_writes.specs.Faults.{ended}
 use Rattle.hub_writes.proofs.Outcomes.{no_unclean}
 use Rattle.hub_writes.proofs.Hubs.{same_hub}
 
--- A row whose number SQL has not is none of the kinds.
+-- A row with a number that SQL does not have lacks the form of its kind.
 
 none_such : {X : Type 0} (p q : X → Bool) (xs : List X) → ((x : X) → p x ≡ true → q x ≡ true → ⊥)
     → list_any p xs ≡ true → list_all q xs ≡ true → ⊥

@@ -36,8 +36,8 @@ pub record MakesFirst (changes : List Change) (old new : State) : Type 0 where
   pub is_open : new.is_open ≡ old.is_open
 
 -- At Ok all changes are made, in the transaction alone, they fit, and each row that is set had one in its place. `Unclean` comes
--- where a key is there that is to be added, where a row is to be set that is not there, or where a number is none of
--- SQL. After a fault the transaction stands with the changes before the one that failed, or it is undone; where it had
+-- where a key is there that is to be added, where a row is to be set that is not there, or where SQL does not
+-- have a number. After a fault the transaction stands with the changes before the one that failed, or it is undone; where it had
 -- ended before, nothing is done at all. At no time is anything committed.
 pub record Acts (changes : List Change) (old new : State) (result : Result (Unit {0}) StoreFault) : Type 0 where
   pub makes : HasCleanDisk new → IsHub old → IsTrue old.in_transaction → OnOk result (Makes (apply_all changes) old new)
