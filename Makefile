@@ -1,11 +1,14 @@
-RELAY = relay --hub 5412345000006 --owner 4012345500004 --moment 1748942400 --number 1
+# the hub, the supplier, the moment of the mail and the number of its first text
+EXAMPLE = 5412345000006 4012345500004 1748942400 1
 PROVED = crates/edihub/out/edihub
 
-.PHONY: run day serve page page-test page-pictures try test wrong found hostile fuzz year crowd hubs bench edihub hub_script tests_of_calls install uninstall clean
+.PHONY: run day serve page page-test page-pictures try case test wrong found hostile fuzz year crowd hubs bench edihub hub_script tests_of_calls install uninstall clean
 
-# The main job, with the proved program: the example's ORDERS interchange becomes the supplier's mailbox interchange.
-run: edihub
-	./edihub $(RELAY) < examples/orders.edi
+# The main job, proved: the example's ORDERS interchange becomes the supplier's mailbox interchange. The program that does this
+# alone, as `edihub relay` does it, stands on six crates.
+run:
+	python3 -m tests.prove edirelay $(EXAMPLE)
+	crates/edirelay/out/edirelay $(EXAMPLE) < examples/orders.edi
 
 # Some days of one retailer with two suppliers and a third that joins, over a database file in a temporary folder.
 day: edihub
@@ -29,19 +32,19 @@ page: edihub
 
 # The page in headless Chromium and its readers in Node, some minutes, no part of the gate; and its pictures, made anew.
 page-test: edihub
-	python3 tests/page/test.py ./edihub
+	python3 -m tests.page.test ./edihub
 
 page-pictures: edihub
-	python3 tests/page/pictures.py ./edihub docs/page
+	python3 -m tests.page.pictures ./edihub docs/page
 
 # Proves and builds the program, a line for each crate. With no change since, nothing is proved again.
 edihub:
-	python3 tests/prove.py edihub --help
+	python3 -m tests.prove edihub --help
 	cp $(PROVED) edihub
 
 # Proves and builds the program that plays scripts on a hub, for trials.
 hub_script:
-	python3 tests/prove.py hub_script
+	python3 -m tests.prove hub_script
 
 # Proves and runs the tests of calls, whose programs are left for the hostile trials.
 TESTS = edi_tests http_tests judge_tests hub_tests app_tests
@@ -49,10 +52,14 @@ TESTS = edi_tests http_tests judge_tests hub_tests app_tests
 tests_of_calls:
 	for crate in $(TESTS); do (mkdir -p crates/$$crate/out && cd crates/$$crate && rt test > out/log 2>&1 || { cat out/log; exit 1; }) || exit 1; done
 
-# The same job without any proof, in some three minutes.
+# The same job without any proof, in some seconds.
 try:
 	@echo "make try: this run proves nothing" >&2
-	cd crates/edihub && rt try -- $(RELAY) < ../../examples/orders.edi
+	cd crates/edirelay && rt try -- $(EXAMPLE) < ../../examples/orders.edi
+
+# Cases of `edihub` without any proof, of one group or those with some words in their names: make case OF=orders WORDS=QTY
+case:
+	python3 -m tests.unproved $(OF) $(WORDS)
 
 # Puts the program that `make edihub` left into PREFIX, with its man page, completions for bash and a unit: make install PREFIX=/usr
 PREFIX = /usr/local
@@ -73,56 +80,56 @@ uninstall:
 
 # The gate, and then the end-to-end tests of the program that the gate built.
 test:
-	python3 tests/test.py
+	python3 -m tests.test
 
 # The library of wrong bodies and wrong definitions, of all crates or of one: make wrong CRATE=edi_goods
 wrong:
-	python3 tests/wrong.py $(CRATE)
+	python3 -m tests.wrong $(CRATE)
 
 # Whether the trial of a machine that stops finds a commit in two transactions, which the contracts refuse: some minutes.
 found:
-	python3 tests/found.py
+	python3 -m tests.split_commit
 
 # Kills, full disks, damaged files and refused memory, for some minutes; no part of the gate.
 hostile: edihub hub_script tests_of_calls
-	python3 tests/hostile.py crates/edihub/out/edihub crates/hub_script/out/hub_script
+	python3 -m tests.hostile crates/edihub/out/edihub crates/hub_script/out/hub_script
 
 # Inputs made right and then changed, through the program: make fuzz SEED=2 NUMBER=10000
 SEED = 1
 NUMBER = 100000
 
 fuzz: edihub
-	python3 tests/fuzz.py crates/edihub/out/edihub $(SEED) $(NUMBER)
+	python3 -m tests.fuzz crates/edihub/out/edihub $(SEED) $(NUMBER)
 
 # A retailer's year with 1,000 suppliers over HTTP, each answer compared with the right one: ORDERS=100000 for a whole one, which takes
 # 1 GB in TMPDIR.
 ORDERS = 10000
 
 year: edihub
-	python3 bench/year.py crates/edihub/out/edihub $(ORDERS)
+	python3 -m bench.year crates/edihub/out/edihub $(ORDERS)
 
 # 1,000 suppliers at once, through HAProxy as examples/front has it; no part of the gate.
 crowd: edihub
-	python3 bench/crowd.py crates/edihub/out/edihub
+	python3 -m bench.crowd crates/edihub/out/edihub
 
 # One hub, and three behind HAProxy as examples/hubs has them, asked the same; no part of the gate.
 hubs: edihub
-	python3 tests/spread.py crates/edihub/out/edihub
+	python3 -m tests.three_hubs crates/edihub/out/edihub
 
 bench: edihub hub_script
 	rustc --edition 2021 -O -o crates/edihub/out/plain bench/plain.rs
 	rustc --edition 2021 -O -o crates/edihub/out/flat bench/flat.rs
-	python3 bench/run.py ./edihub crates/edihub/out/plain crates/edihub/out/flat
-	python3 bench/opening.py ./edihub
-	python3 bench/store.py
+	python3 -m bench.run ./edihub crates/edihub/out/plain crates/edihub/out/flat
+	python3 -m bench.opening ./edihub
+	python3 -m bench.store
 	rustc --edition 2021 -O -o crates/hub_script/out/plain bench/hub.rs
-	python3 bench/hub.py crates/hub_script/out/hub_script crates/hub_script/out/plain
+	python3 -m bench.hub crates/hub_script/out/hub_script crates/hub_script/out/plain
 	if printf 'fn main() {}' | rustc -l sqlite3 -o crates/hub_script/out/empty - 2> crates/hub_script/out/log; then \
 		set -e; \
 		rustc --edition 2021 -O -o crates/hub_script/out/plain_sql bench/sql.rs; \
-		python3 bench/sql.py crates/hub_script/out/hub_script crates/hub_script/out/plain_sql ./edihub; \
+		python3 -m bench.sql crates/hub_script/out/hub_script crates/hub_script/out/plain_sql ./edihub; \
 		rustc --edition 2021 -O -o crates/hub_script/out/plain_server bench/server.rs; \
-		python3 bench/server.py crates/hub_script/out/hub_script crates/hub_script/out/plain_server ./edihub; \
+		python3 -m bench.server crates/hub_script/out/hub_script crates/hub_script/out/plain_server ./edihub; \
 	else echo "no SQLite library to compare with"; fi
 
 clean:

@@ -7,7 +7,7 @@ is compared with the right one; in the end each status, and what the file rememb
 twice: with a hub that goes on, and with one that ends after some connections and is begun anew, as a supervisor does. Then the hub is
 halted, and a client reads what the front answers when its queue's time is over.
 
-    python3 bench/crowd.py crates/edihub/out/edihub [SUPPLIERS]"""
+    python3 -m bench.crowd crates/edihub/out/edihub [SUPPLIERS]"""
 import asyncio
 import os
 import signal
@@ -20,14 +20,14 @@ import time
 from collections import Counter
 from concurrent.futures import ProcessPoolExecutor
 
-from trade import Order, request, status_body, supplier_of
-from year import most_memory
-from commands import found, over
-from files import NAME, is_whole
-from front import Door, Front, Supervised, is_there
-from hubs import RETAILER, interchange
-from registers import crowd
-from serving import listed
+from bench.trade import Order, request, status_body, supplier_of
+from bench.year import most_memory
+from tests.harness.database_files import NAME, is_whole
+from tests.harness.front_proxy import Door, Front, Supervised, is_there
+from tests.harness.hub_scripts import interchange
+from tests.harness.hub_steps import found, over
+from tests.harness.register_texts import RETAILER, crowd
+from tests.harness.servers import listed
 
 SUPPLIERS, PROCESSES = 1_000, 2
 # of so many suppliers one sends slowly, one goes away before its answer, and one in the midst of a request; and so many clients send the

@@ -1,14 +1,15 @@
 //! The second yardstick of `make bench`: `relay` as a plain Rust program, `rustc -O` and std alone, that keeps one segment
 //! in a flat buffer, judges the envelope as the segments come, and writes their text into one vector.
 use std::collections::HashSet;
-use std::io::{Read, Write};
+use std::io::Write;
 
 #[allow(dead_code)]
-#[path = "plain.rs"]
-mod plain;
+#[path = "shared.rs"]
+mod shared;
 
-use plain::{
-    Class, Fault, SEGMENT_LIMIT, Service, TEXT_LIMIT, USUAL, classes, clock, count_of, is_part, is_reference, is_tag_byte, service_of,
+use shared::{
+    Class, Fault, SEGMENT_LIMIT, TEXT_LIMIT, USUAL, Words, classes, clock, count_of, is_head, is_part, is_reference, is_tag_byte, relayed,
+    service_in_front,
 };
 
 /// One segment: the bytes of its components behind one another, where each of them ends, and how many there are up to
@@ -175,19 +176,6 @@ impl Reader<'_> {
     }
 }
 
-fn is_head(unb: &Segment) -> bool {
-    let partner = |e: usize| (1..=35).contains(&unb.component(e, 0).len()) && unb.component(e, 1) == b"14";
-    let digits = |b: &[u8], n: usize| b.len() == n && b.iter().all(u8::is_ascii_digit);
-    matches!(unb.component(0, 0), b"UNOA" | b"UNOB" | b"UNOC")
-        && unb.component(0, 1) == b"3"
-        && partner(1)
-        && partner(2)
-        && digits(unb.component(3, 0), 6)
-        && digits(unb.component(3, 1), 4)
-        && is_reference(unb.component(4, 0))
-        && matches!(unb.component(10, 0), b"" | b"1")
-}
-
 #[derive(PartialEq)]
 enum Frame {
     Start,
@@ -285,7 +273,7 @@ impl Relay<'_> {
         match (&self.frame, &segment.tag) {
             (Frame::Start, b"UNB") => {
                 self.frame = Frame::Inside;
-                if !is_head(segment) {
+                if !is_head(|element, place| segment.component(element, place)) {
                     self.note(7);
                 }
                 if segment.component(10, 0) == b"1" {
@@ -327,14 +315,9 @@ fn relay(text: &[u8], mut relay: Relay) -> Result<Vec<u8>, Fault> {
     let whole = &text[..text.len().min(TEXT_LIMIT)];
     let mut reader = Reader { text: whole, at: 0, classes: classes(&USUAL) };
     reader.skip_line_ends();
-    let mut service: Service = USUAL;
-    if whole[reader.at..].starts_with(b"UNA") {
-        let cut = if text.len() > TEXT_LIMIT { "E01" } else { "E02" };
-        let six = whole.get(reader.at + 3..reader.at + 9).ok_or(cut)?;
-        service = service_of(six).ok_or("E02")?;
-        reader.classes = classes(&service);
-        reader.at += 9;
-    }
+    let (service, length) = service_in_front(&whole[reader.at..], text.len() > TEXT_LIMIT)?;
+    reader.classes = classes(&service);
+    reader.at += length;
     relay.decimal = service.decimal;
     let mut segment = Segment::default();
     loop {
@@ -351,19 +334,15 @@ fn relay(text: &[u8], mut relay: Relay) -> Result<Vec<u8>, Fault> {
     relay.end()
 }
 
-fn main() {
-    let words: Vec<String> = std::env::args().collect();
-    let value = |name: &str| words.iter().position(|w| w == name).and_then(|at| words.get(at + 1)).expect(name).clone();
-    let (hub, owner) = (value("--hub"), value("--owner"));
-    let (date, time) = clock(value("--moment").parse().unwrap());
-    let mut text = Vec::new();
-    std::io::stdin().take(TEXT_LIMIT as u64 + 1).read_to_end(&mut text).unwrap();
-    let begun = Relay {
-        hub: hub.as_bytes(),
-        owner: owner.as_bytes(),
+/// What is known before the first segment.
+fn begun(words: &Words) -> Relay<'_> {
+    let (date, time) = clock(words.moment);
+    Relay {
+        hub: words.hub.as_bytes(),
+        owner: words.owner.as_bytes(),
         date,
         time,
-        number: value("--number").parse().unwrap(),
+        number: words.number,
         decimal: b'.',
         frame: Frame::Start,
         lowest: 99,
@@ -375,12 +354,9 @@ fn main() {
         messages: 0,
         references: HashSet::new(),
         out: Vec::new(),
-    };
-    match relay(&text, begun) {
-        Ok(out) => std::io::stdout().write_all(&out).unwrap(),
-        Err(fault) => {
-            eprintln!("refused {fault}");
-            std::process::exit(1);
-        }
     }
+}
+
+fn main() {
+    relayed(|words, text| relay(text, begun(words)));
 }

@@ -3,7 +3,7 @@ prints ratios of processor time and of instructions (where valgrind is there). T
 stands before the measured part; for instructions what stands before is played alone too, and taken off. Where a bound is
 passed, it says so and ends with status 1.
 
-    python3 bench/hub.py crates/hub_script/out/hub_script PLAIN"""
+    python3 -m bench.hub crates/hub_script/out/hub_script PLAIN"""
 import os
 import re
 import shutil
@@ -12,8 +12,8 @@ import subprocess
 import sys
 import tempfile
 
-sys.path.insert(0, os.path.join(os.path.dirname(os.path.abspath(__file__)), "..", "tests"))
-from hubs import ALPHA, RETAILER, Play, interchange, message, parties
+from tests.harness.hub_scripts import Play, interchange, message, parties
+from tests.harness.register_texts import ALPHA, RETAILER
 
 ROUNDS = 5
 # the bound: times of the plain program
@@ -85,7 +85,9 @@ def status(measured):
     return play.script
 
 
-LOADS = {"20 uploads of 999 orders": orders, "2,000 despatches of 10 lines among 100,000": despatches, "50 statuses of 10,000 lines": status}
+LOADS = {
+    "20 uploads of 999 orders": orders, "2,000 despatches of 10 lines among 100,000": despatches, "50 statuses of 10,000 lines": status
+}
 
 
 def since_first(words, folder, source=subprocess.DEVNULL):

@@ -119,6 +119,43 @@ pub fn line_groups(segments: &[Segment], quantity: &[u8]) -> Vec<(u32, [u8; 14],
     groups
 }
 
+/// The suppliers of a register.
+pub fn suppliers_of(register: &str) -> Vec<Gln> {
+    let first_quoted = |entry: &str| entry.split('"').nth(1).unwrap().as_bytes().try_into().unwrap();
+    register.split("[[supplier]]").skip(1).map(first_quoted).collect()
+}
+
+/// The reply to an upload, each message of which is taken by itself, or known already.
+pub fn uploaded(text: &[u8], mut is_new: impl FnMut(&[u8], Message) -> bool) -> Vec<u8> {
+    let (_, segments) = read(text).unwrap();
+    let control = segments[0].component(4, 0).to_vec();
+    let messages = open(segments).unwrap();
+    let mut reply = format!("interchange {} messages {}\n", String::from_utf8_lossy(&control), messages.len()).into_bytes();
+    for message in messages {
+        let (reference, kind) = (message.reference.clone(), message.kind.clone());
+        let is_new = is_new(&control, message);
+        reply.extend_from_slice(&reference);
+        reply.push(b' ');
+        reply.extend_from_slice(&kind);
+        reply.extend_from_slice(if is_new { b" accepted\n" } else { b" repeated\n" });
+    }
+    reply
+}
+
+/// Takes the next line of a script: its words, and the bytes whose number it names where it is one with bytes.
+pub fn next_line<'a>(rest: &mut &'a [u8]) -> (Vec<&'a str>, &'a [u8]) {
+    let end = rest.iter().position(|&b| b == b'\n').unwrap();
+    let words: Vec<&str> = std::str::from_utf8(&rest[..end]).unwrap().split(' ').collect();
+    let behind = &rest[end + 1..];
+    if !matches!(words[0], "hub" | "upload") {
+        *rest = behind;
+        return (words, &[]);
+    }
+    let (payload, after) = behind.split_at(words[1].parse().unwrap());
+    *rest = &after[1..];
+    (words, payload)
+}
+
 impl Hub {
     /// Whether the same content is remembered; else it is put in.
     fn is_new(&mut self, supplier: Gln, side: u8, control: &[u8], message: &Message) -> bool {
@@ -181,19 +218,9 @@ impl Hub {
     }
 
     fn upload(&mut self, text: &[u8]) -> Vec<u8> {
-        let (_, segments) = read(text).unwrap();
-        let control = segments[0].component(4, 0).to_vec();
-        let messages = open(segments).unwrap();
-        let mut reply = format!("interchange {} messages {}\n", String::from_utf8_lossy(&control), messages.len()).into_bytes();
-        for message in messages {
-            let (reference, kind) = (message.reference.clone(), message.kind.clone());
-            let is_new = if kind == b"ORDERS" { self.order(&control, message) } else { self.despatch(&control, &message) };
-            reply.extend_from_slice(&reference);
-            reply.push(b' ');
-            reply.extend_from_slice(&kind);
-            reply.extend_from_slice(if is_new { b" accepted\n" } else { b" repeated\n" });
-        }
-        reply
+        uploaded(text, |control, message| {
+            if message.kind == b"ORDERS" { self.order(control, message) } else { self.despatch(control, &message) }
+        })
     }
 
     fn status(&self, supplier: Gln) -> Vec<u8> {
@@ -230,18 +257,10 @@ fn main() {
     let (mut hub, mut rest, mut caller, mut quiet) = (Hub::default(), script.as_slice(), [0; 13], false);
     let mut out = std::io::stdout();
     while !rest.is_empty() {
-        let end = rest.iter().position(|&b| b == b'\n').unwrap();
-        let words: Vec<&str> = std::str::from_utf8(&rest[..end]).unwrap().split(' ').collect();
-        rest = &rest[end + 1..];
-        let mut payload = || {
-            let (data, after) = rest.split_at(words[1].parse().unwrap());
-            rest = &after[1..];
-            data
-        };
+        let (words, payload) = next_line(&mut rest);
         let reply = match words[0] {
             "hub" => {
-                let text = std::str::from_utf8(payload()).unwrap();
-                hub.suppliers = text.split("[[supplier]]").skip(1).map(|it| it.split('"').nth(1).unwrap().as_bytes().try_into().unwrap()).collect();
+                hub.suppliers = suppliers_of(std::str::from_utf8(payload).unwrap());
                 continue;
             }
             "as" => {
@@ -256,7 +275,7 @@ fn main() {
                 quiet = false;
                 continue;
             }
-            "upload" => hub.upload(payload()),
+            "upload" => hub.upload(payload),
             // behind the greatest number a mailbox has no entry
             "after" => b"end\n".to_vec(),
             _ => hub.status(caller),

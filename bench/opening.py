@@ -1,7 +1,7 @@
 """Files of about so many MB, and what a command over each costs beside the database's own opening of it: instructions, where valgrind
 is there, processor time and memory. Where it is more than a tenth more, the status is 1.
 
-    python3 bench/opening.py EDIHUB [MB ..]"""
+    python3 -m bench.opening EDIHUB [MB ..]"""
 import os
 import re
 import resource
@@ -10,9 +10,9 @@ import subprocess
 import sys
 import tempfile
 
-from hub import ALPHA, RETAILER, interchange, order
-from hubs import BETA, MOMENT
-from registers import register
+from bench.hub import order
+from tests.harness.hub_scripts import MOMENT, interchange
+from tests.harness.register_texts import ALPHA, BETA, RETAILER, register
 
 # times of the database's own opening
 MOST = 1.1
@@ -48,7 +48,9 @@ def instructions(words, folder):
     """Of the whole command, and of the database's own opening within."""
     counted = ["valgrind", "--tool=callgrind", "--callgrind-out-file=counted", *words]
     subprocess.run(counted, cwd=folder, check=True, stdout=subprocess.DEVNULL, stderr=subprocess.DEVNULL)
-    told = subprocess.run(["callgrind_annotate", "--inclusive=yes", "counted"], cwd=folder, check=True, stdout=subprocess.PIPE, text=True).stdout
+    told = subprocess.run(
+        ["callgrind_annotate", "--inclusive=yes", "counted"], cwd=folder, check=True, stdout=subprocess.PIPE, text=True
+    ).stdout
     lines = [(int(found[1].replace(",", "")), found[2]) for found in re.finditer(r"^ *([\d,]+) \([ \d.]+%\) +(.*)$", told, re.MULTILINE)]
     return tuple(next(count for count, name in lines if wanted in name) for wanted in ("PROGRAM TOTALS", OWN))
 
@@ -61,7 +63,10 @@ def main(edihub, *sizes):
             # a list of entries above the last one
             words = [edihub, "mail", "--db", "hub.db", "--as", BETA, "--key", "beta-key-1", "--moment", MOMENT, "--do", "after", "--n", "0"]
             time, memory = taken(words, folder)
-            told = f"{os.path.getsize(os.path.join(folder, 'hub.db')) / 1e6:.0f} MB: {time:.2f} s of processor time, {memory:.0f} MB of memory"
+            told = (
+                f"{os.path.getsize(os.path.join(folder, 'hub.db')) / 1e6:.0f} MB: {time:.2f} s of processor time, "
+                f"{memory:.0f} MB of memory"
+            )
             if shutil.which("valgrind"):
                 whole, own = instructions(words, folder)
                 told += f"; {whole / 1e9:.2f} thousand million instructions, {whole / own:.3f} times the database's own opening"

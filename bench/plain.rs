@@ -2,73 +2,19 @@
 //! It reads by slices into the same nested vectors, checks the same faults, copies each message once and
 //! writes into one vector.
 use std::collections::HashSet;
-use std::io::{Read, Write};
 
-pub const TEXT_LIMIT: usize = 1_048_576;
-pub const SEGMENT_LIMIT: usize = 8_192;
+#[allow(dead_code)]
+#[path = "shared.rs"]
+pub mod shared;
 
-pub type Fault = &'static str;
-
-#[derive(Clone, Copy)]
-pub struct Service {
-    pub component: u8,
-    pub element: u8,
-    pub decimal: u8,
-    pub release: Option<u8>,
-    pub terminator: u8,
-}
+use shared::{
+    Class, Fault, SEGMENT_LIMIT, Service, TEXT_LIMIT, USUAL, classes, clock, count_of, is_head, is_part, is_reference, is_tag_byte, relayed,
+    service_in_front,
+};
 
 pub struct Segment {
     pub tag: [u8; 3],
     pub elements: Vec<Vec<Vec<u8>>>,
-}
-
-pub const USUAL: Service = Service { component: b':', element: b'+', decimal: b'.', release: Some(b'?'), terminator: b'\'' };
-
-fn is_mark(b: u8) -> bool {
-    (0x21..=0x7E).contains(&b) && !b.is_ascii_alphanumeric()
-}
-
-pub fn service_of(six: &[u8]) -> Option<Service> {
-    let [component, element, decimal, release, reserved, terminator] = *six else { return None };
-    let release = (release != b' ').then_some(release);
-    let marks = [Some(component), Some(element), release, Some(terminator)];
-    let all: Vec<u8> = marks.iter().flatten().copied().collect();
-    let apart = all.iter().collect::<HashSet<_>>().len() == all.len();
-    let right = apart
-        && all.iter().all(|&b| is_mark(b))
-        && matches!(decimal, b'.' | b',')
-        && !all.contains(&decimal)
-        && (0x20..=0x7E).contains(&reserved);
-    right.then_some(Service { component, element, decimal, release, terminator })
-}
-
-#[derive(Clone, Copy, PartialEq)]
-pub enum Class {
-    Data,
-    Component,
-    Element,
-    Terminator,
-    Release,
-    Bad,
-}
-
-pub fn classes(s: &Service) -> [Class; 256] {
-    let mut table = [Class::Bad; 256];
-    for b in (0x20..=0x7E).chain(0xA0..=0xFF) {
-        table[b] = Class::Data;
-    }
-    table[s.component as usize] = Class::Component;
-    table[s.element as usize] = Class::Element;
-    table[s.terminator as usize] = Class::Terminator;
-    if let Some(r) = s.release {
-        table[r as usize] = Class::Release;
-    }
-    table
-}
-
-pub fn is_tag_byte(b: u8) -> bool {
-    b.is_ascii_uppercase() || b.is_ascii_digit()
 }
 
 struct Reader<'a> {
@@ -167,14 +113,9 @@ pub fn read(text: &[u8]) -> Result<(Service, Vec<Segment>), Fault> {
     let whole = &text[..text.len().min(TEXT_LIMIT)];
     let mut reader = Reader { text: whole, at: 0, classes: classes(&USUAL) };
     reader.skip_line_ends();
-    let mut service = USUAL;
-    if whole[reader.at..].starts_with(b"UNA") {
-        let cut = if text.len() > TEXT_LIMIT { "E01" } else { "E02" };
-        let six = whole.get(reader.at + 3..reader.at + 9).ok_or(cut)?;
-        service = service_of(six).ok_or("E02")?;
-        reader.classes = classes(&service);
-        reader.at += 9;
-    }
+    let (service, length) = service_in_front(&whole[reader.at..], text.len() > TEXT_LIMIT)?;
+    reader.classes = classes(&service);
+    reader.at += length;
     let mut segments = Vec::new();
     loop {
         reader.skip_line_ends();
@@ -195,36 +136,11 @@ impl Segment {
     }
 }
 
-pub fn is_reference(b: &[u8]) -> bool {
-    (1..=14).contains(&b.len()) && b.iter().all(|b| (0x20..=0x7E).contains(b))
-}
-
-pub fn count_of(b: &[u8]) -> Option<usize> {
-    ((1..=6).contains(&b.len()) && b.iter().all(u8::is_ascii_digit)).then(|| b.iter().fold(0, |n, d| 10 * n + (d - b'0') as usize))
-}
-
-pub fn is_part(b: &[u8], low: usize, high: usize) -> bool {
-    (low..=high).contains(&b.len()) && b.iter().all(|&b| b <= 0x7E)
-}
-
 pub struct Message {
     pub kind: Vec<u8>,
     pub reference: Vec<u8>,
     pub identifiers: [Vec<u8>; 4],
     pub segments: Vec<Segment>,
-}
-
-fn is_head(unb: &Segment) -> bool {
-    let partner = |e: usize| (1..=35).contains(&unb.component(e, 0).len()) && unb.component(e, 1) == b"14";
-    let digits = |b: &[u8], n: usize| b.len() == n && b.iter().all(u8::is_ascii_digit);
-    matches!(unb.component(0, 0), b"UNOA" | b"UNOB" | b"UNOC")
-        && unb.component(0, 1) == b"3"
-        && partner(1)
-        && partner(2)
-        && digits(unb.component(3, 0), 6)
-        && digits(unb.component(3, 1), 4)
-        && is_reference(unb.component(4, 0))
-        && matches!(unb.component(10, 0), b"" | b"1")
 }
 
 pub fn open(segments: Vec<Segment>) -> Result<Vec<Message>, Fault> {
@@ -234,7 +150,7 @@ pub fn open(segments: Vec<Segment>) -> Result<Vec<Message>, Fault> {
     if !framed || segments[1..1 + inner].iter().any(|s| matches!(&s.tag, b"UNB" | b"UNZ")) {
         return Err("E06");
     }
-    if !is_head(first) {
+    if !is_head(|element, place| first.component(element, place)) {
         return Err("E07");
     }
     let control = first.component(4, 0) == last.component(1, 0);
@@ -317,26 +233,6 @@ pub fn open(segments: Vec<Segment>) -> Result<Vec<Message>, Fault> {
     if lowest < 99 { Err(NAMES[lowest as usize - 11]) } else { Ok(messages) }
 }
 
-pub fn clock(moment: u64) -> (String, String) {
-    let (mut days, seconds) = (moment / 86_400, moment % 86_400);
-    let leap = |y: u64| y % 4 == 0 && (y % 100 != 0 || y % 400 == 0);
-    let mut year = 1970;
-    while days >= 365 + leap(year) as u64 {
-        days -= 365 + leap(year) as u64;
-        year += 1;
-    }
-    let months = [31, 28 + leap(year) as u64, 31, 30, 31, 30, 31, 31, 30, 31, 30, 31];
-    let mut month = 0;
-    while days >= months[month] {
-        days -= months[month];
-        month += 1;
-    }
-    (
-        format!("{:02}{:02}{:02}", year % 100, month + 1, days + 1),
-        format!("{:02}{:02}", seconds / 3600, seconds % 3600 / 60),
-    )
-}
-
 fn wrap(hub: &[u8], owner: &[u8], moment: u64, number: u64, message: &Message) -> Vec<Segment> {
     let (date, time) = clock(moment);
     let number = number.to_string().into_bytes();
@@ -396,27 +292,17 @@ fn write(out: &mut Vec<u8>, decimal: u8, segments: &[Segment]) {
     }
 }
 
-fn main() {
-    let words: Vec<String> = std::env::args().collect();
-    let value = |name: &str| words.iter().position(|w| w == name).and_then(|at| words.get(at + 1)).expect(name).clone();
-    let (hub, owner) = (value("--hub"), value("--owner"));
-    let (moment, number): (u64, u64) = (value("--moment").parse().unwrap(), value("--number").parse().unwrap());
-    let mut text = Vec::new();
-    std::io::stdin().take(TEXT_LIMIT as u64 + 1).read_to_end(&mut text).unwrap();
-    let relayed = read(&text).and_then(|(service, segments)| {
-        let messages = open(segments)?;
-        let mut out = Vec::new();
-        for (place, message) in messages.iter().enumerate() {
-            let segments = wrap(hub.as_bytes(), owner.as_bytes(), moment, number + place as u64, message);
-            write(&mut out, service.decimal, &segments);
-        }
-        Ok(out)
-    });
-    match relayed {
-        Ok(out) => std::io::stdout().write_all(&out).unwrap(),
-        Err(fault) => {
-            eprintln!("refused {fault}");
-            std::process::exit(1);
-        }
+fn relay(text: &[u8], hub: &[u8], owner: &[u8], moment: u64, number: u64) -> Result<Vec<u8>, Fault> {
+    let (service, segments) = read(text)?;
+    let messages = open(segments)?;
+    let mut out = Vec::new();
+    for (place, message) in messages.iter().enumerate() {
+        let segments = wrap(hub, owner, moment, number + place as u64, message);
+        write(&mut out, service.decimal, &segments);
     }
+    Ok(out)
+}
+
+fn main() {
+    relayed(|words, text| relay(text, words.hub.as_bytes(), words.owner.as_bytes(), words.moment, words.number));
 }

@@ -11,7 +11,7 @@ import sys
 import tempfile
 import time
 
-import loads
+from bench import loads
 
 WORDS = ["relay", "--hub", "5412345000006", "--owner", "4012345500004", "--moment", "1748942400", "--number", "1"]
 ROUNDS = 7
@@ -78,11 +78,19 @@ def size(ours, plain, flat, name, text, data):
     with open(text, "wb") as it:
         it.write(data)
     found = measure([ours, plain, flat], text)
-    (seconds, memory, count), (plain_seconds, plain_memory, plain_count), (flat_seconds, flat_memory, flat_count) = (found[it] for it in (ours, plain, flat))
-    line = f"{name}, {len(data):>9,} bytes: time {seconds / plain_seconds:.2f} of the plain program's and {seconds / flat_seconds:.2f} of the flat one's, memory {memory / 1024:.1f} MiB of {plain_memory / 1024:.1f} and {flat_memory / 1024:.1f}"
+    seconds, memory, count = found[ours]
+    plain_seconds, plain_memory, plain_count = found[plain]
+    flat_seconds, flat_memory, flat_count = found[flat]
+    line = (
+        f"{name}, {len(data):>9,} bytes: time {seconds / plain_seconds:.2f} of the plain program's and {seconds / flat_seconds:.2f} of the "
+        f"flat one's, memory {memory / 1024:.1f} MiB of {plain_memory / 1024:.1f} and {flat_memory / 1024:.1f}"
+    )
     passed = []
     if count and plain_count and flat_count:
-        line += f", instructions {count / plain_count:.2f} and {count / flat_count:.2f} ({count / len(data):.0f} a byte, {plain_count / len(data):.0f} in the plain program, {flat_count / len(data):.0f} in the flat one)"
+        line += (
+            f", instructions {count / plain_count:.2f} and {count / flat_count:.2f} ({count / len(data):.0f} a byte, "
+            f"{plain_count / len(data):.0f} in the plain program, {flat_count / len(data):.0f} in the flat one)"
+        )
         if len(data) > loads.LIMIT // 2 and count > MOST_INSTRUCTIONS * flat_count:
             passed.append(f"{name}: more than {MOST_INSTRUCTIONS} times the instructions of the flat program")
     if memory * 1024 > MOST_MEMORY * 10**6:

@@ -1,18 +1,18 @@
 """Connections of HTTP to `edihub serve`, and to a plain Rust server over the system's SQLite (server.rs): ratios of processor
-time a connection, for a mail item, a mail list, an upload of one order, a cancellation, and a status of 10,000 lines. Then the memory of the
-server over many connections. Where a bound is passed, it says so and ends with status 1.
+time a connection, for a mail item, a mail list, an upload of one order, a cancellation, and a status of 10,000 lines. Then the memory of
+the server over many connections. Where a bound is passed, it says so and ends with status 1.
 
-    python3 bench/server.py crates/hub_script/out/hub_script PLAIN EDIHUB"""
+    python3 -m bench.server crates/hub_script/out/hub_script PLAIN EDIHUB"""
 import os
 import socket
 import subprocess
 import sys
 import tempfile
 
-from hub import ALPHA, RETAILER
-from http_texts import asking
-from hubs import TWO_SUPPLIERS
-from sql import base, close, copied, orders_text, run
+from bench.sql import base, close, copied, orders_text, run
+from tests.harness.http_texts import asking
+from tests.harness.hub_scripts import TWO_SUPPLIERS
+from tests.harness.register_texts import ALPHA, RETAILER
 
 LINES, MANY = 10_000, 100_000
 # the bounds: times of the plain server, of a status, and by how much memory may grow over the many connections
@@ -27,8 +27,12 @@ def each_the_same(request, count):
 LOADS = {
     "a mail item": (each_the_same(asking("GET", f"/p/{ALPHA}/mail/item/7", ALPHA), 3_000), MOST),
     "a mail list of 100 entries": (each_the_same(asking("GET", f"/p/{ALPHA}/mail/after/0", ALPHA), 2_000), MOST),
-    "an upload of one order": ([asking("POST", f"/p/{RETAILER}/interchanges", RETAILER, orders_text(1, 50_000 + k)) for k in range(999)], MOST),
-    "a cancellation": ([asking("POST", f"/p/{RETAILER}/cancellations", RETAILER, f"{ALPHA}\nC{k}\n{k:08}\n1\n1\n") for k in range(999)], MOST),
+    "an upload of one order": (
+        [asking("POST", f"/p/{RETAILER}/interchanges", RETAILER, orders_text(1, 50_000 + k)) for k in range(999)], MOST
+    ),
+    "a cancellation": (
+        [asking("POST", f"/p/{RETAILER}/cancellations", RETAILER, f"{ALPHA}\nC{k}\n{k:08}\n1\n1\n") for k in range(999)], MOST
+    ),
     f"a status of {LINES:,} lines": (each_the_same(asking("GET", f"/p/{ALPHA}/status", ALPHA), 40), MOST_OF_STATUS),
 }
 NOTHING = asking("GET", f"/p/{ALPHA}/mail/item/999999", ALPHA)
@@ -110,7 +114,13 @@ def main(script, plain, edihub):
             if answer != plain_answer:
                 sys.exit(f"{name}: the two servers answer otherwise")
             ratio, count = time / plain_time, len(requests)
-            print(f"{name}: processor time {ratio:.2f} of the plain server's ({1e6 * time / count:.0f} of {1e6 * plain_time / count:.0f} microseconds)", flush=True)
+            print(
+                (
+                    f"{name}: processor time {ratio:.2f} of the plain server's ({1e6 * time / count:.0f} of {1e6 * plain_time / count:.0f} "
+                    "microseconds)"
+                ),
+                flush=True,
+            )
             too_much |= ratio > bound
         early, late = grows(words[edihub], folder, top)
         print(f"memory: {early:.1f} MB after {MANY // 100:,} connections, {late:.1f} MB after {MANY:,}")

@@ -6,6 +6,7 @@
 #[path = "sql.rs"]
 mod sql;
 
+use sql::shared::clock;
 use sql::{Bytes, Hub, Number, Statement};
 use std::fmt::Write as _;
 use std::io::{Read, Write};
@@ -37,14 +38,8 @@ fn quoted(text: &str) -> Vec<String> {
 
 /// The date and time of a moment, as YYMMDD:HHMM.
 fn date_and_time(moment: u64) -> String {
-    let (days, minutes) = ((moment / 86_400) as i64 + 719_468, moment % 86_400 / 60);
-    let of_era = days.rem_euclid(146_097);
-    let year = (of_era - of_era / 1460 + of_era / 36_524 - of_era / 146_096) / 365;
-    let of_year = of_era - (365 * year + year / 4 - year / 100);
-    let month = (5 * of_year + 2) / 153;
-    let (day, month) = (of_year - (153 * month + 2) / 5 + 1, if month < 10 { month + 3 } else { month - 9 });
-    let year = (year + i64::from(month <= 2)) % 100;
-    format!("{year:02}{month:02}{day:02}:{:02}{:02}", minutes / 60, minutes % 60)
+    let (date, time) = clock(moment);
+    format!("{date}:{time}")
 }
 
 impl Server {
@@ -65,7 +60,9 @@ impl Server {
             take: of("UPDATE mail SET taken = 1 WHERE supplier = ?1 AND number = ?2"),
             lines: of("SELECT * FROM line WHERE supplier = ?1 ORDER BY number, line"),
             line: of("SELECT open_qty FROM line WHERE supplier = ?1 AND number = ?2 AND line = ?3"),
-            cancel: of("UPDATE line SET open_qty = open_qty - ?4, cancelled = cancelled + ?4 WHERE supplier = ?1 AND number = ?2 AND line = ?3"),
+            cancel: of(
+                "UPDATE line SET open_qty = open_qty - ?4, cancelled = cancelled + ?4 WHERE supplier = ?1 AND number = ?2 AND line = ?3",
+            ),
             recall: of("SELECT content FROM remembered WHERE supplier = ?1 AND side = 67 AND control = ?2 AND message = x''"),
             remember: of("INSERT INTO remembered VALUES (?1, 67, ?2, x'', ?3)"),
             hub,
@@ -105,7 +102,9 @@ impl Server {
             let (number, gtin) = (row.bytes(1), row.bytes(3));
             let (number, gtin) = (std::str::from_utf8(&number).unwrap(), std::str::from_utf8(&gtin).unwrap());
             let (answer, despatched) = (row.number(8) as u8 as char, ordered - open - refused - cancelled);
-            writeln!(text, "L {number:<35} {:>6} {gtin} {answer} {ordered:>9} {open:>9} {refused:>9} {cancelled:>9} {despatched:>9}", row.number(2)).unwrap();
+            let line = row.number(2);
+            write!(text, "L {number:<35} {line:>6} {gtin} {answer} ").unwrap();
+            writeln!(text, "{ordered:>9} {open:>9} {refused:>9} {cancelled:>9} {despatched:>9}").unwrap();
         });
         text.push_str("end\n");
         text.into_bytes()
@@ -195,8 +194,12 @@ impl Server {
         }
         let (status, text) = self.answer(first[0], first[1], key, &body[..length]);
         let phrase = if status == 200 { "OK" } else { "Not Found" };
-        let mut response =
-            format!("HTTP/1.1 {status} {phrase}\r\nContent-Type: application/octet-stream\r\nContent-Length: {}\r\nConnection: close\r\n\r\n", text.len()).into_bytes();
+        let length = text.len();
+        let mut response = format!(
+            "HTTP/1.1 {status} {phrase}\r\nContent-Type: application/octet-stream\r\nContent-Length: {length}\r\n\
+             Connection: close\r\n\r\n"
+        )
+        .into_bytes();
         response.extend_from_slice(&text);
         stream.write_all(&response)?;
         stream.shutdown(Shutdown::Write)?;

@@ -1,10 +1,10 @@
 """Despatches of ten lines, and 999 orders in one upload and in as many, on the proved hub over a file of SQL (`hub_script file`) and
 on a plain Rust program over the system's SQLite (sql.rs), with few and with many lines of the supplier: ratios of processor
-time a message, how it grows with the lines, and syncs a message. Then what opening a file costs, by its size and by its register. Where a bound
-is passed, it says so and ends with status 1. Last, `edihub import` of 999 orders in one file and in as many, beside the plain
+time a message, how it grows with the lines, and syncs a message. Then what opening a file costs, by its size and by its register. Where a
+bound is passed, it says so and ends with status 1. Last, `edihub import` of 999 orders in one file and in as many, beside the plain
 program's uploads of the same.
 
-    python3 bench/sql.py crates/hub_script/out/hub_script PLAIN EDIHUB"""
+    python3 -m bench.sql crates/hub_script/out/hub_script PLAIN EDIHUB"""
 import os
 import shutil
 import sqlite3
@@ -12,9 +12,10 @@ import subprocess
 import sys
 import tempfile
 
-from hub import ALPHA, RETAILER, Play, begun, despatch, interchange, order, sent, since_first
-from hubs import BETA, MOMENT
-from registers import gln, register
+from bench.hub import begun, despatch, order, sent, since_first
+from tests.harness.hub_scripts import MOMENT, Play, interchange
+from tests.harness.register_texts import ALPHA, BETA, RETAILER, gln, register
+from tests.harness.shims import STOP, built
 
 ROUNDS, MESSAGES = 5, 600
 LINES = (10, 1_000, 100_000)
@@ -26,7 +27,6 @@ MOST_OF_REGISTER = 0.1
 OPENED = (45_000, 225_000)
 # MB by which two runs may differ in what they take
 ROOM = 0.5
-SHIM = os.path.join(os.path.dirname(os.path.abspath(__file__)), "..", "tests", "stop.c")
 
 
 def base(lines):
@@ -61,7 +61,11 @@ def orders_each(_):
 
 
 # each load, and its messages
-LOADS = {"a despatch of 10 lines": (despatches, MESSAGES), "an order of one line, 999 in one upload": (orders_in_one, 999), "an order of one line, 999 uploads": (orders_each, 999)}
+LOADS = {
+    "a despatch of 10 lines": (despatches, MESSAGES),
+    "an order of one line, 999 in one upload": (orders_in_one, 999),
+    "an order of one line, 999 uploads": (orders_each, 999),
+}
 
 
 def timed(words, folder, source=subprocess.DEVNULL, **variables):
@@ -134,8 +138,8 @@ def opening(program, folder, top):
 
 
 def by_register(edihub, top):
-    """What a register costs as a file is opened: of two suppliers without orders and with 10,000, and of 1,000 suppliers with eight prefixes each.
-    Whether all that the first costs is more than a tenth of what the second does."""
+    """What a register costs as a file is opened: of two suppliers without orders and with 10,000, and of 1,000 suppliers with eight
+    prefixes each. Whether all that the first costs is more than a tenth of what the second does."""
     few = register((ALPHA, "40123455", "alpha-key-1"), (BETA, "8712345", "beta-key-1"))
     many = register(*((gln(k), [f"4{k:03}{last}00" for last in range(8)], f"key-{k:04}") for k in range(1000)))
     uploads = [orders_text(min(999, 10_000 - first), first) for first in range(0, 10_000, 999)]
@@ -193,7 +197,13 @@ def imported(edihub, plain, folder, plain_folder, lines, top, shim):
         ratio = time / cost(plain, plain_folder, load(lines), top)[0]
         each = (import_syncs(edihub, folder, uploads, top, shim) - import_syncs(edihub, folder, [], top, shim)) / 999
         largest = max(map(len, uploads)) / 1e6
-        print(f"an import of 999 orders in {name}, among {lines:,}: processor time {ratio:.2f} of the plain program's, {each:.1f} syncs an order, {most:.1f} MB of memory, {before:.1f} of them for the open file, the largest file read {largest:.2f} MB", flush=True)
+        print(
+            (
+                f"an import of 999 orders in {name}, among {lines:,}: processor time {ratio:.2f} of the plain program's, {each:.1f} syncs "
+                f"an order, {most:.1f} MB of memory, {before:.1f} of them for the open file, the largest file read {largest:.2f} MB"
+            ),
+            flush=True,
+        )
         too_much |= ratio > MOST or each > MOST_SYNCS
         memory[name] = most - 2 * largest
     return too_much or memory["one file"] > memory["999 files"] + ROOM
@@ -203,8 +213,7 @@ def main(ours, plain, edihub):
     ours, plain, edihub = (os.path.abspath(it) for it in (ours, plain, edihub))
     too_much, times = False, {}
     with tempfile.TemporaryDirectory() as top:
-        shim = os.path.join(top, "stop.so")
-        subprocess.run(["cc", "-O2", "-shared", "-fPIC", "-o", shim, SHIM, "-ldl"], check=True)
+        shim = built(STOP, top)
         for lines in LINES:
             folders = []
             for program in (ours, plain):
@@ -213,12 +222,20 @@ def main(ours, plain, edihub):
                 close(folders[-1])
             for name, (load, count) in LOADS.items():
                 play = load(lines)
-                (time, output), (plain_time, plain_output) = (cost(program, folder, play, top) for program, folder in zip((ours, plain), folders))
+                (time, output), (plain_time, plain_output) = (
+                    cost(program, folder, play, top) for program, folder in zip((ours, plain), folders)
+                )
                 if output != plain_output:
                     sys.exit(f"{name}, {lines} lines: the two programs print different replies")
                 ratio, times[name, lines] = time / plain_time, time
                 each = (syncs(ours, folders[0], play.script, top, shim) - syncs(ours, folders[0], opened().script, top, shim)) / count
-                print(f"{name}, among {lines:,}: processor time {ratio:.2f} of the plain program's ({1e6 * time / count:.0f} of {1e6 * plain_time / count:.0f} microseconds), {each:.1f} syncs", flush=True)
+                print(
+                    (
+                        f"{name}, among {lines:,}: processor time {ratio:.2f} of the plain program's ({1e6 * time / count:.0f} of "
+                        f"{1e6 * plain_time / count:.0f} microseconds), {each:.1f} syncs"
+                    ),
+                    flush=True,
+                )
                 too_much |= ratio > MOST or each > MOST_SYNCS
             too_much |= imported(edihub, plain, *folders, lines, top, shim)
         for lines in OPENED:
@@ -232,7 +249,10 @@ def main(ours, plain, edihub):
         print(f"{name}: from {LINES[0]} to {LINES[-1]:,} lines it grows by {growth:.2f}")
         too_much |= growth > MOST_GROWTH
     if too_much:
-        print(f"more than {MOST} times the processor time of the plain program, {MOST_SYNCS} syncs a message, a growth of {MOST_GROWTH}, or {MOST_OF_REGISTER} of an opening for the register")
+        print(
+            f"more than {MOST} times the processor time of the plain program, {MOST_SYNCS} syncs a message, a growth of {MOST_GROWTH}, or "
+            f"{MOST_OF_REGISTER} of an opening for the register"
+        )
     return too_much
 
 

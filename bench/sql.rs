@@ -6,8 +6,9 @@
 #[path = "hub.rs"]
 mod hub;
 
-use hub::plain::{Message, open, read, write_segment};
-use hub::{Gln, header, line_groups, valid_digits};
+pub use hub::plain::shared;
+use hub::plain::{Message, write_segment};
+use hub::{Gln, header, line_groups, next_line, suppliers_of, uploaded, valid_digits};
 use std::ffi::{CStr, CString, c_char, c_int, c_void};
 use std::io::{Read, Write};
 use std::ptr::null_mut;
@@ -227,19 +228,9 @@ impl Hub {
     }
 
     pub fn upload(&self, text: &[u8]) -> Vec<u8> {
-        let (_, segments) = read(text).unwrap();
-        let control = segments[0].component(4, 0).to_vec();
-        let messages = open(segments).unwrap();
-        let mut reply = format!("interchange {} messages {}\n", String::from_utf8_lossy(&control), messages.len()).into_bytes();
-        for message in messages {
-            let (reference, kind) = (message.reference.clone(), message.kind.clone());
-            let is_new = if kind == b"ORDERS" { self.order(&control, message) } else { self.despatch(&control, &message) };
-            reply.extend_from_slice(&reference);
-            reply.push(b' ');
-            reply.extend_from_slice(&kind);
-            reply.extend_from_slice(if is_new { b" accepted\n" } else { b" repeated\n" });
-        }
-        reply
+        uploaded(text, |control, message| {
+            if message.kind == b"ORDERS" { self.order(control, message) } else { self.despatch(control, &message) }
+        })
     }
 }
 
@@ -250,19 +241,10 @@ fn main() {
     let (mut hub, mut rest, mut quiet): (Option<Hub>, _, _) = (None, script.as_slice(), false);
     let mut out = std::io::stdout();
     while !rest.is_empty() {
-        let end = rest.iter().position(|&b| b == b'\n').unwrap();
-        let words: Vec<&str> = std::str::from_utf8(&rest[..end]).unwrap().split(' ').collect();
-        rest = &rest[end + 1..];
-        let mut payload = || {
-            let (data, after) = rest.split_at(words[1].parse().unwrap());
-            rest = &after[1..];
-            data
-        };
+        let (words, payload) = next_line(&mut rest);
         match words[0] {
             "hub" => {
-                let text = std::str::from_utf8(payload()).unwrap();
-                let suppliers = text.split("[[supplier]]").skip(1).map(|it| it.split('"').nth(1).unwrap().as_bytes().try_into().unwrap());
-                hub = Some(Hub::over(&path, suppliers.collect()));
+                hub = Some(Hub::over(&path, suppliers_of(std::str::from_utf8(payload).unwrap())));
             }
             // the list behind all entries of the first supplier
             "after" => {
@@ -274,7 +256,7 @@ fn main() {
             "quiet" => quiet = true,
             "loud" => quiet = false,
             "upload" => {
-                let reply = hub.as_ref().unwrap().upload(payload());
+                let reply = hub.as_ref().unwrap().upload(payload);
                 if !quiet {
                     writeln!(out, "done {}", reply.len()).unwrap();
                     out.write_all(&reply).unwrap();

@@ -9,8 +9,12 @@ import subprocess
 import sys
 import tempfile
 
-ROOT = os.path.dirname(os.path.dirname(os.path.abspath(__file__)))
-NEEDS = "edi_base edi_segments edi_tokens edi_moment edi_envelope gs1_ids hub_parties hub_register hub_tables hub_founding hub_store hub_rows hub_list".split()
+from tests.harness.tree import ROOT
+
+NEEDS = (
+    "edi_base edi_segments edi_tokens edi_moment edi_envelope gs1_ids hub_parties "
+    "hub_register hub_tables hub_founding hub_store hub_rows hub_list"
+).split()
 MOST_GROWTH = 5
 LINE = re.compile(r"^(over|\w[^:]*:) (\d+)$", re.M)
 
@@ -51,4 +55,5 @@ def main():
         sys.exit("more than five times: " + ", ".join(grown))
 
 
-main()
+if __name__ == "__main__":
+    main()

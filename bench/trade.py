@@ -1,16 +1,11 @@
 """A retailer's trade with many suppliers: the messages of each order, the requests that carry them, and what a supplier is shown
 then. What is wanted is computed here from the rules, and never taken from the program."""
-import os
-import sys
-
-sys.path.insert(0, os.path.join(os.path.dirname(os.path.abspath(__file__)), "..", "tests"))
-from commands import told
-from corrections import article
-from hub import gtin
-from http_texts import asking
-from hubs import HUB, KEYS, RETAILER, interchange, message, parties
-from loads import with_check_digit
-from registers import gln
+from bench.hub import gtin
+from bench.loads import with_check_digit
+from tests.harness.http_texts import asking
+from tests.harness.hub_scripts import KEYS, article, interchange, message, parties
+from tests.harness.hub_steps import told
+from tests.harness.register_texts import HUB, RETAILER, gln
 
 LINES, ITEMS = 10, 50_000
 # what the moment of every request is in a mailbox interchange
@@ -19,7 +14,7 @@ KINDS = ("ORDERS", "ORDRSP", "DESADV", "RECADV")
 
 
 def supplier_of(number):
-    """The GLN of a supplier, as `registers.crowd` has them."""
+    """The GLN of a supplier, as `register_texts.crowd` has them."""
     return gln(number)
 
 

@@ -4,19 +4,19 @@ the statuses, lists and entries of some suppliers at each tenth. A line for each
 a list and an entry took of the processor in milliseconds, how much memory the server has had at most, and how large the file is.
 In the end the file is opened again, and looked at by SQLite. Where a goal is passed it says so and ends with status 1.
 
-    python3 bench/year.py crates/edihub/out/edihub [ORDERS]"""
+    python3 -m bench.year crates/edihub/out/edihub [ORDERS]"""
 import os
 import shutil
 import sys
 import tempfile
 
-from trade import KINDS, LINES, Order, request, status_body
-from commands import found
-from files import NAME, is_whole
-from http_texts import response
-from registers import crowd
-from serving import Server, listed
-from spent import looked_up
+from bench.trade import KINDS, LINES, Order, request, status_body
+from tests.harness.database_files import NAME, is_whole
+from tests.harness.http_texts import response
+from tests.harness.hub_steps import found
+from tests.harness.processor_time import looked_up
+from tests.harness.register_texts import crowd
+from tests.harness.servers import Server, listed
 
 SUPPLIERS, TENTHS, LOOKED_AT = 1_000, 10, 50
 # how often a list and an entry are asked for, which take little of what the system counts in steps of ten milliseconds

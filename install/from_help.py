@@ -66,7 +66,7 @@ def options_of(its):
 def man(program):
     """The man page."""
     name, whole = os.path.basename(program), help_of(program)
-    version = printed(program, "--version").split()[-1]
+    version = printed(program, "--version").split()[1]
     lines = [f'.TH {name.upper()} 1 "" "{name} {version}" "User commands"', ".SH NAME", f"{name} \\- {escaped(whole.about)}"]
     lines += [".SH SYNOPSIS", f".B {escaped(whole.usage)}"]
     for command, its in commands(program).items():

@@ -7,7 +7,7 @@ or more memory than its bound; the rows of the file grow by what was accepted an
 the same file, by import and over HTTP.
 What is found is left in a folder, which is named. The last line is `N tried, M found`.
 
-    python3 tests/fuzz.py crates/edihub/out/edihub [SEED [NUMBER]]"""
+    python3 -m tests.fuzz crates/edihub/out/edihub [SEED [NUMBER]]"""
 import os
 import random
 import re
@@ -19,13 +19,16 @@ import tempfile
 import time
 from concurrent.futures import ThreadPoolExecutor
 
-import registers
-from commands import MOMENT, found as found_hub, over
-from files import NAME
-from http_texts import PHRASES, asking, response
-from hubs import ALPHA, BETA, HUB, KEYS, ORDERS, RETAILER, SECOND, SPELLED
-from made import upload_of
-from serving import Server, exit_of, limit, lines_of
+from tests.cases import registers
+from tests.harness import register_texts
+from tests.harness.database_files import NAME
+from tests.harness.first_order import ORDERS
+from tests.harness.http_texts import PHRASES, asking, response
+from tests.harness.hub_scripts import SECOND, SPELLED
+from tests.harness.hub_steps import MOMENT, found as found_hub, over
+from tests.harness.random_inputs import upload_of
+from tests.harness.register_texts import ALPHA, BETA, HUB, RETAILER
+from tests.harness.servers import Server, exit_of, limit, lines_of
 
 BATCH = 120
 # bytes of address space: a program that asks for more is refused it. The program by itself has the first, with the open store of a
@@ -79,14 +82,30 @@ def changed_segments(draw, text):
             parts[at], parts[other] = parts[other], parts[at]
         elif what == 3:
             elements = parts[at].split("+")
-            elements[draw.randrange(len(elements))] = draw.choice(("", "0", "1", "999999999", "1000000000", "12,000", "S", "9:9", "x" * 36, "?", ":::", "+"))
+            elements[draw.randrange(len(elements))] = draw.choice(
+                ("", "0", "1", "999999999", "1000000000", "12,000", "S", "9:9", "x" * 36, "?", ":::", "+")
+            )
             parts[at] = "+".join(elements)
         elif what == 4:
             components = parts[at].split(":")
-            components[draw.randrange(len(components))] = draw.choice(("", "203", "20250229", "202506030915", "9", "SRV", "PCE", "0001", "14"))
+            components[draw.randrange(len(components))] = draw.choice(
+                ("", "203", "20250229", "202506030915", "9", "SRV", "PCE", "0001", "14")
+            )
             parts[at] = ":".join(components)
         else:
-            parts[at] = draw.choice(("UNS+S", "CNT+2:1", "LIN+1++4000862141404:SRV", "QTY+21:5", "FTX+AAI+++free ?' text", "UNG+1", "", "RFF+ON:1:1", "\r\nDTM+137:20250603:102"))
+            parts[at] = draw.choice(
+                (
+                    "UNS+S",
+                    "CNT+2:1",
+                    "LIN+1++4000862141404:SRV",
+                    "QTY+21:5",
+                    "FTX+AAI+++free ?' text",
+                    "UNG+1",
+                    "",
+                    "RFF+ON:1:1",
+                    "\r\nDTM+137:20250603:102",
+                )
+            )
         parts = parts or [""]
     text = "'".join(parts)
     return counted(text) if draw.random() < 0.7 else text
@@ -195,7 +214,8 @@ class Fuzz:
         found = {table: sorted(base.execute(f'SELECT * FROM "{table}"').fetchall()) for table in TABLES}
         unbalanced = base.execute(
             'SELECT * FROM line AS l WHERE ordered != open_qty + refused + cancelled + '
-            '(SELECT COALESCE(SUM(quantity), 0) FROM content AS c JOIN pallet AS p USING (sscc) WHERE p.supplier = l.supplier AND c.number = l.number AND c.line = l.line)'
+            '(SELECT COALESCE(SUM(quantity), 0) FROM content AS c JOIN pallet AS p USING (sscc) '
+            'WHERE p.supplier = l.supplier AND c.number = l.number AND c.line = l.line)'
         ).fetchall()
         base.close()
         if unbalanced:
@@ -260,7 +280,15 @@ class Fuzz:
             lines = [draw.choice((ALPHA, BETA, "x")), f"C{draw.randrange(4)}", str(draw.randrange(4)), "1", str(draw.randrange(12))]
             data = asking("POST", f"/p/{RETAILER}/cancellations", RETAILER, "\n".join(lines).encode() + b"\n")
         else:
-            path = draw.choice((f"/p/{who}/mail/after/{draw.randrange(3)}", f"/p/{who}/mail/item/{draw.randrange(3)}", f"/p/{who}/mail/item/1/taken", f"/p/{who}/status", f"/p/{RETAILER}/status/{who}"))
+            path = draw.choice(
+                (
+                    f"/p/{who}/mail/after/{draw.randrange(3)}",
+                    f"/p/{who}/mail/item/{draw.randrange(3)}",
+                    f"/p/{who}/mail/item/1/taken",
+                    f"/p/{who}/status",
+                    f"/p/{RETAILER}/status/{who}",
+                )
+            )
             data = asking(draw.choice(("GET", "GET", "POST")), path, draw.choice((who, RETAILER)), draw.choice((None, b"")))
         return data if draw.random() < 0.3 else changed_bytes(draw, data)
 
@@ -313,7 +341,11 @@ class Fuzz:
             # a mailbox interchange for each message that `show` shows, and no other behind them
             count = told.count(b"\nmessage ")
             ends = [b"UNZ+1+%d'" % number for number in range(1, count + 1)]
-            if not all(it in printed for it in ends) or not printed.endswith(ends[-1] if ends else b"") or bool(ends) != printed.startswith(b"UNA:+"):
+            if (
+                not all(it in printed for it in ends)
+                or not printed.endswith(ends[-1] if ends else b"")
+                or bool(ends) != printed.startswith(b"UNA:+")
+            ):
                 raise Found("relay writes no mail", text, printed)
             return 2
         if status != 1 or printed or not re.fullmatch(rb"refused E\d\d\n", error):
@@ -340,42 +372,45 @@ class Fuzz:
     def prefixes(self, draw):
         """Suppliers with lists of prefixes."""
         suppliers = [some_prefixes(draw) for _ in range(draw.randrange(5))]
-        text = registers.of_prefixes(*suppliers).encode()
+        text = register_texts.of_prefixes(*suppliers).encode()
         path = os.path.join(self.folder, f"register{draw.random()}")
         with open(path, "wb") as file:
             file.write(text)
         answer = self.ran(["check", "--register", path], self.folder, texts=[text])
         os.remove(path)
-        want = registers.verdict_on_prefixes(suppliers)
+        want = register_texts.verdict_on_prefixes(suppliers)
         if answer != (0 if want.startswith("ok") else 1, want.encode() + b"\n", b""):
             raise Found(f"check does not say {want}", text, *answer[1:])
         return 1
 
     def joins(self, draw):
-        """A hub, and suppliers that join it one after another. What each is answered is computed beside, and so are the rows that there are then."""
+        """A hub, and suppliers that join it one after another. What each is answered is computed beside, and so are the rows that there are
+        then."""
         rows, joins = {}, 5
         for number in range(draw.randrange(4)):
             prefixes = some_prefixes(draw)
-            if registers.are_prefixes_of_one(prefixes) and not any(registers.overlap(prefixes, its) for its in rows.values()):
-                rows[registers.gln(number)] = prefixes
+            if register_texts.are_prefixes_of_one(prefixes) and not any(register_texts.overlap(prefixes, its) for its in rows.values()):
+                rows[register_texts.gln(number)] = prefixes
         with tempfile.TemporaryDirectory() as folder:
-            found_hub(self.program, folder, registers.register(*((who, its, f"key-of-{who}") for who, its in rows.items())))
+            found_hub(self.program, folder, register_texts.register(*((who, its, f"key-of-{who}") for who, its in rows.items())))
             for _ in range(joins):
-                who, prefixes = draw.choice((HUB, RETAILER, *map(registers.gln, range(8)))), some_prefixes(draw)
+                who, prefixes = draw.choice((HUB, RETAILER, *map(register_texts.gln, range(8)))), some_prefixes(draw)
                 words = over("join", RETAILER, "--supplier", who, "--supplier-key", f"key-of-{who}", "--prefixes", ",".join(prefixes))
                 status, printed, error = self.ran(words, folder)
-                if not registers.are_prefixes_of_one(prefixes):
+                if not register_texts.are_prefixes_of_one(prefixes):
                     want = (2, b"")
                 elif who in (HUB, RETAILER, *rows):
                     want = (1, b"refused B18\n")
-                elif any(registers.overlap(prefixes, its) for its in rows.values()):
+                elif any(register_texts.overlap(prefixes, its) for its in rows.values()):
                     want = (1, b"refused B19\n")
                 else:
                     want, rows[who] = (0, b"accepted\n"), prefixes
                 if (status, printed) != want or bool(error) != (status == 2):
                     raise Found(f"join does not end with {want}", words, rows, status, printed, error)
             found = self.rows(folder)
-            keys, held = sorted((who.encode(), f"key-of-{who}".encode()) for who in rows), sorted((it.encode(), who.encode()) for who, its in rows.items() for it in its)
+            keys, held = sorted((who.encode(), f"key-of-{who}".encode()) for who in rows), sorted(
+                (it.encode(), who.encode()) for who, its in rows.items() for it in its
+            )
             if found["supplier"] != keys or found["prefix"] != held:
                 raise Found("other suppliers are in the file", rows, found["supplier"], found["prefix"])
         return joins
@@ -384,9 +419,13 @@ class Fuzz:
         """Words with one dropped, doubled, exchanged or changed: no input is there, so nothing is done."""
         made = draw.choice((
             ["relay", "--hub", HUB, "--owner", ALPHA, "--moment", MOMENT, "--number", "1"], ["show"], ["check", "--register", "none"],
-            over("import", RETAILER, "--folder", "none"), over("status", ALPHA), over("status", RETAILER, "--of", ALPHA), over("mail", ALPHA, "--do", "after", "--n", "0"),
+            over("import", RETAILER, "--folder", "none"), over("status", ALPHA), over("status", RETAILER, "--of", ALPHA), over(
+                "mail", ALPHA, "--do", "after", "--n", "0"
+            ),
             over("cancel", RETAILER, "--supplier", ALPHA, "--reference", "C1", "--order", "1", "--line", "1", "--quantity", "1"),
-            over("join", RETAILER, "--supplier", registers.GAMMA, "--supplier-key", "gamma-key-1", "--prefixes", "7612345,7612346"), ["init", "--register", "none", "--db", NAME],
+            over("join", RETAILER, "--supplier", register_texts.GAMMA, "--supplier-key", "gamma-key-1", "--prefixes", "7612345,7612346"), [
+                "init", "--register", "none", "--db", NAME
+            ],
             ["serve", "--db", NAME, "--port", "0", "--count", "0"],
         ))
         words = list(made)
@@ -398,7 +437,9 @@ class Fuzz:
             elif what == 1:
                 words.insert(at, draw.choice(words))
             elif what == 2:
-                words[at] = draw.choice(("", "-", "--", "--help", "-1", "0", "99999999999999999999", "1" * 13, "x", "--n", "import", "é", words[at] + "0"))
+                words[at] = draw.choice(
+                    ("", "-", "--", "--help", "-1", "0", "99999999999999999999", "1" * 13, "x", "--n", "import", "é", words[at] + "0")
+                )
             else:
                 other = draw.randrange(len(words))
                 words[at], words[other] = words[other], words[at]

@@ -7,19 +7,21 @@
 - `serve` is killed at 100 moments while a client uploads: every answer that the client had read is kept.
 - An import and a server are halted at changes of their files, a copy of the log into the file among them, and copied by the script of
   examples/backup: each copy has every message that was told of and at most one more, and the same inputs over it end with the same tables.
-- The disk is full: a file may not grow past some size. Each command, a founding too, ends with its named fault or `stopped`, status 3, nothing is
-  done in part, and the same again with room goes through.
+- The disk is full: a file may not grow past some size. Each command, a founding too, ends with its named fault or `stopped`, status 3,
+  nothing is done in part, and the same again with room goes through.
 - Each allocation of the program is refused in turn, command by command, `serve` with an upload among them: it says `memory`, or
   stops, or makes up for it; and the same command with ample memory leaves the rows that it would have left, and says `repeated`
   of what was done.
 - A database file is cut at each 512 bytes, has bytes changed all over each page, or is replaced by other files: a named refusal, or
-  the right answers; and so an import into it. So is a file of schema 2, whose number is set as it is opened. A file of today has sums of its pages, so no changed byte of a row is answered from.
+  the right answers; and so an import into it. So is a file of schema 2, whose number is set as it is opened. A file of today has sums of
+  its pages, so no changed byte of a row is answered from.
 
 - A mailbox of 101 entries of a megabyte each is listed by a server that may take four megabytes beside its open store, and no more.
 
-- A script is played over tables of SQL, with each of its allocations refused in turn; and so is each test of calls (calls.py).
+- A script is played over tables of SQL, with each of its allocations refused in turn; and so is each test of calls
+  (trials/refused_in_calls.py).
 
-    python3 tests/hostile.py crates/edihub/out/edihub crates/hub_script/out/hub_script [TRIAL..]"""
+    python3 -m tests.hostile crates/edihub/out/edihub crates/hub_script/out/hub_script [TRIAL..]"""
 import os
 import random
 import resource
@@ -34,18 +36,20 @@ import time
 from collections import Counter
 from concurrent.futures import ThreadPoolExecutor
 
-from calls import calls_refused
-from commands import REGISTER, found as found_hub, init, over, told
-from files import NAME, OLD_ROWS, OLD_TABLES, REGISTERED, TABLES as CREATED, file_of, is_whole
-from http_texts import response
-from hubs import ALPHA, BETA, DESPATCH, HUB, MOMENT, ORDERS as ORDER, RECEIPT, RESPONSE, RETAILER, SECOND, SPELLED, TWO_SUPPLIERS, interchange, order
-from migrations import kept
-from refusals import SHIM, refusals
-from registers import GAMMA, of_prefixes
-from serving import Server, all_of, free_port, get, listed, upload
-from stops import SHIM as STOP
+from tests.harness.database_files import NAME, OLD_ROWS, OLD_TABLES, REGISTERED, TABLES as CREATED, file_of, is_whole
+from tests.harness.first_order import ORDERS as ORDER
+from tests.harness.http_texts import response
+from tests.harness.hub_scripts import DESPATCH, MOMENT, RECEIPT, RESPONSE, SECOND, SPELLED, TWO_SUPPLIERS, interchange
+from tests.harness.hub_scripts import order
+from tests.harness.hub_steps import REGISTER, found as found_hub, init, over, told
+from tests.harness.kept_files import kept
+from tests.harness.register_texts import ALPHA, BETA, GAMMA, HUB, RETAILER, of_prefixes
+from tests.harness.servers import Server, all_of, free_port, get, listed, upload
+from tests.harness.shims import HEAP, REFUSE, STOP, built
+from tests.harness.tree import EXAMPLES
+from tests.trials.refused_in_calls import calls_refused
+from tests.trials.refused_in_scripts import refusals
 
-HEAP = os.path.join(os.path.dirname(os.path.abspath(__file__)), "heap.c")
 ORDERS, MOMENTS = 999, 100
 # the bytes of a page of a database file, and how many of them are changed, each in a file of its own
 PAGE, CHANGES = 4096, 12
@@ -53,7 +57,7 @@ PAGE, CHANGES = 4096, 12
 IN_THE_MIDST, DIFFERENT = 20, 10
 # how many orders come while copies are made, and about how many copies
 COPIED, HALTS = 500, 60
-BACKUP = os.path.join(os.path.dirname(os.path.dirname(os.path.abspath(__file__))), "examples", "backup", "backup.sh")
+BACKUP = os.path.join(EXAMPLES, "backup", "backup.sh")
 TABLES = ("order", "line", "advice", "pallet", "content", "receipt", "remembered", "mail", "hub", "supplier", "prefix")
 STORE_FAULTS = {b"store disk\n", b"store version\n", b"store unclean\n", b"store memory\n"}
 
@@ -95,7 +99,12 @@ def run(program, words, folder, **how):
 
 
 IMPORT = over("import", RETAILER, "--folder", "in")
-LOOKS = [over("status", ALPHA), over("mail", ALPHA, "--do", "after", "--n", "0"), over("mail", ALPHA, "--do", "item", "--n", "7"), over("status", RETAILER, "--of", ALPHA)]
+LOOKS = [
+    over("status", ALPHA),
+    over("mail", ALPHA, "--do", "after", "--n", "0"),
+    over("mail", ALPHA, "--do", "item", "--n", "7"),
+    over("status", RETAILER, "--of", ALPHA),
+]
 
 
 def looks(program, folder):
@@ -196,7 +205,10 @@ def migrations_killed(program, top):
         why = next(filter(None, pool.map(tried, range(MOMENTS))), None)
     if why:
         return why
-    print(f"a file of schema 1 with 10,000 orders, killed at {MOMENTS} moments: " + ", ".join(f"{count} {word}" for word, count in counts.most_common()))
+    print(
+        f"a file of schema 1 with 10,000 orders, killed at {MOMENTS} moments: "
+        + ", ".join(f"{count} {word}" for word, count in counts.most_common())
+    )
     return None if min(counts["brought over"], counts["as it was"]) >= 5 else "the kills did not come in the midst"
 
 
@@ -253,7 +265,10 @@ def imports_killed(program, top):
         if why:
             return why
     midst = sum(0 < count < ORDERS for count in kept)
-    print(f"an import of {ORDERS} orders killed at {MOMENTS} moments, {midst} of them in its midst; from {min(kept)} to {max(kept)} of them were kept, {len(set(kept))} different counts")
+    print(
+        f"an import of {ORDERS} orders killed at {MOMENTS} moments, {midst} of them in its midst; from {min(kept)} to {max(kept)} of them "
+        f"were kept, {len(set(kept))} different counts"
+    )
     return None if midst >= IN_THE_MIDST and len(set(kept)) >= DIFFERENT else "the kills did not come in the midst of the import"
 
 
@@ -298,8 +313,15 @@ def servers_killed(program, top):
         why = tried(place)
         if why:
             return why
-    print(f"a server killed at {MOMENTS} moments; its client had read {min(counts)} to {max(counts)} answers, {len(set(counts))} different counts, all of them kept")
-    return None if sum(count > 0 for count in counts) >= IN_THE_MIDST and len(set(counts)) >= DIFFERENT else "the kills did not come while the client uploaded"
+    print(
+        f"a server killed at {MOMENTS} moments; its client had read {min(counts)} to {max(counts)} answers, {len(set(counts))} different "
+        "counts, all of them kept"
+    )
+    return (
+        None
+        if sum(count > 0 for count in counts) >= IN_THE_MIDST and len(set(counts)) >= DIFFERENT
+        else "the kills did not come while the client uploaded"
+    )
 
 
 def halts(child):
@@ -382,7 +404,7 @@ def halting(top, folder, **more):
     """The variables with which a program halts at some changes of its files."""
     shim = os.path.join(top, "stop.so")
     if not os.path.exists(shim):
-        subprocess.run(["cc", "-O2", "-shared", "-fPIC", "-o", shim, STOP, "-ldl"], check=True)
+        built(STOP, top)
     return {**os.environ, "LD_PRELOAD": shim, "STOP_FILE": os.path.join(folder, NAME), **more}
 
 
@@ -506,7 +528,12 @@ def disks_full(program, top):
             return f"at {limit} bytes, then with room: other rows"
     if 0 in counts.values() or 0 in foundings.values():
         return f"not each end: {counts}, {foundings}"
-    print("a disk that is full: " + ", ".join(f"{count} imports ended {word}" for word, count in counts.items()) + ", " + ", ".join(f"{count} foundings {word}" for word, count in foundings.items()))
+    print(
+        "a disk that is full: "
+        + ", ".join(f"{count} imports ended {word}" for word, count in counts.items())
+        + ", "
+        + ", ".join(f"{count} foundings {word}" for word, count in foundings.items())
+    )
     return None
 
 
@@ -595,7 +622,11 @@ def file_damaged(program, top, data, has_sums):
 
 
 def files_damaged(program, top):
-    for name, data, has_sums in (("of today", file_of_today(program, top), True), ("of schema 2", kept("schema2_received")[0], True), ("that SQLite made, without sums", file_of(), False)):
+    for name, data, has_sums in (
+        ("of today", file_of_today(program, top), True),
+        ("of schema 2", kept("schema2_received")[0], True),
+        ("that SQLite made, without sums", file_of(), False),
+    ):
         counts = file_damaged(program, top, data, has_sums)
         if isinstance(counts, str):
             return f"a file {name}, {counts}"
@@ -649,8 +680,7 @@ def migration_refused(program, top):
 
 
 def foundings_refused(program, top, folder_of, name):
-    shim, count, bare = os.path.join(top, "refuse.so"), os.path.join(top, "count"), folder_of()
-    subprocess.run(["cc", "-O2", "-shared", "-fPIC", "-o", shim, SHIM, "-ldl"], check=True)
+    shim, count, bare = built(REFUSE, top), os.path.join(top, "count"), folder_of()
     if run(program, init(), bare, env={"LD_PRELOAD": shim, "COUNT": count}) != FOUNDED:
         return "a founding with ample memory"
     wanted = rows_of(bare)
@@ -684,8 +714,7 @@ def foundings_refused(program, top, folder_of, name):
 
 
 def memory_refused(program, top):
-    shim, base = os.path.join(top, "refuse.so"), new_folder(program, top)
-    subprocess.run(["cc", "-O2", "-shared", "-fPIC", "-o", shim, SHIM, "-ldl"], check=True)
+    shim, base = built(REFUSE, top), new_folder(program, top)
     for name, words, data, first, again in steps():
         put(base, data)
         source = data.get("stdin", "").encode("latin-1")
@@ -719,7 +748,12 @@ def memory_refused(program, top):
                 kind = "store memory"
             elif status == 3 and error == b"memory\n" and whole[1].startswith(printed):
                 kind = "memory"
-            elif over_hub and status == 3 and not error and (not printed or printed.endswith(b"stopped\n") or printed == whole[1].split(b"\n")[0] + b"\n"):
+            elif (
+                over_hub
+                and status == 3
+                and not error
+                and (not printed or printed.endswith(b"stopped\n") or printed == whole[1].split(b"\n")[0] + b"\n")
+            ):
                 # also with no word, where there is no memory even for it
                 kind = "stopped"
             else:
@@ -766,8 +800,7 @@ def served_once(program, folder, request, variables):
 
 
 def serving_refused(program, top):
-    shim, count = os.path.join(top, "refuse.so"), os.path.join(top, "count")
-    subprocess.run(["cc", "-O2", "-shared", "-fPIC", "-o", shim, SHIM, "-ldl"], check=True)
+    shim, count = built(REFUSE, top), os.path.join(top, "count")
     head = "interchange 1001 messages 1"
     _, request, _, body = upload(RETAILER, ORDER, head, "1 ORDERS accepted")
     lines = b"listening PORT\nconnection 1 %d\n"
@@ -809,9 +842,9 @@ def serving_refused(program, top):
 
 
 def listed_in_little(program, top):
-    """From some moment on a server may take so many bytes beside what it holds: a list of large entries goes through, and one of them alone does not."""
-    shim, many, large = os.path.join(top, "heap.so"), 101, 1_000_000
-    subprocess.run(["cc", "-O2", "-shared", "-fPIC", "-o", shim, HEAP, "-ldl"], check=True)
+    """From some moment on a server may take so many bytes beside what it holds: a list of large entries goes through, and one of them alone
+    does not."""
+    shim, many, large = built(HEAP, top), 101, 1_000_000
     entry = (ALPHA.encode(), 1748942400, ord("."), ord("O"))
     mail = [(entry[0], k, *entry[1:], b"%d" % k, b"x" * large, 0) for k in range(1, many + 1)]
     data = {NAME: file_of(CREATED, {**REGISTERED, "mail": mail})}
@@ -837,14 +870,32 @@ def script_refused(scripts, top):
 
 
 # what is tried of the program, and of the program that plays scripts and the tests
-TRIALS = (files_damaged, disks_full, migrations_on_full_disks, founding_refused, migration_refused, memory_refused, serving_refused, listed_in_little, foundings_killed, migrations_killed, imports_killed, servers_killed)
+TRIALS = (
+    files_damaged,
+    disks_full,
+    migrations_on_full_disks,
+    founding_refused,
+    migration_refused,
+    memory_refused,
+    serving_refused,
+    listed_in_little,
+    foundings_killed,
+    migrations_killed,
+    imports_killed,
+    servers_killed,
+)
 TRIALS += (imports_copied, servers_copied)
 OF_SCRIPTS = (script_refused, calls_refused)
 
 
 def main(program, scripts, *names):
     failed = 0
-    trials = [(os.path.abspath(it), trial) for it, some in ((program, TRIALS), (scripts, OF_SCRIPTS)) for trial in some if trial.__name__ in (names or [trial.__name__])]
+    trials = [
+        (os.path.abspath(it), trial)
+        for it, some in ((program, TRIALS), (scripts, OF_SCRIPTS))
+        for trial in some
+        if trial.__name__ in (names or [trial.__name__])
+    ]
     for it, trial in trials:
         with tempfile.TemporaryDirectory() as top:
             why = trial(it, top)

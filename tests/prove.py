@@ -1,6 +1,6 @@
 """`make edihub` and `make hub_script`: proves the crates below a program, as many at a time as processors and memory allow, and builds it.
 
-    python3 tests/prove.py PROGRAM [WORD ..]
+    python3 -m tests.prove PROGRAM [WORD ..]
 
 The program is run once, with these words, as it is built. Prints a line for each crate as it is proved: its place among all, its name
 and the seconds that it took, or `as before` where nothing has changed since it was proved; the program's own line has its seconds
@@ -15,9 +15,9 @@ import threading
 import time
 from concurrent.futures import FIRST_COMPLETED, ThreadPoolExecutor, wait
 
-from copies import crates, lanes, library_proved
-from functions import ROOT
-from wrong import Kept
+from tests.harness.tree import ROOT
+from tests.harness.tree_copies import crates, lanes, library_proved
+from tests.wrong import Kept
 
 # seconds between two lines of a crate that takes long
 SILENCE = 30
@@ -109,7 +109,7 @@ def last_count(log):
 def main(words):
     below = crates()
     if not words or words[0] not in below:
-        print("usage: prove.py PROGRAM [WORD ..]")
+        print("usage: python3 -m tests.prove PROGRAM [WORD ..]")
         return 2
     proving = Proving(words[0], below)
     why = proving.libraries()

@@ -1,8 +1,10 @@
-"""`make test`: whether each public function has a wrong body (untried.py); the gate (rt ci), and what each crate took of the processors in it; and
-then, on the two programs that the gate built, the cases of cases.py, commands.py, hubs.py, files.py, connections.py, joins.py, corrections.py and migrations.py and the trials of
-commands.py, migrations.py, told.py, serving.py, files.py, made.py, stops.py, machine.py and refusals.py. The last line is `N passed, M failed` over all.
+"""`make test`: whether each public function has a wrong body (untried.py), and the tables in code are those of the definition (schema.py);
+the gate (rt ci), and what each crate took of the processors in it; and then, on the two programs that the gate built, the cases and the
+trials of the files that PROGRAMS and TRIALS name. The last line is `N passed, M failed` over all.
 
-With `--alone`, all but the gate, on the programs that stand. With `--anew`, nothing that an earlier gate proved is taken over."""
+With `--alone`, all but the gate, on the programs that stand. With `--anew`, nothing that an earlier gate proved is taken over.
+
+    python3 -m tests.test [--alone | --anew]"""
 import os
 import re
 import resource
@@ -10,25 +12,13 @@ import subprocess
 import sys
 import tempfile
 
-import cases
-import commands
-import connections
-import corrections
-import files
-import hubs
-import joins
-import machine
-import made
-import migrations
-import refusals
-import serving
-import spent
-import stops
-import told
-import untried
-from case import SECONDS
-
-ROOT = os.path.dirname(os.path.dirname(os.path.abspath(__file__)))
+from tests import schema, untried
+from tests.cases import connections, corrections, hub_commands, hub_files, hub_rules, joins, older_files, without_hub
+from tests.harness import processor_time
+from tests.harness.case import SECONDS
+from tests.harness.tree import ROOT
+from tests.trials import disturbed_commands, documents, files_brought_over, held_file, lines_of_status_3, random_runs
+from tests.trials import refused_in_scripts, serving, stopped_machine, stopped_program
 
 
 def built(crate):
@@ -37,17 +27,26 @@ def built(crate):
 
 
 # each program, and its cases
-PROGRAMS = [(built("edihub"), cases.CASES + commands.COMMANDS + migrations.MIGRATIONS), (built("hub_script"), hubs.HUBS + hubs.OVER_SQL + files.FILES + connections.CONNECTIONS + joins.JOINS + corrections.CORRECTIONS)]
+PROGRAMS = [
+    (built("edihub"), without_hub.CASES + hub_commands.COMMANDS + older_files.MIGRATIONS),
+    (
+        built("hub_script"),
+        hub_rules.HUBS + hub_rules.OVER_SQL + hub_files.FILES + connections.CONNECTIONS + joins.JOINS + corrections.CORRECTIONS,
+    ),
+]
 
 # what is tried on a program many times over: each says what is wrong, if anything
 TRIALS = [
-    *((built("edihub"), *trial) for trial in commands.TRIALS + migrations.TRIALS + told.TRIALS + serving.TRIALS),
-    (built("hub_script"), "a file that another program holds open", files.held_open),
-    (built("hub_script"), "made runs", made.made_runs),
-    (built("hub_script"), "changes of files stopped in turn", stops.stops),
-    (built("hub_script"), "a machine that stops", machine.machine),
-    (built("hub_script"), "a machine that stops while a file of schema 1 is brought over", machine.migrations),
-    (built("hub_script"), "allocations refused in turn", refusals.refusals),
+    *(
+        (built("edihub"), *trial)
+        for trial in disturbed_commands.TRIALS + files_brought_over.TRIALS + lines_of_status_3.TRIALS + documents.TRIALS + serving.TRIALS
+    ),
+    (built("hub_script"), "a file that another program holds open", held_file.held_open),
+    (built("hub_script"), "made runs", random_runs.made_runs),
+    (built("hub_script"), "changes of files stopped in turn", stopped_program.stops),
+    (built("hub_script"), "a machine that stops", stopped_machine.machine),
+    (built("hub_script"), "a machine that stops while a file of schema 1 is brought over", stopped_machine.migrations),
+    (built("hub_script"), "allocations refused in turn", refused_in_scripts.refusals),
 ]
 
 
@@ -66,7 +65,7 @@ def gate(words):
     except OSError as why:
         print(f"rt ci cannot be run: {why}")
         return passed, failed
-    taken = spent.Spent(child.pid)
+    taken = processor_time.Spent(child.pid)
     for line in child.stdout:
         found = re.fullmatch(r"(\d+) passed, (\d+) failed\n?", line)
         if found:
@@ -75,7 +74,7 @@ def gate(words):
             print(line, end="", flush=True)
     if child.wait() and not failed:
         failed = 1
-    for line in spent.printed(*taken.end()):
+    for line in processor_time.printed(*taken.end()):
         print(line)
     return passed, failed
 
@@ -83,8 +82,18 @@ def gate(words):
 def every_function_is_tried():
     """Whether each public function has a wrong body, as a count of one."""
     number, lines = untried.check()
-    print(*lines, f"{number} public functions, each with a wrong body or a reason why not" if not lines else "these are untried", sep="\n", flush=True)
+    print(
+        *lines,
+        f"{number} public functions, each with a wrong body or a reason why not" if not lines else "these are untried",
+        sep="\n",
+        flush=True,
+    )
     return (0, 1) if lines else (1, 0)
+
+
+def tables_are_written():
+    """Whether the tables in code are those of the definition, as a count of one."""
+    return (0, 1) if schema.main([]) else (1, 0)
 
 
 def run(program, case, folder):
@@ -108,7 +117,9 @@ def run(program, case, folder):
             ran = subprocess.run([program, *case.words], cwd=folder, timeout=SECONDS, **how)
         except subprocess.TimeoutExpired:
             return f"no end in {SECONDS} seconds"
-    for what, found, wanted in (("status", ran.returncode, case.status), ("output", ran.stdout or b"", case.output), ("error", ran.stderr, case.error)):
+    for what, found, wanted in (
+        ("status", ran.returncode, case.status), ("output", ran.stdout or b"", case.output), ("error", ran.stderr, case.error)
+    ):
         if callable(wanted) and not wanted(found) or not callable(wanted) and found != wanted:
             return f"{what} is {found!r:.300}" + ("" if callable(wanted) else f", not {wanted!r:.300}")
     why = case.after(folder) if case.after else None
@@ -135,9 +146,9 @@ def program_cases(program, of_program):
 
 def main(words):
     if words not in ([], ["--alone"], ["--anew"]):
-        print("usage: test.py [--alone | --anew]")
+        print("usage: python3 -m tests.test [--alone | --anew]")
         return 2
-    passed, failed = every_function_is_tried()
+    passed, failed = (sum(it) for it in zip(every_function_is_tried(), tables_are_written()))
     if words != ["--alone"]:
         more_passed, more_failed = gate(words)
         passed, failed = passed + more_passed, failed + more_failed

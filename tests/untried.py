@@ -1,19 +1,19 @@
-"""Lists each public function of a library that no wrong body turns: `python3 tests/untried.py`. The last line is `N functions, M untried`.
+"""Lists each public function of a library that no wrong body turns: `python3 -m tests.untried`. The last line is `N functions, M untried`.
 
 A function is tried where an edit of `must-fail/` or `wrong/` changes its text, or where it stands in `untried.txt`, the table of those for
 which no wrong body compiles or is wrong."""
 import os
 import sys
 
-import functions
+from tests.harness import crate_functions, tree
 
-TABLE = os.path.join(os.path.dirname(os.path.abspath(__file__)), "untried.txt")
+TABLE = os.path.join(tree.ROOT, "tests", "untried.txt")
 
 
 def libraries():
     """The crates that give something out."""
-    for crate in sorted(os.listdir(os.path.join(functions.ROOT, "crates"))):
-        texts = functions.sources(crate)
+    for crate in sorted(os.listdir(os.path.join(tree.ROOT, "crates"))):
+        texts = crate_functions.sources(crate)
         if "src/lib.rt" in texts and not crate.endswith("_tests"):
             yield crate, texts
 
@@ -29,9 +29,15 @@ def untried():
     """All public functions with a body, and those of them that no edit touches, by their paths."""
     every, left = set(), set()
     for crate, texts in libraries():
-        names = functions.given_out(texts["src/lib.rt"])
-        public = {it for file, text in texts.items() for it in functions.functions_in(file, text) if it.has_body and it.is_public(names)}
-        found = [functions.functions_of(text, texts) for folder in ("must-fail", "wrong") for _, text in functions.edits(crate, folder)]
+        names = crate_functions.given_out(texts["src/lib.rt"])
+        public = {
+            it for file, text in texts.items() for it in crate_functions.functions_in(file, text) if it.has_body and it.is_public(names)
+        }
+        found = [
+            crate_functions.functions_of(text, texts)
+            for folder in ("must-fail", "wrong")
+            for _, text in crate_functions.edits(crate, folder)
+        ]
         touched = {(it.file, it.owner, it.name) for touches in found for it in touches}
         every |= {f"{crate}::{it.path()}" for it in public}
         left |= {f"{crate}::{it.path()}" for it in public if (it.file, it.owner, it.name) not in touched}
@@ -43,7 +49,10 @@ def check():
     table = excused()
     every, left = untried()
     lines = [f"{it}: no edit turns it" for it in sorted(left - set(table))]
-    return len(every), lines + [f"{it}: stands in untried.txt, and {'an edit turns it' if it in every else 'is no public function'}" for it in sorted(set(table) - left)]
+    return len(every), lines + [
+        f"{it}: stands in untried.txt, and {'an edit turns it' if it in every else 'is no public function'}"
+        for it in sorted(set(table) - left)
+    ]
 
 
 def main():

@@ -1,6 +1,7 @@
-"""`make wrong`: tries each wrong body and wrong definition, crates/NAME/must-fail/*.edit and crates/NAME/wrong/*.edit, on copies of the tree.
+"""`make wrong`: tries each wrong body and wrong definition, crates/NAME/must-fail/*.edit and crates/NAME/wrong/*.edit, on copies of the
+tree.
 
-    python3 tests/wrong.py [--anew] [CRATE ..]
+    python3 -m tests.wrong [--anew] [CRATE ..]
 
 An edit has lines `file:`, `old:` and `new:`. It is a wrong body, which its own crate has to refuse, or, where its first line is
 `refused by: CRATE`, a wrong definition, which that crate has to refuse: the crates between are built with it, each of them
@@ -11,8 +12,8 @@ a body is refused where the check says so of its own function. One whose functio
 next check. What is not refused so, or only by a proof that names what the edit took away, is tried again alone, by `rt must-fail`,
 and that counts.
 
-What was refused is kept in crates/NAME/out/refused, under a sum of the edit and of all that it was tried on, and is not tried
-again, and of what a library was proved in crates/NAME/out/proved: so a run goes on where the last one was stopped. A crate of
+What was refused is kept in crates/NAME/out/refused, under a sum of the edit and of all that it was tried on, comments left out, and is not
+tried again, and of what a library was proved in crates/NAME/out/proved: so a run goes on where the last one was stopped. A crate of
 which each edit was refused has its line in tests/refused.txt, with the number of its edits and a sum of theirs; of another
 crate each edit that was refused has one, with the beginning of its own sum. They are kept with the tree: while a sum is right,
 its edits are not tried again on any machine. `--anew` looks at none of this.
@@ -30,8 +31,9 @@ import time
 from concurrent.futures import FIRST_COMPLETED, ThreadPoolExecutor, wait
 from dataclasses import dataclass
 
-from copies import PARTS, copied, crates, lanes, library_proved, linked, room_beside, run
-from functions import ROOT, edits, functions_of, pairs_of, sources
+from tests.harness.crate_functions import edits, functions_of, pairs_of, sources
+from tests.harness.tree import ROOT
+from tests.harness.tree_copies import PARTS, copied, crates, lanes, library_proved, linked, room_beside, run
 
 # an error of a proof that names what an edit took away
 BY_NAMES = r"(\./)?proofs/.*(has no field|is not in scope|has no `|was not admitted)"
@@ -86,11 +88,15 @@ class Kept:
 
     @functools.cache
     def sum_of(self, crate):
-        """The sum of a crate's text."""
+        """The sum of a crate's text, but for lines of comments, of which no proof hangs."""
         total, folder = hashlib.sha256(), os.path.join(ROOT, "crates", crate)
-        for path in sorted(os.path.join(at, name) for part in PARTS for at, _, names in os.walk(os.path.join(folder, part)) for name in names):
+        for path in sorted(
+            os.path.join(at, name) for part in PARTS for at, _, names in os.walk(os.path.join(folder, part)) for name in names
+        ):
             with open(path, "rb") as file:
-                total.update(repr((os.path.relpath(path, folder), file.read())).encode())
+                comment = b"--" if path.endswith(".antt") else b"//"
+                said = [line for line in file if not line.lstrip().startswith(comment)]
+            total.update(repr((os.path.relpath(path, folder), said)).encode())
         return total.hexdigest()
 
     @functools.cache
@@ -106,7 +112,8 @@ class Kept:
 
     def library(self, crate):
         """The file that says of what the crate's library was proved, and what it says where that is the crate as it stands."""
-        return os.path.join(ROOT, "crates", crate, "out", "proved"), hashlib.sha256(repr((self.texts(crate), self.toolchain())).encode()).hexdigest()
+        sum_now = hashlib.sha256(repr((self.texts(crate), self.toolchain())).encode()).hexdigest()
+        return os.path.join(ROOT, "crates", crate, "out", "proved"), sum_now
 
     def is_proved(self, crate):
         path, sum_now = self.library(crate)
@@ -172,8 +179,8 @@ def checked_with(room, crate, bodies):
 
 
 def refused_together(room, crate, batch):
-    """Of a batch: those that one check refuses, each by an error of its own functions; those whose functions wait for others of it; and those
-    that no check can read."""
+    """Of a batch: those that one check refuses, each by an error of its own functions; those whose functions wait for others of it; and
+    those that no check can read."""
     lines = checked_with(room, crate, [it for it, _ in batch])
     places = [it for it in (PLACE.match(line) for line in lines if not re.match(BY_NAMES, line)) if it]
     if not any(it.startswith("logic=not-proved") for it in lines):
@@ -194,7 +201,8 @@ def refused_together(room, crate, batch):
 
 
 def bodies_tried(crate, bodies, keep):
-    """What becomes of a crate's wrong bodies: triples of the edit, the verdict and a line that says why. Tells each verdict as it is known."""
+    """What becomes of a crate's wrong bodies: triples of the edit, the verdict and a line that says why. Tells each verdict as it is
+    known."""
     with room_beside() as room:
         copied(room, {crate})
         texts, done, checks = sources(crate), [], 0
@@ -255,7 +263,15 @@ def applied(text, folder):
 def check_told(lines):
     """What a check that does not pass says of an edited definition."""
     errors = [it for it in lines if re.match(r"(\./)?\S+:\d+:\d+: error", it)]
-    unread = next((it for it in errors if re.match(r"(\./)?(src|specs)/", it) and re.search(r"is not in scope|has no field|is no name|operand is missing|expected|cannot continue", it)), "")
+    unread = next(
+        (
+            it
+            for it in errors
+            if re.match(r"(\./)?(src|specs)/", it)
+            and re.search(r"is not in scope|has no field|is no name|operand is missing|expected|cannot continue", it)
+        ),
+        "",
+    )
     # advice may follow the verdict
     judged = next((it for it in reversed(lines) if it.startswith("logic=")), lines[-1])
     if unread or not judged.startswith("logic=not-proved"):
@@ -294,10 +310,15 @@ class Tried:
 
     def __init__(self, left, below, kept):
         self.below, self.kept, self.begun, self.proving, self.proved = below, kept, time.time(), set(), set()
-        self.libraries = [it for it in below if any(it == judge or it in below[judge] for judge in {wrong.refused_by or wrong.crate for wrong in left})]
+        self.libraries = [
+            it for it in below if any(it == judge or it in below[judge] for judge in {wrong.refused_by or wrong.crate for wrong in left})
+        ]
         bodies = {crate: [it for it in left if it.crate == crate and not it.refused_by] for crate in below}
         # each with the crate that refuses: the bodies of a crate, or one definition
-        self.tries = [(crate, its) for crate, its in sorted(bodies.items(), key=lambda it: -len(it[1])) if its] + [(it.refused_by, it) for it in left if it.refused_by]
+        self.tries = (
+            [(crate, its) for crate, its in sorted(bodies.items(), key=lambda it: -len(it[1])) if its]
+            + [(it.refused_by, it) for it in left if it.refused_by]
+        )
         self.count = {REFUSED: 0, NAMES_ALONE: 0, NOT_REFUSED: 0}
 
     def next(self, lanes_left):
@@ -328,7 +349,8 @@ class Tried:
         told, checks = bodies_tried(its[0].crate, its, self.kept.keep)
         minutes = (time.time() - self.begun) / 60
         alone = sum(bool(why) for _, _, why in told)
-        return told, f"{its[0].crate}: {len(told)} wrong bodies in {checks} checks and {alone} alone, {minutes:.0f} minutes from the start", ""
+        line = f"{its[0].crate}: {len(told)} wrong bodies in {checks} checks and {alone} alone, {minutes:.0f} minutes from the start"
+        return told, line, ""
 
     def definition(self, it):
         told, why = definition_tried(it, self.below)

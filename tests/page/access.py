@@ -1,8 +1,8 @@
 """Whether each screen can be used without a mouse, by who listens, by who sees little, and on a phone: what Lighthouse would look at,
 looked at here."""
-from driver import wait
-from screens import SCREENS, furnished, opened
-from stage import ALPHA, Stage, signed_in
+from tests.page.driver import wait
+from tests.page.screens import SCREENS, furnished, opened
+from tests.page.stage import ALPHA, Stage
 
 CONTROLS = {"button", "link", "textbox", "searchbox", "radio", "checkbox", "combobox", "table", "img", "group"}
 

@@ -5,14 +5,9 @@ import os
 import random
 import re
 import subprocess
-import sys
 
-from stage import ALPHA, BETA, DAY, EXAMPLES, HUB, RETAILER, ROOT, gtin, interchange, message, released
-
-sys.path.append(os.path.join(ROOT, "tests"))
-
-import goods  # noqa: E402
-import orders  # noqa: E402
+from tests.cases import goods, orders
+from tests.page.stage import ALPHA, BETA, EXAMPLES, HUB, RETAILER, gtin, interchange, message, released
 
 NUMBER, SEED = 1_000, 48
 HERE = os.path.dirname(os.path.abspath(__file__))

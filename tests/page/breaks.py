@@ -2,7 +2,7 @@
 nothing is done twice."""
 import time
 
-from stage import ALPHA, BETA, RETAILER, Stage, interchange, order, sign_in
+from tests.page.stage import ALPHA, BETA, RETAILER, Stage, interchange, order, sign_in
 
 SAFE = "Sending it again is safe"
 

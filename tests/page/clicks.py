@@ -1,8 +1,8 @@
 """What it takes to answer an order of ten lines: the clicks, and the seconds that page and hub take for them."""
 import time
 
-from screens import furnished
-from stage import ALPHA, Stage, signed_in
+from tests.page.screens import furnished
+from tests.page.stage import ALPHA, Stage, signed_in
 
 
 def answered(browser, program):

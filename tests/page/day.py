@@ -6,8 +6,8 @@ import subprocess
 import tempfile
 import time
 
-from driver import wait
-from stage import ALPHA, BETA, DAY, EXAMPLES, RETAILER, Stage, milliseconds, sign_in
+from tests.page.driver import wait
+from tests.page.stage import ALPHA, BETA, DAY, EXAMPLES, RETAILER, Stage, milliseconds, sign_in
 
 # by hand: the page's references are the moment in milliseconds, to the base of 36, and a counter
 ANSWER_OF_A = (

@@ -1,6 +1,6 @@
 """Texts in order numbers that would do harm where they were taken for markup, a part of an address or separators: each is shown as it is,
 answered and despatched."""
-from stage import ALPHA, RETAILER, Stage, interchange, order, released, signed_in
+from tests.page.stage import ALPHA, RETAILER, Stage, interchange, order, released, signed_in
 
 NUMBERS = [
     "<img src=x onerror=window.harmed=1>",

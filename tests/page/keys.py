@@ -1,5 +1,5 @@
 """Who may sign in, and where the key is then: in the tab's memory alone."""
-from stage import ALPHA, BETA, KEYS, RETAILER, Stage, sign_in
+from tests.page.stage import ALPHA, BETA, KEYS, RETAILER, Stage, sign_in
 
 DENIED = "Denied: the hub does not know this GLN with this key."
 

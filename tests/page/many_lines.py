@@ -1,5 +1,5 @@
 """A status of 1,000 lines is shown, sorted and filtered each in under a second."""
-from stage import ALPHA, RETAILER, Stage, interchange, order, sign_in
+from tests.page.stage import ALPHA, RETAILER, Stage, interchange, order, sign_in
 
 ORDERS, LINES = 20, 50
 TRIES, MOST = 3, 1_000

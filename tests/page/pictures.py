@@ -1,12 +1,12 @@
-"""Pictures of each screen, wide and narrow, by day and by night, for docs/page: `python3 pictures.py PROGRAM FOLDER`."""
+"""Pictures of each screen, wide and narrow, by day and by night, for docs/page: `python3 -m tests.page.pictures PROGRAM FOLDER`."""
 import os
 import struct
 import sys
 import zlib
 
-from driver import Browser
-from screens import SCREENS, furnished, opened
-from stage import Stage, milliseconds
+from tests.page.driver import Browser
+from tests.page.screens import SCREENS, furnished, opened
+from tests.page.stage import Stage, milliseconds
 
 SIZES = {"wide": (1100, 800), "narrow": (360, 740)}
 LIGHTS = {"light": False, "dark": True}

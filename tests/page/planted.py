@@ -1,12 +1,15 @@
-"""Whether each trial of the page can fail: in a copy of the page a bug is planted, and the trial has to find it. `python3 planted.py
-PROGRAM [NAME]`; the last line is `N found, M not found`."""
+"""Whether each trial of the page can fail: in a copy of the page a bug is planted, and the trial has to find it. The last line
+is `N found, M not found`.
+
+    python3 -m tests.page.planted PROGRAM [NAME]"""
 import os
 import shutil
 import subprocess
 import sys
 import tempfile
 
-ROOT = os.path.dirname(os.path.dirname(os.path.dirname(os.path.abspath(__file__))))
+from tests.harness.tree import ROOT
+
 # what a trial stands on, beside the program
 COPIED = ("page", "tests", "examples", "docs")
 
@@ -60,8 +63,8 @@ def found(program, trial, file, old, new):
         assert text.count(old) == 1, f"{old!r} stands {text.count(old)} times in {file}"
         with open(path, "w", encoding="utf-8") as opened:
             opened.write(text.replace(old, new))
-        test = os.path.join(folder, "tests", "page", "test.py")
-        ran = subprocess.run([sys.executable, test, program, trial], stdout=subprocess.PIPE, text=True)
+        words = [sys.executable, "-m", "tests.page.test", program, trial]
+        ran = subprocess.run(words, cwd=folder, stdout=subprocess.PIPE, text=True)
         lines = ran.stdout.splitlines()
         why = next((it for it in reversed(lines) if "Error" in it or "Fault" in it), "")
         print(f"{trial}: {file}: {'found' if ran.returncode == 1 else 'NOT FOUND'}: {why[:200]}", flush=True)

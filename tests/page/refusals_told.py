@@ -1,7 +1,7 @@
 """What the hub refuses is told at the field that its code speaks of: the form was right when it was opened, and something else came
 between."""
-from driver import ELEMENT, wait
-from stage import ALPHA, BETA, RETAILER, Stage, gtin, interchange, message, order, signed_in
+from tests.page.driver import ELEMENT, wait
+from tests.page.stage import ALPHA, BETA, RETAILER, Stage, gtin, interchange, message, order, signed_in
 
 PALLET = "340123455000000012"
 

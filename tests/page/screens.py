@@ -1,7 +1,7 @@
 """Each screen of the page as a person finds it: a hub with a day on it, and the way to each screen."""
 import os
 
-from stage import ALPHA, BETA, DAY, RETAILER, gtin, interchange, message, order, released, signed_in
+from tests.page.stage import ALPHA, BETA, DAY, RETAILER, gtin, interchange, message, order, released, signed_in
 
 
 def furnished(stage):

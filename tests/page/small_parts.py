@@ -2,8 +2,8 @@
 import os
 import re
 
-from agreement import by_node
-from stage import ROOT
+from tests.harness.tree import ROOT
+from tests.page.agreement import by_node
 
 IDENTIFIERS = [
     (("checkDigit", "34012345500000001"), "2"),

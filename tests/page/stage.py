@@ -5,17 +5,14 @@ import importlib.util
 import os
 import shutil
 import subprocess
-import sys
 import tempfile
 import threading
 from datetime import datetime, timezone
 
-ROOT = os.path.dirname(os.path.dirname(os.path.dirname(os.path.abspath(__file__))))
-EXAMPLES = os.path.join(ROOT, "examples")
-DAY = os.path.join(EXAMPLES, "day")
-sys.path.insert(0, os.path.join(EXAMPLES, "page"))
+from tests.harness.tree import EXAMPLES
+from tests.page.driver import free_port
 
-from proxy import Handler, Proxy  # noqa: E402
+DAY = os.path.join(EXAMPLES, "day")
 
 HUB, RETAILER, ALPHA, BETA = "5412345000006", "5412345000013", "4012345500004", "8712345000004"
 KEYS = {RETAILER: "retail-key", ALPHA: "alpha-key-1", BETA: "beta-key-1"}
@@ -29,10 +26,10 @@ def module(name, *path):
     return found
 
 
-free_port = module("page_try", EXAMPLES, "page", "try.py").free_port
+proxy = module("page_proxy", EXAMPLES, "page", "proxy.py")
 
 
-class Keeping(Handler):
+class Keeping(proxy.Handler):
     """The proxy's handler, which keeps each body that is sent, and whose way to the hub and back a trial can break."""
 
     def asked(self, body):
@@ -84,7 +81,7 @@ class Stage:
         self.hub = None
         self.command("init", "--register", os.path.join(EXAMPLES, "register.toml"))
         self.begin_hub()
-        self.proxy = Proxy(0, self.hub_port, Keeping)
+        self.proxy = proxy.Proxy(0, self.hub_port, Keeping)
         self.proxy.sent, self.proxy.breaks = [], []
         threading.Thread(target=self.proxy.serve_forever, daemon=True).start()
         self.address = self.proxy.address

@@ -1,22 +1,14 @@
-"""`make page-test`: the page in headless Chromium, driven by its driver, and its readers and writers in Node: `python3 test.py PROGRAM
-[NAME]`, of which the last tries those alone whose name has this in it. The last line is `N passed, M failed`."""
+"""`make page-test`: the page in headless Chromium, driven by its driver, and its readers and writers in Node. With a
+name, those alone are tried whose name has this in it. The last line is `N passed, M failed`.
+
+    python3 -m tests.page.test PROGRAM [NAME]"""
 import os
 import sys
 import time
 import traceback
 
-import access
-import agreement
-import breaks
-import clicks
-import day
-import hostile_texts
-import keys
-import many_lines
-import refusals_told
-import small_parts
-import trying
-from driver import Browser
+from tests.page import access, agreement, breaks, clicks, day, hostile_texts, keys, many_lines, refusals_told, small_parts, trying
+from tests.page.driver import Browser
 
 # what needs no browser, and what does
 ALONE = {**small_parts.TRIALS, **trying.TRIALS, **agreement.TRIALS}

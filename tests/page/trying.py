@@ -7,7 +7,7 @@ import subprocess
 import sys
 import tempfile
 
-from stage import ALPHA, BETA, EXAMPLES, KEYS, free_port
+from tests.page.stage import ALPHA, BETA, EXAMPLES, KEYS, free_port
 
 # a path, the fields and body of a request, and the status and a part of the answer
 ASKED = [

@@ -1,0 +1,111 @@
+/* Loaded before the C library: the program ends at the change of a database file or its log whose number is in STOP.
+   Of a write that is stopped, half of the bytes are written where TORN is set. Where LOST is set, the files are then as
+   they were when they were last synced. Where HALT is a number, the program halts at each change whose number is a multiple of
+   it, until it is sent SIGCONT. Where COUNT names a file, the number of changes is written there at the end, and how many of
+   them were syncs. */
+#define _GNU_SOURCE
+#include <dlfcn.h>
+#include <fcntl.h>
+#include <limits.h>
+#include <signal.h>
+#include <stdio.h>
+#include <stdlib.h>
+#include <string.h>
+#include <unistd.h>
+
+static long changes, syncs;
+
+__attribute__((destructor)) static void tell(void) {
+    const char *path = getenv("COUNT");
+    FILE *file = path ? fopen(path, "w") : NULL;
+    if (file) {
+        fprintf(file, "%ld %ld", changes, syncs);
+        fclose(file);
+    }
+}
+
+/* The path of a database file or its log, which are the files that have the name in STOP_FILE. */
+static int is_kept(int fd, char *path) {
+    char link[64];
+    const char *name = getenv("STOP_FILE");
+    snprintf(link, sizeof link, "/proc/self/fd/%d", fd);
+    ssize_t length = readlink(link, path, PATH_MAX - 1);
+    if (length < 0 || !name) return 0;
+    path[length] = 0;
+    return strstr(path, name) != NULL;
+}
+
+/* Copies a file; where there is none, makes the copy empty. */
+static void copy(const char *from, const char *to) {
+    static char block[1 << 16];
+    int source = open(from, O_RDONLY), target = open(to, O_WRONLY | O_CREAT | O_TRUNC, 0644);
+    for (ssize_t got; source >= 0 && (got = read(source, block, sizeof block)) > 0;)
+        if (write(target, block, got) != got) _exit(8);
+    if (source >= 0) close(source);
+    close(target);
+}
+
+static void synced(int fd) {
+    char path[PATH_MAX], kept[PATH_MAX + 8];
+    if (!getenv("LOST") || !is_kept(fd, path)) return;
+    snprintf(kept, sizeof kept, "%s.synced", path);
+    copy(path, kept);
+}
+
+static void lose(const char *path) {
+    char kept[PATH_MAX + 8];
+    snprintf(kept, sizeof kept, "%s.synced", path);
+    if (access(path, F_OK) == 0) copy(kept, path);
+}
+
+static void stop(void) {
+    const char *name = getenv("STOP_FILE");
+    char log[PATH_MAX];
+    if (getenv("LOST")) {
+        snprintf(log, sizeof log, "%s-wal", name);
+        lose(name);
+        lose(log);
+    }
+    _exit(9);
+}
+
+/* Whether this change is the one at which the program ends. */
+static int is_last(int fd) {
+    char path[PATH_MAX];
+    const char *number = getenv("STOP"), *every = getenv("HALT");
+    if (!is_kept(fd, path)) return 0;
+    changes++;
+    if (every && changes % atol(every) == 0) raise(SIGSTOP);
+    return number && changes == atol(number);
+}
+
+#define REAL(name) ((__typeof__(&name))dlsym(RTLD_NEXT, #name))
+
+ssize_t pwrite(int fd, const void *bytes, size_t length, off_t at) {
+    if (is_last(fd)) {
+        if (getenv("TORN")) REAL(pwrite)(fd, bytes, length / 2, at);
+        stop();
+    }
+    return REAL(pwrite)(fd, bytes, length, at);
+}
+
+int ftruncate(int fd, off_t length) {
+    if (is_last(fd)) stop();
+    return REAL(ftruncate)(fd, length);
+}
+
+int fsync(int fd) {
+    if (is_last(fd)) stop();
+    int answer = REAL(fsync)(fd);
+    syncs++;
+    synced(fd);
+    return answer;
+}
+
+int fdatasync(int fd) {
+    if (is_last(fd)) stop();
+    int answer = REAL(fdatasync)(fd);
+    syncs++;
+    synced(fd);
+    return answer;
+}

@@ -1,0 +1,297 @@
+"""Each command in README.md and docs/*.md has a trial here. Those of a block are run as they stand, in the order of the document; those in
+backticks are looked up. A block without a line of the table below is a failure, and so is a line without a block."""
+import os
+import re
+import socket
+import struct
+import subprocess
+import textwrap
+from concurrent.futures import ThreadPoolExecutor
+from contextlib import ExitStack
+from dataclasses import dataclass, field
+from glob import glob
+
+from tests.cases import goods, orders
+from tests.harness import front_proxy, show_cases
+from tests.harness.case import SECONDS
+from tests.harness.document_shell import Reader, Wrong, asked, hold, lacks, lines_of, text_of, write
+from tests.harness.hub_scripts import FIRST_MAIL, KEYS, MOMENT, OTHER_PALLET, PALLET, STATUS as OTHERS, line_status
+from tests.harness.hub_steps import told
+from tests.harness.register_texts import ALPHA, RETAILER
+from tests.harness.servers import listed
+from tests.harness.tree import EXAMPLES, KEPT, ROOT
+
+OLD_FILE = os.path.join(KEPT, "schema1_received.db")
+# lines between fences, or indented by four blanks, with empty lines between
+BLOCK = re.compile(r"^```[^\n]*\n(.*?)^```$|((?:^    [^\n]*\n(?:\n+(?=    ))?)+)", re.MULTILINE | re.DOTALL)
+
+
+def read(document):
+    """The blocks of a document, each with the section in which it stands; and the commands in backticks."""
+    with open(os.path.join(ROOT, document), encoding="utf-8") as file:
+        sections = re.split(r"^(?=## )", file.read() + "\n", flags=re.MULTILINE)
+    blocks = [(textwrap.dedent(it[1] or it[2]).strip("\n") + "\n", section) for section in sections for it in BLOCK.finditer(section)]
+    spans = {it for section in sections for it in re.findall("`([^`\n]+)`", BLOCK.sub("", section))}
+    return blocks, sorted(it for it in spans if it.split(" ")[0] in WORDS and " " in it)
+
+
+# what supplier A sees of the interchanges in the folders, and then of a cancellation
+SEEN_PALLET = OTHERS[-1].replace(OTHER_PALLET, PALLET)
+BEFORE, STATUS = (told(line_status("128576", "C", 48, *it, 12), SEEN_PALLET, "end") for it in ((24, 12, 0), (14, 12, 10)))
+OF_A, OF_THE_RETAILER = f"--db hub.db --as {ALPHA} --key {KEYS[ALPHA]}", f"--db hub.db --as {RETAILER} --key {KEYS[RETAILER]}"
+FOUND = "edihub init --register register.toml --db hub.db"
+ORDERED = f"{FOUND} && edihub import {OF_THE_RETAILER} --folder in/retailer --moment {MOMENT} > printed"
+SERVE = f"exec edihub serve --db hub.db --port 8080 --count 1000 --moment {MOMENT}"
+
+
+@dataclass
+class Run:
+    """Commands of a block that end with status 0."""
+
+    # shell that makes what they need, in a folder of their own where it is not that of the document, in which the hub may be served
+    before: str = ":"
+    anew: bool = False
+    served: bool = False
+    # what takes the place of words
+    instead: dict = field(default_factory=dict)
+    # all that they print, where it is known; and lines of it that the section has in backticks
+    prints: str = None
+    says: tuple = ()
+    # how files begin that they leave; and shell that looks at others, with what was printed for PRINTED
+    leaves: dict = field(default_factory=dict)
+    then: str = ":"
+
+    def __call__(self, reader, block, section):
+        hold(all(f"`{it}`" in section for it in self.says), f"the section does not say {self.says}")
+        folder = reader.new() if self.anew else reader.folder
+        reader.run(self.before, folder)
+        if not self.served:
+            return self.run(reader, block, folder, self.instead)
+        with reader.serving(SERVE, folder) as (port, child):
+            return self.run(reader, block, folder, {"8080": str(port), "PID": str(child.pid), **self.instead})
+
+    def run(self, reader, block, folder, instead):
+        lines = lines_of(block)
+        here = [it for it in lines if not lacks(it)]
+        reader.ran, reader.not_run = reader.ran + len(here), reader.not_run + [it for it in lines if lacks(it)]
+        text = "\n".join(here)
+        for place, words in instead.items():
+            text = text.replace(place, words)
+        printed = reader.run(text, folder)
+        if len(here) == len(lines):
+            hold(self.prints in (None, printed), f"{printed!r} is printed, not {self.prints!r}")
+            hold(set(self.says) <= set(printed.splitlines()), f"{printed!r} is printed, without {self.says}")
+            for name, begins in self.leaves.items():
+                hold(text_of(folder, name).startswith(begins), f"{name} is {text_of(folder, name):.200}")
+        reader.run(self.then.replace("PRINTED", printed.strip()), folder)
+
+
+def looked_up(reader, block, _section):
+    for line in lines_of(block):
+        look_up(reader, line.partition(" # ")[0].strip())
+
+
+def a_register(reader, block, _section):
+    """The register that the next block checks."""
+    write(reader.folder, "register.toml", block)
+
+
+def shown_lines(reader, block, _section):
+    """What `show` prints of an interchange with a message of each type."""
+    response = show_cases.edited(orders.RESPONSE, "UNS+S'", "RFF+ON:128576:1'UNS+S'")
+    text = show_cases.in_a_row(orders.ORDER, response, goods.DESPATCH, goods.RECEIPT.partition("LIN+2")[0])
+    printed = asked(reader.program, "show", text=text)
+    hold(printed == (0, block), f"{printed!r:.300} is printed")
+
+
+def answer(port, path, key=KEYS[ALPHA], breaks_off=False):
+    """What is answered to a supplier, or to the front of its request where it then goes away."""
+    with socket.create_connection(("127.0.0.1", port), SECONDS) as one:
+        one.sendall(f"GET /p/{ALPHA}/{path} HTTP/1.1\r\nX-Hub-Key: {key}\r\n{'' if breaks_off else chr(13) + chr(10)}".encode())
+        if breaks_off:
+            return one.setsockopt(socket.SOL_SOCKET, socket.SO_LINGER, struct.pack("ii", 1, 0))
+        with one.makefile("rb") as file:
+            return file.read().decode()
+
+
+def head_of_a_list(reader, block, _section):
+    """The head of the answer to a list of one entry."""
+    folder = reader.new()
+    reader.run(ORDERED, folder)
+    with reader.serving(SERVE, folder) as (port, _):
+        head = answer(port, "mail/after/0").replace("\r\n", "\n").partition("\n\n")[0] + "\n"
+    hold(head == block, f"{head!r} is answered")
+
+
+def served(reader, block, _section):
+    """The hub of a block is asked, with a wrong key too, and by a client that goes away: what it prints is for the next block."""
+    with reader.serving(block) as (port, child):
+        reader.served, reader.ran = "listening 8080\n", reader.ran + len(lines_of(block))
+        for how in ({}, {"key": "wrong-key"}, {"breaks_off": True}):
+            answer(port, "status", **how)
+            reader.served += child.stdout.readline()
+
+
+def printed_before(reader, block, _section):
+    hold(reader.served == block, f"{reader.served!r} is printed")
+
+
+def target(_reader, span):
+    """A target of the Makefile, and variables that it has."""
+    makefile, (status, printed) = text_of(ROOT, "Makefile"), asked("make", "-n", *span.split()[1:])
+    hold(status == 0 and f"\n{span.split()[1]}:" in makefile, f"no such target: {printed:.200}")
+    hold(all(f"$({it})" in makefile for it in re.findall(r" (\w+)=", span)), "no such variable")
+
+
+def script(_reader, span):
+    """A program of the tree, or a module of its folders, that can be read, and that has the options."""
+    word, path, *more = span.split()
+    path = more[0].replace(".", os.sep) + ".py" if path == "-m" else path
+    text = text_of(ROOT, path)
+    hold(word != "python3" or compile(text, path, "exec"), "")
+    hold(word != "sh" or asked("sh", "-n", path)[0] == 0, f"sh cannot read {path}")
+    hold(all(it in text for it in re.findall(r"--[a-z-]+", span)), "the program does not have all options")
+
+
+def helped(reader, span):
+    """A command of the program, or each where COMMAND stands for it, and options that its help names."""
+    every = re.findall(r"^  ([a-z]+) ", asked(reader.program, "--help")[1], re.MULTILINE)
+    every.remove("help")
+    for word in every if span.split()[1] == "COMMAND" else span.split()[1:2]:
+        status, printed = asked(reader.program, word, "--help")
+        hold(status == 0 and word in every and all(f"{it} " in printed for it in re.findall(r"--[a-z-]+", span)), f"{word}: {printed:.200}")
+
+
+def finds(_reader, span):
+    """A search of the tree that finds something, and can read all."""
+    status, printed = asked("sh", "-c", span)
+    hold(status == 0 and printed, f"status {status}, {printed:.200}")
+
+
+def named(*words):
+    """How a command is looked up of which a help has the options, and of `rt` the first word."""
+
+    def trial(_reader, span):
+        every = {*words, *re.findall(r"(?<=rt )[a-z-]+|(?<=\|)[a-z]+|(?<![\w-])--?[a-zA-Z][\w-]*", asked(*words)[1])}
+        asked_for = {it for k, it in enumerate(span.split()) if it.startswith("-") or (k == 1 and words[0] == "rt")}
+        hold(asked_for <= every, f"{' '.join(words)} does not have it")
+
+    return trial
+
+
+def beside_a_hub(reader, span):
+    """A command that is run beside a database file."""
+    reader.run(f"cp {OLD_FILE} hub.db\n{span.replace('PID', '$$')}", reader.new())
+
+
+def of_the_front(reader, span):
+    """HAProxy's look at the example, with a certificate of this machine and no user of its own."""
+    folder = reader.empty()
+    text = front_proxy.instead(text_of(EXAMPLES, "front", "haproxy.cfg"), front_proxy.CERTIFICATE, front_proxy.certificate(folder))
+    write(folder, "haproxy.cfg", re.sub(r"^ +(user|group) haproxy\n", "", text, flags=re.MULTILINE))
+    reader.run(span, folder)
+
+
+NO_TRIAL = "systemctl apt-get nginx crontab node openssl journalctl sudo cat tail find cd rm mv mkdir tar rsync docker pip ./edihub"
+# the words with which commands in backticks begin, and how those are looked up; without a trial they are failures where they come
+WORDS = {
+    **dict.fromkeys(NO_TRIAL.split()),
+    **dict.fromkeys(("ls", "chmod", "ps", "cp", "kill", "sqlite3"), beside_a_hub),
+    **{"make": target, "edihub": helped, "rt": named("rt", "help"), "curl": named("curl", "--help", "all"), "haproxy": of_the_front},
+    **{"grep": finds, "git": finds, "python3": script, "sh": script},
+}
+
+
+def look_up(reader, span):
+    trial = WORDS.get(span.split()[0])
+    hold(trial, "no trial")
+    if lacks(span) or trial is of_the_front and not front_proxy.is_there():
+        reader.not_run.append(span)
+    else:
+        trial(reader, span)
+        reader.looked_up += 1
+
+
+OLD = {"before": f"cp {OLD_FILE} hub.db", "anew": True}
+MAIL = listed((1, "ORDERS", "128576")) + told("taken")
+ANSWERED = told("interchange S1 messages 1", "1 ORDRSP accepted", line_status("128576", "C", 48, 36, 12, 0, 0), "end")
+UPLOADED = told("interchange 1001 messages 1", "1 ORDERS accepted", line_status("128576", "W", 48, 48, 0, 0, 0), "end", "accepted")
+IMPORTED = told("file 0.edi", "interchange 1001 messages 1", "1 ORDERS accepted", "file 1.edi", "interchange S1 messages 1")
+IMPORTED += told("1 ORDRSP accepted", "file 2.edi", "interchange S2 messages 1", "1 DESADV accepted") + MAIL + BEFORE * 2 + told("accepted")
+TWO, HUBS, LOGGED = "ok 2 suppliers", "ok 3 hubs, 10 suppliers", told("file 1.edi", "interchange S1 messages 1")
+PICTURE, NGINX = "a picture", "a configuration of nginx"
+# of each document with blocks, how each begins, and how it is tried; or what it is, where it has no command
+BLOCKS = {
+    "README.md": {"make run": looked_up, "HTTP ": PICTURE},
+    "docs/ARCHITECTURE.md": {"doors ": PICTURE},
+    "docs/CONTRIBUTING.md": {"grep -rn 'WithoutLines'": looked_up},
+    "docs/FORMATS.md": {"UNA:": "the form of mail", "service component": shown_lines, "HTTP/1.1 200 OK": head_of_a_list},
+    "docs/HTTP.md": {
+        f"HUB=http://127.0.0.1:8080/p/{ALPHA}": Run(ORDERED, True, True, {}, MAIL + ANSWERED, ("taken", "end"), {"order.edi": FIRST_MAIL}),
+        f"HUB=http://127.0.0.1:8080/p/{RETAILER}": Run(FOUND, True, True, {}, UPLOADED, ("accepted",)),
+        "edihub init": served,
+        "listening 8080": printed_before,
+        "server {": NGINX,
+    },
+    "docs/OPERATING.md": {
+        "edihub check": Run(prints=told(TWO, TWO), says=(TWO,)),
+        "cp -p hub.db": Run(**OLD, prints=told(TWO, TWO), says=(TWO,), leaves={"hub.db.before": text_of(OLD_FILE)}),
+        "sqlite3 hub.db 'SELECT": Run(**OLD, prints=told(ALPHA, f"{ALPHA}|{PALLET}", f"{ALPHA}|{OTHER_PALLET}")),
+        "edihub join": Run(prints=told("accepted"), says=("accepted",)),
+        "edihub import": Run(prints=IMPORTED, leaves={"order.edi": FIRST_MAIL.partition("+250603")[0]}),
+        "* * * * *": Run(instead={"* * * * *": "", "/run/": "", "...": OF_A}, prints="", leaves={"alpha.log": LOGGED}),
+        "python3 apart.py": Run(prints=told(HUBS), says=(HUBS,)),
+        "kill -STOP PID": Run("mkdir backup", served=True, prints="", then="cmp hub.db backup/hub.db; cmp hub.db-wal backup/hub.db-wal"),
+        "sh backup.sh PID": Run("mkdir new", served=True, instead={"/var/backups/edihub": "new"}, then="mv PRINTED copy"),
+        "edihub status --db copy": Run(prints=STATUS + told("ok")),
+        "sqlite3 hub.db 'PRAGMA": Run(prints=told("ok", "128576|1|48|14|C")),
+    },
+    "docs/PAGE.md": {"root /srv": NGINX},
+    "docs/REGISTER.md": {"hub = ": a_register, "edihub check": Run(prints=told(TWO))},
+    "docs/TESTING.md": {"file: src/answers.rt": "an edit"},
+}
+
+
+def none(*_):
+    raise Wrong("a block without a line of the table, or a line without a block")
+
+
+def trials_of(document):
+    """How each block and each command in backticks of a document is tried."""
+    blocks, spans = read(document)
+    lines = BLOCKS.get(document, {})
+    begun = {it: [text for text, _ in blocks if text.lstrip().startswith(it)] for it in lines}
+    for text, section in blocks:
+        trial = next((lines[it] for it, its in begun.items() if its == [text]), none)
+        if callable(trial):
+            yield text, trial, (text, section)
+    yield from ((it, none, ()) for it, its in begun.items() if len(its) != 1)
+    yield from ((span, look_up, (span,)) for span in spans)
+
+
+def tried(document, program):
+    """What is wrong with the commands of a document; and its reader, who has counted them."""
+    with ExitStack() as stack:
+        reader, wrong = Reader(program, stack), []
+        for name, trial, about in trials_of(document):
+            try:
+                trial(reader, *about)
+            except (Wrong, OSError, ValueError, SyntaxError, subprocess.SubprocessError) as why:
+                wrong.append(f"{document}: {name.splitlines()[0]}: {why}")
+        return wrong, reader
+
+
+def each_command(program):
+    """What is wrong with a command of a document, if anything."""
+    names = ["README.md", *sorted(os.path.relpath(it, ROOT) for it in glob(os.path.join(ROOT, "docs", "*.md")))]
+    with ThreadPoolExecutor() as pool:
+        found = list(pool.map(lambda it: tried(it, program), names))
+    counts = [sum(getattr(reader, it) for _, reader in found) for it in ("ran", "looked_up")]
+    print("of the documents {} commands were run and {} looked up".format(*counts))
+    not_run = [it for _, reader in found for it in reader.not_run]
+    if not_run:
+        print("not run, since a program is not here:", "; ".join(not_run))
+    return "\n".join([it for wrong, _ in found for it in wrong] + [f"no document {it}" for it in BLOCKS if it not in names])
+
+
+TRIALS = [("each command of the documents", each_command)]
