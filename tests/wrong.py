@@ -87,15 +87,15 @@ class Kept:
         return os.path.join(ROOT, "crates", crate, "out", "refused")
 
     @functools.cache
-    def sum_of(self, crate):
-        """The sum of a crate's text, but for lines of comments, of which no proof hangs."""
+    def sum_of(self, crate, with_comments=False):
+        """The sum of a crate's text, with lines of comments or without them, since no proof hangs on them."""
         total, folder = hashlib.sha256(), os.path.join(ROOT, "crates", crate)
         for path in sorted(
             os.path.join(at, name) for part in PARTS for at, _, names in os.walk(os.path.join(folder, part)) for name in names
         ):
             with open(path, "rb") as file:
                 comment = b"--" if path.endswith(".antt") else b"//"
-                said = [line for line in file if not line.lstrip().startswith(comment)]
+                said = [line for line in file if with_comments or not line.lstrip().startswith(comment)]
             total.update(repr((os.path.relpath(path, folder), said)).encode())
         return total.hexdigest()
 
@@ -103,16 +103,16 @@ class Kept:
     def toolchain(self):
         return run(["version"], ROOT)[1]
 
-    def texts(self, crate):
+    def texts(self, crate, with_comments=False):
         """What a crate is proved of: its text, and that of all below it."""
-        return [(it, self.sum_of(it)) for it in sorted(self.below[crate] | {crate})]
+        return [(it, self.sum_of(it, with_comments)) for it in sorted(self.below[crate] | {crate})]
 
     def key(self, wrong):
         return hashlib.sha256(repr((wrong, self.texts(wrong.refused_by or wrong.crate), self.toolchain())).encode()).hexdigest()
 
     def library(self, crate):
         """The file that says of what the crate's library was proved, and what it says where that is the crate as it stands."""
-        sum_now = hashlib.sha256(repr((self.texts(crate), self.toolchain())).encode()).hexdigest()
+        sum_now = hashlib.sha256(repr((self.texts(crate, True), self.toolchain())).encode()).hexdigest()
         return os.path.join(ROOT, "crates", crate, "out", "proved"), sum_now
 
     def is_proved(self, crate):

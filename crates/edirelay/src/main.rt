@@ -7,11 +7,13 @@ ghost use Rattle.edi_relay.specs.Relay.{AreRelayWords};
 use edi_envelope::Moment;
 use edi_relay::{FAILED, RelayWords, relay_run};
 use edi_tokens::{OfRead, OfWrite};
-use std::env;
 use std::process::ExitCode;
+use std::{env, io};
 
-/// The exit status of a usage error.
+/// The exit status of a usage error, and what is told then.
 const USAGE: u8 = 2;
+
+const CALLED: &str = "usage: edirelay HUB OWNER MOMENT NUMBER < INTERCHANGE > MAIL";
 
 // What the words behind the program's name say: the hub's and the supplier's GLN, the moment of the mail in seconds
 // since 1970 began at UTC, and the number of the first mail text.
@@ -25,22 +27,34 @@ fn relay_words(given: &[String]) -> Option<RelayWords>
     RelayWords::new(hub, owner, moment, number.parse::<u64>().ok()?)
 }
 
-fn main(rt: HostRuntime) -> ExitCode {
-    let Ok(words) = env::args(&rt) else {
-        return ExitCode::from(USAGE);
+// Prints a line on standard error. Where that fails, the exit status alone tells.
+fn tell(rt: &HostRuntime, line: &str, status: u8) -> u8 {
+    let _ = rt.eprintln(line);
+    status
+}
+
+// Relays standard input as the words say.
+fn run(rt: &HostRuntime, given: &[String]) -> u8 {
+    let Some(words) = relay_words(given) else {
+        return tell(rt, CALLED, USAGE);
     };
-    let Ok(words) = words.collect::<Vec<String>>(rt.alloc()) else {
-        return ExitCode::from(FAILED);
-    };
-    let Some(words) = relay_words(words.as_slice()) else {
-        let _ = rt.eprintln("usage: edirelay HUB OWNER MOMENT NUMBER < INTERCHANGE > MAIL");
-        return ExitCode::from(USAGE);
-    };
-    ExitCode::from(relay_run(
+    relay_run(
         rt.alloc(),
         &words,
         &mut OfRead::new(rt.stdin()),
         &mut OfWrite::new(rt.stdout()),
         &mut OfWrite::new(rt.stderr()),
-    ))
+    )
+}
+
+fn main(rt: HostRuntime) -> ExitCode {
+    let status = match env::args(&rt) {
+        Ok(words) => match words.collect::<Vec<String>>(rt.alloc()) {
+            Ok(words) => run(&rt, words.as_slice()),
+            Err(_) => tell(&rt, "memory", FAILED),
+        },
+        Err(error) if error.kind() == io::ErrorKind::InvalidData => tell(&rt, CALLED, USAGE),
+        Err(_) => tell(&rt, "memory", FAILED),
+    };
+    ExitCode::from(status)
 }
