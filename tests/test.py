@@ -28,6 +28,7 @@ def built(crate):
 
 # each program, and its cases
 PROGRAMS = [
+    (built("edirelay"), without_hub.RELAY_ALONE),
     (built("edihub"), without_hub.CASES + hub_commands.COMMANDS + older_files.MIGRATIONS),
     (
         built("hub_script"),

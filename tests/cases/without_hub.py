@@ -163,6 +163,26 @@ RELAY = [
 
 CUTS = [refused(f"the order cut to {length} bytes", ORDERS[:length], cut(length)) for length in range(255)]
 
+# the words of `edirelay`: the hub, the supplier, the moment of the mail and the number of its first text
+ALONE = [HUB, OWNER, "1748942400", "1"]
+CALLED = b"usage: edirelay HUB OWNER MOMENT NUMBER < INTERCHANGE > MAIL\n"
+NOT_ALONE = [
+    ("no words", []),
+    ("a word too few", ALONE[:3]),
+    ("a word too many", [*ALONE, "1"]),
+    ("a GLN of twelve digits", [HUB[1:], *ALONE[1:]]),
+    ("a moment past 2099", [*ALONE[:2], "4102444800", "1"]),
+    ("the number 0", [*ALONE[:3], "0"]),
+    ("words in another order", [HUB, "1748942400", OWNER, "1"]),
+]
+RELAY_ALONE = [
+    Case("edirelay: the order", ALONE, text(ORDERS), text(mail())),
+    Case("edirelay: two messages from number 41", [*ALONE[:3], "41"], text(messages(2)), text(mails(2, 41))),
+    Case("edirelay: a cut order", ALONE, text(ORDERS[:200]), error=text(f"refused {cut(200)}\n"), status=1),
+    Case("edirelay: a failed read", ALONE, input_is_folder=True, error=b"file\n", status=3),
+    *(Case(f"edirelay: {what}", words, text(ORDERS), error=CALLED, status=2) for what, words in NOT_ALONE),
+]
+
 # so little memory in all that the mail texts of an interchange of 1 MiB cannot be held, and a little more
 MEMORY = [
     *(
