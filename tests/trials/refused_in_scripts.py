@@ -21,8 +21,8 @@ from tests.harness.shims import REFUSE, built
 
 # the forms of a stop in which nothing was done: the word, and where there is no memory even for it, nothing
 STOPPED = {b"stopped 8\nstopped\n", b"stopped 0\n"}
-# how many allocations there are at least, and how many of them are the script's own at most
-FEWEST, MOST_OF_SCRIPT = 1000, 300
+# how many allocations there are at least, and how many of them are the script's own at most, the routes of its connections among them
+FEWEST, MOST_OF_SCRIPT = 1000, 400
 
 
 @dataclass
@@ -134,8 +134,8 @@ def sent_twice():
     )
     cancel = f"{ALPHA}\nC5\n128579\n1\n7\n"
     wired(asking("POST", f"/p/{RETAILER}/cancellations", RETAILER, cancel), "accepted\n", "repeated\n")
-    wired(asking("GET", f"{path}/mail/item/x", ALPHA), "unknown\n", status=404)
-    # nothing asks for memory up to the first check
+    # a refusal asks for no memory
+    wired(asking("GET", f"{path}/mail/item/x", ALPHA), "unknown\n", status=404, stops=())
     wired(b"GET /\r\n\r\n", "bad request\n", status=400, stops=())
     wired(asking("GET", f"{path}/status", ALPHA, None, "X-Hub-Key: alpha-key-1"), "bad request\n", status=400, stops=())
     return play.script, asked

@@ -5,7 +5,7 @@ use edi_base::OfWrite;
 use edi_envelope::Moment;
 use hub_app::ServeWords;
 use hub_core::Hub;
-use hub_serve::{Listening, Moments, print_listening, serve_on};
+use hub_serve::{Listening, Moments, Paths, print_listening, serve_on};
 use hub_store::Store;
 
 // The moment that the words name, each time; or else what the clock tells, until it fails.
@@ -35,6 +35,7 @@ pub(crate) fn serve_over<S: Store>(
     hub: &mut Hub<S>,
     words: &ServeWords<'_>,
 ) -> Result<u8, BeginFault> {
+    let paths = Paths::new(rt.alloc())?;
     let mut connections = Listening::on(rt, words.port).map_err(|_| BeginFault::Listen)?;
     let mut moments = ByTheClock {
         rt,
@@ -47,6 +48,7 @@ pub(crate) fn serve_over<S: Store>(
     }
     let status = serve_on(
         rt.alloc(),
+        &paths,
         &mut connections,
         hub,
         &mut moments,

@@ -6,6 +6,7 @@ ghost use Rattle.http_routes.specs.Routes as spec;
 use crate::parts::with_parts;
 use matchit::{InsertError, Router};
 use std::alloc::{AllocError, Global};
+use std::marker::Model;
 
 /// The place that a path names.
 #[derive(Clone, Copy, Debug, PartialEq, Eq)]
@@ -62,17 +63,42 @@ fn seven_routes(alloc: Global) -> Result<Router<Place>, InsertError>
     with_route(router, "/p/{gln}/cancellations", Place::Cancellations)
 }
 
-/// The place that a path names, with its parts in braces; `None` where it names none of the seven. The path is the
-/// target of a request in origin form without its query (RFC 9112, section 3.2.1); it is taken as it is, and nothing in
-/// it is decoded. `AllocError` where there is no memory for the router.
-pub fn place_of(alloc: Global, path: &str) -> Result<Option<Routed<'_>>, AllocError>
-    ensures { IfOk result (λ found. option_map spec.shown found ≡ spec.place_at path.now) }
-{
-    let Ok(router) = seven_routes(alloc) else {
-        return Err(AllocError);
-    };
-    match router.at(path) {
-        Ok(found) => Ok(Some(with_parts(*found.value, path.as_bytes()))),
-        Err(_) => Ok(None),
+/// The router of the seven routes, made once for many paths.
+#[derive(Drop)]
+pub struct Paths {
+    router: Router<Place>,
+}
+
+impl Model for Paths {
+    ghost use Rattle.http_routes.specs.Routes.{Routes};
+
+    ghost Value = { Routes };
+
+    ghost use Rattle.http_routes.specs.Routes.{routes_in, IsSeven};
+
+    ghost view = { routes_in };
+
+    ghost invariant = { IsSeven };
+}
+
+impl Paths {
+    /// Fails only for want of memory.
+    pub fn new(alloc: Global) -> Result<Self, AllocError> {
+        match seven_routes(alloc) {
+            Ok(router) => Ok(Paths { router }),
+            Err(_) => Err(AllocError),
+        }
+    }
+
+    /// The place that a path names, with its parts in braces; `None` where it names none of the seven. The path is the
+    /// target of a request in origin form without its query (RFC 9112, section 3.2.1); it is taken as it is, and nothing
+    /// in it is decoded. Takes no memory.
+    pub fn place_of<'p>(&self, path: &'p str) -> Option<Routed<'p>>
+        ensures { option_map spec.shown result ≡ spec.place_at path.now }
+    {
+        match self.router.at(path) {
+            Ok(found) => Some(with_parts(*found.value, path.as_bytes())),
+            Err(_) => None,
+        }
     }
 }

@@ -1,12 +1,16 @@
-use http_routes::{Place, place_of};
+use http_routes::{Paths, Place};
 use std::alloc::Global;
 use std::test::*;
 
 type Found<'p> = Option<(Place, &'p [u8], Option<&'p [u8]>)>;
 
 fn found(alloc: Global, path: &str) -> Result<Found<'_>, Fail> {
-    let routed = place_of(alloc, path)?;
-    Ok(routed.map(|routed| (routed.place, routed.party, routed.part)))
+    let paths = Paths::new(alloc)?;
+    Ok(
+        paths
+            .place_of(path)
+            .map(|routed| (routed.place, routed.party, routed.part)),
+    )
 }
 
 type Row = (&'static str, Found<'static>);

@@ -22,6 +22,7 @@ use edi_envelope::{Moment, OpenFault};
 use edi_tokens::TokenFault;
 use http::StatusCode;
 use http_head::{Head, HeadFault, read_body, read_head};
+use http_routes::Paths;
 use hub_core::{Hub, Outcome, Reply};
 use hub_store::Store;
 use std::alloc::Global;
@@ -234,6 +235,7 @@ fn answer_asked<R: Source, S: Store>(
 // The answer to a head and what follows it.
 fn answer_head<R: Source, S: Store>(
     alloc: Global,
+    paths: &Paths,
     hub: &mut Hub<S>,
     moment: Moment,
     reader: &mut R,
@@ -254,16 +256,16 @@ fn answer_head<R: Source, S: Store>(
     ensures failed { OnErr result (R.failed reader.new ≡ true) }
     ensures kept { OnOk result (R.failed reader.new ≡ R.failed reader.old) }
 {
-    match judge(alloc, hub, head) {
-        Ok(Ok(asking)) => answer_asked(alloc, hub, moment, reader, head.rest(), &asking),
-        Ok(Err(refusal)) => Ok(refused(refusal)),
-        Err(_) => Ok(stopped()),
+    match judge(paths, hub, head) {
+        Ok(asking) => answer_asked(alloc, hub, moment, reader, head.rest(), &asking),
+        Err(refusal) => Ok(refused(refusal)),
     }
 }
 
 /// The answer to a connection.
 pub(crate) fn answer_one<R: Source, S: Store>(
     alloc: Global,
+    paths: &Paths,
     hub: &mut Hub<S>,
     moment: Moment,
     reader: &mut R,
@@ -285,7 +287,7 @@ pub(crate) fn answer_one<R: Source, S: Store>(
     ensures kept { OnOk result (R.failed reader.new ≡ R.failed reader.old) }
 {
     match read_head(reader)? {
-        Some(head) => answer_head(alloc, hub, moment, reader, &head),
+        Some(head) => answer_head(alloc, paths, hub, moment, reader, &head),
         None => Ok(refused(Refusal::BadRequest)),
     }
 }

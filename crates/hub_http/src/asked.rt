@@ -1,5 +1,5 @@
 //! What the head of a request asks for, and who asks.
-ghost use Rattle.std.specs.Prelude.{◌≡◌, Some, option_map, IfOk, IsOk, IsFalse};
+ghost use Rattle.std.specs.Prelude.{◌≡◌, Some, option_map};
 ghost use Rattle.http_head.specs.Fields.{values_of};
 ghost use Rattle.http_routes.specs.Routes.{shown};
 ghost use Rattle.hub_http.specs.Asked as spec;
@@ -11,10 +11,9 @@ use edi_base::{are_digits, value_of};
 use edi_tokens::TEXT_LIMIT;
 use gs1_ids::Gln;
 use http_head::{Head, LONGEST_HEAD, Values};
-use http_routes::{Routed, place_of};
+use http_routes::{Paths, Routed};
 use hub_core::{Hub, Role};
 use hub_store::Store;
-use std::alloc::{AllocError, Global};
 
 /// How many bytes a body has at most: as many as the longest upload.
 const LONGEST_BODY: u32 = TEXT_LIMIT as u32;
@@ -64,13 +63,13 @@ fn has_query(target: &str) -> bool
 }
 
 // The place that a target names.
-fn place_in(alloc: Global, target: &str) -> Result<Option<Routed<'_>>, AllocError>
-    ensures { IfOk result (λ found. option_map shown found ≡ spec.place_in target.now) }
+fn place_in<'h>(paths: &Paths, target: &'h str) -> Option<Routed<'h>>
+    ensures { option_map shown result ≡ spec.place_in target.now }
 {
     if has_query(target) {
-        return Ok(None);
+        return None;
     }
-    place_of(alloc, target)
+    paths.place_of(target)
 }
 
 // Who asks with this GLN and this key.
@@ -193,20 +192,19 @@ fn at_place<'h, S: Store>(
     by_party(hub, routed, sought, head)
 }
 
-/// What a head asks for, and who asks; or why it is refused. Takes no memory where a key or a length stands twice.
+/// What a head asks for, and who asks; or why it is refused. Takes no memory.
 pub(crate) fn judge<'h, S: Store>(
-    alloc: Global,
+    paths: &Paths,
     hub: &Hub<S>,
     head: &'h Head,
-) -> Result<Result<Asking<'h>, Refusal>, AllocError>
-    ensures value { IfOk result (λ asked. asked_or_refused asked ≡ spec.asked_by hub.now.0 head.now) }
-    ensures single { IsFalse (spec.is_single head.now) → IsOk result }
+) -> Result<Asking<'h>, Refusal>
+    ensures { asked_or_refused result ≡ spec.asked_by hub.now.0 head.now }
 {
     if !is_single(head) {
-        return Ok(Err(Refusal::BadRequest));
+        return Err(Refusal::BadRequest);
     }
-    match place_in(alloc, head.target())? {
-        None => Ok(Err(Refusal::Unknown)),
-        Some(routed) => Ok(at_place(hub, routed, head)),
+    match place_in(paths, head.target()) {
+        None => Err(Refusal::Unknown),
+        Some(routed) => at_place(hub, routed, head),
     }
 }

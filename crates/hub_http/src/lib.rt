@@ -9,4 +9,5 @@ mod serve;
 mod sought;
 mod upload;
 
+pub use http_routes::Paths;
 pub use serve::{IoFault, Served, serve_one};

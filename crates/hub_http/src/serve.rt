@@ -12,6 +12,7 @@ use crate::answer::{Answer, Text, answer_one};
 use edi_base::{Sink, Source, WriteFault};
 use edi_envelope::Moment;
 use http_response::write_response;
+use http_routes::Paths;
 use hub_core::Hub;
 use hub_store::Store;
 use std::alloc::Global;
@@ -72,6 +73,7 @@ fn write_answer<W: Sink>(writer: &mut W, answer: &Answer) -> Result<(), WriteFau
 /// body, also where a read fails.
 pub fn serve_one<S: Store, R: Source, W: Sink>(
     alloc: Global,
+    paths: &Paths,
     hub: &mut Hub<S>,
     moment: Moment,
     reader: &mut R,
@@ -98,7 +100,7 @@ pub fn serve_one<S: Store, R: Source, W: Sink>(
     ensures write { result ≡ Err IoFault.Write → W.failed writer.new ≡ true }
     ensures write_kept { result ≢ Err IoFault.Write → W.failed writer.new ≡ W.failed writer.old }
 {
-    let Ok(answer) = answer_one(alloc, hub, moment, reader) else {
+    let Ok(answer) = answer_one(alloc, paths, hub, moment, reader) else {
         return Err(IoFault::Read);
     };
     match write_answer(writer, &answer) {

@@ -57,7 +57,7 @@ const SCRIPT_LIMIT: usize = 64 << 20;
 // Plays the script on standard input.
 fn play<S: Store + Drop, O: Opener<S>>(rt: &HostRuntime, opener: O) -> Result<(), ScriptFault> {
     let text = read_to_limit(rt.alloc(), &mut OfRead::new(rt.stdin()), SCRIPT_LIMIT)?;
-    let mut trial = Trial::<S, O>::new(rt.alloc(), opener);
+    let mut trial = Trial::<S, O>::new(rt.alloc(), opener)?;
     trial.play(rt, text.as_slice(), &mut OfWrite::new(rt.stdout()))
 }
 

@@ -12,7 +12,7 @@ use edi_base::{Items, Sink, copied};
 use edi_envelope::Moment;
 use gs1_ids::Gln;
 use hub_core::{Hub, Input, Reply, Request};
-use hub_http::{IoFault, Served, serve_one};
+use hub_http::{IoFault, Paths, Served, serve_one};
 use hub_register::Register;
 use hub_sql::FoundFault;
 use hub_store::{Store, StoreFault};
@@ -32,6 +32,7 @@ struct Caller {
 #[derive(Drop)]
 pub struct Trial<S: Store + Drop, O: Opener<S>> {
     alloc: Global,
+    paths: Paths,
     opener: O,
     hub: Option<Hub<TrialStore<S>>>,
     caller: Option<Caller>,
@@ -125,25 +126,27 @@ fn ran<S: Store>(hub: &mut Hub<S>, inputs: &[Input]) -> Result<Items<Reply>, Scr
 
 fn served<S: Store>(
     alloc: Global,
+    paths: &Paths,
     hub: &mut Hub<S>,
     moment: Moment,
     mut reader: Incoming<'_>,
     writer: &mut Outgoing,
 ) -> Result<Served, IoFault> {
-    serve_one(alloc, hub, moment, &mut reader, writer)
+    serve_one(alloc, paths, hub, moment, &mut reader, writer)
 }
 
 impl<S: Store + Drop, O: Opener<S>> Trial<S, O> {
     /// No hub yet.
-    pub fn new(alloc: Global, opener: O) -> Self {
-        Trial {
+    pub fn new(alloc: Global, opener: O) -> Result<Self, ScriptFault> {
+        Ok(Trial {
             alloc,
+            paths: Paths::new(alloc)?,
             opener,
             hub: None,
             caller: None,
             run: None,
             quiet: false,
-        }
+        })
     }
 
     /// Plays a script, and prints what it answers.
@@ -307,7 +310,7 @@ impl<S: Store + Drop, O: Opener<S>> Trial<S, O> {
         let hub = self.hub.as_mut().ok_or(ScriptFault::Line)?;
         let mut writer = Outgoing::new(self.alloc, manner)?;
         let reader = Incoming::new(bytes, manner);
-        let served = served(self.alloc, hub, moment, reader, &mut writer);
+        let served = served(self.alloc, &self.paths, hub, moment, reader, &mut writer);
         write_served(self.alloc, served, writer.bytes(), out)
     }
 

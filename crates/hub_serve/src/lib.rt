@@ -8,6 +8,7 @@ mod serve;
 mod timed;
 
 pub use connections::{Connections, Moments, NoConnection, Sides};
+pub use hub_http::Paths;
 pub use line::{Ending, print_listening};
 pub use listening::Listening;
 pub use serve::serve_on;

@@ -10,7 +10,7 @@ use crate::connections::{Connections, Moments, NoConnection};
 use crate::line::{DONE, Ending, FAILED, ending_of, print_line};
 use edi_base::Sink;
 use hub_core::Hub;
-use hub_http::serve_one;
+use hub_http::{Paths, serve_one};
 use hub_store::Store;
 use std::alloc::Global;
 
@@ -21,6 +21,7 @@ struct NoMore;
 // Serves the next connection.
 fn serve_next<L: Connections, S: Store, M: Moments>(
     alloc: Global,
+    paths: &Paths,
     connections: &mut L,
     hub: &mut Hub<S>,
     moments: &mut M,
@@ -46,7 +47,14 @@ fn serve_next<L: Connections, S: Store, M: Moments>(
     let Some(moment) = moments.next() else {
         return Err(NoMore);
     };
-    let ending = ending_of(serve_one(alloc, hub, moment, &mut sides.reader, &mut sides.writer));
+    let ending = ending_of(serve_one(
+        alloc,
+        paths,
+        hub,
+        moment,
+        &mut sides.reader,
+        &mut sides.writer,
+    ));
     connections.end(sides, ending);
     Ok(ending)
 }
@@ -59,6 +67,7 @@ fn serve_next<L: Connections, S: Store, M: Moments>(
 /// be taken or a moment was not known, and then no more are served, and where a line could not be written; else 1.
 pub fn serve_on<L: Connections, S: Store, M: Moments, W: Sink>(
     alloc: Global,
+    paths: &Paths,
     connections: &mut L,
     hub: &mut Hub<S>,
     moments: &mut M,
@@ -81,7 +90,7 @@ pub fn serve_on<L: Connections, S: Store, M: Moments, W: Sink>(
     let mut greatest = DONE;
     let mut number: u64 = 0;
     while number < count {
-        let ending = match serve_next(alloc, connections, hub, moments) {
+        let ending = match serve_next(alloc, paths, connections, hub, moments) {
             Ok(ending) => ending,
             Err(NoMore) => return FAILED,
         };

@@ -5,9 +5,9 @@ use Rattle.hub_http.specs.Asked.{place_in}
 use Rattle.hub_http.proofs.Judging.{asked_single}
 use Rattle.hub_http.proofs.asked.judge.Goals as goal
 
-pub returns-in-Some-clause-value : goal.returns-in-Some-clause-value
-returns-in-Some-clause-value g c =
-    let place = c.in_ok-place_in.ensures in
+pub returns-in-Some : goal.returns-in-Some
+returns-in-Some g c =
+    let place = c.place_in.ensures in
     let single = c.if-not-is_single.ensures in
     c.at_place.ensures
     ∙ asked_single c.args.hub.now.0 c.args.head.now (Some (shown c.in-Some.routed)) (sym single)
