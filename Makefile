@@ -117,20 +117,7 @@ hubs: edihub
 	python3 -m tests.three_hubs crates/edihub/out/edihub
 
 bench: edihub hub_script
-	rustc --edition 2021 -O -o crates/edihub/out/plain bench/plain.rs
-	rustc --edition 2021 -O -o crates/edihub/out/flat bench/flat.rs
-	python3 -m bench.run ./edihub crates/edihub/out/plain crates/edihub/out/flat
-	python3 -m bench.opening ./edihub
-	python3 -m bench.store
-	rustc --edition 2021 -O -o crates/hub_script/out/plain bench/hub.rs
-	python3 -m bench.hub crates/hub_script/out/hub_script crates/hub_script/out/plain
-	if printf 'fn main() {}' | rustc -l sqlite3 -o crates/hub_script/out/empty - 2> crates/hub_script/out/log; then \
-		set -e; \
-		rustc --edition 2021 -O -o crates/hub_script/out/plain_sql bench/sql.rs; \
-		python3 -m bench.sql crates/hub_script/out/hub_script crates/hub_script/out/plain_sql ./edihub; \
-		rustc --edition 2021 -O -o crates/hub_script/out/plain_server bench/server.rs; \
-		python3 -m bench.server crates/hub_script/out/hub_script crates/hub_script/out/plain_server ./edihub; \
-	else echo "no SQLite library to compare with"; fi
+	python3 -m bench ./edihub crates/hub_script/out/hub_script
 
 clean:
 	rm -rf edihub crates/*/out

@@ -1,5 +1,5 @@
 """Files of about so many MB, and what a command over each costs beside the database's own opening of it: instructions, where valgrind
-is there, processor time and memory. Where it is more than a tenth more, the status is 1.
+is there, processor time and memory.
 
     python3 -m bench.opening EDIHUB [MB ..]"""
 import os
@@ -10,6 +10,7 @@ import subprocess
 import sys
 import tempfile
 
+from bench.figures import Figures
 from bench.hub import order
 from tests.harness.hub_scripts import MOMENT, interchange
 from tests.harness.register_texts import ALPHA, BETA, RETAILER, register
@@ -55,27 +56,23 @@ def instructions(words, folder):
     return tuple(next(count for count, name in lines if wanted in name) for wanted in ("PROGRAM TOTALS", OWN))
 
 
-def main(edihub, *sizes):
-    edihub, too_much = os.path.abspath(edihub), False
+def main(figures, edihub, *sizes):
+    edihub = os.path.abspath(edihub)
     for size in map(int, sizes or ["15"]):
         with tempfile.TemporaryDirectory() as folder:
             file_of(edihub, size, folder)
             # a list of entries above the last one
             words = [edihub, "mail", "--db", "hub.db", "--as", BETA, "--key", "beta-key-1", "--moment", MOMENT, "--do", "after", "--n", "0"]
             time, memory = taken(words, folder)
-            told = (
-                f"{os.path.getsize(os.path.join(folder, 'hub.db')) / 1e6:.0f} MB: {time:.2f} s of processor time, "
-                f"{memory:.0f} MB of memory"
-            )
+            size = f"{os.path.getsize(os.path.join(folder, 'hub.db')) / 1e6:.0f} MB"
+            print(f"{size}: {time:.2f} s of processor time, {memory:.0f} MB of memory", flush=True)
             if shutil.which("valgrind"):
                 whole, own = instructions(words, folder)
-                told += f"; {whole / 1e9:.2f} thousand million instructions, {whole / own:.3f} times the database's own opening"
-                too_much |= whole > MOST * own
-            print(told, flush=True)
-    if too_much:
-        print(f"more than {MOST} times the database's own opening")
-    return too_much
+                print(f"{size}: {whole / 1e9:.2f} thousand million instructions", flush=True)
+                figures.tell(f"opening {size}: times the database's own opening", whole / own, MOST, digits=3)
 
 
 if __name__ == "__main__":
-    sys.exit(main(*sys.argv[1:]))
+    told = Figures()
+    main(told, *sys.argv[1:])
+    told.end()

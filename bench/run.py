@@ -1,7 +1,8 @@
-"""Relays the loads of loads.py with the proved program, with plain.rs, which keeps all segments, and with flat.rs, which
-keeps one, one after the other, and prints ratios of instructions (where valgrind is there), of time and of peak memory, and
-the growth from 1/16 of the size to the whole. Then checks a register of 1,000 suppliers beside one of one. Where a bound is
-passed, it says so and ends with status 1."""
+"""Relays the loads of loads.py with the proved program, with plain.rs, which keeps all segments, and with flat.rs, which copies
+in runs of bytes, one after the other: ratios of instructions (where valgrind is there), of time and of peak memory, and the
+growth from 1/16 of the size to the whole. Then checks a register of 1,000 suppliers beside one of one.
+
+    python3 -m bench.run EDIHUB PLAIN FLAT"""
 import os
 import re
 import resource
@@ -12,14 +13,15 @@ import tempfile
 import time
 
 from bench import loads
+from bench.figures import Figures
 
 WORDS = ["relay", "--hub", "5412345000006", "--owner", "4012345500004", "--moment", "1748942400", "--number", "1"]
 ROUNDS = 7
 
-# The bounds: instructions of the flat program at the whole size, growth from 1/16 of it, and MB.
-MOST_INSTRUCTIONS = 2.5
+# The bounds: times the instructions of the flat program at the whole size, and what is accepted; growth from 1/16 of it; MB.
+MOST_INSTRUCTIONS, ACCEPTED_INSTRUCTIONS = 1.5, 2
 MOST_GROWTH = 18
-MOST_MEMORY = 8
+MOST_MEMORY = 4
 
 # The bounds of a check: seconds that 1,000 suppliers take more than one, and MB of address space.
 MOST_CHECK_SECONDS = 0.010
@@ -73,8 +75,8 @@ def measure(programs, text):
     return {it: (min(times[it]), peak(it, text), instructions(it, text)) for it in programs}
 
 
-def size(ours, plain, flat, name, text, data):
-    """Prints the ratios of one load in one size. Gives our instructions, and the bounds passed."""
+def size(ours, plain, flat, name, text, data, figures):
+    """Prints what one load takes in one size. Gives our instructions."""
     with open(text, "wb") as it:
         it.write(data)
     found = measure([ours, plain, flat], text)
@@ -85,18 +87,18 @@ def size(ours, plain, flat, name, text, data):
         f"{name}, {len(data):>9,} bytes: time {seconds / plain_seconds:.2f} of the plain program's and {seconds / flat_seconds:.2f} of the "
         f"flat one's, memory {memory / 1024:.1f} MiB of {plain_memory / 1024:.1f} and {flat_memory / 1024:.1f}"
     )
-    passed = []
+    whole = len(data) > loads.LIMIT // 2
     if count and plain_count and flat_count:
         line += (
             f", instructions {count / plain_count:.2f} and {count / flat_count:.2f} ({count / len(data):.0f} a byte, "
             f"{plain_count / len(data):.0f} in the plain program, {flat_count / len(data):.0f} in the flat one)"
         )
-        if len(data) > loads.LIMIT // 2 and count > MOST_INSTRUCTIONS * flat_count:
-            passed.append(f"{name}: more than {MOST_INSTRUCTIONS} times the instructions of the flat program")
-    if memory * 1024 > MOST_MEMORY * 10**6:
-        passed.append(f"{name}: more than {MOST_MEMORY} MB")
     print(line, flush=True)
-    return count, passed
+    if whole:
+        if count and flat_count:
+            figures.tell(f"relay, {name}: times the flat instructions", count / flat_count, MOST_INSTRUCTIONS, ACCEPTED_INSTRUCTIONS)
+        figures.tell(f"relay, {name}: memory", memory * 1024 / 10**6, MOST_MEMORY, unit=" MB", digits=1)
+    return count
 
 
 def least_room(words):
@@ -107,8 +109,8 @@ def least_room(words):
             return room
 
 
-def check(ours, folder):
-    """Prints what checks of registers take. Gives the bounds passed."""
+def check(ours, folder, figures):
+    """Prints what checks of registers take."""
     found = {count: (os.path.join(folder, f"{count}.toml"), []) for count in (1, 1000)}
     for count, (text, _) in found.items():
         with open(text, "wb") as it:
@@ -120,33 +122,23 @@ def check(ours, folder):
                 sys.exit(f"a check printed {output!r}")
             times.append(seconds)
     more = min(found[1000][1]) - min(found[1][1])
+    figures.tell("check, 1,000 suppliers: more than of one", 1000 * more, 1000 * MOST_CHECK_SECONDS, unit=" ms", digits=1)
     room = least_room([ours, "check", "--register", found[1000][0]])
-    print(f"check of 1,000 suppliers: {1000 * more:.1f} ms more than of one, in {room} MB", flush=True)
-    passed = []
-    if more > MOST_CHECK_SECONDS:
-        passed.append(f"check: more than {1000 * MOST_CHECK_SECONDS:.0f} ms for 1,000 suppliers")
-    if not room or room > MOST_CHECK_MEMORY:
-        passed.append(f"check: more than {MOST_CHECK_MEMORY} MB")
-    return passed
+    figures.tell("check, 1,000 suppliers: address space", room or float("inf"), MOST_CHECK_MEMORY, unit=" MB", digits=0)
 
 
-def main(ours, plain, flat):
-    passed = []
+def main(figures, ours, plain, flat):
     with tempfile.TemporaryDirectory() as room:
         text = os.path.join(room, "load.edi")
         for name, make in loads.LOADS.items():
-            small, few = size(ours, plain, flat, name, text, make(loads.LIMIT // 16))
-            whole, more = size(ours, plain, flat, name, text, make(loads.LIMIT))
-            passed += few + more
+            small = size(ours, plain, flat, name, text, make(loads.LIMIT // 16), figures)
+            whole = size(ours, plain, flat, name, text, make(loads.LIMIT), figures)
             if small and whole:
-                print(f"{name}: 16 times the size, {whole / small:.1f} times the instructions", flush=True)
-                if whole > MOST_GROWTH * small:
-                    passed.append(f"{name}: more than {MOST_GROWTH} times the instructions for 16 times the size")
-        passed += check(ours, room)
-    for line in passed:
-        print(f"past its bound: {line}")
-    return 1 if passed else 0
+                figures.tell(f"relay, {name}: times the instructions of 1/16 of the size", whole / small, MOST_GROWTH, digits=1)
+        check(ours, room, figures)
 
 
 if __name__ == "__main__":
-    sys.exit(main(*sys.argv[1:4]))
+    told = Figures()
+    main(told, *sys.argv[1:4])
+    told.end()

@@ -1,6 +1,6 @@
 """Connections of HTTP to `edihub serve`, and to a plain Rust server over the system's SQLite (server.rs): ratios of processor
-time a connection, for a mail item, a mail list, an upload of one order, a cancellation, and a status of 10,000 lines. Then the memory of
-the server over many connections. Where a bound is passed, it says so and ends with status 1.
+time a connection, for a mail item, a mail list, an upload of one order, a cancellation, and a status of ten lines and of 10,000. Then
+what it takes to begin, over a file with 1,000 suppliers and no order; and the memory of the server over many connections.
 
     python3 -m bench.server crates/hub_script/out/hub_script PLAIN EDIHUB"""
 import os
@@ -9,31 +9,37 @@ import subprocess
 import sys
 import tempfile
 
+from bench.figures import Figures
 from bench.sql import base, close, copied, orders_text, run
 from tests.harness.http_texts import asking
 from tests.harness.hub_scripts import TWO_SUPPLIERS
-from tests.harness.register_texts import ALPHA, RETAILER
+from tests.harness.register_texts import ALPHA, RETAILER, crowd
 
-LINES, MANY = 10_000, 100_000
-# the bounds: times of the plain server, of a status, and by how much memory may grow over the many connections
-MOST, MOST_OF_STATUS, MOST_GROWTH = 2, 1.5, 1.1
+FEW, LINES, MANY = 10, 10_000, 100_000
+# the bounds: times of the plain server, and what is accepted, of a request that reads a little, of a long status, and of one that
+# writes; of a start; and by how much memory may grow over the many connections
+READS, STATUS, WRITES, START, MOST_GROWTH = (1.5, 2), (1.2, 1.5), (2, None), (2, None), 1.1
+SUPPLIERS = 1_000
+# how many starts are measured together, since the system counts in steps of ten milliseconds
+STARTS = 20
 
 
 def each_the_same(request, count):
     return [request] * count
 
 
-# each load, its requests, and its bound
+# each load, the order lines of its file, its requests, and its bounds
 LOADS = {
-    "a mail item": (each_the_same(asking("GET", f"/p/{ALPHA}/mail/item/7", ALPHA), 3_000), MOST),
-    "a mail list of 100 entries": (each_the_same(asking("GET", f"/p/{ALPHA}/mail/after/0", ALPHA), 2_000), MOST),
+    "a mail item": (LINES, each_the_same(asking("GET", f"/p/{ALPHA}/mail/item/7", ALPHA), 3_000), READS),
+    "a mail list of 100 entries": (LINES, each_the_same(asking("GET", f"/p/{ALPHA}/mail/after/0", ALPHA), 2_000), READS),
+    f"a status of {FEW} lines": (FEW, each_the_same(asking("GET", f"/p/{ALPHA}/status", ALPHA), 3_000), READS),
+    f"a status of {LINES:,} lines": (LINES, each_the_same(asking("GET", f"/p/{ALPHA}/status", ALPHA), 40), STATUS),
     "an upload of one order": (
-        [asking("POST", f"/p/{RETAILER}/interchanges", RETAILER, orders_text(1, 50_000 + k)) for k in range(999)], MOST
+        LINES, [asking("POST", f"/p/{RETAILER}/interchanges", RETAILER, orders_text(1, 50_000 + k)) for k in range(999)], WRITES
     ),
     "a cancellation": (
-        [asking("POST", f"/p/{RETAILER}/cancellations", RETAILER, f"{ALPHA}\nC{k}\n{k:08}\n1\n1\n") for k in range(999)], MOST
+        LINES, [asking("POST", f"/p/{RETAILER}/cancellations", RETAILER, f"{ALPHA}\nC{k}\n{k:08}\n1\n1\n") for k in range(999)], WRITES
     ),
-    f"a status of {LINES:,} lines": (each_the_same(asking("GET", f"/p/{ALPHA}/status", ALPHA), 40), MOST_OF_STATUS),
 }
 NOTHING = asking("GET", f"/p/{ALPHA}/mail/item/999999", ALPHA)
 
@@ -92,43 +98,55 @@ def grows(words, folder, top):
         if place in (MANY // 100, MANY - 2):
             found.append(memory(child))
 
-    served(words, copied(folder, top), [LOADS["a mail item"][0][0]] * MANY, look)
+    served(words, copied(folder, top), [LOADS["a mail item"][1][0]] * MANY, look)
     return found
 
 
-def main(script, plain, edihub):
+def file_of(script, lines, top):
+    """A hub's file with so many order lines, and its register."""
+    folder = tempfile.mkdtemp(dir=top)
+    run(script, base(lines), folder)
+    close(folder)
+    with open(os.path.join(folder, "register.toml"), "w", encoding="ascii") as file:
+        file.write(TWO_SUPPLIERS)
+    return folder
+
+
+def starts(words, edihub, top):
+    """The processor seconds of starts over a file with 1,000 suppliers, each with one connection, of each program."""
+    folder = tempfile.mkdtemp(dir=top)
+    with open(os.path.join(folder, "register.toml"), "w", encoding="ascii") as file:
+        file.write(crowd(SUPPLIERS))
+    init = [edihub, "init", "--register", "register.toml", "--db", "hub.db"]
+    subprocess.run(init, cwd=folder, check=True, stdout=subprocess.DEVNULL)
+    request = asking("GET", f"/p/{RETAILER}/mail/item/999999", RETAILER)
+    return [sum(served(it, copied(folder, top), [request])[0] for _ in range(STARTS)) / STARTS for it in words]
+
+
+def main(figures, script, plain, edihub):
     script, plain, edihub = (os.path.abspath(it) for it in (script, plain, edihub))
-    too_much = False
-    words = {
-        edihub: lambda port, count: [edihub, "serve", "--db", "hub.db", "--port", str(port), "--count", str(count)],
-        plain: lambda port, count: [plain, "register.toml", "hub.db", str(port), str(count)],
-    }
+    words = (
+        lambda port, count: [edihub, "serve", "--db", "hub.db", "--port", str(port), "--count", str(count)],
+        lambda port, count: [plain, "register.toml", "hub.db", str(port), str(count)],
+    )
     with tempfile.TemporaryDirectory() as top:
-        folder = tempfile.mkdtemp(dir=top)
-        run(script, base(LINES), folder)
-        close(folder)
-        with open(os.path.join(folder, "register.toml"), "w", encoding="ascii") as file:
-            file.write(TWO_SUPPLIERS)
-        for name, (requests, bound) in LOADS.items():
-            (time, answer), (plain_time, plain_answer) = (cost(words[program], folder, requests, top) for program in (edihub, plain))
+        folders = {lines: file_of(script, lines, top) for lines in (FEW, LINES)}
+        for name, (lines, requests, (bound, at_most)) in LOADS.items():
+            (time, answer), (plain_time, plain_answer) = (cost(it, folders[lines], requests, top) for it in words)
             if answer != plain_answer:
                 sys.exit(f"{name}: the two servers answer otherwise")
-            ratio, count = time / plain_time, len(requests)
-            print(
-                (
-                    f"{name}: processor time {ratio:.2f} of the plain server's ({1e6 * time / count:.0f} of {1e6 * plain_time / count:.0f} "
-                    "microseconds)"
-                ),
-                flush=True,
-            )
-            too_much |= ratio > bound
-        early, late = grows(words[edihub], folder, top)
+            each = 1e6 / len(requests)
+            print(f"{name}: {each * time:.0f} microseconds of processor time, {each * plain_time:.0f} of the plain server's", flush=True)
+            figures.tell(f"serve, {name}: times the plain server", time / plain_time, bound, at_most)
+        time, plain_time = starts(words, edihub, top)
+        print(f"a start: {1e3 * time:.1f} milliseconds of processor time, {1e3 * plain_time:.1f} of the plain server's", flush=True)
+        figures.tell(f"serve, a start with {SUPPLIERS:,} suppliers: times the plain server", time / plain_time, *START)
+        early, late = grows(words[0], folders[LINES], top)
         print(f"memory: {early:.1f} MB after {MANY // 100:,} connections, {late:.1f} MB after {MANY:,}")
-        too_much |= late > MOST_GROWTH * early
-    if too_much:
-        print(f"more than {MOST} times the plain server's processor time, {MOST_OF_STATUS} for a status, or memory that grows")
-    return too_much
+        figures.tell("serve, memory over many connections: growth", late / early, MOST_GROWTH)
 
 
 if __name__ == "__main__":
-    sys.exit(main(*sys.argv[1:]))
+    told = Figures()
+    main(told, *sys.argv[1:])
+    told.end()

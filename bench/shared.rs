@@ -1,7 +1,9 @@
 //! What the plain programs share: the characters of a text, its service string, what an envelope asks, the date and
 //! time of a moment, and how a text is relayed.
 use std::collections::HashSet;
+use std::fs::File;
 use std::io::{Read, Write};
+use std::os::fd::AsFd;
 
 pub const TEXT_LIMIT: usize = 1_048_576;
 pub const SEGMENT_LIMIT: usize = 8_192;
@@ -139,7 +141,8 @@ pub fn relayed(relay: impl FnOnce(&Words, &[u8]) -> Result<Vec<u8>, Fault>) {
     let mut text = Vec::new();
     std::io::stdin().take(TEXT_LIMIT as u64 + 1).read_to_end(&mut text).unwrap();
     match relay(&words, &text) {
-        Ok(out) => std::io::stdout().write_all(&out).unwrap(),
+        // standard output as a file, which looks for no line ends
+        Ok(out) => File::from(std::io::stdout().as_fd().try_clone_to_owned().unwrap()).write_all(&out).unwrap(),
         Err(fault) => {
             eprintln!("refused {fault}");
             std::process::exit(1);

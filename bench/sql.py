@@ -1,8 +1,7 @@
 """Despatches of ten lines, and 999 orders in one upload and in as many, on the proved hub over a file of SQL (`hub_script file`) and
 on a plain Rust program over the system's SQLite (sql.rs), with few and with many lines of the supplier: ratios of processor
-time a message, how it grows with the lines, and syncs a message. Then what opening a file costs, by its size and by its register. Where a
-bound is passed, it says so and ends with status 1. Last, `edihub import` of 999 orders in one file and in as many, beside the plain
-program's uploads of the same.
+time a message, how it grows with the lines, and syncs a message. Then what opening a file costs, by its size and by its register.
+Last, `edihub import` of 999 orders in one file and in as many, beside the plain program's uploads of the same.
 
     python3 -m bench.sql crates/hub_script/out/hub_script PLAIN EDIHUB"""
 import os
@@ -12,6 +11,7 @@ import subprocess
 import sys
 import tempfile
 
+from bench.figures import Figures
 from bench.hub import begun, despatch, order, sent, since_first
 from tests.harness.hub_scripts import MOMENT, Play, interchange
 from tests.harness.register_texts import ALPHA, BETA, RETAILER, gln, register
@@ -137,9 +137,9 @@ def opening(program, folder, top):
     print(f"opening a file of {size / 1e6:.0f} MB: {1000 * time:.0f} ms of processor time, {memory:.0f} MB of memory", flush=True)
 
 
-def by_register(edihub, top):
+def by_register(figures, edihub, top):
     """What a register costs as a file is opened: of two suppliers without orders and with 10,000, and of 1,000 suppliers with eight
-    prefixes each. Whether all that the first costs is more than a tenth of what the second does."""
+    prefixes each. All that the first costs is to be at most a tenth of what the second does."""
     few = register((ALPHA, "40123455", "alpha-key-1"), (BETA, "8712345", "beta-key-1"))
     many = register(*((gln(k), [f"4{k:03}{last}00" for last in range(8)], f"key-{k:04}") for k in range(1000)))
     uploads = [orders_text(min(999, 10_000 - first), first) for first in range(0, 10_000, 999)]
@@ -159,8 +159,7 @@ def by_register(edihub, top):
     alone = opened_with("2 suppliers without orders", few, BETA, "beta-key-1")
     among = opened_with("2 suppliers with 10,000 orders", few, BETA, "beta-key-1", uploads)
     opened_with("1,000 suppliers of eight prefixes without orders", many, gln(7), "key-0007")
-    print(f"all that opening costs without orders is {alone / among:.3f} of what it costs with them")
-    return alone > MOST_OF_REGISTER * among
+    figures.tell("opening without orders, of what it is with 10,000", alone / among, MOST_OF_REGISTER, digits=3)
 
 
 def importing(edihub, folder, uploads, top):
@@ -182,10 +181,10 @@ def import_syncs(edihub, folder, uploads, top, shim):
         return int(file.read().split()[1])
 
 
-def imported(edihub, plain, folder, plain_folder, lines, top, shim):
-    """An import of 999 orders, in one file and in as many, beside the plain program's uploads of the same. Whether it is too much:
-    also where the one file takes more memory than twice its size beside what the store takes for as many small ones."""
-    too_much, memory = False, {}
+def imported(figures, edihub, plain, folder, plain_folder, lines, top, shim):
+    """An import of 999 orders, in one file and in as many, beside the plain program's uploads of the same. The one file may take as
+    much memory as twice its size beside what the store takes for as many small ones."""
+    memory = {}
     for name, load in (("one file", orders_in_one), ("999 files", orders_each)):
         uploads = [orders_text(999, 50_000)] if load is orders_in_one else [orders_text(1, 50_000 + k) for k in range(999)]
         runs = []
@@ -194,24 +193,21 @@ def imported(edihub, plain, folder, plain_folder, lines, top, shim):
             runs.append(since_first(words, into)[:3])
             shutil.rmtree(into)
         time, before, most = min(runs)
-        ratio = time / cost(plain, plain_folder, load(lines), top)[0]
+        plain_time = cost(plain, plain_folder, load(lines), top)[0]
         each = (import_syncs(edihub, folder, uploads, top, shim) - import_syncs(edihub, folder, [], top, shim)) / 999
         largest = max(map(len, uploads)) / 1e6
-        print(
-            (
-                f"an import of 999 orders in {name}, among {lines:,}: processor time {ratio:.2f} of the plain program's, {each:.1f} syncs "
-                f"an order, {most:.1f} MB of memory, {before:.1f} of them for the open file, the largest file read {largest:.2f} MB"
-            ),
-            flush=True,
-        )
-        too_much |= ratio > MOST or each > MOST_SYNCS
+        what = f"an import of 999 orders in {name}, among {lines:,}"
+        print(f"{what}: {most:.1f} MB of memory, {before:.1f} of them for the open file, the largest file read {largest:.2f} MB", flush=True)
+        figures.tell(f"{what}: times the plain program", time / plain_time, MOST)
+        figures.tell(f"{what}: syncs an order", each, MOST_SYNCS, digits=1)
         memory[name] = most - 2 * largest
-    return too_much or memory["one file"] > memory["999 files"] + ROOM
+    more = memory["one file"] - memory["999 files"]
+    figures.tell(f"an import of one file, among {lines:,}: more than of small ones", more, ROOM, unit=" MB", digits=1)
 
 
-def main(ours, plain, edihub):
+def main(figures, ours, plain, edihub):
     ours, plain, edihub = (os.path.abspath(it) for it in (ours, plain, edihub))
-    too_much, times = False, {}
+    times = {}
     with tempfile.TemporaryDirectory() as top:
         shim = built(STOP, top)
         for lines in LINES:
@@ -227,34 +223,25 @@ def main(ours, plain, edihub):
                 )
                 if output != plain_output:
                     sys.exit(f"{name}, {lines} lines: the two programs print different replies")
-                ratio, times[name, lines] = time / plain_time, time
+                times[name, lines] = time
                 each = (syncs(ours, folders[0], play.script, top, shim) - syncs(ours, folders[0], opened().script, top, shim)) / count
-                print(
-                    (
-                        f"{name}, among {lines:,}: processor time {ratio:.2f} of the plain program's ({1e6 * time / count:.0f} of "
-                        f"{1e6 * plain_time / count:.0f} microseconds), {each:.1f} syncs"
-                    ),
-                    flush=True,
-                )
-                too_much |= ratio > MOST or each > MOST_SYNCS
-            too_much |= imported(edihub, plain, *folders, lines, top, shim)
+                what = f"{name}, among {lines:,}"
+                print(f"{what}: {1e6 * time / count:.0f} microseconds of processor time, {1e6 * plain_time / count:.0f} in the plain program")
+                figures.tell(f"{what}: times the plain program", time / plain_time, MOST)
+                figures.tell(f"{what}: syncs a message", each, MOST_SYNCS, digits=1)
+            imported(figures, edihub, plain, *folders, lines, top, shim)
         for lines in OPENED:
             folder = tempfile.mkdtemp(dir=top)
             run(ours, base(lines), folder)
             close(folder)
             opening(ours, folder, top)
-        too_much |= by_register(edihub, top)
+        by_register(figures, edihub, top)
     for name in LOADS:
         growth = times[name, LINES[-1]] / times[name, LINES[0]]
-        print(f"{name}: from {LINES[0]} to {LINES[-1]:,} lines it grows by {growth:.2f}")
-        too_much |= growth > MOST_GROWTH
-    if too_much:
-        print(
-            f"more than {MOST} times the processor time of the plain program, {MOST_SYNCS} syncs a message, a growth of {MOST_GROWTH}, or "
-            f"{MOST_OF_REGISTER} of an opening for the register"
-        )
-    return too_much
+        figures.tell(f"{name}: growth from {LINES[0]} to {LINES[-1]:,} lines", growth, MOST_GROWTH)
 
 
 if __name__ == "__main__":
-    sys.exit(main(*sys.argv[1:]))
+    told = Figures()
+    main(told, *sys.argv[1:])
+    told.end()
