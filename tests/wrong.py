@@ -276,7 +276,9 @@ def check_told(lines):
     judged = next((it for it in reversed(lines) if it.startswith("logic=")), lines[-1])
     if unread or not judged.startswith("logic=not-proved"):
         return NOT_REFUSED, f"it cannot be read: {unread or judged}"
-    first = next((it for it in errors if not re.match(BY_NAMES, it)), "")
+    # a goal that is looked for and not found is told as no error
+    unfound = (it for it in lines if re.match(r"fn \S+: no proof: .*did not prove", it))
+    first = next((it for it in errors if not re.match(BY_NAMES, it)), "") or next(unfound, "")
     return (REFUSED, first) if first else (NAMES_ALONE, (errors or [""])[0])
 
 
