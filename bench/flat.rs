@@ -8,8 +8,8 @@ use std::collections::HashSet;
 mod shared;
 
 use shared::{
-    Fault, SEGMENT_LIMIT, Service, TEXT_LIMIT, USUAL, Words, clock, count_of, is_head, is_part, is_reference, is_tag_byte, relayed,
-    service_in_front,
+    Class, Fault, SEGMENT_LIMIT, Service, TEXT_LIMIT, USUAL, Words, classes, clock, count_of, is_head, is_part, is_reference, is_tag_byte,
+    relayed, service_in_front,
 };
 
 /// What a byte of data is to the copy of a segment.
@@ -34,17 +34,16 @@ fn is_usual(b: u8) -> bool {
 }
 
 fn steps(service: &Service) -> [Step; 256] {
-    let mut table = [Step::Bad; 256];
-    for b in (0..=255).filter(|&b| is_data(b)) {
-        table[b as usize] = if is_usual(b) { Step::Released } else { Step::Plain };
-    }
-    table[service.component as usize] = Step::Component;
-    table[service.element as usize] = Step::Element;
-    table[service.terminator as usize] = Step::Terminator;
-    if let Some(r) = service.release {
-        table[r as usize] = Step::Release;
-    }
-    table
+    let classes = classes(service);
+    std::array::from_fn(|b| match classes[b] {
+        Class::Data if is_usual(b as u8) => Step::Released,
+        Class::Data => Step::Plain,
+        Class::Component => Step::Component,
+        Class::Element => Step::Element,
+        Class::Terminator => Step::Terminator,
+        Class::Release => Step::Release,
+        Class::Bad => Step::Bad,
+    })
 }
 
 fn write_number(out: &mut Vec<u8>, number: u64) {
