@@ -1,11 +1,11 @@
 -- Lists that stand one after another in one list, with the place where each ends.
 use Rattle.std.proofs.Common.{◌≡◌, ◌<◌, ◌≤◌, ◌-◌, ◌+◌, ℕ, zero, suc, List, [], ◌∷◌, ◌++◌, length, take, drop, get_or, set, refl, sym, ap}
-use Rattle.std.proofs.Common.{subst, ◌∙◌, arith, inl, inr}
+use Rattle.std.proofs.Common.{subst, ◌∙◌, append_assoc, arith, inl, inr}
 use Rattle.std.proofs.lemmas.List.{take_all, take-append-le, drop-append-le, drop-drop, length-drop, length-take, length-append}
-use Rattle.std.proofs.lemmas.List.{take-append-drop, drop_all, take-take, drop-take, nil_from_length, length-take-le, take_more_set}
+use Rattle.std.proofs.lemmas.List.{take-append-drop, drop_all, take-take, drop-take, nil_from_length, length-take-le, take_more_set, take_at}
 use Rattle.std.proofs.lemmas.List.{get_or-take, get_or-drop, get_or_past}
 use Rattle.std.proofs.lemmas.Bool.{cases_order}
-use Rattle.std.proofs.lemmas.Slice.{take-put_mid}
+use Rattle.std.specs.Prelude.{nat_eq, ◌==◌}
 use borrow.Rule.Slice.PartMut.{put_mid, post_of}
 use Rattle.edi_segments.specs.Spelling.{without_empty_end}
 use Rattle.edi_segments.specs.Flat.{cut_from, cut, Rise, IsKept, IsLeft, IsFlat, flat_open}
@@ -86,6 +86,10 @@ get_or-cut low (end ∷ ends) high (suc i) n xs r lt is =
     let sum : (end - low) + (from - end) ≡ n = omega (arith, r.0, at.0) in
     get_or-cut end ends high i (from - end) (drop (end - low) xs) r.1 (omega arith) next
     ∙ ap (λ l. take (get_or ends i 0 - from) l) (drop-drop (from - end) (end - low) xs ∙ ap (λ (n : ℕ). drop n xs) sum)
+
+-- two places are one where nothing stands between them
+pub equal_from_none : (from to between : ℕ) → from ≤ to → between ≡ to - from → nat_eq from to ≡ (between == 0)
+equal_from_none from to between le is = grind (arith, is)
 
 -- ---- the lists that are left without the empty ones at the end
 
@@ -377,27 +381,32 @@ module _ (bytes ends element_ends : List ℕ) (filled components elements from e
         length = o.length;
       }
 
--- bytes that are copied behind those so far
-pub bytes_more : (items held copied bytes : List ℕ) (len filled room : ℕ) → len ≡ length items → held ≡ items → copied ≡ bytes
-    → filled + length bytes ≤ len
-    → take (filled + length bytes) (take len (put_mid filled room held copied ++ drop (length (put_mid filled room held copied)) items))
-    ≡ take filled items ++ bytes
-bytes_more items held copied bytes len filled room whole same is fits =
-    let long : length copied ≡ length bytes = ap length is in
+-- the front of what was copied behind those so far
+pub part_more : (items held copied bytes rest : List ℕ) (len filled room count : ℕ) → len ≡ length items → held ≡ items
+    → copied ≡ take count bytes ++ rest → count ≤ length bytes → filled + count ≤ len
+    → take (filled + count) (take len (put_mid filled room held copied ++ drop (length (put_mid filled room held copied)) items))
+    ≡ take filled items ++ take count bytes
+part_more items held copied bytes rest len filled room count whole same is within fits =
     let held_long : length held ≡ length items = ap length same in
+    let front : length (take count bytes) ≡ count = length-take-le count bytes within in
     let written : List ℕ = put_mid filled room held copied in
-    let enough : filled + length bytes ≤ length written =
+    let all : written ≡ take filled held ++ (take count bytes ++ (rest ++ post_of filled room held)) =
+    ap (λ l. take filled held ++ (l ++ post_of filled room held)) is
+    ∙ ap (λ l. take filled held ++ l) (append_assoc (take count bytes) rest (post_of filled room held)) in
+    let begun : length (take filled held) ≡ filled = length-take-le filled held (omega arith) in
+    let enough : filled + count ≤ length written =
     omega (
       arith,
-      length-append (take filled held) (copied ++ post_of filled room held),
-      length-append copied (post_of filled room held),
-      length-take-le filled held (omega arith),
+      ap length all,
+      length-append (take filled held) (take count bytes ++ (rest ++ post_of filled room held)),
+      length-append (take count bytes) (rest ++ post_of filled room held),
     ) in
-    take-take (filled + length bytes) len (written ++ drop (length written) items) fits
-    ∙ take-append-le (filled + length bytes) written (drop (length written) items) enough
-    ∙ take-put_mid filled room held copied (filled + length bytes) (omega arith) (omega arith)
-    ∙ ap (λ l. take filled l ++ copied) same
-    ∙ ap (λ l. take filled items ++ l) is
+    take-take (filled + count) len (written ++ drop (length written) items) fits
+    ∙ take-append-le (filled + count) written (drop (length written) items) enough
+    ∙ ap (take (filled + count)) (all ∙ sym (append_assoc (take filled held) (take count bytes) (rest ++ post_of filled room held)))
+    ∙ take_at (take filled held ++ take count bytes) (rest ++ post_of filled room held) (filled + count)
+    (omega (arith, length-append (take filled held) (take count bytes)))
+    ∙ ap (λ l. take filled l ++ take count bytes) same
 
 -- ---- the parts of the elements that are left
 

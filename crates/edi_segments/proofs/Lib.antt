@@ -3,3 +3,5 @@ pub mod EmptyEnd
 pub mod Runs
 pub mod Pieces
 pub mod Flat
+pub mod Table
+pub mod OpenText

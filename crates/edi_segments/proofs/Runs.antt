@@ -1,5 +1,5 @@
 -- The bytes of a text, a run of them at a time.
-use Rattle.std.proofs.Common.{◌≡◌, ℕ, ◌+◌, ◌-◌, ◌≤◌, ◌<◌, Bool, true, false, List, [], ◌∷◌, ◌++◌, length, take, drop}
+use Rattle.std.proofs.Common.{◌≡◌, ℕ, ◌+◌, ◌≤◌, ◌<◌, Bool, true, false, List, [], ◌∷◌, ◌++◌, length, take, drop}
 use Rattle.std.proofs.Common.{Result, Ok, Err, min, refl, sym, ap, subst, ◌∙◌, append_assoc, arith}
 use Rattle.std.specs.Prelude.{◌==◌, ◌&&◌, not, nat_lt, if◌then◌else◌}
 use Rattle.std.proofs.lemmas.List.{append-nil, take-append-drop, length-take, take_min}
@@ -11,21 +11,21 @@ use Rattle.edi_segments.specs.declared.fault.TokenFault.{TokenFault}
 use Rattle.edi_segments.specs.declared.fault.TokenFault.TheVariants.{TooLong, ServiceString, Byte, Cut, Tag, LongSegment, Read, Memory}
 use Rattle.edi_segments.specs.Characters.{is_data, is_special}
 use Rattle.edi_segments.specs.Spelling.{text_limit, segment_limit}
-use Rattle.edi_segments.specs.Reading.{Open, Reading, InData, ◌>>=◌, start, step, within, with_byte, run, finish, tokens_of, Fails}
+use Rattle.edi_segments.specs.Reading.{Open, Reading, InData, ◌>>=◌, start, step, with_byte, run, finish, tokens_of, Fails}
 use Rattle.edi_segments.specs.OpenSegment.{with_bytes}
 use Rattle.edi_segments.specs.Plain.{is_plain, are_plain}
 
-take-take_le : (n m : ℕ) (xs : List ℕ) → n ≤ m → take n (take m xs) ≡ take n xs
+pub take-take_le : (n m : ℕ) (xs : List ℕ) → n ≤ m → take n (take m xs) ≡ take n xs
 take-take_le n m xs le = grind (arith, common_steps)
 
 is_less : (m n : ℕ) → m < n → nat_lt m n ≡ true
 is_less m n lt = grind arith
 
-left_true : (x y : Bool) → (x && y) ≡ true → x ≡ true
+pub left_true : (x y : Bool) → (x && y) ≡ true → x ≡ true
 left_true true y e = refl
 left_true false y e = e
 
-right_true : (x y : Bool) → (x && y) ≡ true → y ≡ true
+pub right_true : (x y : Bool) → (x && y) ≡ true → y ≡ true
 right_true true y e = e
 right_true false y e = absurd cc
 
@@ -97,22 +97,15 @@ run_plain service segments o (b ∷ bytes) short plain =
     ap (λ (s : Result Reading TokenFault). s >>= λ next. run next bytes) one ∙ others ∙ rw (c, l) refl
 
 -- the bytes that a reader in data takes at once
-pub run_window : (service : Service) (segments : List Segment) (o p : Open) (bytes : List ℕ) (window count : ℕ)
-    → o.length ≤ segment_limit
-    → window ≡ min (length bytes) (segment_limit - o.length)
-    → count ≤ length (take window bytes)
-    → are_plain service (take count (take window bytes)) ≡ true
-    → p ≡ with_bytes o (take count (take window bytes))
+pub run_taken : (service : Service) (segments : List Segment) (o p : Open) (bytes : List ℕ) (count : ℕ)
+    → o.length + count ≤ segment_limit
+    → are_plain service (take count bytes) ≡ true
+    → p ≡ with_bytes o (take count bytes)
     → run (record { service = service; segments = segments; place = InData o }) (take count bytes)
     ≡ Ok (record { service = service; segments = segments; place = InData p })
-run_window service segments o p bytes window count short w within plain after =
-    let small : count ≤ window = omega (arith, length-take window bytes) in
-    let same : take count (take window bytes) ≡ take count bytes = take-take_le count window bytes small in
-    let fits : o.length + length (take count (take window bytes)) ≤ segment_limit = omega (arith, length-take count (take window bytes)) in
+run_taken service segments o p bytes count fits plain after =
     let made : Open → Result Reading TokenFault = λ (q : Open). Ok (record { service = service; segments = segments; place = InData q }) in
-    ap (run (record { service = service; segments = segments; place = InData o })) (sym same)
-    ∙ run_plain service segments o (take count (take window bytes)) fits plain
-    ∙ ap made (sym after)
+    run_plain service segments o (take count bytes) (omega (arith, length-take count bytes)) plain ∙ ap made (sym after)
 
 -- the front of a text within the limit
 front_is : (text : List ℕ) (n limit : ℕ) → n ≡ min (length text) limit → take n text ≡ take limit text

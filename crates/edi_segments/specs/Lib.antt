@@ -3,10 +3,13 @@ pub mod Characters
 pub mod Service
 pub mod Spelling
 pub mod Reading
-pub mod OpenSegment
 pub mod Plain
+pub mod Text
+pub mod ServiceTable
 pub mod Code
 pub mod Flat
 pub mod FlatSegment
+pub mod SegmentText
+pub mod OpenSegment
 pub mod Machine
 pub mod SegmentRef

@@ -1,6 +1,9 @@
--- The open segment, with a run of data.
-use Rattle.std.specs.Prelude.{ℕ, ◌+◌, List, ◌++◌, length}
+-- The open segment, as its parts and its text have it; and with a run of data.
+use Rattle.std.specs.Prelude.{◌≡◌, ℕ, ◌+◌, List, ◌++◌, length, IfSome}
+use Rattle.edi_segments.specs.declared.open_segment.OpenSegment.TheInside.{Inside}
 use Rattle.edi_segments.specs.Reading.{Open}
+use Rattle.edi_segments.specs.Text.{open_text}
+use Rattle.edi_segments.specs.SegmentText.{HasRoom, text_in}
 
 -- the open segment with data bytes that no release character stands before
 abbrev pub with_bytes : Open → List ℕ → Open
@@ -12,3 +15,11 @@ with_bytes o bytes =
       component = o.component ++ bytes;
       length = o.length + length bytes;
     }
+
+abbrev pub open_in : Inside → Open
+open_in s = s.parts
+
+-- the text is right where it is kept
+pub record IsSound (s : Inside) : Type 0 where
+  pub room : HasRoom s.text
+  pub kept : IfSome (text_in s.text) (λ text. text ≡ open_text s.parts)

@@ -2,13 +2,13 @@
 use Rattle.std.specs.Prelude.{Option, Some, None, Result, Ok, Err}
 use Rattle.edi_segments.specs.declared.segment_ref.SegmentRef.{SegmentRef}
 use Rattle.edi_segments.specs.declared.segment_ref.Form.{Form}
-use Rattle.edi_segments.specs.declared.segment_ref.Form.TheVariants.{Flat, Kept}
+use Rattle.edi_segments.specs.declared.segment_ref.Form.TheVariants.{Open, Kept}
 use Rattle.edi_segments.specs.declared.segment.Segment.{Segment}
 use Rattle.edi_segments.specs.declared.fault.TokenFault.{TokenFault}
 use Rattle.edi_segments.specs.Machine.{segment_of}
 
 abbrev pub segment_of_form : Form → Segment
-segment_of_form (Flat segment) = segment_of segment.now
+segment_of_form (Open segment) = segment_of segment.now
 segment_of_form (Kept segment) = segment.now
 
 abbrev pub segment_in : SegmentRef → Segment

@@ -1,10 +1,12 @@
 //! A segment whose data has begun, kept flat: its bytes in one buffer, and the places where components and elements
 //! end. Its buffers are made once, so that no later call takes memory.
 
-ghost use Rattle.std.specs.Prelude.{◌≡◌, ◌+◌, ◌≤◌, ◌<◌, [], ◌∷◌, length, slice_index, slice_range, IfOk};
+ghost use Rattle.std.specs.Prelude.{◌≡◌, ◌==◌, ◌&&◌, not, ◌+◌, ◌≤◌, ◌<◌, [], ◌∷◌, ◌++◌, length, take, drop, IsTrue, slice_index, slice_range, IfOk};
 ghost use Rattle.edi_segments.specs.Spelling.{segment_limit, without_empty_end};
 ghost use Rattle.edi_segments.specs.Flat.{IsLeft};
+ghost use Rattle.edi_segments.specs.ServiceTable.{are_run};
 
+use crate::service_table::ServiceTable;
 use edi_base::MemoryFault;
 use std::alloc::Global;
 use std::marker::Model;
@@ -125,15 +127,58 @@ impl FlatSegment {
         self.size
     }
 
-    /// Takes bytes of data.
-    pub(crate) fn extend(&mut self, bytes: &[u8])
-        requires { self.old.length + length bytes.now ≤ segment_limit }
-        ensures { self.new ≡ with_bytes self.old bytes.now }
+    /// Whether nothing has come of the open component.
+    fn is_component_empty(&self) -> bool
+        ensures { result ≡ (length self.now.component == 0) }
     {
-        let end = self.filled + bytes.len();
-        self.bytes[self.filled..end].copy_from_slice(bytes);
-        self.filled = end;
-        self.size += bytes.len();
+        self.component_from == self.filled
+    }
+
+    /// Whether the open component is the first of its element.
+    fn is_first_component(&self) -> bool
+        ensures { result ≡ (length self.now.element == 0) }
+    {
+        self.element_from == self.components
+    }
+
+    /// Whether the open element is closed with an empty component dropped behind others.
+    pub(crate) fn drops_component(&self) -> bool
+        ensures { result ≡ ((length self.now.component == 0) && not (length self.now.element == 0)) }
+    {
+        self.is_component_empty() && !self.is_first_component()
+    }
+
+    /// How many elements are closed, with the empty ones at the end.
+    fn closed_elements(&self) -> usize
+        ensures { result ≡ length self.now.elements }
+    {
+        self.elements
+    }
+
+    /// Whether nothing has come behind the last element that is closed, and none at the end is dropped.
+    pub(crate) fn is_whole(&self) -> bool
+        ensures { result ≡ ((length self.now.element == 0 && length self.now.component == 0)
+            && length (without_empty_end self.now.elements) == length self.now.elements) }
+    {
+        self.is_first_component()
+            && self.is_component_empty()
+            && self.elements() == self.closed_elements()
+    }
+
+    /// Takes the bytes at the front that stand for themselves, in the text and in its canonical one, and copies them to
+    /// another place too. How many.
+    pub(crate) fn take_run(&mut self, service: &ServiceTable, bytes: &[u8], too: &mut [u8]) -> usize
+        requires fits { self.old.length + length bytes.now ≤ segment_limit }
+        requires room { length bytes.now ≤ length too.old }
+        ensures within { result ≤ length bytes.now }
+        ensures run { IsTrue (are_run service.now (take result bytes.now)) }
+        ensures taken { self.new ≡ with_bytes self.old (take result bytes.now) }
+        ensures copied { too.new ≡ take result bytes.now ++ drop result too.old }
+    {
+        let count = service.copy_run(bytes, &mut self.bytes[self.filled..], too);
+        self.filled += count;
+        self.size += count;
+        count
     }
 
     /// Takes a byte of data.

@@ -7,9 +7,11 @@ ghost use Rattle.edi_segments.specs.Machine.{Gives, StopsAt};
 
 use crate::characters::{is_capital, is_data, is_digit, is_line_end};
 use crate::fault::TokenFault;
-use crate::flat_segment::{FlatSegment, SEGMENT_LIMIT};
+use crate::flat_segment::SEGMENT_LIMIT;
+use crate::open_segment::OpenSegment;
 use crate::segment::Service;
 use crate::segment_ref::SegmentRef;
+use crate::service_table::ServiceTable;
 use edi_base::MemoryFault;
 use std::alloc::Global;
 
@@ -32,7 +34,7 @@ enum Place {
 #[derive(Drop)]
 pub struct Machine {
     /// The service characters, as far as they are known.
-    pub service: Service,
+    pub service: ServiceTable,
     place: Place,
     /// Whether a service string may still come.
     pub fresh: bool,
@@ -41,7 +43,7 @@ pub struct Machine {
     /// The first five characters of a service string.
     six: [u8; 5],
     tag: [u8; 3],
-    open: FlatSegment,
+    open: OpenSegment,
 }
 
 fn is_una(tag: &[u8]) -> bool
@@ -60,13 +62,13 @@ impl Machine {
         ensures { IfOk result (λ machine. reading_of [] machine ≡ start) }
     {
         Ok(Machine {
-            service: Service::usual(),
+            service: ServiceTable::of(Service::usual()),
             place: Place::Outside,
             fresh: true,
             taken: 0,
             six: [0; 5],
             tag: [0; 3],
-            open: FlatSegment::new(alloc)?,
+            open: OpenSegment::new(alloc)?,
         })
     }
 
@@ -113,7 +115,8 @@ impl Machine {
         }
         let [component, element, decimal, release, reserved] = self.six;
         let six = [component, element, decimal, release, reserved, byte];
-        self.service = Service::of(&six).ok_or(TokenFault::ServiceString)?;
+        let service = Service::of(&six).ok_or(TokenFault::ServiceString)?;
+        self.service = ServiceTable::of(service);
         self.place = Place::Outside;
         self.fresh = false;
         Ok(false)
@@ -145,12 +148,13 @@ impl Machine {
         ensures gives { Gives (λ ended. after [] ended self.new) result (step (reading_of [] self.old) byte) }
         ensures kept { OnErr result (self.new ≡ self.old) }
     {
-        if byte == self.service.element {
+        let service = self.service.get();
+        if byte == service.element {
             self.open.begin(self.tag);
             self.place = Place::InData;
             return Ok(false);
         }
-        if byte != self.service.terminator {
+        if byte != service.terminator {
             return Err(TokenFault::Tag);
         }
         self.open.begin(self.tag);
@@ -167,16 +171,17 @@ impl Machine {
         if self.open.size() == SEGMENT_LIMIT {
             return Err(TokenFault::LongSegment);
         }
-        if byte == self.service.component {
+        let service = self.service.get();
+        if byte == service.component {
             self.open.end_component();
-        } else if byte == self.service.element {
+        } else if byte == service.element {
             self.open.end_element();
-        } else if byte == self.service.terminator {
+        } else if byte == service.terminator {
             self.open.end_element();
             self.place = Place::Outside;
             self.fresh = false;
             return Ok(true);
-        } else if self.service.is_release(byte) {
+        } else if service.is_release(byte) {
             self.open.release();
             self.place = Place::Released;
         } else if is_data(byte) {
@@ -211,11 +216,7 @@ impl Machine {
         let Place::InData = self.place else {
             return 0;
         };
-        let room = SEGMENT_LIMIT - self.open.size();
-        let window = &bytes[..bytes.len().min(room)];
-        let count = self.service.plain_len(window);
-        self.open.extend(&window[..count]);
-        count
+        self.open.take_plain(&self.service, bytes)
     }
 
     /// Takes bytes from the front on, to the end of a segment or to the last of them. How many, and whether a segment

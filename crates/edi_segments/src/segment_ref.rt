@@ -1,9 +1,11 @@
 //! A segment that is lent.
 
-ghost use Rattle.std.specs.Prelude.{◌≡◌, length, IfOk};
+ghost use Rattle.std.specs.Prelude.{◌≡◌, [], ◌∷◌, ◌++◌, length, IfOk, IfSome};
 ghost use Rattle.edi_segments.specs.Segment.{element_at, component_at};
+ghost use Rattle.edi_segments.specs.Service.{usual_terminator};
+ghost use Rattle.edi_segments.specs.Text.{segment_text};
 
-use crate::flat_segment::FlatSegment;
+use crate::open_segment::OpenSegment;
 use crate::segment::Segment;
 use edi_base::{Items, MemoryFault, copied};
 use std::alloc::Global;
@@ -11,7 +13,7 @@ use std::alloc::Global;
 /// How a segment that is lent is kept.
 #[derive(Clone, Copy)]
 enum Form<'a> {
-    Flat(&'a FlatSegment),
+    Open(&'a OpenSegment),
     Kept(&'a Segment),
 }
 
@@ -25,11 +27,11 @@ impl<'a> SegmentRef<'a> {
     ghost use Rattle.edi_segments.specs.SegmentRef.{segment_in};
     ghost use Rattle.edi_segments.specs.Machine.{segment_of};
 
-    pub(crate) fn new(segment: &'a FlatSegment) -> Self
+    pub(crate) fn new(segment: &'a OpenSegment) -> Self
         ensures { segment_in result ≡ segment_of segment.now }
     {
         SegmentRef {
-            form: Form::Flat(segment),
+            form: Form::Open(segment),
         }
     }
 
@@ -47,7 +49,7 @@ impl<'a> SegmentRef<'a> {
         ensures { result ≡ (segment_in self.now).tag }
     {
         match self.form {
-            Form::Flat(segment) => segment.tag(),
+            Form::Open(segment) => segment.tag(),
             Form::Kept(segment) => segment.tag,
         }
     }
@@ -57,7 +59,7 @@ impl<'a> SegmentRef<'a> {
         ensures { result ≡ length (segment_in self.now).elements }
     {
         match self.form {
-            Form::Flat(segment) => segment.elements(),
+            Form::Open(segment) => segment.elements(),
             Form::Kept(segment) => segment.elements.len(),
         }
     }
@@ -67,7 +69,7 @@ impl<'a> SegmentRef<'a> {
         ensures { result ≡ length (element_at (segment_in self.now).elements element) }
     {
         match self.form {
-            Form::Flat(segment) => segment.components(element),
+            Form::Open(segment) => segment.components(element),
             Form::Kept(segment) => segment.element(element).len(),
         }
     }
@@ -77,8 +79,18 @@ impl<'a> SegmentRef<'a> {
         ensures { result.now ≡ component_at (segment_in self.now).elements element place }
     {
         match self.form {
-            Form::Flat(segment) => segment.component(element, place),
+            Form::Open(segment) => segment.component(element, place),
             Form::Kept(segment) => segment.component(element, place),
+        }
+    }
+
+    /// The canonical text, without its terminator, where it is kept.
+    pub fn text(&self) -> Option<&[u8]>
+        ensures { IfSome result (λ front. front.now ++ usual_terminator ∷ [] ≡ segment_text (segment_in self.now)) }
+    {
+        match self.form {
+            Form::Open(segment) => segment.text(),
+            Form::Kept(_) => None,
         }
     }
 

@@ -1,9 +1,10 @@
 //! The service characters of a text (ISO 9735, service string advice).
 
-ghost use Rattle.std.specs.Prelude.{◌≡◌, ◌≤◌, IsTrue, length, take};
+ghost use Rattle.std.specs.Prelude.{◌≡◌};
 ghost use Rattle.edi_segments.specs.Service as spec;
 ghost use Rattle.edi_segments.specs.Characters as set;
-ghost use Rattle.edi_segments.specs.Plain.{are_plain};
+ghost use Rattle.edi_segments.specs.Text.{is_usual};
+ghost use Rattle.edi_segments.specs.ServiceTable.{stands_for_itself};
 
 use crate::characters::{is_capital, is_data, is_digit, is_small};
 use crate::segment::Service;
@@ -59,6 +60,13 @@ fn are_right(
     are_marks && is_decimal(decimal) && 32 <= reserved && reserved <= 126 && are_apart
 }
 
+/// Whether a byte is one of the usual service characters, which a release character stands before in data.
+pub fn is_usual(byte: u8) -> bool
+    ensures { result ≡ is_usual byte }
+{
+    byte == COMPONENT || byte == ELEMENT || byte == TERMINATOR || byte == RELEASE
+}
+
 impl Service {
     /// The service characters of a text without a service string: `:` `+` `.` `?` `'`.
     pub fn usual() -> Self
@@ -111,16 +119,10 @@ impl Service {
             || self.is_release(byte)
     }
 
-    /// How many bytes at the front are data with no meaning of their own.
-    pub(crate) fn plain_len(&self, bytes: &[u8]) -> usize
-        ensures within { result ≤ length bytes.now }
-        ensures plain { IsTrue (are_plain self.now (take result bytes.now)) }
+    /// Whether a byte stands for itself, in the text and in its canonical one.
+    pub(crate) fn is_run(&self, byte: u8) -> bool
+        ensures { result ≡ stands_for_itself self.now byte }
     {
-        for (index, byte) in bytes.iter().enumerate() {
-            if !is_data(*byte) || self.is_special(*byte) {
-                return index;
-            }
-        }
-        bytes.len()
+        is_data(byte) && !self.is_special(byte) && !is_usual(byte)
     }
 }

@@ -1,6 +1,7 @@
 //! The text of a segment that is lent, appended to what was written (ISO 9735, character sets and structures).
 
-ghost use Rattle.std.specs.Prelude.{◌≡◌, ◌++◌, OnOk, OnErr};
+ghost use Rattle.std.specs.Prelude.{◌≡◌, [], ◌∷◌, ◌++◌, OnOk, OnErr};
+ghost use Rattle.edi_segments.specs.Service.{usual_terminator};
 ghost use Rattle.edi_segments.specs.Segment.{element_at};
 ghost use Rattle.edi_segments.specs.SegmentRef.{segment_in};
 ghost use Rattle.edi_tokens.specs.Text.{component_text, element_text, others_text, segment_text};
@@ -117,13 +118,35 @@ fn append_parts_with(
     Ok(())
 }
 
+/// Appends the canonical text of a segment, of which all but the terminator is given.
+#[tactic(auto, using(crate::proofs::Kept::keeps))]
+fn append_front(out: &mut Vec<u8>, front: &[u8]) -> Result<(), MemoryFault>
+    ensures ok { OnOk result (out.new.items ≡ out.old.items ++ (front.now ++ usual_terminator ∷ [])) }
+    ensures kept { Keeps out.old.items out.new.items }
+{
+    out.extend_from_slice(front)?;
+    out.push(TERMINATOR)?;
+    Ok(())
+}
+
+/// Appends the canonical text of a segment, at once where it is kept. Where memory runs out, a part of it may be left behind.
+fn append_whole(out: &mut Vec<u8>, segment: &SegmentRef<'_>) -> Result<(), MemoryFault>
+    ensures ok { OnOk result (out.new.items ≡ out.old.items ++ segment_text (segment_in segment.now)) }
+    ensures kept { Keeps out.old.items out.new.items }
+{
+    match segment.text() {
+        Some(front) => append_front(out, front),
+        None => append_parts(out, segment),
+    }
+}
+
 /// Appends the canonical text of a segment.
 pub fn append_segment(out: &mut Vec<u8>, segment: &SegmentRef<'_>) -> Result<(), MemoryFault>
     ensures ok { OnOk result (out.new.items ≡ out.old.items ++ segment_text (segment_in segment.now)) }
     ensures err { OnErr result (out.new.items ≡ out.old.items) }
 {
     let length = out.len();
-    let result = append_parts(out, segment);
+    let result = append_whole(out, segment);
     if result.is_err() {
         out.truncate(length);
     }

@@ -263,14 +263,14 @@ impl Lender {
         if self.machine.fresh {
             return None;
         }
-        Some(self.machine.service)
+        Some(self.machine.service.get())
     }
 
     /// The decimal mark: a full stop, until a service string has said another.
     pub fn decimal(&self) -> u8
         ensures { result ≡ decimal_of self.now }
     {
-        self.machine.service.decimal
+        self.machine.service.get().decimal
     }
 
     /// Reads away what is left of the text, whatever it is. How many bytes fewer came than may be read: none, or the

@@ -48,7 +48,7 @@ fn read(alloc: Global, text: &[u8]) -> Result<Tokens, TokenFault>
     }
     machine.finish()?;
     Ok(Tokens {
-        service: machine.service,
+        service: machine.service.get(),
         segments: Items::from_vec(segments),
     })
 }

@@ -6,16 +6,9 @@ ghost use Rattle.edi_tokens.specs.Text.{is_usual, component_text, element_text, 
 ghost use Rattle.edi_base.specs.Buffer.{Puts, Flags, AppendsFront};
 
 use edi_base::{Buffer, Items, MemoryFault, OfWrite, Sink, WriteFault};
-use edi_segments::{COMPONENT, ELEMENT, RELEASE, Segment, TERMINATOR};
+use edi_segments::{COMPONENT, ELEMENT, RELEASE, Segment, TERMINATOR, is_usual};
 use std::alloc::{AllocError, Global};
 use std::mem;
-
-/// Whether a byte is one of the usual service characters, which a release character stands before in data.
-fn is_usual(byte: u8) -> bool
-    ensures { result ≡ is_usual byte }
-{
-    byte == COMPONENT || byte == ELEMENT || byte == TERMINATOR || byte == RELEASE
-}
 
 /// How many bytes at the front stand for themselves.
 pub(crate) fn plain_len(bytes: &[u8]) -> usize

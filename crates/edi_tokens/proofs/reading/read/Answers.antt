@@ -1,4 +1,5 @@
 use Rattle.std.proofs.Common.{◌≡◌, List, [], Result, Ok, sym, ap, ◌∙◌}
+use Rattle.edi_segments.specs.declared.segment.Service.{Service}
 use Rattle.edi_segments.specs.declared.segment.Tokens.{Tokens}
 use Rattle.edi_segments.specs.declared.fault.TokenFault.{TokenFault}
 use Rattle.edi_segments.specs.declared.segment.Segment.{Segment}
@@ -44,3 +45,4 @@ returns c =
     (begins c.new-segments.result.items c.in_ok-machine.machine c.new-segments.ensures.items c.in_ok-machine.ensures) c.min.ensures c.in_ok-push_segments.ensures c.if-text-gt-TEXT_LIMIT.false
     ∙ c.in_ok-finish.ensures c.push_segments.new.segments.items
     ∙ ap (told c.push_segments.new.machine) (sym c.from_vec.ensures)
+    ∙ ap (λ (service : Service). Ok (record { service = service; segments = c.from_vec.result })) (sym c.get.ensures)

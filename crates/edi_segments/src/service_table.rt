@@ -1,0 +1,74 @@
+//! The service characters of a text, with what each byte is to them.
+
+ghost use Rattle.std.specs.Prelude.{◌≡◌, ◌≤◌, ◌++◌, IsTrue, length, take, drop};
+ghost use Rattle.edi_segments.specs.Service.{usual};
+ghost use Rattle.edi_segments.specs.ServiceTable.{are_run, stands_for_itself};
+
+use crate::segment::Service;
+use std::marker::Model;
+
+/// The service characters of a text, and of each byte whether it stands for itself in the text and in its canonical one.
+/// Contracts see the service characters.
+#[derive(Drop)]
+pub struct ServiceTable {
+    service: Service,
+    is_run: [bool; 256],
+}
+
+impl Model for ServiceTable {
+    ghost use Rattle.edi_segments.specs.declared.segment.Service.{Service};
+
+    ghost Value = { Service };
+
+    ghost use Rattle.edi_segments.specs.ServiceTable.{service_in, IsSound};
+
+    ghost view = { service_in };
+
+    ghost invariant = { IsSound };
+}
+
+impl ServiceTable {
+    /// Of these service characters.
+    pub(crate) fn of(service: Service) -> Self
+        ensures { result ≡ service }
+    {
+        let mut is_run = [false; 256];
+        for byte in 0..256usize {
+            is_run[byte] = service.is_run(byte as u8);
+        }
+        ServiceTable { service, is_run }
+    }
+
+    /// The service characters.
+    pub fn get(&self) -> Service
+        ensures { result ≡ self.now }
+    {
+        self.service
+    }
+
+    /// Whether a byte stands for itself, in the text and in its canonical one.
+    fn is_run(&self, byte: u8) -> bool
+        ensures { result ≡ stands_for_itself self.now byte }
+    {
+        self.is_run[byte as usize]
+    }
+
+    /// Copies the bytes at the front that stand for themselves, in the text and in its canonical one, to two places. How
+    /// many.
+    pub(crate) fn copy_run(&self, bytes: &[u8], one: &mut [u8], other: &mut [u8]) -> usize
+        requires one { length bytes.now ≤ length one.old }
+        requires other { length bytes.now ≤ length other.old }
+        ensures within { result ≤ length bytes.now }
+        ensures run { IsTrue (are_run self.now (take result bytes.now)) }
+        ensures one { one.new ≡ take result bytes.now ++ drop result one.old }
+        ensures other { other.new ≡ take result bytes.now ++ drop result other.old }
+    {
+        let mut count = 0;
+        while count < bytes.len() && self.is_run(bytes[count]) {
+            one[count] = bytes[count];
+            other[count] = bytes[count];
+            count += 1;
+        }
+        count
+    }
+}
