@@ -1,13 +1,14 @@
 -- Suppliers whose prefixes are free of one another.
-use Rattle.std.proofs.Common.{◌≡◌, ◌↔◌, ℕ, ◌<◌, Bool, true, false, List, [], ◌∷◌, length, get_or, drop, map, None}
+use Rattle.std.proofs.Common.{◌≡◌, ◌↔◌, ℕ, ◌+◌, ◌-◌, ◌<◌, Bool, true, false, List, [], ◌∷◌, ◌++◌, length, ap, ap₂, get_or, drop, map, None}
 use Rattle.std.proofs.Common.{All, refl, sym, ◌∙◌, ⊎_elim, arith}
 use Rattle.std.specs.List.{list_any}
 use Rattle.std.proofs.lemmas.Bool.{both_ways, cases_order, false_from_ne_true}
 use Rattle.std.proofs.lemmas.Bool.Decides.{Decides-by_or}
-use Rattle.std.proofs.lemmas.List.{get_or-map, length-map}
+use Rattle.std.proofs.lemmas.List.{get_or-append_right, get_or-map, get_or_default, length-append, length-map}
+use Rattle.std.proofs.Math.ListN.{get_or-append}
 use Rattle.std.proofs.lemmas.List.Elements.{All-cons, All-nil}
 use Rattle.std.proofs.lemmas.List.Folds.{list_any_at, list_any_none}
-use Rattle.gs1_ids.specs.Overlap.{OverlapAt, AreApart, PrefixFree, SsccHasOneSupplier, overlap_some, first_overlap_between}
+use Rattle.gs1_ids.specs.Overlap.{NoneOverlap, OverlapAt, AreApart, PrefixFree, SsccHasOneSupplier, overlap_some, first_overlap_between}
 use Rattle.gs1_ids.specs.Prefix.{overlap}
 use Rattle.gs1_ids.specs.Sscc.{under, under_some}
 use Rattle.gs1_ids.proofs.FirstPairs.{fail_if_none, none_if_fail}
@@ -95,3 +96,32 @@ one_supplier suppliers sscc i j free within first also second =
         let together = prefixes_overlap x y (drop 1 sscc) ((Decides-begins x (drop 1 sscc)).0 p.2)
         ((Decides-begins y (drop 1 sscc)).0 q.2) in
         both_ways _ (free a b [] before inside p.0 [] p.1 q.0 [] q.1) together
+
+-- what stands behind the first part of a list
+behind : (ps qs : List (List ℕ)) (k : ℕ) (d : List ℕ) → get_or (ps ++ qs) (length ps + k) d ≡ get_or qs k d
+behind ps qs k d =
+    let place : length ps + k - length ps ≡ k = omega arith in
+    get_or-append_right ps qs (length ps) (length ps + k) d refl (omega arith) ∙ ap (λ n. get_or qs n d) place
+
+-- the two parts of a list of which no two prefixes overlap
+pub none_overlap-parts : (ps qs : List (List ℕ)) → NoneOverlap (ps ++ qs) → AreApart ps qs × NoneOverlap qs
+none_overlap-parts ps qs none =
+    let long : length (ps ++ qs) ≡ length ps + length qs = length-append ps qs in (
+      λ i d first j e second.
+          ap₂ overlap (sym (get_or-append ps qs d i first))
+          (get_or_default qs j e d second ∙ sym (behind ps qs j d))
+          ∙ none i (length ps + j) d (omega (arith, first)) (omega (arith, second, long)),
+      λ i j d before second.
+          ap₂ overlap (sym (behind ps qs i d)) (sym (behind ps qs j d))
+          ∙ none (length ps + i) (length ps + j) d (omega (arith, before)) (omega (arith, second, long)),
+    )
+
+pub apart-parts : (ps qs rest : List (List ℕ)) → AreApart ps (qs ++ rest) → AreApart ps qs × AreApart ps rest
+apart-parts ps qs rest apart = (
+  λ i d first j e second. ap (overlap (get_or ps i d)) (sym (get_or-append qs rest e j second)) ∙ apart i d first j e (omega (arith, second, long)),
+  λ i d first j e second.
+      ap (overlap (get_or ps i d)) (sym (behind qs rest j e)) ∙ apart i d first (length qs + j) e (omega (arith, second, long)),
+)
+  where
+    long : length (qs ++ rest) ≡ length qs + length rest
+    long = length-append qs rest

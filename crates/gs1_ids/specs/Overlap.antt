@@ -35,6 +35,10 @@ first_pair test (x ∷ xs) = pair_from (position (test x) xs) (first_pair test x
 abbrev pub first_overlap_of : List (List ℕ) → Option (ℕ × ℕ)
 first_overlap_of prefixes = first_pair overlap prefixes
 
+-- no prefix overlaps another one of the list
+abbrev pub NoneOverlap : List (List ℕ) → Type 0
+NoneOverlap prefixes = AllPairs (λ p q. overlap p q ≡ false) prefixes
+
 -- some prefix of one supplier begins one of another, or is begun by it
 abbrev pub overlap_some : List (List ℕ) → List (List ℕ) → Bool
 overlap_some ps qs = list_any (λ p. list_any (overlap p) qs) ps

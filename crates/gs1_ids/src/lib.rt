@@ -14,6 +14,8 @@ mod sscc;
 pub use digits::check_digit;
 pub use gln::Gln;
 pub use gtin::Gtin;
-pub use overlap::{first_overlap, overlap_some, prefixes_of_one_overlap, sscc_has_one_supplier};
+pub use overlap::{
+    first_overlap, none_overlap, overlap_some, prefixes_of_one_overlap, sscc_has_one_supplier,
+};
 pub use prefix::Prefix;
 pub use sscc::Sscc;

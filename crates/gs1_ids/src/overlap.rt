@@ -1,7 +1,8 @@
 //! Prefixes that overlap.
-ghost use Rattle.std.specs.Prelude.{◌≡◌, ◌↔◌, false, [], ◌∷◌, map, position, IsNone, IfSome};
-ghost use Rattle.std.specs.List.{list_any};
-ghost use Rattle.gs1_ids.specs.Overlap.{first_overlap_of, IsFirstOverlap, AreApart, PrefixFree, PrefixesOfOneOverlap, SsccHasOneSupplier};
+ghost use Rattle.std.specs.Prelude.{◌≡◌, ◌↔◌, false, [], ◌∷◌, length, map, position, IsNone, IfSome, IsTrue};
+ghost use Rattle.std.specs.List.{list_any, AllAdjacentBelow};
+ghost use Rattle.std.specs.List.Sorted.{IsPermutation};
+ghost use Rattle.gs1_ids.specs.Overlap.{first_overlap_of, IsFirstOverlap, NoneOverlap, AreApart, PrefixFree, PrefixesOfOneOverlap, SsccHasOneSupplier};
 ghost use Rattle.gs1_ids.specs.Overlap as spec;
 ghost use Rattle.gs1_ids.specs.Prefix.{overlap};
 
@@ -29,6 +30,28 @@ pub fn first_overlap(prefixes: &[Prefix]) -> Option<(usize, usize)>
         }
     }
     None
+}
+
+// Whether each prefix is free of the next.
+fn are_free_of_the_next(prefixes: &[Prefix]) -> bool
+    ensures { IsTrue result ↔ AllAdjacentBelow (λ prefix next. overlap prefix next ≡ false) prefixes.now (length prefixes.now) }
+{
+    for place in 1..prefixes.len() {
+        if prefixes[place - 1].overlaps(&prefixes[place]) {
+            return false;
+        }
+    }
+    true
+}
+
+/// Whether no two of these prefixes overlap. It puts them in the order of their bytes, in which two neighbours overlap where
+/// any two do, so its cost grows little faster than their number.
+pub fn none_overlap(prefixes: &mut [Prefix]) -> bool
+    ensures value { IsTrue result ↔ NoneOverlap prefixes.old }
+    ensures same { IsPermutation prefixes.old prefixes.new }
+{
+    prefixes.sort_unstable();
+    are_free_of_the_next(prefixes)
 }
 
 // Whether `prefix` and one of `others` overlap.

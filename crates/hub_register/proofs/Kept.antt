@@ -22,7 +22,7 @@ use Rattle.hub_register.proofs.Ordered.{Apart}
 use Rattle.hub_register.proofs.Right.{Differ, Free, not_among, once, free, prefix_free}
 
 -- Rows that rise, put one after another.
-Below : SupplierRow → SupplierRow → Type 0
+abbrev pub Below : SupplierRow → SupplierRow → Type 0
 Below r s = bytes_cmp r.gln s.gln ≡ Less
 
 nothing_more : (rows : List SupplierRow) → rows ≡ rows ++ []
@@ -66,7 +66,7 @@ pub as_they_stand : (rows : List SupplierRow) → Rises bytes_cmp (map (λ r. r.
 as_they_stand rows rises = put_after rows [] rises
 
 -- The tests, and what they mean.
-is_less : (o : Ordering) → is_lt o ≡ true → o ≡ Less
+pub is_less : (o : Ordering) → is_lt o ≡ true → o ≡ Less
 is_less Less h = refl
 is_less Equal h = cc
 is_less Greater h = cc
@@ -167,7 +167,7 @@ module _ (hub retailer key : List ℕ) (rows : List SupplierRow) where
   kept_stand kept = as_they_stand rows (rises rows (kept_order kept))
 
 -- and back
-in_order : (rows : List SupplierRow) → Rises bytes_cmp (map (λ r. r.gln) rows) → Apart Free rows → are_in_order rows ≡ true
+pub in_order : (rows : List SupplierRow) → Rises bytes_cmp (map (λ r. r.gln) rows) → Apart Free rows → are_in_order rows ≡ true
 in_order [] rising apart = refl
 in_order (row ∷ rows) rising apart = and_from _ _ (before rows rising.0 apart.0) (in_order rows rising.1 apart.1)
   where

@@ -8,4 +8,5 @@ pub mod PrefixFree
 pub mod Readings
 pub mod Rest
 pub mod Right
+pub mod Rising
 pub mod SortedPrefixes

@@ -186,7 +186,8 @@ impl Register {
             × IsRegister register)) }
         ensures none { IfOk result (λ found. IfNone found (IsRegister (rows_by hub retailer retailer_key suppliers.items) → ⊥)) }
     {
-        if !keep_all(&hub, &retailer, suppliers.as_slice()) {
+        let kept = keep_all(alloc, &hub, &retailer, suppliers.as_slice())?;
+        if !kept {
             return Ok(None);
         }
         let register = held(alloc, hub, retailer, retailer_key, suppliers)?;

@@ -1,13 +1,15 @@
 //! Rows that may be those of a register.
 
-ghost use Rattle.std.specs.Prelude.{◌≡◌, true, [], IfOk, OnOk, map};
+ghost use Rattle.std.specs.Prelude.{◌≡◌, true, [], IfOk, IsTrue, OnOk, map};
 ghost use Rattle.std.specs.BTreeMap.{keys, values};
-ghost use Rattle.std.specs.List.{list_all};
+ghost use Rattle.std.specs.List.{list_all, flat_map};
+ghost use Rattle.std.specs.Ordering.{is_lt};
+ghost use Rattle.hub_parties.specs.KeyOrder.{bytes_cmp, Rises};
 ghost use Rattle.hub_register.specs.InOrder.{put, put_all};
 ghost use Rattle.hub_register.specs.Kept as spec;
 
 use edi_base::MemoryFault;
-use gs1_ids::{Gln, overlap_some};
+use gs1_ids::{Gln, Prefix, none_overlap, overlap_some};
 use hub_parties::SupplierRow;
 use std::alloc::Global;
 use std::collections::BTreeMap;
@@ -15,11 +17,18 @@ use std::collections::BTreeMap;
 /// How many suppliers there may be.
 pub(crate) const MOST_SUPPLIERS: usize = 1000;
 
+// Whether the GLN of a supplier is below another's.
+fn is_below(row: &SupplierRow, other: &SupplierRow) -> bool
+    ensures { result ≡ is_lt (bytes_cmp row.now.gln other.now.gln) }
+{
+    row.gln < other.gln
+}
+
 // Whether a supplier can stand before another.
 fn goes_before(row: &SupplierRow, other: &SupplierRow) -> bool
     ensures { result ≡ spec.goes_before row.now other.now }
 {
-    row.gln < other.gln && !overlap_some(row.prefixes.as_slice(), other.prefixes.as_slice())
+    is_below(row, other) && !overlap_some(row.prefixes.as_slice(), other.prefixes.as_slice())
 }
 
 // Whether a supplier can stand before all these.
@@ -39,6 +48,41 @@ fn are_in_order(rows: &[SupplierRow]) -> bool
         }
     }
     true
+}
+
+// Whether the GLN of each supplier is below the next one's.
+fn glns_rise(rows: &[SupplierRow]) -> bool
+    ensures { IsTrue result → Rises bytes_cmp (map (λ row. row.gln) rows.now) }
+{
+    for place in 1..rows.len() {
+        if !is_below(&rows[place - 1], &rows[place]) {
+            return false;
+        }
+    }
+    true
+}
+
+// The prefixes of all suppliers.
+fn all_prefixes(alloc: Global, rows: &[SupplierRow]) -> Result<Vec<Prefix>, MemoryFault>
+    ensures { IfOk result (λ prefixes. prefixes.items ≡ flat_map (λ row. row.prefixes) rows.now) }
+{
+    let mut prefixes = Vec::new(alloc);
+    for row in rows {
+        prefixes.extend_from_slice(row.prefixes.as_slice())?;
+    }
+    Ok(prefixes)
+}
+
+// Whether the GLNs rise and no two prefixes overlap, not even two of one supplier. Then each supplier can stand before all
+// after it, and no two suppliers have to be compared, which for a thousand of them takes long.
+fn rise_without_overlap(alloc: Global, rows: &[SupplierRow]) -> Result<bool, MemoryFault>
+    ensures { IfOk result (λ rise. IsTrue rise → spec.are_in_order rows.now ≡ true) }
+{
+    if !glns_rise(rows) {
+        return Ok(false);
+    }
+    let mut prefixes = all_prefixes(alloc, rows)?;
+    Ok(none_overlap(prefixes.as_mut_slice()))
 }
 
 // Whether a supplier is neither the hub nor the retailer.
@@ -63,10 +107,18 @@ fn are_others(hub: &Gln, retailer: &Gln, rows: &[SupplierRow]) -> bool
 }
 
 /// Whether these can be the suppliers of a register with this hub and this retailer, in their order.
-pub(crate) fn keep_all(hub: &Gln, retailer: &Gln, rows: &[SupplierRow]) -> bool
-    ensures { result ≡ spec.keep_all hub.now retailer.now rows.now }
+pub(crate) fn keep_all(
+    alloc: Global,
+    hub: &Gln,
+    retailer: &Gln,
+    rows: &[SupplierRow],
+) -> Result<bool, MemoryFault>
+    ensures { IfOk result (λ kept. kept ≡ spec.keep_all hub.now retailer.now rows.now) }
 {
-    rows.len() <= MOST_SUPPLIERS && are_others(hub, retailer, rows) && are_in_order(rows)
+    if rows.len() > MOST_SUPPLIERS || !are_others(hub, retailer, rows) {
+        return Ok(false);
+    }
+    Ok(rise_without_overlap(alloc, rows)? || are_in_order(rows))
 }
 
 // Puts the row of a supplier at its GLN.
