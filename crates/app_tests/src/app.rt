@@ -11,10 +11,14 @@ use std::io;
 use std::test::Fail;
 
 const ORDERS: &[u8] =
-    b"UNA:+.? 'UNB+UNOC:3+5412345000013:14+5412345000006:14+250603:0915+1001'UNH+1+ORDERS:D:01B:UN:EAN010'BGM+220+128576+9'DTM+137:20250603:102'NAD+BY+5412345000013::9'NAD+SU+4012345500004::9'LIN+1++4000862141404:SRV'QTY+21:48'UNS+S'CNT+2:1'UNT+10+1'UNZ+1+1001'";
+    b"UNA:+.? 'UNB+UNOC:3+5412345000013:14+5412345000006:14+250603:0915+1001'UNH+1+ORDERS:D:01B:UN:EAN010'\
+        BGM+220+128576+9'DTM+137:20250603:102'NAD+BY+5412345000013::9'NAD+SU+4012345500004::9'\
+        LIN+1++4000862141404:SRV'QTY+21:48'UNS+S'CNT+2:1'UNT+10+1'UNZ+1+1001'";
 
 const MAIL: &[u8] =
-    b"UNA:+.? 'UNB+UNOC:3+5412345000006:14+4012345500004:14+250603:0920+1'UNH+1+ORDERS:D:01B:UN:EAN010'BGM+220+128576+9'DTM+137:20250603:102'NAD+BY+5412345000013::9'NAD+SU+4012345500004::9'LIN+1++4000862141404:SRV'QTY+21:48'UNS+S'CNT+2:1'UNT+10+1'UNZ+1+1'";
+    b"UNA:+.? 'UNB+UNOC:3+5412345000006:14+4012345500004:14+250603:0920+1'UNH+1+ORDERS:D:01B:UN:EAN010'\
+        BGM+220+128576+9'DTM+137:20250603:102'NAD+BY+5412345000013::9'NAD+SU+4012345500004::9'\
+        LIN+1++4000862141404:SRV'QTY+21:48'UNS+S'CNT+2:1'UNT+10+1'UNZ+1+1'";
 
 fn words() -> Option<RelayWords>
     ensures { IfSome result AreRelayWords }
@@ -247,7 +251,9 @@ fn a_run_reads_writes_and_answers_its_status(rt: HostRuntime) -> Result<(), Fail
 }
 
 const SHOWN: &[u8] =
-    b"service component : element + decimal . release ? terminator '\ninterchange 1001\n  sender 5412345000013\n  recipient 5412345000006\n  prepared 250603 0915\n  messages 1\nmessage 1\n  reference 1\n  type ORDERS\n  order 128576\n  buyer 5412345000013\n  supplier 4012345500004\n  line 1 item 04000862141404 ordered 48\n";
+    b"service component : element + decimal . release ? terminator '\ninterchange 1001\n  sender 5412345000013\
+        \n  recipient 5412345000006\n  prepared 250603 0915\n  messages 1\nmessage 1\n  reference 1\n  type ORDERS\
+        \n  order 128576\n  buyer 5412345000013\n  supplier 4012345500004\n  line 1 item 04000862141404 ordered 48\n";
 
 const CUT_SHOWN: &[u8] = b"refused E04 text cut at offset 200 line 1 segment 7\n";
 
@@ -304,7 +310,8 @@ fn an_order_is_shown(rt: HostRuntime) -> Result<(), Fail> {
 }
 
 const REGISTER: &str =
-    "hub = \"5412345000006\"\nretailer = { gln = \"5412345000013\", key = \"retail-key\" }\n[[supplier]]\ngln = \"4012345500004\"\nprefix = \"40123455\"\nkey = \"alpha-key-1\"\n";
+    "hub = \"5412345000006\"\nretailer = { gln = \"5412345000013\", key = \"retail-key\" }\n[[supplier]]\
+        \ngln = \"4012345500004\"\nprefix = \"40123455\"\nkey = \"alpha-key-1\"\n";
 
 // Texts of a register, how many bytes the output takes, and whether the next write fails; the status, what is
 // printed, and what is reported of a fault.
@@ -365,7 +372,8 @@ fn is_limit_kept(alloc: Global) -> Result<bool, Fail> {
 static TEXTS: [(&str, &[u8], bool, bool); 3] = [
     (
         "a register",
-        b"hub = \"5412345000006\"\nretailer = { gln = \"5412345000013\", key = \"retail-key\" }\n[[supplier]]\ngln = \"4012345500004\"\nprefix = \"40123455\"\nkey = \"alpha-key-1\"\n",
+        b"hub = \"5412345000006\"\nretailer = { gln = \"5412345000013\", key = \"retail-key\" }\n[[supplier]]\
+            \ngln = \"4012345500004\"\nprefix = \"40123455\"\nkey = \"alpha-key-1\"\n",
         false,
         true,
     ),

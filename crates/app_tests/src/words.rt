@@ -52,15 +52,18 @@ static ROWS: [Row; 27] = [
         told: "h 4012345500004 alpha-key-1 now taken 99999999999999",
     },
     Row {
-        words: "edihub cancel --db h --as 5412345000013 --key retail-key --supplier 4012345500004 --reference C1 --order 128576 --line 01 --quantity 10",
+        words: "edihub cancel --db h --as 5412345000013 --key retail-key --supplier 4012345500004 --reference C1 \
+            --order 128576 --line 01 --quantity 10",
         told: "h 5412345000013 retail-key now cancel of 4012345500004 line 1 quantity 10",
     },
     Row {
-        words: "edihub join --db h --as 5412345000013 --key retail-key --supplier 7612345000008 --supplier-key gamma-key-1 --prefixes 7612345,7612346",
+        words: "edihub join --db h --as 5412345000013 --key retail-key --supplier 7612345000008 --supplier-key \
+            gamma-key-1 --prefixes 7612345,7612346",
         told: "h 5412345000013 retail-key now join of 7612345000008 7612345 7612346",
     },
     Row {
-        words: "edihub join --db h --as 5412345000013 --key retail-key --supplier 7612345000008 --supplier-key gamma-key-1 --prefixes 76123456,7612345,40123455 --moment 0",
+        words: "edihub join --db h --as 5412345000013 --key retail-key --supplier 7612345000008 --supplier-key \
+            gamma-key-1 --prefixes 76123456,7612345,40123455 --moment 0",
         told: "h 5412345000013 retail-key then join of 7612345000008 40123455 7612345 76123456",
     },
     Row {
@@ -84,15 +87,18 @@ static ROWS: [Row; 27] = [
         told: "status 2",
     },
     Row {
-        words: "edihub join --db h --as 5412345000013 --key retail-key --supplier 7612345000008 --supplier-key gamma-key-1 --prefixes 7612,",
+        words: "edihub join --db h --as 5412345000013 --key retail-key --supplier 7612345000008 --supplier-key \
+            gamma-key-1 --prefixes 7612,",
         told: "status 2",
     },
     Row {
-        words: "edihub join --db h --as 5412345000013 --key retail-key --supplier 7612345000008 --supplier-key gamma-key-1 --prefixes 7612345,7612345",
+        words: "edihub join --db h --as 5412345000013 --key retail-key --supplier 7612345000008 --supplier-key \
+            gamma-key-1 --prefixes 7612345,7612345",
         told: "status 2",
     },
     Row {
-        words: "edihub join --db h --as 5412345000013 --key retail-key --supplier 7612345000008 --supplier-key gamma-key-1 --prefixes 7612341,7612342,7612343,7612344,7612345,7612346,7612347,7612348,7612349",
+        words: "edihub join --db h --as 5412345000013 --key retail-key --supplier 7612345000008 --supplier-key \
+            gamma-key-1 --prefixes 7612341,7612342,7612343,7612344,7612345,7612346,7612347,7612348,7612349",
         told: "status 2",
     },
     Row {
@@ -100,7 +106,8 @@ static ROWS: [Row; 27] = [
         told: "status 2",
     },
     Row {
-        words: "edihub join --db h --as 5412345000013 --key retail-key --supplier 7612345000009 --supplier-key gamma-key-1 --prefixes 7612345",
+        words: "edihub join --db h --as 5412345000013 --key retail-key --supplier 7612345000009 --supplier-key \
+            gamma-key-1 --prefixes 7612345",
         told: "status 2",
     },
     Row {

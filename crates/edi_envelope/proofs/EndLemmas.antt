@@ -21,7 +21,8 @@ use Rattle.edi_envelope.specs.Blocks.{blocks}
 use Rattle.edi_envelope.specs.Message.{is_within_limits, is_counted, is_closed, reference_of}
 use Rattle.edi_envelope.specs.Reference.{kept}
 use Rattle.edi_envelope.specs.Interchange.{is_framed, is_row_of_messages, is_outside_set, has_high_data, messages_in, fault_of}
-use Rattle.edi_envelope.specs.Judge.{has_identity, has_count, follows, marks_of, Fronted, AtRest, Closed, marks_at, lowest_of, lost_fault, is_sound}
+use Rattle.edi_envelope.specs.Judge.{has_identity, has_count, follows, marks_of, Fronted, AtRest}
+use Rattle.edi_envelope.specs.Judge.{Closed, marks_at, lowest_of, lost_fault, is_sound}
 use Rattle.edi_envelope.proofs.JoinLemmas.{last_of, between_of}
 use Rattle.edi_envelope.proofs.ReferenceLemmas.{kept-eq}
 use Rattle.edi_envelope.proofs.RowLemmas.{framed_by, framed_once, is_row, row_follows}
@@ -71,7 +72,8 @@ fault_of-row : (xs : List Segment) → is_framed xs ≡ true → is_row_of_messa
 unfolding fault_of
 fault_of-row xs f r = rw (f, r) refl
 
-fault_of-lost : (xs : List Segment) (h : HeaderMarks) → is_framed xs ≡ true → is_row_of_messages xs ≡ false → h.taken ≡ is_header (first_segment xs)
+fault_of-lost : (xs : List Segment) (h : HeaderMarks) → is_framed xs ≡ true →
+    is_row_of_messages xs ≡ false → h.taken ≡ is_header (first_segment xs)
     → fault_of xs ≡ Some (lost_fault h)
 unfolding fault_of
 fault_of-lost xs h f r taken =
@@ -98,7 +100,20 @@ lowest_same a b header limits counts references messages control twice test many
       | inr down ↦ elim (cases_Bool a.limits) [
         | inl up ↦ rw (down, sym header ∙ down, up, sym limits ∙ up) refl
         | inr low ↦
-            rw (down, sym header ∙ down, low, sym limits ∙ low, counts, references low, messages, control down, twice low, test, many, outside) refl
+            rw (
+              down,
+              sym header ∙ down,
+              low,
+              sym limits ∙ low,
+              counts,
+              references low,
+              messages,
+              control down,
+              twice low,
+              test,
+              many,
+              outside,
+            ) refl
       ]
     ]
 
@@ -132,7 +147,8 @@ module _ (u : Segment) (m : List Segment) (z : Segment) (h : HeaderMarks) (f : F
 reference_in : (unb : Segment) → is_header unb ≡ true → is_reference (component unb 4 0) ≡ true
 reference_in unb h = (and_parts _ _ (and_parts _ _ h).0).1
 
-pub ends_lost : (lent : List Segment) (z : Segment) (h : HeaderMarks) → Fronted lent h → is_unz z ≡ true → follows false (drop 1 lent) ≡ false
+pub ends_lost : (lent : List Segment) (z : Segment) (h : HeaderMarks) →
+    Fronted lent h → is_unz z ≡ true → follows false (drop 1 lent) ≡ false
     → Closed (lent ++ z ∷ []) (Some (lost_fault h))
 ends_lost [] z h f unz row = absurd (false≢true f.begins)
 ends_lost (u ∷ m) z h f unz row = lost_at u m z h f unz row
@@ -189,7 +205,8 @@ module _ (u : Segment) (m : List Segment) (z : Segment) (j : Judge) (r : AtRest 
   row_at : Closed all (lowest_of (marks_at j z))
   row_at = closes u m z j.header r.fronted unz (lowest_of (marks_at j z)) marked
 
-pub ends_in_row : (lent : List Segment) (z : Segment) (j : Judge) → AtRest lent j → is_unz z ≡ true → Closed (lent ++ z ∷ []) (lowest_of (marks_at j z))
+pub ends_in_row : (lent : List Segment) (z : Segment) (j : Judge) → AtRest lent j →
+    is_unz z ≡ true → Closed (lent ++ z ∷ []) (lowest_of (marks_at j z))
 ends_in_row [] z j r unz = absurd (false≢true r.fronted.begins)
 ends_in_row (u ∷ m) z j r unz = row_at u m z j r unz
 
@@ -205,8 +222,32 @@ record Unmarked (m : Marks) : Type 0 where
   pub outside : m.outside ≡ false
 
 unmarked : (a b c d e f g h i k : Bool)
-    → lowest_of (record { header = a; limits = b; counts = c; references = d; messages = e; control = f; twice = g; test = h; many = i; outside = k }) ≡ None
-    → Unmarked (record { header = a; limits = b; counts = c; references = d; messages = e; control = f; twice = g; test = h; many = i; outside = k })
+    → lowest_of (record {
+      header = a;
+      limits = b;
+      counts = c;
+      references = d;
+      messages =
+          e;
+      control = f;
+      twice = g;
+      test = h;
+      many = i;
+      outside = k;
+    }) ≡ None
+    → Unmarked (record {
+      header = a;
+      limits = b;
+      counts = c;
+      references =
+          d;
+      messages = e;
+      control = f;
+      twice = g;
+      test = h;
+      many = i;
+      outside = k;
+    })
 unmarked true b c d e f g h i k n = absurd cc
 unmarked false true c d e f g h i k n = absurd cc
 unmarked false false true d e f g h i k n = absurd cc

@@ -117,7 +117,8 @@ trailer_goes lent s h = record {
   not_z = other_tag s.tag (codes "UNT") (codes "UNZ") refl h.2;
 }
 
-pub goes_at : (p : Place) (lent : List Segment) (s : Segment) → (p ≡ place.Inside) ⊎ (p ≡ place.MessageTrailer) → Placed p lent s → Goes lent s
+pub goes_at : (p : Place) (lent : List Segment) (s : Segment) → (p ≡ place.Inside)
+    ⊎ (p ≡ place.MessageTrailer) → Placed p lent s → Goes lent s
 goes_at p lent s (inl is) placed = inside_goes lent s (subst (λ (q : Place). Placed q lent s) is placed)
 goes_at p lent s (inr is) placed = trailer_goes lent s (subst (λ (q : Place). Placed q lent s) is placed)
 
@@ -153,7 +154,8 @@ trailer_kept p lent g z is w placed =
     let last : is_unz (last_segment (lent ++ z ∷ [])) ≡ true = ap is_unz (last_at lent z) ∙ at.1 in
     record { going = λ e. absurd (true≢false (sym last ∙ e)); ended = λ _. ends_at lent g z w at.0.0 }
 
-pub keeps_at : (p : Place) (lent : List Segment) (g : Gathered) (s : Segment) → (p ≡ place.MessageHeader) ⊎ (p ≡ place.Trailer) → Gathers lent g
+pub keeps_at : (p : Place) (lent : List Segment) (g : Gathered) (s : Segment) →
+    (p ≡ place.MessageHeader) ⊎ (p ≡ place.Trailer) → Gathers lent g
     → Placed p lent s
     → Keeps lent g
 keeps_at p lent g s (inl is) gathers placed = gathers.going (subst (λ (q : Place). Placed q lent s) is placed).0.1

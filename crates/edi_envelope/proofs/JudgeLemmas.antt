@@ -37,7 +37,8 @@ use Rattle.edi_envelope.proofs.TallyLemmas.{all_more}
 use Rattle.edi_envelope.proofs.EndLemmas.{fault_of-frame, ends_in_row, ends_lost, lowest_none, outside_more}
 
 -- messages and their segments stand at no end of the interchange
-inner : (tag : List ℕ) (s : Segment) → bytes_eq tag (codes "UNB") ≡ false → bytes_eq tag (codes "UNZ") ≡ false → has_tag tag s ≡ true → is_outer s ≡ false
+inner : (tag : List ℕ) (s : Segment) → bytes_eq tag (codes "UNB") ≡ false →
+    bytes_eq tag (codes "UNZ") ≡ false → has_tag tag s ≡ true → is_outer s ≡ false
 inner tag s b z h =
     let same = other_tag s.tag tag in
     or_from (is_unb s) (is_unz s) (same (codes "UNB") b h) (same (codes "UNZ") z h)
@@ -160,7 +161,8 @@ first_outside : (s : Segment) (h : HeaderMarks) (outside : Bool) → h ≡ marks
     → outside ≡ is_outside_set (s ∷ [])
 unfolding is_outside_set
 first_outside s h outside marks is =
-    is ∙ ap (λ (k : HeaderMarks). k.seven_bit && has_high_data s) marks ∙ ap (λ b. (marks_of s).seven_bit && b) (sym (or_false (has_high_data s)))
+    is ∙ ap (λ (k : HeaderMarks). k.seven_bit && has_high_data s) marks
+    ∙ ap (λ b. (marks_of s).seven_bit && b) (sym (or_false (has_high_data s)))
 
 follows_frame : (s : Segment) (more : List Segment) → is_unt s ≡ false → is_frame s ≡ true → follows true (s ∷ more) ≡ false
 follows_frame s more not_t frame = if_not (is_unt s) (is_frame s) (follows false more) (follows true more) not_t frame
@@ -210,7 +212,8 @@ module _ (j : Judge) (s : Segment) where
         let fresh = at_stage j Start lent is judged in
         let sees : outside ≡ is_outside_set (s ∷ []) =
         first_outside s h outside marks (seen ∙ ap (λ o. o || (h.seven_bit && has_high_data s)) fresh.outside) in
-        subst (λ (l : List Segment). AtRest (l ++ s ∷ []) (record { stage = Between; header = h; outside = outside; headers = j.headers; trailers = j.trailers }))
+        subst (λ (l : List Segment). AtRest (l ++ s ∷ [])
+        (record { stage = Between; header = h; outside = outside; headers = j.headers; trailers = j.trailers }))
         (sym fresh.none)
         (record {
           fronted = record { begins = b; alone = refl; header_is = marks };
@@ -219,9 +222,15 @@ module _ (j : Judge) (s : Segment) where
           heads = fresh.heads;
           trails = fresh.trails;
         });
-    placed = λ lent judged fine. ((at_stage j Start lent is judged).none, b, header_of (record { stage = Between; header = h; outside = outside; headers = j.headers; trailers = j.trailers }) s fine marks);
+    placed = λ lent judged fine. (
+      (at_stage j Start lent is judged).none,
+      b,
+      header_of
+          (record { stage = Between; header = h; outside = outside; headers = j.headers; trailers = j.trailers }) s fine marks,
+    );
     refuses = λ e. absurd cc;
-    taken = λ e fine. header_of (record { stage = Between; header = h; outside = outside; headers = j.headers; trailers = j.trailers }) s fine marks;
+    taken = λ e fine. header_of
+        (record { stage = Between; header = h; outside = outside; headers = j.headers; trailers = j.trailers }) s fine marks;
     falls = λ fine. fine_at j Start is refl;
   }
 

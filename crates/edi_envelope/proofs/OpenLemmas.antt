@@ -48,7 +48,8 @@ module _ (lent : List Segment) (s t : Segment) (o : Opening) (judge : Judge) (st
 
 -- ---- the end
 
-pub interchange_of-fault : (tokens : Tokens) (fault : EnvelopeFault) → fault_of tokens.segments ≡ Some fault → interchange_of tokens ≡ Err fault
+pub interchange_of-fault : (tokens : Tokens) (fault : EnvelopeFault) →
+    fault_of tokens.segments ≡ Some fault → interchange_of tokens ≡ Err fault
 unfolding interchange_of
 interchange_of-fault tokens fault h = ap (λ f. judged f (contents_of tokens)) h
 
@@ -67,7 +68,8 @@ module _ (tokens : Tokens) (o : Opening) (stands : Stands tokens.segments o) (no
   head_is : o.gathered.head ≡ Some (head_of (first_segment tokens.segments))
   head_is = ended.head ∙ head_first tokens.segments (framed_unb tokens.segments framed)
 
-  pub opened_as : (decimal : ℕ) (i : Interchange) → tokens.service.decimal ≡ decimal → IsOf o.gathered decimal i → interchange_of tokens ≡ Ok i
+  pub opened_as : (decimal : ℕ) (i : Interchange) → tokens.service.decimal ≡ decimal →
+      IsOf o.gathered decimal i → interchange_of tokens ≡ Ok i
   unfolding contents_of
   opened_as decimal i mark is =
       let heads : Some i.head ≡ Some (head_of (first_segment tokens.segments)) = sym is.head ∙ head_is in

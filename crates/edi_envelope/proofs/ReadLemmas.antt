@@ -67,7 +67,8 @@ module _ (before : Option (List ℕ)) (was : Bool) (old : Lender) where
     end_of_some is came = (read.lent, read.stands, (some_as (Ok false) is came).1)
 
     pub end_told : result ≡ Ok false
-        → (lent : List Segment) × Stands lent opening × ((all : List ℕ) → Fed before all [] old → tokens_of all ≡ Ok (tokens_at lent new.machine))
+        → (lent : List Segment) × Stands lent opening
+        × ((all : List ℕ) → Fed before all [] old → tokens_of all ≡ Ok (tokens_at lent new.machine))
     end_told is = (read.lent, read.stands, λ all fed. (told_as (Ok false) is all fed).1)
 
     pub more_read : (next : Opening) → result ≡ Ok true → Stands (read.lent ++ lent_by new ∷ []) next
@@ -96,7 +97,8 @@ opens_token LongSegment all h = ap read_as (h (λ e. false≢true cc))
 opens_token Read all h = tt
 opens_token Memory all h = ap read_as (h (λ e. false≢true cc))
 
-opens_envelope : (fault : EnvelopeFault) (given : Result Interchange OpenFault) → given ≡ Err (Envelope fault) → Opens (Err (Envelope fault)) given
+opens_envelope : (fault : EnvelopeFault) (given : Result Interchange OpenFault) →
+    given ≡ Err (Envelope fault) → Opens (Err (Envelope fault)) given
 opens_envelope envelope.InterchangeFrame given h = h
 opens_envelope envelope.InterchangeHeader given h = h
 opens_envelope envelope.MessageFrame given h = h
@@ -129,7 +131,8 @@ fault_opens_some old new (Token LongSegment) h came = let some = h came (λ e. f
 fault_opens_some old new (Token Memory) h came = let some = h came (λ e. false≢true cc) in (some.0, ap read_as some.1)
 fault_opens_some old new (Envelope fault) h came = ([], subst (λ (e : EnvelopeFault). Opens (Err (Envelope e)) (opened [])) (sym h) tt)
 
-pub envelope_opens : (all : List ℕ) (tokens : Tokens) (fault : EnvelopeFault) → tokens_of all ≡ Ok tokens → interchange_of tokens ≡ Err fault
+pub envelope_opens : (all : List ℕ) (tokens : Tokens) (fault : EnvelopeFault) →
+    tokens_of all ≡ Ok tokens → interchange_of tokens ≡ Err fault
     → Opens (Err (Envelope fault)) (opened all)
 envelope_opens all tokens fault read judged = opens_envelope fault (opened all) (ap read_as read ∙ ap judged_as judged)
 

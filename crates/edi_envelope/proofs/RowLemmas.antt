@@ -113,7 +113,8 @@ pub framed_by : (u : Segment) (mid : List Segment) (z : Segment)
 unfolding is_framed
 framed_by u mid z b none h = rw (at_end u mid z, between_of u mid z, b, none, h) refl
 
-pub not_ended : (u : Segment) (mid : List Segment) → is_unb u ≡ true → list_any is_outer mid ≡ false → is_unz (last_segment (u ∷ mid)) ≡ false
+pub not_ended : (u : Segment) (mid : List Segment) → is_unb u ≡ true →
+    list_any is_outer mid ≡ false → is_unz (last_segment (u ∷ mid)) ≡ false
 not_ended u mid b none =
     last_fails is_unz u mid (other_tag u.tag (codes "UNB") (codes "UNZ") refl b)
     (weaker is_unz is_outer (λ x h. (outer_tags x h).1) mid none)
@@ -155,7 +156,8 @@ whole_block u body t is none h = rw (at_end u body t, between_of u body t, is, n
 abbrev pub is_row : List Segment → Bool
 is_row xs = (length (before_message xs) == 0) && list_all is_block (blocks xs)
 
-pub plain_more : (body : List Segment) (s : Segment) → list_any is_frame body ≡ false → is_frame s ≡ false → list_any is_frame (body ++ s ∷ []) ≡ false
+pub plain_more : (body : List Segment) (s : Segment) → list_any is_frame body ≡ false →
+    is_frame s ≡ false → list_any is_frame (body ++ s ∷ []) ≡ false
 plain_more body s none h =
     list_any-append is_frame body (s ∷ []) ∙ or_from (list_any is_frame body) _ none (or_from (is_frame s) false h refl)
 
@@ -189,7 +191,8 @@ begun_more s xs more done u body is none =
               rw (not_h, not_t, group, bad_frame u body s (before_message xs) frame not_t) refl
           | inr plain ↦
               let no_group : (is_ung s || is_une s) ≡ false = rw (not_h, not_t) at plain in
-              let joined : (body ++ s ∷ []) ++ before_message xs ≡ body ++ s ∷ before_message xs = append_assoc body (s ∷ []) (before_message xs) in
+              let joined : (body ++ s ∷ []) ++ before_message xs ≡ body ++ s ∷ before_message xs =
+              append_assoc body (s ∷ []) (before_message xs) in
               rw (not_h, not_t, no_group) (ap (λ l. is_block (u ∷ l) && list_all is_block (blocks xs)) (sym joined)
               ∙ more u (body ++ s ∷ []) is (plain_more body s none plain))
         ]

@@ -168,10 +168,12 @@ and_swap true false false d = refl
 and_swap false b c d = refl
 
 pub within_both : (messages : List (List Segment))
-    → (list_all (λ message. has_identity (first_segment message)) messages && list_all has_count messages) ≡ list_all is_within_limits messages
+    → (list_all (λ message. has_identity (first_segment message)) messages && list_all has_count messages)
+    ≡ list_all is_within_limits messages
 within_both [] = refl
 within_both (m ∷ ms) =
-    and_swap (has_identity (first_segment m)) (list_all (λ message. has_identity (first_segment message)) ms) (has_count m) (list_all has_count ms)
+    and_swap (has_identity (first_segment m))
+    (list_all (λ message. has_identity (first_segment message)) ms) (has_count m) (list_all has_count ms)
     ∙ ap (λ b. is_within_limits m && b) (within_both ms)
 
 pub not_not : (b : Bool) → not (not b) ≡ b

@@ -136,7 +136,8 @@ pub fn open_feed<R: Source>(alloc: Global, feeder: &mut Feeder<R>) -> Result<Int
     ensures some { Came [] feeder.old.lender → (all : List ℕ) × Opens result (opened all) }
     ensures few { IfOk result (λ interchange. length interchange.messages ≤ 999) }
     ensures flag { stopped feeder.old.lender ≡ None → Flagged result (R.failed feeder.old.reader) (R.failed feeder.new.reader) }
-    ensures bound { TakesOf (R.remaining feeder.old.reader) (R.remaining feeder.new.reader) (room_of feeder.old.lender) (room_of feeder.new.lender) }
+    ensures bound { TakesOf (R.remaining feeder.old.reader) (R.remaining feeder.new.reader)
+        (room_of feeder.old.lender) (room_of feeder.new.lender) }
     ensures ends { AtEnd (R.remaining feeder.old.reader) feeder.old.lender → AtEnd (R.remaining feeder.new.reader) feeder.new.lender }
     ensures stops { Stops R.remaining (token_told result) feeder.old.reader feeder.old.lender feeder.new.reader feeder.new.lender }
     ensures origin { R.origin feeder.new.reader ≡ R.origin feeder.old.reader }

@@ -76,16 +76,17 @@ article = codes "4000862141404"
 abbrev despatch : List Segment → RawMessage
 despatch units = message (codes "DESADV") (unh ∷ bgm (codes "351") (codes "DA1") ∷ dtm ∷ rff (codes "128576") ∷ buyer ∷ supplier ∷ units)
 
-a_despatch : despatch_of (despatch (cps ∷ pac ∷ gin first ∷ lin (codes "1") article ∷ qty (codes "12") (codes "12") ∷ unt ∷ [])) ≡ Ok (record {
-  number = codes "DA1";
-  buyer = Some (codes "5412345000013");
-  supplier = codes "4012345500004";
-  units = record {
-    sscc = first;
-    lines = record { order = codes "128576"; order_line = None; gtin = codes "04000862141404"; quantity = 12 } ∷ [];
-  }
-      ∷ [];
-})
+a_despatch : despatch_of (despatch (cps ∷ pac ∷ gin first ∷ lin (codes "1") article ∷ qty (codes "12") (codes "12") ∷ unt ∷ []))
+    ≡ Ok (record {
+      number = codes "DA1";
+      buyer = Some (codes "5412345000013");
+      supplier = codes "4012345500004";
+      units = record {
+        sscc = first;
+        lines = record { order = codes "128576"; order_line = None; gtin = codes "04000862141404"; quantity = 12 } ∷ [];
+      }
+          ∷ [];
+    })
 unfolding despatch_of
 a_despatch = refl
 

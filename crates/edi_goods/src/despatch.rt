@@ -126,7 +126,8 @@ fn read_referred(
 ) -> Result<Items<Unit>, MessageFault>
     requires items { items.now ≡ read_units message.now.segments }
     requires despatched { despatched.now ≡ read_units message.now.segments }
-    ensures said { IfOk result (λ units. units ≡ map (spec.unit_from (spec.header_order message.now.segments)) (read_units message.now.segments)) }
+    ensures said { IfOk result
+        (λ units. units ≡ map (spec.unit_from (spec.header_order message.now.segments)) (read_units message.now.segments)) }
     ensures units { IfOk result (λ _. has_units message.now.segments ≡ true) }
     ensures ok { IfOk result (λ _. spec.lowest (faults_from MessageFault.Reference) message.now ≡ None) }
     ensures err { IfErr result (λ fault. fault ≢ MessageFault.Memory →
@@ -149,7 +150,8 @@ fn read_referred(
 
 // The units of the record, or the lowest fault of them and of what is judged behind them.
 fn read_announced(alloc: Global, message: &RawMessage) -> Result<Items<Unit>, MessageFault>
-    ensures said { IfOk result (λ units. units ≡ map (spec.unit_from (spec.header_order message.now.segments)) (read_units message.now.segments)) }
+    ensures said { IfOk result
+        (λ units. units ≡ map (spec.unit_from (spec.header_order message.now.segments)) (read_units message.now.segments)) }
     ensures units { IfOk result (λ _. has_units message.now.segments ≡ true) }
     ensures ok { IfOk result (λ _. spec.lowest (faults_from MessageFault.Line) message.now ≡ None) }
     ensures err { IfErr result (λ fault. fault ≢ MessageFault.Memory →

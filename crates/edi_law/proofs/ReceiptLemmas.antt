@@ -1,5 +1,6 @@
 -- The conditions of a receiving advice, and the advice that is read, are those that the relations say.
-use Rattle.std.proofs.Common.{◌≡◌, ◌⊎◌, inl, inr, ℕ, ◌<◌, Bool, true, false, ◌&&◌, ◌||◌, List, [], ◌∷◌, map, Option, Ok, Err, refl, sym, ap, subst, ◌∙◌, arith}
+use Rattle.std.proofs.Common.{◌≡◌, ◌⊎◌, inl, inr, ℕ, ◌<◌, Bool, true, false, ◌&&◌, ◌||◌, List, []}
+use Rattle.std.proofs.Common.{◌∷◌, map, Option, Ok, Err, refl, sym, ap, subst, ◌∙◌, arith}
 use Rattle.std.specs.Prelude.{◌↔◌, codes, is_some, unwrap_or, Decides}
 use Rattle.std.specs.List.{list_all, AllByRecursion, AllZip}
 use Rattle.std.proofs.lemmas.Bool.{and_parts, and_from}
@@ -24,7 +25,8 @@ use Rattle.edi_law.specs.Header.{HasFunction, NamesParty}
 use Rattle.edi_law.specs.Lines.{IsLine, IsAmount}
 use Rattle.edi_law.specs.Lowest.{IsLowest, IsFaultless}
 use Rattle.edi_law.specs.Parts.{OfLines}
-use Rattle.edi_law.specs.Receipt.{HasFunctionOf, HasKind, HasReceived, IsReceiptLine, AreWithin, AreReceived, IsRight, IsReceiptUnit, IsReceipt}
+use Rattle.edi_law.specs.Receipt.{HasFunctionOf, HasKind, HasReceived, IsReceiptLine}
+use Rattle.edi_law.specs.Receipt.{AreWithin, AreReceived, IsRight, IsReceiptUnit, IsReceipt}
 use Rattle.edi_law.specs.Segments.{says}
 use Rattle.edi_law.specs.Units.{OfUnits, AreLines, HasSscc, IsUnit, AreMarked}
 use Rattle.edi_law.proofs.Deciding.{Refutes, Refutes-not, Refutes-false, said_of, unwrap_of}
@@ -281,7 +283,8 @@ contents_are message receipt h =
     let given = h.units_are in
     let supplier = unwrap_of (party (codes "SU") message) (NamesParty (codes "SU") message) [] receipt.supplier
     (Says-party (codes "SU") message) h.supplier_is in
-    ap (λ n. receipt_from n (buyer message) su (replaces message) units) (document_number-from_HasBeginning (codes "632") message receipt.number h.number_is)
+    ap (λ n. receipt_from n (buyer message) su (replaces message) units)
+    (document_number-from_HasBeginning (codes "632") message receipt.number h.number_is)
     ∙ ap (λ b. receipt_from receipt.number b su (replaces message) units) (buyer-from_NamesBuyer message receipt.buyer h.buyer_is)
     ∙ ap (λ s. receipt_from receipt.number receipt.buyer s (replaces message) units) (sym supplier)
     ∙ ap (λ said. receipt_from receipt.number receipt.buyer receipt.supplier said units)

@@ -48,10 +48,11 @@ reached_more : (r next : Reading) (b : ℕ) (rest : List ℕ) → step r b ≡ O
 reached_more r next b rest e = ap (unless_fault r (λ n. reached n rest)) e
 
 feeds_more : (b : ℕ) (rest : List ℕ) → line_feeds (b ∷ rest) ≡ bit (nat_eq b 10) + line_feeds rest
-feeds_more b rest = elim (nat_eq b 10) as (λ t. length (if t then b ∷ filter (λ b. nat_eq b 10) rest else filter (λ b. nat_eq b 10) rest) ≡ bit t + line_feeds rest) [
-  | true ↦ omega arith
-  | false ↦ omega arith
-]
+feeds_more b rest = elim (nat_eq b 10) as
+    (λ t. length (if t then b ∷ filter (λ b. nat_eq b 10) rest else filter (λ b. nat_eq b 10) rest) ≡ bit t + line_feeds rest) [
+      | true ↦ omega arith
+      | false ↦ omega arith
+    ]
 
 bit_small : (t : Bool) → bit t ≤ 1
 bit_small true = omega arith
@@ -72,7 +73,8 @@ module _ (bytes : List ℕ) (machine next : Machine) (offset line segment : ℕ)
       → StandsAt bytes next (offset + 1) (line + bit (nat_eq (get_or bytes offset 0) 10)) (segment + bit ended)
   goes lent ended e count =
       let split = drop_more bytes offset 0 within in
-      let front_now = ap (front (reading_of s.lent machine)) split ∙ front_more (reading_of s.lent machine) (reading_of lent next) (get_or bytes offset 0) (drop (offset + 1) bytes) e in
+      let front_now = ap (front (reading_of s.lent machine)) split
+      ∙ front_more (reading_of s.lent machine) (reading_of lent next) (get_or bytes offset 0) (drop (offset + 1) bytes) e in
       let feeds = ap line_feeds front_now ∙ feeds_more (get_or bytes offset 0) (front (reading_of lent next) (drop (offset + 1) bytes)) in
       let small = bit_small ended in
       let small_line = bit_small (nat_eq (get_or bytes offset 0) 10) in
@@ -81,7 +83,8 @@ module _ (bytes : List ℕ) (machine next : Machine) (offset line segment : ℕ)
         counted = omega (arith, s.counted, count);
         front_is = omega (arith, s.front_is, ap length front_now);
         line_is = omega (arith, s.line_is, feeds);
-        reached_is = sym (ap (reached (reading_of s.lent machine)) split ∙ reached_more (reading_of s.lent machine) (reading_of lent next) (get_or bytes offset 0) (drop (offset + 1) bytes) e) ∙ s.reached_is;
+        reached_is = sym (ap (reached (reading_of s.lent machine)) split ∙ reached_more (reading_of s.lent machine)
+            (reading_of lent next) (get_or bytes offset 0) (drop (offset + 1) bytes) e) ∙ s.reached_is;
         few_lines = omega (arith, s.few_lines, small_line);
         few_segments = omega (arith, s.few_segments, small);
       }
@@ -133,7 +136,8 @@ stands : (bytes : List ℕ) (machine : Machine) (offset line segment : ℕ) (s :
     → ◌≡◌ {A = TextPlace} (record { offset = offset; line = line; segment = segment })
     (place_behind (front start bytes) (reached start bytes))
 stands bytes machine offset line segment s none there =
-    same_place offset (length (front start bytes)) line (line_feeds (front start bytes) + 1) segment (length (reached start bytes).segments + 1)
+    same_place offset (length (front start bytes)) line
+    (line_feeds (front start bytes) + 1) segment (length (reached start bytes).segments + 1)
     (omega (arith, s.front_is, ap length none))
     (omega (arith, s.line_is, ap line_feeds none))
     (s.counted ∙ ap (λ (r : Reading). length r.segments + 1) (sym there ∙ s.reached_is))

@@ -87,7 +87,8 @@ fn is_once_or_none(kind: &[u8], group: &[Segment]) -> bool
 
 // Whether a line group has one of the quantities received.
 fn is_any(group: &[Segment]) -> bool
-    ensures { result ≡ (is_some (receipt.accepted group.now) || is_some (receipt.returned group.now) || is_some (receipt.destroyed group.now)) }
+    ensures { result ≡ (is_some (receipt.accepted group.now)
+        || is_some (receipt.returned group.now) || is_some (receipt.destroyed group.now)) }
 {
     quantity_of(b"194", 0, group).is_some()
         || quantity_of(b"195", 0, group).is_some()

@@ -34,7 +34,8 @@ impl Numbers {
     /// Puts a number in, as a set does. Whether it comes for the first time.
     pub(crate) fn insert(&mut self, number: u32) -> Result<bool, MemoryFault>
         ensures new { IfOk result (λ new. new ≡ not (comes_among nat_eq number self.old)) }
-        ensures seen { OnOk result ((other : ℕ) → comes_among nat_eq other self.new ≡ (nat_eq other number || comes_among nat_eq other self.old)) }
+        ensures seen { OnOk result ((other : ℕ) → comes_among nat_eq other self.new
+            ≡ (nat_eq other number || comes_among nat_eq other self.old)) }
     {
         let new = self.set.insert(number)?;
         Ok(new)

@@ -150,7 +150,8 @@ module _ (words : RelayWords) (mark : ℕ) (lent : List Segment) where
       let body = text (map renumbered k.last) in
       let at : words.number + length messages ≡ g.number =
       ap (λ (n : ℕ). words.number + n) (length-map (blocks k.before) message_of) ∙ sym k.number in
-      let mail : mail_texts words mark words.number (map message_of (blocks (drop 1 lent))) ≡ mails ++ (front ++ (body ++ trailer_text g.number)) =
+      let mail : mail_texts words mark words.number (map message_of (blocks (drop 1 lent)))
+      ≡ mails ++ (front ++ (body ++ trailer_text g.number)) =
       ap (λ (l : List (List Segment)). mail_texts words mark words.number (map message_of l)) all
       ∙ ap (mail_texts words mark words.number) (map_push message_of (blocks k.before) k.last)
       ∙ mail_texts-push words mark words.number messages (message_of k.last)

@@ -2,7 +2,8 @@
 use Rattle.std.proofs.Common.{◌≡◌, ◌<◌, ◌≤◌, ◌-◌, ◌+◌, ℕ, zero, suc, List, [], ◌∷◌, ◌++◌, length, take, drop, get_or, set, refl, sym, ap}
 use Rattle.std.proofs.Common.{subst, ◌∙◌, append_assoc, arith, inl, inr}
 use Rattle.std.proofs.lemmas.List.{take_all, take-append-le, drop-append-le, drop-drop, length-drop, length-take, length-append}
-use Rattle.std.proofs.lemmas.List.{take-append-drop, drop_all, take-take, drop-take, nil_from_length, length-take-le, take_more_set, take_at}
+use Rattle.std.proofs.lemmas.List.{take-append-drop, drop_all, take-take, drop-take}
+use Rattle.std.proofs.lemmas.List.{nil_from_length, length-take-le, take_more_set, take_at}
 use Rattle.std.proofs.lemmas.List.{get_or-take, get_or-drop, get_or_past}
 use Rattle.std.proofs.lemmas.Bool.{cases_order}
 use Rattle.std.specs.Prelude.{nat_eq, ◌==◌}
@@ -331,7 +332,8 @@ module _ (bytes ends element_ends : List ℕ) (filled components elements from e
   left_is : IsLeft kept (length (take components ends) + 1) from filled left
   left_is = subst (λ (n : ℕ). IsLeft kept n from filled left) (sym all_ends) is
 
-  closed : IsFlat (take filled bytes) (take components ends ++ filled ∷ []) (take elements element_ends) filled element_from left elements_kept
+  closed : IsFlat (take filled bytes) (take components ends ++ filled ∷ [])
+      (take elements element_ends) filled element_from left elements_kept
   closed =
       flat-component (take filled bytes) (take components ends) (take elements element_ends) from element_from kept elements_kept filled
       f whole left left_is
@@ -350,7 +352,8 @@ module _ (bytes ends element_ends : List ℕ) (filled components elements from e
       filled left left elements_left × (left ≤ components + 1)
   flat-ended elements_left elements_is =
       let all : length (take elements element_ends) + 1 ≡ elements + 1 = counted element_ends elements elements_within in
-      let flat = flat-element (take filled bytes) (take components ends ++ filled ∷ []) (take elements element_ends) filled element_from left
+      let flat = flat-element (take filled bytes) (take components ends ++ filled ∷ [])
+      (take elements element_ends) filled element_from left
       elements_kept closed elements_left
       (subst (λ (n : ℕ). IsLeft elements_kept n element_from left elements_left) (sym all) elements_is) in (
         subst (λ l. IsFlat (take filled bytes) l (take (elements + 1) (set element_ends elements left)) filled left left elements_left)
@@ -366,7 +369,8 @@ module _ (bytes ends element_ends : List ℕ) (filled components elements from e
       ≡ with_element (flat_open tag (take filled bytes) (take components ends) (take elements element_ends) from element_from size)
   open-ended tag size =
       ap (λ l. flat_open tag (take filled bytes) l (take (elements + 1) (set element_ends elements left)) filled left (size + 1)) ends_are
-      ∙ ap (λ l. flat_open tag (take filled bytes) (take left (take components ends ++ filled ∷ [])) l filled left (size + 1)) element_ends_are
+      ∙ ap (λ l. flat_open tag (take filled bytes)
+      (take left (take components ends ++ filled ∷ [])) l filled left (size + 1)) element_ends_are
       ∙ open-element (take filled bytes) (take components ends ++ filled ∷ []) (take elements element_ends) filled element_from left
       elements_kept closed tag (size + 1)
       ∙ ap closed_of (open-component (take filled bytes) (take components ends) (take elements element_ends) from element_from kept
@@ -444,7 +448,8 @@ module _ (bytes ends element_ends : List ℕ) (components elements from element_
       let low = element_low lt in
       ap (λ (l : List (List (List ℕ))). get_or l element []) f.elements_left.front
       ∙ get_or-take elements_kept pieces element [] lt
-      ∙ get_or-cut 0 (take elements element_ends) element_from element (get_or (0 ∷ element_ends) element 0) (cut (take components ends) bytes)
+      ∙ get_or-cut 0 (take elements element_ends) element_from element
+      (get_or (0 ∷ element_ends) element 0) (cut (take components ends) bytes)
       f.elements_rise (shown_within lt) (omega (arith, low))
       ∙ rw (low, element_high lt) refl
 

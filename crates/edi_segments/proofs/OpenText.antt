@@ -1,5 +1,6 @@
 -- The canonical text of a segment that is open, as its bytes come.
-use Rattle.std.proofs.Common.{◌≡◌, ◌<◌, ◌-◌, ℕ, Bool, true, false, List, [], ◌∷◌, ◌++◌, length, take, Option, Some, None, refl, sym, ap, subst}
+use Rattle.std.proofs.Common.{◌≡◌, ◌<◌, ◌-◌, ℕ, Bool, true, false, List, [], ◌∷◌, ◌++◌}
+use Rattle.std.proofs.Common.{length, take, Option, Some, None, refl, sym, ap, subst}
 use Rattle.std.proofs.Common.{◌∙◌, append_assoc, arith}
 use Rattle.std.specs.Prelude.{IfSome, ◌&&◌, not, ◌==◌, if◌then◌else◌}
 use Rattle.std.specs.List.{flat_map, list_all}
@@ -181,8 +182,10 @@ pub ended_text : (o : Open)
     → ((length o.element == 0 && length o.component == 0) && length (without_empty_end o.elements) == length o.elements) ≡ true
     → take (length (open_text o) - 1) (open_text o) ++ 39 ∷ [] ≡ segment_text (segment_of o)
 ended_text o is =
-    let none = left_true (length o.element == 0 && length o.component == 0) (length (without_empty_end o.elements) == length o.elements) is in
-    let all = right_true (length o.element == 0 && length o.component == 0) (length (without_empty_end o.elements) == length o.elements) is in
+    let none = left_true (length o.element == 0 && length o.component == 0)
+    (length (without_empty_end o.elements) == length o.elements) is in
+    let all = right_true (length o.element == 0 && length o.component == 0)
+    (length (without_empty_end o.elements) == length o.elements) is in
     ended_parts o.tag o.elements o.element o.component
     (eqb-true (length o.element) 0 (left_true (length o.element == 0) (length o.component == 0) none))
     (eqb-true (length o.component) 0 (right_true (length o.element == 0) (length o.component == 0) none))

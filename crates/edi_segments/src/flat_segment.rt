@@ -1,7 +1,8 @@
 //! A segment whose data has begun, kept flat: its bytes in one buffer, and the places where components and elements
 //! end. Its buffers are made once, so that no later call takes memory.
 
-ghost use Rattle.std.specs.Prelude.{◌≡◌, ◌==◌, ◌&&◌, not, ◌+◌, ◌≤◌, ◌<◌, [], ◌∷◌, ◌++◌, length, take, drop, IsTrue, slice_index, slice_range, IfOk};
+ghost use Rattle.std.specs.Prelude.{◌≡◌, ◌==◌, ◌&&◌, not, ◌+◌, ◌≤◌, ◌<◌, [], ◌∷◌, ◌++◌, length};
+ghost use Rattle.std.specs.Prelude.{take, drop, IsTrue, slice_index, slice_range, IfOk};
 ghost use Rattle.edi_segments.specs.Spelling.{segment_limit, without_empty_end};
 ghost use Rattle.edi_segments.specs.Flat.{IsLeft};
 ghost use Rattle.edi_segments.specs.ServiceTable.{are_run};

@@ -3,10 +3,15 @@ use edi_show::{Shown, show_text};
 use std::alloc::Global;
 
 const TEXT: &[u8] =
-    b"UNB+UNOC:3+5412345000013:14+5412345000006:14+250603:0915+1001'UNH+1+ORDERS:D:01B:UN:EAN010'BGM+220+128576+9'DTM+137:20250603:102'NAD+BY+5412345000013::9'NAD+SU+4012345500004::9'LIN+1++4000862141404:SRV'QTY+21:48'UNS+S'CNT+2:1'UNT+10+1'UNH+2+ORDERS:D:01B:UN:EAN010'UNT+2+2'UNZ+2+1001'";
+    b"UNB+UNOC:3+5412345000013:14+5412345000006:14+250603:0915+1001'UNH+1+ORDERS:D:01B:UN:EAN010'BGM+220+128576+9'\
+        DTM+137:20250603:102'NAD+BY+5412345000013::9'NAD+SU+4012345500004::9'LIN+1++4000862141404:SRV'QTY+21:48'\
+        UNS+S'CNT+2:1'UNT+10+1'UNH+2+ORDERS:D:01B:UN:EAN010'UNT+2+2'UNZ+2+1001'";
 
 const LINES: &[u8] =
-    b"service component : element + decimal . release ? terminator '\ninterchange 1001\n  sender 5412345000013\n  recipient 5412345000006\n  prepared 250603 0915\n  messages 2\nmessage 1\n  reference 1\n  type ORDERS\n  order 128576\n  buyer 5412345000013\n  supplier 4012345500004\n  line 1 item 04000862141404 ordered 48\nmessage 2\n  reference 2\n  type ORDERS\n  refused M02 beginning of the message at segment 13\n";
+    b"service component : element + decimal . release ? terminator '\ninterchange 1001\n  sender 5412345000013\
+        \n  recipient 5412345000006\n  prepared 250603 0915\n  messages 2\nmessage 1\n  reference 1\n  type ORDERS\
+        \n  order 128576\n  buyer 5412345000013\n  supplier 4012345500004\n  line 1 item 04000862141404 ordered 48\
+        \nmessage 2\n  reference 2\n  type ORDERS\n  refused M02 beginning of the message at segment 13\n";
 
 // A text, whether it is refused, and the lines that show it.
 type Row = (&'static [u8], bool, &'static [u8]);

@@ -2,7 +2,8 @@
 use Rattle.std.proofs.Common.{◌≡◌, ℕ, ◌+◌, ◌-◌, ◌<◌, ◌≤◌, Bool, true, false, List, [], ◌++◌, length, take, drop, Option, Some, None}
 use Rattle.std.proofs.Common.{min, zero, suc, Result, Ok, Err, refl, sym, ap, subst, ◌∙◌, append_assoc, arith}
 use Rattle.std.specs.Prelude.{nat_lt, if◌then◌else◌}
-use Rattle.std.proofs.lemmas.List.{append-nil, take-append-drop, take-append-le, take_all, take_at, drop_at, length-append, length-drop, length-take, nil_from_length}
+use Rattle.std.proofs.lemmas.List.{append-nil, take-append-drop, take-append-le, take_all, take_at}
+use Rattle.std.proofs.lemmas.List.{drop_at, length-append, length-drop, length-take, nil_from_length}
 use Rattle.std.proofs.lemmas.Bool.{le-ltb, lt-ltb, ltb-true, ltb-false}
 use Rattle.std.specs.Io.KnownBytes.{Consumes, IsAtEnd}
 use Rattle.edi_tokens.specs.declared.lender.Lender.{Lender}
@@ -13,7 +14,8 @@ use Rattle.edi_segments.specs.declared.segment.Segment.{Segment}
 use Rattle.edi_segments.specs.declared.fault.TokenFault.{TokenFault}
 use Rattle.edi_segments.specs.declared.fault.TokenFault.TheVariants.{TooLong, ServiceString, Byte, Cut, Tag, LongSegment, Read, Memory}
 use Rattle.edi_segments.specs.Spelling.{text_limit}
-use Rattle.edi_segments.specs.Reading.{Reading, Place, Outside, InService, InTag, InData, Released, start, run, finish, finish_at, tokens_of, ◌>>=◌}
+use Rattle.edi_segments.specs.Reading.{Reading, Place, Outside, InService, InTag, InData, Released}
+use Rattle.edi_segments.specs.Reading.{start, run, finish, finish_at, tokens_of, ◌>>=◌}
 use Rattle.edi_segments.specs.Machine.{reading_of, after}
 use Rattle.edi_tokens.specs.Piece.{FillsWith}
 use Rattle.edi_tokens.specs.Lender.{Begins, Came, GoesOn, Fed, FitsSome, Took, Filled, FillsSome, TakesOf, IsOfText, HasCause}
@@ -89,7 +91,8 @@ module _ (known : Option (List ℕ)) (all : List ℕ) (lent : List Segment) (f :
         ∙ ap (λ l. fed.taken ++ l) (append_assoc (take count f.piece) (drop count f.piece) fed.left)
         ∙ ap (λ l. fed.taken ++ (take count f.piece ++ (l ++ fed.left))) (sym rest)
         ∙ sym (append_assoc fed.taken (take count f.piece) (p ++ fed.left)),
-    run_on start (reading_of lent f.machine) fed.taken (take count f.piece) fed.read_as ∙ run_lent lent f.machine m ended (take count f.piece) runs,
+    run_on start (reading_of lent f.machine) fed.taken (take count f.piece) fed.read_as
+        ∙ run_lent lent f.machine m ended (take count f.piece) runs,
     omega (arith, length-append fed.taken (take count f.piece), length-take count f.piece, ap length rest, length-drop count f.piece),
   )
 
@@ -166,7 +169,8 @@ module _ (known : Option (List ℕ)) (all : List ℕ) (lent : List Segment) (f :
     filled_end is =
         let end = at_end_known after behind.0 behind.1 (fills.ends is goes.2) in
         let empty : piece ≡ [] = nil_from_length piece (omega (arith, fills.count_is)) in
-        let same : all ≡ fed.taken = whole ∙ ap (λ l. fed.taken ++ (l ++ behind.0)) empty ∙ ap (λ l. fed.taken ++ l) end ∙ append-nil fed.taken in (
+        let same : all ≡ fed.taken = whole ∙ ap (λ l. fed.taken ++ (l ++ behind.0)) empty
+        ∙ ap (λ l. fed.taken ++ l) end ∙ append-nil fed.taken in (
           record {
             taken = fed.taken;
             left = behind.0;
@@ -291,7 +295,8 @@ module _ (lent : List Segment) (f : Lender) (came : Came lent f) where
 
     fed_more : f.tail ≡ More → Fed (Some (piece ++ [])) all_more lent f
     fed_more tail =
-        let goes = subst (λ (t : Tail). GoesOn t came.known came.fed.left f.room (length came.fed.taken + length f.piece)) tail came.fed.goes_on in
+        let goes = subst (λ (t : Tail). GoesOn t came.known came.fed.left f.room
+        (length came.fed.taken + length f.piece)) tail came.fed.goes_on in
         record {
           taken = came.fed.taken;
           left = piece ++ [];
@@ -304,14 +309,16 @@ module _ (lent : List Segment) (f : Lender) (came : Came lent f) where
 
     fed_within : f.tail ≡ Within → Fed (Some (piece ++ [])) all_within lent f
     fed_within tail =
-        let goes = subst (λ (t : Tail). GoesOn t came.known came.fed.left f.room (length came.fed.taken + length f.piece)) tail came.fed.goes_on in
+        let goes = subst (λ (t : Tail). GoesOn t came.known came.fed.left f.room
+        (length came.fed.taken + length f.piece)) tail came.fed.goes_on in
         record {
           taken = came.fed.taken;
           left = take f.room (piece ++ []);
           all_is = refl;
           read_as = came.fed.read_as;
           goes_on =
-              subst (λ (t : Tail). GoesOn t (Some (piece ++ [])) (take f.room (piece ++ [])) f.room (length came.fed.taken + length f.piece))
+              subst (λ (t : Tail). GoesOn t (Some (piece ++ []))
+              (take f.room (piece ++ [])) f.room (length came.fed.taken + length f.piece))
               (sym tail) (record { bytes = piece ++ []; known_is = refl; left_is = refl }, goes.1, goes.2);
         }
 

@@ -10,7 +10,8 @@ use Rattle.edi_segments.specs.declared.fault.TokenFault.{TokenFault}
 use Rattle.edi_segments.specs.Characters.{is_line_end, is_capital, is_digit, is_data, is_special}
 use Rattle.edi_segments.specs.Service.{service_of}
 use Rattle.edi_segments.specs.Spelling.{segment_limit}
-use Rattle.edi_segments.specs.Reading.{Reading, Place, Outside, InService, InTag, InData, Released, Open, adopt, step, step_at, step_data, step_released}
+use Rattle.edi_segments.specs.Reading.{Reading, Place, Outside, InService, InTag, InData, Released}
+use Rattle.edi_segments.specs.Reading.{Open, adopt, step, step_at, step_data, step_released}
 use Rattle.edi_segments.specs.Reading.{run, ◌>>=◌}
 use Rattle.edi_segments.specs.Machine.{reading_of, after}
 use Rattle.edi_tokens.specs.Lender.{IsOfText}

@@ -28,10 +28,12 @@ module _ (lent : List Segment) (m next : Machine) (rest : List ℕ) (total : Res
   pub all_in : (count : ℕ) → count ≡ length rest → run (reading_of [] m) (take count rest) ≡ Ok (after [] false next)
       → total ≡ Ok (reading_of lent next)
   all_in count whole runs =
-      sym so_far ∙ ap (run (reading_of lent m)) (sym (take_all count rest (omega arith))) ∙ run_lent lent m next false (take count rest) runs
+      sym so_far ∙ ap (run (reading_of lent m)) (sym (take_all count rest (omega arith)))
+      ∙ run_lent lent m next false (take count rest) runs
 
   pub one_in : (count : ℕ) → run (reading_of [] m) (take count rest) ≡ Ok (after [] true next)
       → run (after lent true next) (drop count rest) ≡ total
   one_in count runs =
-      sym (run_on (reading_of lent m) (after lent true next) (take count rest) (drop count rest) (run_lent lent m next true (take count rest) runs))
+      sym (run_on (reading_of lent m) (after lent true next) (take count rest)
+      (drop count rest) (run_lent lent m next true (take count rest) runs))
       ∙ ap (run (reading_of lent m)) (take-append-drop count rest) ∙ so_far

@@ -1,5 +1,6 @@
 -- Once a segment has come, the service characters stay.
-use Rattle.std.proofs.Common.{◌≡◌, ◌≢◌, ◌⊎◌, ◌-◌, inl, inr, ℕ, Bool, true, false, not, List, [], ◌∷◌, ◌++◌, length, take, Option, Some, None}
+use Rattle.std.proofs.Common.{◌≡◌, ◌≢◌, ◌⊎◌, ◌-◌, inl, inr, ℕ, Bool, true, false, not}
+use Rattle.std.proofs.Common.{List, [], ◌∷◌, ◌++◌, length, take, Option, Some, None}
 use Rattle.std.proofs.Common.{Result, Ok, Err, refl, sym, ap, subst, ◌∙◌, arith}
 use Rattle.std.specs.Prelude.{◌==◌, ◌||◌, nat_lt, if◌then◌else◌}
 use Rattle.edi_tokens.specs.declared.lender.Lender.{Lender}
@@ -11,7 +12,8 @@ use Rattle.edi_segments.specs.declared.fault.TokenFault.TheVariants.{TooLong}
 use Rattle.edi_segments.specs.Characters.{is_line_end, is_capital, is_digit, is_data, is_special}
 use Rattle.edi_segments.specs.Service.{service_of}
 use Rattle.edi_segments.specs.Spelling.{segment_limit, text_limit}
-use Rattle.edi_segments.specs.Reading.{Reading, Place, Outside, InService, InTag, InData, Released, Open, adopt, start, step, step_at, step_data}
+use Rattle.edi_segments.specs.Reading.{Reading, Place, Outside, InService, InTag, InData}
+use Rattle.edi_segments.specs.Reading.{Released, Open, adopt, start, step, step_at, step_data}
 use Rattle.edi_segments.specs.Reading.{run, finish, finish_at, tokens_of, ◌>>=◌}
 use Rattle.edi_segments.specs.Machine.{reading_of}
 use Rattle.edi_tokens.specs.Lender.{Fed}
@@ -141,7 +143,8 @@ module _ (known : Option (List ℕ)) (all : List ℕ) (lent : List Segment) (l :
 
   says : Says l.machine.service (tokens_of all)
   says =
-      subst (λ (x : Result Reading TokenFault). Says l.machine.service (x >>= λ r. if nat_lt text_limit (length all) then Err TooLong else finish r))
+      subst (λ (x : Result Reading TokenFault). Says l.machine.service
+      (x >>= λ r. if nat_lt text_limit (length all) then Err TooLong else finish r))
       (sym runs)
       (run_says l.machine.service (run (reading_of lent l.machine) more) (nat_lt text_limit (length all))
       (run_keeps (reading_of lent l.machine) more settled))

@@ -56,7 +56,8 @@ impl<R: Source> Feeder<R> {
     /// Reads to the end of the next segment and lends it; None at the end of the text. After a fault it answers the same
     /// fault for good, and reads nothing more. It takes no memory.
     pub fn next_segment(&mut self) -> Result<Option<SegmentRef<'_>>, TokenFault>
-        ensures* { sem 𝓛 (follows_so (the_row R.row) (the_row R.row) self.entry.ghost_name none (λ _ _. ⊤) (λ new. FeedsOn R.remaining R.failed self.old (segment_told result) new)) }
+        ensures* { sem 𝓛 (follows_so (the_row R.row) (the_row R.row) self.entry.ghost_name none
+            (λ _ _. ⊤) (λ new. FeedsOn R.remaining R.failed self.old (segment_told result) new)) }
     {
         if !self.advance()? {
             return Ok(None);

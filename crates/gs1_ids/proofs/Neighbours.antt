@@ -77,7 +77,8 @@ turned x y = or_comm (begins x y) (begins y x)
 
 unlike : (xs : List (List ℕ)) → NoneOverlap xs → Unlike xs
 unlike xs none i j d first second differ =
-    ⊎_elim (λ before. none i j d before second) (λ after. turned (get_or xs i d) (get_or xs j d) ∙ none j i d (omega (arith, after, differ)) first) (cases_lt i j)
+    ⊎_elim (λ before. none i j d before second) (λ after. turned (get_or xs i d) (get_or xs j d)
+    ∙ none j i d (omega (arith, after, differ)) first) (cases_lt i j)
 
 -- of an exchange of two places: what stands at k stood at m
 abbrev From : ℕ → ℕ → ℕ → ℕ → Type 0

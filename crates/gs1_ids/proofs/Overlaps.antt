@@ -118,7 +118,8 @@ none_overlap-parts ps qs none =
 
 pub apart-parts : (ps qs rest : List (List ℕ)) → AreApart ps (qs ++ rest) → AreApart ps qs × AreApart ps rest
 apart-parts ps qs rest apart = (
-  λ i d first j e second. ap (overlap (get_or ps i d)) (sym (get_or-append qs rest e j second)) ∙ apart i d first j e (omega (arith, second, long)),
+  λ i d first j e second. ap (overlap (get_or ps i d)) (sym (get_or-append qs rest e j second))
+      ∙ apart i d first j e (omega (arith, second, long)),
   λ i d first j e second.
       ap (overlap (get_or ps i d)) (sym (behind qs rest j e)) ∙ apart i d first (length qs + j) e (omega (arith, second, long)),
 )

@@ -2,7 +2,8 @@
 ghost use Rattle.std.specs.Prelude.{◌≡◌, ◌↔◌, false, [], ◌∷◌, length, map, position, IsNone, IfSome, IsTrue};
 ghost use Rattle.std.specs.List.{list_any, AllAdjacentBelow};
 ghost use Rattle.std.specs.List.Sorted.{IsPermutation};
-ghost use Rattle.gs1_ids.specs.Overlap.{first_overlap_of, IsFirstOverlap, NoneOverlap, AreApart, PrefixFree, PrefixesOfOneOverlap, SsccHasOneSupplier};
+ghost use Rattle.gs1_ids.specs.Overlap.{first_overlap_of, IsFirstOverlap, NoneOverlap, AreApart};
+ghost use Rattle.gs1_ids.specs.Overlap.{PrefixFree, PrefixesOfOneOverlap, SsccHasOneSupplier};
 ghost use Rattle.gs1_ids.specs.Overlap as spec;
 ghost use Rattle.gs1_ids.specs.Prefix.{overlap};
 

@@ -10,7 +10,8 @@ use std::test::*;
 const BODY: &[u8] = b"             1 ORDERS 128576\nend\n";
 
 const TEXT: &[u8] =
-    b"HTTP/1.1 200 OK\r\nContent-Type: application/octet-stream\r\nContent-Length: 33\r\nConnection: close\r\n\r\n             1 ORDERS 128576\nend\n";
+    b"HTTP/1.1 200 OK\r\nContent-Type: application/octet-stream\r\nContent-Length: 33\r\nConnection: close\
+        \r\n\r\n             1 ORDERS 128576\nend\n";
 
 /// A writer with room for so many bytes, of which it takes a few at a time; then it takes nothing.
 #[derive(Drop)]
@@ -53,7 +54,8 @@ static RESPONSES: [(u16, &[u8], &[u8]); 6] = [
     (
         503,
         b"stopped\n",
-        b"HTTP/1.1 503 Service Unavailable\r\nContent-Type: application/octet-stream\r\nContent-Length: 8\r\nConnection: close\r\n\r\nstopped\n",
+        b"HTTP/1.1 503 Service Unavailable\r\nContent-Type: application/octet-stream\r\nContent-Length: 8\
+            \r\nConnection: close\r\n\r\nstopped\n",
     ),
     (
         411,
@@ -63,7 +65,8 @@ static RESPONSES: [(u16, &[u8], &[u8]); 6] = [
     (
         413,
         b"too large\n",
-        b"HTTP/1.1 413 Payload Too Large\r\nContent-Type: application/octet-stream\r\nContent-Length: 10\r\nConnection: close\r\n\r\ntoo large\n",
+        b"HTTP/1.1 413 Payload Too Large\r\nContent-Type: application/octet-stream\r\nContent-Length: 10\
+            \r\nConnection: close\r\n\r\ntoo large\n",
     ),
     (
         405,

@@ -216,12 +216,14 @@ module _ {S : Type 0} (content : S → Tables) (honest : S → Type 0) (left : S
         → Carried {X = Seen} content honest left old new (act (Accept changes)) (λ _. Accepted) (Err fault))
         → Carried content honest left old new (joined register Whole row) as_told result
     let_in_failed fault other result is then =
-        subst (λ (r : Result Reply StoreFault). Carried content honest left old new (joined register Whole row) as_told r) (sym is) (record {
+        subst (λ (r : Result Reply StoreFault). Carried content honest left old new (joined register Whole row) as_told r)
+        (sym is) (record {
           done = λ h. tt;
           durable = λ h. tt;
           crash = λ h t l. elim ((then fits).crash h t l) [
             | inl e ↦ inl e
-            | inr e ↦ inr (e ∙ sym (ap (λ (after : Reply × Tables). after.1) (joined_as register row (Accept changes) accepted may (content old))))
+            | inr e ↦ inr (e ∙ sym
+                (ap (λ (after : Reply × Tables). after.1) (joined_as register row (Accept changes) accepted may (content old))))
           ];
         })
 

@@ -26,10 +26,12 @@ use Rattle.hub_texts.specs.Articles.{article_among}
 -- the line that a content names is there
 there_is : (number : List ℕ) (n : ℕ) (lines : List LineRow)
     → list_any (λ line. same line.number number && (line.line == n)) lines ≡ true
-    → is_some (option_map (λ (row : LineRow). row.gtin) (find (λ line. line.line == n) (filter (λ line. same line.number number) lines))) ≡ true
+    → is_some (option_map (λ (row : LineRow). row.gtin)
+    (find (λ line. line.line == n) (filter (λ line. same line.number number) lines))) ≡ true
 there_is number n [] h = h
 there_is number n (line ∷ lines) h =
-    elim (same line.number number) as (λ v. ((v && (line.line == n)) || list_any (λ line. same line.number number && (line.line == n)) lines) ≡ true
+    elim (same line.number number) as
+    (λ v. ((v && (line.line == n)) || list_any (λ line. same line.number number && (line.line == n)) lines) ≡ true
     → is_some (option_map (λ (row : LineRow). row.gtin) (find (λ line. line.line == n)
     (cond v (line ∷ filter (λ line. same line.number number) lines) (filter (λ line. same line.number number) lines)))) ≡ true) [
       | true ↦ λ here. elim (line.line == n) as
@@ -94,7 +96,8 @@ module _ (state : Tables) (sscc : List ℕ) where
       let pieces = and_parts (nat_le 1 content.quantity) (nat_le content.quantity greatest) line.1 in
       ((leb-true content.place 999_999 at.1, leb-true content.quantity greatest pieces.1), places_within contents clean.1)
 
-  from_one : (contents : List ContentRow) → AllByRecursion (λ row. clean_content row ≡ true) contents → AllByRecursion (λ later. 0 < later.place) contents
+  from_one : (contents : List ContentRow) → AllByRecursion (λ row. clean_content row ≡ true) contents →
+      AllByRecursion (λ later. 0 < later.place) contents
   from_one [] clean = tt
   from_one (content ∷ contents) clean =
       let key = and_parts (is_key 18 content.sscc) _ clean.0 in
@@ -102,7 +105,8 @@ module _ (state : Tables) (sscc : List ℕ) where
       let at = and_parts (nat_le 1 content.place) (nat_le content.place 999_999) place.0 in
       (leb-true 1 content.place at.0, from_one contents clean.1)
 
-  of_pallet : (contents : List ContentRow) → AllByRecursion (λ row. same row.sscc sscc ≡ true) contents → AllByRecursion (λ row. row.sscc ≡ sscc) contents
+  of_pallet : (contents : List ContentRow) → AllByRecursion (λ row. same row.sscc sscc ≡ true) contents →
+      AllByRecursion (λ row. row.sscc ≡ sscc) contents
   of_pallet [] all = tt
   of_pallet (content ∷ contents) all = (same_is content.sscc sscc all.0, of_pallet contents all.1)
 

@@ -64,7 +64,8 @@ pub fn take_retailers_message<S: Store>(
         Carried S.content S.honest S.left store.old store.new
         (deliver_named register.now (message.now, incoming moment interchange.now message.now)) told_of result }
     ensures fails { FailsWith S.plain ⊥
-        (OfAny (deliver_named register.now (message.now, incoming moment interchange.now message.now)) told_of) (S.broken store.old) (S.broken store.new) result }
+        (OfAny (deliver_named register.now (message.now, incoming moment interchange.now message.now)) told_of)
+        (S.broken store.old) (S.broken store.new) result }
     ensures unharmed { Unharmed S.content S.honest store.old store.new result }
     ensures line { IfOk result (λ told. reply.new.items ≡ reply.old.items
         ++ line (message.now.reference ∷ message.now.kind ∷ told_words (told_of told))) }

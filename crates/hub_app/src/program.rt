@@ -167,7 +167,8 @@ A message that is refused has one line behind its type, as 'refused M08 quantity
 Where the whole is refused, one line is all, as 'refused E12 count of segments at segment 9', or
 'refused E03 byte in a segment at offset 122 line 4 segment 7'. Segments are counted from UNB as 1.
 
-Exit status: 0 nothing is refused; 1 the text, the interchange or a message is refused; 2 usage error; 3 a failed read or write, or out of memory";
+Exit status: 0 nothing is refused; 1 the text, the interchange or a message is refused; 2 usage error; \
+3 a failed read or write, or out of memory";
 
 fn show_command<'a>(alloc: Global) -> Result<Command<'a>, AllocError>
     ensures { IfOk result (IsCommand show) }
@@ -254,7 +255,8 @@ It prints 'accepted', and from then on the supplier may send and be sent message
   B19  a prefix begins one of another supplier, or is begun by it
   B20  1000 suppliers are in the hub
 
-Exit status: 0 accepted; 1 refused or denied; 2 usage error; 3 a file or the database failed, the hub stopped, or out of memory";
+Exit status: 0 accepted; 1 refused or denied; 2 usage error; \
+3 a file or the database failed, the hub stopped, or out of memory";
 
 static JOIN_OPTIONS: [Choice; 3] = [
     Choice::Wanted("supplier", "GLN", "GLN of the supplier, 13 digits"),
@@ -297,7 +299,8 @@ prints for each file its name and the hub's reply, which has a line for each mes
 A message that comes again is 'repeated'. One that is not taken is 'refused' with its code, as
 '1 ORDERS refused B01', and so is a whole interchange, as 'refused E12'.
 
-Exit status: 0 all is accepted or repeated; 1 something is refused or denied; 2 usage error; 3 a file or the database failed, the hub stopped, or out of memory";
+Exit status: 0 all is accepted or repeated; 1 something is refused or denied; 2 usage error; \
+3 a file or the database failed, the hub stopped, or out of memory";
 
 static IMPORT_OPTIONS: [Choice; 1] = [Choice::Wanted(
     "folder",
@@ -390,7 +393,8 @@ const CANCEL_HELP: &str = "The retailer cancels 10 pieces of line 1 of order 128
 It prints 'accepted', 'repeated' where this cancellation was accepted before, or 'refused' with the code, as
 'refused B17' where less than that is open.
 
-Exit status: 0 accepted or repeated; 1 refused or denied; 2 usage error; 3 a file or the database failed, the hub stopped, or out of memory";
+Exit status: 0 accepted or repeated; 1 refused or denied; 2 usage error; \
+3 a file or the database failed, the hub stopped, or out of memory";
 
 static CANCEL_OPTIONS: [Choice; 5] = [
     Choice::Wanted("supplier", "GLN", "GLN of the supplier, 13 digits"),
@@ -440,7 +444,9 @@ A request to the hub as it runs, and its answer:
 
   curl -H 'X-Hub-Key: alpha-key-1' http://127.0.0.1:8080/p/4012345500004/mail/after/0
 
-Exit status: 0 all connections were answered 200; 1 one was not; 2 usage error; 3 a connection failed or was answered 503, a file or the database failed, the port cannot be listened on, or out of memory";
+Exit status: 0 all connections were answered 200; 1 one was not; 2 usage error; \
+3 a connection failed or was answered 503, a file or the database failed, the port cannot be listened on, \
+or out of memory";
 
 static SERVE_OPTIONS: [Choice; 4] = [
     Choice::Wanted("db", "FILE", "The hub's database, which 'init' made"),

@@ -442,10 +442,12 @@ const MAIL_LIMITS: &str =
     "a GLN is 13 digits with a right check digit, --moment is 0 to 4102444799, --do is after, item or taken, and --n is 1 to 14 digits";
 
 const CANCEL_LIMITS: &str =
-    "a GLN is 13 digits with a right check digit, --moment is 0 to 4102444799, --reference is 1 to 14 and --order 1 to 35 printable ASCII characters, --line is 1 to 999999, and --quantity is 1 to 999999999";
+    "a GLN is 13 digits with a right check digit, --moment is 0 to 4102444799, --reference is 1 to 14 and --order 1 \
+        to 35 printable ASCII characters, --line is 1 to 999999, and --quantity is 1 to 999999999";
 
 const JOIN_LIMITS: &str =
-    "a GLN is 13 digits with a right check digit, --moment is 0 to 4102444799, --supplier-key is 8 to 64 visible ASCII characters, and --prefixes are 1 to 8 different ones of 4 to 12 digits, with commas between them";
+    "a GLN is 13 digits with a right check digit, --moment is 0 to 4102444799, --supplier-key is 8 to 64 visible \
+        ASCII characters, and --prefixes are 1 to 8 different ones of 4 to 12 digits, with commas between them";
 
 const SERVE_LIMITS: &str =
     "--port is 1 to 65535, --count is 1 to 1000000, and --moment is 0 to 4102444799";

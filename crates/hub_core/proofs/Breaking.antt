@@ -184,7 +184,13 @@ module _ (register : RegisterRows) where
     over_broken old new fault run one lasts = record {
       after = elim run.after [
         | inl e ↦ inl (lasts ∙ e)
-        | inr e ↦ inr (e.0, (subst (λ (o : Option LastingFault). IsSome o) (sym lasts) e.1.0, since_more inputs replies input reply e.1.1 one.again))
+        | inr e ↦ inr (
+          e.0,
+          (
+            subst (λ (o : Option LastingFault). IsSome o) (sym lasts) e.1.0,
+            since_more inputs replies input reply e.1.1 one.again,
+          ),
+        )
       ];
       again = where_both old run.again run.again (λ all _. all_more inputs replies input reply all one.again);
       over_plain = λ p. lasts ∙ run.over_plain p;

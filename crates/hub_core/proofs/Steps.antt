@@ -1,5 +1,6 @@
 -- What a step and a run did is what the laws say of the machine.
-use Rattle.std.proofs.Common.{◌≡◌, ◌≢◌, ◌↔◌, inl, inr, ℕ, zero, suc, ◌+◌, drop, List, [], ◌∷◌, ◌++◌, length, map, Option, Some, refl, sym, ap, subst}
+use Rattle.std.proofs.Common.{◌≡◌, ◌≢◌, ◌↔◌, inl, inr, ℕ, zero, suc, ◌+◌, drop, List, [], ◌∷◌}
+use Rattle.std.proofs.Common.{◌++◌, length, map, Option, Some, refl, sym, ap, subst}
 use Rattle.std.proofs.Common.{◌∙◌, append_assoc}
 use Rattle.std.specs.Prelude.{slice_get, Result, Ok, Err, IfOk, OnErr, IsErr}
 use Rattle.std.specs.List.{AllByRecursion}
@@ -70,7 +71,8 @@ pub asked_with : {S : Type 0} (content : S → Tables) (honest : S → Type 0) (
     → Asked content honest left old new (acts_of (upload_of register input)) (λ mark t. step_under register t input mark) result
     → Asked content honest left old new (acts_of (upload_of (register_of (content old)) input)) (λ mark t. shared_step t input mark) result
 asked_with content honest left old new register input result here asked =
-    subst (λ (r : RegisterRows). Asked content honest left old new (acts_of (upload_of r input)) (λ mark t. shared_step t input mark) result)
+    subst (λ (r : RegisterRows). Asked content honest left old new
+    (acts_of (upload_of r input)) (λ mark t. shared_step t input mark) result)
     here.held
     (asked_same content honest left old new (acts_of (upload_of register input)) (λ mark t. step_under register t input mark)
     (λ mark t. shared_step t input mark) result (λ mark. ap (λ (r : RegisterRows). step_under r (content old) input mark) here.held) asked)

@@ -1,5 +1,6 @@
 -- The prefixes of each supplier, gathered one after another.
-use Rattle.std.proofs.Common.{◌≡◌, ℕ, zero, suc, ◌<◌, Bool, true, false, cond, List, [], ◌∷◌, ◌++◌, length, get_or, map, filter, slice_set, refl, sym, ap, ap₂, ◌∙◌, arith}
+use Rattle.std.proofs.Common.{◌≡◌, ℕ, zero, suc, ◌<◌, Bool, true, false, cond, List, [], ◌∷◌, ◌++◌}
+use Rattle.std.proofs.Common.{length, get_or, map, filter, slice_set, refl, sym, ap, ap₂, ◌∙◌, arith}
 use Rattle.std.specs.List.{AllByRecursion, HoldsAt}
 use Rattle.std.specs.Ordering.{is_eq}
 use Rattle.std.specs.declared.cmp.Ordering.TheVariants.{Less}
@@ -41,7 +42,8 @@ pub one_put : (row : PrefixRow) (rest : List PrefixRow) (keys : List KeyRow) (li
 one_put row rest [] [] = refl
 one_put row rest [] (list ∷ lists) = refl
 one_put row rest (key ∷ keys) [] = refl
-one_put row rest (key ∷ keys) (list ∷ lists) = ap₂ (λ first more. first ∷ more) (here (same row.supplier key.supplier)) (one_put row rest keys lists)
+one_put row rest (key ∷ keys) (list ∷ lists) =
+    ap₂ (λ first more. first ∷ more) (here (same row.supplier key.supplier)) (one_put row rest keys lists)
   where
     here : (b : Bool)
         → list ++ map (λ (found : PrefixRow). found.prefix)
@@ -81,12 +83,14 @@ module _ {V : Type 0} (items : V → List (List ℕ)) (row : PrefixRow) (new : V
   put_at (key ∷ keys) (list ∷ lists) zero old rises same_length within at is =
       let mine : same row.supplier key.supplier ≡ true = same_if row.supplier key.supplier (sym (at key)) in
       let others = all_weaker (λ y. key_cmp key y ≡ Less) (λ y. same row.supplier y.supplier ≡ false)
-      (λ y less. bytes_eq-sym row.supplier y.supplier ∙ ap (same y.supplier) (sym (at key)) ∙ below_is_other key.supplier y.supplier less) keys rises.0 in
+      (λ y less. bytes_eq-sym row.supplier y.supplier ∙ ap (same y.supplier) (sym (at key))
+      ∙ below_is_other key.supplier y.supplier less) keys rises.0 in
       ap₂ (λ first more. first ∷ more) (is ∙ ap (λ b. cond b (items list ++ row.prefix ∷ []) (items list)) (sym mine))
       (sym (none_put row keys (map items lists) others))
   put_at (key ∷ keys) (list ∷ lists) (suc place) old rises same_length within at is =
       let here : place < length keys = omega (arith, within) in
-      let below : bytes_cmp key.supplier (get_or keys place key).supplier ≡ Less = head_at (λ y. key_cmp key y ≡ Less) keys place key rises.0 here in
+      let below : bytes_cmp key.supplier (get_or keys place key).supplier ≡ Less =
+      head_at (λ y. key_cmp key y ≡ Less) keys place key rises.0 here in
       let other : same row.supplier key.supplier ≡ false =
       below_is_other key.supplier row.supplier (sym (ap (bytes_cmp key.supplier) (at key)) ∙ below) in
       ap₂ (λ first more. first ∷ more) (ap (λ b. cond b (items list ++ row.prefix ∷ []) (items list)) (sym other))

@@ -1,5 +1,6 @@
 -- A supplier's key, looked for among keys that rise.
-use Rattle.std.proofs.Common.{◌≡◌, ℕ, zero, suc, ◌≤◌, ◌<◌, false, true, List, [], ◌∷◌, length, get_or, inl, inr, Option, Result, Ok, Err, refl, sym, ap, ◌∙◌, subst, arith}
+use Rattle.std.proofs.Common.{◌≡◌, ℕ, zero, suc, ◌≤◌, ◌<◌, false, true, List, [], ◌∷◌, length, get_or}
+use Rattle.std.proofs.Common.{inl, inr, Option, Result, Ok, Err, refl, sym, ap, ◌∙◌, subst, arith}
 use Rattle.std.specs.List.{HoldsAt}
 use Rattle.std.specs.List.Sorted.{IsNonDecreasingBy, IsPartitionPoint, IsBinarySearchResult, IsSearchInRange}
 use Rattle.std.specs.Option.{IfNone, IfSome}
@@ -27,9 +28,11 @@ module _ (supplier : List ℕ) where
   place row = bytes_cmp row.supplier supplier
 
   by_later : (x y : KeyRow) (o : Ordering) → key_cmp x y ≡ Less → place y ≡ o → ordering_index (place x) ≤ ordering_index o
-  by_later x y Less below e = let less = ap ordering_index (nat_list_cmp_total.trans x.supplier y.supplier supplier below e) in omega (arith, less)
+  by_later x y Less below e = let less =
+      ap ordering_index (nat_list_cmp_total.trans x.supplier y.supplier supplier below e) in omega (arith, less)
   by_later x y Equal below e =
-      let less = ap ordering_index (subst (λ t. bytes_cmp x.supplier t ≡ Less) (equal_texts y.supplier supplier e) below) in omega (arith, less)
+      let less = ap ordering_index (subst (λ t. bytes_cmp x.supplier t ≡ Less) (equal_texts y.supplier supplier e) below) in
+      omega (arith, less)
   by_later x y Greater below e = at_most (place x)
     where
       at_most : (o : Ordering) → ordering_index o ≤ 2
@@ -85,7 +88,8 @@ module _ (supplier : List ℕ) where
       subst (λ o. IfNone o (Rises key_cmp keys → has_key keys supplier ≡ false)) (sym e)
       (λ rises. none_at keys n (is (in_order keys rises)))
 
-  pub had_at : (keys : List KeyRow) (n : ℕ) → n < length keys → HoldsAt (λ row. row.supplier ≡ supplier) keys n → has_key keys supplier ≡ true
+  pub had_at : (keys : List KeyRow) (n : ℕ) → n < length keys →
+      HoldsAt (λ row. row.supplier ≡ supplier) keys n → has_key keys supplier ≡ true
   had_at keys n within at =
       let none : KeyRow = record { supplier = []; key = [] } in
       list_any_at (λ row. same row.supplier supplier) keys n none within (same_if (get_or keys n none).supplier supplier (at none))

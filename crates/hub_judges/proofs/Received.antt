@@ -55,7 +55,8 @@ sums_keep false sscc lines gtins state = receipts_keep sscc lines gtins state
 
 -- a unit that is received, and what stays of the pallets of others
 module _ (replaces : Bool) (unit : ReceiptUnit) (state : Tables) (row : PalletRow) (found : pallet_of state unit.sscc ≡ Some row) where
-  pallet_kept : (sscc : List ℕ) → same unit.sscc sscc ≡ false → pallet_of (apply_all (received replaces row unit) state) sscc ≡ pallet_of state sscc
+  pallet_kept : (sscc : List ℕ) → same unit.sscc sscc ≡ false →
+      pallet_of (apply_all (received replaces row unit) state) sscc ≡ pallet_of state sscc
   pallet_kept sscc apart =
       let set : PalletRow = record row { received = arrival_number (arrival_by replaces) } in
       let which : row.sscc ≡ unit.sscc =
@@ -74,19 +75,23 @@ module _ (replaces : Bool) (unit : ReceiptUnit) (state : Tables) (row : PalletRo
       ap₂ (λ pallet rest. pallet ∷ rest) (pallet_kept other.sscc parts.0) (pallets_kept units parts.1)
 
 -- the first unit, and then the rest as it is judged
-module _ (replaces : Bool) (unit : ReceiptUnit) (rest : List ReceiptUnit) (state : Tables) (apart : is_among unit.sscc (map (λ unit. unit.sscc) rest) ≡ false)
+module _ (replaces : Bool) (unit : ReceiptUnit) (rest : List ReceiptUnit)
+    (state : Tables) (apart : is_among unit.sscc (map (λ unit. unit.sscc) rest) ≡ false)
     (ih : (st : Tables) → in_order (judge_received replaces) rest st ≡ receipts_from replaces rest (pallets_of st rest)) where
   through : (row : PalletRow) (was_received : Bool) → pallet_of state unit.sscc ≡ Some row
-      → goes_on (refuse_if was_received PalletReceived (Accept (received replaces row unit))) (in_order (judge_received replaces) rest) state
+      → goes_on (refuse_if was_received PalletReceived (Accept (received replaces row unit)))
+      (in_order (judge_received replaces) rest) state
       ≡ refuse_if was_received PalletReceived (joined (received replaces row unit) (receipts_from replaces rest (pallets_of state rest)))
   through row true found = refl
   through row false found =
       ap (joined (received replaces row unit))
-      (ih (apply_all (received replaces row unit) state) ∙ ap (receipts_from replaces rest) (pallets_kept replaces unit state row found rest apart))
+      (ih (apply_all (received replaces row unit) state)
+      ∙ ap (receipts_from replaces rest) (pallets_kept replaces unit state row found rest apart))
 
   one : (pallet : Option PalletRow) → pallet_of state unit.sscc ≡ pallet
       → goes_on
-      (given pallet NoPallet (λ row. refuse_if (not replaces && not (is_announced row)) PalletReceived (Accept (received replaces row unit))))
+      (given pallet NoPallet
+      (λ row. refuse_if (not replaces && not (is_announced row)) PalletReceived (Accept (received replaces row unit))))
       (in_order (judge_received replaces) rest) state
       ≡ receipts_from replaces (unit ∷ rest) (pallet ∷ pallets_of state rest)
   one None found = refl
@@ -123,7 +128,8 @@ pub new_receipt_alike :
     (receipts_from receipt.replaces receipt.units pallets)
 new_receipt_alike first supplier incoming body receipt state mails pallets room counted told apart =
     let entry : ℕ → Change = λ n. mail_entry supplier (n + 1) incoming kinds.Receipt receipt.number body in
-    let behind : ℕ → Verdict = λ n. joined (entry n ∷ []) (in_order (judge_received receipt.replaces) receipt.units (apply (entry n) state)) in
+    let behind : ℕ → Verdict =
+    λ n. joined (entry n ∷ []) (in_order (judge_received receipt.replaces) receipt.units (apply (entry n) state)) in
     ap (λ n. joined (first ∷ []) (refuse_if (is_full n) MailboxFull (behind n))) counted
     ∙ ap (λ full. joined (first ∷ []) (refuse_if full MailboxFull (behind mails))) room
     ∙ ap (λ rest. joined (first ∷ []) (joined (entry mails ∷ []) rest))

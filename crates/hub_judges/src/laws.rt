@@ -17,8 +17,8 @@ ghost use Rattle.hub_rules.specs.Sound.{Sound};
 ghost use Rattle.hub_judges.specs.Facts.{facts_in};
 
 /// Of sound tables, the lines that a supplier sees, all or those of some orders, rise by order number and line number,
-/// and of each no more is open, refused and cancelled than is ordered: `KnownLines` are made of their rows. Of what is read, no SSCC stands in two units,
-/// and no sum of a receiving advice is past its limit.
+/// and of each no more is open, refused and cancelled than is ordered: `KnownLines` are made of their rows. Of what is
+/// read, no SSCC stands in two units, and no sum of a receiving advice is past its limit.
 pub fn judges_are_given_what_they_ask()
     ensures rise { (suppliers : List SupplierRow) (gln : List ℕ) (t : Tables) (test : LineRow → Bool) →
         Sound suppliers t → Rises facts_cmp (facts_in (view gln t) (filter test (view gln t).lines)) }

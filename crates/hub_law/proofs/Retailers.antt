@@ -258,7 +258,8 @@ module _ (register : RegisterRows) (free : PrefixFree (company_prefixes register
             | true ↦ λ may. elim (judge_join register row) as (λ v. judge_join register row ≡ v
                 → P (view gln t) (answered mark (act v t) t).1 (item (is_accepted v) mark)) [
                   | Accept changes ↦ λ e. join_accepted mark changes (takes may changes e)
-                  | Refuse code ↦ λ e. subst (λ after. P (view gln t) after (item false mark)) (sym (join_refused mark code)) (not_taken mark)
+                  | Refuse code ↦ λ e. subst (λ after. P (view gln t) after (item false mark))
+                      (sym (join_refused mark code)) (not_taken mark)
                 ] refl
             | false ↦ λ never. not_taken mark
           ] refl

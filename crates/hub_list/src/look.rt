@@ -1,5 +1,6 @@
 //! Look-ups in lists of rows, of which each rises by its key.
-ghost use Rattle.std.specs.Prelude.{◌≡◌, ◌≤◌, ◌==◌, ◌&&◌, true, None, filter, find, length, map, take, slice_get, option_map, nat_lt, not, IfOk};
+ghost use Rattle.std.specs.Prelude.{◌≡◌, ◌≤◌, ◌==◌, ◌&&◌, true, None, filter, find, length};
+ghost use Rattle.std.specs.Prelude.{map, take, slice_get, option_map, nat_lt, not, IfOk};
 ghost use Rattle.std.specs.List.{list_any, last_or, filter_map};
 ghost use Rattle.std.specs.Option.{unwrap_or};
 ghost use Rattle.hub_tables.specs.Cases.{side_letter};

@@ -124,7 +124,8 @@ reads_more More (Err fault) more asks = record {
 -- what is made of the rows of an answer
 pub asked_more : {X : Type 0} (Reads : List Row → X → Type 0) (Spoil : List Row → Type 0) (text : List ℕ) (params : Row) (old new : State)
     (rows : Vec Row Global) (result : Result X StoreFault) → Asks {X = Vec Row Global} Rows (λ _. ⊥) text params old new (Ok rows)
-    → IfOk result (λ x. Reads rows.items x) → (result ≡ Err Unclean → Spoil rows.items) → IfErr result (λ fault. (fault ≡ Memory) ⊎ (fault ≡ Unclean)) → Asks Reads Spoil text params old new result
+    → IfOk result (λ x. Reads rows.items x) → (result ≡ Err Unclean → Spoil rows.items) →
+    IfErr result (λ fault. (fault ≡ Memory) ⊎ (fault ≡ Unclean)) → Asks Reads Spoil text params old new result
 asked_more Reads Spoil text params old new rows (Ok x) asks right wrong other = record {
   reads = λ clean. let h = asks.reads clean in (h.0, h.1, subst (λ rs. Reads rs x) h.2 right);
   spoils = λ clean e. absurd cc;

@@ -1,5 +1,6 @@
 -- Rows that hold a register are of their kinds.
-use Rattle.std.proofs.Common.{◌≡◌, inl, inr, ℕ, Bool, true, false, ◌&&◌, List, [], ◌∷◌, map, filter, refl, sym, ap, ap₂, subst, ◌∙◌, nat_le, length}
+use Rattle.std.proofs.Common.{◌≡◌, inl, inr, ℕ, Bool, true, false, ◌&&◌, List, [], ◌∷◌, map}
+use Rattle.std.proofs.Common.{filter, refl, sym, ap, ap₂, subst, ◌∙◌, nat_le, length}
 use Rattle.std.proofs.Common.{true≢false}
 use Rattle.std.specs.List.{list_all}
 use Rattle.std.proofs.lemmas.Bool.{and_parts}
@@ -51,7 +52,8 @@ module _ (t : Tables) (held : HoldsRegister t) where
   row_there k there = has_map (row_in t.prefixes) t.keys k there
 
   gln_right : (k : KeyRow) → Has t.keys k → is_gln k.supplier ≡ true
-  gln_right k there = glns k.supplier (inr (inr (has_map (λ (row : SupplierRow). row.gln) (suppliers_of t) (row_in t.prefixes k) (row_there k there))))
+  gln_right k there = glns k.supplier
+      (inr (inr (has_map (λ (row : SupplierRow). row.gln) (suppliers_of t) (row_in t.prefixes k) (row_there k there))))
 
   pub clean_hubs : list_all clean_hub t.hubs ≡ true
   clean_hubs = subst (λ hubs. list_all clean_hub hubs ≡ true) (sym held.one_hub)
@@ -76,12 +78,14 @@ module _ (t : Tables) (held : HoldsRegister t) where
 
   pub clean_prefixes : list_all clean_prefix t.prefixes ≡ true
   clean_prefixes = all_pass_if clean_prefix t.prefixes (λ row there.
-      let had = one_of (λ (k : KeyRow). same k.supplier row.supplier) t.keys (all_of (λ row. has_key t.keys row.supplier ≡ true) t.prefixes held.prefixes_had row there) in
+      let had = one_of (λ (k : KeyRow). same k.supplier row.supplier) t.keys
+      (all_of (λ row. has_key t.keys row.supplier ≡ true) t.prefixes held.prefixes_had row there) in
       let k = had.0 in
       let is : k.supplier ≡ row.supplier = same_is k.supplier row.supplier had.2 in
       let mine : same row.supplier k.supplier ≡ true = ap (same row.supplier) is ∙ (ap (λ s. same s row.supplier) (sym is) ∙ had.2) in
       both (passes_of is_prefix _ (right_of k had.1) row.prefix
-      (has_map (λ (found : PrefixRow). found.prefix) _ row (has_filter (λ (found : PrefixRow). same found.supplier k.supplier) t.prefixes row there mine)))
+      (has_map (λ (found : PrefixRow). found.prefix) _ row
+      (has_filter (λ (found : PrefixRow). same found.supplier k.supplier) t.prefixes row there mine)))
       (ap is_gln (sym is) ∙ gln_right k had.1))
 
 -- where one of them lacks the form of its kind, no register is held

@@ -111,7 +111,8 @@ heads_spoil : (entries : List MailRow) → list_all clean_head (map head_of entr
 heads_spoil entries spoilt = elim (cases_Bool (list_all clean_mail entries)) [
   | inl e ↦
       let each = all_then clean_mail (λ entry. clean_head (head_of entry) ≡ true) shown_clean entries e in
-      absurd (true≢false (sym (clean_all clean_head (map head_of entries) (all_to_map (λ head. clean_head head ≡ true) head_of entries each))
+      absurd (true≢false
+      (sym (clean_all clean_head (map head_of entries) (all_to_map (λ head. clean_head head ≡ true) head_of entries each))
       ∙ spoilt))
   | inr e ↦ e
 ]

@@ -76,14 +76,18 @@ line_names =
     ∷ codes "cancelled" ∷ codes "answer" ∷ []
 
 abbrev pub lines_text : List ℕ
-lines_text = codes "SELECT supplier, number, line, gtin, ordered, open_qty, refused, cancelled, answer FROM line WHERE supplier = ?1 AND number = ?2 ORDER BY supplier, number, line"
+lines_text =
+    codes "SELECT supplier, number, line, gtin, ordered, open_qty, refused, cancelled, answer FROM line "
+    ++ codes "WHERE supplier = ?1 AND number = ?2 ORDER BY supplier, number, line"
 
 pub lines_select : Selects lines_text (all_of 3 (given_at 1 0 ∷ given_at 2 1 ∷ []) line_columns line_order) line_names
 unfolding understood everything
 lines_select = record { first = refl; plain = (refl, refl); unlisted = refl; is = refl }
 
 abbrev pub all_lines_text : List ℕ
-all_lines_text = codes "SELECT supplier, number, line, gtin, ordered, open_qty, refused, cancelled, answer FROM line WHERE supplier = ?1 ORDER BY supplier, number, line"
+all_lines_text =
+    codes "SELECT supplier, number, line, gtin, ordered, open_qty, refused, cancelled, answer FROM line "
+    ++ codes "WHERE supplier = ?1 ORDER BY supplier, number, line"
 
 pub all_lines_select : Selects all_lines_text (all_of 3 (given_at 1 0 ∷ []) line_columns line_order) line_names
 unfolding understood everything
@@ -208,7 +212,8 @@ abbrev pub head_columns : List Term
 head_columns = col 1 2 ∷ col 1 5 ∷ col 1 6 ∷ []
 
 abbrev pub after_text : List ℕ
-after_text = codes "SELECT number, kind, document FROM mail WHERE supplier = ?1 AND number > ?2 AND taken <> 1 ORDER BY supplier, number LIMIT ?3"
+after_text = codes
+    "SELECT number, kind, document FROM mail WHERE supplier = ?1 AND number > ?2 AND taken <> 1 ORDER BY supplier, number LIMIT ?3"
 
 pub after_selects : Selects after_text
     (some_of 16 (given_at 1 0 ∷ above_test ∷ untaken_test ∷ []) head_columns (rising 1 ∷ rising 2 ∷ []) (col 0 2))

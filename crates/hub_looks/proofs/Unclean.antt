@@ -168,3 +168,6 @@ module _ (t : Tables) where
       && (list_all clean_remembered t.remembered && list_all clean_mail t.mail))
       (later_fails (list_all clean_receipt t.receipts) (list_all clean_remembered t.remembered && list_all clean_mail t.mail)
       (later_fails (list_all clean_remembered t.remembered) (list_all clean_mail t.mail) (h))))))))
+
+-- what a line says that is not clean
+pub ruleset unclean_line = (first_fails, later_fails, too_open, too_refused, too_cancelled)

@@ -103,7 +103,8 @@ fn are_registered<S: Alter>(
     register: &Register,
     text: &str,
 ) -> Result<bool, StoreFault>
-    ensures asks { Asks (λ rows is. is ≡ list_all (spec.registered_in register.now) rows) (λ _. ⊥) text.now [] (state S.Store conn.old) (state S.Store conn.new) result }
+    ensures asks { Asks (λ rows is. is ≡ list_all (spec.registered_in register.now) rows)
+        (λ _. ⊥) text.now [] (state S.Store conn.old) (state S.Store conn.new) result }
     ensures fails { IfErr result (λ fault. (fault ≡ StoreFault.Memory) ⊎ (fault ≡ StoreFault.Disk)) }
 {
     let rows = ask(conn, text, &[])?;
@@ -116,7 +117,8 @@ fn do_pallets_fit<S: Alter>(
     register: &Register,
     text: &str,
 ) -> Result<bool, StoreFault>
-    ensures asks { Asks (λ rows is. is ≡ list_all (spec.pallet_fits register.now) rows) (λ _. ⊥) text.now [] (state S.Store conn.old) (state S.Store conn.new) result }
+    ensures asks { Asks (λ rows is. is ≡ list_all (spec.pallet_fits register.now) rows)
+        (λ _. ⊥) text.now [] (state S.Store conn.old) (state S.Store conn.new) result }
     ensures fails { IfErr result (λ fault. (fault ≡ StoreFault.Memory) ⊎ (fault ≡ StoreFault.Disk)) }
 {
     let rows = ask(conn, text, &[])?;
@@ -222,7 +224,8 @@ fn from_lines<S: Alter>(conn: &mut Connection<S>, register: &Register) -> Result
 /// Whether the register fits to the rows of schema 1: each supplier of a row is registered, and each pallet's SSCC is under
 /// one of its company prefixes. Cells that are no GLN or no SSCC fit to no register.
 pub fn fits<S: Alter>(conn: &mut Connection<S>, register: &Register) -> Result<bool, StoreFault>
-    ensures looks { LooksForOld (λ t is. is ≡ founding.fits register.now t) (λ _. ⊥) (state S.Store conn.old) (state S.Store conn.new) result }
+    ensures looks { LooksForOld (λ t is. is ≡ founding.fits register.now t)
+        (λ _. ⊥) (state S.Store conn.old) (state S.Store conn.new) result }
     ensures fails { IfErr result (λ fault. (fault ≡ StoreFault.Memory) ⊎ (fault ≡ StoreFault.Disk)) }
 {
     let fit = orders_fit(conn, register)?;

@@ -41,7 +41,8 @@ fn contents_on<S: Alter>(
     alloc: Global,
     sscc: &Sscc,
 ) -> Result<Items<ContentRow>, StoreFault>
-    ensures looks { LooksUp (λ t. filter (λ content. same content.sscc sscc.now) t.contents) (state S.Store conn.old) (state S.Store conn.new) result }
+    ensures looks { LooksUp (λ t. filter (λ content. same content.sscc sscc.now) t.contents)
+        (state S.Store conn.old) (state S.Store conn.new) result }
     ensures clean { IfOk result (λ rows. IsTrue (list_all clean_content rows)) }
 {
     rows_of(
@@ -58,7 +59,8 @@ fn receipts_on<S: Alter>(
     alloc: Global,
     sscc: &Sscc,
 ) -> Result<Items<ReceiptRow>, StoreFault>
-    ensures looks { LooksUp (λ t. filter (λ receipt. same receipt.sscc sscc.now) t.receipts) (state S.Store conn.old) (state S.Store conn.new) result }
+    ensures looks { LooksUp (λ t. filter (λ receipt. same receipt.sscc sscc.now) t.receipts)
+        (state S.Store conn.old) (state S.Store conn.new) result }
     ensures clean { IfOk result (λ rows. IsTrue (list_all clean_receipt rows)) }
 {
     rows_of(

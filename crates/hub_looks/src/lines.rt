@@ -29,7 +29,8 @@ pub fn lines_of<S: Alter>(
     rows_of(
         conn,
         alloc,
-        "SELECT supplier, number, line, gtin, ordered, open_qty, refused, cancelled, answer FROM line WHERE supplier = ?1 AND number = ?2 ORDER BY supplier, number, line",
+        "SELECT supplier, number, line, gtin, ordered, open_qty, refused, cancelled, answer FROM line \
+            WHERE supplier = ?1 AND number = ?2 ORDER BY supplier, number, line",
         &[ValueRef::Blob(supplier.digits()), ValueRef::Blob(number)],
     )
 }
@@ -46,7 +47,8 @@ pub fn all_lines<S: Alter>(
     rows_of(
         conn,
         alloc,
-        "SELECT supplier, number, line, gtin, ordered, open_qty, refused, cancelled, answer FROM line WHERE supplier = ?1 ORDER BY supplier, number, line",
+        "SELECT supplier, number, line, gtin, ordered, open_qty, refused, cancelled, answer FROM line \
+            WHERE supplier = ?1 ORDER BY supplier, number, line",
         &[ValueRef::Blob(supplier.digits())],
     )
 }

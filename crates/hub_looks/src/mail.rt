@@ -1,5 +1,6 @@
 //! Look-ups in mailboxes.
-ghost use Rattle.std.specs.Prelude.{◌≡◌, ◌<◌, ◌≤◌, ◌^◌, ◌&&◌, ◌⊎◌, pos, negsuc, not, filter, length, map, take, None, option_map, IsTrue, IfOk, IfSome};
+ghost use Rattle.std.specs.Prelude.{◌≡◌, ◌<◌, ◌≤◌, ◌^◌, ◌&&◌, ◌⊎◌, pos, negsuc, not, filter};
+ghost use Rattle.std.specs.Prelude.{length, map, take, None, option_map, IsTrue, IfOk, IfSome};
 ghost use Rattle.std.specs.List.{list_all, list_any, last_or};
 ghost use Rattle.std.specs.Option.{unwrap_or};
 ghost use Rattle.sqlite.specs.Held.{state};
@@ -127,7 +128,9 @@ fn heads_above<S: Alter>(
     most: ValueRef<'_>,
 ) -> Result<Items<MailHead>, StoreFault>
     requires { number < 2 ^ 63 }
-    ensures looks { LooksUp (λ t. limited (as_count (bound_value (owned most.entry))) (map head_of (filter (λ entry. is_above number entry.number && not (is_taken entry)) (view supplier.now t).mail))) (state S.Store conn.old) (state S.Store conn.new) result }
+    ensures looks { LooksUp
+        (λ t. limited (as_count (bound_value (owned most.entry))) (map head_of (filter (λ entry. is_above number entry.number
+        && not (is_taken entry)) (view supplier.now t).mail))) (state S.Store conn.old) (state S.Store conn.new) result }
     ensures clean { IfOk result (λ heads. IsTrue (list_all clean_head heads)) }
 {
     let bound = signed(number);
@@ -149,7 +152,8 @@ fn first_above<S: Alter>(
     limit: usize,
 ) -> Result<Items<MailHead>, StoreFault>
     requires { number < 2 ^ 63 }
-    ensures looks { LooksUp (λ t. take limit (map head_of (filter (λ entry. is_above number entry.number && not (is_taken entry)) (view supplier.now t).mail))) (state S.Store conn.old) (state S.Store conn.new) result }
+    ensures looks { LooksUp (λ t. take limit (map head_of (filter (λ entry. is_above number entry.number
+        && not (is_taken entry)) (view supplier.now t).mail))) (state S.Store conn.old) (state S.Store conn.new) result }
     ensures clean { IfOk result (λ heads. IsTrue (list_all clean_head heads)) }
     ensures limit { IfOk result (λ heads. length heads ≤ limit) }
 {
@@ -166,7 +170,8 @@ fn untaken_above<S: Alter>(
     number: u64,
     limit: usize,
 ) -> Result<Items<MailHead>, StoreFault>
-    ensures looks { LooksUp (λ t. take limit (map head_of (filter (λ entry. is_above number entry.number && not (is_taken entry)) (view supplier.now t).mail))) (state S.Store conn.old) (state S.Store conn.new) result }
+    ensures looks { LooksUp (λ t. take limit (map head_of (filter (λ entry. is_above number entry.number
+        && not (is_taken entry)) (view supplier.now t).mail))) (state S.Store conn.old) (state S.Store conn.new) result }
     ensures clean { IfOk result (λ heads. IsTrue (list_all clean_head heads)) }
     ensures limit { IfOk result (λ heads. length heads ≤ limit) }
 {
@@ -189,7 +194,8 @@ pub fn mail_after<S: Alter>(
     number: u64,
     limit: usize,
 ) -> Result<Items<MailHead>, StoreFault>
-    ensures looks { LooksUp (λ t. take limit (map head_of (untaken_after (view supplier.now t) number))) (state S.Store conn.old) (state S.Store conn.new) result }
+    ensures looks { LooksUp (λ t. take limit (map head_of (untaken_after (view supplier.now t) number)))
+        (state S.Store conn.old) (state S.Store conn.new) result }
     ensures clean { IfOk result (λ heads. IsTrue (list_all clean_head heads)) }
     ensures limit { IfOk result (λ heads. length heads ≤ limit) }
 {
@@ -202,7 +208,8 @@ pub fn mail_after<S: Alter>(
 
 // The number of the last entry above zero.
 fn highest<S: Alter>(conn: &mut Connection<S>, supplier: &Gln) -> Result<Option<u64>, StoreFault>
-    ensures looks { LooksUp (λ t. option_map (λ entry. entry.number) (last_or None (filter (λ entry. is_above 0 entry.number) (view supplier.now t).mail))) (state S.Store conn.old) (state S.Store conn.new) result }
+    ensures looks { LooksUp (λ t. option_map (λ entry. entry.number) (last_or None (filter (λ entry. is_above 0 entry.number)
+        (view supplier.now t).mail))) (state S.Store conn.old) (state S.Store conn.new) result }
     ensures within { IfOk result (λ found. IfSome found (λ number. IsTrue (is_within 1 last_number number))) }
 {
     first_of(
@@ -214,7 +221,9 @@ fn highest<S: Alter>(conn: &mut Connection<S>, supplier: &Gln) -> Result<Option<
 
 // The same, and 0 where there is none.
 fn highest_or_zero<S: Alter>(conn: &mut Connection<S>, supplier: &Gln) -> Result<u64, StoreFault>
-    ensures looks { LooksUp (λ t. unwrap_or (option_map (λ entry. entry.number) (last_or None (filter (λ entry. is_above 0 entry.number) (view supplier.now t).mail))) 0) (state S.Store conn.old) (state S.Store conn.new) result }
+    ensures looks { LooksUp
+        (λ t. unwrap_or (option_map (λ entry. entry.number) (last_or None (filter (λ entry. is_above 0 entry.number)
+        (view supplier.now t).mail))) 0) (state S.Store conn.old) (state S.Store conn.new) result }
     ensures within { IfOk result (λ number. number ≤ last_number) }
 {
     let number = highest(conn, supplier)?;

@@ -36,7 +36,8 @@ pub fn remembered<'a, S: Alter>(
     control: &'a [u8],
     message: &'a [u8],
 ) -> Result<Option<Items<u8>>, StoreFault>
-    ensures looks { LooksUp (λ t. remembered_content (view supplier.now t) side control.now message.now) (state S.Store conn.old) (state S.Store conn.new) result }
+    ensures looks { LooksUp (λ t. remembered_content (view supplier.now t) side control.now message.now)
+        (state S.Store conn.old) (state S.Store conn.new) result }
     ensures clean { IfOk result (λ found. IfSome found (λ content. IsTrue (are_bytes content))) }
 {
     let letter = letter_of(side);

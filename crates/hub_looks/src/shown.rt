@@ -82,7 +82,7 @@ impl Shown for LineRow {
 
     ghost clean = { clean_line };
 
-    #[tactic(auto, using(crate::proofs::Unclean::first_fails, crate::proofs::Unclean::later_fails, crate::proofs::Unclean::too_open, crate::proofs::Unclean::too_refused, crate::proofs::Unclean::too_cancelled))]
+    #[tactic(auto, using(crate::proofs::Unclean::unclean_line))]
     fn of_row(row: &Row) -> Result<Self, StoreFault> {
         let supplier = gln_at(row, 0)?;
         let number = document_at(row, 1)?;

@@ -71,7 +71,8 @@ is_less Less h = refl
 is_less Equal h = cc
 is_less Greater h = cc
 
-each : {X : Type 0} (p : X → Bool) (P : X → Type 0) → ((x : X) → p x ≡ true → P x) → (xs : List X) → list_all p xs ≡ true → AllByRecursion P xs
+each : {X : Type 0} (p : X → Bool) (P : X → Type 0) → ((x : X) → p x ≡ true → P x) →
+    (xs : List X) → list_all p xs ≡ true → AllByRecursion P xs
 each p P f [] h = tt
 each p P f (x ∷ xs) h = let parts = and_parts (p x) (list_all p xs) h in (f x parts.0, each p P f xs parts.1)
 
@@ -190,7 +191,8 @@ others_back hub retailer (row ∷ rows) a b =
     let second = or_parts (bytes_eq retailer row.gln) _ b in
     and_from _ _ (and_from _ _ (ap not first.0) (ap not second.0)) (others_back hub retailer rows first.1 second.1)
 
-pub right_kept : (hub retailer key : List ℕ) (rows : List SupplierRow) → IsRegister (rows_by hub retailer key rows) → keep_all hub retailer rows ≡ true
+pub right_kept : (hub retailer key : List ℕ) (rows : List SupplierRow) →
+    IsRegister (rows_by hub retailer key rows) → keep_all hub retailer rows ≡ true
 right_kept hub retailer key rows right =
     let first = or_parts (is_among hub (retailer ∷ map (λ r. r.gln) rows)) _ right.glns_apart in
     let at_hub = or_parts (bytes_eq hub retailer) _ first.0 in

@@ -66,7 +66,8 @@ module _ (P : SupplierRow → Type 0) where
 abbrev gln_cmp : SupplierRow → SupplierRow → Ordering
 gln_cmp r s = bytes_cmp r.gln s.gln
 
-weaker : (P Q : SupplierRow → Type 0) → ((r : SupplierRow) → P r → Q r) → (rows : List SupplierRow) → AllByRecursion P rows → AllByRecursion Q rows
+weaker : (P Q : SupplierRow → Type 0) → ((r : SupplierRow) → P r → Q r) →
+    (rows : List SupplierRow) → AllByRecursion P rows → AllByRecursion Q rows
 weaker P Q so [] h = tt
 weaker P Q so (r ∷ rs) h = (so r h.0, weaker P Q so rs h.1)
 
@@ -76,7 +77,11 @@ rises-case : (o : Ordering) (row r : SupplierRow) (rs : List SupplierRow)
     → Rises gln_cmp (put row rs)
     → Rises gln_cmp (match_ordering o (row ∷ r ∷ rs) (row ∷ rs) (r ∷ put row rs))
 rises-case Less row r rs e h ih = (
-  (e, weaker (λ s. gln_cmp r s ≡ Less) (λ s. gln_cmp row s ≡ Less) (λ s after. nat_list_cmp_total.trans row.gln r.gln s.gln e after) rs h.0),
+  (
+    e,
+    weaker (λ s. gln_cmp r s ≡ Less) (λ s. gln_cmp row s ≡ Less)
+        (λ s after. nat_list_cmp_total.trans row.gln r.gln s.gln e after) rs h.0,
+  ),
   h,
 )
 rises-case Equal row r rs e h ih = (

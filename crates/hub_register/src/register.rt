@@ -1,6 +1,7 @@
 ghost use Rattle.toml.specs.Parse.{parse_document};
 ghost use Rattle.toml.specs.View.{table_view};
-ghost use Rattle.std.specs.Prelude.{◌≡◌, ◌≢◌, ◌+◌, ◌∷◌, [], true, false, nat_lt, nat_le, IfOk, IfErr, OnOk, OnErr, Ok, Err, Some, None, length, map, option_map, option_copied};
+ghost use Rattle.std.specs.Prelude.{◌≡◌, ◌≢◌, ◌+◌, ◌∷◌, [], true, false, nat_lt, nat_le, IfOk, IfErr, OnOk};
+ghost use Rattle.std.specs.Prelude.{OnErr, Ok, Err, Some, None, length, map, option_map, option_copied};
 ghost use Rattle.std.specs.BTreeMap.{keys, values};
 ghost use Rattle.std.specs.List.{list_all, list_any};
 ghost use Rattle.std.specs.Option.{IfNone, IfSome};

@@ -99,7 +99,40 @@ number_set n rows old new (Ok count) one ordered has h =
       hub = record {
         schema = did.schema_is;
         numbered = ap (map (λ row. column row 1)) did.rows ∙ renumbered n (old.now.trees 0) number;
-        ordered = (subst (IsShaped Rows) (sym did.rows) did.shaped, (subst (IsShaped Rows) (sym orders) then_o.0, (subst (IsShaped Rows) (sym lines) then_o.1.0, (subst (IsShaped Rows) (sym advices) then_o.1.1.0, (subst (IsShaped Rows) (sym pallets) then_o.1.1.1.0, (subst (IsShaped Rows) (sym contents) then_o.1.1.1.1.0, (subst (IsShaped Rows) (sym receipts) then_o.1.1.1.1.1.0, (subst (IsShaped Rows) (sym remembered) then_o.1.1.1.1.1.1.0, (subst (IsShaped Rows) (sym mail) then_o.1.1.1.1.1.1.1.0, (subst (IsShaped Rows) (sym hubs) then_o.1.1.1.1.1.1.1.1.0, (subst (IsShaped Rows) (sym keys) then_o.1.1.1.1.1.1.1.1.1.0, (subst (IsShaped Rows) (sym prefixes) then_o.1.1.1.1.1.1.1.1.1.1.0, tt))))))))))));
+        ordered = (
+          subst (IsShaped Rows) (sym did.rows) did.shaped,
+          (
+            subst (IsShaped Rows) (sym orders) then_o.0,
+            (
+              subst (IsShaped Rows) (sym lines) then_o.1.0,
+              (
+                subst (IsShaped Rows) (sym advices) then_o.1.1.0,
+                (
+                  subst (IsShaped Rows) (sym pallets) then_o.1.1.1.0,
+                  (
+                    subst (IsShaped Rows) (sym contents) then_o.1.1.1.1.0,
+                    (
+                      subst (IsShaped Rows) (sym receipts) then_o.1.1.1.1.1.0,
+                      (
+                        subst (IsShaped Rows) (sym remembered) then_o.1.1.1.1.1.1.0,
+                        (
+                          subst (IsShaped Rows) (sym mail) then_o.1.1.1.1.1.1.1.0,
+                          (
+                            subst (IsShaped Rows) (sym hubs) then_o.1.1.1.1.1.1.1.1.0,
+                            (
+                              subst (IsShaped Rows) (sym keys) then_o.1.1.1.1.1.1.1.1.1.0,
+                              (subst (IsShaped Rows) (sym prefixes) then_o.1.1.1.1.1.1.1.1.1.1.0, tt),
+                            ),
+                          ),
+                        ),
+                      ),
+                    ),
+                  ),
+                ),
+              ),
+            ),
+          ),
+        );
         sound = w.sound;
       };
       tables = rw (hubs, keys, prefixes, orders, lines, advices, pallets, contents, receipts, remembered, mail);

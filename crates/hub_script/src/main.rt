@@ -7,17 +7,27 @@
 //! A script is lines of words, each parted from the next by one blank. Where a line names a number of bytes, they
 //! follow it, and then a line end.
 //!
-//! | line | does |
-//! |---|---|
-//! | `hub N`, `hub N memory C`, `hub N disk C` | makes a hub, of the register whose text the N bytes are and without further rows; but of a file that has tables with its rows, or with what a file kept that stopped while it was opened, and of the register that these hold. Beside the rows of a file of schema 1 it is founded with the register of the text. Its store fails with this fault at the call after C others; the one that gives its register does not count. Where the store is not opened, prints `store` and the fault |
-//! | `as MOMENT GLN KEY` | says who asks from now on, and when, in seconds |
-//! | `upload N`, `after N`, `item N`, `taken N`, `status`, `status-of GLN`, `cancel N` | asks; the bytes of `upload` and `cancel` follow |
-//! | `join GLN KEY PREFIX[,PREFIX..]` | asks that a supplier be let in with this key and these company prefixes. A line that is no join, as one with nine prefixes, is a fault of the script |
-//! | `run`, `end` | puts what is asked between them into one run |
-//! | `connection N`, then `piece P`, `reads R`, `takes T`, `writes W`, `interrupted` where they are wanted | serves a connection of HTTP whose bytes the N are, at the moment of the last `as`. A read gives at most P bytes, and the one after R others fails; a write takes at most T bytes, and the one after W others fails, by an interruption where that is said. Prints `served` with the status or `fault` with its kind, the length of what went out, a line end, and that |
-//! | `mend` | opens the store anew, with its rows, or what a crash leaves of a file that stopped; no call of it fails. Where it is not opened, prints `store` and the fault |
-//! | `counts` | prints how many look-ups and commits there were since the hub was made or its store opened anew |
-//! | `quiet`, `loud` | prints no reply from here on, or each again |
+//! The lines:
+//!
+//! - `hub N`, `hub N memory C` and `hub N disk C` make a hub, of the register whose text the N bytes are and without further
+//!   rows; but of a file that has tables with its rows, or with what a file kept that stopped while it was opened, and of
+//!   the register that these hold. Beside the rows of a file of schema 1 it is founded with the register of the text. Its
+//!   store fails with this fault at the call after C others; the one that gives its register does not count. Where the
+//!   store is not opened, prints `store` and the fault.
+//! - `as MOMENT GLN KEY` says who asks from now on, and when, in seconds.
+//! - `upload N`, `after N`, `item N`, `taken N`, `status`, `status-of GLN` and `cancel N` ask; the bytes of `upload` and
+//!   `cancel` follow.
+//! - `join GLN KEY PREFIX[,PREFIX..]` asks that a supplier be let in with this key and these company prefixes. A line that
+//!   is no join, as one with nine prefixes, is a fault of the script.
+//! - `run` and `end` put what is asked between them into one run.
+//! - `connection N`, then `piece P`, `reads R`, `takes T`, `writes W` and `interrupted` where they are wanted, serves a
+//!   connection of HTTP whose bytes the N are, at the moment of the last `as`. A read gives at most P bytes, and the one
+//!   after R others fails; a write takes at most T bytes, and the one after W others fails, by an interruption where that
+//!   is said. Prints `served` with the status or `fault` with its kind, the length of what went out, a line end, and that.
+//! - `mend` opens the store anew, with its rows, or what a crash leaves of a file that stopped; no call of it fails. Where
+//!   it is not opened, prints `store` and the fault.
+//! - `counts` prints how many look-ups and commits there were since the hub was made or its store opened anew.
+//! - `quiet` and `loud` print no reply from here on, or each again.
 //!
 //! Of each reply it prints the outcome, `refused` where something was refused, the length of the body, a line end, and
 //! the body. The exit status is 0, or 1 where the script has a fault, and 3 where memory ran out for it, or a read or write

@@ -51,7 +51,8 @@ fn judged<S: Alter + Drop>(
     ensures clean { IfOk result (λ c. HasCleanDisk (state S.Store c) → HasCleanDisk (state S.Store conn)) }
     ensures register { IfOk result (λ c. HasCleanDisk (state S.Store c) → HoldsRegister (tables_in (state S.Store conn).now.trees)) }
     ensures opened { IfErr result (λ e. e.1 ≢ StoreFault.Version) }
-    ensures unclean { IfErr result (λ e. e.1 ≡ StoreFault.Unclean → HasCleanDisk (state S.Store e.0) → HoldsNone (tables_in (state S.Store conn).now.trees)) }
+    ensures unclean { IfErr result (λ e. e.1 ≡ StoreFault.Unclean →
+        HasCleanDisk (state S.Store e.0) → HoldsNone (tables_in (state S.Store conn).now.trees)) }
     ensures spared { IfErr result (λ e. SparesConnection S.Store (λ _. ⊥) (state S.Store conn) e.0) }
 {
     let _was_idle = conn.is_autocommit();
@@ -81,7 +82,8 @@ fn renumbered<S: Alter + Drop>(
     ensures crash { IfOk result (λ store. honest S.Store store → (t : Tables) → left S.Store store t → t ≡ content S.Store store) }
     ensures clean { IfOk result (λ store. honest S.Store store → HasCleanDisk (state S.Store conn)) }
     ensures fails { IfErr result (λ e. (e.1 ≡ StoreFault.Memory) ⊎ (e.1 ≡ StoreFault.Disk)) }
-    ensures spared { IfErr result (λ e. SparesConnection S.Store (MayBeRenumbered Version.Second (tables_in (state S.Store conn).now.trees)) (state S.Store conn) e.0) }
+    ensures spared { IfErr result (λ e. SparesConnection S.Store
+        (MayBeRenumbered Version.Second (tables_in (state S.Store conn).now.trees)) (state S.Store conn) e.0) }
 {
     let _was_idle = conn.is_autocommit();
     match renumber(&mut conn) {
@@ -106,7 +108,8 @@ fn raised<S: Alter + Drop>(
     ensures crash { IfOk result (λ store. honest S.Store store → (t : Tables) → left S.Store store t → t ≡ content S.Store store) }
     ensures clean { IfOk result (λ store. honest S.Store store → HasCleanDisk (state S.Store conn)) }
     ensures fails { IfErr result (λ e. (e.1 ≡ StoreFault.Memory) ⊎ (e.1 ≡ StoreFault.Disk)) }
-    ensures spared { IfErr result (λ e. SparesConnection S.Store (MayBeRenumbered version (tables_in (state S.Store conn).now.trees)) (state S.Store conn) e.0) }
+    ensures spared { IfErr result (λ e. SparesConnection S.Store
+        (MayBeRenumbered version (tables_in (state S.Store conn).now.trees)) (state S.Store conn) e.0) }
 {
     let _idle = conn.is_autocommit();
     match version {
@@ -135,7 +138,8 @@ fn taken<S: Alter + Drop>(
     ensures unclean { IfErr result (λ e. e.1 ≡ StoreFault.Unclean →
         (HasCleanDisk (state S.Store e.0) → HoldsNone (tables_in (state S.Store conn).now.trees))
         × SparesConnection S.Store (λ _. ⊥) (state S.Store conn) e.0) }
-    ensures spared { IfErr result (λ e. SparesConnection S.Store (MayBeRenumbered version (tables_in (state S.Store conn).now.trees)) (state S.Store conn) e.0) }
+    ensures spared { IfErr result (λ e. SparesConnection S.Store
+        (MayBeRenumbered version (tables_in (state S.Store conn).now.trees)) (state S.Store conn) e.0) }
 {
     match judged(alloc, conn) {
         Ok(conn) => raised(alloc, conn, version),
@@ -200,7 +204,8 @@ impl<S: Alter + Drop> SqliteStore<S> {
         ensures held { result ≡ self.held }
         ensures idle { result.in_transaction ≡ false }
         ensures hub { HasCleanDisk (state S.Store result) → IsTrue (state S.Store result).is_open → IsHub (state S.Store result) }
-        ensures rows { HasCleanDisk (state S.Store result) → IsTrue (state S.Store result).is_open → tables_in (state S.Store result).now.trees ≡ content S.Store self }
+        ensures rows { HasCleanDisk (state S.Store result) → IsTrue (state S.Store result).is_open →
+            tables_in (state S.Store result).now.trees ≡ content S.Store self }
     {
         let SqliteStore {
             conn,

@@ -41,7 +41,8 @@ fn fitting<S: Alter + Drop>(
     ensures limit { IfOk result (λ c. c.step_limit ≡ conn.step_limit) }
     ensures before { IfOk result (λ c. HasCleanDisk (state S.Store c) → IsAsBefore (state S.Store conn) (state S.Store c)) }
     ensures clean { IfOk result (λ c. HasCleanDisk (state S.Store c) → HasCleanDisk (state S.Store conn)) }
-    ensures fits { IfOk result (λ c. HasCleanDisk (state S.Store c) → does_fit register.now (traffic_in (state S.Store conn).now.trees) ≡ true) }
+    ensures fits { IfOk result (λ c. HasCleanDisk (state S.Store c) →
+        does_fit register.now (traffic_in (state S.Store conn).now.trees) ≡ true) }
     ensures rows { IfErr result (λ e. e.1 ≡ FoundFault.Rows → HasCleanDisk (state S.Store e.0) →
         (e.0.schema ≡ old_schema) × (does_fit register.now (traffic_in (state S.Store conn).now.trees) ≡ false)) }
     ensures fails { IfErr result (λ e. IsOfFounding e.1) }
@@ -71,12 +72,14 @@ fn laid_beside<S: Alter + Drop>(
     requires hub { HasCleanDisk (state S.Store conn) → IsOldHub (state S.Store conn) }
     requires fits { HasCleanDisk (state S.Store conn) → does_fit register.now (traffic_in (state S.Store conn).now.trees) ≡ true }
     ensures whole { IfOk result (λ store. store.fault ≡ None) }
-    ensures rows { IfOk result (λ store. honest S.Store store → content S.Store store ≡ founded_beside (traffic_in (state S.Store conn).now.trees) register.now) }
+    ensures rows { IfOk result (λ store. honest S.Store store → content S.Store store
+        ≡ founded_beside (traffic_in (state S.Store conn).now.trees) register.now) }
     ensures crash { IfOk result (λ store. honest S.Store store → (t : Tables) → left S.Store store t → t ≡ content S.Store store) }
     ensures clean { IfOk result (λ store. honest S.Store store → HasCleanDisk (state S.Store conn)) }
     ensures register { IsRegister register.now }
     ensures fails { IfErr result (λ e. IsOfFounding e.1 × (e.1 ≢ FoundFault.Rows)) }
-    ensures spared { IfErr result (λ e. SparesConnection S.Store (MayBeBeside (traffic_in (state S.Store conn).now.trees) register.now) (state S.Store conn) e.0) }
+    ensures spared { IfErr result (λ e. SparesConnection S.Store
+        (MayBeBeside (traffic_in (state S.Store conn).now.trees) register.now) (state S.Store conn) e.0) }
 {
     let _idle = conn.is_autocommit();
     let _hub = register.hub();
@@ -101,14 +104,16 @@ fn beside<S: Alter + Drop>(
     requires ready { HasCleanDisk (state S.Store conn) → IsReady (state S.Store conn) }
     ensures whole { IfOk result (λ store. store.fault ≡ None) }
     ensures fits { IfOk result (λ store. honest S.Store store → does_fit register.now (traffic_in (state S.Store conn).now.trees) ≡ true) }
-    ensures rows { IfOk result (λ store. honest S.Store store → content S.Store store ≡ founded_beside (traffic_in (state S.Store conn).now.trees) register.now) }
+    ensures rows { IfOk result (λ store. honest S.Store store → content S.Store store
+        ≡ founded_beside (traffic_in (state S.Store conn).now.trees) register.now) }
     ensures crash { IfOk result (λ store. honest S.Store store → (t : Tables) → left S.Store store t → t ≡ content S.Store store) }
     ensures clean { IfOk result (λ store. honest S.Store store → HasCleanDisk (state S.Store conn)) }
     ensures register { IfOk result (λ _. IsRegister register.now) }
     ensures none { IfErr result (λ e. e.1 ≡ FoundFault.Rows → HasCleanDisk (state S.Store e.0) →
         (e.0.schema ≡ old_schema) × (does_fit register.now (traffic_in (state S.Store conn).now.trees) ≡ false)) }
     ensures fails { IfErr result (λ e. IsOfFounding e.1) }
-    ensures spared { IfErr result (λ e. SparesConnection S.Store (MayBeBeside (traffic_in (state S.Store conn).now.trees) register.now) (state S.Store conn) e.0) }
+    ensures spared { IfErr result (λ e. SparesConnection S.Store
+        (MayBeBeside (traffic_in (state S.Store conn).now.trees) register.now) (state S.Store conn) e.0) }
 {
     match fitting(conn, register) {
         Ok(conn) => laid_beside(alloc, conn, register),

@@ -25,11 +25,14 @@ pub(crate) fn of_version<S: Alter + Drop>(
     ensures limit { IfOk result (λ c. c.step_limit ≡ conn.step_limit) }
     ensures ready { IfOk result (λ c. HasCleanDisk (state S.Store c) → IsReady (state S.Store conn) → IsReady (state S.Store c)) }
     ensures schema { IfOk result (λ _. conn.schema ≡ schema_of version) }
-    ensures holds { IfOk result (λ c. HasCleanDisk (state S.Store c) → HoldsTables version (state S.Store conn).now × IsAsBefore (state S.Store conn) (state S.Store c)) }
+    ensures holds { IfOk result (λ c. HasCleanDisk (state S.Store c) →
+        HoldsTables version (state S.Store conn).now × IsAsBefore (state S.Store conn) (state S.Store c)) }
     ensures number { IfOk result (λ c. HasCleanDisk (state S.Store c) → HasNumber (number_of version) (state S.Store c).committed.trees) }
     ensures clean { IfOk result (λ c. HasCleanDisk (state S.Store c) → HasCleanDisk (state S.Store conn)) }
-    ensures refuses { IfErr result (λ e. e.1 ≡ StoreFault.Version → HasCleanDisk (state S.Store e.0) → ¬ HoldsTables version (state S.Store conn).now × IsAsBefore (state S.Store conn) (state S.Store e.0)) }
-    ensures stays { IfErr result (λ e. e.1 ≡ StoreFault.Version → HasCleanDisk (state S.Store e.0) → IsReady (state S.Store conn) → IsReady (state S.Store e.0)) }
+    ensures refuses { IfErr result (λ e. e.1 ≡ StoreFault.Version → HasCleanDisk (state S.Store e.0) →
+        ¬ HoldsTables version (state S.Store conn).now × IsAsBefore (state S.Store conn) (state S.Store e.0)) }
+    ensures stays { IfErr result (λ e. e.1 ≡ StoreFault.Version → HasCleanDisk (state S.Store e.0) →
+        IsReady (state S.Store conn) → IsReady (state S.Store e.0)) }
     ensures other { IfErr result (λ e. conn.schema ≢ schema_of version → e.1 ≡ StoreFault.Version) }
     ensures unclean { IfErr result (λ e. e.1 ≢ StoreFault.Unclean) }
     ensures spared { IfErr result (λ e. SparesConnection S.Store (λ _. ⊥) (state S.Store conn) e.0) }
@@ -55,14 +58,18 @@ pub(crate) fn of_hub<S: Alter + Drop>(
     requires idle { conn.in_transaction ≡ false }
     ensures idle { IfOk result (λ found. found.0.in_transaction ≡ false) }
     ensures limit { IfOk result (λ found. found.0.step_limit ≡ conn.step_limit) }
-    ensures ready { IfOk result (λ found. HasCleanDisk (state S.Store found.0) → IsReady (state S.Store conn) → IsReady (state S.Store found.0)) }
+    ensures ready { IfOk result (λ found. HasCleanDisk (state S.Store found.0) →
+        IsReady (state S.Store conn) → IsReady (state S.Store found.0)) }
     ensures schema { IfOk result (λ _. conn.schema ≡ hub_schema) }
     ensures known { IfOk result (λ found. conn.schema ≡ schema_of found.1) }
     ensures later { IfOk result (λ found. found.1 ≢ Version.First) }
-    ensures holds { IfOk result (λ found. HasCleanDisk (state S.Store found.0) → HoldsTables found.1 (state S.Store conn).now × IsAsBefore (state S.Store conn) (state S.Store found.0)) }
-    ensures number { IfOk result (λ found. HasCleanDisk (state S.Store found.0) → HasNumber (number_of found.1) (state S.Store found.0).committed.trees) }
+    ensures holds { IfOk result (λ found. HasCleanDisk (state S.Store found.0) →
+        HoldsTables found.1 (state S.Store conn).now × IsAsBefore (state S.Store conn) (state S.Store found.0)) }
+    ensures number { IfOk result (λ found. HasCleanDisk (state S.Store found.0) →
+        HasNumber (number_of found.1) (state S.Store found.0).committed.trees) }
     ensures clean { IfOk result (λ found. HasCleanDisk (state S.Store found.0) → HasCleanDisk (state S.Store conn)) }
-    ensures refuses { IfErr result (λ e. e.1 ≡ StoreFault.Version → HasCleanDisk (state S.Store e.0) → ¬ HoldsHub (state S.Store conn).now × IsAsBefore (state S.Store conn) (state S.Store e.0)) }
+    ensures refuses { IfErr result (λ e. e.1 ≡ StoreFault.Version → HasCleanDisk (state S.Store e.0) →
+        ¬ HoldsHub (state S.Store conn).now × IsAsBefore (state S.Store conn) (state S.Store e.0)) }
     ensures other { IfErr result (λ e. conn.schema ≢ hub_schema → e.1 ≡ StoreFault.Version) }
     ensures unclean { IfErr result (λ e. e.1 ≢ StoreFault.Unclean) }
     ensures spared { IfErr result (λ e. SparesConnection S.Store (λ _. ⊥) (state S.Store conn) e.0) }

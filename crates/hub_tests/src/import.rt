@@ -12,7 +12,9 @@ use std::io;
 use std::test::Fail;
 
 const ORDERS: &[u8] =
-    b"UNA:+.? 'UNB+UNOC:3+5412345000013:14+5412345000006:14+250603:0915+1001'UNH+1+ORDERS:D:01B:UN:EAN010'BGM+220+128576+9'DTM+137:20250603:102'NAD+BY+5412345000013::9'NAD+SU+4012345500004::9'LIN+1++4000862141404:SRV'QTY+21:48'UNS+S'CNT+2:1'UNT+10+1'UNZ+1+1001'";
+    b"UNA:+.? 'UNB+UNOC:3+5412345000013:14+5412345000006:14+250603:0915+1001'UNH+1+ORDERS:D:01B:UN:EAN010'\
+        BGM+220+128576+9'DTM+137:20250603:102'NAD+BY+5412345000013::9'NAD+SU+4012345500004::9'\
+        LIN+1++4000862141404:SRV'QTY+21:48'UNS+S'CNT+2:1'UNT+10+1'UNZ+1+1001'";
 
 // How the bytes of a file come.
 #[derive(Clone, Copy)]
@@ -190,7 +192,9 @@ fn hub_of_one(alloc: Global) -> Result<Hub<VecStore>, Fail> {
 }
 
 const TOLD_TO_THE_END: &[u8] =
-    b"file shut.edi\nfault\nfile order.edi\ninterchange 1001 messages 1\n1 ORDERS accepted\nfile failing.edi\nfault\nfile behind.edi\ninterchange 1001 messages 1\n1 ORDERS repeated\nfile none.edi\nrefused E06\nfault\nfile order.edi\ninterchange 1001 messages 1\n1 ORDERS repeated\n";
+    b"file shut.edi\nfault\nfile order.edi\ninterchange 1001 messages 1\n1 ORDERS accepted\nfile failing.edi\nfault\
+        \nfile behind.edi\ninterchange 1001 messages 1\n1 ORDERS repeated\nfile none.edi\nrefused E06\nfault\
+        \nfile order.edi\ninterchange 1001 messages 1\n1 ORDERS repeated\n";
 
 const TOLD_WITHOUT_MEMORY: &[u8] =
     b"file order.edi\ninterchange 1001 messages 1\n1 ORDERS repeated\nfile large.edi\nstopped\n";

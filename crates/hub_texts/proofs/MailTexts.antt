@@ -1,5 +1,6 @@
 -- The list of a mailbox, by its first entries; and an entry's interchange, by its parts.
-use Rattle.std.proofs.Common.{◌≡◌, ℕ, zero, suc, ◌+◌, min, map, refl, List, [], ◌∷◌, ◌++◌, length, take, nat_lt, cond, codes, sym, ap, ap₂, ◌∙◌}
+use Rattle.std.proofs.Common.{◌≡◌, ℕ, zero, suc, ◌+◌, min, map, refl, List, [], ◌∷◌, ◌++◌}
+use Rattle.std.proofs.Common.{length, take, nat_lt, cond, codes, sym, ap, ap₂, ◌∙◌}
 use Rattle.std.proofs.Common.{append_assoc, length-take, arith}
 use Rattle.std.specs.List.{flat_map}
 use Rattle.std.proofs.lemmas.Bool.Decides.{nat_tests}

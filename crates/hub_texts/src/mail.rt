@@ -78,7 +78,8 @@ fn last_word(heads: &[MailHead]) -> &'static str
 
 /// The list of the entries of a mailbox that are not taken, by what it shows of the first of them: one more than a list has.
 pub fn list_text(alloc: Global, heads: &[MailHead]) -> Result<Items<u8>, MemoryFault>
-    ensures { IfOk result (λ text. (all : List MailRow) → take (spec.list_limit + 1) (map head_of all) ≡ heads.now → text ≡ spec.list_text all) }
+    ensures { IfOk result (λ text. (all : List MailRow) →
+        take (spec.list_limit + 1) (map head_of all) ≡ heads.now → text ≡ spec.list_text all) }
 {
     let mut out = Vec::new(alloc);
     put_heads(&mut out, listed(heads))?;

@@ -67,7 +67,8 @@ unfolding understood everything
 add_mail_plain = (refl, refl)
 
 abbrev pub set_mail : List ℕ
-set_mail = codes "UPDATE mail SET moment = ?3, decimal = ?4, kind = ?5, document = ?6, body = ?7, taken = ?8 WHERE supplier = ?1 AND number = ?2"
+set_mail = codes
+    "UPDATE mail SET moment = ?3, decimal = ?4, kind = ?5, document = ?6, body = ?7, taken = ?8 WHERE supplier = ?1 AND number = ?2"
 
 -- the row has the key
 abbrev tests : List Term

@@ -136,7 +136,10 @@ module _ (row : KeyRow) where
               λ e. absurd cc,
               (
                 λ e. absurd cc,
-                (λ e. absurd cc, (λ e. absurd cc, (λ e. absurd cc, (λ e. absurd cc, (λ e. absurd cc, (λ _. fresh, (λ e. absurd cc, tt))))))),
+                (
+                  λ e. absurd cc,
+                  (λ e. absurd cc, (λ e. absurd cc, (λ e. absurd cc, (λ e. absurd cc, (λ _. fresh, (λ e. absurd cc, tt)))))),
+                ),
               ),
             ),
           ),

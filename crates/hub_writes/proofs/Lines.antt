@@ -53,7 +53,9 @@ use Rattle.hub_writes.proofs.Keys.{listed_last, is_new, number_shown, number_sam
 use Rattle.hub_writes.proofs.Keys.{number_is}
 
 abbrev pub add_line : List ℕ
-add_line = codes "INSERT INTO line (supplier, number, line, gtin, ordered, open_qty, refused, cancelled, answer) VALUES (?1, ?2, ?3, ?4, ?5, ?6, ?7, ?8, ?9)"
+add_line =
+    codes "INSERT INTO line (supplier, number, line, gtin, ordered, open_qty, refused, cancelled, answer) "
+    ++ codes "VALUES (?1, ?2, ?3, ?4, ?5, ?6, ?7, ?8, ?9)"
 
 abbrev terms : List Term
 terms = lit Null ∷ col 0 0 ∷ col 0 1 ∷ col 0 2 ∷ col 0 3 ∷ col 0 4 ∷ col 0 5 ∷ col 0 6 ∷ col 0 7 ∷ col 0 8 ∷ []
@@ -67,7 +69,9 @@ unfolding understood everything
 add_line_plain = (refl, refl)
 
 abbrev pub set_line : List ℕ
-set_line = codes "UPDATE line SET gtin = ?4, ordered = ?5, open_qty = ?6, refused = ?7, cancelled = ?8, answer = ?9 WHERE supplier = ?1 AND number = ?2 AND line = ?3"
+set_line =
+    codes "UPDATE line SET gtin = ?4, ordered = ?5, open_qty = ?6, refused = ?7, cancelled = ?8, answer = ?9 "
+    ++ codes "WHERE supplier = ?1 AND number = ?2 AND line = ?3"
 
 -- the row has the key
 abbrev tests : List Term

@@ -136,7 +136,10 @@ module _ (row : PrefixRow) where
               λ e. absurd cc,
               (
                 λ e. absurd cc,
-                (λ e. absurd cc, (λ e. absurd cc, (λ e. absurd cc, (λ e. absurd cc, (λ e. absurd cc, (λ e. absurd cc, (λ _. fresh, tt))))))),
+                (
+                  λ e. absurd cc,
+                  (λ e. absurd cc, (λ e. absurd cc, (λ e. absurd cc, (λ e. absurd cc, (λ e. absurd cc, (λ _. fresh, tt)))))),
+                ),
               ),
             ),
           ),

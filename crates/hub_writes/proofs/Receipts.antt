@@ -1,5 +1,6 @@
 -- Receipts of articles in SQL.
-use Rattle.std.proofs.Common.{◌≡◌, ◌&&◌, ◌<◌, ◌^◌, ℕ, pos, Bool, true, not, filter, inl, inr, None, List, [], ◌∷◌, map, codes, Ok, Err, Result, OnOk}
+use Rattle.std.proofs.Common.{◌≡◌, ◌&&◌, ◌<◌, ◌^◌, ℕ, pos, Bool, true, not, filter, inl, inr}
+use Rattle.std.proofs.Common.{None, List, [], ◌∷◌, map, codes, Ok, Err, Result, OnOk}
 use Rattle.std.proofs.Common.{IsTrue, refl, sym, ap, subst, ◌∙◌, arith}
 use Rattle.std.specs.List.{AllByRecursion}
 use Rattle.std.specs.Ordering.{is_eq}

@@ -25,7 +25,8 @@ pub fn add_line<S: Alter>(tx: &mut Transaction<'_, S>, row: &LineRow) -> Result<
     let cancelled = count_value(row.cancelled);
     let answer = answer_value(&row.answer);
     insert_ended(tx.execute(
-        "INSERT INTO line (supplier, number, line, gtin, ordered, open_qty, refused, cancelled, answer) VALUES (?1, ?2, ?3, ?4, ?5, ?6, ?7, ?8, ?9)",
+        "INSERT INTO line (supplier, number, line, gtin, ordered, open_qty, refused, cancelled, answer) \
+            VALUES (?1, ?2, ?3, ?4, ?5, ?6, ?7, ?8, ?9)",
         &[
             supplier, number, line, gtin, ordered, open_qty, refused, cancelled, answer,
         ],
@@ -47,7 +48,8 @@ pub fn set_line<S: Alter>(tx: &mut Transaction<'_, S>, row: &LineRow) -> Result<
     let cancelled = count_value(row.cancelled);
     let answer = answer_value(&row.answer);
     update_ended(tx.execute(
-        "UPDATE line SET gtin = ?4, ordered = ?5, open_qty = ?6, refused = ?7, cancelled = ?8, answer = ?9 WHERE supplier = ?1 AND number = ?2 AND line = ?3",
+        "UPDATE line SET gtin = ?4, ordered = ?5, open_qty = ?6, refused = ?7, cancelled = ?8, answer = ?9 \
+            WHERE supplier = ?1 AND number = ?2 AND line = ?3",
         &[
             supplier, number, line, gtin, ordered, open_qty, refused, cancelled, answer,
         ],

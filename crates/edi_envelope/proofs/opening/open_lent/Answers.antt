@@ -44,5 +44,8 @@ returns-in_err-interchange-clause-some g c = λ came.
 
 pub returns-clause-some : goal.returns-clause-some
 returns-clause-some g c = λ came.
-    let read = c.in_ok-opening.ensures.some came in
-    (read.2.0, interchange_opens read.2.0 _ c.in_ok-interchange.interchange read.2.1 (c.in_ok-interchange.ensures _ read.1 (sym c.decimal.ensures)))
+    let read = c.in_ok-opening.ensures.some came in (
+      read.2.0,
+      interchange_opens read.2.0 _ c.in_ok-interchange.interchange read.2.1
+          (c.in_ok-interchange.ensures _ read.1 (sym c.decimal.ensures)),
+    )

@@ -23,4 +23,5 @@ pub returns : goal.returns
 returns c =
     let bytes = c.args.bytes.now in
     let all : c.loop-offset.offset ≡ length bytes = omega (arith, c.loop-offset-test.false, c.loop-offset.auto.offset-end) in
-    ends bytes c.loop-offset.machine c.loop-offset.offset (length bytes) c.loop-offset.line c.loop-offset.segment all c.loop-offset-test.false c.loop-offset.invariant
+    ends bytes c.loop-offset.machine c.loop-offset.offset
+    (length bytes) c.loop-offset.line c.loop-offset.segment all c.loop-offset-test.false c.loop-offset.invariant

@@ -52,7 +52,8 @@ returns-in_default g c =
       refused = λ _. (
         Keeps-refl (g.W.Sink.contents c.args.out.now),
         Token fault,
-        is_refused view (g.R.Source.remaining c.args.input.now) c.args.words.now (Token fault) (not_read fault c.in_default.not-Read) (λ e. cc)
+        is_refused view (g.R.Source.remaining c.args.input.now) c.args.words.now
+            (Token fault) (not_read fault c.in_default.not-Read) (λ e. cc)
             ran.relayed_as,
         c.tell_refusal.ensures,
       );

@@ -8,7 +8,8 @@ use Rattle.edi_tokens.proofs.appending.append_others.Given as goal
 
 abbrev pub invariant-loop-place : goal.invariant-loop-place
 invariant-loop-place l = record {
-  text : l.out.items ++ flat_map (λ component. 58 ∷ component_text component) (drop l.place (element_at (segment_in l.segment).elements l.element))
+  text : l.out.items ++ flat_map (λ component. 58 ∷ component_text component)
+      (drop l.place (element_at (segment_in l.segment).elements l.element))
       ≡ l.fn.out.items ++ others_text (element_at (segment_in l.segment).elements l.element);
   kept : Keeps l.fn.out.items l.out.items;
 }

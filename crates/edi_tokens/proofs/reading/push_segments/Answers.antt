@@ -18,7 +18,8 @@ pub returns-then-not-ended : goal.returns-then-not-ended
 returns-then-not-ended c =
     all_in c.loop-count.segments.items c.loop-count.machine c.push_all.new.self c.loop-count.rest.now _ c.loop-count.invariant
     c.in_ok-count.count (c.in_ok-count.ensures.whole c.if-not-ended.true)
-    (subst (λ (b : Bool). run (reading_of [] c.loop-count.machine) (take c.in_ok-count.count c.loop-count.rest.now) ≡ Ok (after [] b c.push_all.new.self))
+    (subst (λ (b : Bool). run (reading_of [] c.loop-count.machine) (take c.in_ok-count.count c.loop-count.rest.now)
+    ≡ Ok (after [] b c.push_all.new.self))
     c.if-not-ended.true c.in_ok-count.ensures.ok)
 
 pub loop-count-preserved : goal.loop-count-preserved
@@ -26,7 +27,8 @@ loop-count-preserved c =
     let rest = c.loop-count.rest.now in
     let count = c.in_ok-count.count in
     let after_it : List ℕ = drop count rest in
-    let same : take (length rest - count) after_it ≡ after_it = take_all (length rest - count) after_it (omega (arith, length-drop count rest)) in
+    let same : take (length rest - count) after_it ≡ after_it =
+    take_all (length rest - count) after_it (omega (arith, length-drop count rest)) in
     let grown : c.push.new.self.items ≡ c.loop-count.segments.items ++ c.in_ok-to_segment.field-0 ∷ [] = c.in_ok-push.ensures.items in
     let item = c.in_ok-to_segment.ensures ∙ c.lent.ensures in
     let one = one_in c.loop-count.segments.items c.loop-count.machine c.push_all.new.self rest _ c.loop-count.invariant count

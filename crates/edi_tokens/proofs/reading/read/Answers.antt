@@ -20,14 +20,17 @@ told m segments = Ok (tokens_at segments m)
 pub returns-in_err-push_segments : goal.returns-in_err-push_segments
 returns-in_err-push_segments c =
     let p = err_from_is_err_and c.from_residual-in_err-push_segments.result c.from_residual-in_err-push_segments.ensures.1 in
-    rw (p.1, p.2) (tokens_of-fails c.in_err-push_segments.field-0.0 c.args.text.now c.min.result (reading_of c.new-segments.result.items c.in_ok-machine.machine)
-    (begins c.new-segments.result.items c.in_ok-machine.machine c.new-segments.ensures.items c.in_ok-machine.ensures) c.min.ensures c.in_err-push_segments.ensures)
+    rw (p.1, p.2) (tokens_of-fails c.in_err-push_segments.field-0.0 c.args.text.now c.min.result
+    (reading_of c.new-segments.result.items c.in_ok-machine.machine)
+    (begins c.new-segments.result.items c.in_ok-machine.machine c.new-segments.ensures.items c.in_ok-machine.ensures)
+    c.min.ensures c.in_err-push_segments.ensures)
 
 pub returns-then-text-gt-TEXT_LIMIT : goal.returns-then-text-gt-TEXT_LIMIT
 returns-then-text-gt-TEXT_LIMIT c =
     tokens_of-long c.args.text.now c.min.result (reading_of c.new-segments.result.items c.in_ok-machine.machine)
     (reading_of c.push_segments.new.segments.items c.push_segments.new.machine)
-    (begins c.new-segments.result.items c.in_ok-machine.machine c.new-segments.ensures.items c.in_ok-machine.ensures) c.min.ensures c.in_ok-push_segments.ensures c.if-text-gt-TEXT_LIMIT.true
+    (begins c.new-segments.result.items c.in_ok-machine.machine c.new-segments.ensures.items c.in_ok-machine.ensures)
+    c.min.ensures c.in_ok-push_segments.ensures c.if-text-gt-TEXT_LIMIT.true
 
 pub returns-in_err-finish : goal.returns-in_err-finish
 returns-in_err-finish c =
@@ -35,14 +38,16 @@ returns-in_err-finish c =
     rw (p.1, p.2) (fails_is c.in_err-finish.field-0.0 _
     (tokens_of-short c.args.text.now c.min.result (reading_of c.new-segments.result.items c.in_ok-machine.machine)
     (reading_of c.push_segments.new.segments.items c.push_segments.new.machine)
-    (begins c.new-segments.result.items c.in_ok-machine.machine c.new-segments.ensures.items c.in_ok-machine.ensures) c.min.ensures c.in_ok-push_segments.ensures c.if-text-gt-TEXT_LIMIT.false
+    (begins c.new-segments.result.items c.in_ok-machine.machine c.new-segments.ensures.items c.in_ok-machine.ensures)
+    c.min.ensures c.in_ok-push_segments.ensures c.if-text-gt-TEXT_LIMIT.false
     ∙ c.in_err-finish.ensures c.push_segments.new.segments.items))
 
 pub returns : goal.returns
 returns c =
     tokens_of-short c.args.text.now c.min.result (reading_of c.new-segments.result.items c.in_ok-machine.machine)
     (reading_of c.push_segments.new.segments.items c.push_segments.new.machine)
-    (begins c.new-segments.result.items c.in_ok-machine.machine c.new-segments.ensures.items c.in_ok-machine.ensures) c.min.ensures c.in_ok-push_segments.ensures c.if-text-gt-TEXT_LIMIT.false
+    (begins c.new-segments.result.items c.in_ok-machine.machine c.new-segments.ensures.items c.in_ok-machine.ensures)
+    c.min.ensures c.in_ok-push_segments.ensures c.if-text-gt-TEXT_LIMIT.false
     ∙ c.in_ok-finish.ensures c.push_segments.new.segments.items
     ∙ ap (told c.push_segments.new.machine) (sym c.from_vec.ensures)
     ∙ ap (λ (service : Service). Ok (record { service = service; segments = c.from_vec.result })) (sym c.get.ensures)

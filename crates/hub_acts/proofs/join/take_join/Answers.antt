@@ -25,7 +25,8 @@ let_in-requires-clause-takes g c =
     let row = c.row-row.result.now in
     let accepted : judge_join register row ≡ Accept c.as_slice.result.now =
     ap (judge_join register) c.row-row.ensures.value ∙ sym c.in_ok-verdict.ensures ∙ c.in-Accept.is ∙ ap Accept (sym c.as_slice.ensures) in
-    joins.takes register row c.as_slice.result.now accepted c.is_register.ensures (ap is_join c.row-row.ensures.value ∙ c.row-row.ensures.right)
+    joins.takes register row c.as_slice.result.now accepted c.is_register.ensures
+    (ap is_join c.row-row.ensures.value ∙ c.row-row.ensures.right)
 
 pub let_in-requires-clause-goes : goal.let_in-requires-clause-goes
 let_in-requires-clause-goes g c =
@@ -46,7 +47,8 @@ returns-in_err-let_in-clause-carried g c = λ here of_tables.
     subst (λ (row : SupplierRow). Carried g.S.Store.content g.S.Store.honest g.S.Store.left c.args.store.now c.let_in.new.store
     (joined register Whole row) as_told c.from_residual-in_err-let_in.result) c.row-row.ensures.value
     (joins.let_in_failed g.S.Store.content g.S.Store.honest g.S.Store.left c.args.store.now c.let_in.new.store register row
-    (ap is_join c.row-row.ensures.value ∙ c.row-row.ensures.right) changes accepted here of_tables _ c.in_err-let_in.field-0.0 _ is c.in_err-let_in.ensures.carried)
+    (ap is_join c.row-row.ensures.value ∙ c.row-row.ensures.right) changes accepted
+    here of_tables _ c.in_err-let_in.field-0.0 _ is c.in_err-let_in.ensures.carried)
 
 pub returns-clause-carried : goal.returns-clause-carried
 returns-clause-carried g c = λ here of_tables.
@@ -97,7 +99,8 @@ returns-clause-taken g c =
     let verdict : judge_join register row ≡ Accept c.in-Accept.changes = sym c.in_ok-verdict.ensures ∙ c.in-Accept.is in
     c.in_ok-let_in.ensures.taken
     ∙ ap (λ row. joined_by row register) c.row-row.ensures.value
-    ∙ sym (ap (λ v. cond v (joined_by row register) register) (joins.both_joins register row (Accept c.in-Accept.changes) verdict c.row-row.ensures.right))
+    ∙ sym (ap (λ v. cond v (joined_by row register) register)
+    (joins.both_joins register row (Accept c.in-Accept.changes) verdict c.row-row.ensures.right))
 
 pub returns-clause-fails : goal.returns-clause-fails
 returns-clause-fails g c =
@@ -108,7 +111,8 @@ pub returns-in-Refuse-clause-carried : goal.returns-in-Refuse-clause-carried
 returns-in-Refuse-clause-carried g c = λ here of_tables.
     let register = c.args.register.now in
     let row = c.args.join.now in
-    joins.refused_carried g.S.Store.content g.S.Store.honest g.S.Store.left c.args.store.now c.args.store.now register row c.row-row.ensures.right
+    joins.refused_carried g.S.Store.content g.S.Store.honest g.S.Store.left
+    c.args.store.now c.args.store.now register row c.row-row.ensures.right
     (Refuse c.in-Refuse.field-0) c.in_ok-reply.reply (sym c.in_ok-verdict.ensures ∙ c.in-Refuse.is) (λ t. refl)
     (c.in_ok-reply.ensures ∙ ap act_reply (sym c.told_of_verdict.ensures ∙ ap told c.in-Refuse.is))
 
@@ -129,7 +133,8 @@ returns-in-Refuse-clause-taken g c =
     let register = c.args.register.now in
     let row = c.args.join.now in
     let verdict : judge_join register row ≡ Refuse c.in-Refuse.field-0 = sym c.in_ok-verdict.ensures ∙ c.in-Refuse.is in
-    sym (ap (λ v. cond v (joined_by row register) register) (joins.both_joins register row (Refuse c.in-Refuse.field-0) verdict c.row-row.ensures.right))
+    sym (ap (λ v. cond v (joined_by row register) register)
+    (joins.both_joins register row (Refuse c.in-Refuse.field-0) verdict c.row-row.ensures.right))
 
 pub returns-in-Refuse-clause-fails : goal.returns-in-Refuse-clause-fails
 returns-in-Refuse-clause-fails g c =

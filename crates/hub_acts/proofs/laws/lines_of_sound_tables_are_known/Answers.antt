@@ -15,7 +15,8 @@ returns-clause-order c suppliers gln order t sound unclean =
     elim unclean [
       | inl e ↦ true≢false (sym (c.judges_are_given_what_they_ask.ensures.steps suppliers gln t (λ line. same line.number order) sound) ∙ e)
       | inr e ↦
-          true≢false (sym (c.judges_are_given_what_they_ask.ensures.rows_covered suppliers gln t (λ line. same line.number order) sound) ∙ e)
+          true≢false (sym (c.judges_are_given_what_they_ask.ensures.rows_covered suppliers gln t
+          (λ line. same line.number order) sound) ∙ e)
     ]
 
 pub returns-clause-named : goal.returns-clause-named

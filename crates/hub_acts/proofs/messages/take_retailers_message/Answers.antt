@@ -33,6 +33,7 @@ returns-clause-fails g c =
     let judged = c.in_ok-judged.judged in
     after_judging g.S.Store.plain ⊥ ⊥ old middle (g.S.Store.broken c.finish.new.store) (deliver_named register (message, came)) judged
     c.finish.result
-    (subst (λ (one : IncomingMessage). FailsWith g.S.Store.plain ⊥ (UnreadOf (deliver_named register (message, one))) old middle (Ok judged))
+    (subst (λ (one : IncomingMessage). FailsWith g.S.Store.plain ⊥
+    (UnreadOf (deliver_named register (message, one))) old middle (Ok judged))
     c.in_ok-came.ensures c.in_ok-judged.ensures.fails)
     c.finish.ensures.fails

@@ -28,7 +28,8 @@ returns-in-Ok-clause-looks_at g c =
     let asked = λ (bytes : List ℕ). input_of c.args.moment c.args.caller.now c.args.key.now (Upload bytes) in
     let hub = c.args.hub.now in
     let new = c.step_opened-reply.new.self in record {
-      one = Answered name (bytes_of g.B.Source.remaining (HasFailed g.B.Source.origin g.B.Source.failed) source c.in-Ok.upload c.in-Ok.ensures.opens) c.step_opened-reply.result;
+      one = Answered name (bytes_of g.B.Source.remaining (HasFailed g.B.Source.origin g.B.Source.failed)
+          source c.in-Ok.upload c.in-Ok.ensures.opens) c.step_opened-reply.result;
       is = of_read g.B.Source.remaining (HasFailed g.B.Source.origin g.B.Source.failed)
           c.args.file c.in-Named.file c.in-Ok.upload c.step_opened-reply.result c.in-Named.is c.in-Ok.ensures.opens;
       given = tt;

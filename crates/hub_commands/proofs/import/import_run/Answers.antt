@@ -48,7 +48,8 @@ returns-in-Err-clause-imported g c =
     let ran = runs_more g.S.Store.content g.S.Store.honest g.S.Store.left asked
     c.steps_are_a_run.ensures.more hub between between s.looked (NoMemory None)
     (λ honest. honest) c.loop-file.invariant.held s.ran refl in
-    let taken = taken_no_memory g.F.Bytes.Source.remaining (HasFailed g.F.Bytes.Source.origin g.F.Bytes.Source.failed) known rest left s.looked s.files
+    let taken = taken_no_memory g.F.Bytes.Source.remaining
+    (HasFailed g.F.Bytes.Source.origin g.F.Bytes.Source.failed) known rest left s.looked s.files
     (gives_fault g.F.Bytes.Source.remaining (HasFailed g.F.Bytes.Source.origin g.F.Bytes.Source.failed)
     rest left c.next.result c.in-Err.field-0 c.next.ensures.gives c.in-Err.is)
     (gives_again g.F.Bytes.Source.remaining (HasFailed g.F.Bytes.Source.origin g.F.Bytes.Source.failed)
@@ -124,5 +125,7 @@ returns-in-Err-import_file-clause-imported g c =
     (g.W.Sink.contents c.loop-file.out) (g.W.Sink.contents c.import_file.new.out) (g.W.Sink.failed c.loop-file.out)
     (g.W.Sink.failed c.import_file.new.out) c.loop-file.greatest s looks.one ran later
     taken.others
-    (taken_known g.F.Bytes.Source.remaining (HasFailed g.F.Bytes.Source.origin g.F.Bytes.Source.failed) known later (s.looked ++ looks.one ∷ []) taken)
-    (still_known g.F.Bytes.Source.remaining (HasFailed g.F.Bytes.Source.origin g.F.Bytes.Source.failed) known later s.looked looks.one taken looks.given) looks.comes
+    (taken_known g.F.Bytes.Source.remaining
+    (HasFailed g.F.Bytes.Source.origin g.F.Bytes.Source.failed) known later (s.looked ++ looks.one ∷ []) taken)
+    (still_known g.F.Bytes.Source.remaining (HasFailed g.F.Bytes.Source.origin g.F.Bytes.Source.failed)
+    known later s.looked looks.one taken looks.given) looks.comes

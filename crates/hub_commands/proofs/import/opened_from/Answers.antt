@@ -10,7 +10,8 @@ use Rattle.hub_commands.proofs.import.opened_from.Goals.{After-open_lent-upload}
 opens : (g : given.Over) (c : After-open_lent-upload g)
     → OpensSource g.B.Source.remaining c.args.source c.open_lent-upload.result
 opens g c =
-    opens_source g.B.Source.remaining (HasFailed g.B.Source.origin g.B.Source.failed) c.args.source c.in_ok-source.source c.open_lent-upload.result
+    opens_source g.B.Source.remaining
+    (HasFailed g.B.Source.origin g.B.Source.failed) c.args.source c.in_ok-source.source c.open_lent-upload.result
     c.in_ok-source.was
     (λ bytes is. c.open_lent-upload.ensures.interchange bytes
     (subst (λ (known : Option (List ℕ)). Fed known bytes [] c.in-Ok.lender) (sym is) (c.in-Ok.ensures.fed bytes)))

@@ -32,7 +32,8 @@ returns-in-Some-clause-breaks g c =
     let register = c.args.register.now in
     let opening = addressed_by register c.args.caller in
     let is = ap opening (ap spec.with_code c.in-Ok.is) ∙ c.in-Some.ensures.some in
-    unasked g.S.Store.plain (λ mark t. uploaded (delivered register c.args.caller) c.args.moment mark (opening (spec.with_code c.args.upload)) t)
+    unasked g.S.Store.plain
+    (λ mark t. uploaded (delivered register c.args.caller) c.args.moment mark (opening (spec.with_code c.args.upload)) t)
     (g.S.Store.broken c.args.store.now) c.in_ok-refused_upload.field-0
     (λ t. ap (λ opened. uploaded (delivered register c.args.caller) c.args.moment Whole opened t) is
     ∙ ap (λ reply. (reply, t)) (sym c.in_ok-refused_upload.ensures))

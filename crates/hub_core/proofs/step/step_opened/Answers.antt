@@ -30,7 +30,8 @@ returns-clause-stepped g c bytes opens honest here =
     c.answer_opened-answered.result c.in-Ok.stopped c.replied.result
     (λ t. c.stops_are_told.ensures.bare t input) c.in-Ok.ensures c.replied.ensures.ok c.replied.ensures.err
     honest here.sound
-    (asked_with g.S.Store.content g.S.Store.honest g.S.Store.left c.args.store.now c.answer_opened-answered.new.store c.args.register.now input
+    (asked_with g.S.Store.content g.S.Store.honest g.S.Store.left c.args.store.now
+    c.answer_opened-answered.new.store c.args.register.now input
     c.answer_opened-answered.result here (c.answer_opened-answered.ensures.asked bytes opens here))
 
 pub returns-clause-held : goal.returns-clause-held

@@ -48,5 +48,6 @@ returns c = λ t hubs keys prefixes keys_rise prefixes_rise.
     let is_some_list : is_some c.in_ok-lists.field-0 ≡ true = ap is_some c.in-Some.is in
     let had : all_had t.keys t.prefixes ≡ true =
     (λ i. all_had (keys i) (prefixes i)) ∙ sym (c.in_ok-lists.ensures.had rise) ∙ is_some_list in
-    held_by t c.hub-item.result c.copy.result c.in-Some-2.suppliers.items (hubs ∙ one) keys_rise prefixes_rise (had_each t.keys t.prefixes had)
+    held_by t c.hub-item.result c.copy.result c.in-Some-2.suppliers.items
+    (hubs ∙ one) keys_rise prefixes_rise (had_each t.keys t.prefixes had)
     c.copy.ensures same c.of_rows.result c.of_rows.ensures.some c.of_rows.ensures.none

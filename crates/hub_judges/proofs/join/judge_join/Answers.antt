@@ -11,13 +11,16 @@ use Rattle.hub_judges.proofs.join.judge_join.Goals as goal
 abbrev checks : Bool → Bool → Bool → Verdict → Verdict
 checks known overlaps full rest = refuse_if known GlnKnown (refuse_if overlaps PrefixOverlaps (refuse_if full RegisterFull rest))
 
-second : {known overlaps : Bool} (full : Bool) (rest : Verdict) → known ≡ false → overlaps ≡ true → checks known overlaps full rest ≡ Refuse PrefixOverlaps
+second : {known overlaps : Bool} (full : Bool) (rest : Verdict) → known ≡ false →
+    overlaps ≡ true → checks known overlaps full rest ≡ Refuse PrefixOverlaps
 second full rest a b = ap₂ (λ known overlaps. checks known overlaps full rest) a b
 
-third : {known overlaps full : Bool} (rest : Verdict) → known ≡ false → overlaps ≡ false → full ≡ true → checks known overlaps full rest ≡ Refuse RegisterFull
+third : {known overlaps full : Bool} (rest : Verdict) → known ≡ false →
+    overlaps ≡ false → full ≡ true → checks known overlaps full rest ≡ Refuse RegisterFull
 third rest a b c = λ i. checks (a i) (b i) (c i) rest
 
-none : {known overlaps full : Bool} (rest : Verdict) → known ≡ false → overlaps ≡ false → full ≡ false → checks known overlaps full rest ≡ rest
+none : {known overlaps full : Bool} (rest : Verdict) → known ≡ false →
+    overlaps ≡ false → full ≡ false → checks known overlaps full rest ≡ rest
 none rest a b c = λ i. checks (a i) (b i) (c i) rest
 
 pub returns-then-overlaps : goal.returns-then-overlaps

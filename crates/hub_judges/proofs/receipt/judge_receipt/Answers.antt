@@ -36,7 +36,8 @@ returns c =
     let fresh : Verdict = joined (memory ∷ []) (judge_new_receipt s.gln incoming body receipt (apply memory state)) in
     judged
     ∙ ap (λ all. joined all (receipts_from receipt.replaces c.as_slice-units.result.now c.as_slice-pallets.result.now)) changes
-    ∙ ap₂ (λ units pallets. joined (memory ∷ entry ∷ []) (receipts_from receipt.replaces units pallets)) c.as_slice-units.ensures c.as_slice-pallets.ensures
+    ∙ ap₂ (λ units pallets. joined (memory ∷ entry ∷ [])
+    (receipts_from receipt.replaces units pallets)) c.as_slice-units.ensures c.as_slice-pallets.ensures
     ∙ sym (
     c.in-Ok.ensures.ok (λ s.
     judge_once (referred_by s sides.Retailer incoming) incoming.content (judge_new_receipt s.gln incoming body receipt)

@@ -1,4 +1,5 @@
-use Rattle.std.proofs.Common.{◌≡◌, ◌≤◌, ◌∙◌, ◌==◌, ◌&&◌, ℕ, List, Result, Ok, Err, IfOk, map, find, filter, take, length, sym, subst, ap, rules}
+use Rattle.std.proofs.Common.{◌≡◌, ◌≤◌, ◌∙◌, ◌==◌, ◌&&◌, ℕ, List, Result, Ok, Err, IfOk}
+use Rattle.std.proofs.Common.{map, find, filter, take, length, sym, subst, ap, rules}
 use Rattle.std.specs.Prelude.{nat_lt, min}
 use Rattle.std.specs.List.{filter_map}
 use Rattle.std.specs.Ordering.{nat_cmp}

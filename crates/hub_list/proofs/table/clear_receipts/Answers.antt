@@ -11,5 +11,6 @@ returns-clause-items c = filter_same _ _ _ (λ x b f' k. search rules) _ _ c.ret
 
 pub returns-clause-rises : goal.returns-clause-rises
 returns-clause-rises c =
-    let is = filter_same _ (λ (row : ReceiptRow). not (same row.sscc c.args.sscc.now)) _ (λ x b f' k. search rules) _ _ c.retain.ensures.filtered in
+    let is = filter_same _ (λ (row : ReceiptRow). not (same row.sscc c.args.sscc.now)) _
+    (λ x b f' k. search rules) _ _ c.retain.ensures.filtered in
     subst (Rises receipt_cmp) (sym is) (rises_filter receipt_cmp (λ row. not (same row.sscc c.args.sscc.now)) _ c.requires)

@@ -8,7 +8,8 @@ use Rattle.hub_looks.proofs.mail.mail_after.Goals as goal
 
 pub returns-then-low-clause-looks : goal.returns-then-low-clause-looks
 returns-then-low-clause-looks g c =
-    low_entry (λ t. take c.args.limit (map head_of (untaken_after (view c.args.supplier.now t) c.args.number))) (state g.S.Store c.args.conn.now)
+    low_entry (λ t. take c.args.limit (map head_of (untaken_after (view c.args.supplier.now t) c.args.number)))
+    (state g.S.Store c.args.conn.now)
     (state g.S.Store c.has_low.new.conn)
     c.args.supplier.now c.in_ok-low.low c.if-low.true c.in_ok-low.ensures.looks
 

@@ -7,7 +7,8 @@ use Rattle.hub_looks.proofs.number.is_numbered.Goals as goal
 
 pub returns : goal.returns
 returns g c = record {
-  number = tells c.args.number (state g.S.Store c.args.conn.now) (state g.S.Store c.ask.new.conn) _ c.is_alone.result c.in_ok-rows.ensures.asks
+  number = tells c.args.number (state g.S.Store c.args.conn.now)
+      (state g.S.Store c.ask.new.conn) _ c.is_alone.result c.in_ok-rows.ensures.asks
       (search rules);
 }
 

@@ -24,6 +24,7 @@ returns-in_err-hubs g c =
     let given : c.from_residual.result ≡ Err fault = search rules in
     let old = state g.S.Store c.args.conn.now in
     let new = state g.S.Store c.all_hubs.new.conn in
-    let looks = subst (LooksIn (λ t rows. rows ≡ t.hubs) (λ t. list_all clean_hub t.hubs ≡ false) old new) c.in_err-hubs.was c.all_hubs.ensures.looks in
+    let looks = subst (LooksIn (λ t rows. rows ≡ t.hubs)
+    (λ t. list_all clean_hub t.hubs ≡ false) old new) c.in_err-hubs.was c.all_hubs.ensures.looks in
     subst (LooksIn IsHeldBy HoldsNone old new) (sym given)
     (failed_for (λ t rows. rows ≡ t.hubs) IsHeldBy (λ t. list_all clean_hub t.hubs ≡ false) HoldsNone old new no_hubs fault looks)

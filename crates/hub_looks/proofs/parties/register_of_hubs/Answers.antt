@@ -27,6 +27,7 @@ returns-in_err-keys g c =
     let says : Tables → Option RegisterRows → Type 0 = λ t register. t.hubs ≡ c.args.hubs.now → Rising t → IsHeldBy t register in
     let old = state g.S.Store c.args.conn.now in
     let new = state g.S.Store c.all_keys.new.conn in
-    let looks = subst (LooksIn (λ t rows. rows ≡ t.keys) (λ t. list_all clean_key t.keys ≡ false) old new) c.in_err-keys.was c.all_keys.ensures.looks in
+    let looks = subst (LooksIn (λ t rows. rows ≡ t.keys)
+    (λ t. list_all clean_key t.keys ≡ false) old new) c.in_err-keys.was c.all_keys.ensures.looks in
     subst (LooksIn says HoldsNone old new) (sym given)
     (failed_for (λ t rows. rows ≡ t.keys) says (λ t. list_all clean_key t.keys ≡ false) HoldsNone old new no_keys fault looks)

@@ -7,4 +7,5 @@ use Rattle.hub_register.proofs.document.strings_in.Given as goal
 
 -- the strings of all values are those read so far and those of the rest
 abbrev pub invariant-loop-value : goal.invariant-loop-value
-invariant-loop-value l = strings_in (items_view l.values) ≡ after (texts_of l.texts.items) (strings_in (items_view (drop l.value-index l.values)))
+invariant-loop-value l = strings_in (items_view l.values)
+    ≡ after (texts_of l.texts.items) (strings_in (items_view (drop l.value-index l.values)))

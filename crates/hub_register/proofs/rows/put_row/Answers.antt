@@ -9,7 +9,8 @@ use Rattle.hub_register.specs.Kept.{is_valid}
 use Rattle.hub_register.proofs.Inserted.{put-insert, at-insert}
 use Rattle.hub_register.proofs.rows.put_row.Goals as goal
 
-is_right : (row : SupplierRow) → IsKey 13 row.gln → IsTrue (are_company_prefixes row.prefixes) → IsTrue (is_party_key row.key) → is_valid row ≡ true
+is_right : (row : SupplierRow) → IsKey 13 row.gln → IsTrue (are_company_prefixes row.prefixes) →
+    IsTrue (is_party_key row.key) → is_valid row ≡ true
 is_right row gln prefixes key = ap₂ (λ a b. a && b) ((Decides-is_key 13 row.gln).1 gln) (ap₂ (λ a b. a && b) prefixes key)
 
 pub returns-in_err-insert-clause-valid : goal.returns-in_err-insert-clause-valid

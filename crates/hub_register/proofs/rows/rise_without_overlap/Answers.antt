@@ -7,4 +7,5 @@ pub returns : goal.returns
 returns c = λ none.
     let rows = c.args.rows.now in
     let all = c.as_mut_slice.ensures.value ∙ c.in_ok-prefixes.ensures in
-    in_order_without_overlap rows (c.glns_rise.ensures c.if-not-glns_rise.false) (subst NoneOverlap all (c.none_overlap.ensures.value.0 none))
+    in_order_without_overlap rows (c.glns_rise.ensures c.if-not-glns_rise.false)
+    (subst NoneOverlap all (c.none_overlap.ensures.value.0 none))

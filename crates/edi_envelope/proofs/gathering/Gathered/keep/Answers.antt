@@ -6,7 +6,8 @@ pub returns-in_ok-push-in-MessageHeader : goal.returns-in_ok-push-in-MessageHead
 returns-in_ok-push-in-MessageHeader c = λ lent gathers known placed.
     let s = c.args.segment in
     let keeps = keeps_at c.args.place lent c.args.self.now s (inl c.in-MessageHeader.is) gathers placed in
-    unh_kept c.args.place lent c.close.new.self _ s c.in-MessageHeader.is (c.in_ok-close-in-MessageHeader.ensures lent keeps) placed refl refl
+    unh_kept c.args.place lent c.close.new.self _ s c.in-MessageHeader.is
+    (c.in_ok-close-in-MessageHeader.ensures lent keeps) placed refl refl
     c.in_ok-push-in-MessageHeader.ensures.items
 
 pub returns-in_ok-push-in-Inside : goal.returns-in_ok-push-in-Inside

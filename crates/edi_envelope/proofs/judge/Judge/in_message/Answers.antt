@@ -17,12 +17,14 @@ returns-then-unz c =
 
 pub returns-then-unt : goal.returns-then-unt
 returns-then-unt c =
-    shuts c.args.self.now (segment_in c.args.segment.now) c.is_outside-self.result c.is_outside-self.ensures c.args.begun c.take.new.self c.requires
+    shuts c.args.self.now (segment_in c.args.segment.now) c.is_outside-self.result
+    c.is_outside-self.ensures c.args.begun c.take.new.self c.requires
     (sym c.has_tag-unt.ensures ∙ c.if-unt.true) c.in_ok-take.ensures.trails c.in_ok-take.ensures.falls
 
 pub returns-then-frame : goal.returns-then-frame
 returns-then-frame c =
-    loses_in_message c.args.self.now (segment_in c.args.segment.now) c.is_outside-self.result c.is_outside-self.ensures c.args.begun c.requires
+    loses_in_message c.args.self.now
+    (segment_in c.args.segment.now) c.is_outside-self.result c.is_outside-self.ensures c.args.begun c.requires
     (or_from _ _ (sym c.has_tag-unb.ensures ∙ c.if-unb.false) (sym c.has_tag-unz.ensures ∙ c.if-unz.false))
     (sym c.has_tag-unt.ensures ∙ c.if-unt.false) (sym c.is_frame-frame.ensures ∙ c.if-frame.true)
 

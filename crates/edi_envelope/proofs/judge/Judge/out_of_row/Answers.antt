@@ -8,7 +8,8 @@ use Rattle.edi_envelope.proofs.JudgeLemmas.{breaks_out_of_row, ends_out_of_row, 
 use Rattle.edi_envelope.proofs.judge.Judge.out_of_row.Goals as goal
 
 pub returns-then-unb : goal.returns-then-unb
-returns-then-unb c = breaks_out_of_row c.args.self.now (segment_in c.args.segment.now) c.requires (sym c.has_tag-unb.ensures ∙ c.if-unb.true)
+returns-then-unb c =
+    breaks_out_of_row c.args.self.now (segment_in c.args.segment.now) c.requires (sym c.has_tag-unb.ensures ∙ c.if-unb.true)
 
 pub returns-then-unz : goal.returns-then-unz
 returns-then-unz c =

@@ -6,7 +6,8 @@ use Rattle.edi_envelope.proofs.reference.References.insert.Goals as goal
 
 pub returns-clause-new : goal.returns-clause-new
 returns-clause-new c =
-    c.in_ok-new.ensures.added ∙ ap not (contains-reference c.args.reference c.self.inside.set.keys ∙ ap (is_among c.args.reference) c.self.view_is)
+    c.in_ok-new.ensures.added
+    ∙ ap not (contains-reference c.args.reference c.self.inside.set.keys ∙ ap (is_among c.args.reference) c.self.view_is)
 
 pub returns-clause-seen : goal.returns-clause-seen
 returns-clause-seen c = λ other.

@@ -20,7 +20,8 @@ pub returns-clause-heads : goal.returns-clause-heads
 returns-clause-heads c = λ messages heads.
     let h = c.args.self.now in
     let key = c.kept.ensures ∙ ap kept c.component.ensures in
-    heads_seen messages h (segment_in c.args.unh.now) heads _ _ _ _ (ap (λ b. h.identified && b) c.has_identity.ensures) c.in_ok-self.ensures
+    heads_seen messages h (segment_in c.args.unh.now) heads _ _ _ _
+    (ap (λ b. h.identified && b) c.has_identity.ensures) c.in_ok-self.ensures
     c.if-not-self.false c.if-self.false
     (ap not c.in_ok-new.ensures.new ∙ not_not (is_among c.kept.result h.seen) ∙ ap (λ (l : List ℕ). is_among l h.seen) key)
     (λ other. c.in_ok-new.ensures.seen other ∙ ap (λ (l : List ℕ). bytes_eq other l || is_among other h.seen) key)

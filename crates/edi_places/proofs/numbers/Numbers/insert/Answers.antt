@@ -8,7 +8,8 @@ pub returns-clause-new : goal.returns-clause-new
 returns-clause-new c =
     let number = c.args.number in
     c.in_ok-new.ensures.added
-    ∙ ap not (contains-number number c.self.inside.set.keys ∙ ap (comes_among nat_eq number) (map-id c.self.inside.set.keys ∙ c.self.view_is))
+    ∙ ap not (contains-number number c.self.inside.set.keys
+    ∙ ap (comes_among nat_eq number) (map-id c.self.inside.set.keys ∙ c.self.view_is))
 
 pub returns-clause-seen : goal.returns-clause-seen
 returns-clause-seen c = λ other.

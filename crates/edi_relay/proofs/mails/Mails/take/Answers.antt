@@ -32,7 +32,8 @@ pub returns-in_ok-append_segment_with-in-MessageTrailer : goal.returns-in_ok-app
 returns-in_ok-append_segment_with-in-MessageTrailer c = λ words lent writes known placed.
     let s = segment_in c.args.segment.now in
     let at = subst (λ (q : Place). Placed q lent s) c.in-MessageTrailer.is placed in
-    more_written words c.args.mark lent c.args.self.now _ s writes (goes_at c.args.place lent s (inr c.in-MessageTrailer.is) placed) refl refl
+    more_written words c.args.mark lent c.args.self.now _ s writes
+    (goes_at c.args.place lent s (inr c.in-MessageTrailer.is) placed) refl refl
     refl
     (c.in_ok-append_segment_with-in-MessageTrailer.ensures.ok
     ∙ ap (λ (x : Segment). c.args.self.now.out.items ++ segment_text x) (sym (renumbered_unt s at.2)))

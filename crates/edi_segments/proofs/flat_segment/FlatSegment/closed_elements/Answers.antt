@@ -12,5 +12,6 @@ returns c =
     let within : s.elements ≤ length s.element_ends.items =
     omega (arith, s.element_ends.ok.0, room.element_ends_long, room.elements_within, room.is_short) in
     sym (length-take-le s.elements s.element_ends.items within)
-    ∙ sym (length-cut 0 (take s.elements s.element_ends.items) (cut (take s.components s.component_ends.items) (take s.filled s.bytes.items)))
+    ∙ sym (length-cut 0 (take s.elements s.element_ends.items)
+    (cut (take s.components s.component_ends.items) (take s.filled s.bytes.items)))
     ∙ ap (λ (o : Open). length o.elements) c.self.view_is

@@ -39,7 +39,13 @@ piece_of-requires-clause-within c =
     (place_there c.args.self.now _ c.args.element c.args.place c.components.result c.self.view_is c.components.ensures (omega arith))
     (omega (arith, low)) in
     let counted : s.components ≤ length s.component_ends.items =
-    omega (arith, s.component_ends.ok.0, c.self.invariant.room.component_ends_long, c.self.invariant.room.components_within, c.self.invariant.room.is_short) in
+    omega (
+      arith,
+      s.component_ends.ok.0,
+      c.self.invariant.room.component_ends_long,
+      c.self.invariant.room.components_within,
+      c.self.invariant.room.is_short,
+    ) in
     omega (arith, there.1, counted, ap length c.as_slice-3.ensures.value)
 
 pub piece_of-requires-clause-rises : goal.piece_of-requires-clause-rises

@@ -13,12 +13,15 @@ invariant_of-self c =
     let size : s.size ≡ c.args.self.now.length = ap (λ (o : Open). o.length) c.self.view_is in
     let within : s.components < length s.component_ends.items =
     omega (arith, c.requires, size, s.component_ends.ok.0, room.component_ends_long, room.components_within) in
-    let more : take (s.components + 1) (set s.component_ends.items s.components s.filled) ≡ take s.components s.component_ends.items ++ s.filled ∷ [] =
+    let more : take (s.components + 1) (set s.component_ends.items s.components s.filled)
+    ≡ take s.components s.component_ends.items ++ s.filled ∷ [] =
     take_more_set s.component_ends.items s.components s.filled within in
     let whole : s.filled ≡ length (take s.filled s.bytes.items) =
     sym (length-take-le s.filled s.bytes.items (omega (arith, s.bytes.ok.0, room.bytes_long, room.filled_within, room.is_short))) in
-    let all : s.components + 1 ≡ length (take s.components s.component_ends.items) + 1 = sym (counted s.component_ends.items s.components within) in
-    let left : IsLeft s.components_kept (length (take s.components s.component_ends.items) + 1) s.component_from s.filled c.left-self-inside.result =
+    let all : s.components + 1 ≡ length (take s.components s.component_ends.items) + 1 =
+    sym (counted s.component_ends.items s.components within) in
+    let left : IsLeft s.components_kept
+    (length (take s.components s.component_ends.items) + 1) s.component_from s.filled c.left-self-inside.result =
     subst (λ (n : ℕ). IsLeft s.components_kept n s.component_from s.filled c.left-self-inside.result) all c.left-self-inside.ensures in
     record {
       flat =
@@ -46,11 +49,13 @@ returns c =
     let size : s.size ≡ c.args.self.now.length = ap (λ (o : Open). o.length) c.self.view_is in
     let within : s.components < length s.component_ends.items =
     omega (arith, c.requires, size, s.component_ends.ok.0, room.component_ends_long, room.components_within) in
-    let more : take (s.components + 1) (set s.component_ends.items s.components s.filled) ≡ take s.components s.component_ends.items ++ s.filled ∷ [] =
+    let more : take (s.components + 1) (set s.component_ends.items s.components s.filled)
+    ≡ take s.components s.component_ends.items ++ s.filled ∷ [] =
     take_more_set s.component_ends.items s.components s.filled within in
     let whole : s.filled ≡ length (take s.filled s.bytes.items) =
     sym (length-take-le s.filled s.bytes.items (omega (arith, s.bytes.ok.0, room.bytes_long, room.filled_within, room.is_short))) in
-    ap (λ l. flat_open s.tag (take s.filled s.bytes.items) l (take s.elements s.element_ends.items) s.filled s.element_from (s.size + 1)) more
+    ap (λ l. flat_open s.tag (take s.filled s.bytes.items) l
+    (take s.elements s.element_ends.items) s.filled s.element_from (s.size + 1)) more
     ∙ open-component (take s.filled s.bytes.items) (take s.components s.component_ends.items)
     (take s.elements s.element_ends.items) s.component_from s.element_from s.components_kept s.elements_kept s.filled
     flat whole s.tag s.size

@@ -12,7 +12,8 @@ returns c =
     let flat = c.self.invariant.flat in
     let within : s.components ≤ length s.component_ends.items =
     omega (arith, s.component_ends.ok.0, room.component_ends_long, room.components_within, room.is_short) in
-    let all : length (take s.components s.component_ends.items) ≡ s.components = length-take-le s.components s.component_ends.items within in
+    let all : length (take s.components s.component_ends.items) ≡ s.components =
+    length-take-le s.components s.component_ends.items within in
     let pieces = cut (take s.components s.component_ends.items) (take s.filled s.bytes.items) in
     let long : length pieces ≡ s.components = length-cut 0 (take s.components s.component_ends.items) (take s.filled s.bytes.items) ∙ all in
     equal_from_none s.element_from s.components (length c.args.self.now.element) (omega (arith, flat.element_within, flat.kept_within, all))

@@ -28,9 +28,11 @@ loop-at-preserved c =
     record {
       within = omega (arith, c.push_plain-at.ensures.within, ap length rest, length-drop (c.loop-at.at + 1) c.args.bytes.now);
       so_far =
-          some_more (reading_of [] c.args.self.now) (reading_of [] c.push.new.self) (reading_of [] c.push_plain-at.new.self) c.args.bytes.now
+          some_more (reading_of [] c.args.self.now) (reading_of [] c.push.new.self)
+          (reading_of [] c.push_plain-at.new.self) c.args.bytes.now
           (c.loop-at.at + 1) c.push_plain-at.result one
-          (subst (λ (l : List ℕ). run (reading_of [] c.push.new.self) (take c.push_plain-at.result l) ≡ Ok (reading_of [] c.push_plain-at.new.self))
+          (subst (λ (l : List ℕ). run (reading_of [] c.push.new.self) (take c.push_plain-at.result l)
+          ≡ Ok (reading_of [] c.push_plain-at.new.self))
           rest c.push_plain-at.ensures.taken);
     }
 

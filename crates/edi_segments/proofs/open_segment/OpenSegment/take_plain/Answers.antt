@@ -16,12 +16,21 @@ invariant_of-self c =
     let window : List ℕ = take c.min.result c.args.bytes.now in
     let run : List ℕ = take count window in
     let fits : t.filled + count ≤ t.bytes.len =
-    omega (arith, c.take_run-count.ensures.within, length-take c.min.result c.args.bytes.now, c.room.ensures, c.min.ensures, c.min-room.ensures, c.self.invariant.room) in
+    omega (
+      arith,
+      c.take_run-count.ensures.within,
+      length-take c.min.result c.args.bytes.now,
+      c.room.ensures,
+      c.min.ensures,
+      c.min-room.ensures,
+      c.self.invariant.room,
+    ) in
     record {
       room = fits;
       kept =
           still (text_in t) _ run o c.take_run-count.new.self c.self.invariant.kept
-          (grown_same t.kept _ _ run (part_more t.bytes.items c.deref_mut.result.now c.take_run-count.new.too window _ t.bytes.len t.filled _
+          (grown_same t.kept _ _ run
+          (part_more t.bytes.items c.deref_mut.result.now c.take_run-count.new.too window _ t.bytes.len t.filled _
           count t.bytes.ok.0 c.deref_mut.ensures.value c.take_run-count.ensures.copied c.take_run-count.ensures.within fits))
           (ap open_text c.take_run-count.ensures.taken ∙ text_bytes o run
           ∙ ap (λ l. open_text o ++ l) (plain_text run (run_is_unusual c.args.service.now run c.take_run-count.ensures.run)));

@@ -10,6 +10,7 @@ loop-byte-preserved c =
     record {
       long = length-set l.is_run l.byte c.is_run.result ∙ l.invariant.long;
       so_far =
-          set_more l.is_run (stands_for_itself c.args.service) l.byte c.is_run.result (omega (arith, l.invariant.long, c.loop-byte-test.true))
+          set_more l.is_run (stands_for_itself c.args.service) l.byte c.is_run.result
+          (omega (arith, l.invariant.long, c.loop-byte-test.true))
           c.is_run.ensures l.invariant.so_far;
     }

@@ -21,7 +21,8 @@ taken_all g c all lent fed =
     (c.in_ok-take_piece.ensures.told _ all lent (c.loop-self.invariant.told all lent fed))
 
 bound : (g : given.Over) (c : After-refill g)
-    → TakesOf (g.R.Source.remaining c.args.reader.now) (g.R.Source.remaining c.refill.new.reader) c.args.self.now.room c.refill.new.self.room
+    → TakesOf (g.R.Source.remaining c.args.reader.now)
+    (g.R.Source.remaining c.refill.new.reader) c.args.self.now.room c.refill.new.self.room
 bound g c =
     takes_then _ _ _ _ _ _ c.loop-self.invariant.bound (rw c.in_ok-take_piece.ensures.room at c.refill.ensures.bound)
 
@@ -56,7 +57,8 @@ pub returns-in_err-finish-clause-told : goal.returns-in_err-finish-clause-told
 returns-in_err-finish-clause-told g c = λ all lent fed.
     let p = err_from_is_err_and c.from_residual-in_err-finish.result c.from_residual-in_err-finish.ensures.1 in
     rw (p.1, p.2) (λ _.
-    (ended g (goal.at.returns-in_err-finish-clause-told g c).In_ok-refill all lent c.if-not-branch.true fed).1 ∙ c.in_err-finish.ensures lent)
+    (ended g (goal.at.returns-in_err-finish-clause-told g c).In_ok-refill all lent c.if-not-branch.true fed).1
+    ∙ c.in_err-finish.ensures lent)
 
 pub returns-in_err-finish-clause-flag : goal.returns-in_err-finish-clause-flag
 returns-in_err-finish-clause-flag g c =

@@ -8,7 +8,8 @@ use Rattle.edi_tokens.proofs.lender.Lender.take_piece.Goals as goal
 pub returns-in_err-count-clause-told : goal.returns-in_err-count-clause-told
 returns-in_err-count-clause-told c = λ known all lent fed.
     let p = err_from_is_err_and c.from_residual.result c.from_residual.ensures.1 in
-    rw (p.1, p.2) (took_fault known all lent c.args.self.now fed c.in_err-count.field-0.0 (rw c.as_slice.ensures at c.in_err-count.ensures.err))
+    rw (p.1, p.2) (took_fault known all lent c.args.self.now fed c.in_err-count.field-0.0
+    (rw c.as_slice.ensures at c.in_err-count.ensures.err))
 
 pub returns-in_err-count-clause-text : goal.returns-in_err-count-clause-text
 returns-in_err-count-clause-text c =

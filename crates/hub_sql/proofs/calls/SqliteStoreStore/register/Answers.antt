@@ -16,7 +16,8 @@ invariant_of-self g c =
     } in
     read_settles g.S.Store old new c.self.invariant c.in_default.is refl c.held_register-found.result c.settle.result
     c.held_register-found.ensures
-    (subst (λ schema. Settles c.held_register-found.result schema c.settle.result c.settle.new.fault) c.schema.ensures.value c.settle.ensures.settles)
+    (subst (λ schema. Settles c.held_register-found.result schema c.settle.result c.settle.new.fault)
+    c.schema.ensures.value c.settle.ensures.settles)
 
 pub returns-clause-looks : goal.returns-clause-looks
 returns-clause-looks g c holds =
@@ -30,7 +31,8 @@ returns-clause-looks g c holds =
     c.settle.result) c.self.view_is
     (read_looked g.S.Store old new c.self.invariant c.in_default.is refl c.held_register-found.result c.settle.result
     c.held_register-found.ensures
-    (subst (λ schema. Settles c.held_register-found.result schema c.settle.result c.settle.new.fault) c.schema.ensures.value c.settle.ensures.settles)
+    (subst (λ schema. Settles c.held_register-found.result schema c.settle.result c.settle.new.fault)
+    c.schema.ensures.value c.settle.ensures.settles)
     (subst (λ s. honest g.S.Store s → HoldsRegister (content g.S.Store s)) (sym c.self.view_is) holds))
 
 pub returns-clause-held : goal.returns-clause-held
@@ -45,4 +47,5 @@ returns-clause-held g c =
     c.self.view_is
     (read g.S.Store old new c.self.invariant c.in_default.is refl c.held_register-found.result c.settle.result
     c.held_register-found.ensures
-    (subst (λ schema. Settles c.held_register-found.result schema c.settle.result c.settle.new.fault) c.schema.ensures.value c.settle.ensures.settles))
+    (subst (λ schema. Settles c.held_register-found.result schema c.settle.result c.settle.new.fault)
+    c.schema.ensures.value c.settle.ensures.settles))

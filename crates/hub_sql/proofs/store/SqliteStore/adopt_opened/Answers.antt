@@ -15,7 +15,8 @@ returns-in-Err-clause-refuses g c = record {
   );
   other = λ hub. c.in-Err.ensures.other hub;
   unclean = λ is. absurd (c.in-Err.ensures.unclean is);
-  spared = spared_more g.S.Store (λ _. ⊥) _ (state g.S.Store c.args.conn) c.in-Err.conn (λ trees never. absurd never) c.in-Err.ensures.spared;
+  spared = spared_more g.S.Store (λ _. ⊥) _ (state g.S.Store c.args.conn) c.in-Err.conn
+      (λ trees never. absurd never) c.in-Err.ensures.spared;
 }
 
 pub returns-in-Ok-taken-clause-adopts : goal.returns-in-Ok-taken-clause-adopts
