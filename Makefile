@@ -2,7 +2,8 @@
 EXAMPLE = 5412345000006 4012345500004 1748942400 1
 PROVED = crates/edihub/out/edihub
 
-.PHONY: run day serve page page-test page-pictures try case test wrong found hostile fuzz year crowd hubs bench edihub hub_script tests_of_calls install uninstall clean
+.PHONY: run day serve page page-test page-pictures try case test wrong found hostile fuzz year crowd hubs bench
+.PHONY: edihub trial_script tests_of_calls install uninstall clean
 
 # The main job, proved: the example's ORDERS interchange becomes the supplier's mailbox interchange. The program that does this
 # alone, as `edihub relay` does it, stands on six crates.
@@ -20,10 +21,12 @@ PORT = 8080
 COUNT = 1000
 
 serve: edihub
-	folder=$$(mktemp -d) && trap 'rm -rf "$$folder"' EXIT && ./edihub init --register examples/register.toml --db "$$folder/hub.db" && trap : INT && \
+	folder=$$(mktemp -d) && trap 'rm -rf "$$folder"' EXIT && \
+		./edihub init --register examples/register.toml --db "$$folder/hub.db" && trap : INT && \
 		{ ./edihub serve --db "$$folder/hub.db" --port $(PORT) --count $(COUNT) || case $$? in 1|3|130) ;; *) exit 1 ;; esac; }
 
-# The page for people, for trying alone: a hub of the example register with the orders of the example day, and a proxy before it that serves the page.
+# The page for people, for trying alone: a hub of the example register with the orders of the example day, and a proxy
+# before it that serves the page.
 # ^C ends it. `make page PAGE_PORT=8001` takes another port.
 PAGE_PORT = 8000
 
@@ -43,14 +46,16 @@ edihub:
 	cp $(PROVED) edihub
 
 # Proves and builds the program that plays scripts on a hub, for trials.
-hub_script:
-	python3 -m tests.prove hub_script
+trial_script:
+	python3 -m tests.prove trial_script
 
 # Proves and runs the tests of calls, whose programs are left for the hostile trials.
 TESTS = edi_tests http_tests judge_tests hub_tests app_tests
 
 tests_of_calls:
-	for crate in $(TESTS); do (mkdir -p crates/$$crate/out && cd crates/$$crate && rt test > out/log 2>&1 || { cat out/log; exit 1; }) || exit 1; done
+	for crate in $(TESTS); do \
+		(mkdir -p crates/$$crate/out && cd crates/$$crate && rt test > out/log 2>&1 || { cat out/log; exit 1; }) || exit 1; \
+	done
 
 # The same job without any proof, in some seconds.
 try:
@@ -73,7 +78,8 @@ install:
 	made=$$(mktemp -d) && trap 'rm -rf "$$made"' EXIT && \
 		python3 install/from_help.py man ./edihub > "$$made/page" && python3 install/from_help.py bash ./edihub > "$$made/completions" && \
 		sed 's|/usr/local|$(PREFIX)|' examples/front/edihub.service > "$$made/unit" && install -D -m 755 edihub $(INTO)/bin/edihub && \
-		install -D -m 644 "$$made/page" $(PAGE) && install -D -m 644 "$$made/completions" $(COMPLETIONS) && install -D -m 644 "$$made/unit" $(UNIT)
+		install -D -m 644 "$$made/page" $(PAGE) && install -D -m 644 "$$made/completions" $(COMPLETIONS) && \
+		install -D -m 644 "$$made/unit" $(UNIT)
 
 uninstall:
 	rm -f $(INTO)/bin/edihub $(PAGE) $(COMPLETIONS) $(UNIT)
@@ -91,8 +97,8 @@ found:
 	python3 -m tests.split_commit
 
 # Kills, full disks, damaged files and refused memory, for some minutes; no part of the gate.
-hostile: edihub hub_script tests_of_calls
-	python3 -m tests.hostile crates/edihub/out/edihub crates/hub_script/out/hub_script
+hostile: edihub trial_script tests_of_calls
+	python3 -m tests.hostile crates/edihub/out/edihub crates/trial_script/out/trial_script
 
 # Inputs made right and then changed, through the program: make fuzz SEED=2 NUMBER=10000
 SEED = 1
@@ -116,8 +122,8 @@ crowd: edihub
 hubs: edihub
 	python3 -m tests.three_hubs crates/edihub/out/edihub
 
-bench: edihub hub_script
-	python3 -m bench ./edihub crates/hub_script/out/hub_script
+bench: edihub trial_script
+	python3 -m bench ./edihub crates/trial_script/out/trial_script
 
 clean:
 	rm -rf edihub crates/*/out

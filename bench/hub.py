@@ -1,8 +1,8 @@
-"""Plays loads on the proved hub over a store of lists (`hub_script`) and on a plain Rust one with ordered maps (hub.rs), and
+"""Plays loads on the proved hub over a store of lists (`trial_script`) and on a plain Rust one with ordered maps (hub.rs), and
 prints ratios of processor time and of instructions (where valgrind is there). Time is taken within one run, from the reply that
 stands before the measured part; for instructions what stands before is played alone too, and taken off.
 
-    python3 -m bench.hub crates/hub_script/out/hub_script PLAIN"""
+    python3 -m bench.hub crates/trial_script/out/trial_script PLAIN"""
 import os
 import re
 import shutil

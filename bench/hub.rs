@@ -1,5 +1,5 @@
 //! The yardstick of the hub's benchmark: orders, despatch advices and the status as a plain Rust program, `rustc -O`
-//! and std alone, with ordered maps. It plays the scripts of hub.py as `hub_script` does: it reads and checks the
+//! and std alone, with ordered maps. It plays the scripts of hub.py as `trial_script` does: it reads and checks the
 //! messages, keeps the same rows, and writes the same replies. What is refused ends it, as none of these loads has it.
 #[allow(dead_code)]
 #[path = "plain.rs"]

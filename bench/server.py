@@ -2,7 +2,7 @@
 time a connection, for a mail item, a mail list, an upload of one order, a cancellation, and a status of ten lines and of 10,000. Then
 what it takes to begin, over a file with 1,000 suppliers and no order; and the memory of the server over many connections.
 
-    python3 -m bench.server crates/hub_script/out/hub_script PLAIN EDIHUB"""
+    python3 -m bench.server crates/trial_script/out/trial_script PLAIN EDIHUB"""
 import os
 import socket
 import subprocess

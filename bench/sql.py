@@ -1,9 +1,9 @@
-"""Despatches of ten lines, and 999 orders in one upload and in as many, on the proved hub over a file of SQL (`hub_script file`) and
+"""Despatches of ten lines, and 999 orders in one upload and in as many, on the proved hub over a file of SQL (`trial_script file`) and
 on a plain Rust program over the system's SQLite (sql.rs), with few and with many lines of the supplier: ratios of processor
 time a message, how it grows with the lines, and syncs a message. Then what opening a file costs, by its size and by its register.
 Last, `edihub import` of 999 orders in one file and in as many, beside the plain program's uploads of the same.
 
-    python3 -m bench.sql crates/hub_script/out/hub_script PLAIN EDIHUB"""
+    python3 -m bench.sql crates/trial_script/out/trial_script PLAIN EDIHUB"""
 import os
 import shutil
 import sqlite3
@@ -197,7 +197,8 @@ def imported(figures, edihub, plain, folder, plain_folder, lines, top, shim):
         each = (import_syncs(edihub, folder, uploads, top, shim) - import_syncs(edihub, folder, [], top, shim)) / 999
         largest = max(map(len, uploads)) / 1e6
         what = f"an import of 999 orders in {name}, among {lines:,}"
-        print(f"{what}: {most:.1f} MB of memory, {before:.1f} of them for the open file, the largest file read {largest:.2f} MB", flush=True)
+        of_these = f"{before:.1f} of them for the open file, the largest file read {largest:.2f} MB"
+        print(f"{what}: {most:.1f} MB of memory, {of_these}", flush=True)
         figures.tell(f"{what}: times the plain program", time / plain_time, MOST)
         figures.tell(f"{what}: syncs an order", each, MOST_SYNCS, digits=1)
         memory[name] = most - 2 * largest
@@ -226,7 +227,8 @@ def main(figures, ours, plain, edihub):
                 times[name, lines] = time
                 each = (syncs(ours, folders[0], play.script, top, shim) - syncs(ours, folders[0], opened().script, top, shim)) / count
                 what = f"{name}, among {lines:,}"
-                print(f"{what}: {1e6 * time / count:.0f} microseconds of processor time, {1e6 * plain_time / count:.0f} in the plain program")
+                micro = 1e6 / count
+                print(f"{what}: {micro * time:.0f} microseconds of processor time, {micro * plain_time:.0f} in the plain program")
                 figures.tell(f"{what}: times the plain program", time / plain_time, MOST)
                 figures.tell(f"{what}: syncs a message", each, MOST_SYNCS, digits=1)
             imported(figures, edihub, plain, *folders, lines, top, shim)

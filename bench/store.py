@@ -14,7 +14,7 @@ from tests.harness.tree import ROOT
 
 NEEDS = (
     "edi_base edi_segments edi_tokens edi_moment edi_envelope gs1_ids hub_parties "
-    "hub_register hub_tables hub_founding hub_store hub_rows hub_list"
+    "hub_register hub_tables hub_founding hub_store trial_rows trial_lists"
 ).split()
 MOST_GROWTH = 5
 LINE = re.compile(r"^(over|\w[^:]*:) (\d+)$", re.M)

@@ -21,7 +21,7 @@
 - A script is played over tables of SQL, with each of its allocations refused in turn; and so is each test of calls
   (trials/refused_in_calls.py).
 
-    python3 -m tests.hostile crates/edihub/out/edihub crates/hub_script/out/hub_script [TRIAL..]"""
+    python3 -m tests.hostile crates/edihub/out/edihub crates/trial_script/out/trial_script [TRIAL..]"""
 import os
 import random
 import resource

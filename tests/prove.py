@@ -1,4 +1,5 @@
-"""`make edihub` and `make hub_script`: proves the crates below a program, as many at a time as processors and memory allow, and builds it.
+"""`make edihub` and `make trial_script`: proves the crates below a program, as many at a time as processors and memory allow, and
+builds it.
 
     python3 -m tests.prove PROGRAM [WORD ..]
 

@@ -1,7 +1,7 @@
 """`make found`: whether the machine that stops at each call (trials/stopped_machine.py) finds what the contracts refuse.
 
 The contracts refuse a commit in two transactions (`hub_writes/must-fail/commit_in_two_transactions.edit`). Here the program
-`hub_script` is built with that edit in a copy of the tree, by `rt try`, which proves nothing, and the machine is stopped at every
+`trial_script` is built with that edit in a copy of the tree, by `rt try`, which proves nothing, and the machine is stopped at every
 third call of its files: some stop has to leave a message in part, and the trial has to say so. Of the program as it stands it has
 to say nothing.
 
@@ -39,7 +39,7 @@ def tried(room):
         with open(os.path.join(folder, f"run{place:04}.args"), "w", encoding="ascii") as file:
             file.write("".join(f"{word}\n" for word in words))
     ran = subprocess.run(
-        ["rt", "try", "--cases", folder], cwd=os.path.join(room, "crates", "hub_script"), stdin=subprocess.DEVNULL, capture_output=True
+        ["rt", "try", "--cases", folder], cwd=os.path.join(room, "crates", "trial_script"), stdin=subprocess.DEVNULL, capture_output=True
     )
     parts = re.split(rb"^== run(\d{4})\n", ran.stdout, flags=re.M)
     printed = {runs[int(place)]: text for place, text in zip(parts[1::2], parts[2::2])}

@@ -31,7 +31,7 @@ PROGRAMS = [
     (built("edirelay"), without_hub.RELAY_ALONE),
     (built("edihub"), without_hub.CASES + hub_commands.COMMANDS + older_files.MIGRATIONS),
     (
-        built("hub_script"),
+        built("trial_script"),
         hub_rules.HUBS + hub_rules.OVER_SQL + hub_files.FILES + connections.CONNECTIONS + joins.JOINS + corrections.CORRECTIONS,
     ),
 ]
@@ -42,12 +42,12 @@ TRIALS = [
         (built("edihub"), *trial)
         for trial in disturbed_commands.TRIALS + files_brought_over.TRIALS + lines_of_status_3.TRIALS + documents.TRIALS + serving.TRIALS
     ),
-    (built("hub_script"), "a file that another program holds open", held_file.held_open),
-    (built("hub_script"), "made runs", random_runs.made_runs),
-    (built("hub_script"), "changes of files stopped in turn", stopped_program.stops),
-    (built("hub_script"), "a machine that stops", stopped_machine.machine),
-    (built("hub_script"), "a machine that stops while a file of schema 1 is brought over", stopped_machine.migrations),
-    (built("hub_script"), "allocations refused in turn", refused_in_scripts.refusals),
+    (built("trial_script"), "a file that another program holds open", held_file.held_open),
+    (built("trial_script"), "made runs", random_runs.made_runs),
+    (built("trial_script"), "changes of files stopped in turn", stopped_program.stops),
+    (built("trial_script"), "a machine that stops", stopped_machine.machine),
+    (built("trial_script"), "a machine that stops while a file of schema 1 is brought over", stopped_machine.migrations),
+    (built("trial_script"), "allocations refused in turn", refused_in_scripts.refusals),
 ]
 
 

@@ -1,4 +1,4 @@
-"""Connections of HTTP whose bytes a script gives, for the program `hub_script`: by pieces, cut, and with reads and writes that fail."""
+"""Connections of HTTP whose bytes a script gives, for the program `trial_script`: by pieces, cut, and with reads and writes that fail."""
 from tests.harness.connection_scripts import Wire
 from tests.harness.first_order import ORDERS
 from tests.harness.http_texts import asking, response

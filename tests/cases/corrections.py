@@ -1,4 +1,4 @@
-"""Receiving advices that take the place of those before (BGM 1225 5): scripts for the program `hub_script`, over lists over SQL in memory
+"""Receiving advices that take the place of those before (BGM 1225 5): scripts for the program `trial_script`, over lists over SQL in memory
 and over a file, what it prints, and which rows the file then has."""
 from dataclasses import replace
 

@@ -1,4 +1,4 @@
-"""Cases of a hub over a file of SQL: scripts for `hub_script file hub.db`, files as SQLite itself writes them, and what is told of
+"""Cases of a hub over a file of SQL: scripts for `trial_script file hub.db`, files as SQLite itself writes them, and what is told of
 a file that is none of a hub."""
 import re
 from dataclasses import replace

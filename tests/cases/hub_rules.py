@@ -1,4 +1,4 @@
-"""Cases of a hub over a store in memory, of lists or of SQL: scripts for the program `hub_script`, and what it prints: the rules of
+"""Cases of a hub over a store in memory, of lists or of SQL: scripts for the program `trial_script`, and what it prints: the rules of
 business, who may ask what, look-ups, commits, and a store that fails at each call."""
 from dataclasses import replace
 

@@ -1,4 +1,4 @@
-"""Suppliers that join while the hub runs: scripts for the program `hub_script`, over lists and over SQL, and what it prints."""
+"""Suppliers that join while the hub runs: scripts for the program `trial_script`, over lists and over SQL, and what it prints."""
 from dataclasses import replace
 
 from tests.harness.case import Case

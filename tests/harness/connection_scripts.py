@@ -1,4 +1,4 @@
-"""Scripts of connections, and of suppliers that join, for the program `hub_script`, and what it prints."""
+"""Scripts of connections, and of suppliers that join, for the program `trial_script`, and what it prints."""
 from tests.harness.http_texts import response
 from tests.harness.hub_scripts import KEYS, MOMENT, Play, despatch, interchange, order
 from tests.harness.register_texts import ALPHA, GAMMA, RETAILER

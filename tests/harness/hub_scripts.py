@@ -1,4 +1,4 @@
-"""How a script for the program `hub_script` is written, and what it then prints: interchanges of each type, the hub's mail, a supplier's
+"""How a script for the program `trial_script` is written, and what it then prints: interchanges of each type, the hub's mail, a supplier's
 status; and a run of orders, answers, despatches and receipts."""
 from tests.harness.case import Case
 from tests.harness.first_order import ORDERS

@@ -1,5 +1,5 @@
-"""Each line of the table of docs/OPERATING.md that says what stands behind a status 3 has a trial here, which shows that it comes as the
-table says, and where. A line without a trial is a failure, and so is a trial without a line. Where the table names more than one cause of a
+"""Each line of the list of docs/OPERATING.md that says what stands behind a status 3 has a trial here, which shows that it comes as the
+list says, and where. A line without a trial is a failure, and so is a trial without a line. Where the list names more than one cause of a
 line, the others are tried elsewhere: a standard output that is full, a database file that another command has."""
 import os
 import re
@@ -21,12 +21,11 @@ GUIDE = os.path.join(ROOT, "docs", "OPERATING.md")
 NOTHING = "nothing"
 
 
-def lines_of_the_table():
-    """The lines of the table, with where each stands."""
+def lines_of_the_list():
+    """The lines of the list, with where each stands."""
     with open(GUIDE, encoding="utf-8") as file:
-        table = file.read().partition("What stands behind a status 3:")[2].partition("\n\n**")[0]
-    rows = [[cell.strip() for cell in row.strip("|").split("|")] for row in table.splitlines() if row.startswith("|")][2:]
-    for line, where, _ in rows:
+        listed = file.read().partition("What stands behind a status 3:")[2].partition("\n\n**")[0]
+    for line, where in re.findall(r"^- (.+?)(?: \((.+?)\))?:", listed, re.MULTILINE):
         for word in [NOTHING] if line == NOTHING else re.findall("`([^`]+)`", line):
             yield word, where
 
@@ -102,7 +101,7 @@ def nothing(tried):
         return tried.run(*over("status", ALPHA, db="none.db"), error=full) == (3, b"", b"")
 
 
-# each line, where the table says that it stands, and whether it comes so
+# each line, where the list says that it stands, and whether it comes so
 LINES = {
     "stopped": ("standard output, last", stopped),
     "fault": ("standard output, behind `file NAME`", fault),
@@ -118,13 +117,13 @@ LINES = {
 
 
 def each_line(program):
-    """What is wrong with a line of the table, if anything."""
-    table = dict(lines_of_the_table())
+    """What is wrong with a line of the list, if anything."""
+    table = dict(lines_of_the_list())
     if table != {line: where for line, (where, _) in LINES.items()}:
-        return f"the table has {table}"
+        return f"the list has {table}"
     with tempfile.TemporaryDirectory() as top:
         wrong = [line for line, (_, comes) in LINES.items() if not comes(Tried(program, top))]
-    return f"these do not come as the table says: {wrong}" if wrong else None
+    return f"these do not come as the list says: {wrong}" if wrong else None
 
 
 TRIALS = [("each line behind a status 3", each_line)]

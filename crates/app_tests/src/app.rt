@@ -2,10 +2,9 @@ ghost use Rattle.std.specs.Prelude.{IfSome};
 ghost use Rattle.edi_relay.specs.Relay.{AreRelayWords};
 
 use edi_envelope::Moment;
+use edi_relay::{RelayWords, relay_run, relay_text};
 use edi_tokens::{Sink, Source};
-use hub_app::{
-    RelayWords, TextFault, check_run, read_register_text, relay_run, relay_text, show_run,
-};
+use hub_commands::{TextFault, check_run, read_register_text, show_run};
 use std::alloc::Global;
 use std::io;
 use std::test::Fail;

@@ -1,8 +1,9 @@
 //! What all layers share: vectors that contracts see as lists, readers and writers with known bytes, the limits of data
-//! elements, and what comes twice.
+//! elements, what comes twice, and exit statuses.
 #![tactic(auto)]
 
 mod buffer;
+pub mod exit;
 mod items;
 mod limits;
 mod memory;

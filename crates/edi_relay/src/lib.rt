@@ -7,6 +7,6 @@ mod relay;
 mod relaying;
 mod run;
 
-pub use exit::{DONE, FAILED, REFUSED, tell};
+pub use exit::tell;
 pub use relay::{RelayFault, RelayWords, relay_lent, relay_text};
 pub use run::{READ_LIMIT, relay_run, tell_read_fault};

@@ -9,8 +9,9 @@ ghost use Rattle.edi_relay.specs.Relay.{AreRelayWords};
 ghost use Rattle.edi_relay.specs.Exit.{Tells};
 ghost use Rattle.edi_relay.specs.Run.{Delivers, DeliversFront, IsRefused, Ran, read_limit, refusal};
 
-use crate::exit::{DONE, FAILED, REFUSED, tell};
+use crate::exit::tell;
 use crate::relay::{RelayFault, RelayWords, relay_lent};
+use edi_base::exit::{DONE, FAILED, REFUSED};
 use edi_tokens::{
     Lender, ReadFault, Sink, Source, TEXT_LIMIT, TokenFault, WriteFault, write_bytes,
 };

@@ -1,6 +1,6 @@
 //! Why a hub was not founded, or a command over one not begun or not ended.
 use edi_base::ReadFault;
-use hub_app::TextFault;
+use hub_commands::TextFault;
 use hub_store::StoreFault;
 use std::alloc::AllocError;
 use std::error::Error;

@@ -9,17 +9,17 @@ mod register;
 mod serve;
 
 use clap::Error;
+use edi_base::exit::{FAILED, USAGE};
+use edi_relay::relay_run;
 use edi_tokens::{OfRead, OfWrite};
 use file::{Work, over_a_hub};
-use hub_app::{FAILED, Words, WordsFault, check_run, read_words, relay_run, show_run};
+use hub_app::{Words, WordsFault, read_words};
+use hub_commands::{check_run, show_run};
 use init::init;
 use register::register_text;
 use std::fmt::Display;
 use std::process::ExitCode;
 use std::{env, io};
-
-/// The exit status of a usage error.
-const USAGE: u8 = 2;
 
 // Prints a line on standard error. Where that fails, the exit status alone tells.
 pub(crate) fn tell<T: Display + Drop>(rt: &HostRuntime, line: T, status: u8) -> u8 {

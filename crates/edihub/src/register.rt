@@ -1,6 +1,6 @@
 //! The register in a file.
 use edi_base::OfRead;
-use hub_app::{TextFault, read_register_text};
+use hub_commands::{TextFault, read_register_text};
 use std::fs::File;
 
 /// The text of the register at a path.

@@ -4,14 +4,12 @@
 ghost use Rattle.std.specs.Prelude.{IfSome};
 ghost use Rattle.edi_relay.specs.Relay.{AreRelayWords};
 
+use edi_base::exit::{FAILED, USAGE};
 use edi_envelope::Moment;
-use edi_relay::{FAILED, RelayWords, relay_run};
+use edi_relay::{RelayWords, relay_run};
 use edi_tokens::{OfRead, OfWrite};
 use std::process::ExitCode;
 use std::{env, io};
-
-/// The exit status of a usage error, and what is told then.
-const USAGE: u8 = 2;
 
 const CALLED: &str = "usage: edirelay HUB OWNER MOMENT NUMBER < INTERCHANGE > MAIL";
 

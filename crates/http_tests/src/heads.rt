@@ -1,6 +1,6 @@
 use crate::steps::{Steps, in_steps, left_of};
 use edi_base::{Items, OfRead, ReadFault};
-use http_head::{Head, HeadFault, Values, read_body, read_head};
+use http_messages::{Head, HeadFault, Values, read_body, read_head};
 use std::alloc::{AllocError, Global};
 
 // A head: its start, a piece that comes so many times, its end; and what it says, where it is one: its method, its

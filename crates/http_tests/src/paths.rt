@@ -1,4 +1,4 @@
-use http_routes::{Paths, Place};
+use hub_http::{Paths, Place};
 use std::alloc::Global;
 use std::test::*;
 

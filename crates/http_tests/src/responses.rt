@@ -1,6 +1,6 @@
 use edi_base::{OfWrite, WriteFault};
 use http::StatusCode;
-use http_response::write_response;
+use http_messages::write_response;
 use std::alloc::Global;
 use std::io;
 use std::io::Write;

@@ -1,5 +1,3 @@
-pub mod Check
 pub mod Options
 pub mod Program
-pub mod Show
 pub mod Words

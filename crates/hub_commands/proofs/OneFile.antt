@@ -11,7 +11,7 @@ use Rattle.edi_envelope.specs.Gathered.{Flagged}
 use Rattle.edi_envelope.specs.declared.fault.OpenFault.{OpenFault}
 use Rattle.edi_envelope.specs.declared.fault.OpenFault.TheVariants.{Token}
 use Rattle.edi_envelope.specs.declared.interchange.Interchange.{Interchange}
-use Rattle.hub_law.specs.declared.reply.Reply.{Reply}
+use Rattle.hub_requests.specs.declared.reply.Reply.{Reply}
 use Rattle.hub_commands.specs.Files.{Gave, FaultComesOf, OpensSource, IsCalled, IsRead, IsUnread, HasFailed}
 use Rattle.hub_commands.specs.Import.{Looked, Answered, Unread, NoMemory, Of, WasGiven, Ends, BrokenOff}
 use Rattle.hub_commands.specs.Import.{file_line}

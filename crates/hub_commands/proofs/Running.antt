@@ -5,8 +5,8 @@ use Rattle.std.proofs.lemmas.List.{append-nil}
 use Rattle.hub_parties.specs.Rows.{RegisterRows}
 use Rattle.hub_tables.specs.Tables.{Tables}
 use Rattle.hub_rules.specs.Laws.{SoundHub}
-use Rattle.hub_law.specs.declared.reply.Reply.{Reply}
-use Rattle.hub_law.specs.declared.request.Input.{Input}
+use Rattle.hub_requests.specs.declared.reply.Reply.{Reply}
+use Rattle.hub_requests.specs.declared.request.Input.{Input}
 use Rattle.hub_core.specs.Steps.{SoundWith, Stepped, Ran}
 use Rattle.hub_commands.specs.Import.{Looked, Answered, Unread, Unnamed, NoMemory, Unprinted}
 use Rattle.hub_commands.specs.Import.{uploads, replies, upload_of, reply_of}

@@ -7,8 +7,8 @@ use Rattle.std.specs.Option.{unwrap_or}
 use Rattle.std.proofs.KnownBytes.{Appends-nil, Appends-trans}
 use Rattle.std.proofs.lemmas.Grind.{flat_map-append}
 use Rattle.std.proofs.lemmas.List.{append-nil}
-use Rattle.hub_law.specs.declared.reply.Reply.{Reply}
-use Rattle.hub_law.specs.declared.request.Input.{Input}
+use Rattle.hub_requests.specs.declared.reply.Reply.{Reply}
+use Rattle.hub_requests.specs.declared.request.Input.{Input}
 use Rattle.edi_base.specs.declared.source.ReadFault.{ReadFault}
 use Rattle.edi_base.specs.declared.source.ReadFault.TheVariants.{Read, Memory}
 use Rattle.hub_commands.specs.Files.{Gave, FaultComesOf, GivenAs, Gives}

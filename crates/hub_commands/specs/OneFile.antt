@@ -2,8 +2,8 @@
 use Rattle.std.specs.Prelude.{◌≡◌, ◌≢◌, ◌⊎◌, ℕ, Bool, List, [], codes, Option, Result, Ok, Err}
 use Rattle.edi_base.specs.declared.source.ReadFault.{ReadFault}
 use Rattle.edi_base.specs.declared.source.ReadFault.TheVariants.{Read, Memory}
-use Rattle.hub_law.specs.declared.reply.Outcome.TheVariants.{Stopped}
-use Rattle.hub_law.specs.declared.reply.Reply.{Reply}
+use Rattle.hub_requests.specs.declared.reply.Outcome.TheVariants.{Stopped}
+use Rattle.hub_requests.specs.declared.reply.Reply.{Reply}
 use Rattle.hub_commands.specs.Import.{Looked, Answered, Unread, Unnamed, NoMemory, Unprinted, Of, GoesOn, Ends}
 use Rattle.hub_commands.specs.Import.{WasGiven, text_of, file_status}
 use Rattle.hub_commands.specs.Output.{Written, Lost}

@@ -1,8 +1,8 @@
 -- The exit status of a reply.
 use Rattle.std.specs.Prelude.{ℕ, Bool, true, false}
-use Rattle.hub_law.specs.declared.reply.Outcome.{Outcome}
-use Rattle.hub_law.specs.declared.reply.Outcome.TheVariants.{Done, Bad, Denied, Unknown, Stopped}
-use Rattle.hub_law.specs.declared.reply.Reply.{Reply}
+use Rattle.hub_requests.specs.declared.reply.Outcome.{Outcome}
+use Rattle.hub_requests.specs.declared.reply.Outcome.TheVariants.{Done, Bad, Denied, Unknown, Stopped}
+use Rattle.hub_requests.specs.declared.reply.Reply.{Reply}
 
 -- 0 where all was done and nothing refused, 3 where it was stopped, else 1
 abbrev pub outcome_status : Outcome → Bool → ℕ

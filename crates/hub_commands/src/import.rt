@@ -4,11 +4,12 @@ ghost use Rattle.hub_core.specs.Steps.{SoundWith, Stepped, Ran, input_of};
 ghost use Rattle.hub_commands.specs.Files.{OpensSource, FaultComesOf, HasFailed};
 ghost use Rattle.hub_commands.specs.Import.{Imported};
 ghost use Rattle.hub_commands.specs.OneFile.{FaultComes, LooksAt, ReplyComes};
-ghost use Rattle.hub_law.specs.declared.request.Request.TheVariants.{Upload};
+ghost use Rattle.hub_requests.specs.declared.request.Request.TheVariants.{Upload};
 
 use crate::files::{Files, NamedFile, NextFile};
 use crate::print::{print, print_file_line};
-use crate::reply::{DONE, FAILED, reply_run};
+use crate::reply::reply_run;
+use edi_base::exit::{DONE, FAILED};
 use edi_base::{ReadFault, Sink, Source, WriteFault};
 use edi_envelope::{Interchange, Moment, OpenFault, open_lent};
 use edi_tokens::{Lender, TokenFault};

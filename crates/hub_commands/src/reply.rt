@@ -5,16 +5,8 @@ ghost use Rattle.hub_commands.specs.Replies as spec;
 
 use crate::print::print;
 use edi_base::Sink;
+use edi_base::exit::{DONE, FAILED, REFUSED};
 use hub_core::{Outcome, Reply};
-
-/// Done.
-pub(crate) const DONE: u8 = 0;
-
-/// Something was refused, denied or unknown.
-const REFUSED: u8 = 1;
-
-/// A failed read or write, or out of memory.
-pub(crate) const FAILED: u8 = 3;
 
 // The exit status of a reply.
 fn status_of(reply: &Reply) -> u8

@@ -11,8 +11,8 @@ use Rattle.hub_law.specs.Replies.{whole_reply}
 use Rattle.hub_law.specs.Requests.{replied_by}
 use Rattle.hub_law.specs.Stops.{Upload, all_acts, first_acts, reply_behind}
 use Rattle.hub_law.specs.Told.{Told, Act, in_row}
-use Rattle.hub_law.specs.declared.reply.Reply.{Reply}
-use Rattle.hub_law.specs.declared.request.Input.{Input}
+use Rattle.hub_requests.specs.declared.reply.Reply.{Reply}
+use Rattle.hub_requests.specs.declared.request.Input.{Input}
 use Rattle.hub_core.specs.Laws.{TellsOf}
 
 -- the reply at a place of a run

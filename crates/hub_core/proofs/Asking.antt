@@ -16,8 +16,8 @@ use Rattle.hub_law.specs.Requests.{report, uploaded}
 use Rattle.hub_law.specs.StatusText.{status_text}
 use Rattle.hub_law.specs.Stops.{opened_for}
 use Rattle.hub_law.specs.Told.{Act}
-use Rattle.hub_law.specs.declared.reply.Reply.{Reply}
-use Rattle.hub_acts.specs.Acts.{Stays, Carried, Unharmed, as_told}
+use Rattle.hub_requests.specs.declared.reply.Reply.{Reply}
+use Rattle.hub_transactions.specs.Acts.{Stays, Carried, Unharmed, as_told}
 use Rattle.hub_core.specs.Steps.{Does, OneMore, Answered, Asked, acts_of}
 
 module _ {S : Type 0} (content : S → Tables) (honest : S → Type 0) (left : S → Tables → Type 0) (old new : S) (count : ℕ)

@@ -11,11 +11,11 @@ use Rattle.hub_store.specs.declared.fault.StoreFault.TheVariants.{Memory, Disk, 
 use Rattle.hub_law.specs.Opening.{Opened, interchange_in}
 use Rattle.hub_law.specs.Replies.{reply}
 use Rattle.hub_law.specs.Requests.{uploaded}
-use Rattle.hub_law.specs.declared.reply.Outcome.TheVariants.{Stopped}
-use Rattle.hub_law.specs.declared.reply.Reply.{Reply}
-use Rattle.hub_law.specs.declared.request.Input.{Input}
-use Rattle.hub_law.specs.declared.request.Request.TheVariants.{Upload}
-use Rattle.hub_acts.specs.Acts.{BreaksBy, FailsWith, no_answer}
+use Rattle.hub_requests.specs.declared.reply.Outcome.TheVariants.{Stopped}
+use Rattle.hub_requests.specs.declared.reply.Reply.{Reply}
+use Rattle.hub_requests.specs.declared.request.Input.{Input}
+use Rattle.hub_requests.specs.declared.request.Request.TheVariants.{Upload}
+use Rattle.hub_transactions.specs.Acts.{BreaksBy, FailsWith, no_answer}
 use Rattle.hub_core.specs.Broken.{OfNoRow, StoppedUnless, Breaks, BreaksAsked, AllStopped, StoppedSinceOne, RunBreaks, does_input}
 use Rattle.hub_core.specs.Callers.{delivered, addressed_by, request_of}
 use Rattle.hub_core.specs.Steps.{Does}

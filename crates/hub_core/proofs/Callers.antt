@@ -14,10 +14,10 @@ use Rattle.hub_law.specs.Mark.{Mark}
 use Rattle.hub_law.specs.Opening.{Opened, interchange_in}
 use Rattle.hub_law.specs.Requests.{uploaded}
 use Rattle.hub_law.specs.Stops.{upload_of, upload_by, opened_for}
-use Rattle.hub_law.specs.declared.reply.Reply.{Reply}
-use Rattle.hub_law.specs.declared.request.Input.{Input}
-use Rattle.hub_law.specs.declared.request.Request.TheVariants.{Upload}
-use Rattle.hub_acts.specs.Acts.{Carried, Unharmed}
+use Rattle.hub_requests.specs.declared.reply.Reply.{Reply}
+use Rattle.hub_requests.specs.declared.request.Input.{Input}
+use Rattle.hub_requests.specs.declared.request.Request.TheVariants.{Upload}
+use Rattle.hub_transactions.specs.Acts.{Carried, Unharmed}
 use Rattle.hub_core.specs.Callers.{delivered, addressed_by, MayDeliver, IsCaller, acts_by, request_of}
 use Rattle.hub_core.specs.Steps.{Does, Asked, SoundWith, acts_of}
 use Rattle.hub_core.specs.declared.caller.Caller.{Caller}

@@ -12,17 +12,17 @@ use Rattle.hub_law.specs.Mark.{Mark, Whole, replied}
 use Rattle.hub_law.specs.Replies.{denied, act_reply, reply as with_body}
 use Rattle.hub_law.specs.Requests.{looked_at, from_retailer, retailer_request}
 use Rattle.hub_law.specs.Told.{Accepted}
-use Rattle.hub_law.specs.declared.reply.Outcome.TheVariants.{Done, Denied, Stopped}
-use Rattle.hub_law.specs.declared.reply.Reply.{Reply}
-use Rattle.hub_law.specs.declared.request.Input.{Input}
-use Rattle.hub_law.specs.declared.request.Request.{Request}
-use Rattle.hub_law.specs.declared.request.Request.TheVariants as requests
+use Rattle.hub_requests.specs.declared.reply.Outcome.TheVariants.{Done, Denied, Stopped}
+use Rattle.hub_requests.specs.declared.reply.Reply.{Reply}
+use Rattle.hub_requests.specs.declared.request.Input.{Input}
+use Rattle.hub_requests.specs.declared.request.Request.{Request}
+use Rattle.hub_requests.specs.declared.request.Request.TheVariants as requests
 use Rattle.hub_law.proofs.Acting.{parties_same, register_same}
 use Rattle.hub_law.proofs.Callers.{step_by, is_retailers, step_is}
 use Rattle.hub_law.proofs.Retailers.{messages_stay, cancelled_stays}
 use Rattle.hub_law.proofs.Steps.{gln_of, supplier_alike}
-use Rattle.hub_acts.specs.Joins.{KeepsRows}
-use Rattle.hub_acts.proofs.Joins.{keeps_all, keeps_moved}
+use Rattle.hub_transactions.specs.Joins.{KeepsRows}
+use Rattle.hub_transactions.proofs.Joins.{keeps_all, keeps_moved}
 use Rattle.hub_core.specs.Steps.{Does, Asked, IsNoJoin, JoinAnswered}
 
 module _ (t : Tables) (here : SoundHub t) where

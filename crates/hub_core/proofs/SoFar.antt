@@ -12,8 +12,8 @@ use Rattle.hub_law.specs.Messages.{incoming, messages_at}
 use Rattle.hub_law.specs.Mark.{Whole, StoppedAfter}
 use Rattle.hub_law.specs.Replies.{message_lines, interchange_line, told_words, whole_reply, cut_reply, stopped, stopped_line}
 use Rattle.hub_law.specs.Requests.{uploaded, replied_by}
-use Rattle.hub_law.specs.declared.reply.Outcome.TheVariants.{Done, Stopped}
-use Rattle.hub_law.specs.declared.reply.Reply.{Reply}
+use Rattle.hub_requests.specs.declared.reply.Outcome.TheVariants.{Done, Stopped}
+use Rattle.hub_requests.specs.declared.reply.Reply.{Reply}
 use Rattle.std.proofs.lemmas.Bool.Decides.{nat_tests}
 use Rattle.hub_law.specs.Told.{Told, Act, is_refused, in_row}
 use Rattle.hub_law.specs.Widths.{line}

@@ -17,9 +17,9 @@ use Rattle.hub_law.specs.Machine.{Inputs, step_under, shared_step, shared_run, r
 use Rattle.hub_law.specs.Mark.{Mark, Whole, StoppedEmpty, StoppedBare}
 use Rattle.hub_law.specs.Replies.{reply, stopped, stopped_line}
 use Rattle.hub_law.specs.Stops.{upload_of}
-use Rattle.hub_law.specs.declared.reply.Outcome.TheVariants.{Stopped}
-use Rattle.hub_law.specs.declared.reply.Reply.{Reply}
-use Rattle.hub_law.specs.declared.request.Input.{Input}
+use Rattle.hub_requests.specs.declared.reply.Outcome.TheVariants.{Stopped}
+use Rattle.hub_requests.specs.declared.reply.Reply.{Reply}
+use Rattle.hub_requests.specs.declared.request.Input.{Input}
 use Rattle.hub_core.specs.Steps.{OneMore, Leaves, LeavesOf, Answered, Asked, Stepped, RunAlone, StoppedSince, RunLeaves, StopsTold}
 use Rattle.hub_core.specs.Steps.{Does, LinesBalance, Ran, SoundWith, acts_of}
 

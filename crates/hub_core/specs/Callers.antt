@@ -11,7 +11,7 @@ use Rattle.hub_law.specs.Opening.{Opened, addressed, interchange_in}
 use Rattle.hub_law.specs.Requests.{deliver_named, retailer_request, supplier_request}
 use Rattle.hub_law.specs.Stops.{upload_from}
 use Rattle.hub_law.specs.Told.{Act}
-use Rattle.hub_law.specs.declared.request.Request.{Request}
+use Rattle.hub_requests.specs.declared.request.Request.{Request}
 use Rattle.hub_core.specs.Steps.{Does, acts_of}
 use Rattle.hub_core.specs.declared.caller.Caller.{Caller}
 use Rattle.hub_core.specs.declared.caller.Caller.TheVariants.{Retailer, Supplier}

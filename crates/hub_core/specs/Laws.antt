@@ -4,7 +4,7 @@ use Rattle.edi_envelope.specs.declared.interchange.Interchange.{Interchange}
 use Rattle.hub_law.specs.Replies.{whole_reply}
 use Rattle.hub_law.specs.Stops.{reply_behind}
 use Rattle.hub_law.specs.Told.{Told}
-use Rattle.hub_law.specs.declared.reply.Reply.{Reply}
+use Rattle.hub_requests.specs.declared.reply.Reply.{Reply}
 
 -- Of each message something is told, and this of the one at the place. The reply is that of the upload, or, where it
 -- was stopped after some messages, its first lines, among them the message's.

@@ -8,8 +8,8 @@ use Rattle.edi_envelope.specs.declared.fault.OpenFault.TheVariants.{Token, Envel
 use Rattle.edi_envelope.specs.declared.interchange.Interchange.{Interchange}
 use Rattle.hub_law.specs.Opening.{Opened}
 use Rattle.hub_law.specs.Replies.{reply, stopped}
-use Rattle.hub_law.specs.declared.reply.Outcome.TheVariants.{Stopped}
-use Rattle.hub_law.specs.declared.reply.Reply.{Reply}
+use Rattle.hub_requests.specs.declared.reply.Outcome.TheVariants.{Stopped}
+use Rattle.hub_requests.specs.declared.reply.Reply.{Reply}
 
 abbrev pub with_code : Result Interchange (Bor (List ℕ)) → Opened
 with_code (Ok interchange) = Ok interchange

@@ -14,12 +14,12 @@ use Rattle.hub_law.specs.Laws.{IsOther, AsksStatus, alone, own_report}
 use Rattle.hub_law.specs.Machine.{Inputs, shared_step, shared_run, replies_to}
 use Rattle.hub_law.specs.Mark.{Mark, Whole, StoppedBare, acts_done}
 use Rattle.hub_law.specs.Stops.{Upload, upload_of}
-use Rattle.hub_law.specs.declared.reply.Outcome.TheVariants.{Stopped}
-use Rattle.hub_law.specs.declared.reply.Reply.{Reply}
-use Rattle.hub_law.specs.declared.request.Input.{Input}
-use Rattle.hub_law.specs.declared.request.Request.{Request}
-use Rattle.hub_law.specs.declared.request.Request.TheVariants.{Join}
-use Rattle.hub_acts.specs.Joins.{MovesBy}
+use Rattle.hub_requests.specs.declared.reply.Outcome.TheVariants.{Stopped}
+use Rattle.hub_requests.specs.declared.reply.Reply.{Reply}
+use Rattle.hub_requests.specs.declared.request.Input.{Input}
+use Rattle.hub_requests.specs.declared.request.Request.{Request}
+use Rattle.hub_requests.specs.declared.request.Request.TheVariants.{Join}
+use Rattle.hub_transactions.specs.Joins.{MovesBy}
 
 -- the tables are a sound start, and the hub's register is the one that they hold
 pub record SoundWith (register : RegisterRows) (t : Tables) : Type 0 where

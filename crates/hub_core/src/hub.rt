@@ -5,10 +5,10 @@ ghost use Rattle.hub_parties.specs.Rows.{IsRegister, role_of};
 ghost use Rattle.hub_parties.specs.declared.row.SupplierRow.{SupplierRow};
 ghost use Rattle.std.specs.List.{AllByRecursion};
 ghost use Rattle.hub_rules.specs.Laws.{SoundHub};
-ghost use Rattle.hub_law.specs.declared.reply.Reply.{Reply};
-ghost use Rattle.hub_law.specs.declared.request.Input.{Input};
-ghost use Rattle.hub_law.specs.declared.request.Request.TheVariants.{Upload, Join};
-ghost use Rattle.hub_acts.specs.Joins.{KeepsRows};
+ghost use Rattle.hub_requests.specs.declared.reply.Reply.{Reply};
+ghost use Rattle.hub_requests.specs.declared.request.Input.{Input};
+ghost use Rattle.hub_requests.specs.declared.request.Request.TheVariants.{Upload, Join};
+ghost use Rattle.hub_transactions.specs.Joins.{KeepsRows};
 ghost use Rattle.hub_core.specs.Broken.{Breaks, RunBreaks, does_input};
 ghost use Rattle.hub_core.specs.Opened.{IsStopped, RanOut};
 ghost use Rattle.hub_core.specs.Made.{Reads};
@@ -19,9 +19,10 @@ use edi_base::{Items, MemoryFault};
 use edi_envelope::{Interchange, Moment, OpenFault};
 use edi_tokens::TokenFault;
 use gs1_ids::Gln;
-use hub_law::{Input, Reply, Request, each_line_balances, run_is_own};
+use hub_law::{each_line_balances, run_is_own};
 use hub_parties::Role;
 use hub_register::Register;
+use hub_requests::{Input, Reply, Request};
 use hub_store::{Store, StoreFault};
 use std::alloc::Global;
 use std::marker::Model;
@@ -93,6 +94,7 @@ impl<S: Store> Hub<S> {
     pub fn has_a_right_register(&self)
         ensures { IsRegister self.now.0 }
     {
+        // The contract of this call says that the register is one.
         let _hub = self.register.hub();
     }
 

@@ -25,10 +25,10 @@ fn refusal_code(fault: OpenFault) -> Option<&'static str>
 }
 
 /// An upload that was opened, with the code of the fault that it has, where memory sufficed.
-pub(crate) fn judged(
+pub(crate) fn with_code(
     upload: Result<Interchange, OpenFault>,
 ) -> Result<Result<Interchange, &'static str>, MemoryFault>
-    ensures told { IfOk result (λ judged. spec.with_code judged ≡ told_as upload) }
+    ensures told { IfOk result (λ coded. spec.with_code coded ≡ told_as upload) }
     ensures sufficed { IfOk result (λ _. Sufficed upload) }
 {
     match upload {
@@ -56,7 +56,7 @@ pub(crate) fn opened_upload(
 ) -> Result<Result<Interchange, &'static str>, MemoryFault>
     ensures { IfOk result (λ opened. interchange_in upload.now ≡ spec.with_code opened) }
 {
-    judged(open_bytes(alloc, upload))
+    with_code(open_bytes(alloc, upload))
 }
 
 // Whether an identification is that of one of the recipients.

@@ -3,7 +3,7 @@ ghost use Rattle.std.specs.Prelude.{◌≡◌, IfOk};
 ghost use Rattle.hub_law.specs.Replies.{denied, unknown, refused_reply};
 
 use edi_base::{MemoryFault, copied};
-use hub_law::{Outcome, Reply};
+use hub_requests::{Outcome, Reply};
 use hub_texts::refused_line;
 use std::alloc::Global;
 

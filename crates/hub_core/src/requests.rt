@@ -8,7 +8,7 @@ ghost use Rattle.hub_law.specs.Stops.{opened_for};
 ghost use Rattle.hub_core.specs.Opened as spec;
 ghost use Rattle.hub_core.specs.Broken.{BreaksAsked};
 ghost use Rattle.hub_core.specs.Callers.{delivered, addressed_by, opening_of, acts_by, request_of, MayDeliver};
-ghost use Rattle.hub_law.specs.declared.request.Request.TheVariants.{Join};
+ghost use Rattle.hub_requests.specs.declared.request.Request.TheVariants.{Join};
 ghost use Rattle.hub_core.specs.Steps.{Asked, IsNoJoin, JoinAnswered, SoundWith, acts_of};
 ghost use Rattle.hub_core.specs.declared.caller.Caller.TheVariants.{Retailer, Supplier};
 
@@ -18,12 +18,14 @@ use crate::replies::{denied_reply, refused_upload, unknown_reply};
 use crate::upload::{OpenedUpload, take_messages};
 use edi_envelope::{Interchange, Moment};
 use gs1_ids::Gln;
-use hub_acts::{mailbox_entry, mailbox_list, status_report, take_cancel, take_entry, take_join};
-use hub_law::{Reply, Request};
 use hub_parties::SupplierRow;
 use hub_register::Register;
+use hub_requests::{Reply, Request};
 use hub_store::{Store, StoreFault};
 use hub_texts::interchange_line;
+use hub_transactions::{
+    mailbox_entry, mailbox_list, status_report, take_cancel, take_entry, take_join,
+};
 use std::alloc::Global;
 
 // Why an interchange is not one that its caller may send: E08 or E09.

@@ -9,28 +9,26 @@ ghost use Rattle.hub_tables.specs.Register.{register_of};
 ghost use Rattle.hub_law.specs.Machine.{step_under};
 ghost use Rattle.hub_law.specs.Replies.{reply};
 ghost use Rattle.hub_law.specs.Stops.{upload_of};
-ghost use Rattle.hub_law.specs.declared.reply.Outcome.TheVariants.{Stopped};
-ghost use Rattle.hub_law.specs.declared.request.Request.TheVariants.{Upload, Join};
-ghost use Rattle.hub_acts.specs.Joins.{KeepsRows};
+ghost use Rattle.hub_requests.specs.declared.reply.Outcome.TheVariants.{Stopped};
+ghost use Rattle.hub_requests.specs.declared.request.Request.TheVariants.{Upload, Join};
+ghost use Rattle.hub_transactions.specs.Joins.{KeepsRows};
 ghost use Rattle.hub_core.specs.Broken.{Breaks, BreaksAsked, RunBreaks, does_input};
 ghost use Rattle.hub_core.specs.Callers.{IsCaller};
 ghost use Rattle.hub_core.specs.Opened.{IsStopped, RanOut};
 ghost use Rattle.hub_core.specs.Steps.{Asked, IsNoJoin, JoinAnswered, SoundWith, Stepped, Ran, acts_of, input_of};
 
 use crate::caller::Caller;
-use crate::opening::judged;
+use crate::opening::with_code;
 use crate::replies::denied_reply;
 use crate::requests::{asked_by_retailer, asked_by_supplier, take_opened};
 use edi_base::{Items, MemoryFault, copied};
 use edi_envelope::{Interchange, Moment, OpenFault};
 use edi_tokens::TokenFault;
 use gs1_ids::Gln;
-use hub_law::{
-    Input, Outcome, Reply, Request, each_line_balances, hub_stays_sound, run_is_own, step_is_own,
-    stops_are_told,
-};
+use hub_law::{each_line_balances, hub_stays_sound, run_is_own, step_is_own, stops_are_told};
 use hub_parties::Role;
 use hub_register::Register;
+use hub_requests::{Input, Outcome, Reply, Request};
 use hub_store::{Store, StoreFault};
 use std::alloc::Global;
 
@@ -101,7 +99,7 @@ fn answer_opened<S: Store>(
     ensures was_honest { S.honest store.new → S.honest store.old }
     ensures ran_out { RanOut upload → IsErr result × (store.new ≡ store.old) }
 {
-    let upload = judged(upload)?;
+    let upload = with_code(upload)?;
     match caller_of(register, caller, key) {
         Some(caller) => take_opened(alloc, register, caller, store, moment, upload),
         None => Ok(denied_reply(alloc)?),

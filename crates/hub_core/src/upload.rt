@@ -5,7 +5,7 @@ ghost use Rattle.hub_law.specs.Replies.{interchange_line, told_words};
 ghost use Rattle.hub_law.specs.Requests.{uploaded};
 ghost use Rattle.hub_law.specs.Told as law;
 ghost use Rattle.hub_law.specs.Widths.{line};
-ghost use Rattle.hub_acts.specs.Acts.{Carried, FailsWith, OfAny, Unharmed};
+ghost use Rattle.hub_transactions.specs.Acts.{Carried, FailsWith, OfAny, Unharmed};
 ghost use Rattle.hub_texts.specs.Decision.{told_of};
 ghost use Rattle.hub_core.specs.Broken.{Breaks};
 ghost use Rattle.hub_core.specs.Callers.{delivered, MayDeliver};
@@ -14,11 +14,12 @@ ghost use Rattle.hub_core.specs.Steps.{Answered};
 use crate::caller::Caller;
 use edi_base::Items;
 use edi_envelope::{Interchange, Moment, RawMessage};
-use hub_acts::{take_retailers_message, take_suppliers_message};
-use hub_law::{Outcome, Reply, acts_stay_sound};
+use hub_law::acts_stay_sound;
 use hub_register::Register;
+use hub_requests::{Outcome, Reply};
 use hub_store::{Store, StoreFault};
 use hub_texts::Decision;
+use hub_transactions::{take_retailers_message, take_suppliers_message};
 use std::alloc::Global;
 
 /// An upload whose messages are taken: its interchange, who sends it, and when, under a register.

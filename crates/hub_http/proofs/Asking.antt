@@ -1,6 +1,6 @@
 -- What is asked, with the body.
 use Rattle.std.proofs.Common.{◌≡◌, ℕ, List, Option, Some, Result, ap, sym, ◌∙◌}
-use Rattle.hub_law.specs.declared.request.Request.{Request}
+use Rattle.hub_requests.specs.declared.request.Request.{Request}
 use Rattle.hub_http.specs.Asked.{Asked}
 use Rattle.hub_http.specs.Question.{of_asker, request_for, with_body}
 use Rattle.hub_http.specs.declared.refusal.Refusal.{Refusal}

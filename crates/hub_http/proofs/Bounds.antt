@@ -8,9 +8,9 @@ use Rattle.edi_base.specs.Limits.{are_digits, number_of}
 use Rattle.edi_base.specs.Source.{TakesAtMost}
 use Rattle.edi_base.proofs.Taken.{takes_more}
 use Rattle.hub_parties.specs.Rows.{RegisterRows}
-use Rattle.http_head.specs.Fields.{values_of}
-use Rattle.http_head.specs.Head.{Heading, longest_head}
-use Rattle.http_routes.specs.declared.routes.Place.{Place}
+use Rattle.http_messages.specs.Fields.{values_of}
+use Rattle.http_messages.specs.Head.{Heading, longest_head}
+use Rattle.hub_http.specs.declared.routes.Place.{Place}
 use Rattle.hub_http.specs.Answer.{size_asked}
 use Rattle.hub_http.specs.Asked.{Asked, Asker, announced, asked_by, asker_of, at_place, by_asker, by_method, by_party}
 use Rattle.hub_http.specs.Asked.{encoding_field, is_single, key_field, length_field, longest_body, place_in, posted, size_of, with_size}

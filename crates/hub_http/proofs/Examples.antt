@@ -1,11 +1,11 @@
 -- What connections ask, computed.
 use Rattle.std.proofs.Common.{◌≡◌, List, [], ◌∷◌, ℕ, Some, None, Result, Ok, Err, codes, refl}
-use Rattle.hub_law.specs.declared.request.Request.TheVariants as asks
+use Rattle.hub_requests.specs.declared.request.Request.TheVariants as asks
 use Rattle.hub_parties.specs.Rows.{RegisterRows, rows_by}
 use Rattle.hub_parties.specs.declared.row.SupplierRow.{SupplierRow}
-use Rattle.http_head.specs.Head.{Heading}
-use Rattle.http_routes.specs.declared.routes.Place.{Place}
-use Rattle.http_routes.specs.declared.routes.Place.TheVariants.{Interchanges, MailAfter, MailItem, Status, StatusOf, Cancellations}
+use Rattle.http_messages.specs.Head.{Heading}
+use Rattle.hub_http.specs.declared.routes.Place.{Place}
+use Rattle.hub_http.specs.declared.routes.Place.TheVariants.{Interchanges, MailAfter, MailItem, Status, StatusOf, Cancellations}
 use Rattle.hub_http.specs.Asked.{at_place}
 use Rattle.hub_http.specs.Question.{Question, and_body, question_of}
 use Rattle.hub_http.specs.declared.refusal.Refusal.{Refusal}

@@ -2,8 +2,8 @@
 use Rattle.std.proofs.Common.{◌≡◌, ℕ, List, Bool, true, false, not, Option, Result, Ok, Err, ap, refl, sym, ◌∙◌}
 use Rattle.std.specs.Prelude.{if◌then◌else◌}
 use Rattle.hub_parties.specs.Rows.{RegisterRows}
-use Rattle.http_head.specs.Head.{Heading}
-use Rattle.http_routes.specs.declared.routes.Place.{Place}
+use Rattle.http_messages.specs.Head.{Heading}
+use Rattle.hub_http.specs.declared.routes.Place.{Place}
 use Rattle.hub_http.specs.Asked.{Asked, is_single, place_in, at_place, asked_by}
 use Rattle.hub_http.specs.declared.refusal.Refusal.{Refusal}
 use Rattle.hub_http.specs.declared.refusal.Refusal.TheVariants.{BadRequest}

@@ -4,10 +4,10 @@ use Rattle.std.proofs.Common.{ap, sym, subst, ◌∙◌}
 use Rattle.std.specs.Prelude.{IfOk, IfSome, OnErr}
 use Rattle.std.specs.Io.KnownBytes.{Appends}
 use Rattle.edi_base.specs.Buffer.{AppendsFront}
-use Rattle.hub_law.specs.declared.reply.Reply.{Reply}
+use Rattle.hub_requests.specs.declared.reply.Reply.{Reply}
 use Rattle.hub_parties.specs.Rows.{RegisterRows}
-use Rattle.http_head.specs.Body.{body_in}
-use Rattle.http_head.specs.Head.{Heading, Finds, before, longest_head}
+use Rattle.http_messages.specs.Body.{body_in}
+use Rattle.http_messages.specs.Head.{Heading, Finds, before, longest_head}
 use Rattle.edi_base.specs.Source.{TakesAtMost}
 use Rattle.hub_http.specs.Answer.{Answers, OneStep, ReadsWithin, Serves, announced_by}
 use Rattle.hub_http.specs.Asked.{Asked, asked_by, is_single}

@@ -16,8 +16,8 @@ use Rattle.edi_envelope.specs.declared.fault.OpenFault.TheVariants.{Token, Envel
 use Rattle.edi_envelope.specs.declared.interchange.Interchange.{Interchange}
 use Rattle.edi_envelope.specs.Gathered.{Flagged}
 use Rattle.edi_envelope.specs.Opened.{opened, Opens}
-use Rattle.hub_law.specs.declared.reply.Reply.{Reply}
-use Rattle.http_head.specs.Body.{body_in}
+use Rattle.hub_requests.specs.declared.reply.Reply.{Reply}
+use Rattle.http_messages.specs.Body.{body_in}
 use Rattle.hub_http.specs.Answer.{Answers, AnswersOne, Ends, OneStep}
 use Rattle.hub_http.specs.Asked.{Asked}
 use Rattle.hub_http.specs.Question.{Question, of_asker, request_for, uploading, with_body}

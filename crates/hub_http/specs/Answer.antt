@@ -1,13 +1,13 @@
 -- What is answered, and what became of the hub.
 use Rattle.std.specs.Prelude.{◌≡◌, ◌⊎◌, ◌+◌, ℕ, Bool, true, false, List, codes, Option, Some, None, Result, Ok, Err}
 use Rattle.edi_base.specs.Source.{TakesAtMost}
-use Rattle.hub_law.specs.declared.reply.Outcome.{Outcome}
-use Rattle.hub_law.specs.declared.reply.Outcome.TheVariants.{Done, Bad, Denied, Unknown, Stopped}
-use Rattle.hub_law.specs.declared.reply.Reply.{Reply}
+use Rattle.hub_requests.specs.declared.reply.Outcome.{Outcome}
+use Rattle.hub_requests.specs.declared.reply.Outcome.TheVariants.{Done, Bad, Denied, Unknown, Stopped}
+use Rattle.hub_requests.specs.declared.reply.Reply.{Reply}
 use Rattle.hub_parties.specs.Rows.{RegisterRows}
 use Rattle.hub_tables.specs.Tables.{Tables}
 use Rattle.hub_core.specs.Steps.{SoundWith, Stepped, input_of}
-use Rattle.http_head.specs.Head.{Heading, HeadIs, longest_head}
+use Rattle.http_messages.specs.Head.{Heading, HeadIs, longest_head}
 use Rattle.hub_http.specs.Asked.{Asked, asked_by, is_single}
 use Rattle.hub_http.specs.Question.{Question, Asks}
 use Rattle.hub_http.specs.Refusal.{status_of, text_of}

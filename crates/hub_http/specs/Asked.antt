@@ -8,10 +8,10 @@ use Rattle.edi_base.specs.Limits.{are_digits, number_of}
 use Rattle.edi_segments.specs.Spelling.{text_limit}
 use Rattle.hub_parties.specs.Rows.{RegisterRows, role_of}
 use Rattle.hub_parties.specs.declared.role.Role.{Role}
-use Rattle.http_head.specs.Fields.{values_of}
-use Rattle.http_head.specs.Head.{Heading, longest_head}
-use Rattle.http_routes.specs.Routes.{place_at}
-use Rattle.http_routes.specs.declared.routes.Place.{Place}
+use Rattle.http_messages.specs.Fields.{values_of}
+use Rattle.http_messages.specs.Head.{Heading, longest_head}
+use Rattle.hub_http.specs.Routes.{place_at}
+use Rattle.hub_http.specs.declared.routes.Place.{Place}
 use Rattle.hub_http.specs.Sought.{is_post, may_ask, method_of, sought_at}
 use Rattle.hub_http.specs.declared.refusal.Refusal.{Refusal}
 use Rattle.hub_http.specs.declared.refusal.Refusal.TheVariants.{BadRequest, Unknown, Method, Denied, Length, TooLarge}

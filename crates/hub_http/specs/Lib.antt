@@ -1,8 +1,10 @@
 pub mod Answer
 pub mod Asked
+pub mod Parts
 pub mod Question
 pub mod Refusal
+pub mod Routes
 pub mod Serve
 pub mod Sought
-pub mod Wording
 pub mod Upload
+pub mod Wording

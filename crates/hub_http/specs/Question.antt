@@ -3,10 +3,10 @@ use Rattle.std.specs.Prelude.{◌≡◌, ℕ, List, Option, Some, None, Result, 
 use Rattle.hub_parties.specs.Rows.{RegisterRows}
 use Rattle.hub_rules.specs.declared.cancel.Cancel.{Cancel as Cancellation}
 use Rattle.hub_texts.specs.Cancel.{cancel_of}
-use Rattle.hub_law.specs.declared.request.Request.{Request}
-use Rattle.hub_law.specs.declared.request.Request.TheVariants as asks
-use Rattle.http_head.specs.Body.{body_in}
-use Rattle.http_head.specs.Head.{Heading, HeadIs}
+use Rattle.hub_requests.specs.declared.request.Request.{Request}
+use Rattle.hub_requests.specs.declared.request.Request.TheVariants as asks
+use Rattle.http_messages.specs.Body.{body_in}
+use Rattle.http_messages.specs.Head.{Heading, HeadIs}
 use Rattle.hub_http.specs.Asked.{Asked, asked_by}
 use Rattle.hub_http.specs.declared.refusal.Refusal.{Refusal}
 use Rattle.hub_http.specs.declared.refusal.Refusal.TheVariants.{BadRequest, Unknown}

@@ -2,9 +2,9 @@
 use Rattle.std.specs.Prelude.{◌≡◌, ℕ, List, codes, Option, Result, Ok, Err, IfSome}
 use Rattle.std.specs.Io.KnownBytes.{Appends}
 use Rattle.edi_base.specs.Buffer.{AppendsFront}
-use Rattle.hub_law.specs.declared.reply.Reply.{Reply}
+use Rattle.hub_requests.specs.declared.reply.Reply.{Reply}
 use Rattle.hub_parties.specs.Rows.{RegisterRows}
-use Rattle.http_response.specs.Text.{http_text}
+use Rattle.http_messages.specs.Response.{http_text}
 use Rattle.hub_http.specs.Answer.{Serves, bytes_of}
 use Rattle.hub_http.specs.Question.{Question}
 use Rattle.hub_http.specs.declared.answer.Answer.{Answer}

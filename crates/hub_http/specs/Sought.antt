@@ -4,9 +4,9 @@ use Rattle.gs1_ids.specs.Gln.{gln_of}
 use Rattle.hub_parties.specs.declared.role.Role.{Role}
 use Rattle.hub_parties.specs.declared.role.Role.TheVariants.{Retailer, Supplier}
 use Rattle.hub_texts.specs.Number.{number_in}
-use Rattle.http_routes.specs.declared.routes.Place.{Place}
-use Rattle.http_routes.specs.declared.routes.Place.TheVariants.{Interchanges, MailAfter, MailItem, MailTaken}
-use Rattle.http_routes.specs.declared.routes.Place.TheVariants.{Status, StatusOf, Cancellations}
+use Rattle.hub_http.specs.declared.routes.Place.{Place}
+use Rattle.hub_http.specs.declared.routes.Place.TheVariants.{Interchanges, MailAfter, MailItem, MailTaken}
+use Rattle.hub_http.specs.declared.routes.Place.TheVariants.{Status, StatusOf, Cancellations}
 use Rattle.hub_http.specs.declared.sought.Sought.{Sought}
 use Rattle.hub_http.specs.declared.sought.Sought.TheVariants as seeks
 

@@ -3,8 +3,8 @@ ghost use Rattle.std.specs.Prelude.{◌≡◌, ◌≢◌, ◌+◌, ◌++◌, ◌
 ghost use Rattle.std.specs.Prelude.{OnErr, OnOk, IfErr};
 ghost use Rattle.edi_base.specs.Source.{TakesAtMost};
 ghost use Rattle.edi_envelope.specs.Opened.{opened, Opens};
-ghost use Rattle.http_head.specs.Head.{before, longest_head};
-ghost use Rattle.http_head.specs.Body.{body_in};
+ghost use Rattle.http_messages.specs.Head.{before, longest_head};
+ghost use Rattle.http_messages.specs.Body.{body_in};
 ghost use Rattle.hub_core.specs.Steps.{IsNoJoin};
 ghost use Rattle.hub_http.specs.Answer as spec;
 ghost use Rattle.hub_http.specs.Asked.{asked_by, is_single, longest_body};
@@ -12,17 +12,17 @@ ghost use Rattle.hub_http.specs.Question.{question_of as asked_of, uploading, wi
 ghost use Rattle.hub_http.specs.Refusal.{status_of as refusal_status, text_of};
 ghost use Rattle.hub_http.specs.Wording.{asking_as, question_as};
 
-use crate::asked::{Asking, judge};
+use crate::asked::{Asking, asking_of};
 use crate::question::{Posed, question_of};
 use crate::refusal::Refusal;
+use crate::routes::Paths;
 use crate::sought::Sought;
 use crate::upload::{Opened, open_body};
 use edi_base::{Items, ReadFault, Source};
 use edi_envelope::{Moment, OpenFault};
 use edi_tokens::TokenFault;
 use http::StatusCode;
-use http_head::{Head, HeadFault, read_body, read_head};
-use http_routes::Paths;
+use http_messages::{Head, HeadFault, read_body, read_head};
 use hub_core::{Hub, Outcome, Reply};
 use hub_store::Store;
 use std::alloc::Global;
@@ -256,7 +256,7 @@ fn answer_head<R: Source, S: Store>(
     ensures failed { OnErr result (R.failed reader.new ≡ true) }
     ensures kept { OnOk result (R.failed reader.new ≡ R.failed reader.old) }
 {
-    match judge(paths, hub, head) {
+    match asking_of(paths, hub, head) {
         Ok(asking) => answer_asked(alloc, hub, moment, reader, head.rest(), &asking),
         Err(refusal) => Ok(refused(refusal)),
     }

@@ -1,17 +1,17 @@
 //! What the head of a request asks for, and who asks.
 ghost use Rattle.std.specs.Prelude.{◌≡◌, Some, option_map};
-ghost use Rattle.http_head.specs.Fields.{values_of};
-ghost use Rattle.http_routes.specs.Routes.{shown};
+ghost use Rattle.http_messages.specs.Fields.{values_of};
+ghost use Rattle.hub_http.specs.Routes.{shown};
 ghost use Rattle.hub_http.specs.Asked as spec;
 ghost use Rattle.hub_http.specs.Wording.{asker_as, asked_or_refused};
 
 use crate::refusal::Refusal;
+use crate::routes::{Paths, Routed};
 use crate::sought::{Sought, sought_at};
 use edi_base::{are_digits, value_of};
 use edi_tokens::TEXT_LIMIT;
 use gs1_ids::Gln;
-use http_head::{Head, LONGEST_HEAD, Values};
-use http_routes::{Paths, Routed};
+use http_messages::{Head, LONGEST_HEAD, Values};
 use hub_core::{Hub, Role};
 use hub_store::Store;
 
@@ -72,7 +72,7 @@ fn place_in<'h>(paths: &Paths, target: &'h str) -> Option<Routed<'h>>
     paths.place_of(target)
 }
 
-// Who asks with this GLN and this key.
+// Who asks, where the register has this GLN with this key.
 fn asker_by<'h, S: Store>(hub: &Hub<S>, party: &[u8], key: &'h [u8]) -> Option<Asker<'h>>
     ensures { option_map asker_as result ≡ spec.asker_by hub.now.0 party.now key.now }
 {
@@ -82,7 +82,7 @@ fn asker_by<'h, S: Store>(hub: &Hub<S>, party: &[u8], key: &'h [u8]) -> Option<A
     Some(Asker { role, gln, key })
 }
 
-// The party of the path, with the one key of the head.
+// Who asks: the party that the path names, with the one key of the head.
 fn asker_of<'h, S: Store>(hub: &Hub<S>, routed: Routed<'_>, head: &'h Head) -> Option<Asker<'h>>
     ensures { option_map asker_as result ≡ spec.asker_of hub.now.0 (shown routed.entry).1
         (values_of spec.key_field head.now.fields) }
@@ -106,7 +106,7 @@ fn size_in(value: &[u8]) -> Result<usize, Refusal>
     }
 }
 
-// By the one length in a head.
+// How many bytes a body has, by the one length that stands in the head.
 fn announced(head: &Head) -> Result<usize, Refusal>
     ensures { result ≡ spec.announced (values_of spec.length_field head.now.fields) }
 {
@@ -117,7 +117,7 @@ fn announced(head: &Head) -> Result<usize, Refusal>
     }
 }
 
-// Of a POST, whose body may not come in pieces.
+// How many bytes the body of a POST has. It may not come in pieces.
 fn posted(head: &Head) -> Result<usize, Refusal>
     ensures { result ≡ spec.posted head.now.fields }
 {
@@ -127,7 +127,7 @@ fn posted(head: &Head) -> Result<usize, Refusal>
     }
 }
 
-// No other body is looked at.
+// How many bytes of a body are looked at: of a GET none.
 fn size_of(sought: &Sought, head: &Head) -> Result<usize, Refusal>
     ensures { result ≡ spec.size_of sought.now head.now.fields }
 {
@@ -138,7 +138,7 @@ fn size_of(sought: &Sought, head: &Head) -> Result<usize, Refusal>
     }
 }
 
-// What is asked for by somebody who is known.
+// What is asked for, where who asks is known: its side may ask for it, and the length of the body is right.
 fn by_asker<'h>(
     sought: Sought,
     head: &Head,
@@ -160,7 +160,7 @@ fn by_asker<'h>(
     })
 }
 
-// What is asked for by the party of the path.
+// What is asked for, with the party that the path names.
 fn by_party<'h, S: Store>(
     hub: &Hub<S>,
     routed: Routed<'_>,
@@ -175,7 +175,7 @@ fn by_party<'h, S: Store>(
     }
 }
 
-// What is asked for at the place of a path.
+// What is asked for, where the path names a place.
 fn at_place<'h, S: Store>(
     hub: &Hub<S>,
     routed: Routed<'_>,
@@ -193,7 +193,7 @@ fn at_place<'h, S: Store>(
 }
 
 /// What a head asks for, and who asks; or why it is refused. Takes no memory.
-pub(crate) fn judge<'h, S: Store>(
+pub(crate) fn asking_of<'h, S: Store>(
     paths: &Paths,
     hub: &Hub<S>,
     head: &'h Head,

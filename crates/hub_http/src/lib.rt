@@ -3,11 +3,13 @@
 
 mod answer;
 mod asked;
+mod parts;
 mod question;
 mod refusal;
+mod routes;
 mod serve;
 mod sought;
 mod upload;
 
-pub use http_routes::Paths;
+pub use routes::{Paths, Place, Routed};
 pub use serve::{IoFault, Served, serve_one};

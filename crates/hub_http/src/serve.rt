@@ -2,17 +2,17 @@
 ghost use Rattle.std.specs.Prelude.{◌≡◌, ◌≢◌, ◌+◌, true, Err, IfSome};
 ghost use Rattle.edi_base.specs.Buffer.{Flags};
 ghost use Rattle.edi_base.specs.Source.{TakesAtMost};
-ghost use Rattle.http_head.specs.Head.{longest_head};
-ghost use Rattle.http_response.specs.Text.{Writes};
+ghost use Rattle.http_messages.specs.Head.{longest_head};
+ghost use Rattle.http_messages.specs.Response.{Writes};
 ghost use Rattle.hub_http.specs.Answer.{AnswersOne, OneStep, ReadsWithin, StaysSound, Steps};
 ghost use Rattle.hub_http.specs.Asked.{longest_body};
 ghost use Rattle.hub_http.specs.Serve as spec;
 
 use crate::answer::{Answer, Text, answer_one};
+use crate::routes::Paths;
 use edi_base::{Sink, Source, WriteFault};
 use edi_envelope::Moment;
-use http_response::write_response;
-use http_routes::Paths;
+use http_messages::write_response;
 use hub_core::Hub;
 use hub_store::Store;
 use std::alloc::Global;

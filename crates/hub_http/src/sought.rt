@@ -1,10 +1,10 @@
 //! What a path asks for.
 ghost use Rattle.std.specs.Prelude.{◌≡◌};
-ghost use Rattle.http_routes.specs.Routes.{shown};
+ghost use Rattle.hub_http.specs.Routes.{shown};
 ghost use Rattle.hub_http.specs.Sought as spec;
 
+use crate::routes::{Place, Routed};
 use gs1_ids::Gln;
-use http_routes::{Place, Routed};
 use hub_core::Role;
 use hub_texts::number_of;
 

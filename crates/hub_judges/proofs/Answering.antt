@@ -16,8 +16,8 @@ use Rattle.hub_tables.specs.Tables.{Tables}
 use Rattle.hub_tables.specs.declared.change.Change.{Change}
 use Rattle.hub_tables.specs.declared.change.Change.TheVariants.{SetLine}
 use Rattle.hub_tables.specs.declared.rows.LineRow.{LineRow}
-use Rattle.hub_lines.specs.Book.{facts_of, facts_among, rows, with_row, answered_row, IsCovered}
-use Rattle.hub_lines.specs.declared.facts.LineFacts.{LineFacts}
+use Rattle.hub_order_lines.specs.Book.{facts_of, facts_among, rows, with_row, answered_row, IsCovered}
+use Rattle.hub_order_lines.specs.declared.facts.LineFacts.{LineFacts}
 use Rattle.hub_rules.specs.Judging.{refuse_if, given, joined, goes_on, in_order}
 use Rattle.hub_rules.specs.ResponseRules.{answered, is_out_of_range, is_empty, judge_answer, judge_all, judge_answers, judge_new_response}
 use Rattle.hub_rules.specs.declared.code.Code.TheVariants.{NoOrder, NoLine, NotWaiting, OutOfRange, OtherArticle}

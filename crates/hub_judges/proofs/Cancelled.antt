@@ -4,8 +4,8 @@ use Rattle.edi_base.specs.Seen.{is_among}
 use Rattle.hub_tables.specs.Tables.{Tables}
 use Rattle.hub_tables.specs.declared.change.Change.TheVariants.{SetLine}
 use Rattle.hub_tables.specs.declared.rows.LineRow.{LineRow}
-use Rattle.hub_lines.specs.Book.{facts_of, facts_among}
-use Rattle.hub_lines.specs.declared.facts.LineFacts.{LineFacts}
+use Rattle.hub_order_lines.specs.Book.{facts_of, facts_among}
+use Rattle.hub_order_lines.specs.declared.facts.LineFacts.{LineFacts}
 use Rattle.hub_rules.specs.CancellationRules.{judge_new_cancel}
 use Rattle.hub_rules.specs.Judging.{refuse_if, given}
 use Rattle.hub_rules.specs.declared.code.Code.TheVariants.{NoOrder, NoLine, CancelsMoreThanOpen}

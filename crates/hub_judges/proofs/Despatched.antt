@@ -23,8 +23,8 @@ use Rattle.hub_tables.specs.declared.rows.LineRow.{LineRow}
 use Rattle.hub_tables.specs.declared.rows.PalletRow.{PalletRow}
 use Rattle.hub_tables.proofs.KeyOrder.{any_put}
 use Rattle.hub_tables.proofs.Lists.{all_weaker, all_itself, same_if}
-use Rattle.hub_lines.specs.Book.{facts_of, facts_among, with_row, answered_row}
-use Rattle.hub_lines.specs.declared.facts.LineFacts.{LineFacts}
+use Rattle.hub_order_lines.specs.Book.{facts_of, facts_among, with_row, answered_row}
+use Rattle.hub_order_lines.specs.declared.facts.LineFacts.{LineFacts}
 use Rattle.hub_rules.specs.DespatchRules.{placed, judge_despatched, judge_unit, judge_new_despatch}
 use Rattle.hub_rules.specs.Judging.{Judge, refuse_if, given, joined, goes_on, in_order}
 use Rattle.hub_rules.specs.declared.code.Code.TheVariants.{NoOrder, NoLine, OtherArticle, MoreThanOpen, OtherPrefix, SsccUsed, AdviceKnown}

@@ -13,8 +13,8 @@ use Rattle.hub_tables.specs.declared.change.Change.TheVariants.{SetLine}
 use Rattle.hub_tables.specs.declared.rows.LineRow.{LineRow}
 use Rattle.hub_tables.specs.declared.rows.ContentRow.{ContentRow}
 use Rattle.hub_tables.proofs.Lists.{decide, same_is}
-use Rattle.hub_lines.specs.Book.{facts_of, facts_among, rows, with_row, set_row}
-use Rattle.hub_lines.specs.declared.facts.LineFacts.{LineFacts}
+use Rattle.hub_order_lines.specs.Book.{facts_of, facts_among, rows, with_row, set_row}
+use Rattle.hub_order_lines.specs.declared.facts.LineFacts.{LineFacts}
 use Rattle.hub_judges.specs.Known.{TellsLines, TellsDespatched}
 
 -- look-ups

@@ -13,8 +13,8 @@ use Rattle.hub_tables.specs.Tables.{Tables, view}
 use Rattle.hub_tables.specs.declared.rows.LineRow.{LineRow}
 use Rattle.hub_tables.proofs.KeyOrder.{rises_filter}
 use Rattle.hub_tables.proofs.Lists.{all_filter}
-use Rattle.hub_lines.specs.Book.{facts_cmp, IsCovered}
-use Rattle.hub_lines.specs.KnownLines.{is_covered, steps_up}
+use Rattle.hub_order_lines.specs.Book.{facts_cmp, IsCovered}
+use Rattle.hub_order_lines.specs.KnownLines.{is_covered, steps_up}
 use Rattle.hub_rules.specs.Sound.{Balanced, Sound}
 use Rattle.hub_rules.proofs.OwnChanges.{good_view}
 use Rattle.hub_rules.proofs.Rising.{view_rises}

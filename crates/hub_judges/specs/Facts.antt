@@ -3,7 +3,7 @@ use Rattle.std.specs.Prelude.{List, map}
 use Rattle.hub_tables.specs.State.{despatched}
 use Rattle.hub_tables.specs.Tables.{Tables}
 use Rattle.hub_tables.specs.declared.rows.LineRow.{LineRow}
-use Rattle.hub_lines.specs.declared.facts.LineFacts.{LineFacts}
+use Rattle.hub_order_lines.specs.declared.facts.LineFacts.{LineFacts}
 
 -- a line, and what of it is despatched
 abbrev pub fact_in : Tables → LineRow → LineFacts

@@ -23,8 +23,8 @@ use Rattle.hub_tables.specs.declared.change.Change.{Change}
 use Rattle.hub_tables.specs.declared.cases.Arrival.TheVariants.{Announced}
 use Rattle.hub_tables.specs.declared.rows.PalletRow.{PalletRow}
 use Rattle.hub_tables.specs.declared.rows.LineRow.{LineRow}
-use Rattle.hub_lines.specs.Book.{facts_of, facts_among, with_row}
-use Rattle.hub_lines.specs.declared.facts.LineFacts.{LineFacts}
+use Rattle.hub_order_lines.specs.Book.{facts_of, facts_among, with_row}
+use Rattle.hub_order_lines.specs.declared.facts.LineFacts.{LineFacts}
 use Rattle.hub_rules.specs.Judging.{refuse_if, given, joined}
 use Rattle.hub_rules.specs.ReceiptRules.{gtins, new_receipt, arrival_by, cleared}
 use Rattle.hub_rules.specs.ResponseRules.{answered, is_out_of_range, is_empty}

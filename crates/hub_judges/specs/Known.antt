@@ -12,8 +12,8 @@ use Rattle.hub_tables.specs.State.{knows_order, knows_advice, lines_of, despatch
 use Rattle.hub_tables.specs.Tables.{Tables, has_pallet}
 use Rattle.hub_tables.specs.declared.cases.Side.{Side}
 use Rattle.hub_tables.specs.declared.cases.Side.TheVariants.{Retailer, Supplier, Cancellation}
-use Rattle.hub_lines.specs.Book.{facts_of, rows}
-use Rattle.hub_lines.specs.declared.facts.LineFacts.{LineFacts}
+use Rattle.hub_order_lines.specs.Book.{facts_of, rows}
+use Rattle.hub_order_lines.specs.declared.facts.LineFacts.{LineFacts}
 use Rattle.hub_rules.specs.declared.cancel.Cancel.{Cancel}
 use Rattle.hub_rules.specs.declared.incoming.IncomingMessage.{IncomingMessage}
 use Rattle.hub_judges.specs.declared.known.Known.{Known}

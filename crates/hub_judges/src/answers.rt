@@ -5,7 +5,7 @@ ghost use Rattle.std.specs.Option.{IfSome, IfNone};
 ghost use Rattle.hub_tables.specs.State.{waits};
 ghost use Rattle.hub_tables.specs.declared.change.Change.TheVariants.{SetLine};
 ghost use Rattle.hub_tables.specs.declared.rows.LineRow.{LineRow};
-ghost use Rattle.hub_lines.specs.Book.{IsCovered};
+ghost use Rattle.hub_order_lines.specs.Book.{IsCovered};
 ghost use Rattle.hub_rules.specs.Judging.{joined};
 ghost use Rattle.hub_rules.specs.ResponseRules.{is_empty, is_out_of_range};
 ghost use Rattle.hub_rules.specs.declared.verdict.Verdict.{Verdict};
@@ -14,7 +14,7 @@ ghost use Rattle.hub_judges.specs.FromFacts.{answer_checks, after_answer, answer
 
 use edi_base::{Items, MemoryFault};
 use edi_orders::{AnswerLine, LineAnswer};
-use hub_lines::{Book, LineFacts, copied_row};
+use hub_order_lines::{Book, LineFacts, copied_row};
 use hub_rules::{Code, Verdict};
 use hub_tables::{Answered, Change, Column, LineRow};
 use std::alloc::Global;

@@ -9,7 +9,7 @@ use crate::known::Known;
 use crate::party::registered_supplier;
 use crate::remembering::repeats;
 use edi_base::{Items, MemoryFault, copied};
-use hub_lines::{copied_row, is_known, line_numbered};
+use hub_order_lines::{copied_row, is_known, line_numbered};
 use hub_parties::SupplierRow;
 use hub_rules::{Cancel, Code, Verdict};
 use hub_tables::{Change, Column, LineRow, RememberedRow, Side};

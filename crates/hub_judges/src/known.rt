@@ -1,6 +1,6 @@
 //! What is known of the tables when a message or a cancellation is judged.
 use edi_base::Items;
-use hub_lines::KnownLines;
+use hub_order_lines::KnownLines;
 use hub_tables::PalletRow;
 
 /// What is known of one supplier's rows when a message or a cancellation is judged. A judge reads what its checks ask for.

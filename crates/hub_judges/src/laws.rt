@@ -11,8 +11,8 @@ ghost use Rattle.hub_parties.specs.declared.row.SupplierRow.{SupplierRow};
 ghost use Rattle.hub_tables.specs.Tables.{Tables, view};
 ghost use Rattle.hub_tables.specs.declared.rows.LineRow.{LineRow};
 ghost use Rattle.hub_parties.specs.KeyOrder.{Rises};
-ghost use Rattle.hub_lines.specs.Book.{facts_cmp, IsCovered};
-ghost use Rattle.hub_lines.specs.KnownLines.{is_covered, steps_up};
+ghost use Rattle.hub_order_lines.specs.Book.{facts_cmp, IsCovered};
+ghost use Rattle.hub_order_lines.specs.KnownLines.{is_covered, steps_up};
 ghost use Rattle.hub_rules.specs.Sound.{Sound};
 ghost use Rattle.hub_judges.specs.Facts.{facts_in};
 

@@ -19,7 +19,7 @@ use Rattle.hub_law.specs.Laws.{IsOther, AsksStatus, alone, own_report, reply_bet
 use Rattle.hub_law.specs.Machine.{Inputs, step_as, shared_step, shared_run, replies_to}
 use Rattle.hub_law.specs.Mark.{Mark, Whole}
 use Rattle.hub_law.specs.Requests.{report, retailer_request}
-use Rattle.hub_law.specs.declared.request.Input.{Input}
+use Rattle.hub_requests.specs.declared.request.Input.{Input}
 use Rattle.hub_law.proofs.Going.{run_goes, retailer_stays}
 use Rattle.hub_law.proofs.Runs.{whole_run}
 

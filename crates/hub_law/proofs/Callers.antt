@@ -13,8 +13,8 @@ use Rattle.hub_law.specs.Machine.{step_under, step_as}
 use Rattle.hub_law.specs.Mark.{Mark, replied}
 use Rattle.hub_law.specs.Replies.{denied}
 use Rattle.hub_law.specs.Requests.{supplier_request, retailer_request}
-use Rattle.hub_law.specs.declared.reply.Reply.{Reply}
-use Rattle.hub_law.specs.declared.request.Input.{Input}
+use Rattle.hub_requests.specs.declared.reply.Reply.{Reply}
+use Rattle.hub_requests.specs.declared.request.Input.{Input}
 
 abbrev pub is_retailers : RegisterRows → Input → Bool
 is_retailers register input = same register.retailer input.caller && same register.retailer_key input.key

@@ -25,11 +25,11 @@ use Rattle.hub_law.specs.Requests.{retailer_request, deliver_named, taken, answe
 use Rattle.hub_law.specs.Stops.{Upload, opened_for, upload_from, upload_by, upload_of, all_acts, first_acts, reply_behind}
 use Rattle.hub_law.specs.Told.{Told, Act, is_refused, in_row}
 use Rattle.hub_law.specs.Widths.{line}
-use Rattle.hub_law.specs.declared.reply.Outcome.TheVariants.{Stopped}
-use Rattle.hub_law.specs.declared.reply.Reply.{Reply}
-use Rattle.hub_law.specs.declared.request.Input.{Input}
-use Rattle.hub_law.specs.declared.request.Request.{Request}
-use Rattle.hub_law.specs.declared.request.Request.TheVariants as requests
+use Rattle.hub_requests.specs.declared.reply.Outcome.TheVariants.{Stopped}
+use Rattle.hub_requests.specs.declared.reply.Reply.{Reply}
+use Rattle.hub_requests.specs.declared.request.Input.{Input}
+use Rattle.hub_requests.specs.declared.request.Request.{Request}
+use Rattle.hub_requests.specs.declared.request.Request.TheVariants as requests
 
 -- what is told of the first of some acts is the first of what is told
 told_first : {X : Type 0} (step : X → Act) (k : ℕ) (xs : List X) (t : Tables) → (in_row step (take k xs) t).0 ≡ take k (in_row step xs t).0

@@ -24,10 +24,10 @@ use Rattle.hub_law.specs.Mark.{Mark, Whole, StoppedEmpty, StoppedBare, StoppedAf
 use Rattle.hub_law.specs.Replies.{denied}
 use Rattle.hub_law.specs.Requests.{looked_at, from_retailer, answered, join, joined, retailer_request}
 use Rattle.hub_law.specs.Told.{Told, act}
-use Rattle.hub_law.specs.declared.reply.Reply.{Reply}
-use Rattle.hub_law.specs.declared.request.Input.{Input}
-use Rattle.hub_law.specs.declared.request.Request.{Request}
-use Rattle.hub_law.specs.declared.request.Request.TheVariants as requests
+use Rattle.hub_requests.specs.declared.reply.Reply.{Reply}
+use Rattle.hub_requests.specs.declared.request.Input.{Input}
+use Rattle.hub_requests.specs.declared.request.Request.{Request}
+use Rattle.hub_requests.specs.declared.request.Request.TheVariants as requests
 use Rattle.hub_law.proofs.Acting.{Stays, suppliers_same, register_same}
 use Rattle.hub_law.proofs.Callers.{step_by, is_retailers, step_is, as_retailer}
 use Rattle.hub_law.proofs.Retailers.{messages_stay, cancelled_stays}

@@ -17,11 +17,11 @@ use Rattle.hub_law.specs.Mark.{Mark, Whole, StoppedEmpty, StoppedBare, StoppedAf
 use Rattle.hub_law.specs.Opening.{interchange_in}
 use Rattle.hub_law.specs.Replies.{reply, done}
 use Rattle.hub_law.specs.StatusText.{status_text}
-use Rattle.hub_law.specs.declared.reply.Outcome.TheVariants.{Done, Denied, Unknown, Stopped}
-use Rattle.hub_law.specs.declared.reply.Reply.{Reply}
-use Rattle.hub_law.specs.declared.request.Input.{Input}
-use Rattle.hub_law.specs.declared.request.Request.{Request}
-use Rattle.hub_law.specs.declared.request.Request.TheVariants as requests
+use Rattle.hub_requests.specs.declared.reply.Outcome.TheVariants.{Done, Denied, Unknown, Stopped}
+use Rattle.hub_requests.specs.declared.reply.Reply.{Reply}
+use Rattle.hub_requests.specs.declared.request.Input.{Input}
+use Rattle.hub_requests.specs.declared.request.Request.{Request}
+use Rattle.hub_requests.specs.declared.request.Request.TheVariants as requests
 
 abbrev retailer : List ℕ
 retailer = codes "5412345000013"

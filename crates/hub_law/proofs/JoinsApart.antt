@@ -22,9 +22,9 @@ use Rattle.hub_law.specs.Laws.{IsOther, NobodyLetsIn, StandsApart, alone}
 use Rattle.hub_law.specs.Machine.{Inputs, shared_step, shared_run, replies_to}
 use Rattle.hub_law.specs.Mark.{Mark, Whole, StoppedEmpty, StoppedBare, StoppedAfter, acts_done}
 use Rattle.hub_law.specs.Requests.{looked_at, from_retailer}
-use Rattle.hub_law.specs.declared.request.Input.{Input}
-use Rattle.hub_law.specs.declared.request.Request.{Request}
-use Rattle.hub_law.specs.declared.request.Request.TheVariants as requests
+use Rattle.hub_requests.specs.declared.request.Input.{Input}
+use Rattle.hub_requests.specs.declared.request.Request.{Request}
+use Rattle.hub_requests.specs.declared.request.Request.TheVariants as requests
 use Rattle.hub_law.proofs.Agreeing.{items_after}
 use Rattle.hub_law.proofs.Going.{step_goes, run_goes, retailer_stays}
 use Rattle.hub_law.proofs.Retailers.{none_of_one}

@@ -28,10 +28,10 @@ use Rattle.hub_law.specs.Replies.{act_reply}
 use Rattle.hub_law.specs.Requests.{deliver_named, cancel_named, from_supplier, from_retailer, retailer_request}
 use Rattle.hub_law.specs.Stops.{Upload, upload_from, upload_by, upload_of}
 use Rattle.hub_law.specs.Told.{Told, Accepted, Repeated, Refused, Act, in_row}
-use Rattle.hub_law.specs.declared.reply.Reply.{Reply}
-use Rattle.hub_law.specs.declared.request.Input.{Input}
-use Rattle.hub_law.specs.declared.request.Request.{Request}
-use Rattle.hub_law.specs.declared.request.Request.TheVariants as requests
+use Rattle.hub_requests.specs.declared.reply.Reply.{Reply}
+use Rattle.hub_requests.specs.declared.request.Input.{Input}
+use Rattle.hub_requests.specs.declared.request.Request.{Request}
+use Rattle.hub_requests.specs.declared.request.Request.TheVariants as requests
 use Rattle.hub_law.proofs.Acts.{suppliers_act}
 use Rattle.hub_law.proofs.Cutting.{well_opened, whole_upload, behind_some}
 use Rattle.hub_law.proofs.Remembering.{named_remembered, suppliers_remembered, cancellation_remembered}

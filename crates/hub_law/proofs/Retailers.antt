@@ -25,8 +25,8 @@ use Rattle.hub_law.specs.Messages.{named, deliver_retailers, cancel}
 use Rattle.hub_law.specs.Replies.{denied}
 use Rattle.hub_law.specs.Requests.{looked_at, from_retailer, deliver_named, cancel_named, answered, joined, retailer_request}
 use Rattle.hub_law.specs.Told.{Act, act, in_row}
-use Rattle.hub_law.specs.declared.request.Request.{Request}
-use Rattle.hub_law.specs.declared.request.Request.TheVariants as requests
+use Rattle.hub_requests.specs.declared.request.Request.{Request}
+use Rattle.hub_requests.specs.declared.request.Request.TheVariants as requests
 use Rattle.hub_law.proofs.Acting.{Alike, Stays, parties_on, suppliers_same, stays_same}
 use Rattle.hub_law.proofs.Acts.{retailers_act, cancel_act, nobodys_message, nobodys_cancellation}
 use Rattle.hub_law.proofs.Steps.{gln_of, unlike}

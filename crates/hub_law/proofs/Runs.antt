@@ -16,8 +16,8 @@ use Rattle.hub_law.specs.Machine.{Inputs, shared_step, shared_run, replies_to}
 use Rattle.hub_law.specs.Mark.{Mark, replied}
 use Rattle.hub_law.specs.Replies.{denied}
 use Rattle.hub_law.specs.Requests.{retailer_request}
-use Rattle.hub_law.specs.declared.reply.Reply.{Reply}
-use Rattle.hub_law.specs.declared.request.Input.{Input}
+use Rattle.hub_requests.specs.declared.reply.Reply.{Reply}
+use Rattle.hub_requests.specs.declared.request.Input.{Input}
 use Rattle.hub_law.proofs.Callers.{step_by, items_by, is_retailers, step_is, items_are, retailer_asks}
 use Rattle.hub_law.proofs.Going.{step_goes, parties_stay}
 use Rattle.hub_law.proofs.Retailers.{Moves, still, retailer_moves}

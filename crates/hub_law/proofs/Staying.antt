@@ -21,7 +21,7 @@ use Rattle.hub_rules.specs.declared.verdict.Verdict.{Verdict}
 use Rattle.hub_rules.specs.declared.verdict.Verdict.TheVariants.{Accept, Refuse}
 use Rattle.hub_rules.proofs.Repeating.{has_after_all}
 use Rattle.hub_law.specs.CancelText.{cancel_text}
-use Rattle.hub_law.specs.declared.reply.Reply.{Reply}
+use Rattle.hub_requests.specs.declared.reply.Reply.{Reply}
 use Rattle.hub_law.specs.Machine.{Inputs, shared_step, shared_run}
 use Rattle.hub_law.specs.Mark.{Mark, Whole, StoppedEmpty, StoppedBare, StoppedAfter}
 use Rattle.hub_law.specs.Messages.{named, deliver_retailers, deliver_suppliers, cancel}
@@ -29,9 +29,9 @@ use Rattle.hub_law.specs.Remembered.{StaysRemembered}
 use Rattle.hub_law.specs.Requests.{looked_at, from_supplier, from_retailer, taking, taken, supplier_request, deliver_named}
 use Rattle.hub_law.specs.Requests.{answered, join, retailer_request}
 use Rattle.hub_law.specs.Told.{Told, Act, changed, read_act, in_row}
-use Rattle.hub_law.specs.declared.request.Input.{Input}
-use Rattle.hub_law.specs.declared.request.Request.{Request}
-use Rattle.hub_law.specs.declared.request.Request.TheVariants as requests
+use Rattle.hub_requests.specs.declared.request.Input.{Input}
+use Rattle.hub_requests.specs.declared.request.Request.{Request}
+use Rattle.hub_requests.specs.declared.request.Request.TheVariants as requests
 use Rattle.hub_law.proofs.Callers.{step_by, is_retailers, step_is}
 
 nothing_lost : (t : Tables) → StaysRemembered t t

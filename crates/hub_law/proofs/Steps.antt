@@ -15,10 +15,10 @@ use Rattle.hub_law.specs.Opening.{Opened}
 use Rattle.hub_law.specs.Replies.{denied, stopped, reply}
 use Rattle.hub_law.specs.Requests.{looked_at, upload_reply, uploaded, from_supplier, taken, supplier_request}
 use Rattle.hub_law.specs.Told.{Act, in_row}
-use Rattle.hub_law.specs.declared.reply.Outcome.TheVariants.{Stopped}
-use Rattle.hub_law.specs.declared.request.Input.{Input}
-use Rattle.hub_law.specs.declared.request.Request.{Request}
-use Rattle.hub_law.specs.declared.request.Request.TheVariants as requests
+use Rattle.hub_requests.specs.declared.reply.Outcome.TheVariants.{Stopped}
+use Rattle.hub_requests.specs.declared.request.Input.{Input}
+use Rattle.hub_requests.specs.declared.request.Request.{Request}
+use Rattle.hub_requests.specs.declared.request.Request.TheVariants as requests
 use Rattle.hub_law.specs.Alone.{supplier_step}
 use Rattle.hub_law.proofs.Acting.{Alike, parties_same, parties_on}
 use Rattle.hub_law.proofs.Acts.{suppliers_act, taking_act}

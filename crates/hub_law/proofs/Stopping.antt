@@ -19,11 +19,11 @@ use Rattle.hub_law.specs.Replies.{reply, denied, stopped, entry_reply, cut_reply
 use Rattle.hub_law.specs.Requests.{looked_at, uploaded, from_supplier, from_retailer, taken, supplier_request}
 use Rattle.hub_law.specs.Requests.{deliver_named, answered, join, report, retailer_request}
 use Rattle.hub_law.specs.Told.{Told, Act, in_row}
-use Rattle.hub_law.specs.declared.reply.Outcome.TheVariants.{Stopped}
-use Rattle.hub_law.specs.declared.reply.Reply.{Reply}
-use Rattle.hub_law.specs.declared.request.Input.{Input}
-use Rattle.hub_law.specs.declared.request.Request.{Request}
-use Rattle.hub_law.specs.declared.request.Request.TheVariants as requests
+use Rattle.hub_requests.specs.declared.reply.Outcome.TheVariants.{Stopped}
+use Rattle.hub_requests.specs.declared.reply.Reply.{Reply}
+use Rattle.hub_requests.specs.declared.request.Input.{Input}
+use Rattle.hub_requests.specs.declared.request.Request.{Request}
+use Rattle.hub_requests.specs.declared.request.Request.TheVariants as requests
 use Rattle.hub_law.proofs.Callers.{step_by, is_retailers, step_is}
 
 -- one of two, by a test

@@ -14,8 +14,8 @@ use Rattle.hub_law.specs.Remembered.{StaysRemembered}
 use Rattle.hub_law.specs.Requests.{looked_at}
 use Rattle.hub_law.specs.Stops.{Upload, upload_of, all_acts, first_acts}
 use Rattle.hub_law.specs.Told.{Told, Accepted}
-use Rattle.hub_law.specs.declared.request.Input.{Input}
-use Rattle.hub_law.specs.declared.request.Request.TheVariants as requests
+use Rattle.hub_requests.specs.declared.request.Input.{Input}
+use Rattle.hub_requests.specs.declared.request.Request.TheVariants as requests
 
 -- the message at a place, counted from 0, of an upload that is looked at when it comes to tables
 pub record MessageAt (t : Tables) (input : Input) (place : ℕ) (message : RawMessage) : Type 0 where

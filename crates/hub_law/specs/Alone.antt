@@ -18,10 +18,10 @@ use Rattle.hub_law.specs.Mark.{Mark, replied, acts_done}
 use Rattle.hub_law.specs.Messages.{named, deliver_retailers, cancel}
 use Rattle.hub_law.specs.Replies.{denied}
 use Rattle.hub_law.specs.Requests.{looked_at, from_retailer, supplier_request}
-use Rattle.hub_law.specs.declared.reply.Reply.{Reply}
-use Rattle.hub_law.specs.declared.request.Input.{Input}
-use Rattle.hub_law.specs.declared.request.Request.{Request}
-use Rattle.hub_law.specs.declared.request.Request.TheVariants as requests
+use Rattle.hub_requests.specs.declared.reply.Reply.{Reply}
+use Rattle.hub_requests.specs.declared.request.Input.{Input}
+use Rattle.hub_requests.specs.declared.request.Request.{Request}
+use Rattle.hub_requests.specs.declared.request.Request.TheVariants as requests
 
 -- an input of its own; a message of the retailer that names it; a cancellation of the retailer for it, with its moment;
 -- and its row, with which the retailer let it in and the register took it

@@ -13,9 +13,9 @@ use Rattle.hub_law.specs.Alone.{Item, items_of_input, items, fold}
 use Rattle.hub_law.specs.Machine.{Inputs, shared_step, shared_run, replies_to}
 use Rattle.hub_law.specs.Mark.{Mark, Whole}
 use Rattle.hub_law.specs.Requests.{report}
-use Rattle.hub_law.specs.declared.reply.Reply.{Reply}
-use Rattle.hub_law.specs.declared.request.Input.{Input}
-use Rattle.hub_law.specs.declared.request.Request.TheVariants.{StatusOf, Join}
+use Rattle.hub_requests.specs.declared.reply.Reply.{Reply}
+use Rattle.hub_requests.specs.declared.request.Input.{Input}
+use Rattle.hub_requests.specs.declared.request.Request.TheVariants.{StatusOf, Join}
 
 -- what comes of the items of a GLN in its own rows, with nothing else in the tables
 abbrev pub alone : List ℕ → List Item → Tables → List Reply × Tables

@@ -11,8 +11,8 @@ use Rattle.hub_law.specs.InTurn.{single, followed_by}
 use Rattle.hub_law.specs.Mark.{Mark, replied}
 use Rattle.hub_law.specs.Replies.{denied}
 use Rattle.hub_law.specs.Requests.{supplier_request, retailer_request}
-use Rattle.hub_law.specs.declared.reply.Reply.{Reply}
-use Rattle.hub_law.specs.declared.request.Input.{Input}
+use Rattle.hub_requests.specs.declared.reply.Reply.{Reply}
+use Rattle.hub_requests.specs.declared.request.Input.{Input}
 
 -- an input of whoever its caller is, by the GLN and the key; the row is that of the supplier with the GLN
 abbrev pub step_as : RegisterRows → Option Role → Option SupplierRow → Input → Mark → Tables → Reply × Tables

@@ -3,8 +3,8 @@ use Rattle.std.specs.Prelude.{ℕ, Bool, false, nat_lt, [], if◌then◌else◌,
 use Rattle.std.specs.Option.{unwrap_or, option_map}
 use Rattle.hub_tables.specs.Tables.{Tables}
 use Rattle.hub_law.specs.Replies.{reply, stopped}
-use Rattle.hub_law.specs.declared.reply.Outcome.TheVariants.{Stopped}
-use Rattle.hub_law.specs.declared.reply.Reply.{Reply}
+use Rattle.hub_requests.specs.declared.reply.Outcome.TheVariants.{Stopped}
+use Rattle.hub_requests.specs.declared.reply.Reply.{Reply}
 
 -- Whole: it was not stopped. StoppedEmpty: nothing was done, and the reply is empty. StoppedBare: nothing was done, and
 -- the reply says so. StoppedAfter k: an upload of more than k messages was stopped after its first k; of any other

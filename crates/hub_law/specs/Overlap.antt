@@ -7,10 +7,10 @@ use Rattle.hub_tables.specs.Tables.{Tables}
 use Rattle.hub_law.specs.Machine.{Inputs}
 use Rattle.hub_law.specs.Mark.{Whole}
 use Rattle.hub_law.specs.Widths.{line}
-use Rattle.hub_law.specs.declared.reply.Outcome.TheVariants.{Done}
-use Rattle.hub_law.specs.declared.reply.Reply.{Reply}
-use Rattle.hub_law.specs.declared.request.Input.{Input}
-use Rattle.hub_law.specs.declared.request.Request.TheVariants as requests
+use Rattle.hub_requests.specs.declared.reply.Outcome.TheVariants.{Done}
+use Rattle.hub_requests.specs.declared.reply.Reply.{Reply}
+use Rattle.hub_requests.specs.declared.request.Input.{Input}
+use Rattle.hub_requests.specs.declared.request.Request.TheVariants as requests
 
 abbrev pub long_supplier : SupplierRow
 long_supplier = record { gln = codes "4012345500004"; prefixes = codes "40123455" ∷ []; key = codes "alpha-key-1" }

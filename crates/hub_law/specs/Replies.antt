@@ -8,9 +8,9 @@ use Rattle.hub_tables.specs.declared.rows.MailRow.{MailRow}
 use Rattle.hub_law.specs.MailText.{entry_text}
 use Rattle.hub_law.specs.Told.{Told, Accepted, Repeated, Refused, is_refused}
 use Rattle.hub_law.specs.Widths.{line}
-use Rattle.hub_law.specs.declared.reply.Outcome.{Outcome}
-use Rattle.hub_law.specs.declared.reply.Outcome.TheVariants.{Done, Bad, Denied, Unknown, Stopped}
-use Rattle.hub_law.specs.declared.reply.Reply.{Reply}
+use Rattle.hub_requests.specs.declared.reply.Outcome.{Outcome}
+use Rattle.hub_requests.specs.declared.reply.Outcome.TheVariants.{Done, Bad, Denied, Unknown, Stopped}
+use Rattle.hub_requests.specs.declared.reply.Reply.{Reply}
 
 abbrev pub reply : Outcome → List ℕ → Reply
 reply outcome body = record { outcome = outcome; refused = false; body = body }

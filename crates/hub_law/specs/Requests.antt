@@ -24,9 +24,9 @@ use Rattle.hub_law.specs.Replies.{entry_reply}
 use Rattle.hub_law.specs.StatusText.{status_text}
 use Rattle.hub_law.specs.Told.{Told, Act, act, in_row}
 use Rattle.hub_law.specs.Widths.{line}
-use Rattle.hub_law.specs.declared.reply.Reply.{Reply}
-use Rattle.hub_law.specs.declared.request.Request.{Request}
-use Rattle.hub_law.specs.declared.request.Request.TheVariants as requests
+use Rattle.hub_requests.specs.declared.reply.Reply.{Reply}
+use Rattle.hub_requests.specs.declared.request.Request.{Request}
+use Rattle.hub_requests.specs.declared.request.Request.TheVariants as requests
 
 -- Uploads.
 

@@ -14,11 +14,11 @@ use Rattle.hub_law.specs.Opening.{Opened}
 use Rattle.hub_law.specs.Replies.{interchange_line, message_lines, stopped_line}
 use Rattle.hub_law.specs.Requests.{from_supplier, from_retailer, deliver_named}
 use Rattle.hub_law.specs.Told.{Told, Act, is_refused, in_row}
-use Rattle.hub_law.specs.declared.reply.Outcome.TheVariants.{Stopped}
-use Rattle.hub_law.specs.declared.reply.Reply.{Reply}
-use Rattle.hub_law.specs.declared.request.Input.{Input}
-use Rattle.hub_law.specs.declared.request.Request.{Request}
-use Rattle.hub_law.specs.declared.request.Request.TheVariants as requests
+use Rattle.hub_requests.specs.declared.reply.Outcome.TheVariants.{Stopped}
+use Rattle.hub_requests.specs.declared.reply.Reply.{Reply}
+use Rattle.hub_requests.specs.declared.request.Input.{Input}
+use Rattle.hub_requests.specs.declared.request.Request.{Request}
+use Rattle.hub_requests.specs.declared.request.Request.TheVariants as requests
 
 -- an upload whose messages are looked at: its interchange, and the act of each of its messages
 pub record Upload : Type 0 where

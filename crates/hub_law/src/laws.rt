@@ -24,8 +24,8 @@ ghost use Rattle.hub_law.specs.Laws.{alone, own_report, reply_between};
 ghost use Rattle.hub_law.specs.Machine.{Inputs, shared_step, shared_run, replies_to};
 ghost use Rattle.hub_law.specs.Mark.{Mark, Whole};
 ghost use Rattle.hub_law.specs.Overlap.{long_supplier, overlapping, both_announce, one_announces, advice_reply};
-ghost use Rattle.hub_law.specs.declared.request.Input.{Input};
-ghost use Rattle.hub_law.specs.declared.request.Request.TheVariants.{Join};
+ghost use Rattle.hub_requests.specs.declared.request.Input.{Input};
+ghost use Rattle.hub_requests.specs.declared.request.Request.TheVariants.{Join};
 
 /// Whoever asks something of the hub, each GLN but the retailer's sees after it what it would see alone; and where it
 /// asks itself, it is answered as it would be alone. This holds also of a request that was stopped. Before it has its

@@ -5,8 +5,6 @@
 mod laws;
 mod mail;
 mod repeats;
-mod reply;
-mod request;
 mod sets;
 mod sound_acts;
 mod stops;
@@ -19,8 +17,6 @@ pub use mail::entry_is_its_messages_mail;
 pub use repeats::{
     accepted_is_repeated, accepted_stays_remembered, remembered_stays, repeated_in_runs,
 };
-pub use reply::{Outcome, Reply};
-pub use request::{Input, Request};
 pub use sets::views_are_sets;
 pub use sound_acts::{acts_keep_the_register, acts_stay_sound};
 pub use stops::{stops_are_told, stops_cut_uploads};

@@ -16,7 +16,7 @@ ghost use Rattle.hub_law.specs.Mark.{Mark, Whole};
 ghost use Rattle.hub_law.specs.Messages.{deliver_suppliers, incoming};
 ghost use Rattle.hub_law.specs.Remembered.{StaysRemembered, row_of_message, row_of_cancel};
 ghost use Rattle.hub_law.specs.Replies.{act_reply};
-ghost use Rattle.hub_law.specs.declared.request.Input.{Input};
+ghost use Rattle.hub_requests.specs.declared.request.Input.{Input};
 ghost use Rattle.hub_law.specs.Requests.{deliver_named, cancel_named};
 ghost use Rattle.hub_law.specs.Told.{Accepted, Repeated, in_row};
 

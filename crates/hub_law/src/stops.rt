@@ -7,8 +7,8 @@ ghost use Rattle.hub_law.specs.Mark.{Mark, Whole, StoppedEmpty, StoppedBare, Sto
 ghost use Rattle.hub_law.specs.Replies.{reply, stopped, whole_reply};
 ghost use Rattle.hub_law.specs.Requests.{replied_by};
 ghost use Rattle.hub_law.specs.Stops.{Upload, upload_of, all_acts, first_acts, reply_behind};
-ghost use Rattle.hub_law.specs.declared.reply.Outcome.TheVariants.{Stopped};
-ghost use Rattle.hub_law.specs.declared.request.Input.{Input};
+ghost use Rattle.hub_requests.specs.declared.reply.Outcome.TheVariants.{Stopped};
+ghost use Rattle.hub_requests.specs.declared.request.Input.{Input};
 
 /// A reply says that its input was stopped exactly where it was. What was stopped before anything was done leaves the
 /// tables as they were, and its reply is empty or the one word.

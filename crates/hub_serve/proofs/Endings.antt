@@ -3,7 +3,7 @@ use Rattle.std.proofs.Common.{◌≡◌, ℕ, ◌+◌, Bool, true, false, List, 
 use Rattle.std.proofs.Common.{inl, inr}
 use Rattle.std.specs.Prelude.{◌≢◌}
 use Rattle.edi_base.specs.Source.{TakesAtMost}
-use Rattle.http_head.specs.Head.{longest_head}
+use Rattle.http_messages.specs.Head.{longest_head}
 use Rattle.hub_http.specs.Answer.{OneStep, Serves, announced_by, passes}
 use Rattle.hub_http.specs.Answer as http
 use Rattle.hub_http.specs.Question.{Question}
@@ -12,8 +12,8 @@ use Rattle.hub_http.specs.Serve.{Ended}
 use Rattle.hub_http.specs.declared.serve.IoFault.{IoFault}
 use Rattle.hub_http.specs.declared.serve.IoFault.TheVariants.{Read, Write}
 use Rattle.hub_http.specs.declared.serve.Served.{Served}
-use Rattle.hub_law.specs.declared.reply.Reply.{Reply}
-use Rattle.hub_law.specs.declared.request.Input.{Input}
+use Rattle.hub_requests.specs.declared.reply.Reply.{Reply}
+use Rattle.hub_requests.specs.declared.request.Input.{Input}
 use Rattle.hub_core.specs.Steps.{input_of}
 use Rattle.hub_parties.specs.Rows.{RegisterRows}
 use Rattle.hub_serve.specs.Connections.{Adds, Closed, IsNew, Known, TakesFirst}

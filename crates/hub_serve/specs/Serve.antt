@@ -8,8 +8,8 @@ use Rattle.hub_http.specs.Serve.{Ended}
 use Rattle.hub_http.specs.declared.serve.IoFault.{IoFault}
 use Rattle.hub_http.specs.declared.serve.IoFault.TheVariants.{Read, Write}
 use Rattle.hub_http.specs.declared.serve.Served.{Served}
-use Rattle.hub_law.specs.declared.reply.Reply.{Reply}
-use Rattle.hub_law.specs.declared.request.Input.{Input}
+use Rattle.hub_requests.specs.declared.reply.Reply.{Reply}
+use Rattle.hub_requests.specs.declared.request.Input.{Input}
 use Rattle.hub_parties.specs.Rows.{RegisterRows}
 use Rattle.hub_serve.specs.Connections.{Adds, Closed, Coming, Known, TakesFirst}
 use Rattle.hub_serve.specs.Line.{ending_of, ending_status, line_of}

@@ -1,21 +1,13 @@
 //! What became of a connection, and the line that says so.
 ghost use Rattle.std.specs.Prelude.{◌≡◌, ◌++◌, decimal};
 ghost use Rattle.edi_base.specs.Buffer.{Puts, Flags};
-ghost use Rattle.http_response.specs.Text.{Writes};
+ghost use Rattle.http_messages.specs.Response.{Writes};
 ghost use Rattle.hub_serve.specs.Line as spec;
 ghost use Rattle.hub_serve.specs.Line.{end_of, ending_status, line_of, port_line};
 
+use edi_base::exit::{DONE, FAILED, REFUSED};
 use edi_base::{Buffer, Sink, WriteFault};
 use hub_http::{IoFault, Served};
-
-/// All connections were answered 200.
-pub(crate) const DONE: u8 = 0;
-
-/// One was answered otherwise.
-const REFUSED: u8 = 1;
-
-/// One failed, or was stopped.
-pub(crate) const FAILED: u8 = 3;
 
 /// What became of a connection.
 #[derive(Clone, Copy, Debug, PartialEq, Eq)]

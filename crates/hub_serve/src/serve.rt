@@ -7,8 +7,9 @@ ghost use Rattle.hub_serve.specs.One.{ServesNext, DoesTo};
 ghost use Rattle.hub_serve.specs.Serve.{Serves, Stops};
 
 use crate::connections::{Connections, Moments, NoConnection};
-use crate::line::{DONE, Ending, FAILED, ending_of, print_line};
+use crate::line::{Ending, ending_of, print_line};
 use edi_base::Sink;
+use edi_base::exit::{DONE, FAILED};
 use hub_core::Hub;
 use hub_http::{Paths, serve_one};
 use hub_store::Store;

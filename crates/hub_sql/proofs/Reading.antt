@@ -17,7 +17,7 @@ use Rattle.hub_store.specs.declared.fault.StoreFault.TheVariants.{Unclean}
 use Rattle.hub_schema.specs.Rows.{tables_in}
 use Rattle.hub_schema.specs.Schema.{hub_schema}
 use Rattle.hub_schema.specs.State.{LooksFor, LooksIn, LooksUp}
-use Rattle.hub_looks.proofs.Joining.{of_hub}
+use Rattle.hub_reads.proofs.Joining.{of_hub}
 use Rattle.hub_sql.specs.Settling.{Settles}
 use Rattle.hub_sql.specs.Stored.{Stored, content, left, IsSettled, honest}
 use Rattle.hub_sql.proofs.Looking.{failed, holds, still, same_content, looked, refused_fails}

@@ -8,7 +8,7 @@ use Rattle.sqlite.specs.Held.{Held, state}
 use Rattle.sqlite.specs.State.{State, HasCleanDisk, Survives}
 use Rattle.sql_rows.proofs.Transactions.{clean_before}
 use Rattle.hub_store.specs.declared.fault.StoreFault.{StoreFault}
-use Rattle.hub_looks.specs.Numbered.{TellsNumber}
+use Rattle.hub_reads.specs.Numbered.{TellsNumber}
 use Rattle.hub_parties.specs.Rows.{RegisterRows}
 use Rattle.hub_tables.specs.Tables.{Tables}
 use Rattle.hub_founding.specs.Fits.{fits, founded_beside}

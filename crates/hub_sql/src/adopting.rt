@@ -16,7 +16,7 @@ use crate::reopening::{of_hub, reopened};
 use crate::returned::Returned;
 use crate::store::SqliteStore;
 use crate::version::Version;
-use hub_looks::register;
+use hub_reads::register;
 use hub_schema::is_hub_schema;
 use hub_store::StoreFault;
 use hub_writes::renumber;
@@ -36,7 +36,7 @@ fn look_fault(fault: StoreFault) -> StoreFault
 }
 
 // The connection, where it still lists all tables and their rows hold a register.
-fn judged<S: Alter + Drop>(
+fn with_register<S: Alter + Drop>(
     alloc: Global,
     mut conn: Connection<S>,
 ) -> Result<Connection<S>, (Connection<S>, StoreFault)>
@@ -55,12 +55,14 @@ fn judged<S: Alter + Drop>(
         HasCleanDisk (state S.Store e.0) → HoldsNone (tables_in (state S.Store conn).now.trees)) }
     ensures spared { IfErr result (λ e. SparesConnection S.Store (λ _. ⊥) (state S.Store conn) e.0) }
 {
+    // The contract of this call says whether a transaction is open.
     let _was_idle = conn.is_autocommit();
     if !is_hub_schema(conn.schema()) {
         return Err((conn, StoreFault::Disk));
     }
     match register(&mut conn, alloc) {
         Ok(Some(_register)) => {
+            // The contract of this call says whether a transaction is open.
             let _idle = conn.is_autocommit();
             Ok(conn)
         }
@@ -85,6 +87,7 @@ fn renumbered<S: Alter + Drop>(
     ensures spared { IfErr result (λ e. SparesConnection S.Store
         (MayBeRenumbered Version.Second (tables_in (state S.Store conn).now.trees)) (state S.Store conn) e.0) }
 {
+    // The contract of this call says whether a transaction is open.
     let _was_idle = conn.is_autocommit();
     match renumber(&mut conn) {
         Ok(()) => Ok(SqliteStore::settled(alloc, conn)),
@@ -111,6 +114,7 @@ fn raised<S: Alter + Drop>(
     ensures spared { IfErr result (λ e. SparesConnection S.Store
         (MayBeRenumbered version (tables_in (state S.Store conn).now.trees)) (state S.Store conn) e.0) }
 {
+    // The contract of this call says whether a transaction is open.
     let _idle = conn.is_autocommit();
     match version {
         Version::Second => renumbered(alloc, conn),
@@ -141,7 +145,7 @@ fn taken<S: Alter + Drop>(
     ensures spared { IfErr result (λ e. SparesConnection S.Store
         (MayBeRenumbered version (tables_in (state S.Store conn).now.trees)) (state S.Store conn) e.0) }
 {
-    match judged(alloc, conn) {
+    match with_register(alloc, conn) {
         Ok(conn) => raised(alloc, conn, version),
         Err((conn, fault)) => Err((conn, fault)),
     }

@@ -53,7 +53,7 @@ impl<S: Alter> Store for SqliteStore<S> {
         if let Some(lasting) = self.fault {
             return Err(again(lasting));
         }
-        let found = hub_looks::remembered(&mut self.conn, supplier, side, control, message);
+        let found = hub_reads::remembered(&mut self.conn, supplier, side, control, message);
         settle(found, self.conn.schema(), &mut self.fault)
     }
 
@@ -61,7 +61,7 @@ impl<S: Alter> Store for SqliteStore<S> {
         if let Some(lasting) = self.fault {
             return Err(again(lasting));
         }
-        let found = hub_looks::order_known(&mut self.conn, supplier, number);
+        let found = hub_reads::order_known(&mut self.conn, supplier, number);
         settle(found, self.conn.schema(), &mut self.fault)
     }
 
@@ -69,7 +69,7 @@ impl<S: Alter> Store for SqliteStore<S> {
         if let Some(lasting) = self.fault {
             return Err(again(lasting));
         }
-        let found = hub_looks::lines_of(&mut self.conn, self.alloc, supplier, number);
+        let found = hub_reads::lines_of(&mut self.conn, self.alloc, supplier, number);
         settle(found, self.conn.schema(), &mut self.fault)
     }
 
@@ -77,7 +77,7 @@ impl<S: Alter> Store for SqliteStore<S> {
         if let Some(lasting) = self.fault {
             return Err(again(lasting));
         }
-        let found = hub_looks::advice_known(&mut self.conn, supplier, number);
+        let found = hub_reads::advice_known(&mut self.conn, supplier, number);
         settle(found, self.conn.schema(), &mut self.fault)
     }
 
@@ -85,7 +85,7 @@ impl<S: Alter> Store for SqliteStore<S> {
         if let Some(lasting) = self.fault {
             return Err(again(lasting));
         }
-        let found = hub_looks::pallet(&mut self.conn, supplier, sscc);
+        let found = hub_reads::pallet(&mut self.conn, supplier, sscc);
         settle(found, self.conn.schema(), &mut self.fault)
     }
 
@@ -93,7 +93,7 @@ impl<S: Alter> Store for SqliteStore<S> {
         if let Some(lasting) = self.fault {
             return Err(again(lasting));
         }
-        let found = hub_looks::last_mail(&mut self.conn, supplier);
+        let found = hub_reads::last_mail(&mut self.conn, supplier);
         settle(found, self.conn.schema(), &mut self.fault)
     }
 
@@ -101,7 +101,7 @@ impl<S: Alter> Store for SqliteStore<S> {
         if let Some(lasting) = self.fault {
             return Err(again(lasting));
         }
-        let found = hub_looks::mail_item(&mut self.conn, supplier, number);
+        let found = hub_reads::mail_item(&mut self.conn, supplier, number);
         settle(found, self.conn.schema(), &mut self.fault)
     }
 
@@ -114,7 +114,7 @@ impl<S: Alter> Store for SqliteStore<S> {
         if let Some(lasting) = self.fault {
             return Err(again(lasting));
         }
-        let found = hub_looks::mail_after(&mut self.conn, self.alloc, supplier, number, limit);
+        let found = hub_reads::mail_after(&mut self.conn, self.alloc, supplier, number, limit);
         settle(found, self.conn.schema(), &mut self.fault)
     }
 
@@ -122,7 +122,7 @@ impl<S: Alter> Store for SqliteStore<S> {
         if let Some(lasting) = self.fault {
             return Err(again(lasting));
         }
-        let found = hub_looks::all_lines(&mut self.conn, self.alloc, supplier);
+        let found = hub_reads::all_lines(&mut self.conn, self.alloc, supplier);
         settle(found, self.conn.schema(), &mut self.fault)
     }
 
@@ -130,7 +130,7 @@ impl<S: Alter> Store for SqliteStore<S> {
         if let Some(lasting) = self.fault {
             return Err(again(lasting));
         }
-        let found = hub_looks::all_pallets(&mut self.conn, self.alloc, supplier);
+        let found = hub_reads::all_pallets(&mut self.conn, self.alloc, supplier);
         settle(found, self.conn.schema(), &mut self.fault)
     }
 
@@ -142,7 +142,7 @@ impl<S: Alter> Store for SqliteStore<S> {
         if let Some(lasting) = self.fault {
             return Err(again(lasting));
         }
-        let found = hub_looks::contents_of(&mut self.conn, self.alloc, supplier, sscc);
+        let found = hub_reads::contents_of(&mut self.conn, self.alloc, supplier, sscc);
         settle(found, self.conn.schema(), &mut self.fault)
     }
 
@@ -154,7 +154,7 @@ impl<S: Alter> Store for SqliteStore<S> {
         if let Some(lasting) = self.fault {
             return Err(again(lasting));
         }
-        let found = hub_looks::receipts_of(&mut self.conn, self.alloc, supplier, sscc);
+        let found = hub_reads::receipts_of(&mut self.conn, self.alloc, supplier, sscc);
         settle(found, self.conn.schema(), &mut self.fault)
     }
 
@@ -162,7 +162,7 @@ impl<S: Alter> Store for SqliteStore<S> {
         if let Some(lasting) = self.fault {
             return Err(again(lasting));
         }
-        let found = hub_looks::used(&mut self.conn, sscc);
+        let found = hub_reads::used(&mut self.conn, sscc);
         settle(found, self.conn.schema(), &mut self.fault)
     }
 

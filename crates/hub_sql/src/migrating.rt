@@ -19,7 +19,7 @@ use crate::returned::Returned;
 use crate::store::SqliteStore;
 use crate::version::Version;
 use hub_founding::{register_changes, rows_beside_stay};
-use hub_looks::fits;
+use hub_reads::fits;
 use hub_register::Register;
 use hub_schema::is_old_schema;
 use hub_store::StoreFault;
@@ -48,12 +48,14 @@ fn fitting<S: Alter + Drop>(
     ensures fails { IfErr result (λ e. IsOfFounding e.1) }
     ensures spared { IfErr result (λ e. SparesConnection S.Store (λ _. ⊥) (state S.Store conn) e.0) }
 {
+    // The contract of this call says whether a transaction is open.
     let _was_idle = conn.is_autocommit();
     if !is_old_schema(conn.schema()) {
         return Err((conn, FoundFault::Store(StoreFault::Disk)));
     }
     match fits(&mut conn, register) {
         Ok(true) => {
+            // The contract of this call says whether a transaction is open.
             let _idle = conn.is_autocommit();
             Ok(conn)
         }
@@ -81,7 +83,9 @@ fn laid_beside<S: Alter + Drop>(
     ensures spared { IfErr result (λ e. SparesConnection S.Store
         (MayBeBeside (traffic_in (state S.Store conn).now.trees) register.now) (state S.Store conn) e.0) }
 {
+    // The contract of this call says whether a transaction is open.
     let _idle = conn.is_autocommit();
+    // The contract of this call says that the register is one.
     let _hub = register.hub();
     let Ok(changes) = register_changes(alloc, register) else {
         return Err((conn, FoundFault::Store(StoreFault::Memory)));

@@ -64,7 +64,9 @@ fn laid<S: Alter + Drop>(
     ensures fails { IfErr result (λ e. (e.1 ≡ StoreFault.Memory) ⊎ (e.1 ≡ StoreFault.Disk)) }
     ensures spared { IfErr result (λ e. SparesConnection S.Store (MayBeBeside empty register.now) (state S.Store conn) e.0) }
 {
+    // The contract of this call says whether a transaction is open.
     let _idle = conn.is_autocommit();
+    // The contract of this call says that the register is one.
     let _hub = register.hub();
     let Ok(changes) = register_changes(alloc, register) else {
         return Err((conn, StoreFault::Memory));

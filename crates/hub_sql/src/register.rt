@@ -17,7 +17,7 @@ pub(crate) fn held_register<S: Alter>(
     ensures { LooksFor (λ t register. IsHeldBy t (Some register)) HoldsNone (state S.Store conn.old) (state S.Store conn.new)
         result }
 {
-    match hub_looks::register(conn, alloc) {
+    match hub_reads::register(conn, alloc) {
         Ok(Some(register)) => Ok(register),
         Ok(None) => Err(StoreFault::Unclean),
         Err(fault) => Err(fault),

@@ -9,7 +9,7 @@ ghost use Rattle.hub_sql.specs.Version.{schema_of, number_of, AreShaped, HoldsHu
 
 use crate::opening::fault_by;
 use crate::version::Version;
-use hub_looks::is_numbered;
+use hub_reads::is_numbered;
 use hub_schema::is_hub_schema;
 use hub_store::StoreFault;
 use sqlite::{Alter, Connection};
@@ -37,12 +37,14 @@ pub(crate) fn of_version<S: Alter + Drop>(
     ensures unclean { IfErr result (λ e. e.1 ≢ StoreFault.Unclean) }
     ensures spared { IfErr result (λ e. SparesConnection S.Store (λ _. ⊥) (state S.Store conn) e.0) }
 {
+    // The contract of this call says whether a transaction is open.
     let _was_idle = conn.is_autocommit();
     if !version.is_of(conn.schema()) {
         return Err((conn, StoreFault::Version));
     }
     match is_numbered(&mut conn, version.number()) {
         Ok(true) => {
+            // The contract of this call says whether a transaction is open.
             let _idle = conn.is_autocommit();
             Ok(conn)
         }
@@ -74,6 +76,7 @@ pub(crate) fn of_hub<S: Alter + Drop>(
     ensures unclean { IfErr result (λ e. e.1 ≢ StoreFault.Unclean) }
     ensures spared { IfErr result (λ e. SparesConnection S.Store (λ _. ⊥) (state S.Store conn) e.0) }
 {
+    // The contract of this call says whether a transaction is open.
     let _was_idle = conn.is_autocommit();
     if !is_hub_schema(conn.schema()) {
         return Err((conn, StoreFault::Version));

@@ -13,11 +13,9 @@ use Rattle.gs1_ids.specs.Gln.{is_gln}
 use Rattle.gs1_ids.specs.Prefix.{is_prefix}
 use Rattle.hub_parties.specs.Key.{is_party_key}
 use Rattle.hub_tables.specs.Cases.{answer_letter, side_letter, kind_letter, arrival_number, truth_number}
+use Rattle.hub_tables.specs.Cases.{every_answer, every_side, every_kind, every_arrival, every_truth}
 use Rattle.hub_tables.specs.Tables.{Tables}
-use Rattle.hub_tables.specs.declared.cases.Answered.TheVariants as answers
 use Rattle.hub_tables.specs.declared.cases.Side.TheVariants as sides
-use Rattle.hub_tables.specs.declared.cases.MailKind.TheVariants as kinds
-use Rattle.hub_tables.specs.declared.cases.Arrival.TheVariants as arrivals
 use Rattle.hub_tables.specs.declared.rows.HubRow.{HubRow}
 use Rattle.hub_tables.specs.declared.rows.KeyRow.{KeyRow}
 use Rattle.hub_tables.specs.declared.rows.PrefixRow.{PrefixRow}
@@ -52,21 +50,19 @@ abbrev pub is_quantity : ℕ → Bool
 is_quantity = is_within 1 greatest
 
 abbrev pub is_answer : ℕ → Bool
-is_answer n =
-    list_any (λ answer. n == answer_letter answer)
-    (answers.Waiting ∷ answers.Accepted ∷ answers.NotAccepted ∷ answers.Changed ∷ [])
+is_answer n = list_any (λ answer. n == answer_letter answer) every_answer
 
 abbrev pub is_side : ℕ → Bool
-is_side n = list_any (λ side. n == side_letter side) (sides.Retailer ∷ sides.Supplier ∷ sides.Cancellation ∷ [])
+is_side n = list_any (λ side. n == side_letter side) every_side
 
 abbrev pub is_kind : ℕ → Bool
-is_kind n = list_any (λ kind. n == kind_letter kind) (kinds.Orders ∷ kinds.Receipt ∷ [])
+is_kind n = list_any (λ kind. n == kind_letter kind) every_kind
 
 abbrev pub is_arrival : ℕ → Bool
-is_arrival n = list_any (λ arrival. n == arrival_number arrival) (arrivals.Announced ∷ arrivals.Received ∷ arrivals.Replaced ∷ [])
+is_arrival n = list_any (λ arrival. n == arrival_number arrival) every_arrival
 
 abbrev pub is_truth : ℕ → Bool
-is_truth n = list_any (λ truth. n == truth_number truth) (true ∷ false ∷ [])
+is_truth n = list_any (λ truth. n == truth_number truth) every_truth
 
 -- a message reference; a cancellation has none
 abbrev pub is_message : ℕ → List ℕ → Bool

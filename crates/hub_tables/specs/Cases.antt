@@ -1,5 +1,6 @@
 -- The numbers that stand in the columns of a row for the cases of an enum.
-use Rattle.std.specs.Prelude.{ℕ, Bool, true, false}
+use Rattle.std.specs.Prelude.{ℕ, ◌<◌, Bool, true, false, List, [], ◌∷◌}
+use Rattle.std.proofs.Common.{arith}
 use Rattle.hub_tables.specs.declared.cases.Answered.{Answered}
 use Rattle.hub_tables.specs.declared.cases.Answered.TheVariants as answers
 use Rattle.hub_tables.specs.declared.cases.Side.{Side}
@@ -37,3 +38,44 @@ arrival_number arrivals.Replaced = 2
 abbrev pub truth_number : Bool → ℕ
 truth_number false = 0
 truth_number true = 1
+
+-- every case of each
+abbrev pub every_answer : List Answered
+every_answer = answers.Waiting ∷ answers.Accepted ∷ answers.NotAccepted ∷ answers.Changed ∷ []
+
+abbrev pub every_side : List Side
+every_side = sides.Retailer ∷ sides.Supplier ∷ sides.Cancellation ∷ []
+
+abbrev pub every_kind : List MailKind
+every_kind = kinds.Orders ∷ kinds.Receipt ∷ []
+
+abbrev pub every_arrival : List Arrival
+every_arrival = arrivals.Announced ∷ arrivals.Received ∷ arrivals.Replaced ∷ []
+
+abbrev pub every_truth : List Bool
+every_truth = true ∷ false ∷ []
+
+-- each number takes one byte
+pub answers_small : (answer : Answered) → answer_letter answer < 256
+answers_small answers.Waiting = omega arith
+answers_small answers.Accepted = omega arith
+answers_small answers.NotAccepted = omega arith
+answers_small answers.Changed = omega arith
+
+pub sides_small : (side : Side) → side_letter side < 256
+sides_small sides.Retailer = omega arith
+sides_small sides.Supplier = omega arith
+sides_small sides.Cancellation = omega arith
+
+pub kinds_small : (kind : MailKind) → kind_letter kind < 256
+kinds_small kinds.Orders = omega arith
+kinds_small kinds.Receipt = omega arith
+
+pub arrivals_small : (arrival : Arrival) → arrival_number arrival < 256
+arrivals_small arrivals.Announced = omega arith
+arrivals_small arrivals.Received = omega arith
+arrivals_small arrivals.Replaced = omega arith
+
+pub truths_small : (truth : Bool) → truth_number truth < 256
+truths_small false = omega arith
+truths_small true = omega arith

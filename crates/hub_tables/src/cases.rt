@@ -15,9 +15,31 @@ pub enum Answered {
 }
 
 impl Case for Answered {
-    ghost use Rattle.hub_tables.specs.Cases.{answer_letter};
+    ghost use Rattle.hub_tables.specs.Cases.{answer_letter, every_answer, answers_small};
 
     ghost number = { answer_letter };
+
+    ghost every = { every_answer };
+
+    ghost small = { answers_small };
+
+    fn code(self) -> u8 {
+        match self {
+            Answered::Waiting => b'W',
+            Answered::Accepted => b'A',
+            Answered::NotAccepted => b'N',
+            Answered::Changed => b'C',
+        }
+    }
+
+    fn all() -> &'static [Self] {
+        &[
+            Answered::Waiting,
+            Answered::Accepted,
+            Answered::NotAccepted,
+            Answered::Changed,
+        ]
+    }
 }
 
 /// Whose message or request is remembered.
@@ -32,9 +54,25 @@ pub enum Side {
 }
 
 impl Case for Side {
-    ghost use Rattle.hub_tables.specs.Cases.{side_letter};
+    ghost use Rattle.hub_tables.specs.Cases.{side_letter, every_side, sides_small};
 
     ghost number = { side_letter };
+
+    ghost every = { every_side };
+
+    ghost small = { sides_small };
+
+    fn code(self) -> u8 {
+        match self {
+            Side::Retailer => b'R',
+            Side::Supplier => b'S',
+            Side::Cancellation => b'C',
+        }
+    }
+
+    fn all() -> &'static [Self] {
+        &[Side::Retailer, Side::Supplier, Side::Cancellation]
+    }
 }
 
 /// The type of a message in a mailbox.
@@ -47,9 +85,24 @@ pub enum MailKind {
 }
 
 impl Case for MailKind {
-    ghost use Rattle.hub_tables.specs.Cases.{kind_letter};
+    ghost use Rattle.hub_tables.specs.Cases.{kind_letter, every_kind, kinds_small};
 
     ghost number = { kind_letter };
+
+    ghost every = { every_kind };
+
+    ghost small = { kinds_small };
+
+    fn code(self) -> u8 {
+        match self {
+            MailKind::Orders => b'O',
+            MailKind::Receipt => b'R',
+        }
+    }
+
+    fn all() -> &'static [Self] {
+        &[MailKind::Orders, MailKind::Receipt]
+    }
 }
 
 /// How far a pallet has come.
@@ -64,13 +117,41 @@ pub enum Arrival {
 }
 
 impl Case for Arrival {
-    ghost use Rattle.hub_tables.specs.Cases.{arrival_number};
+    ghost use Rattle.hub_tables.specs.Cases.{arrival_number, every_arrival, arrivals_small};
 
     ghost number = { arrival_number };
+
+    ghost every = { every_arrival };
+
+    ghost small = { arrivals_small };
+
+    fn code(self) -> u8 {
+        match self {
+            Arrival::Announced => 0,
+            Arrival::Received => 1,
+            Arrival::Replaced => 2,
+        }
+    }
+
+    fn all() -> &'static [Self] {
+        &[Arrival::Announced, Arrival::Received, Arrival::Replaced]
+    }
 }
 
 impl Case for bool {
-    ghost use Rattle.hub_tables.specs.Cases.{truth_number};
+    ghost use Rattle.hub_tables.specs.Cases.{truth_number, every_truth, truths_small};
 
     ghost number = { truth_number };
+
+    ghost every = { every_truth };
+
+    ghost small = { truths_small };
+
+    fn code(self) -> u8 {
+        if self { 1 } else { 0 }
+    }
+
+    fn all() -> &'static [Self] {
+        &[true, false]
+    }
 }

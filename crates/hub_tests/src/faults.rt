@@ -11,14 +11,14 @@ ghost use Rattle.hub_store.specs.declared.fault.StoreFault.TheVariants.{Memory, 
 use crate::lists::lists;
 use edi_base::{MemoryFault, copied};
 use gs1_ids::Gln;
-use hub_list::VecStore;
 use hub_store::{LastingFault, Store, StoreFault};
 use hub_tables::{Change, OrderRow};
-use hub_trial::TrialStore;
 use std::alloc::Global;
 use std::process::Abort;
 use std::slice;
 use std::test::Fail;
+use trial_lists::VecStore;
+use trial_store::TrialStore;
 
 // What is answered first, which fault is for good then, and what is answered again.
 type Answers = (

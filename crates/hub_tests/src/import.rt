@@ -6,10 +6,10 @@ use edi_envelope::Moment;
 use gs1_ids::Gln;
 use hub_commands::{Files, NamedFile, NextFile, import_run};
 use hub_core::{Hub, Input, Request};
-use hub_list::VecStore;
 use std::alloc::Global;
 use std::io;
 use std::test::Fail;
+use trial_lists::VecStore;
 
 const ORDERS: &[u8] =
     b"UNA:+.? 'UNB+UNOC:3+5412345000013:14+5412345000006:14+250603:0915+1001'UNH+1+ORDERS:D:01B:UN:EAN010'\

@@ -6,12 +6,12 @@ use edi_base::MemoryFault;
 use edi_envelope::Moment;
 use gs1_ids::{Gln, Prefix};
 use hub_core::{Hub, Join, Reply, Request, Role};
-use hub_list::VecStore;
 use hub_store::{Store, StoreFault};
 use hub_tables::{Change, PrefixRow};
-use hub_trial::TrialStore;
 use std::alloc::{AllocError, Global};
 use std::test::Fail;
+use trial_lists::VecStore;
+use trial_store::TrialStore;
 
 // Who joins, with which key and which prefix.
 type Joining = (&'static [u8], &'static [u8], &'static [u8]);

@@ -1,9 +1,9 @@
 //! Lists with the rows of a register of one supplier.
 use edi_base::MemoryFault;
-use hub_list::VecStore;
 use hub_register::{Register, RegisterFault};
 use std::alloc::Global;
 use std::test::Fail;
+use trial_lists::VecStore;
 
 const OF_ONE: &str = "hub = \"5412345000006\"
 

@@ -2,16 +2,16 @@ use crate::lists::lists;
 use edi_base::{Items, MemoryFault, copied};
 use edi_envelope::Moment;
 use gs1_ids::{Gln, Gtin, Sscc};
-use hub_list::VecStore;
 use hub_store::{LastingFault, MailHead, Store, StoreFault};
 use hub_tables::{
     AdviceRow, Answered, Arrival, Change, Column, ContentRow, LineRow, MailKind, MailRow, OrderRow,
     PalletRow, ReceiptRow, RememberedRow, Side,
 };
-use hub_trial::TrialStore;
 use std::alloc::Global;
 use std::process::Abort;
 use std::test::Fail;
+use trial_lists::VecStore;
+use trial_store::TrialStore;
 
 const ALPHA: &[u8] = b"4012345500004";
 

@@ -13,9 +13,9 @@ use Rattle.hub_tables.specs.Rows.{same}
 use Rattle.hub_tables.specs.declared.rows.ContentRow.{ContentRow}
 use Rattle.hub_tables.specs.declared.rows.LineRow.{LineRow}
 use Rattle.hub_tables.proofs.Lists.{all_weaker}
-use Rattle.hub_lines.specs.Book.{place_cmp}
-use Rattle.hub_lines.proofs.ByNumber.{is_eq-nat_cmp, find-filter}
-use Rattle.hub_lines.proofs.InOrder.{first_at, prefix_len-map}
+use Rattle.hub_order_lines.specs.Book.{place_cmp}
+use Rattle.hub_order_lines.proofs.ByNumber.{is_eq-nat_cmp, find-filter}
+use Rattle.hub_order_lines.proofs.InOrder.{first_at, prefix_len-map}
 use Rattle.hub_texts.specs.Articles.{precedes_named, line_of_content}
 
 -- an order number and a line number

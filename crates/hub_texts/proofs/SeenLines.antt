@@ -10,7 +10,7 @@ use Rattle.hub_tables.specs.Rows.{same, line_cmp}
 use Rattle.hub_tables.specs.Tables.{Tables, view}
 use Rattle.hub_tables.specs.declared.rows.LineRow.{LineRow}
 use Rattle.hub_tables.proofs.Lists.{all_passes, same_is}
-use Rattle.hub_lines.specs.Book.{place_cmp}
+use Rattle.hub_order_lines.specs.Book.{place_cmp}
 use Rattle.hub_rules.specs.Sound.{Sound}
 use Rattle.hub_rules.proofs.Rising.{view_rises}
 

@@ -3,7 +3,7 @@ ghost use Rattle.std.specs.Prelude.{◌≡◌, ◌==◌, ◌&&◌};
 ghost use Rattle.std.specs.List.{prefix_len};
 ghost use Rattle.hub_tables.specs.Rows.{same};
 ghost use Rattle.hub_parties.specs.KeyOrder.{Rises};
-ghost use Rattle.hub_lines.specs.Book.{place_cmp};
+ghost use Rattle.hub_order_lines.specs.Book.{place_cmp};
 ghost use Rattle.hub_texts.specs.Articles as spec;
 
 use gs1_ids::Gtin;

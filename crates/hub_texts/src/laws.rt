@@ -5,7 +5,7 @@ ghost use Rattle.std.specs.List.{AllByRecursion};
 ghost use Rattle.hub_parties.specs.declared.row.SupplierRow.{SupplierRow};
 ghost use Rattle.hub_parties.specs.KeyOrder.{Rises};
 ghost use Rattle.hub_tables.specs.Tables.{Tables, view};
-ghost use Rattle.hub_lines.specs.Book.{place_cmp};
+ghost use Rattle.hub_order_lines.specs.Book.{place_cmp};
 ghost use Rattle.hub_rules.specs.Sound.{Balanced, Sound};
 ghost use Rattle.hub_law.specs.CancelText.{cancel_text};
 ghost use Rattle.hub_rules.specs.declared.cancel.Cancel.{Cancel};

@@ -1,7 +1,6 @@
 //! The lines of orders in the status report.
 ghost use Rattle.std.specs.Prelude.{◌≡◌, ◌++◌, IfOk, OnOk};
 ghost use Rattle.std.specs.List.{AllByRecursion, flat_map};
-ghost use Rattle.hub_tables.specs.Cases as cases;
 ghost use Rattle.hub_tables.specs.Tables.{Tables};
 ghost use Rattle.hub_rules.specs.Sound.{Balanced};
 ghost use Rattle.hub_law.specs.StatusText.{line_text};
@@ -9,19 +8,7 @@ ghost use Rattle.hub_texts.specs.Lines as spec;
 
 use crate::fields::{put_end, put_left, put_next, put_number};
 use edi_base::MemoryFault;
-use hub_tables::{Answered, LineRow};
-
-// The letter of an answer.
-fn answer_letter(answer: Answered) -> u8
-    ensures { result ≡ cases.answer_letter answer }
-{
-    match answer {
-        Answered::Waiting => b'W',
-        Answered::Accepted => b'A',
-        Answered::NotAccepted => b'N',
-        Answered::Changed => b'C',
-    }
-}
+use hub_tables::LineRow;
 
 // What of a line is neither open nor refused nor cancelled.
 fn rest_of(row: &LineRow) -> u32
@@ -41,7 +28,7 @@ fn put_place(out: &mut Vec<u8>, row: &LineRow) -> Result<(), MemoryFault>
     put_left(out, 35, row.number.as_slice())?;
     put_number(out, 6, row.line as u64)?;
     put_next(out, row.gtin.digits())?;
-    put_next(out, &[answer_letter(row.answer.case())])?;
+    put_next(out, &[row.answer.code()])?;
     Ok(())
 }
 

@@ -5,7 +5,7 @@ ghost use Rattle.std.specs.List.{flat_map};
 ghost use Rattle.hub_parties.specs.KeyOrder.{Rises};
 ghost use Rattle.hub_tables.specs.State.{is_announced, contents_of, receipts_of};
 ghost use Rattle.hub_tables.specs.Tables.{Tables};
-ghost use Rattle.hub_lines.specs.Book.{place_cmp};
+ghost use Rattle.hub_order_lines.specs.Book.{place_cmp};
 ghost use Rattle.hub_law.specs.StatusText as law;
 ghost use Rattle.hub_law.specs.Widths.{right};
 ghost use Rattle.hub_texts.specs.Pallets as spec;

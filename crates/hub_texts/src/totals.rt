@@ -3,7 +3,7 @@ ghost use Rattle.std.specs.Prelude.{◌≡◌, ◌+◌, ◌^◌, ◌≤◌, List
 ghost use Rattle.std.specs.BTreeMap.{insert_entry};
 ghost use Rattle.hub_parties.specs.KeyOrder.{bytes_cmp, Rises};
 ghost use Rattle.hub_tables.specs.declared.rows.LineRow.{LineRow};
-ghost use Rattle.hub_lines.specs.Book.{place_cmp};
+ghost use Rattle.hub_order_lines.specs.Book.{place_cmp};
 ghost use Rattle.hub_texts.specs.Totals as spec;
 ghost use Rattle.hub_texts.specs.declared.fault.TextFault.TheVariants.{Memory, Unclean};
 

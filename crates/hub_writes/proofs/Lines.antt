@@ -1,5 +1,5 @@
 -- Lines of orders in SQL.
-use Rattle.std.proofs.Common.{not, ◌≡◌, ◌&&◌, ◌==◌, ◌<◌, ◌^◌, ℕ, pos, Bool, true, false, None, List, [], ◌∷◌, map, drop}
+use Rattle.std.proofs.Common.{◌++◌, not, ◌≡◌, ◌&&◌, ◌==◌, ◌<◌, ◌^◌, ℕ, pos, Bool, true, false, None, List, [], ◌∷◌, map, drop}
 use Rattle.std.proofs.Common.{codes, if◌then◌else◌, Ok, Err, Result, OnOk, IsTrue, refl, sym, ap, ap₂, subst, ◌∙◌}
 use Rattle.std.proofs.Common.{arith}
 use Rattle.std.specs.List.{AllByRecursion}

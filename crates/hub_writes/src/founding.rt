@@ -68,6 +68,7 @@ pub fn found<S: Alter>(conn: &mut Connection<S>, changes: &[Change]) -> Result<(
     ensures { FoundsTo ((state S.Store conn.old).now.schema ≡ no_schema) (all_applied changes.now empty)
         (state S.Store conn.old) (state S.Store conn.new) result }
 {
+    // The contract of this call says whether a transaction is open.
     let _idle = conn.is_autocommit();
     let mut tx = conn.transaction();
     lay(&mut tx, changes)?;
@@ -82,6 +83,7 @@ pub fn migrate<S: Alter>(conn: &mut Connection<S>, changes: &[Change]) -> Result
         (all_applied changes.now (traffic_in (state S.Store conn.old).now.trees)) (state S.Store conn.old)
         (state S.Store conn.new) result }
 {
+    // The contract of this call says whether a transaction is open.
     let _idle = conn.is_autocommit();
     let mut tx = conn.transaction();
     lay_beside(&mut tx, changes)?;
@@ -95,6 +97,7 @@ pub fn renumber<S: Alter>(conn: &mut Connection<S>) -> Result<(), StoreFault>
     ensures { FoundsTo (HasTables (state S.Store conn.old) × HasNumber 2 (state S.Store conn.old).now.trees)
         (tables_in (state S.Store conn.old).now.trees) (state S.Store conn.old) (state S.Store conn.new) result }
 {
+    // The contract of this call says whether a transaction is open.
     let _idle = conn.is_autocommit();
     let mut tx = conn.transaction();
     raise(&mut tx)?;

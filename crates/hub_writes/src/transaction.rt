@@ -14,6 +14,7 @@ pub fn commit<S: Alter>(conn: &mut Connection<S>, changes: &[Change]) -> Result<
     requires { (state S.Store conn.old).in_transaction ≡ false }
     ensures { CommitsTo changes.now (state S.Store conn.old) (state S.Store conn.new) result }
 {
+    // The contract of this call says whether a transaction is open.
     let _idle = conn.is_autocommit();
     let mut tx = conn.transaction();
     apply_all(&mut tx, changes)?;

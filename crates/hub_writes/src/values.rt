@@ -94,12 +94,7 @@ pub(crate) fn answer_value<'a>(answer: &Column<Answered>) -> ValueRef<'a>
     ensures value { owned result ≡ Int (pos answer.now) }
     ensures low { answer.now < 256 }
 {
-    number_value(match answer.case() {
-        Answered::Waiting => 0x57,
-        Answered::Accepted => 0x41,
-        Answered::NotAccepted => 0x4E,
-        Answered::Changed => 0x43,
-    })
+    byte_value(answer.code())
 }
 
 /// The letter of a side.
@@ -107,11 +102,7 @@ pub(crate) fn side_value<'a>(side: &Column<Side>) -> ValueRef<'a>
     ensures value { owned result ≡ Int (pos side.now) }
     ensures low { side.now < 256 }
 {
-    number_value(match side.case() {
-        Side::Retailer => 0x52,
-        Side::Supplier => 0x53,
-        Side::Cancellation => 0x43,
-    })
+    byte_value(side.code())
 }
 
 /// The letter of a mailbox entry's type.
@@ -119,10 +110,7 @@ pub(crate) fn kind_value<'a>(kind: &Column<MailKind>) -> ValueRef<'a>
     ensures value { owned result ≡ Int (pos kind.now) }
     ensures low { kind.now < 256 }
 {
-    number_value(match kind.case() {
-        MailKind::Orders => 0x4F,
-        MailKind::Receipt => 0x52,
-    })
+    byte_value(kind.code())
 }
 
 /// How far a pallet has come.
@@ -130,11 +118,7 @@ pub(crate) fn arrival_value<'a>(arrival: &Column<Arrival>) -> ValueRef<'a>
     ensures value { owned result ≡ Int (pos arrival.now) }
     ensures low { arrival.now < 256 }
 {
-    number_value(match arrival.case() {
-        Arrival::Announced => 0,
-        Arrival::Received => 1,
-        Arrival::Replaced => 2,
-    })
+    byte_value(arrival.code())
 }
 
 /// Yes or no.
@@ -142,5 +126,5 @@ pub(crate) fn truth_value<'a>(truth: &Column<bool>) -> ValueRef<'a>
     ensures value { owned result ≡ Int (pos truth.now) }
     ensures low { truth.now < 256 }
 {
-    number_value(if truth.case() { 1 } else { 0 })
+    byte_value(truth.code())
 }

@@ -1,5 +1,5 @@
 use crate::rising::{ITEM, Line, OTHER_ITEM, gtin, rising};
-use hub_lines::Book;
+use hub_order_lines::Book;
 use hub_tables::Answered;
 use std::alloc::Global;
 use std::test::Fail;

@@ -2,7 +2,7 @@
 
 use edi_base::{Items, MemoryFault, copied};
 use gs1_ids::{Gln, Gtin};
-use hub_lines::KnownLines;
+use hub_order_lines::KnownLines;
 use hub_tables::{Answered, Column, LineRow};
 use std::alloc::Global;
 use std::test::Fail;

@@ -1,7 +1,7 @@
 use Rattle.hub_commands.specs.Files.{HasFailed}
 use Rattle.std.proofs.Common.{◌≡◌, ℕ, List, refl, ap, inr, string_bytes}
 use Rattle.hub_core.specs.Steps.{input_of}
-use Rattle.hub_law.specs.declared.request.Request.TheVariants.{Upload}
+use Rattle.hub_requests.specs.declared.request.Request.TheVariants.{Upload}
 use Rattle.hub_commands.specs.Import.{Answered, Unprinted, file_line}
 use Rattle.hub_commands.proofs.OneFile.{is_called, bytes_of, of_read, did_upload, of_fault, of_opened, fault_given, of_unread, nothing_done}
 use Rattle.hub_commands.proofs.OneFile.{ended, answered, unread, lost_at_once}

@@ -1,7 +1,7 @@
 use Rattle.hub_commands.specs.Files.{HasFailed}
 use Rattle.std.proofs.Common.{ℕ, List, [], ◌∷◌, ◌++◌, None, refl, ◌∙◌, inl, inr}
 use Rattle.hub_core.specs.Steps.{input_of}
-use Rattle.hub_law.specs.declared.request.Request.TheVariants.{Upload}
+use Rattle.hub_requests.specs.declared.request.Request.TheVariants.{Upload}
 use Rattle.hub_commands.specs.Import.{NoMemory}
 use Rattle.hub_commands.proofs.OneFile.{lost_at_once}
 use Rattle.hub_commands.proofs.Output.{written_or_lost}

@@ -1,7 +1,7 @@
 use Rattle.hub_commands.specs.Files.{HasFailed}
 use Rattle.std.proofs.Common.{◌≡◌}
 use Rattle.hub_core.specs.Steps.{input_of}
-use Rattle.hub_law.specs.declared.request.Request.TheVariants.{Upload}
+use Rattle.hub_requests.specs.declared.request.Request.TheVariants.{Upload}
 use Rattle.hub_commands.proofs.Running.{HoldsTo, RunsTo}
 use Rattle.hub_commands.proofs.SoFar.{SoFar}
 use Rattle.hub_commands.proofs.import.import_run.Given as goal

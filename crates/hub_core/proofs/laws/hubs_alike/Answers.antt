@@ -1,7 +1,7 @@
 use Rattle.std.proofs.Common.{List, length, slice_get, sym, ap, ◌∙◌}
 use Rattle.hub_tables.specs.Tables.{Tables, view}
 use Rattle.hub_law.specs.Machine.{replies_to, shared_run}
-use Rattle.hub_law.specs.declared.reply.Reply.{Reply}
+use Rattle.hub_requests.specs.declared.reply.Reply.{Reply}
 use Rattle.hub_core.proofs.laws.hubs_alike.Goals as goal
 
 pub returns-clause-seen : goal.returns-clause-seen

@@ -4,7 +4,7 @@ use Rattle.hub_tables.specs.Tables.{Tables}
 use Rattle.hub_law.specs.Machine.{shared_run}
 use Rattle.hub_law.specs.Mark.{Whole}
 use Rattle.hub_law.specs.Told.{Repeated}
-use Rattle.hub_law.specs.declared.reply.Reply.{Reply}
+use Rattle.hub_requests.specs.declared.reply.Reply.{Reply}
 use Rattle.hub_core.specs.Laws.{TellsOf}
 use Rattle.hub_core.proofs.Again.{reply_at, tells}
 use Rattle.hub_core.proofs.laws.repeated_by_hubs.Goals as goal

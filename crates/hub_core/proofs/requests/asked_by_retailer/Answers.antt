@@ -7,7 +7,7 @@ use Rattle.hub_parties.specs.Rows.{supplier_row}
 use Rattle.hub_tables.specs.Tables.{view}
 use Rattle.hub_law.specs.Replies.{done}
 use Rattle.hub_law.specs.StatusText.{status_text}
-use Rattle.hub_law.specs.declared.request.Request.TheVariants.{StatusOf, Cancel, Join}
+use Rattle.hub_requests.specs.declared.request.Request.TheVariants.{StatusOf, Cancel, Join}
 use Rattle.hub_law.specs.Mark.{Whole}
 use Rattle.hub_law.specs.Requests.{answered, cancel_named, joined}
 use Rattle.hub_core.proofs.Asking.{by_look, by_act, reported}

@@ -2,8 +2,8 @@ use Rattle.std.proofs.Common.{◌≡◌, IfOk, refl, subst}
 use Rattle.hub_tables.specs.State.{entry_at}
 use Rattle.hub_tables.specs.Tables.{view}
 use Rattle.hub_law.specs.Replies.{entry_reply}
-use Rattle.hub_law.specs.declared.reply.Reply.{Reply}
-use Rattle.hub_law.specs.declared.request.Request.TheVariants.{MailItem}
+use Rattle.hub_requests.specs.declared.reply.Reply.{Reply}
+use Rattle.hub_requests.specs.declared.request.Request.TheVariants.{MailItem}
 use Rattle.hub_core.specs.Callers.{request_of}
 use Rattle.hub_core.specs.declared.caller.Caller.TheVariants.{Supplier}
 use Rattle.hub_core.proofs.Asking.{by_look}

@@ -1,5 +1,5 @@
 use Rattle.std.proofs.Common.{sym, ◌∙◌}
-use Rattle.hub_law.specs.declared.request.Request.TheVariants.{Upload}
+use Rattle.hub_requests.specs.declared.request.Request.TheVariants.{Upload}
 use Rattle.hub_core.specs.Opened as spec
 use Rattle.hub_core.specs.Steps.{input_of}
 use Rattle.hub_core.proofs.Callers.{asked_as, opened_asked}

@@ -1,10 +1,10 @@
 use Rattle.std.proofs.Common.{◌≡◌, ◌+◌, refl, List, [], ◌∷◌, ◌++◌, take, drop, length, length-append, arith, subst, sym, ap, ◌∙◌}
 use Rattle.std.proofs.lemmas.Grind.{common_steps}
 use Rattle.std.proofs.lemmas.List.{drop_more}
-use Rattle.hub_law.specs.declared.reply.Reply.{Reply}
-use Rattle.hub_law.specs.declared.request.Input.{Input}
+use Rattle.hub_requests.specs.declared.reply.Reply.{Reply}
+use Rattle.hub_requests.specs.declared.request.Input.{Input}
 use Rattle.hub_tables.specs.Register.{suppliers_of}
-use Rattle.hub_acts.proofs.Joins.{keeps_all, keeps_on}
+use Rattle.hub_transactions.proofs.Joins.{keeps_all, keeps_on}
 use Rattle.hub_core.specs.Broken.{Breaks, RunBreaks, does_input}
 use Rattle.hub_core.specs.Steps.{IsNoJoin, Stepped, Ran, input_of}
 use Rattle.hub_core.proofs.Breaking.{run_more, run_none, moved, moved_one}

@@ -1,7 +1,7 @@
 use Rattle.std.proofs.Common.{◌≡◌, ◌≤◌, take, length, vec_len, vec_capacity}
 use Rattle.std.specs.List.{AllByRecursion}
-use Rattle.hub_law.specs.declared.request.Input.{Input}
-use Rattle.hub_acts.specs.Joins.{KeepsRows}
+use Rattle.hub_requests.specs.declared.request.Input.{Input}
+use Rattle.hub_transactions.specs.Joins.{KeepsRows}
 use Rattle.hub_core.specs.Broken.{RunBreaks}
 use Rattle.hub_core.specs.Steps.{IsNoJoin, SoundWith, Ran}
 use Rattle.hub_core.proofs.step.run.Given as goal

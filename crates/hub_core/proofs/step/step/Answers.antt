@@ -1,12 +1,12 @@
 use Rattle.std.proofs.Common.{inl, inr, refl, sym, ap, ◌∙◌}
 use Rattle.hub_tables.specs.Register.{register_of, suppliers_of}
 use Rattle.hub_tables.specs.Tables.{Tables}
-use Rattle.hub_law.specs.declared.reply.Reply.{Reply}
+use Rattle.hub_requests.specs.declared.reply.Reply.{Reply}
 use Rattle.hub_core.proofs.Keeping.{register_kept, join_or_none, join_stopped, join_replied, rows_kept}
 use Rattle.hub_law.specs.Replies.{reply}
-use Rattle.hub_law.specs.declared.reply.Outcome.TheVariants.{Stopped}
+use Rattle.hub_requests.specs.declared.reply.Outcome.TheVariants.{Stopped}
 use Rattle.hub_core.specs.Steps.{input_of}
-use Rattle.hub_acts.proofs.Joins.{keeps_all}
+use Rattle.hub_transactions.proofs.Joins.{keeps_all}
 use Rattle.hub_core.proofs.Steps.{replied, unanswered, asked_with}
 use Rattle.hub_core.specs.Broken.{does_input}
 use Rattle.hub_core.proofs.Breaking.{replied_breaks}

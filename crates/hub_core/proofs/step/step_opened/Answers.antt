@@ -3,9 +3,9 @@ use Rattle.hub_tables.specs.Register.{register_of, suppliers_of}
 use Rattle.hub_tables.specs.Tables.{Tables}
 use Rattle.hub_core.proofs.Keeping.{register_kept, no_join}
 use Rattle.hub_law.specs.Replies.{reply}
-use Rattle.hub_law.specs.declared.reply.Outcome.TheVariants.{Stopped}
-use Rattle.hub_law.specs.declared.reply.Reply.{Reply}
-use Rattle.hub_law.specs.declared.request.Request.TheVariants.{Upload}
+use Rattle.hub_requests.specs.declared.reply.Outcome.TheVariants.{Stopped}
+use Rattle.hub_requests.specs.declared.reply.Reply.{Reply}
+use Rattle.hub_requests.specs.declared.request.Request.TheVariants.{Upload}
 use Rattle.hub_core.specs.Steps.{input_of}
 use Rattle.hub_core.proofs.Steps.{replied, unanswered, asked_with, where_err}
 use Rattle.hub_core.specs.Broken.{does_input}

@@ -8,9 +8,9 @@ use Rattle.hub_law.specs.Mark.{StoppedAfter}
 use Rattle.hub_law.specs.Requests.{uploaded}
 use Rattle.hub_law.specs.Replies.{stopped_line, told_words}
 use Rattle.hub_law.specs.Widths.{line}
-use Rattle.hub_law.specs.declared.reply.Outcome.TheVariants.{Stopped}
+use Rattle.hub_requests.specs.declared.reply.Outcome.TheVariants.{Stopped}
 use Rattle.hub_texts.specs.Decision.{told_of}
-use Rattle.hub_acts.specs.Acts.{OfAny}
+use Rattle.hub_transactions.specs.Acts.{OfAny}
 use Rattle.hub_core.specs.Callers.{delivered}
 use Rattle.hub_core.specs.Steps.{OneMore}
 use Rattle.hub_core.specs.Uploads.{DoneSoFar}

@@ -11,7 +11,7 @@ use Rattle.hub_http.proofs.answer.answer_head.Goals as goal
 pub answer_asked-requires : goal.answer_asked-requires
 answer_asked-requires g c =
     subst (λ (r : Result Asking Refusal). size_asked (asked_or_refused r) ≤ longest_body) c.in-Ok.is
-    (subst (λ (r : Result Asked Refusal). size_asked r ≤ longest_body) (sym c.judge.ensures)
+    (subst (λ (r : Result Asked Refusal). size_asked r ≤ longest_body) (sym c.asking_of.ensures)
     (asked_short c.args.hub.now.0 c.args.head.now))
 
 pub returns-in-Ok-clause-answers : goal.returns-in-Ok-clause-answers
@@ -20,7 +20,7 @@ returns-in-Ok-clause-answers g c =
     (c.answer_asked.new.hub ≡ c.args.hub.now) c.args.hub.now.0 (g.R.Source.remaining c.args.reader.now) c.args.head.now
     (asking_as c.in-Ok.asking) c.rest.result.now c.answer_asked.result
     (subst (λ (r : Result Asking Refusal). asked_or_refused r ≡ asked_by c.args.hub.now.0 c.args.head.now) c.in-Ok.is
-    c.judge.ensures) c.rest.ensures c.answer_asked.ensures.answers
+    c.asking_of.ensures) c.rest.ensures c.answer_asked.ensures.answers
 
 pub returns-in-Err-clause-answers_one : goal.returns-in-Err-clause-answers_one
 returns-in-Err-clause-answers_one g c = (Err c.in-Err.refusal, inl (refl, c.refused.ensures))

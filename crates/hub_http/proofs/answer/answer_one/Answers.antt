@@ -1,5 +1,5 @@
 use Rattle.std.proofs.Common.{◌≡◌, ◌+◌, Err, inl, refl, arith}
-use Rattle.http_head.specs.Head.{longest_head}
+use Rattle.http_messages.specs.Head.{longest_head}
 use Rattle.hub_http.specs.Answer.{Steps, size_asked}
 use Rattle.hub_http.specs.Asked.{asked_by, longest_body}
 use Rattle.hub_http.specs.declared.refusal.Refusal.TheVariants.{BadRequest}

@@ -3,7 +3,7 @@ use Rattle.std.specs.Prelude.{IfSome}
 use Rattle.edi_envelope.specs.Opened.{opened, Opens}
 use Rattle.edi_envelope.specs.declared.fault.OpenFault.{OpenFault}
 use Rattle.edi_envelope.specs.declared.interchange.Interchange.{Interchange}
-use Rattle.http_head.specs.Body.{body_in}
+use Rattle.http_messages.specs.Body.{body_in}
 use Rattle.hub_http.specs.Answer.{Steps}
 use Rattle.hub_http.specs.Wording.{asking_as}
 use Rattle.hub_http.specs.Upload.{IsUpload}

@@ -1,7 +1,7 @@
 use Rattle.std.proofs.Common.{◌≡◌, ◌++◌, map, drop}
 use Rattle.std.specs.List.{AllByRecursion}
 use Rattle.hub_tables.specs.declared.change.Change.TheVariants.{SetLine}
-use Rattle.hub_lines.specs.Book.{IsCovered}
+use Rattle.hub_order_lines.specs.Book.{IsCovered}
 use Rattle.hub_judges.specs.FromFacts.{after_answer, waiting_of}
 use Rattle.hub_judges.proofs.answers.answer_all.Given as goal
 

@@ -1,8 +1,8 @@
 use Rattle.std.proofs.Common.{◌≡◌, ◌+◌, ◌∷◌, List, drop, sym, subst, ap, ◌∙◌}
 use Rattle.std.specs.List.{AllByRecursion}
 use Rattle.std.proofs.lemmas.List.{drop_more}
-use Rattle.hub_lines.specs.Book.{with_row, answered_row, IsCovered}
-use Rattle.hub_lines.specs.declared.facts.LineFacts.{LineFacts}
+use Rattle.hub_order_lines.specs.Book.{with_row, answered_row, IsCovered}
+use Rattle.hub_order_lines.specs.declared.facts.LineFacts.{LineFacts}
 use Rattle.hub_rules.specs.Judging.{joined}
 use Rattle.hub_judges.specs.FromFacts.{answers_from}
 use Rattle.hub_judges.proofs.Answering.{answered_next, row_is_set, covered_after}

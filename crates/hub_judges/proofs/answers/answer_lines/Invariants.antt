@@ -1,6 +1,6 @@
 use Rattle.std.proofs.Common.{◌≡◌, drop}
 use Rattle.std.specs.List.{AllByRecursion}
-use Rattle.hub_lines.specs.Book.{IsCovered}
+use Rattle.hub_order_lines.specs.Book.{IsCovered}
 use Rattle.hub_rules.specs.Judging.{joined}
 use Rattle.hub_judges.specs.FromFacts.{answers_from}
 use Rattle.hub_judges.proofs.answers.answer_lines.Given as goal

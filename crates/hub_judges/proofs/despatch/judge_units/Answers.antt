@@ -1,6 +1,6 @@
 use Rattle.std.proofs.Common.{◌≡◌, ◌+◌, List, drop, sym, subst, ◌∙◌}
 use Rattle.std.specs.Option.{IfSome, IfNone}
-use Rattle.hub_lines.specs.declared.facts.LineFacts.{LineFacts}
+use Rattle.hub_order_lines.specs.declared.facts.LineFacts.{LineFacts}
 use Rattle.hub_rules.specs.Judging.{joined}
 use Rattle.hub_rules.specs.declared.verdict.Verdict.{Verdict}
 use Rattle.hub_rules.specs.declared.verdict.Verdict.TheVariants.{Refuse}

@@ -3,8 +3,8 @@ use Rattle.std.proofs.lemmas.List.{drop_more}
 use Rattle.edi_base.specs.Seen.{is_among}
 use Rattle.hub_tables.specs.declared.change.Change.{Change}
 use Rattle.hub_tables.specs.declared.change.Change.TheVariants.{AddContent}
-use Rattle.hub_lines.specs.Book.{facts_of, facts_among, with_row, answered_row}
-use Rattle.hub_lines.specs.declared.facts.LineFacts.{LineFacts}
+use Rattle.hub_order_lines.specs.Book.{facts_of, facts_among, with_row, answered_row}
+use Rattle.hub_order_lines.specs.declared.facts.LineFacts.{LineFacts}
 use Rattle.hub_rules.specs.Judging.{joined}
 use Rattle.hub_judges.specs.FromFacts.{lines_from}
 use Rattle.hub_judges.proofs.Despatched.{despatched_next}

@@ -1,8 +1,8 @@
 use Rattle.std.proofs.Common.{◌≡◌, ℕ, List, [], ◌++◌, codes, decimal, ap, subst, ◌∙◌, append_assoc}
 use Rattle.std.proofs.lemmas.List.{append-nil}
 use Rattle.edi_base.proofs.Going.{puts_cut}
-use Rattle.http_response.proofs.Chain.{goes_then, puts_then, stops, then_stops, writes}
-use Rattle.http_response.specs.Text.{Writes}
+use Rattle.http_messages.proofs.Chain.{goes_then, puts_then, stops, then_stops, writes}
+use Rattle.http_messages.specs.Response.{Writes}
 use Rattle.hub_serve.specs.Line.{end_of, line_of}
 use Rattle.hub_serve.specs.declared.line.Ending.{Ending}
 use Rattle.hub_serve.proofs.line.print_line.Goals as goal

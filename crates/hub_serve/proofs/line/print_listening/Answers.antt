@@ -1,7 +1,7 @@
 use Rattle.std.proofs.Common.{ℕ, List, [], subst}
 use Rattle.std.proofs.lemmas.List.{append-nil}
-use Rattle.http_response.proofs.Chain.{puts_then, writes}
-use Rattle.http_response.specs.Text.{Writes}
+use Rattle.http_messages.proofs.Chain.{puts_then, writes}
+use Rattle.http_messages.specs.Response.{Writes}
 use Rattle.hub_serve.specs.Line.{port_line}
 use Rattle.hub_serve.proofs.line.print_listening.Goals as goal
 

@@ -1,6 +1,6 @@
 use Rattle.std.proofs.Common.{◌++◌, decimal}
 use Rattle.edi_base.proofs.Going.{puts_cut}
-use Rattle.http_response.proofs.Chain.{puts_then, stops, then_stops}
+use Rattle.http_messages.proofs.Chain.{puts_then, stops, then_stops}
 use Rattle.hub_serve.proofs.line.put_number.Goals as goal
 
 pub returns-in_err-put-clause-bytes : goal.returns-in_err-put-clause-bytes

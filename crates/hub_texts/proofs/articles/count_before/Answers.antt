@@ -1,6 +1,6 @@
 use Rattle.std.proofs.Common.{rules, of_calls}
 use Rattle.std.proofs.lemmas.Fn.{always_returns_same}
-use Rattle.hub_lines.proofs.InOrder.{from_point, parted}
+use Rattle.hub_order_lines.proofs.InOrder.{from_point, parted}
 use Rattle.hub_texts.specs.Articles.{precedes_named}
 use Rattle.hub_texts.proofs.NamedLines.{places_total, place_of, named_place, in_order}
 use Rattle.hub_texts.proofs.articles.count_before.Goals as goal

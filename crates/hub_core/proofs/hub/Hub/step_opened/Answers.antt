@@ -1,5 +1,5 @@
 use Rattle.std.proofs.Common.{subst, sym}
-use Rattle.hub_law.specs.declared.request.Request.TheVariants.{Upload}
+use Rattle.hub_requests.specs.declared.request.Request.TheVariants.{Upload}
 use Rattle.hub_core.specs.Broken.{Breaks, does_input}
 use Rattle.hub_core.specs.Steps.{SoundWith, input_of}
 use Rattle.hub_core.proofs.hub.Hub.step_opened.Goals as goal

@@ -1,0 +1,4 @@
+pub mod Body
+pub mod Fields
+pub mod Head
+pub mod Response

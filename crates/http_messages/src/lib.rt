@@ -1,0 +1,14 @@
+//! The messages of HTTP/1.1 (RFC 9112): the head of a request and the body behind it, read from a source, and a response,
+//! written to a sink.
+#![tactic(auto)]
+
+mod body;
+mod fields;
+mod head;
+mod more;
+mod response;
+
+pub use body::read_body;
+pub use fields::Values;
+pub use head::{Head, HeadFault, LONGEST_HEAD, read_head};
+pub use response::write_response;

@@ -1,0 +1,44 @@
+-- What `check` tells of the text of a register, and `init` of a founding.
+use Rattle.std.specs.Prelude.{ℕ, ◌≤◌, List, ◌++◌, length, codes, IsUtf8, Result, Ok, Err}
+use Rattle.std.specs.Fmt.{decimal}
+use Rattle.edi_base.specs.declared.source.ReadFault.{ReadFault}
+use Rattle.edi_base.specs.declared.source.ReadFault.TheVariants as read
+use Rattle.edi_segments.specs.Spelling.{text_limit}
+use Rattle.hub_commands.specs.declared.check.TextFault.{TextFault}
+use Rattle.hub_commands.specs.declared.check.TextFault.TheVariants.{File, Memory}
+use Rattle.hub_parties.specs.Rows.{RegisterRows}
+use Rattle.hub_register.specs.Text.{fault_text}
+use Rattle.hub_register.specs.declared.fault.RegisterFault.{RegisterFault}
+
+-- the line of a register, by its number of suppliers
+abbrev pub ok_line : ℕ → List ℕ
+ok_line count = codes "ok " ++ (decimal count ++ codes " suppliers\n")
+
+-- the line of a fault, by its name
+abbrev pub fault_line : List ℕ → List ℕ
+fault_line fault = codes "fault " ++ (fault ++ codes "\n")
+
+-- the line, by the register or the fault of the text
+abbrev pub verdict_line : Result RegisterRows RegisterFault → List ℕ
+verdict_line (Ok rows) = ok_line (length rows.suppliers)
+verdict_line (Err fault) = fault_line (fault_text fault)
+
+-- the exit status
+abbrev pub verdict_status : Result RegisterRows RegisterFault → ℕ
+verdict_status (Ok rows) = 0
+verdict_status (Err fault) = 1
+
+-- bytes that are the text of a register: it is no longer than that of an interchange
+pub record IsRegisterText (bytes : List ℕ) : Type 0 where
+  pub fits : length bytes ≤ text_limit
+  pub utf8 : IsUtf8 bytes
+
+-- what a failed read of a text is reported as
+abbrev pub told_read_fault : ReadFault → TextFault
+told_read_fault read.Read = File
+told_read_fault read.Memory = Memory
+
+-- what is printed where a text was not read
+abbrev pub text_fault_line : TextFault → List ℕ
+text_fault_line File = codes "file"
+text_fault_line Memory = codes "memory"

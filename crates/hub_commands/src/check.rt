@@ -1,0 +1,175 @@
+//! `edihub check`: what the text of a register is.
+
+ghost use Rattle.std.specs.Prelude.{◌≡◌, ◌≢◌, ◌⊎◌, Ok, Err, true, codes, string_bytes, IfOk, IfSome};
+ghost use Rattle.std.specs.Io.KnownBytes.{Appends, Keeps};
+ghost use Rattle.edi_base.specs.Buffer.{AppendsFront};
+ghost use Rattle.edi_base.specs.Source.{TakesAtMost};
+ghost use Rattle.hub_commands.specs.Check.{IsRegisterText, fault_line, verdict_line, verdict_status};
+ghost use Rattle.edi_relay.specs.Run.{read_limit};
+ghost use Rattle.edi_relay.specs.Exit.{Tells};
+ghost use Rattle.hub_register.specs.Register.{register_of};
+
+use edi_base::exit::{DONE, FAILED, REFUSED};
+use edi_relay::{READ_LIMIT, tell};
+use edi_tokens::{MemoryFault, ReadFault, Sink, Source, TEXT_LIMIT, read_to_limit, write_bytes};
+use hub_register::{Register, RegisterFault};
+use std::alloc::{AllocError, Global};
+use std::error::Error;
+use std::fmt;
+
+/// Why the text of a register was not read.
+#[derive(Clone, Copy, Debug)]
+pub enum TextFault {
+    /// The source failed, is longer than 1,048,576 bytes, or is no UTF-8.
+    File,
+    /// Out of memory.
+    Memory,
+}
+
+impl fmt::Display for TextFault {
+    ghost use Rattle.std.specs.Prelude.{Some};
+    ghost use Rattle.hub_commands.specs.Check.{text_fault_line};
+
+    ghost output = { λ fault. Some (text_fault_line fault) };
+
+    fn fmt<W: fmt::Write>(&self, f: &mut fmt::Formatter<W>) -> fmt::Result {
+        match self {
+            TextFault::File => f.write_str("file"),
+            TextFault::Memory => f.write_str("memory"),
+        }
+    }
+}
+
+impl Error for TextFault {}
+
+impl From<ReadFault> for TextFault {
+    ghost use Rattle.std.specs.Prelude.{◌≡◌};
+    ghost use Rattle.hub_commands.specs.Check.{told_read_fault};
+
+    ghost from_gives = { λ fault text. text ≡ told_read_fault fault };
+
+    fn from(fault: ReadFault) -> TextFault {
+        match fault {
+            ReadFault::Read => TextFault::File,
+            ReadFault::Memory => TextFault::Memory,
+        }
+    }
+}
+
+/// The text of a register: all that a source holds, where that is UTF-8 of at most 1,048,576 bytes. At most one byte
+/// more is read.
+pub fn read_register_text<R: Source>(alloc: Global, input: &mut R) -> Result<String, TextFault>
+    ensures taken { TakesAtMost (R.remaining input.old) (R.remaining input.new) read_limit }
+    ensures text { IfOk result (λ text. IsRegisterText (string_bytes text)) }
+    ensures whole { IfOk result (λ text. IfSome (R.remaining input.old) (λ bytes. bytes ≡ string_bytes text)) }
+    ensures file { result ≡ Err TextFault.File → (R.failed input.new ≡ true)
+        ⊎ IfSome (R.remaining input.old) (λ bytes. ¬ IsRegisterText bytes) }
+    ensures kept { result ≢ Err TextFault.File → R.failed input.new ≡ R.failed input.old }
+{
+    let bytes = read_to_limit(alloc, input, READ_LIMIT)?;
+    if bytes.len() > TEXT_LIMIT {
+        return Err(TextFault::File);
+    }
+    match String::from_utf8(bytes) {
+        Ok(text) => Ok(text),
+        Err(_) => Err(TextFault::File),
+    }
+}
+
+/// What is told of a register or of a founding: a line, and the exit status.
+#[derive(Debug, Drop)]
+pub struct Verdict {
+    /// The line, with its line end.
+    pub line: String,
+    /// The exit status.
+    pub status: u8,
+}
+
+impl Verdict {
+    /// Of a register: `ok N suppliers`, with status 0.
+    pub fn ok(alloc: Global, register: &Register) -> Result<Verdict, MemoryFault>
+        ensures line { IfOk result (λ verdict. string_bytes verdict.line ≡ verdict_line (Ok register.now)) }
+        ensures status { IfOk result (λ verdict. verdict.status ≡ verdict_status (Ok register.now)) }
+    {
+        let count = register.supplier_count();
+        let line = format!(in alloc; "ok {count} suppliers\n")?;
+        Ok(Verdict { line, status: DONE })
+    }
+
+    /// Of a register's fault: `fault` and its name, with status 1.
+    pub fn of_fault(alloc: Global, fault: RegisterFault) -> Result<Verdict, MemoryFault>
+        ensures line { IfOk result (λ verdict. string_bytes verdict.line ≡ verdict_line (Err fault)) }
+        ensures status { IfOk result (λ verdict. verdict.status ≡ verdict_status (Err fault)) }
+    {
+        let line = format!(in alloc; "fault {fault}\n")?;
+        Ok(Verdict {
+            line,
+            status: REFUSED,
+        })
+    }
+
+    /// Of a register that does not fit to the rows of a database: `fault rows`, with status 1.
+    pub fn of_rows(alloc: Global) -> Result<Verdict, MemoryFault>
+        ensures line { IfOk result (λ verdict. string_bytes verdict.line ≡ fault_line (codes "rows")) }
+        ensures status { IfOk result (λ verdict. verdict.status ≡ 1) }
+    {
+        let line = format!(in alloc; "fault rows\n")?;
+        Ok(Verdict {
+            line,
+            status: REFUSED,
+        })
+    }
+}
+
+// What the text of a register is.
+fn verdict_of(alloc: Global, text: &str) -> Result<Verdict, MemoryFault>
+    ensures line { IfOk result (λ verdict. string_bytes verdict.line ≡ verdict_line (register_of text.now)) }
+    ensures status { IfOk result (λ verdict. verdict.status ≡ verdict_status (register_of text.now)) }
+{
+    match Register::from_toml(alloc, text) {
+        Ok(register) => Verdict::ok(alloc, &register),
+        Err(RegisterFault::Memory) => Err(AllocError),
+        Err(fault) => Verdict::of_fault(alloc, fault),
+    }
+}
+
+/// Writes a verdict to `out`. Answers its exit status; or 3 where the write failed, with the line `file` on `err`.
+pub fn print_verdict<W: Sink, E: Sink>(verdict: &Verdict, out: &mut W, err: &mut E) -> u8
+    ensures told { ((result ≡ verdict.now.status)
+        × (W.failed out.new ≡ W.failed out.old)
+        × Appends (W.contents out.old) (W.contents out.new) (string_bytes verdict.now.line)
+        × Keeps (E.contents err.old) (E.contents err.new))
+        ⊎ ((result ≡ 3)
+        × (W.failed out.new ≡ true)
+        × AppendsFront (W.contents out.old) (W.contents out.new) (string_bytes verdict.now.line)
+        × Tells (E.contents err.old) (E.contents err.new) (E.failed err.new) (codes "file\n")) }
+{
+    if write_bytes(verdict.line.as_bytes(), out).is_ok() {
+        return verdict.status;
+    }
+    tell(b"file\n", err);
+    FAILED
+}
+
+/// Judges the text of a register and writes one line to `out`: `ok N suppliers`, or `fault` and the fault. Answers the
+/// exit status: 0 for a register; 1 for a fault; 3 where the write failed, with the line `file` on `err`, or memory ran
+/// out, with the line `memory`.
+pub fn check_run<W: Sink, E: Sink>(alloc: Global, text: &str, out: &mut W, err: &mut E) -> u8
+    ensures judged { result ≢ 3 →
+        (result ≡ verdict_status (register_of text.now))
+        × Appends (W.contents out.old) (W.contents out.new) (verdict_line (register_of text.now))
+        × Keeps (E.contents err.old) (E.contents err.new) }
+    ensures written { (W.failed out.new ≡ W.failed out.old)
+        ⊎ ((result ≡ 3) × Tells (E.contents err.old) (E.contents err.new) (E.failed err.new) (codes "file\n")) }
+    ensures failed { result ≡ 3 →
+        (Tells (E.contents err.old) (E.contents err.new) (E.failed err.new) (codes "file\n")
+        × (W.failed out.new ≡ true) × AppendsFront (W.contents out.old) (W.contents out.new) (verdict_line (register_of text.now)))
+        ⊎ (Tells (E.contents err.old) (E.contents err.new) (E.failed err.new) (codes "memory\n")
+        × Keeps (W.contents out.old) (W.contents out.new)) }
+{
+    let Ok(verdict) = verdict_of(alloc, text) else {
+        tell(b"memory\n", err);
+        return FAILED;
+    };
+    print_verdict(&verdict, out, err)
+}

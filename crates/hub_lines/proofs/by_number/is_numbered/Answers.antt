@@ -1,5 +1,0 @@
-use Rattle.std.proofs.Common.{rules}
-use Rattle.hub_lines.proofs.by_number.is_numbered.Goals as goal
-
-pub returns-then-eq : goal.returns-then-eq
-returns-then-eq c = search rules

@@ -1,9 +1,0 @@
-use Rattle.std.proofs.Common.{◌≡◌, find, drop, ◌++◌}
-use Rattle.std.specs.List.{filter_map}
-use Rattle.hub_list.proofs.look.copies_at.Given as goal
-
--- what is found, and then what the other keys look for
-abbrev pub invariant-loop-key : goal.invariant-loop-key
-invariant-loop-key g l =
-    filter_map (λ key. find (g.K.Key.wanted key) l.rows) l.keys ≡ l.found ++ filter_map (λ key. find (g.K.Key.wanted key) l.rows)
-    (drop l.key-index l.keys)

@@ -1,0 +1,93 @@
+//! Lines by order number and article.
+ghost use Rattle.std.specs.Prelude.{◌≡◌, ◌<◌, None, filter, length, slice_get, IfOk};
+ghost use Rattle.std.specs.BTreeMap.{get};
+ghost use Rattle.std.specs.Option.{IfSome, IfNone};
+ghost use Rattle.hub_tables.specs.Rows.{same};
+ghost use Rattle.hub_parties.specs.KeyOrder.{Rises};
+ghost use Rattle.hub_tables.specs.State.{the_only};
+ghost use Rattle.hub_order_lines.specs.Book.{facts_cmp, facts_of};
+ghost use Rattle.hub_order_lines.specs.ArticleIndex.{IsArticleIndex, article_cmp, one_more};
+ghost use Rattle.hub_order_lines.specs.Key.{keys_of};
+ghost use Rattle.hub_order_lines.specs.declared.facts.LineFacts.{LineFacts};
+
+use crate::by_number::place_from;
+use crate::facts::LineFacts;
+use edi_base::MemoryFault;
+use gs1_ids::Gtin;
+use std::alloc::Global;
+use std::collections::BTreeMap;
+
+/// The lines of an order that have an article.
+#[derive(Clone, Copy, Debug)]
+pub(crate) enum ArticleLines {
+    /// Only the one at the place.
+    One(usize),
+    /// More than one.
+    Several,
+}
+
+/// The lines by the place of their order's first line, and their article.
+pub(crate) type ArticleIndex = BTreeMap<(usize, Gtin), ArticleLines>;
+
+// The lines of an article of the order of which the first line is at a place.
+fn article_lines(articles: &ArticleIndex, first: usize, gtin: &Gtin) -> Option<ArticleLines>
+    ensures { result ≡ get article_cmp articles.now (first, gtin.now) }
+{
+    articles.get(&(first, *gtin)).copied()
+}
+
+// The lines of an article with one more, at a place.
+fn one_more(known: Option<ArticleLines>, place: usize) -> ArticleLines
+    ensures { result ≡ one_more known place }
+{
+    match known {
+        Some(_) => ArticleLines::Several,
+        None => ArticleLines::One(place),
+    }
+}
+
+/// The index of lines. The time grows as n log n with n lines.
+pub(crate) fn index_articles(
+    alloc: Global,
+    lines: &[LineFacts],
+) -> Result<ArticleIndex, MemoryFault>
+    requires { Rises facts_cmp lines.now }
+    ensures { IfOk result (λ articles. IsArticleIndex (keys_of lines.now) articles) }
+{
+    let mut articles: ArticleIndex = BTreeMap::new(alloc);
+    for (place, line) in lines.iter().enumerate() {
+        let first = place_from(lines, line.row.number.as_slice(), 0);
+        let found = one_more(article_lines(&articles, first, &line.row.gtin), place);
+        articles.insert((first, line.row.gtin), found)?;
+    }
+    Ok(articles)
+}
+
+// Whether a line is of an order.
+fn is_of(line: &LineFacts, order: &[u8]) -> bool
+    ensures { result ≡ same line.now.row.number order.now }
+{
+    line.row.number.as_slice() == order
+}
+
+/// The place of the only line of an order with an article.
+pub(crate) fn place_by_article(
+    lines: &[LineFacts],
+    articles: &ArticleIndex,
+    order: &[u8],
+    gtin: &Gtin,
+) -> Option<usize>
+    requires rise { Rises facts_cmp lines.now }
+    requires index { IsArticleIndex (keys_of lines.now) articles.now }
+    ensures some { IfSome result (λ place. (place < length lines.now)
+        × (the_only (filter (λ (line : LineFacts). same line.row.gtin gtin.now) (facts_of lines.now order.now))
+        ≡ slice_get lines.now place)) }
+    ensures none { IfNone result (the_only (filter (λ (line : LineFacts).
+        same line.row.gtin gtin.now) (facts_of lines.now order.now)) ≡ None) }
+{
+    let first = place_from(lines, order, 0);
+    match article_lines(articles, first, gtin) {
+        Some(ArticleLines::One(place)) if is_of(&lines[place], order) => Some(place),
+        _ => None,
+    }
+}

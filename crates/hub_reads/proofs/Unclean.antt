@@ -1,0 +1,182 @@
+-- When a row lacks the form of its kind.
+use Rattle.std.proofs.Common.{◌==◌, ◌≤◌, ◌^◌, [], ◌∷◌, ◌≡◌, ℕ, ◌+◌, ◌-◌, ◌<◌, nat_lt, List, length, get_or, Bool, true, false, ◌&&◌, Option}
+use Rattle.std.proofs.Common.{Some, None, if◌then◌else◌, nat_le, refl, arith}
+use Rattle.std.proofs.lemmas.Bool.Decides.{nat_tests}
+use Rattle.std.proofs.lemmas.List.Sums.{list_all-from_AllPass}
+use Rattle.std.specs.List.{list_all, list_any}
+use Rattle.hub_store.specs.Clean.{is_within, are_bytes, are_clean, clean_order, clean_line, clean_advice, clean_pallet}
+use Rattle.hub_store.specs.Clean.{clean_content, clean_receipt, clean_remembered, clean_mail, clean_hub, clean_key}
+use Rattle.hub_store.specs.Clean.{clean_prefix}
+use Rattle.hub_tables.specs.Tables.{Tables}
+
+pub first_fails : (a b : Bool) → a ≡ false → (a && b) ≡ false
+first_fails true b h = absurd cc
+first_fails false b h = refl
+
+pub later_fails : (a b : Bool) → b ≡ false → (a && b) ≡ false
+later_fails true b h = h
+later_fails false b h = refl
+
+pub bytes_fit : (xs : List ℕ) → ((k d : ℕ) → k < length xs → get_or xs k d < 256) → are_bytes xs ≡ true
+bytes_fit xs h = list_all-from_AllPass (λ byte. nat_lt byte 256) xs (λ k d within. less (get_or xs k d) (h k d within))
+  where
+    less : (n : ℕ) → n < 256 → nat_lt n 256 ≡ true
+    less n low = grind (arith, nat_tests)
+
+-- what a test lets through, and what it does not
+pub passed : {X : Type 0} (b : Bool) (x y : X) → Some x ≡ (if b then Some y else None) → b ≡ true
+passed true x y h = refl
+passed false x y h = absurd cc
+
+pub failed : {X : Type 0} (b : Bool) (y : X) → ◌≡◌ {A = Option X} None (if b then Some y else None) → b ≡ false
+failed true y h = absurd cc
+failed false y h = refl
+
+-- the pieces of a line are more than it orders
+pub too_open : (ordered open_qty refused cancelled : ℕ) → is_within 0 ordered open_qty ≡ false
+    → nat_le (open_qty + refused + cancelled) ordered ≡ false
+too_open ordered open_qty refused cancelled h = grind (arith, nat_tests)
+
+pub too_refused : (ordered open_qty refused cancelled : ℕ) → is_within 0 (ordered - open_qty) refused ≡ false
+    → nat_le (open_qty + refused + cancelled) ordered ≡ false
+too_refused ordered open_qty refused cancelled h = grind (arith, nat_tests)
+
+pub too_cancelled : (ordered open_qty refused cancelled : ℕ) → is_within 0 (ordered - open_qty - refused) cancelled ≡ false
+    → nat_le (open_qty + refused + cancelled) ordered ≡ false
+too_cancelled ordered open_qty refused cancelled h = grind (arith, nat_tests)
+
+pub too_many : (most n : ℕ) → is_within 0 most n ≡ false → nat_le n most ≡ false
+too_many most n h = grind (arith, nat_tests)
+
+-- the pieces of a line are no more than it orders
+pub fits : (ordered open_qty refused cancelled : ℕ) → is_within 0 ordered open_qty ≡ true → is_within 0 (ordered - open_qty) refused ≡ true
+    → is_within 0 (ordered - open_qty - refused) cancelled ≡ true → nat_le (open_qty + refused + cancelled) ordered ≡ true
+fits ordered open_qty refused cancelled h g k = grind (arith, nat_tests)
+
+pub no_more : (most n : ℕ) → is_within 0 most n ≡ true → nat_le n most ≡ true
+no_more most n h = grind (arith, nat_tests)
+
+-- where a row of one table lacks the form of its kind
+module _ (t : Tables) where
+  -- the tables behind those of the register
+  abbrev traffic : Bool
+  traffic = list_all clean_order t.orders && (list_all clean_line t.lines
+      && (list_all clean_advice t.advices && (list_all clean_pallet t.pallets
+      && (list_all clean_content t.contents && (list_all clean_receipt t.receipts
+      && (list_all clean_remembered t.remembered && list_all clean_mail t.mail))))))
+
+  of_traffic : traffic ≡ false → are_clean t ≡ false
+  of_traffic h =
+      later_fails (list_all clean_hub t.hubs) (list_all clean_key t.keys && (list_all clean_prefix t.prefixes && traffic))
+      (later_fails (list_all clean_key t.keys) (list_all clean_prefix t.prefixes && traffic)
+      (later_fails (list_all clean_prefix t.prefixes) traffic h))
+
+  pub lines_unclean : list_all clean_line t.lines ≡ false → are_clean t ≡ false
+  lines_unclean h =
+      of_traffic (later_fails (list_all clean_order t.orders) (list_all clean_line t.lines
+      && (list_all clean_advice t.advices && (list_all clean_pallet t.pallets
+      && (list_all clean_content t.contents && (list_all clean_receipt t.receipts
+      && (list_all clean_remembered t.remembered && list_all clean_mail t.mail))))))
+      (first_fails (list_all clean_line t.lines) (list_all clean_advice t.advices
+      && (list_all clean_pallet t.pallets && (list_all clean_content t.contents
+      && (list_all clean_receipt t.receipts && (list_all clean_remembered t.remembered && list_all clean_mail t.mail))))) h))
+
+  pub pallets_unclean : list_all clean_pallet t.pallets ≡ false → are_clean t ≡ false
+  pallets_unclean h =
+      of_traffic (later_fails (list_all clean_order t.orders) (list_all clean_line t.lines
+      && (list_all clean_advice t.advices && (list_all clean_pallet t.pallets
+      && (list_all clean_content t.contents && (list_all clean_receipt t.receipts
+      && (list_all clean_remembered t.remembered && list_all clean_mail t.mail))))))
+      (later_fails (list_all clean_line t.lines) (list_all clean_advice t.advices
+      && (list_all clean_pallet t.pallets && (list_all clean_content t.contents
+      && (list_all clean_receipt t.receipts && (list_all clean_remembered t.remembered && list_all clean_mail t.mail)))))
+      (later_fails (list_all clean_advice t.advices) (list_all clean_pallet t.pallets
+      && (list_all clean_content t.contents && (list_all clean_receipt t.receipts
+      && (list_all clean_remembered t.remembered && list_all clean_mail t.mail))))
+      (first_fails (list_all clean_pallet t.pallets) (list_all clean_content t.contents
+      && (list_all clean_receipt t.receipts && (list_all clean_remembered t.remembered && list_all clean_mail t.mail))) h))))
+
+  pub contents_unclean : list_all clean_content t.contents ≡ false → are_clean t ≡ false
+  contents_unclean h =
+      of_traffic (later_fails (list_all clean_order t.orders) (list_all clean_line t.lines
+      && (list_all clean_advice t.advices && (list_all clean_pallet t.pallets
+      && (list_all clean_content t.contents && (list_all clean_receipt t.receipts
+      && (list_all clean_remembered t.remembered && list_all clean_mail t.mail))))))
+      (later_fails (list_all clean_line t.lines) (list_all clean_advice t.advices
+      && (list_all clean_pallet t.pallets && (list_all clean_content t.contents
+      && (list_all clean_receipt t.receipts && (list_all clean_remembered t.remembered && list_all clean_mail t.mail)))))
+      (later_fails (list_all clean_advice t.advices) (list_all clean_pallet t.pallets
+      && (list_all clean_content t.contents && (list_all clean_receipt t.receipts
+      && (list_all clean_remembered t.remembered && list_all clean_mail t.mail))))
+      (later_fails (list_all clean_pallet t.pallets) (list_all clean_content t.contents
+      && (list_all clean_receipt t.receipts && (list_all clean_remembered t.remembered && list_all clean_mail t.mail)))
+      (first_fails (list_all clean_content t.contents) (list_all clean_receipt t.receipts
+      && (list_all clean_remembered t.remembered && list_all clean_mail t.mail)) h)))))
+
+  pub receipts_unclean : list_all clean_receipt t.receipts ≡ false → are_clean t ≡ false
+  receipts_unclean h =
+      of_traffic (later_fails (list_all clean_order t.orders) (list_all clean_line t.lines
+      && (list_all clean_advice t.advices && (list_all clean_pallet t.pallets
+      && (list_all clean_content t.contents && (list_all clean_receipt t.receipts
+      && (list_all clean_remembered t.remembered && list_all clean_mail t.mail))))))
+      (later_fails (list_all clean_line t.lines) (list_all clean_advice t.advices
+      && (list_all clean_pallet t.pallets && (list_all clean_content t.contents
+      && (list_all clean_receipt t.receipts && (list_all clean_remembered t.remembered && list_all clean_mail t.mail)))))
+      (later_fails (list_all clean_advice t.advices) (list_all clean_pallet t.pallets
+      && (list_all clean_content t.contents && (list_all clean_receipt t.receipts
+      && (list_all clean_remembered t.remembered && list_all clean_mail t.mail))))
+      (later_fails (list_all clean_pallet t.pallets) (list_all clean_content t.contents
+      && (list_all clean_receipt t.receipts && (list_all clean_remembered t.remembered && list_all clean_mail t.mail)))
+      (later_fails (list_all clean_content t.contents) (list_all clean_receipt t.receipts
+      && (list_all clean_remembered t.remembered && list_all clean_mail t.mail))
+      (first_fails (list_all clean_receipt t.receipts) (list_all clean_remembered t.remembered && list_all clean_mail t.mail) h))))))
+
+  pub remembered_unclean : list_all clean_remembered t.remembered ≡ false → are_clean t ≡ false
+  remembered_unclean h =
+      of_traffic (later_fails (list_all clean_order t.orders) (list_all clean_line t.lines
+      && (list_all clean_advice t.advices && (list_all clean_pallet t.pallets
+      && (list_all clean_content t.contents && (list_all clean_receipt t.receipts
+      && (list_all clean_remembered t.remembered && list_all clean_mail t.mail))))))
+      (later_fails (list_all clean_line t.lines) (list_all clean_advice t.advices
+      && (list_all clean_pallet t.pallets && (list_all clean_content t.contents
+      && (list_all clean_receipt t.receipts && (list_all clean_remembered t.remembered && list_all clean_mail t.mail)))))
+      (later_fails (list_all clean_advice t.advices) (list_all clean_pallet t.pallets
+      && (list_all clean_content t.contents && (list_all clean_receipt t.receipts
+      && (list_all clean_remembered t.remembered && list_all clean_mail t.mail))))
+      (later_fails (list_all clean_pallet t.pallets) (list_all clean_content t.contents
+      && (list_all clean_receipt t.receipts && (list_all clean_remembered t.remembered && list_all clean_mail t.mail)))
+      (later_fails (list_all clean_content t.contents) (list_all clean_receipt t.receipts
+      && (list_all clean_remembered t.remembered && list_all clean_mail t.mail))
+      (later_fails (list_all clean_receipt t.receipts) (list_all clean_remembered t.remembered && list_all clean_mail t.mail)
+      (first_fails (list_all clean_remembered t.remembered) (list_all clean_mail t.mail) h)))))))
+
+  pub mail_unclean : list_all clean_mail t.mail ≡ false → are_clean t ≡ false
+  mail_unclean h =
+      of_traffic (later_fails (list_all clean_order t.orders) (list_all clean_line t.lines
+      && (list_all clean_advice t.advices && (list_all clean_pallet t.pallets
+      && (list_all clean_content t.contents && (list_all clean_receipt t.receipts
+      && (list_all clean_remembered t.remembered && list_all clean_mail t.mail))))))
+      (later_fails (list_all clean_line t.lines) (list_all clean_advice t.advices
+      && (list_all clean_pallet t.pallets && (list_all clean_content t.contents
+      && (list_all clean_receipt t.receipts && (list_all clean_remembered t.remembered && list_all clean_mail t.mail)))))
+      (later_fails (list_all clean_advice t.advices) (list_all clean_pallet t.pallets
+      && (list_all clean_content t.contents && (list_all clean_receipt t.receipts
+      && (list_all clean_remembered t.remembered && list_all clean_mail t.mail))))
+      (later_fails (list_all clean_pallet t.pallets) (list_all clean_content t.contents
+      && (list_all clean_receipt t.receipts && (list_all clean_remembered t.remembered && list_all clean_mail t.mail)))
+      (later_fails (list_all clean_content t.contents) (list_all clean_receipt t.receipts
+      && (list_all clean_remembered t.remembered && list_all clean_mail t.mail))
+      (later_fails (list_all clean_receipt t.receipts) (list_all clean_remembered t.remembered && list_all clean_mail t.mail)
+      (later_fails (list_all clean_remembered t.remembered) (list_all clean_mail t.mail) (h))))))))
+
+-- what a line says that is not clean
+pub ruleset unclean_line = (first_fails, later_fails, too_open, too_refused, too_cancelled)
+
+-- a number that takes more than one byte is of no case
+pub no_case : {C : Type 0} (number : C → ℕ) (small : (case : C) → number case < 256) (n : ℕ) (cases : List C)
+    → 2 ^ 64 ≤ n
+    → list_any (λ case. n == number case) cases ≡ false
+no_case number small n [] great = refl
+no_case number small n (case ∷ cases) great =
+    let other : (n == number case) ≡ false = grind (arith, nat_tests, small case, great) in
+    rw other (no_case number small n cases great)

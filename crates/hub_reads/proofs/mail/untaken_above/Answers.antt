@@ -1,0 +1,20 @@
+use Rattle.std.proofs.Common.{arith, filter, map, take}
+use Rattle.std.proofs.lemmas.Bool.Decides.{nat_tests}
+use Rattle.sqlite.specs.Held.{state}
+use Rattle.hub_tables.specs.Tables.{view}
+use Rattle.hub_store.specs.Heads.{head_of}
+use Rattle.hub_reads.proofs.OfMail.{past_entry}
+use Rattle.hub_reads.proofs.OfUntaken.{wanted, none_above}
+use Rattle.hub_reads.proofs.mail.untaken_above.Goals as goal
+
+pub returns-then-above-clause-looks : goal.returns-then-above-clause-looks
+returns-then-above-clause-looks g c =
+    past_entry (λ t. take c.args.limit (map head_of (filter (wanted c.args.number) (view c.args.supplier.now t).mail)))
+    (state g.S.Store c.args.conn.now) (state g.S.Store c.has_above.new.conn)
+    c.args.supplier.now c.in_ok-above.above c.if-above.true c.in_ok-above.ensures.looks
+
+pub returns-clause-looks : goal.returns-clause-looks
+returns-clause-looks g c =
+    none_above (state g.S.Store c.args.conn.now) (state g.S.Store c.has_above.new.conn) c.args.supplier.now c.args.number c.args.limit
+    c.in_ok-above.above c.new.result c.if-above.false (grind
+    (arith, nat_tests, c.if-number-le-LAST_MAIL_NUMBER.false)) c.new.ensures c.in_ok-above.ensures.looks

@@ -1,0 +1,236 @@
+//! Whether a register fits to the rows of schema 1, in which none is founded yet.
+ghost use Rattle.std.specs.Prelude.{◌≡◌, ◌⊎◌, [], option_copied, IfErr};
+ghost use Rattle.std.specs.List.{list_all};
+ghost use Rattle.sqlite.specs.Held.{state};
+ghost use Rattle.sqlite_value.specs.Order.{column};
+ghost use Rattle.gs1_ids.specs.Gln.{gln_of};
+ghost use Rattle.gs1_ids.specs.Sscc.{sscc_of, under_some};
+ghost use Rattle.hub_founding.specs.Fits as founding;
+ghost use Rattle.hub_parties.specs.Rows.{row_of};
+ghost use Rattle.hub_schema.specs.Cells.{bytes_in};
+ghost use Rattle.hub_schema.specs.State.{LooksForOld};
+ghost use Rattle.hub_reads.specs.Asks.{Asks};
+ghost use Rattle.hub_reads.specs.Fitting as spec;
+
+use crate::ask::ask;
+use gs1_ids::{Gln, Sscc};
+use hub_parties::SupplierRow;
+use hub_register::Register;
+use hub_store::StoreFault;
+use sqlite::types::ValueRef;
+use sqlite::{Alter, Connection, Row};
+
+// The GLN in a cell.
+fn gln_in(row: &Row, at: usize) -> Option<Gln>
+    ensures { result ≡ gln_of (bytes_in (column row.now at)) }
+{
+    match row.get_ref(at) {
+        Ok(ValueRef::Blob(bytes)) => Gln::parse(bytes),
+        _ => None,
+    }
+}
+
+// The SSCC in a cell.
+fn sscc_in(row: &Row, at: usize) -> Option<Sscc>
+    ensures { result ≡ sscc_of (bytes_in (column row.now at)) }
+{
+    match row.get_ref(at) {
+        Ok(ValueRef::Blob(bytes)) => Sscc::parse(bytes),
+        _ => None,
+    }
+}
+
+// The row of the supplier whose GLN is in a cell. What is no GLN is nobody's.
+fn supplier_in<'a>(register: &'a Register, row: &Row, at: usize) -> Option<&'a SupplierRow>
+    ensures { option_copied result ≡ row_of register.now (bytes_in (column row.now at)) }
+{
+    // The contract of `hub` says that each GLN of the register is one.
+    let _register = register.hub();
+    let Some(gln) = gln_in(row, at) else {
+        return None;
+    };
+    register.supplier(&gln)
+}
+
+// Whether the supplier of a row is registered.
+fn is_registered(register: &Register, row: &Row) -> bool
+    ensures { result ≡ spec.registered_in register.now row.now }
+{
+    supplier_in(register, row, 0).is_some()
+}
+
+// Whether an SSCC is under a prefix of a supplier.
+fn is_under(supplier: &SupplierRow, sscc: &Sscc) -> bool
+    ensures { result ≡ under_some sscc.now supplier.now.prefixes }
+{
+    supplier
+        .prefixes
+        .as_slice()
+        .iter()
+        .any(|prefix| sscc.under(prefix))
+}
+
+// Whether the SSCC of a pallet is under a prefix of its supplier, who is registered.
+fn pallet_fits(register: &Register, row: &Row) -> bool
+    ensures { result ≡ spec.pallet_fits register.now row.now }
+{
+    let Some(supplier) = supplier_in(register, row, 1) else {
+        return false;
+    };
+    let Some(sscc) = sscc_in(row, 0) else {
+        return false;
+    };
+    is_under(supplier, &sscc)
+}
+
+// Whether the suppliers of all rows are registered.
+fn all_registered(register: &Register, rows: &[Row]) -> bool
+    ensures { result ≡ list_all (spec.registered_in register.now) rows.now }
+{
+    rows.iter().all(|row| is_registered(register, row))
+}
+
+// Whether all pallets fit.
+fn all_pallets_fit(register: &Register, rows: &[Row]) -> bool
+    ensures { result ≡ list_all (spec.pallet_fits register.now) rows.now }
+{
+    rows.iter().all(|row| pallet_fits(register, row))
+}
+
+// Whether all suppliers that a text selects are registered.
+fn are_registered<S: Alter>(
+    conn: &mut Connection<S>,
+    register: &Register,
+    text: &str,
+) -> Result<bool, StoreFault>
+    ensures asks { Asks (λ rows is. is ≡ list_all (spec.registered_in register.now) rows)
+        (λ _. ⊥) text.now [] (state S.Store conn.old) (state S.Store conn.new) result }
+    ensures fails { IfErr result (λ fault. (fault ≡ StoreFault.Memory) ⊎ (fault ≡ StoreFault.Disk)) }
+{
+    let rows = ask(conn, text, &[])?;
+    Ok(all_registered(register, rows.as_slice()))
+}
+
+// Whether all pallets that a text selects fit.
+fn do_pallets_fit<S: Alter>(
+    conn: &mut Connection<S>,
+    register: &Register,
+    text: &str,
+) -> Result<bool, StoreFault>
+    ensures asks { Asks (λ rows is. is ≡ list_all (spec.pallet_fits register.now) rows)
+        (λ _. ⊥) text.now [] (state S.Store conn.old) (state S.Store conn.new) result }
+    ensures fails { IfErr result (λ fault. (fault ≡ StoreFault.Memory) ⊎ (fault ≡ StoreFault.Disk)) }
+{
+    let rows = ask(conn, text, &[])?;
+    Ok(all_pallets_fit(register, rows.as_slice()))
+}
+
+fn orders_fit<S: Alter>(conn: &mut Connection<S>, register: &Register) -> Result<bool, StoreFault>
+    ensures looks { spec.TellsOld (spec.orders_fit register.now) (state S.Store conn.old) (state S.Store conn.new) result }
+    ensures fails { IfErr result (λ fault. (fault ≡ StoreFault.Memory) ⊎ (fault ≡ StoreFault.Disk)) }
+{
+    are_registered(conn, register, "SELECT supplier FROM \"order\"")
+}
+
+fn lines_fit<S: Alter>(conn: &mut Connection<S>, register: &Register) -> Result<bool, StoreFault>
+    ensures looks { spec.TellsOld (spec.lines_fit register.now) (state S.Store conn.old) (state S.Store conn.new) result }
+    ensures fails { IfErr result (λ fault. (fault ≡ StoreFault.Memory) ⊎ (fault ≡ StoreFault.Disk)) }
+{
+    are_registered(conn, register, "SELECT supplier FROM line")
+}
+
+fn advices_fit<S: Alter>(conn: &mut Connection<S>, register: &Register) -> Result<bool, StoreFault>
+    ensures looks { spec.TellsOld (spec.advices_fit register.now) (state S.Store conn.old) (state S.Store conn.new) result }
+    ensures fails { IfErr result (λ fault. (fault ≡ StoreFault.Memory) ⊎ (fault ≡ StoreFault.Disk)) }
+{
+    are_registered(conn, register, "SELECT supplier FROM advice")
+}
+
+fn pallets_fit<S: Alter>(conn: &mut Connection<S>, register: &Register) -> Result<bool, StoreFault>
+    ensures looks { spec.TellsOld (spec.pallets_fit register.now) (state S.Store conn.old) (state S.Store conn.new) result }
+    ensures fails { IfErr result (λ fault. (fault ≡ StoreFault.Memory) ⊎ (fault ≡ StoreFault.Disk)) }
+{
+    do_pallets_fit(conn, register, "SELECT sscc, supplier FROM pallet")
+}
+
+fn remembered_fit<S: Alter>(
+    conn: &mut Connection<S>,
+    register: &Register,
+) -> Result<bool, StoreFault>
+    ensures looks { spec.TellsOld (spec.remembered_fit register.now) (state S.Store conn.old) (state S.Store conn.new) result }
+    ensures fails { IfErr result (λ fault. (fault ≡ StoreFault.Memory) ⊎ (fault ≡ StoreFault.Disk)) }
+{
+    are_registered(conn, register, "SELECT supplier FROM remembered")
+}
+
+fn mail_fits<S: Alter>(conn: &mut Connection<S>, register: &Register) -> Result<bool, StoreFault>
+    ensures looks { spec.TellsOld (spec.mail_fits register.now) (state S.Store conn.old) (state S.Store conn.new) result }
+    ensures fails { IfErr result (λ fault. (fault ≡ StoreFault.Memory) ⊎ (fault ≡ StoreFault.Disk)) }
+{
+    are_registered(conn, register, "SELECT supplier FROM mail")
+}
+
+// What is remembered, and then the mail.
+fn from_remembered<S: Alter>(
+    conn: &mut Connection<S>,
+    register: &Register,
+) -> Result<bool, StoreFault>
+    ensures looks { spec.TellsOld (spec.from_remembered register.now) (state S.Store conn.old) (state S.Store conn.new) result }
+    ensures fails { IfErr result (λ fault. (fault ≡ StoreFault.Memory) ⊎ (fault ≡ StoreFault.Disk)) }
+{
+    let fit = remembered_fit(conn, register)?;
+    if !fit {
+        return Ok(false);
+    }
+    mail_fits(conn, register)
+}
+
+// The pallets, and what comes after.
+fn from_pallets<S: Alter>(conn: &mut Connection<S>, register: &Register) -> Result<bool, StoreFault>
+    ensures looks { spec.TellsOld (spec.from_pallets register.now) (state S.Store conn.old) (state S.Store conn.new) result }
+    ensures fails { IfErr result (λ fault. (fault ≡ StoreFault.Memory) ⊎ (fault ≡ StoreFault.Disk)) }
+{
+    let fit = pallets_fit(conn, register)?;
+    if !fit {
+        return Ok(false);
+    }
+    from_remembered(conn, register)
+}
+
+// The advices, and what comes after.
+fn from_advices<S: Alter>(conn: &mut Connection<S>, register: &Register) -> Result<bool, StoreFault>
+    ensures looks { spec.TellsOld (spec.from_advices register.now) (state S.Store conn.old) (state S.Store conn.new) result }
+    ensures fails { IfErr result (λ fault. (fault ≡ StoreFault.Memory) ⊎ (fault ≡ StoreFault.Disk)) }
+{
+    let fit = advices_fit(conn, register)?;
+    if !fit {
+        return Ok(false);
+    }
+    from_pallets(conn, register)
+}
+
+// The lines, and what comes after.
+fn from_lines<S: Alter>(conn: &mut Connection<S>, register: &Register) -> Result<bool, StoreFault>
+    ensures looks { spec.TellsOld (spec.from_lines register.now) (state S.Store conn.old) (state S.Store conn.new) result }
+    ensures fails { IfErr result (λ fault. (fault ≡ StoreFault.Memory) ⊎ (fault ≡ StoreFault.Disk)) }
+{
+    let fit = lines_fit(conn, register)?;
+    if !fit {
+        return Ok(false);
+    }
+    from_advices(conn, register)
+}
+
+/// Whether the register fits to the rows of schema 1: each supplier of a row is registered, and each pallet's SSCC is under
+/// one of its company prefixes. Cells that are no GLN or no SSCC fit to no register.
+pub fn fits<S: Alter>(conn: &mut Connection<S>, register: &Register) -> Result<bool, StoreFault>
+    ensures looks { LooksForOld (λ t is. is ≡ founding.fits register.now t)
+        (λ _. ⊥) (state S.Store conn.old) (state S.Store conn.new) result }
+    ensures fails { IfErr result (λ fault. (fault ≡ StoreFault.Memory) ⊎ (fault ≡ StoreFault.Disk)) }
+{
+    let fit = orders_fit(conn, register)?;
+    if !fit {
+        return Ok(false);
+    }
+    from_lines(conn, register)
+}

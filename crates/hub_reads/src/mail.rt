@@ -1,0 +1,243 @@
+//! Look-ups in mailboxes.
+ghost use Rattle.std.specs.Prelude.{◌≡◌, ◌<◌, ◌≤◌, ◌^◌, ◌&&◌, ◌⊎◌, pos, negsuc, not, filter};
+ghost use Rattle.std.specs.Prelude.{length, map, take, None, option_map, IsTrue, IfOk, IfSome};
+ghost use Rattle.std.specs.List.{list_all, list_any, last_or};
+ghost use Rattle.std.specs.Option.{unwrap_or};
+ghost use Rattle.sqlite.specs.Held.{state};
+ghost use Rattle.edi_envelope.specs.Mail.{last_number};
+ghost use Rattle.hub_store.specs.Clean.{clean_head, clean_mail, is_within};
+ghost use Rattle.hub_store.specs.Heads.{head_of};
+ghost use Rattle.hub_schema.specs.State.{LooksUp};
+ghost use Rattle.hub_tables.specs.State.{entry_at, is_taken, untaken_after, last_mail as last};
+ghost use Rattle.hub_tables.specs.Tables.{view};
+ghost use Rattle.hub_reads.specs.Numbers.{low_of, above_of, is_above};
+ghost use Rattle.sqlite_sql.specs.Query.{limited, as_count};
+ghost use Rattle.sqlite_value.specs.Value.{owned};
+ghost use Rattle.sqlite.specs.Values.{bound_value};
+ghost use Rattle.sqlite_value.specs.declared.value.Value.TheVariants.{Int};
+
+use crate::ask::{first_of, has_row, rows_of};
+use edi_base::Items;
+use edi_envelope::LAST_MAIL_NUMBER;
+use gs1_ids::Gln;
+use hub_store::{MailHead, StoreFault};
+use hub_tables::MailRow;
+use sqlite::types::ValueRef;
+use sqlite::{Alter, Connection};
+use std::alloc::Global;
+
+// The number as a parameter.
+fn signed<'a>(number: u64) -> ValueRef<'a>
+    requires { number < 2 ^ 63 }
+    ensures { owned result ≡ Int (pos number) }
+{
+    ValueRef::Int(number as i64)
+}
+
+// Whether the supplier has an entry whose number is no greater than zero.
+fn has_low<S: Alter>(conn: &mut Connection<S>, supplier: &Gln) -> Result<bool, StoreFault>
+    ensures looks { LooksUp (λ t. list_any (low_of supplier.now) t.mail) (state S.Store conn.old) (state S.Store conn.new) result }
+{
+    has_row(
+        conn,
+        "SELECT number FROM mail WHERE supplier = ?1 AND number < 1",
+        &[ValueRef::Blob(supplier.digits())],
+    )
+}
+
+// Whether the supplier has an entry above a number.
+fn has_above<S: Alter>(
+    conn: &mut Connection<S>,
+    supplier: &Gln,
+    number: u64,
+) -> Result<bool, StoreFault>
+    requires { number < 2 ^ 63 }
+    ensures looks { LooksUp (λ t. list_any (above_of supplier.now number) t.mail) (state S.Store conn.old) (state S.Store conn.new) result }
+{
+    let bound = signed(number);
+    has_row(
+        conn,
+        "SELECT number FROM mail WHERE supplier = ?1 AND number > ?2",
+        &[ValueRef::Blob(supplier.digits()), bound],
+    )
+}
+
+// The mailbox entry of a number that can be a parameter.
+fn entry_of<S: Alter>(
+    conn: &mut Connection<S>,
+    supplier: &Gln,
+    number: u64,
+) -> Result<Option<MailRow>, StoreFault>
+    requires { number < 2 ^ 63 }
+    ensures looks { LooksUp (λ t. entry_at (view supplier.now t) number) (state S.Store conn.old) (state S.Store conn.new) result }
+    ensures clean { IfOk result (λ found. IfSome found (λ entry. IsTrue (clean_mail entry))) }
+{
+    let key = signed(number);
+    first_of(
+        conn,
+        "SELECT supplier, number, moment, decimal, kind, document, body, taken FROM mail WHERE supplier = ?1 AND number = ?2",
+        &[ValueRef::Blob(supplier.digits()), key],
+    )
+}
+
+/// The mailbox entry of a number.
+pub fn mail_item<S: Alter>(
+    conn: &mut Connection<S>,
+    supplier: &Gln,
+    number: u64,
+) -> Result<Option<MailRow>, StoreFault>
+    ensures looks { LooksUp (λ t. entry_at (view supplier.now t) number) (state S.Store conn.old) (state S.Store conn.new) result }
+    ensures clean { IfOk result (λ found. IfSome found (λ entry. IsTrue (clean_mail entry))) }
+{
+    if number <= LAST_MAIL_NUMBER {
+        return entry_of(conn, supplier, number);
+    }
+    let above = has_above(conn, supplier, LAST_MAIL_NUMBER)?;
+    if above {
+        return Err(StoreFault::Unclean);
+    }
+    Ok(None)
+}
+
+// The most rows of an answer, as a parameter; a number that SQL does not have sets no limit.
+fn most_rows<'a>(limit: usize) -> ValueRef<'a>
+    ensures { (owned result ≡ Int (pos limit)) ⊎ ((2 ^ 63 ≤ limit) × (owned result ≡ Int (negsuc 0))) }
+{
+    match i64::try_from(limit) {
+        Ok(most) => ValueRef::Int(most),
+        Err(_) => ValueRef::Int(-1),
+    }
+}
+
+// The first of them.
+fn first_heads(heads: Items<MailHead>, limit: usize) -> Items<MailHead>
+    ensures first { result ≡ take limit heads }
+    ensures limit { length result ≤ limit }
+{
+    let mut heads = heads.into_vec();
+    heads.truncate(limit);
+    Items::from_vec(heads)
+}
+
+// What a list shows of the entries above a number that are not taken, by number: of so many of them, or of all.
+fn heads_above<S: Alter>(
+    conn: &mut Connection<S>,
+    alloc: Global,
+    supplier: &Gln,
+    number: u64,
+    most: ValueRef<'_>,
+) -> Result<Items<MailHead>, StoreFault>
+    requires { number < 2 ^ 63 }
+    ensures looks { LooksUp
+        (λ t. limited (as_count (bound_value (owned most.entry))) (map head_of (filter (λ entry. is_above number entry.number
+        && not (is_taken entry)) (view supplier.now t).mail))) (state S.Store conn.old) (state S.Store conn.new) result }
+    ensures clean { IfOk result (λ heads. IsTrue (list_all clean_head heads)) }
+{
+    let bound = signed(number);
+    rows_of(
+        conn,
+        alloc,
+        "SELECT number, kind, document FROM mail WHERE supplier = ?1 AND number > ?2 AND taken <> 1 ORDER BY supplier, number LIMIT ?3",
+        &[ValueRef::Blob(supplier.digits()), bound, most],
+    )
+}
+
+// The first of them, above a number that can be a parameter.
+#[tactic(auto, using(crate::proofs::Counting::all_take))]
+fn first_above<S: Alter>(
+    conn: &mut Connection<S>,
+    alloc: Global,
+    supplier: &Gln,
+    number: u64,
+    limit: usize,
+) -> Result<Items<MailHead>, StoreFault>
+    requires { number < 2 ^ 63 }
+    ensures looks { LooksUp (λ t. take limit (map head_of (filter (λ entry. is_above number entry.number
+        && not (is_taken entry)) (view supplier.now t).mail))) (state S.Store conn.old) (state S.Store conn.new) result }
+    ensures clean { IfOk result (λ heads. IsTrue (list_all clean_head heads)) }
+    ensures limit { IfOk result (λ heads. length heads ≤ limit) }
+{
+    let most = most_rows(limit);
+    let heads = heads_above(conn, alloc, supplier, number, most)?;
+    Ok(first_heads(heads, limit))
+}
+
+// The first of them, above any number.
+fn untaken_above<S: Alter>(
+    conn: &mut Connection<S>,
+    alloc: Global,
+    supplier: &Gln,
+    number: u64,
+    limit: usize,
+) -> Result<Items<MailHead>, StoreFault>
+    ensures looks { LooksUp (λ t. take limit (map head_of (filter (λ entry. is_above number entry.number
+        && not (is_taken entry)) (view supplier.now t).mail))) (state S.Store conn.old) (state S.Store conn.new) result }
+    ensures clean { IfOk result (λ heads. IsTrue (list_all clean_head heads)) }
+    ensures limit { IfOk result (λ heads. length heads ≤ limit) }
+{
+    if number <= LAST_MAIL_NUMBER {
+        return first_above(conn, alloc, supplier, number, limit);
+    }
+    let above = has_above(conn, supplier, LAST_MAIL_NUMBER)?;
+    if above {
+        return Err(StoreFault::Unclean);
+    }
+    Ok(Items::new(alloc))
+}
+
+/// What a list shows of the mailbox entries above a number that are not taken, by number: of the first so many of them.
+/// No body is read.
+pub fn mail_after<S: Alter>(
+    conn: &mut Connection<S>,
+    alloc: Global,
+    supplier: &Gln,
+    number: u64,
+    limit: usize,
+) -> Result<Items<MailHead>, StoreFault>
+    ensures looks { LooksUp (λ t. take limit (map head_of (untaken_after (view supplier.now t) number)))
+        (state S.Store conn.old) (state S.Store conn.new) result }
+    ensures clean { IfOk result (λ heads. IsTrue (list_all clean_head heads)) }
+    ensures limit { IfOk result (λ heads. length heads ≤ limit) }
+{
+    let low = has_low(conn, supplier)?;
+    if low {
+        return Err(StoreFault::Unclean);
+    }
+    untaken_above(conn, alloc, supplier, number, limit)
+}
+
+// The number of the last entry above zero.
+fn highest<S: Alter>(conn: &mut Connection<S>, supplier: &Gln) -> Result<Option<u64>, StoreFault>
+    ensures looks { LooksUp (λ t. option_map (λ entry. entry.number) (last_or None (filter (λ entry. is_above 0 entry.number)
+        (view supplier.now t).mail))) (state S.Store conn.old) (state S.Store conn.new) result }
+    ensures within { IfOk result (λ found. IfSome found (λ number. IsTrue (is_within 1 last_number number))) }
+{
+    first_of(
+        conn,
+        "SELECT number FROM mail WHERE supplier = ?1 AND number > 0 ORDER BY number DESC LIMIT 1",
+        &[ValueRef::Blob(supplier.digits())],
+    )
+}
+
+// The same, and 0 where there is none.
+fn highest_or_zero<S: Alter>(conn: &mut Connection<S>, supplier: &Gln) -> Result<u64, StoreFault>
+    ensures looks { LooksUp
+        (λ t. unwrap_or (option_map (λ entry. entry.number) (last_or None (filter (λ entry. is_above 0 entry.number)
+        (view supplier.now t).mail))) 0) (state S.Store conn.old) (state S.Store conn.new) result }
+    ensures within { IfOk result (λ number. number ≤ last_number) }
+{
+    let number = highest(conn, supplier)?;
+    Ok(number.unwrap_or(0))
+}
+
+/// The number of the last entry of the supplier's mailbox, 0 where there is none.
+pub fn last_mail<S: Alter>(conn: &mut Connection<S>, supplier: &Gln) -> Result<u64, StoreFault>
+    ensures looks { LooksUp (λ t. last (view supplier.now t)) (state S.Store conn.old) (state S.Store conn.new) result }
+    ensures within { IfOk result (λ number. number ≤ last_number) }
+{
+    let low = has_low(conn, supplier)?;
+    if low {
+        return Err(StoreFault::Unclean);
+    }
+    highest_or_zero(conn, supplier)
+}

@@ -1,0 +1,39 @@
+use Rattle.std.proofs.Common.{◌≡◌, sym, subst, ap, ◌∙◌}
+use Rattle.hub_parties.specs.Rows.{supplier_row}
+use Rattle.hub_tables.specs.Tables.{Tables, view}
+use Rattle.hub_rules.specs.Rules.{judge_cancel}
+use Rattle.hub_law.specs.CancelText.{cancel_text}
+use Rattle.hub_law.specs.Mark.{Whole}
+use Rattle.hub_law.specs.Replies.{act_reply}
+use Rattle.hub_law.specs.Requests.{cancel_named, answered, replied_by}
+use Rattle.hub_law.specs.Told.{act}
+use Rattle.hub_requests.specs.declared.reply.Reply.{Reply}
+use Rattle.hub_transactions.specs.Acts.{as_told}
+use Rattle.hub_transactions.specs.Judged.{VerdictFits}
+use Rattle.hub_transactions.proofs.Fitted.{named_fits}
+use Rattle.hub_transactions.proofs.Afterwards.{after_looking}
+use Rattle.hub_transactions.proofs.cancel.take_cancel.Goals as goal
+
+pub returns-clause-carried : goal.returns-clause-carried
+returns-clause-carried g c = λ hub rise.
+    let register = c.args.register.now in
+    let cancel = c.args.cancel.now in
+    let t = g.S.Store.content c.args.store.now in
+    let state = view cancel.supplier t in
+    let does : Tables → Reply × Tables = λ t. answered Whole (cancel_named register cancel t) t in
+    let supplier = c.supplier-supplier.ensures.value in
+    let content = c.in_ok-content.ensures in
+    let verdict : g.S.Store.honest c.known_for_cancel.new.store →
+    c.in_ok-verdict.verdict ≡ judge_cancel (supplier_row register.suppliers cancel.supplier) (cancel_text cancel) cancel state =
+    λ honest. c.in_ok-verdict.ensures state (c.in_ok-known.ensures.told honest)
+    ∙ (λ i. judge_cancel (supplier i) (content i) cancel state) in
+    after_looking g.S.Store.content g.S.Store.honest g.S.Store.left c.args.store.now c.known_for_cancel.new.store c.finish.new.store
+    does (λ t. replied_by act_reply (act c.in_ok-verdict.verdict t)) as_told
+    (VerdictFits c.in_ok-verdict.verdict)
+    c.in_ok-known.ensures.stays c.finish.ensures.unharmed.was_honest
+    (λ honest. ap (λ verdict. replied_by act_reply (act verdict t)) (sym (verdict honest)))
+    (λ honest. subst (λ verdict. VerdictFits verdict t) (sym (verdict honest)) (named_fits register.suppliers cancel.supplier t
+    (λ supplier. judge_cancel supplier (cancel_text cancel) cancel) hub tt
+    (λ s here changes accepted. c.accepted_changes_fit.ensures.cancel register.suppliers s t (cancel_text cancel) cancel changes
+    here rise accepted)))
+    c.finish.result c.finish.ensures.carried

@@ -1,0 +1,39 @@
+use Rattle.std.proofs.Common.{Ok, sym, subst, ap, ◌∙◌}
+use Rattle.hub_rules.specs.declared.incoming.IncomingMessage.{IncomingMessage}
+use Rattle.hub_law.specs.Messages.{incoming, named}
+use Rattle.hub_law.specs.Requests.{deliver_named}
+use Rattle.hub_texts.specs.Decision.{told_of}
+use Rattle.hub_transactions.specs.Acts.{FailsWith}
+use Rattle.hub_transactions.specs.Judged.{act_of, JudgedFits, UnreadOf}
+use Rattle.hub_transactions.proofs.Afterwards.{after_looking}
+use Rattle.hub_transactions.proofs.Failing.{after_judging}
+use Rattle.hub_transactions.proofs.messages.take_retailers_message.Goals as goal
+
+pub returns-clause-carried : goal.returns-clause-carried
+returns-clause-carried g c = λ hub rise.
+    let register = c.args.register.now in
+    let message = c.args.message.now in
+    let came = incoming c.args.moment c.args.interchange.now message in
+    let t = g.S.Store.content c.args.store.now in
+    after_looking g.S.Store.content g.S.Store.honest g.S.Store.left c.args.store.now c.judged_for_retailer.new.store c.finish.new.store
+    (deliver_named register (message, came)) (act_of c.in_ok-judged.judged) told_of (JudgedFits c.in_ok-judged.judged)
+    c.in_ok-judged.ensures.stays c.finish.ensures.unharmed.was_honest
+    (λ honest. ap (λ one. deliver_named register (message, one) t) (sym c.in_ok-came.ensures)
+    ∙ c.in_ok-judged.ensures.judged honest (hub.sound.kept (named message)))
+    (λ honest. c.in_ok-judged.ensures.fit honest hub rise)
+    c.finish.result c.finish.ensures.carried
+
+pub returns-clause-fails : goal.returns-clause-fails
+returns-clause-fails g c =
+    let register = c.args.register.now in
+    let message = c.args.message.now in
+    let came = incoming c.args.moment c.args.interchange.now message in
+    let old = g.S.Store.broken c.args.store.now in
+    let middle = g.S.Store.broken c.judged_for_retailer.new.store in
+    let judged = c.in_ok-judged.judged in
+    after_judging g.S.Store.plain ⊥ ⊥ old middle (g.S.Store.broken c.finish.new.store) (deliver_named register (message, came)) judged
+    c.finish.result
+    (subst (λ (one : IncomingMessage). FailsWith g.S.Store.plain ⊥
+    (UnreadOf (deliver_named register (message, one))) old middle (Ok judged))
+    c.in_ok-came.ensures c.in_ok-judged.ensures.fails)
+    c.finish.ensures.fails

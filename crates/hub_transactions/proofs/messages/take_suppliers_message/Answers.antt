@@ -1,0 +1,48 @@
+use Rattle.std.proofs.Common.{Ok, sym, subst, ap, ◌∙◌}
+use Rattle.hub_rules.specs.declared.incoming.IncomingMessage.{IncomingMessage}
+use Rattle.hub_parties.specs.Rows.{parties_of}
+use Rattle.hub_tables.specs.Tables.{view}
+use Rattle.hub_law.specs.Messages.{incoming, deliver_suppliers}
+use Rattle.hub_texts.specs.Decision.{told_of}
+use Rattle.hub_transactions.specs.Acts.{FailsWith}
+use Rattle.hub_transactions.specs.Named.{MessageUnclean}
+use Rattle.hub_transactions.specs.Judged.{act_of, JudgedFits, UnreadOf}
+use Rattle.hub_transactions.proofs.Afterwards.{after_looking}
+use Rattle.hub_transactions.proofs.Failing.{after_judging}
+use Rattle.hub_transactions.proofs.messages.take_suppliers_message.Goals as goal
+
+pub returns-clause-carried : goal.returns-clause-carried
+returns-clause-carried g c = λ here rise.
+    let register = c.args.register.now in
+    let s = c.args.supplier.now in
+    let message = c.args.message.now in
+    let came = incoming c.args.moment c.args.interchange.now message in
+    let t = g.S.Store.content c.args.store.now in
+    after_looking g.S.Store.content g.S.Store.honest g.S.Store.left c.args.store.now c.judged_for_supplier.new.store c.finish.new.store
+    (deliver_suppliers (view s.gln) (parties_of register) s (message, came))
+    (act_of c.in_ok-judged.judged) told_of (JudgedFits c.in_ok-judged.judged)
+    c.in_ok-judged.ensures.stays c.finish.ensures.unharmed.was_honest
+    (λ honest.
+    ap (λ one. deliver_suppliers (view s.gln) (parties_of register) s (message, one) t) (sym c.in_ok-came.ensures)
+    ∙ c.in_ok-judged.ensures.judged honest (here.sound.kept s.gln))
+    (λ honest. c.in_ok-judged.ensures.fit honest here rise)
+    c.finish.result c.finish.ensures.carried
+
+pub returns-clause-fails : goal.returns-clause-fails
+returns-clause-fails g c =
+    let register = c.args.register.now in
+    let s = c.args.supplier.now in
+    let message = c.args.message.now in
+    let came = incoming c.args.moment c.args.interchange.now message in
+    let old = g.S.Store.broken c.args.store.now in
+    let middle = g.S.Store.broken c.judged_for_supplier.new.store in
+    let judged = c.in_ok-judged.judged in
+    let unclean : Type 0 = MessageUnclean message (view s.gln (g.S.Store.content c.args.store.now)) in
+    after_judging g.S.Store.plain (g.S.Store.honest c.finish.new.store → unclean)
+    (g.S.Store.honest c.judged_for_supplier.new.store → unclean)
+    old middle (g.S.Store.broken c.finish.new.store)
+    (deliver_suppliers (view s.gln) (parties_of register) s (message, came)) judged c.finish.result
+    (subst (λ (one : IncomingMessage). FailsWith g.S.Store.plain (g.S.Store.honest c.judged_for_supplier.new.store → unclean)
+    (UnreadOf (deliver_suppliers (view s.gln) (parties_of register) s (message, one))) old middle (Ok judged))
+    c.in_ok-came.ensures c.in_ok-judged.ensures.fails)
+    c.finish.ensures.fails

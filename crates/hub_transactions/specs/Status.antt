@@ -1,0 +1,25 @@
+-- When a status report is not written.
+use Rattle.std.specs.Prelude.{◌≡◌, ◌⊎◌, ◌^◌, ◌≤◌, false, List, sum_by, None}
+use Rattle.hub_tables.specs.Sets.{Has}
+use Rattle.hub_tables.specs.State.{contents_of, receipts_of}
+use Rattle.hub_tables.specs.Tables.{Tables}
+use Rattle.hub_tables.specs.declared.rows.LineRow.{LineRow}
+use Rattle.hub_tables.specs.declared.rows.PalletRow.{PalletRow}
+use Rattle.hub_order_lines.specs.KnownLines.{steps_up}
+use Rattle.hub_texts.specs.Totals.{IsUnclean, pieces_of}
+
+-- a content of one of the pallets names no line, or a sum of its pieces is past 64 bits
+pub record PalletUnclean (state : Tables) (lines : List LineRow) (pallets : List PalletRow) : Type 0 where
+  pub pallet : PalletRow
+  pub there : Has pallets pallet
+  pub unclean : IsUnclean lines (contents_of state pallet.sscc) (receipts_of state pallet.sscc)
+
+-- that, or the lines do not rise
+abbrev pub StatusUnclean : Tables → Type 0
+StatusUnclean state = (steps_up None state.lines ≡ false) ⊎ PalletUnclean state state.lines state.pallets
+
+-- what was received of one of the pallets is together past 64 bits
+pub record TooMuchReceived (state : Tables) : Type 0 where
+  pub pallet : PalletRow
+  pub there : Has state.pallets pallet
+  pub past : 2 ^ 64 ≤ sum_by pieces_of (receipts_of state pallet.sscc)

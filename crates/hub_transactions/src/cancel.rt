@@ -1,0 +1,60 @@
+//! A cancellation.
+ghost use Rattle.std.specs.Prelude.{◌≡◌};
+ghost use Rattle.hub_order_lines.specs.KnownLines.{AreUnclean};
+ghost use Rattle.hub_tables.specs.State.{lines_of};
+ghost use Rattle.hub_tables.specs.Tables.{view};
+ghost use Rattle.hub_rules.specs.Laws.{SoundUnder, PartiesRise};
+ghost use Rattle.hub_law.specs.Mark.{Whole};
+ghost use Rattle.hub_law.specs.Replies.{act_reply};
+ghost use Rattle.hub_law.specs.Requests.{cancel_named, answered, replied_by};
+ghost use Rattle.hub_law.specs.Told.{act, told};
+ghost use Rattle.hub_transactions.specs.Acts.{Carried, FailsWith, Unharmed, any_answer, as_told, no_answer};
+ghost use Rattle.hub_transactions.specs.Judged.{VerdictFits};
+
+use crate::carrying::{carry_out, reply_to_act, told_of_verdict};
+use crate::knowing::known_for_cancel;
+use hub_judges::{Cancel, Verdict, judge_cancel};
+use hub_register::Register;
+use hub_requests::Reply;
+use hub_rules::accepted_changes_fit;
+use hub_store::{Store, StoreFault};
+use hub_texts::cancel_text;
+use std::alloc::Global;
+
+// Carries out what comes of a cancellation, to which this is the reply.
+fn finish<S: Store>(store: &mut S, verdict: &Verdict, reply: Reply) -> Result<Reply, StoreFault>
+    requires { reply ≡ act_reply (told verdict.now) }
+    ensures carried { VerdictFits verdict.now (S.content store.old) →
+        Carried S.content S.honest S.left store.old store.new (λ t.
+        replied_by act_reply (act verdict.now t)) as_told result }
+    ensures fails { FailsWith S.plain ⊥ any_answer (S.broken store.old) (S.broken store.new) result }
+    ensures unharmed { Unharmed S.content S.honest store.old store.new result }
+{
+    carry_out(store, verdict)?;
+    Ok(reply)
+}
+
+/// Takes a cancellation of the retailer: judges it, and commits what comes of it as one act. The reply is made before.
+/// At a fault nothing was done.
+pub fn take_cancel<S: Store>(
+    alloc: Global,
+    register: &Register,
+    store: &mut S,
+    cancel: &Cancel,
+) -> Result<Reply, StoreFault>
+    ensures carried { SoundUnder register.now.suppliers (S.content store.old) → PartiesRise (S.content store.old) →
+        Carried S.content S.honest S.left store.old store.new (λ t.
+        answered Whole (cancel_named register.now cancel.now t) t) as_told result }
+    ensures fails { FailsWith S.plain (S.honest store.new →
+        AreUnclean (lines_of (view cancel.now.supplier (S.content store.old)) cancel.now.order))
+        no_answer (S.broken store.old) (S.broken store.new) result }
+    ensures unharmed { Unharmed S.content S.honest store.old store.new result }
+{
+    accepted_changes_fit();
+    let supplier = register.supplier(&cancel.supplier);
+    let content = cancel_text(alloc, cancel)?;
+    let known = known_for_cancel(alloc, store, cancel)?;
+    let verdict = judge_cancel(alloc, supplier, &known, content, cancel)?;
+    let reply = reply_to_act(alloc, told_of_verdict(&verdict))?;
+    finish(store, &verdict, reply)
+}

@@ -1,0 +1,108 @@
+//! One message of an interchange.
+ghost use Rattle.std.specs.Prelude.{◌≡◌, ◌∷◌, ◌++◌, ◌+◌, ◌≤◌, IfOk, OnErr, vec_len, vec_capacity};
+ghost use Rattle.hub_parties.specs.Rows.{parties_of};
+ghost use Rattle.hub_tables.specs.Tables.{Tables, view};
+ghost use Rattle.hub_rules.specs.Laws.{SoundUnder, Registered, PartiesRise};
+ghost use Rattle.hub_law.specs.Messages.{incoming, deliver_suppliers};
+ghost use Rattle.hub_law.specs.Replies.{told_words};
+ghost use Rattle.hub_law.specs.Requests.{deliver_named};
+ghost use Rattle.hub_law.specs.Widths.{line};
+ghost use Rattle.hub_transactions.specs.Acts.{Carried, FailsWith, OfAny, Unharmed};
+ghost use Rattle.hub_transactions.specs.Judged.{act_of, JudgedFits};
+ghost use Rattle.hub_transactions.specs.Named.{MessageUnclean};
+ghost use Rattle.hub_texts.specs.Decision.{told_of};
+
+use crate::carrying::{carry_out_judged, told_of_judged};
+use crate::incoming::incoming_of;
+use crate::judged::{Judged, judged_for_retailer, judged_for_supplier};
+use edi_envelope::{Interchange, Moment, RawMessage};
+use hub_parties::SupplierRow;
+use hub_register::Register;
+use hub_store::{Store, StoreFault};
+use hub_texts::{Decision, message_line};
+use std::alloc::Global;
+
+// Carries out what comes of a message, and puts its line after the others. Room for the line and for one word more,
+// `stopped`, is taken before anything is done.
+fn finish<S: Store>(
+    alloc: Global,
+    store: &mut S,
+    message: &RawMessage,
+    judged: &Judged,
+    reply: &mut Vec<u8>,
+) -> Result<Decision, StoreFault>
+    ensures carried { JudgedFits judged.now (S.content store.old) →
+        Carried S.content S.honest S.left store.old store.new (act_of judged.now) told_of result }
+    ensures fails { FailsWith S.plain ⊥
+        (λ told. (t : Tables) → (act_of judged.now t).0 ≡ told_of told) (S.broken store.old) (S.broken store.new) result }
+    ensures unharmed { Unharmed S.content S.honest store.old store.new result }
+    ensures line { IfOk result (λ told. reply.new.items ≡ reply.old.items
+        ++ line (message.now.reference ∷ message.now.kind ∷ told_words (told_of told))) }
+    ensures kept { OnErr result (reply.new.items ≡ reply.old.items) }
+    ensures room { vec_len reply.old + 8 ≤ vec_capacity reply.old → vec_len reply.new + 8 ≤ vec_capacity reply.new }
+{
+    let line = message_line(alloc, message, told_of_judged(judged))?;
+    reply.try_reserve(line.len() + 8)?;
+    let told = carry_out_judged(store, judged)?;
+    reply.extend_from_slice(line.as_slice()).unwrap();
+    Ok(told)
+}
+
+/// Takes a message of the retailer: reads and judges it, commits what comes of it as one act, and puts its line after
+/// the others of the reply. At a fault nothing was done, and no line is there. Where the reply had room for `stopped`
+/// and the end of its line, it has so after it.
+pub fn take_retailers_message<S: Store>(
+    alloc: Global,
+    register: &Register,
+    store: &mut S,
+    moment: Moment,
+    interchange: &Interchange,
+    message: &RawMessage,
+    reply: &mut Vec<u8>,
+) -> Result<Decision, StoreFault>
+    ensures carried { SoundUnder register.now.suppliers (S.content store.old) → PartiesRise (S.content store.old) →
+        Carried S.content S.honest S.left store.old store.new
+        (deliver_named register.now (message.now, incoming moment interchange.now message.now)) told_of result }
+    ensures fails { FailsWith S.plain ⊥
+        (OfAny (deliver_named register.now (message.now, incoming moment interchange.now message.now)) told_of)
+        (S.broken store.old) (S.broken store.new) result }
+    ensures unharmed { Unharmed S.content S.honest store.old store.new result }
+    ensures line { IfOk result (λ told. reply.new.items ≡ reply.old.items
+        ++ line (message.now.reference ∷ message.now.kind ∷ told_words (told_of told))) }
+    ensures kept { OnErr result (reply.new.items ≡ reply.old.items) }
+    ensures room { vec_len reply.old + 8 ≤ vec_capacity reply.old → vec_len reply.new + 8 ≤ vec_capacity reply.new }
+{
+    let came = incoming_of(alloc, moment, interchange, message)?;
+    let judged = judged_for_retailer(alloc, register, store, message, came)?;
+    finish(alloc, store, message, &judged, reply)
+}
+
+/// Takes a message of a supplier, as `take_retailers_message` does one of the retailer.
+pub fn take_suppliers_message<S: Store>(
+    alloc: Global,
+    register: &Register,
+    supplier: &SupplierRow,
+    store: &mut S,
+    moment: Moment,
+    interchange: &Interchange,
+    message: &RawMessage,
+    reply: &mut Vec<u8>,
+) -> Result<Decision, StoreFault>
+    ensures carried { Registered register.now.suppliers supplier.now (S.content store.old) →
+        PartiesRise (S.content store.old) →
+        Carried S.content S.honest S.left store.old store.new
+        (deliver_suppliers (view supplier.now.gln) (parties_of register.now) supplier.now
+        (message.now, incoming moment interchange.now message.now)) told_of result }
+    ensures fails { FailsWith S.plain (S.honest store.new → MessageUnclean message.now (view supplier.now.gln (S.content store.old)))
+        (OfAny (deliver_suppliers (view supplier.now.gln) (parties_of register.now) supplier.now
+        (message.now, incoming moment interchange.now message.now)) told_of) (S.broken store.old) (S.broken store.new) result }
+    ensures unharmed { Unharmed S.content S.honest store.old store.new result }
+    ensures line { IfOk result (λ told. reply.new.items ≡ reply.old.items
+        ++ line (message.now.reference ∷ message.now.kind ∷ told_words (told_of told))) }
+    ensures kept { OnErr result (reply.new.items ≡ reply.old.items) }
+    ensures room { vec_len reply.old + 8 ≤ vec_capacity reply.old → vec_len reply.new + 8 ≤ vec_capacity reply.new }
+{
+    let came = incoming_of(alloc, moment, interchange, message)?;
+    let judged = judged_for_supplier(alloc, register, supplier, store, message, came)?;
+    finish(alloc, store, message, &judged, reply)
+}

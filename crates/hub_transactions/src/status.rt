@@ -1,0 +1,109 @@
+//! The status report of a supplier.
+ghost use Rattle.std.specs.Prelude.{◌≡◌, ◌⊎◌, ◌++◌, true, None, Err, IfOk, IfErr};
+ghost use Rattle.std.specs.List.{flat_map};
+ghost use Rattle.hub_parties.specs.KeyOrder.{Rises};
+ghost use Rattle.hub_tables.specs.State.{contents_of, receipts_of};
+ghost use Rattle.hub_tables.specs.Tables.{Tables, view};
+ghost use Rattle.hub_store.specs.Clean.{are_clean};
+ghost use Rattle.hub_store.specs.declared.fault.StoreFault.TheVariants.{Memory, Unclean};
+ghost use Rattle.hub_rules.specs.Sound.{Kept};
+ghost use Rattle.hub_order_lines.specs.Book.{place_cmp};
+ghost use Rattle.hub_law.specs.Replies.{done};
+ghost use Rattle.hub_law.specs.StatusText.{pallet_text, status_text};
+ghost use Rattle.hub_texts.specs.Totals.{IsUnclean};
+ghost use Rattle.hub_transactions.specs.Acts.{FailsWith, Stays, any_answer, no_answer};
+ghost use Rattle.hub_transactions.specs.Status.{PalletUnclean, StatusUnclean};
+
+use crate::mailbox::done_reply;
+use edi_base::Items;
+use gs1_ids::Gln;
+use hub_order_lines::rise;
+use hub_requests::Reply;
+use hub_store::{Store, StoreFault};
+use hub_tables::{ContentRow, LineRow, PalletRow, ReceiptRow};
+use hub_texts::{TextFault, with_lines, with_pallet};
+use std::alloc::Global;
+
+// A text with the lines of a pallet behind it.
+fn with_text(
+    alloc: Global,
+    lines: &[LineRow],
+    pallet: &PalletRow,
+    contents: &[ContentRow],
+    receipts: &[ReceiptRow],
+    text: Vec<u8>,
+) -> Result<Vec<u8>, StoreFault>
+    requires { Rises place_cmp lines.now }
+    ensures text { (state : Tables) → state.lines ≡ lines.now →
+        contents_of state pallet.now.sscc ≡ contents.now → receipts_of state pallet.now.sscc ≡ receipts.now →
+        IfOk result (λ whole. whole.items ≡ text.items ++ pallet_text state pallet.now) }
+    ensures unclean { result ≡ Err Unclean → IsUnclean lines.now contents.now receipts.now }
+    ensures faults { IfErr result (λ fault.
+        (fault ≡ Memory) ⊎ ((fault ≡ Unclean) × IsUnclean lines.now contents.now receipts.now)) }
+{
+    match with_pallet(alloc, lines, pallet, contents, receipts, text) {
+        Ok(whole) => Ok(whole),
+        Err(TextFault::Memory) => Err(StoreFault::Memory),
+        Err(TextFault::Unclean) => Err(StoreFault::Unclean),
+    }
+}
+
+// A text with the lines of pallets behind it, with what is looked up of each.
+fn with_pallets<S: Store>(
+    alloc: Global,
+    store: &mut S,
+    supplier: &Gln,
+    lines: &[LineRow],
+    pallets: &[PalletRow],
+    text: Vec<u8>,
+) -> Result<Vec<u8>, StoreFault>
+    requires { Rises place_cmp lines.now }
+    ensures text { S.honest store.new → (view supplier.now (S.content store.old)).lines ≡ lines.now →
+        IfOk result (λ whole. whole.items ≡ text.items
+        ++ flat_map (pallet_text (view supplier.now (S.content store.old))) pallets.now) }
+    ensures unclean { S.honest store.new → S.broken store.old ≡ None → are_clean (S.content store.old) ≡ true →
+        result ≡ Err Unclean → PalletUnclean (view supplier.now (S.content store.old)) lines.now pallets.now }
+    ensures fails { FailsWith S.plain (S.honest store.new →
+        PalletUnclean (view supplier.now (S.content store.old)) lines.now pallets.now)
+        any_answer (S.broken store.old) (S.broken store.new) result }
+    ensures stays { Stays S.content S.honest S.left store.old store.new }
+{
+    let mut whole = text;
+    for pallet in pallets {
+        let announced = store.contents_of(supplier, &pallet.sscc)?;
+        let received = store.receipts_of(supplier, &pallet.sscc)?;
+        let contents = announced.as_slice();
+        let receipts = received.as_slice();
+        whole = with_text(alloc, lines, pallet, contents, receipts, whole)?;
+    }
+    Ok(whole)
+}
+
+/// The status report of a supplier: its lines, then its pallets, by two look-ups and two for each pallet. Where rows do
+/// not rise by order number and line number, or a content names no line, there is none: `Unclean`.
+pub fn status_report<S: Store>(
+    alloc: Global,
+    store: &mut S,
+    supplier: &Gln,
+) -> Result<Reply, StoreFault>
+    ensures reply { S.honest store.new → Kept (view supplier.now (S.content store.old)) →
+        IfOk result (λ reply. reply ≡ done (status_text (view supplier.now (S.content store.old)))) }
+    ensures unclean { S.honest store.new → S.broken store.old ≡ None → are_clean (S.content store.old) ≡ true →
+        result ≡ Err Unclean → StatusUnclean (view supplier.now (S.content store.old)) }
+    ensures fails { FailsWith S.plain (S.honest store.new → StatusUnclean (view supplier.now (S.content store.old)))
+        no_answer (S.broken store.old) (S.broken store.new) result }
+    ensures stays { Stays S.content S.honest S.left store.old store.new }
+{
+    let ordered = store.all_lines(supplier)?;
+    let lines = ordered.as_slice();
+    if !rise(lines) {
+        return Err(StoreFault::Unclean);
+    }
+    let despatched = store.all_pallets(supplier)?;
+    let pallets = despatched.as_slice();
+    let of_lines = with_lines(lines, Vec::new(alloc))?;
+    let mut text = with_pallets(alloc, store, supplier, lines, pallets, of_lines)?;
+    text.extend_from_slice(b"end\n")?;
+    let body = Items::from_vec(text);
+    Ok(done_reply(body))
+}

@@ -1,0 +1,315 @@
+//! What rows are looked up by.
+ghost use Rattle.std.specs.Prelude.{◌≡◌, Bool, ◌&&◌, ◌==◌, nat_lt};
+ghost use Rattle.std.specs.Ordering.{nat_cmp, ordering_then, is_eq};
+ghost use Rattle.std.specs.declared.cmp.Ordering.{Ordering as Order};
+ghost use Rattle.std.proofs.lemmas.Cmp.{nat_cmp_total, nat_list_cmp_total};
+ghost use Rattle.hub_tables.specs.Cases.{side_letter};
+ghost use Rattle.hub_parties.specs.KeyOrder.{bytes_cmp};
+ghost use Rattle.hub_tables.specs.Rows.{same};
+ghost use Rattle.trial_rows.specs.Alike.{same_bytes, same_numbers, both};
+ghost use Rattle.trial_lists.specs.Places.{above, is_above, first_part, then_part, by_key, above_kept};
+ghost use Rattle.trial_lists.specs.Search.{KeepsPlaces};
+
+use crate::index::{EntryKey, PalletKey};
+use gs1_ids::{Gln, Sscc};
+use hub_tables::{
+    AdviceRow, Case, ContentRow, LineRow, MailRow, OrderRow, PalletRow, ReceiptRow, RememberedRow,
+    Side,
+};
+use std::cmp::Ordering;
+use trial_rows::Row;
+
+/// What rows are looked up by: a key, a first part of one, or all keys above one.
+pub(crate) trait Key<T: Row> {
+    /// Where a row stands to it.
+    ghost place: { Self → T → Order };
+
+    /// Whether a row is looked for.
+    ghost wanted: { Self → T → Bool };
+
+    /// Where a row stands: below what is looked for, at it or above.
+    fn place_of(&self, row: &T) -> Ordering
+        ensures { result ≡ place self.now row.now };
+
+    /// The rows at it are those that are looked for.
+    ghost exact: { (key : Self) (row : T) → is_eq (place key row) ≡ wanted key row };
+
+    /// Rows in the order of their keys stand in that of their places.
+    ghost kept: { (key : Self) → KeepsPlaces T.compared (place key) };
+}
+
+/// The key of a row itself.
+#[derive(Drop)]
+pub(crate) struct SameKey<'a, T> {
+    pub(crate) row: &'a T,
+}
+
+/// All rows of a supplier.
+#[derive(Drop)]
+pub(crate) struct OfSupplier<'a> {
+    pub(crate) supplier: &'a Gln,
+}
+
+/// The rows of a supplier with a document number.
+#[derive(Drop)]
+pub(crate) struct Numbered<'a> {
+    pub(crate) supplier: &'a Gln,
+    pub(crate) number: &'a [u8],
+}
+
+/// The pallet of an SSCC, and what is on it.
+#[derive(Drop)]
+pub(crate) struct OnPallet<'a> {
+    pub(crate) sscc: &'a Sscc,
+}
+
+/// What is remembered of a side of a supplier under two references.
+#[derive(Drop)]
+pub(crate) struct Reference<'a> {
+    pub(crate) supplier: &'a Gln,
+    pub(crate) side: Side,
+    pub(crate) control: &'a [u8],
+    pub(crate) message: &'a [u8],
+}
+
+/// The entries above a number in a supplier's mailbox, of those that an index lists.
+#[derive(Drop)]
+pub(crate) struct Above<'a> {
+    pub(crate) supplier: &'a Gln,
+    pub(crate) number: u64,
+}
+
+impl<'a, T: Row> Key<T> for SameKey<'a, T> {
+    ghost use Rattle.std.specs.Prelude.{refl};
+
+    ghost place = { λ key row. T.compared row key.row.now };
+
+    ghost wanted = { λ key row. is_eq (T.compared row key.row.now) };
+
+    fn place_of(&self, row: &T) -> Ordering {
+        row.compare(self.row)
+    }
+
+    ghost exact = { λ key row. refl };
+
+    ghost kept = { λ key. by_key T.total (λ row. row) key.row.now };
+}
+
+impl<'a> Key<LineRow> for OfSupplier<'a> {
+    ghost place = { λ key row. bytes_cmp row.supplier key.supplier.now };
+
+    ghost wanted = { λ key row. same row.supplier key.supplier.now };
+
+    fn place_of(&self, row: &LineRow) -> Ordering {
+        row.supplier.cmp(self.supplier)
+    }
+
+    ghost exact = { λ key row. same_bytes row.supplier key.supplier.now };
+
+    ghost kept = { λ key. first_part _ _ _ (by_key nat_list_cmp_total (λ row. row.supplier) key.supplier.now) };
+}
+
+impl<'a> Key<MailRow> for OfSupplier<'a> {
+    ghost place = { λ key row. bytes_cmp row.supplier key.supplier.now };
+
+    ghost wanted = { λ key row. same row.supplier key.supplier.now };
+
+    fn place_of(&self, row: &MailRow) -> Ordering {
+        row.supplier.cmp(self.supplier)
+    }
+
+    ghost exact = { λ key row. same_bytes row.supplier key.supplier.now };
+
+    ghost kept = { λ key. first_part _ _ _ (by_key nat_list_cmp_total (λ row. row.supplier) key.supplier.now) };
+}
+
+impl<'a> Numbered<'a> {
+    // Where a supplier's number stands.
+    fn compare(&self, supplier: &Gln, number: &[u8]) -> Ordering
+        ensures { result ≡ ordering_then (bytes_cmp supplier.now self.now.supplier.now) (bytes_cmp number.now self.now.number.now) }
+    {
+        supplier.cmp(self.supplier).then(number.cmp(self.number))
+    }
+}
+
+impl<'a> Key<OrderRow> for Numbered<'a> {
+    ghost place = { λ key row. ordering_then (bytes_cmp row.supplier key.supplier.now) (bytes_cmp row.number key.number.now) };
+
+    ghost wanted = { λ key row. same row.supplier key.supplier.now && same row.number key.number.now };
+
+    fn place_of(&self, row: &OrderRow) -> Ordering {
+        self.compare(&row.supplier, row.number.as_slice())
+    }
+
+    ghost exact = { λ key row. both (bytes_cmp row.supplier key.supplier.now) (bytes_cmp row.number key.number.now)
+        (same_bytes row.supplier key.supplier.now) (same_bytes row.number key.number.now) };
+
+    ghost kept = { λ key. then_part nat_list_cmp_total (λ row.
+        row.supplier) key.supplier.now _ _ (by_key nat_list_cmp_total (λ row. row.number) key.number.now) };
+}
+
+impl<'a> Key<LineRow> for Numbered<'a> {
+    ghost place = { λ key row. ordering_then (bytes_cmp row.supplier key.supplier.now) (bytes_cmp row.number key.number.now) };
+
+    ghost wanted = { λ key row. same row.supplier key.supplier.now && same row.number key.number.now };
+
+    fn place_of(&self, row: &LineRow) -> Ordering {
+        self.compare(&row.supplier, row.number.as_slice())
+    }
+
+    ghost exact = { λ key row. both (bytes_cmp row.supplier key.supplier.now) (bytes_cmp row.number key.number.now)
+        (same_bytes row.supplier key.supplier.now) (same_bytes row.number key.number.now) };
+
+    ghost kept = { λ key. then_part nat_list_cmp_total (λ row. row.supplier) key.supplier.now _ _
+        (first_part _ _ _ (by_key nat_list_cmp_total (λ row. row.number) key.number.now)) };
+}
+
+impl<'a> Key<AdviceRow> for Numbered<'a> {
+    ghost place = { λ key row. ordering_then (bytes_cmp row.supplier key.supplier.now) (bytes_cmp row.number key.number.now) };
+
+    ghost wanted = { λ key row. same row.supplier key.supplier.now && same row.number key.number.now };
+
+    fn place_of(&self, row: &AdviceRow) -> Ordering {
+        self.compare(&row.supplier, row.number.as_slice())
+    }
+
+    ghost exact = { λ key row. both (bytes_cmp row.supplier key.supplier.now) (bytes_cmp row.number key.number.now)
+        (same_bytes row.supplier key.supplier.now) (same_bytes row.number key.number.now) };
+
+    ghost kept = { λ key. then_part nat_list_cmp_total (λ row.
+        row.supplier) key.supplier.now _ _ (by_key nat_list_cmp_total (λ row. row.number) key.number.now) };
+}
+
+impl<'a> Key<PalletRow> for OnPallet<'a> {
+    ghost place = { λ key row. bytes_cmp row.sscc key.sscc.now };
+
+    ghost wanted = { λ key row. same row.sscc key.sscc.now };
+
+    fn place_of(&self, row: &PalletRow) -> Ordering {
+        row.sscc.cmp(self.sscc)
+    }
+
+    ghost exact = { λ key row. same_bytes row.sscc key.sscc.now };
+
+    ghost kept = { λ key. by_key nat_list_cmp_total (λ row. row.sscc) key.sscc.now };
+}
+
+impl<'a> Key<ContentRow> for OnPallet<'a> {
+    ghost place = { λ key row. bytes_cmp row.sscc key.sscc.now };
+
+    ghost wanted = { λ key row. same row.sscc key.sscc.now };
+
+    fn place_of(&self, row: &ContentRow) -> Ordering {
+        row.sscc.cmp(self.sscc)
+    }
+
+    ghost exact = { λ key row. same_bytes row.sscc key.sscc.now };
+
+    ghost kept = { λ key. first_part _ _ _ (by_key nat_list_cmp_total (λ row. row.sscc) key.sscc.now) };
+}
+
+impl<'a> Key<ReceiptRow> for OnPallet<'a> {
+    ghost place = { λ key row. bytes_cmp row.sscc key.sscc.now };
+
+    ghost wanted = { λ key row. same row.sscc key.sscc.now };
+
+    fn place_of(&self, row: &ReceiptRow) -> Ordering {
+        row.sscc.cmp(self.sscc)
+    }
+
+    ghost exact = { λ key row. same_bytes row.sscc key.sscc.now };
+
+    ghost kept = { λ key. first_part _ _ _ (by_key nat_list_cmp_total (λ row. row.sscc) key.sscc.now) };
+}
+
+impl<'a> Key<RememberedRow> for Reference<'a> {
+    ghost place = { λ key row. ordering_then (bytes_cmp row.supplier key.supplier.now)
+        (ordering_then (nat_cmp row.side (side_letter key.side))
+        (ordering_then (bytes_cmp row.control key.control.now) (bytes_cmp row.message key.message.now))) };
+
+    ghost wanted = { λ key row. same row.supplier key.supplier.now && ((row.side == side_letter key.side)
+        && (same row.control key.control.now && same row.message key.message.now)) };
+
+    fn place_of(&self, row: &RememberedRow) -> Ordering {
+        let refs = row.control.as_slice().cmp(self.control);
+        let refs = refs.then(row.message.as_slice().cmp(self.message));
+        let side = row.side.code().cmp(&self.side.code());
+        row.supplier.cmp(self.supplier).then(side.then(refs))
+    }
+
+    ghost exact = { λ key row. both (bytes_cmp row.supplier key.supplier.now) _
+        (same_bytes row.supplier key.supplier.now)
+        (both (nat_cmp row.side (side_letter key.side)) _ (same_numbers row.side (side_letter key.side))
+        (both (bytes_cmp row.control key.control.now) (bytes_cmp row.message key.message.now)
+        (same_bytes row.control key.control.now) (same_bytes row.message key.message.now))) };
+
+    ghost kept = { λ key. then_part nat_list_cmp_total (λ row. row.supplier) key.supplier.now _ _
+        (then_part nat_cmp_total (λ row. row.side) (side_letter key.side) _ _
+        (then_part nat_list_cmp_total (λ row. row.control) key.control.now _ _
+        (by_key nat_list_cmp_total (λ row. row.message) key.message.now))) };
+}
+
+impl Key<MailRow> for EntryKey {
+    ghost place = { λ key row. ordering_then (bytes_cmp row.supplier key.supplier) (nat_cmp row.number key.number) };
+
+    ghost wanted = { λ key row. same row.supplier key.supplier && (row.number == key.number) };
+
+    fn place_of(&self, row: &MailRow) -> Ordering {
+        let place = row.number.cmp(&self.number);
+        row.supplier.cmp(&self.supplier).then(place)
+    }
+
+    ghost exact = { λ key row. both (bytes_cmp row.supplier key.supplier) _ (same_bytes row.supplier key.supplier)
+        (same_numbers row.number key.number) };
+
+    ghost kept = { λ key. then_part nat_list_cmp_total (λ row.
+        row.supplier) key.supplier _ _ (by_key nat_cmp_total (λ row. row.number) key.number) };
+}
+
+impl Key<PalletRow> for PalletKey {
+    ghost place = { λ key row. bytes_cmp row.sscc key.sscc };
+
+    ghost wanted = { λ key row. same row.sscc key.sscc };
+
+    fn place_of(&self, row: &PalletRow) -> Ordering {
+        row.sscc.cmp(&self.sscc)
+    }
+
+    ghost exact = { λ key row. same_bytes row.sscc key.sscc };
+
+    ghost kept = { λ key. by_key nat_list_cmp_total (λ row. row.sscc) key.sscc };
+}
+
+impl<'a> Key<PalletKey> for OfSupplier<'a> {
+    ghost place = { λ key row. bytes_cmp row.supplier key.supplier.now };
+
+    ghost wanted = { λ key row. same row.supplier key.supplier.now };
+
+    fn place_of(&self, row: &PalletKey) -> Ordering {
+        row.supplier.cmp(self.supplier)
+    }
+
+    ghost exact = { λ key row. same_bytes row.supplier key.supplier.now };
+
+    ghost kept = { λ key. first_part _ _ _ (by_key nat_list_cmp_total (λ row. row.supplier) key.supplier.now) };
+}
+
+impl<'a> Key<EntryKey> for Above<'a> {
+    ghost place = { λ key row. ordering_then (bytes_cmp row.supplier key.supplier.now) (above key.number row.number) };
+
+    ghost wanted = { λ key row. same row.supplier key.supplier.now && nat_lt key.number row.number };
+
+    fn place_of(&self, row: &EntryKey) -> Ordering {
+        let number = match self.number.cmp(&row.number) {
+            Ordering::Less => Ordering::Equal,
+            _ => Ordering::Less,
+        };
+        row.supplier.cmp(self.supplier).then(number)
+    }
+
+    ghost exact = { λ key row. both (bytes_cmp row.supplier key.supplier.now) _
+        (same_bytes row.supplier key.supplier.now) (is_above key.number row.number) };
+
+    ghost kept = { λ key. then_part nat_list_cmp_total (λ row.
+        row.supplier) key.supplier.now _ _ (above_kept (λ row. row.number) key.number) };
+}

@@ -1,0 +1,309 @@
+//! Look-ups in lists of rows, of which each rises by its key.
+ghost use Rattle.std.specs.Prelude.{◌≡◌, ◌≤◌, ◌==◌, ◌&&◌, true, None, filter, find, length};
+ghost use Rattle.std.specs.Prelude.{map, take, slice_get, option_map, nat_lt, not, IfOk};
+ghost use Rattle.std.specs.List.{list_any, last_or, filter_map};
+ghost use Rattle.std.specs.Option.{unwrap_or};
+ghost use Rattle.hub_tables.specs.Cases.{side_letter};
+ghost use Rattle.hub_tables.specs.Rows.{same, order_cmp, line_cmp, advice_cmp, pallet_cmp, content_cmp, receipt_cmp, remembered_cmp};
+ghost use Rattle.hub_tables.specs.Rows.{mail_cmp};
+ghost use Rattle.hub_parties.specs.KeyOrder.{Rises};
+ghost use Rattle.hub_tables.specs.State.{is_taken};
+ghost use Rattle.hub_tables.specs.Tables.{holds};
+ghost use Rattle.hub_store.specs.Heads.{head_of};
+ghost use Rattle.trial_lists.specs.Index.{IsIndex, entry_cmp, entry_key, is_untaken, owned_cmp, owned_key};
+
+use crate::index::{EntryKey, PalletKey};
+use crate::key::{Above, Key, Numbered, OfSupplier, OnPallet, Reference};
+use crate::search::rows_at;
+use edi_base::{Items, MemoryFault, copied};
+use gs1_ids::{Gln, Sscc};
+use hub_store::MailHead;
+use hub_tables::{
+    AdviceRow, Column, ContentRow, LineRow, MailRow, OrderRow, PalletRow, ReceiptRow,
+    RememberedRow, Side,
+};
+use std::alloc::Global;
+use trial_rows::Row;
+
+// Copies of rows.
+fn copies<T: Row>(alloc: Global, rows: &[T]) -> Result<Items<T>, MemoryFault>
+    ensures { IfOk result (λ copies. copies ≡ rows.now) }
+{
+    let mut copies = Items::new(alloc);
+    for row in rows {
+        copies.push(row.copy(alloc)?)?;
+    }
+    Ok(copies)
+}
+
+// A copy of the first row.
+fn first_copy<T: Row>(alloc: Global, rows: &[T]) -> Result<Option<T>, MemoryFault>
+    ensures { IfOk result (λ first. first ≡ slice_get rows.now 0) }
+{
+    match rows.first() {
+        Some(row) => Ok(Some(row.copy(alloc)?)),
+        None => Ok(None),
+    }
+}
+
+// Copies of the rows that keys look for, the first for each.
+fn copies_at<T: Row, K: Key<T>>(
+    alloc: Global,
+    rows: &[T],
+    keys: &[K],
+) -> Result<Items<T>, MemoryFault>
+    requires { Rises T.compared rows.now }
+    ensures { IfOk result (λ found. found ≡ filter_map (λ key. find (K.wanted key) rows.now) keys.now) }
+{
+    let mut found = Items::new(alloc);
+    for key in keys {
+        if let Some(row) = rows_at(rows, key).first() {
+            found.push(row.copy(alloc)?)?;
+        }
+    }
+    Ok(found)
+}
+
+// What a list shows of a mailbox entry.
+fn head(alloc: Global, entry: &MailRow) -> Result<MailHead, MemoryFault>
+    ensures { IfOk result (λ head. head ≡ head_of entry.now) }
+{
+    Ok(MailHead {
+        number: entry.number,
+        kind: Column::of(entry.kind.case()),
+        document: copied(alloc, entry.document.as_slice())?,
+    })
+}
+
+// What a list shows of the entries that keys look for, of the first for each.
+fn heads_at(
+    alloc: Global,
+    mail: &[MailRow],
+    keys: &[EntryKey],
+) -> Result<Items<MailHead>, MemoryFault>
+    requires { Rises mail_cmp mail.now }
+    ensures { IfOk result (λ heads. heads ≡ map head_of (filter_map (λ key. find (λ row.
+        same row.supplier key.supplier && (row.number == key.number)) mail.now) keys.now)) }
+{
+    let mut heads = Items::new(alloc);
+    for key in keys {
+        if let Some(entry) = rows_at(mail, key).first() {
+            heads.push(head(alloc, entry)?)?;
+        }
+    }
+    Ok(heads)
+}
+
+/// The content that is remembered of a side of a supplier under two references.
+pub(crate) fn remembered_with(
+    alloc: Global,
+    rows: &[RememberedRow],
+    reference: &Reference<'_>,
+) -> Result<Option<Items<u8>>, MemoryFault>
+    requires { Rises remembered_cmp rows.now }
+    ensures { IfOk result (λ found.
+        found ≡ option_map (λ row. row.content) (find (λ row. (row.side == side_letter reference.now.side)
+        && (same row.control reference.now.control.now && same row.message reference.now.message.now))
+        (filter (λ row. same row.supplier reference.now.supplier.now) rows.now))) }
+{
+    match rows_at(rows, reference).first() {
+        Some(row) => Ok(Some(copied(alloc, row.content.as_slice())?)),
+        None => Ok(None),
+    }
+}
+
+/// Whether a supplier has an order of a number.
+#[tactic(auto, using(crate::proofs::Filters::any_of_both))]
+pub(crate) fn has_order(orders: &[OrderRow], supplier: &Gln, number: &[u8]) -> bool
+    requires { Rises order_cmp orders.now }
+    ensures { result ≡ list_any (λ order. same order.number number.now) (filter (λ row. same row.supplier supplier.now) orders.now) }
+{
+    !rows_at(orders, &Numbered { supplier, number }).is_empty()
+}
+
+/// Whether a supplier has an advice of a number.
+#[tactic(auto, using(crate::proofs::Filters::any_of_both))]
+pub(crate) fn has_advice(advices: &[AdviceRow], supplier: &Gln, number: &[u8]) -> bool
+    requires { Rises advice_cmp advices.now }
+    ensures { result ≡ list_any (λ advice. same advice.number number.now) (filter (λ row. same row.supplier supplier.now) advices.now) }
+{
+    !rows_at(advices, &Numbered { supplier, number }).is_empty()
+}
+
+/// The lines of an order of a supplier.
+pub(crate) fn lines_with(
+    alloc: Global,
+    lines: &[LineRow],
+    supplier: &Gln,
+    number: &[u8],
+) -> Result<Items<LineRow>, MemoryFault>
+    requires { Rises line_cmp lines.now }
+    ensures { IfOk result (λ found. found ≡ filter (λ line.
+        same line.number number.now) (filter (λ row. same row.supplier supplier.now) lines.now)) }
+{
+    copies(alloc, rows_at(lines, &Numbered { supplier, number }))
+}
+
+/// The lines of a supplier.
+pub(crate) fn lines_from(
+    alloc: Global,
+    lines: &[LineRow],
+    supplier: &Gln,
+) -> Result<Items<LineRow>, MemoryFault>
+    requires { Rises line_cmp lines.now }
+    ensures { IfOk result (λ found. found ≡ filter (λ row. same row.supplier supplier.now) lines.now) }
+{
+    copies(alloc, rows_at(lines, &OfSupplier { supplier }))
+}
+
+/// Whether any supplier has a pallet of an SSCC.
+#[tactic(auto, using(crate::proofs::Filters::any_filtered))]
+pub(crate) fn has_sscc(pallets: &[PalletRow], sscc: &Sscc) -> bool
+    requires { Rises pallet_cmp pallets.now }
+    ensures { result ≡ list_any (λ pallet. same pallet.sscc sscc.now) pallets.now }
+{
+    !rows_at(pallets, &OnPallet { sscc }).is_empty()
+}
+
+// Whether one of the pallets is a supplier's.
+fn any_from(pallets: &[PalletRow], supplier: &Gln) -> bool
+    ensures { result ≡ list_any (λ pallet. same pallet.supplier supplier.now) pallets.now }
+{
+    pallets.iter().any(|pallet| pallet.supplier == *supplier)
+}
+
+// Whether a supplier has the pallet of an SSCC.
+fn holds_pallet(pallets: &[PalletRow], supplier: &Gln, sscc: &Sscc) -> bool
+    requires { Rises pallet_cmp pallets.now }
+    ensures { result ≡ holds supplier.now pallets.now sscc.now }
+{
+    any_from(rows_at(pallets, &OnPallet { sscc }), supplier)
+}
+
+// The first pallet of a supplier.
+fn first_from<'a>(pallets: &'a [PalletRow], supplier: &Gln) -> Option<&'a PalletRow>
+    ensures { option_map (λ pallet. pallet.now) result ≡ find (λ pallet. same pallet.supplier supplier.now) pallets.now }
+{
+    pallets.iter().find(|pallet| pallet.supplier == *supplier)
+}
+
+/// The pallet of an SSCC, where it is the supplier's.
+#[tactic(auto, using(crate::proofs::Filters::find_of_either))]
+pub(crate) fn pallet_with(
+    alloc: Global,
+    pallets: &[PalletRow],
+    supplier: &Gln,
+    sscc: &Sscc,
+) -> Result<Option<PalletRow>, MemoryFault>
+    requires { Rises pallet_cmp pallets.now }
+    ensures { IfOk result (λ found. found ≡ find (λ pallet.
+        same pallet.sscc sscc.now) (filter (λ row. same row.supplier supplier.now) pallets.now)) }
+{
+    match first_from(rows_at(pallets, &OnPallet { sscc }), supplier) {
+        Some(pallet) => Ok(Some(pallet.copy(alloc)?)),
+        None => Ok(None),
+    }
+}
+
+/// The pallets of a supplier, by an index of each supplier's pallets.
+pub(crate) fn pallets_from(
+    alloc: Global,
+    pallets: &[PalletRow],
+    owned: &[PalletKey],
+    supplier: &Gln,
+) -> Result<Items<PalletRow>, MemoryFault>
+    requires pallets { Rises pallet_cmp pallets.now }
+    requires owned { IsIndex owned_cmp (λ key. key.supplier) owned_key (λ pallet. true) owned.now pallets.now }
+    ensures { IfOk result (λ found. found ≡ filter (λ row. same row.supplier supplier.now) pallets.now) }
+{
+    copies_at(alloc, pallets, rows_at(owned, &OfSupplier { supplier }))
+}
+
+/// The contents of a pallet, where it is the supplier's.
+pub(crate) fn contents_on(
+    alloc: Global,
+    contents: &[ContentRow],
+    pallets: &[PalletRow],
+    supplier: &Gln,
+    sscc: &Sscc,
+) -> Result<Items<ContentRow>, MemoryFault>
+    requires contents { Rises content_cmp contents.now }
+    requires pallets { Rises pallet_cmp pallets.now }
+    ensures { IfOk result (λ found. found ≡ filter (λ content.
+        same content.sscc sscc.now) (filter (λ row. holds supplier.now pallets.now row.sscc) contents.now)) }
+{
+    if !holds_pallet(pallets, supplier, sscc) {
+        return Ok(Items::new(alloc));
+    }
+    copies(alloc, rows_at(contents, &OnPallet { sscc }))
+}
+
+/// What was received of a pallet, where it is the supplier's.
+pub(crate) fn receipts_on(
+    alloc: Global,
+    receipts: &[ReceiptRow],
+    pallets: &[PalletRow],
+    supplier: &Gln,
+    sscc: &Sscc,
+) -> Result<Items<ReceiptRow>, MemoryFault>
+    requires receipts { Rises receipt_cmp receipts.now }
+    requires pallets { Rises pallet_cmp pallets.now }
+    ensures { IfOk result (λ found. found ≡ filter (λ receipt.
+        same receipt.sscc sscc.now) (filter (λ row. holds supplier.now pallets.now row.sscc) receipts.now)) }
+{
+    if !holds_pallet(pallets, supplier, sscc) {
+        return Ok(Items::new(alloc));
+    }
+    copies(alloc, rows_at(receipts, &OnPallet { sscc }))
+}
+
+/// The number of the last entry of a supplier's mailbox, 0 where there is none.
+#[tactic(auto, using(crate::proofs::Filters::last_is))]
+pub(crate) fn last_number(mail: &[MailRow], supplier: &Gln) -> u64
+    requires { Rises mail_cmp mail.now }
+    ensures { result ≡ unwrap_or (option_map (λ entry.
+        entry.number) (last_or None (filter (λ row. same row.supplier supplier.now) mail.now))) 0 }
+{
+    match rows_at(mail, &OfSupplier { supplier }).last() {
+        Some(entry) => entry.number,
+        None => 0,
+    }
+}
+
+/// The entry of a number in a supplier's mailbox.
+pub(crate) fn entry_with(
+    alloc: Global,
+    mail: &[MailRow],
+    supplier: &Gln,
+    number: u64,
+) -> Result<Option<MailRow>, MemoryFault>
+    requires { Rises mail_cmp mail.now }
+    ensures { IfOk result (λ found. found ≡ find (λ entry.
+        entry.number == number) (filter (λ row. same row.supplier supplier.now) mail.now)) }
+{
+    let key = EntryKey {
+        supplier: *supplier,
+        number,
+    };
+    first_copy(alloc, rows_at(mail, &key))
+}
+
+/// What a list shows of the first so many entries above a number in a supplier's mailbox that are not taken, by an index of
+/// these.
+pub(crate) fn heads_after(
+    alloc: Global,
+    mail: &[MailRow],
+    untaken: &[EntryKey],
+    above: &Above<'_>,
+    limit: usize,
+) -> Result<Items<MailHead>, MemoryFault>
+    requires mail { Rises mail_cmp mail.now }
+    requires untaken { IsIndex entry_cmp (λ key. key.supplier) entry_key is_untaken untaken.now mail.now }
+    ensures heads { IfOk result (λ heads.
+        heads ≡ take limit (map head_of (filter (λ entry. nat_lt above.now.number entry.number
+        && not (is_taken entry)) (filter (λ row. same row.supplier above.now.supplier.now) mail.now)))) }
+    ensures limit { IfOk result (λ heads. length heads ≤ limit) }
+{
+    let keys = rows_at(untaken, above);
+    heads_at(alloc, mail, &keys[..limit.min(keys.len())])
+}

@@ -1,0 +1,70 @@
+//! Rows found by a key.
+ghost use Rattle.std.specs.Prelude.{◌≡◌, ◌≤◌, length, filter};
+ghost use Rattle.std.specs.List.{prefix_len};
+ghost use Rattle.std.specs.Ordering.{is_lt, is_le};
+ghost use Rattle.hub_parties.specs.KeyOrder.{Rises};
+
+use crate::key::Key;
+use trial_rows::Row;
+
+// How many rows are looked through before all others.
+const NEAR: usize = 16;
+
+// Whether a row stands below a key.
+fn is_below<T: Row, K: Key<T>>(row: &T, key: &K) -> bool
+    ensures { result ≡ is_lt (K.place key.now row.now) }
+{
+    key.place_of(row).is_lt()
+}
+
+// Whether a row stands below a key or at it.
+fn is_within<T: Row, K: Key<T>>(row: &T, key: &K) -> bool
+    ensures { result ≡ is_le (K.place key.now row.now) }
+{
+    key.place_of(row).is_le()
+}
+
+/// How many rows stand below a key.
+pub(crate) fn count_below<T: Row, K: Key<T>>(rows: &[T], key: &K) -> usize
+    requires { Rises T.compared rows.now }
+    ensures within { result ≤ length rows.now }
+    ensures count { result ≡ prefix_len (λ row. is_lt (K.place key.now row)) rows.now }
+{
+    rows.partition_point(|row| is_below(row, key))
+}
+
+// How many rows stand below a key or at it, looked for among all.
+fn count_among<T: Row, K: Key<T>>(rows: &[T], key: &K) -> usize
+    requires { Rises T.compared rows.now }
+    ensures within { result ≤ length rows.now }
+    ensures count { result ≡ prefix_len (λ row. is_le (K.place key.now row)) rows.now }
+{
+    rows.partition_point(|row| is_within(row, key))
+}
+
+// How many rows stand below a key or at it, looked for among the first rows, as mostly they are few.
+#[tactic(auto, using(crate::proofs::Searching::rises_take))]
+fn count_within<T: Row, K: Key<T>>(rows: &[T], key: &K) -> usize
+    requires { Rises T.compared rows.now }
+    ensures within { result ≤ length rows.now }
+    ensures count { result ≡ prefix_len (λ row. is_le (K.place key.now row)) rows.now }
+{
+    let near = &rows[..NEAR.min(rows.len())];
+    let count = count_among(near, key);
+    if count < NEAR {
+        return count;
+    }
+    count_among(rows, key)
+}
+
+/// The rows that a key looks for, in their order.
+#[tactic(auto, using(crate::proofs::Searching::rises_drop))]
+pub(crate) fn rows_at<'a, T: Row, K: Key<T>>(rows: &'a [T], key: &K) -> &'a [T]
+    requires { Rises T.compared rows.now }
+    ensures { result.now ≡ filter (K.wanted key.now) rows.now }
+{
+    let start = count_below(rows, key);
+    let rest = &rows[start..];
+    let count = count_within(rest, key);
+    &rest[..count]
+}

@@ -1,0 +1,119 @@
+//! How the store of a hub is opened.
+use hub_register::Register;
+use hub_sql::{FoundFault, SqliteStore};
+use hub_store::{Store, StoreFault};
+use sqlite_disk::{Start, Unknown};
+use sqlite_std_file::FileFrom;
+use sqlite_store::FileStore;
+use sqlite_trees::memory::MemStore;
+use std::alloc::Global;
+use trial_lists::VecStore;
+
+/// How the store of a hub is opened.
+pub trait Opener<S: Store>: Drop {
+    /// The store, anew: with the rows that it has, or founded with those of this register.
+    fn open(&mut self, rt: &HostRuntime, register: &Register) -> Result<S, FoundFault>;
+
+    /// A store that stood, opened anew with what it keeps; one that stopped before it was founded, with the rows of this
+    /// register.
+    fn again(&mut self, rt: &HostRuntime, register: &Register, store: S) -> Result<S, FoundFault>;
+
+    /// Takes a store back of which there is no hub.
+    fn take_back(&mut self, store: S);
+}
+
+/// In memory, with the rows of the register alone.
+#[derive(Drop)]
+pub struct InMemory;
+
+impl Opener<VecStore> for InMemory {
+    fn open(&mut self, rt: &HostRuntime, register: &Register) -> Result<VecStore, FoundFault> {
+        match VecStore::new(rt.alloc(), register) {
+            Ok(store) => Ok(store),
+            Err(_) => Err(FoundFault::Store(StoreFault::Memory)),
+        }
+    }
+
+    fn again(
+        &mut self,
+        _rt: &HostRuntime,
+        _register: &Register,
+        store: VecStore,
+    ) -> Result<VecStore, FoundFault> {
+        Ok(store)
+    }
+
+    fn take_back(&mut self, _store: VecStore) {}
+}
+
+impl Opener<SqliteStore<MemStore>> for InMemory {
+    fn open(
+        &mut self,
+        rt: &HostRuntime,
+        register: &Register,
+    ) -> Result<SqliteStore<MemStore>, FoundFault> {
+        match SqliteStore::in_memory(rt.alloc(), register) {
+            Ok(store) => Ok(store),
+            Err(fault) => Err(FoundFault::Store(fault)),
+        }
+    }
+
+    fn again(
+        &mut self,
+        _rt: &HostRuntime,
+        _register: &Register,
+        store: SqliteStore<MemStore>,
+    ) -> Result<SqliteStore<MemStore>, FoundFault> {
+        Ok(store)
+    }
+
+    fn take_back(&mut self, _store: SqliteStore<MemStore>) {}
+}
+
+/// What is supposed of a file that is opened, made anew for each opening.
+pub trait Supposed: Start {
+    /// What is supposed.
+    fn supposed() -> Self;
+}
+
+impl Supposed for Unknown {
+    fn supposed() -> Unknown {
+        Unknown
+    }
+}
+
+/// In a file, with the rows that it has, or founded there.
+#[derive(Drop)]
+pub struct InFile<'a> {
+    /// The path of the file.
+    pub path: &'a str,
+}
+
+impl<'a, T: Supposed> Opener<SqliteStore<FileStore<FileFrom<T>>>> for InFile<'a> {
+    fn open(
+        &mut self,
+        rt: &HostRuntime,
+        register: &Register,
+    ) -> Result<SqliteStore<FileStore<FileFrom<T>>>, FoundFault> {
+        match SqliteStore::at_path(rt, self.path, T::supposed()) {
+            Ok(store) => return Ok(store),
+            Err((StoreFault::Version, _left)) => {}
+            Err((fault, _left)) => return Err(FoundFault::Store(fault)),
+        }
+        match SqliteStore::found_at(rt, self.path, T::supposed(), register) {
+            Ok(store) => Ok(store),
+            Err((fault, _left)) => Err(fault),
+        }
+    }
+
+    fn again(
+        &mut self,
+        _rt: &HostRuntime,
+        _register: &Register,
+        store: SqliteStore<FileStore<FileFrom<T>>>,
+    ) -> Result<SqliteStore<FileStore<FileFrom<T>>>, FoundFault> {
+        Ok(store)
+    }
+
+    fn take_back(&mut self, _store: SqliteStore<FileStore<FileFrom<T>>>) {}
+}

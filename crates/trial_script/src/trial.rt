@@ -1,0 +1,334 @@
+//! A hub that is tried by a script.
+ghost use Rattle.std.specs.Prelude.{◌≡◌};
+
+use crate::command::Command;
+use crate::fault::ScriptFault;
+use crate::opening::Opener;
+use crate::print::{write_counts, write_fault, write_replies, write_served};
+use crate::request::{payload, request_of};
+use crate::script::{Script, Words};
+use crate::wire::{Incoming, Manner, Outgoing};
+use edi_base::{Items, Sink, copied};
+use edi_envelope::Moment;
+use gs1_ids::Gln;
+use hub_core::{Hub, Input, Reply, Request};
+use hub_http::{IoFault, Paths, Served, serve_one};
+use hub_register::Register;
+use hub_sql::FoundFault;
+use hub_store::{Store, StoreFault};
+use std::alloc::Global;
+use std::{slice, str};
+use trial_store::TrialStore;
+
+/// Who asks, and when.
+#[derive(Drop)]
+struct Caller {
+    moment: Moment,
+    gln: Gln,
+    key: Items<u8>,
+}
+
+/// The hub; who asks it; the inputs of a run that is not made yet; and whether replies are printed.
+#[derive(Drop)]
+pub struct Trial<S: Store + Drop, O: Opener<S>> {
+    alloc: Global,
+    paths: Paths,
+    opener: O,
+    hub: Option<Hub<TrialStore<S>>>,
+    caller: Option<Caller>,
+    run: Option<Vec<Input>>,
+    quiet: bool,
+}
+
+// How a store fails, at the call after so many others. The one that gives its register does not count.
+#[derive(Clone, Copy)]
+enum Failure {
+    Memory(u64),
+    Disk(u64),
+}
+
+// How the store of a line fails; not at all where it has no more words.
+fn failure_of(words: &mut Words<'_>) -> Result<Option<Failure>, ScriptFault> {
+    let word = words.next_word();
+    if word.is_empty() {
+        return Ok(None);
+    }
+    let calls = words.next_number();
+    match (word, calls) {
+        (b"memory", Some(calls)) => Ok(Some(Failure::Memory(calls))),
+        (b"disk", Some(calls)) => Ok(Some(Failure::Disk(calls))),
+        _ => Err(ScriptFault::Line),
+    }
+}
+
+fn store_of<S: Store>(plain: S, failure: Option<Failure>) -> TrialStore<S>
+    ensures { result.0 ≡ plain }
+{
+    match failure {
+        None => TrialStore::new(plain),
+        Some(Failure::Memory(calls)) => {
+            TrialStore::failing(plain, calls.saturating_add(1), StoreFault::Memory)
+        }
+        Some(Failure::Disk(calls)) => {
+            TrialStore::failing(plain, calls.saturating_add(1), StoreFault::Disk)
+        }
+    }
+}
+
+// The register of these bytes.
+fn register_of(alloc: Global, bytes: &[u8]) -> Result<Register, ScriptFault> {
+    let text = str::from_utf8(bytes).map_err(|_| ScriptFault::Register)?;
+    Ok(Register::from_toml(alloc, text)?)
+}
+
+// Who asks from now on, by the words of a line.
+fn caller_of(alloc: Global, words: &mut Words<'_>) -> Result<Caller, ScriptFault> {
+    let seconds = words.next_number().ok_or(ScriptFault::Line)?;
+    let moment = Moment::new(seconds).ok_or(ScriptFault::Line)?;
+    let gln = words.next_gln().ok_or(ScriptFault::Line)?;
+    let key = copied(alloc, words.next_word())?;
+    Ok(Caller { moment, gln, key })
+}
+
+// What whoever asks puts into a run.
+fn input_of(
+    alloc: Global,
+    caller: Option<&Caller>,
+    request: Request,
+) -> Result<Input, ScriptFault> {
+    let Some(caller) = caller else {
+        return Err(ScriptFault::Line);
+    };
+    let key = copied(alloc, caller.key.as_slice())?;
+    Ok(Input {
+        moment: caller.moment,
+        caller: caller.gln,
+        key,
+        request,
+    })
+}
+
+fn put(inputs: &mut Vec<Input>, input: Result<Input, ScriptFault>) -> Result<(), ScriptFault> {
+    match inputs.push(input?) {
+        Ok(()) => Ok(()),
+        Err(_) => Err(ScriptFault::Memory),
+    }
+}
+
+// The calls of a hub, each by itself: its contract is then of no other's goals.
+fn replied<S: Store>(hub: &mut Hub<S>, caller: &Caller, request: Request) -> Reply {
+    hub.step(caller.moment, &caller.gln, caller.key.as_slice(), request)
+}
+
+fn ran<S: Store>(hub: &mut Hub<S>, inputs: &[Input]) -> Result<Items<Reply>, ScriptFault> {
+    Ok(hub.run(inputs)?)
+}
+
+fn served<S: Store>(
+    alloc: Global,
+    paths: &Paths,
+    hub: &mut Hub<S>,
+    moment: Moment,
+    mut reader: Incoming<'_>,
+    writer: &mut Outgoing,
+) -> Result<Served, IoFault> {
+    serve_one(alloc, paths, hub, moment, &mut reader, writer)
+}
+
+impl<S: Store + Drop, O: Opener<S>> Trial<S, O> {
+    /// No hub yet.
+    pub fn new(alloc: Global, opener: O) -> Result<Self, ScriptFault> {
+        Ok(Trial {
+            alloc,
+            paths: Paths::new(alloc)?,
+            opener,
+            hub: None,
+            caller: None,
+            run: None,
+            quiet: false,
+        })
+    }
+
+    /// Plays a script, and prints what it answers.
+    pub fn play<W: Sink>(
+        &mut self,
+        rt: &HostRuntime,
+        text: &[u8],
+        out: &mut W,
+    ) -> Result<(), ScriptFault> {
+        let mut script = Script::new(text);
+        // each line takes a byte at least
+        for _ in 0..text.len() {
+            let Some(mut words) = script.next_line() else {
+                return Ok(());
+            };
+            self.obey(rt, &mut words, &mut script, out)?;
+        }
+        Ok(())
+    }
+
+    // Does what a line says.
+    fn obey<W: Sink>(
+        &mut self,
+        rt: &HostRuntime,
+        words: &mut Words<'_>,
+        script: &mut Script<'_>,
+        out: &mut W,
+    ) -> Result<(), ScriptFault> {
+        let word = words.next_word();
+        match request_of(self.alloc, word, words, script)? {
+            Some(request) => self.ask(request, out),
+            None => self.command(rt, Command::of(word)?, words, script, out),
+        }
+    }
+
+    // Does what a line says that asks nothing.
+    fn command<W: Sink>(
+        &mut self,
+        rt: &HostRuntime,
+        command: Command,
+        words: &mut Words<'_>,
+        script: &mut Script<'_>,
+        out: &mut W,
+    ) -> Result<(), ScriptFault> {
+        match command {
+            Command::Hub => self.make_hub(rt, words, script, out),
+            Command::Caller => self.set_caller(words),
+            Command::Run => self.begin_run(),
+            Command::End => self.make_run(out),
+            Command::Connection => self.serve(words, script, out),
+            Command::Mend => self.mend(rt, out),
+            Command::Counts => self.tell_counts(out),
+            Command::Quiet(quiet) => {
+                self.quiet = quiet;
+                Ok(())
+            }
+        }
+    }
+
+    // A hub, over its store as it is opened anew, or founded with the register of the text.
+    fn make_hub<W: Sink>(
+        &mut self,
+        rt: &HostRuntime,
+        words: &mut Words<'_>,
+        script: &mut Script<'_>,
+        out: &mut W,
+    ) -> Result<(), ScriptFault> {
+        let register = register_of(self.alloc, payload(words, script)?)?;
+        let failure = failure_of(words)?;
+        // a file is opened once at a time
+        self.hub = None;
+        match self.opener.open(rt, &register) {
+            Ok(plain) => self.set_hub(plain, failure, out),
+            Err(fault) => write_fault(self.alloc, fault, out),
+        }
+    }
+
+    // The hub of a store that was opened, and fails in this way.
+    fn set_hub<W: Sink>(
+        &mut self,
+        plain: S,
+        failure: Option<Failure>,
+        out: &mut W,
+    ) -> Result<(), ScriptFault> {
+        match Hub::new(self.alloc, store_of(plain, failure)) {
+            Ok(hub) => {
+                self.hub = Some(hub);
+                Ok(())
+            }
+            Err((store, fault)) => {
+                self.opener.take_back(store.into_store());
+                write_fault(self.alloc, FoundFault::Store(fault), out)
+            }
+        }
+    }
+
+    // Who asks from now on, and when.
+    fn set_caller(&mut self, words: &mut Words<'_>) -> Result<(), ScriptFault> {
+        self.caller = Some(caller_of(self.alloc, words)?);
+        Ok(())
+    }
+
+    // Asks, or puts what is asked into the run.
+    fn ask<W: Sink>(&mut self, request: Request, out: &mut W) -> Result<(), ScriptFault> {
+        match &mut self.run {
+            Some(inputs) => put(inputs, input_of(self.alloc, self.caller.as_ref(), request)),
+            None => self.step(request, out),
+        }
+    }
+
+    // Asks, and prints the reply.
+    fn step<W: Sink>(&mut self, request: Request, out: &mut W) -> Result<(), ScriptFault> {
+        let (Some(hub), Some(caller)) = (&mut self.hub, &self.caller) else {
+            return Err(ScriptFault::Line);
+        };
+        let reply = replied(hub, caller, request);
+        self.tell(slice::from_ref(&reply), out)
+    }
+
+    // A run, of which no input is there yet.
+    fn begin_run(&mut self) -> Result<(), ScriptFault> {
+        self.run = Some(Vec::new(self.alloc));
+        Ok(())
+    }
+
+    // Asks all that was put into the run, and prints the replies.
+    fn make_run<W: Sink>(&mut self, out: &mut W) -> Result<(), ScriptFault> {
+        let replies = self.replies()?;
+        self.tell(replies.as_slice(), out)
+    }
+
+    // What all that was put into the run is answered.
+    fn replies(&mut self) -> Result<Items<Reply>, ScriptFault> {
+        let Some(inputs) = self.run.take() else {
+            return Err(ScriptFault::Line);
+        };
+        match &mut self.hub {
+            Some(hub) => ran(hub, inputs.as_slice()),
+            None => Err(ScriptFault::Line),
+        }
+    }
+
+    // Prints replies, unless it is quiet.
+    fn tell<W: Sink>(&self, replies: &[Reply], out: &mut W) -> Result<(), ScriptFault> {
+        if self.quiet {
+            return Ok(());
+        }
+        write_replies(self.alloc, replies, out)
+    }
+
+    // Serves a connection whose bytes follow, and prints the status that was written, or the fault, and what went out.
+    fn serve<W: Sink>(
+        &mut self,
+        words: &mut Words<'_>,
+        script: &mut Script<'_>,
+        out: &mut W,
+    ) -> Result<(), ScriptFault> {
+        let bytes = payload(words, script)?;
+        let manner = Manner::of(words)?;
+        let moment = self.caller.as_ref().ok_or(ScriptFault::Line)?.moment;
+        let hub = self.hub.as_mut().ok_or(ScriptFault::Line)?;
+        let mut writer = Outgoing::new(self.alloc, manner)?;
+        let reader = Incoming::new(bytes, manner);
+        let served = served(self.alloc, &self.paths, hub, moment, reader, &mut writer);
+        write_served(self.alloc, served, writer.bytes(), out)
+    }
+
+    // Opens the store anew, with what it keeps, and no call of it fails. The register is read from it again.
+    fn mend<W: Sink>(&mut self, rt: &HostRuntime, out: &mut W) -> Result<(), ScriptFault> {
+        let Some(hub) = self.hub.take() else {
+            return Err(ScriptFault::Line);
+        };
+        let (register, store) = hub.into_store();
+        match self.opener.again(rt, &register, store.into_store()) {
+            Ok(plain) => self.set_hub(plain, None, out),
+            Err(fault) => write_fault(self.alloc, fault, out),
+        }
+    }
+
+    // Prints how many look-ups and commits there were since the hub was made or its store opened anew.
+    fn tell_counts<W: Sink>(&mut self, out: &mut W) -> Result<(), ScriptFault> {
+        let store = self.hub.as_ref().ok_or(ScriptFault::Line)?.store();
+        write_counts(self.alloc, store.look_ups(), store.commits(), out)
+    }
+}
