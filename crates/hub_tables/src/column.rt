@@ -11,6 +11,7 @@ pub trait Case: Sized + 'static {
 
     ghost number: { Self → ℕ };
 
+    /// The cases that a row may have.
     ghost every: { List Self };
 
     /// A number takes one byte.
@@ -20,7 +21,7 @@ pub trait Case: Sized + 'static {
     fn code(self) -> u8
         ensures { result ≡ number self };
 
-    /// Every case, once.
+    /// The cases that a row may have.
     fn all() -> &'static [Self]
         ensures { result.now ≡ every };
 }
