@@ -1,7 +1,7 @@
 -- A run over the bytes of a piece, from the front on.
-use Rattle.std.proofs.Common.{◌≡◌, ℕ, zero, suc, ◌+◌, ◌<◌, List, [], ◌∷◌, ◌++◌, length, get_or, take, drop, Result, Ok, Err, sym}
+use Rattle.std.proofs.Common.{◌≡◌, ℕ, zero, suc, ◌+◌, ◌-◌, ◌<◌, List, [], ◌∷◌, ◌++◌, length, get_or, take, drop, Result, Ok, Err, sym}
 use Rattle.std.proofs.Common.{ap, ◌∙◌, arith}
-use Rattle.std.proofs.lemmas.List.{take_more, take-append-drop, drop_more, take_all}
+use Rattle.std.proofs.lemmas.List.{take_more, take-append-drop, drop_more, take_all, length-drop, length-take}
 use Rattle.edi_segments.specs.declared.fault.TokenFault.{TokenFault}
 use Rattle.edi_segments.specs.Reading.{Reading, run, step, ◌>>=◌}
 use Rattle.edi_segments.proofs.Runs.{run-append}
@@ -39,7 +39,17 @@ take_sum (suc n) m (x ∷ xs) =
     let e : suc n + m ≡ suc (n + m) = omega arith in
     ap (λ (k : ℕ). take k (x ∷ xs)) e ∙ ap (λ l. x ∷ l) (take_sum n m xs)
 
+-- how many bytes are left behind so many
+pub length-take_drop : (n : ℕ) (xs : List ℕ) → length (take (length xs - n) (drop n xs)) ≡ length xs - n
+length-take_drop n xs = omega (arith, length-take (length xs - n) (drop n xs), length-drop n xs)
+
+-- a run that goes on with bytes of what is left
 pub some_more : (r next last : Reading) (bytes : List ℕ) (at count : ℕ) → run r (take at bytes) ≡ Ok next
-    → run next (take count (drop at bytes)) ≡ Ok last → run r (take (at + count) bytes) ≡ Ok last
+    → run next (take count (take (length bytes - at) (drop at bytes))) ≡ Ok last → run r (take (at + count) bytes) ≡ Ok last
 some_more r next last bytes at count so_far more =
-    ap (run r) (take_sum at count bytes) ∙ run_on r next (take at bytes) (take count (drop at bytes)) so_far ∙ more
+    let rest : take (length bytes - at) (drop at bytes) ≡ drop at bytes =
+    take_all (length bytes - at) (drop at bytes) (omega (arith, length-drop at bytes)) in
+    ap (run r) (take_sum at count bytes)
+    ∙ run_on r next (take at bytes) (take count (drop at bytes)) so_far
+    ∙ ap (λ (l : List ℕ). run next (take count l)) (sym rest)
+    ∙ more

@@ -16,6 +16,10 @@ is_small b = nat_le 97 b && nat_le b 122
 abbrev pub is_digit : ℕ → Bool
 is_digit = limits.is_digit
 
+-- a byte of a tag behind its first: a capital letter or a digit
+abbrev pub is_in_tag : ℕ → Bool
+is_in_tag b = is_capital b || is_digit b
+
 -- CR or LF, which may stand between segments
 abbrev pub is_line_end : ℕ → Bool
 is_line_end b = b == 13 || b == 10

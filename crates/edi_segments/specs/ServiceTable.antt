@@ -17,4 +17,4 @@ abbrev pub service_in : Inside → Service
 service_in s = s.service
 
 abbrev pub IsSound : Inside → Type 0
-IsSound s = (b : ℕ) → b < 256 → slice_index_or s.is_run b false ≡ stands_for_itself s.service b
+IsSound s = (b : ℕ) → b < 256 → slice_index_or s.stands_for_itself b false ≡ stands_for_itself s.service b

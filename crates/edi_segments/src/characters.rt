@@ -31,6 +31,13 @@ pub(crate) fn is_digit(byte: u8) -> bool
     byte.is_ascii_digit()
 }
 
+/// Whether a byte may stand in a tag behind its first: a capital letter or a digit.
+pub(crate) fn is_in_tag(byte: u8) -> bool
+    ensures { result ≡ set.is_in_tag byte }
+{
+    is_capital(byte) || is_digit(byte)
+}
+
 /// Whether a byte is CR or LF.
 pub(crate) fn is_line_end(byte: u8) -> bool
     ensures { result ≡ set.is_line_end byte }

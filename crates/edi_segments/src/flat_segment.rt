@@ -168,6 +168,7 @@ impl FlatSegment {
 
     /// Takes the bytes at the front that stand for themselves, in the text and in its canonical one, and copies them to
     /// another place too. How many.
+    #[inline(always)]
     pub(crate) fn take_run(&mut self, service: &ServiceTable, bytes: &[u8], too: &mut [u8]) -> usize
         requires fits { self.old.length + length bytes.now ≤ segment_limit }
         requires room { length bytes.now ≤ length too.old }

@@ -5,7 +5,7 @@ ghost use Rattle.std.specs.Prelude.{◌≡◌, ◌≤◌, List, [], length, take
 ghost use Rattle.edi_segments.specs.Reading.{step, run, start, finish, is_una};
 ghost use Rattle.edi_segments.specs.Machine.{Gives, StopsAt};
 
-use crate::characters::{is_capital, is_data, is_digit, is_line_end};
+use crate::characters::{is_capital, is_data, is_in_tag, is_line_end};
 use crate::fault::TokenFault;
 use crate::flat_segment::SEGMENT_LIMIT;
 use crate::open_segment::OpenSegment;
@@ -130,7 +130,7 @@ impl Machine {
         if self.taken >= 3 {
             return self.push_after_tag(byte);
         }
-        if !is_capital(byte) && !is_digit(byte) {
+        if !is_in_tag(byte) {
             return Err(TokenFault::Tag);
         }
         self.tag[self.taken] = byte;
@@ -208,7 +208,32 @@ impl Machine {
         Ok(false)
     }
 
+    /// Takes the tag at the front with the element separator behind it, where a segment may begin, and says how many bytes.
+    /// None where something else stands there.
+    fn push_whole_tag(&mut self, bytes: &[u8]) -> usize
+        ensures within { result ≤ length bytes.now }
+        ensures taken { run (reading_of [] self.old) (take result bytes.now) ≡ Ok (reading_of [] self.new) }
+    {
+        let Place::Outside = self.place else {
+            return 0;
+        };
+        if bytes.len() < 4 {
+            return 0;
+        }
+        let tag = [bytes[0], bytes[1], bytes[2]];
+        let is_tag = is_capital(tag[0]) && is_in_tag(tag[1]) && is_in_tag(tag[2]);
+        if !is_tag || (self.fresh && is_una(&tag)) || bytes[3] != self.service.get().element {
+            return 0;
+        }
+        self.tag = tag;
+        self.open.begin(tag);
+        self.place = Place::InData;
+        4
+    }
+
+    // A call for each run of bytes would cost a tenth of a relay: so this and what it calls stands where it is called.
     /// Takes the bytes at the front that are plain data, and says how many. None outside of data.
+    #[inline(always)]
     fn push_plain(&mut self, bytes: &[u8]) -> usize
         ensures within { result ≤ length bytes.now }
         ensures taken { run (reading_of [] self.old) (take result bytes.now) ≡ Ok (reading_of [] self.new) }
@@ -217,6 +242,20 @@ impl Machine {
             return 0;
         };
         self.open.take_plain(&self.service, bytes)
+    }
+
+    /// Takes a tag and plain data at the front, and says how many bytes.
+    #[inline(always)]
+    fn push_run(&mut self, bytes: &[u8]) -> usize
+        ensures within { result ≤ length bytes.now }
+        ensures taken { run (reading_of [] self.old) (take result bytes.now) ≡ Ok (reading_of [] self.new) }
+    {
+        if let Place::InData = self.place {
+            return self.push_plain(bytes);
+        }
+        let tag = self.push_whole_tag(bytes);
+        let plain = self.push_plain(&bytes[tag..]);
+        tag + plain
     }
 
     /// Takes bytes from the front on, to the end of a segment or to the last of them. How many, and whether a segment
@@ -229,14 +268,14 @@ impl Machine {
         ensures err { IfErr result (λ fault. run (reading_of [] self.old) bytes.now ≡ Err fault) }
         ensures stops { IfErr result (λ fault. StopsAt self.old bytes.now fault self.new) }
     {
-        let mut at = 0;
+        let mut at = self.push_run(bytes);
         while at < bytes.len() {
             let ended = self.push(bytes[at])?;
             at += 1;
             if ended {
                 return Ok((at, true));
             }
-            at += self.push_plain(&bytes[at..]);
+            at += self.push_run(&bytes[at..]);
         }
         Ok((at, false))
     }

@@ -66,6 +66,7 @@ impl OpenSegment {
     }
 
     /// Takes bytes at the front that are plain data, and says how many.
+    #[inline(always)]
     pub(crate) fn take_plain(&mut self, service: &ServiceTable, bytes: &[u8]) -> usize
         ensures within { result ≤ length bytes.now }
         ensures fits { self.old.length + result ≤ segment_limit }

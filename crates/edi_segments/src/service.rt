@@ -120,7 +120,7 @@ impl Service {
     }
 
     /// Whether a byte stands for itself, in the text and in its canonical one.
-    pub(crate) fn is_run(&self, byte: u8) -> bool
+    pub(crate) fn stands_for_itself(&self, byte: u8) -> bool
         ensures { result ≡ stands_for_itself self.now byte }
     {
         is_data(byte) && !self.is_special(byte) && !is_usual(byte)

@@ -1,7 +1,6 @@
 //! The service characters of a text, with what each byte is to them.
 
 ghost use Rattle.std.specs.Prelude.{◌≡◌, ◌≤◌, ◌++◌, IsTrue, length, take, drop};
-ghost use Rattle.edi_segments.specs.Service.{usual};
 ghost use Rattle.edi_segments.specs.ServiceTable.{are_run, stands_for_itself};
 
 use crate::segment::Service;
@@ -12,7 +11,7 @@ use std::marker::Model;
 #[derive(Drop)]
 pub struct ServiceTable {
     service: Service,
-    is_run: [bool; 256],
+    stands_for_itself: [bool; 256],
 }
 
 impl Model for ServiceTable {
@@ -32,11 +31,14 @@ impl ServiceTable {
     pub(crate) fn of(service: Service) -> Self
         ensures { result ≡ service }
     {
-        let mut is_run = [false; 256];
+        let mut stands_for_itself = [false; 256];
         for byte in 0..256usize {
-            is_run[byte] = service.is_run(byte as u8);
+            stands_for_itself[byte] = service.stands_for_itself(byte as u8);
         }
-        ServiceTable { service, is_run }
+        ServiceTable {
+            service,
+            stands_for_itself,
+        }
     }
 
     /// The service characters.
@@ -47,14 +49,15 @@ impl ServiceTable {
     }
 
     /// Whether a byte stands for itself, in the text and in its canonical one.
-    fn is_run(&self, byte: u8) -> bool
+    fn stands_for_itself(&self, byte: u8) -> bool
         ensures { result ≡ stands_for_itself self.now byte }
     {
-        self.is_run[byte as usize]
+        self.stands_for_itself[byte as usize]
     }
 
     /// Copies the bytes at the front that stand for themselves, in the text and in its canonical one, to two places. How
     /// many.
+    #[inline(always)]
     pub(crate) fn copy_run(&self, bytes: &[u8], one: &mut [u8], other: &mut [u8]) -> usize
         requires one { length bytes.now ≤ length one.old }
         requires other { length bytes.now ≤ length other.old }
@@ -64,9 +67,10 @@ impl ServiceTable {
         ensures other { other.new ≡ take result bytes.now ++ drop result other.old }
     {
         let mut count = 0;
-        while count < bytes.len() && self.is_run(bytes[count]) {
-            one[count] = bytes[count];
-            other[count] = bytes[count];
+        while count < bytes.len() && self.stands_for_itself(bytes[count]) {
+            let byte = bytes[count];
+            one[count] = byte;
+            other[count] = byte;
             count += 1;
         }
         count

@@ -1,7 +1,7 @@
 -- What has been read and lent, one step after another.
 use Rattle.std.proofs.Common.{◌≡◌, ℕ, ◌+◌, ◌-◌, ◌<◌, ◌≤◌, Bool, true, false, List, [], ◌++◌, length, take, drop, Option, Some, None}
-use Rattle.std.proofs.Common.{min, zero, suc, Result, Ok, Err, refl, sym, ap, subst, ◌∙◌, append_assoc, arith}
-use Rattle.std.specs.Prelude.{nat_lt, if◌then◌else◌}
+use Rattle.std.proofs.Common.{min, zero, suc, Result, Ok, Err, inl, inr, refl, sym, ap, subst, ◌∙◌, append_assoc, arith}
+use Rattle.std.specs.Prelude.{◌⊎◌, nat_lt, if◌then◌else◌}
 use Rattle.std.proofs.lemmas.List.{append-nil, take-append-drop, take-append-le, take_all, take_at}
 use Rattle.std.proofs.lemmas.List.{drop_at, length-append, length-drop, length-take, nil_from_length}
 use Rattle.std.proofs.lemmas.Bool.{le-ltb, lt-ltb, ltb-true, ltb-false}
@@ -18,7 +18,7 @@ use Rattle.edi_segments.specs.Reading.{Reading, Place, Outside, InService, InTag
 use Rattle.edi_segments.specs.Reading.{start, run, finish, finish_at, tokens_of, ◌>>=◌}
 use Rattle.edi_segments.specs.Machine.{reading_of, after}
 use Rattle.edi_tokens.specs.Piece.{FillsWith}
-use Rattle.edi_tokens.specs.Lender.{Begins, Came, GoesOn, Fed, FitsSome, Took, Filled, FillsSome, TakesOf, IsOfText, HasCause}
+use Rattle.edi_tokens.specs.Lender.{Begins, Came, GoesOn, Fed, FitsSome, Took, Filled, FillsSome, MayRead, TakesOf, IsOfText, HasCause}
 use Rattle.edi_segments.specs.declared.segment.Tokens.{Tokens}
 use Rattle.std.proofs.KnownBytes.{Consumes-nil, Consumes-trans}
 use Rattle.edi_segments.proofs.Runs.{run-append}
@@ -371,6 +371,15 @@ module _ (lent : List Segment) (f : Lender) (came : Came lent f) where
         let filled = within_end (Some (piece ++ [])) all_within lent f (fed_within tail) none tail (Some []) piece count
         (last_of before after piece f.room count fills) is in
         (record { known = Some []; all = all_within; fed = filled.0 }, (all_within, filled.1))
+
+-- ---- where more may be read, a byte too many may come or the text ends with the room
+
+pub may_read : (tail : Tail) → MayRead tail → (tail ≡ More) ⊎ (tail ≡ Within)
+may_read More may = inl refl
+may_read Within may = inr refl
+may_read End may = absurd may
+may_read Long may = absurd may
+may_read (Failed fault) may = absurd may
 
 -- ---- a text of a size, whose front was read before
 

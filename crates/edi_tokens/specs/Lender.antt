@@ -36,6 +36,12 @@ pub record Fed (known : Option (List ℕ)) (all : List ℕ) (lent : List Segment
   pub read_as : run start taken ≡ Ok (reading_of lent l.machine)
   pub goes_on : GoesOn l.tail known left l.room (length taken + length l.piece)
 
+-- more bytes may be read
+abbrev pub MayRead : Tail → Type 0
+MayRead More = Unit {0}
+MayRead Within = Unit {0}
+MayRead _ = ⊥
+
 -- the fault that is answered for good
 abbrev pub stopped_by : Tail → Option TokenFault
 stopped_by More = None

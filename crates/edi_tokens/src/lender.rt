@@ -6,7 +6,8 @@ ghost use Rattle.std.specs.Io.KnownBytes.{IsAtEnd};
 ghost use Rattle.edi_segments.specs.declared.segment.Segment.{Segment};
 ghost use Rattle.edi_segments.specs.Spelling.{text_limit};
 ghost use Rattle.edi_segments.specs.SegmentRef.{segment_in};
-ghost use Rattle.edi_tokens.specs.Lender.{AtEnd, Came, Fed, Feeds, Filled, FillsSome, FitsSome, Flags, IsBegun, IsOfText, ReadsAway};
+ghost use Rattle.edi_tokens.specs.Lender.{AtEnd, Came, Fed, Feeds, Filled, FillsSome, FitsSome, Flags, IsBegun, IsOfText};
+ghost use Rattle.edi_tokens.specs.Lender.{MayRead, ReadsAway};
 ghost use Rattle.edi_tokens.specs.Lender.{TakesOf, TellsSome, Told, Took};
 ghost use Rattle.edi_tokens.specs.Lender.{answered, decimal_of, known_service, lent_by, stopped, unread};
 
@@ -119,9 +120,9 @@ impl Lender {
         Ok(ended)
     }
 
-    /// Reads once, where a byte too many may come. Whether bytes came.
+    /// Reads once, where more may be read. Whether bytes came.
     fn read<R: Source>(&mut self, reader: &mut R) -> Result<bool, TokenFault>
-        requires tail { self.old.tail ≡ Tail.More }
+        requires tail { MayRead self.old.tail }
         requires piece { self.old.piece ≡ [] }
         ensures told { (all : List ℕ) (lent : List Segment) → Fed (R.remaining reader.old) all lent self.old →
             Filled (R.remaining reader.new) all lent result self.new }
@@ -144,40 +145,15 @@ impl Lender {
             self.tail = Tail::End;
             return Ok(false);
         }
-        if self.room == 0 {
-            self.piece.drop_last();
-            self.tail = Tail::Long;
+        if self.room > 0 {
+            return Ok(true);
         }
-        Ok(true)
-    }
-
-    /// Reads once, where the text ends with the room. Whether bytes came.
-    fn read_within<R: Source>(&mut self, reader: &mut R) -> Result<bool, TokenFault>
-        requires tail { self.old.tail ≡ Tail.Within }
-        requires piece { self.old.piece ≡ [] }
-        ensures told { (all : List ℕ) (lent : List Segment) → Fed (R.remaining reader.old) all lent self.old →
-            Filled (R.remaining reader.new) all lent result self.new }
-        ensures some { (lent : List Segment) → Came lent self.old → FillsSome lent result self.new }
-        ensures flag { Flags result (R.failed reader.old) (R.failed reader.new) }
-        ensures origin { R.origin reader.new ≡ R.origin reader.old }
-        ensures bound { TakesOf (R.remaining reader.old) (R.remaining reader.new) self.old.room self.new.room }
-        ensures ends { AtEnd (R.remaining reader.new) self.new }
-        ensures fewer { result ≡ Ok true → self.new.room < self.old.room }
-        ensures unread { result ≡ Ok true → unread self.new ≤ unread self.old }
-        ensures going { OnOk result (stopped self.new ≡ None) }
-    {
-        self.ended = false;
-        let Ok(count) = self.piece.fill(reader, self.room) else {
-            return Err(TokenFault::Read);
-        };
-        self.room -= count;
-        if count == 0 {
-            self.ended = true;
-            self.tail = Tail::End;
-            return Ok(false);
-        }
-        if self.room == 0 {
-            self.tail = Tail::End;
+        match self.tail {
+            Tail::Within => self.tail = Tail::End,
+            _ => {
+                self.piece.drop_last();
+                self.tail = Tail::Long;
+            }
         }
         Ok(true)
     }
@@ -198,8 +174,7 @@ impl Lender {
         ensures going { OnOk result (stopped self.new ≡ None) }
     {
         match self.tail {
-            Tail::More => self.read(reader),
-            Tail::Within => self.read_within(reader),
+            Tail::More | Tail::Within => self.read(reader),
             Tail::End => Ok(false),
             Tail::Long => Err(TokenFault::TooLong),
             Tail::Failed(fault) => Err(fault),

@@ -1,9 +1,7 @@
-use Rattle.std.proofs.Common.{◌≡◌, ℕ, ◌+◌, ◌-◌, List, [], length, get_or, take, drop, Ok, ap, subst, arith}
-use Rattle.edi_segments.specs.Reading.{run}
-use Rattle.std.proofs.lemmas.List.{length-drop, take_all}
+use Rattle.std.proofs.Common.{◌≡◌, ◌+◌, [], get_or, take, drop, arith}
 use Rattle.std.proofs.lemmas.Result.{err_from_is_err_and}
 use Rattle.edi_segments.specs.Machine.{reading_of}
-use Rattle.edi_segments.proofs.Pieces.{one_more, some_more, split_at, stops_here}
+use Rattle.edi_segments.proofs.Pieces.{one_more, some_more, split_at, stops_here, length-take_drop}
 use Rattle.edi_segments.proofs.machine.Machine.push_all.Goals as goal
 
 pub returns-in_err-ended-clause-err : goal.returns-in_err-ended-clause-err
@@ -22,18 +20,13 @@ pub loop-at-preserved : goal.loop-at-preserved
 loop-at-preserved c =
     let one = one_more (reading_of [] c.args.self.now) (reading_of [] c.loop-at.self) (reading_of [] c.push.new.self) c.args.bytes.now
     c.loop-at.at c.loop-at-test.true c.loop-at.invariant.so_far (rw c.if-ended.false at c.in_ok-ended.ensures.gives) in
-    let after : List ℕ = drop (c.loop-at.at + 1) c.args.bytes.now in
-    let rest : take (length c.args.bytes.now - (c.loop-at.at + 1)) after ≡ after =
-    take_all (length c.args.bytes.now - (c.loop-at.at + 1)) after (omega (arith, length-drop (c.loop-at.at + 1) c.args.bytes.now)) in
     record {
-      within = omega (arith, c.push_plain-at.ensures.within, ap length rest, length-drop (c.loop-at.at + 1) c.args.bytes.now);
+      within =
+          omega (arith, c.push_run-at-in-loop-at.ensures.within, c.loop-at-test.true, length-take_drop (c.loop-at.at + 1) c.args.bytes.now);
       so_far =
           some_more (reading_of [] c.args.self.now) (reading_of [] c.push.new.self)
-          (reading_of [] c.push_plain-at.new.self) c.args.bytes.now
-          (c.loop-at.at + 1) c.push_plain-at.result one
-          (subst (λ (l : List ℕ). run (reading_of [] c.push.new.self) (take c.push_plain-at.result l)
-          ≡ Ok (reading_of [] c.push_plain-at.new.self))
-          rest c.push_plain-at.ensures.taken);
+          (reading_of [] c.push_run-at-in-loop-at.new.self) c.args.bytes.now
+          (c.loop-at.at + 1) c.push_run-at-in-loop-at.result one c.push_run-at-in-loop-at.ensures.taken;
     }
 
 pub returns-in_err-ended-clause-stops : goal.returns-in_err-ended-clause-stops

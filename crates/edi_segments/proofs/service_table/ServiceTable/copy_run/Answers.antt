@@ -12,7 +12,7 @@ loop-count-preserved c =
       within = omega (arith, c.loop-count-test.true);
       run =
           all_more (stands_for_itself c.args.self.now) bytes l.count c.loop-count-test.true l.invariant.run
-          (sym c.is_run.ensures ∙ c.if-is_run.true);
+          (sym c.stands_for_itself.ensures ∙ c.if-stands_for_itself.true);
       one =
           ap (λ items. set items l.count byte) l.invariant.one
           ∙ copied_more bytes c.args.one.now l.count c.loop-count-test.true (omega (arith, c.requires.one, c.loop-count-test.true));

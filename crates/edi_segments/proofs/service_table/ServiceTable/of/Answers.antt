@@ -8,9 +8,9 @@ pub loop-byte-preserved : goal.loop-byte-preserved
 loop-byte-preserved c =
     let l = c.loop-byte in
     record {
-      long = length-set l.is_run l.byte c.is_run.result ∙ l.invariant.long;
+      long = length-set l.stands_for_itself l.byte c.stands_for_itself.result ∙ l.invariant.long;
       so_far =
-          set_more l.is_run (stands_for_itself c.args.service) l.byte c.is_run.result
+          set_more l.stands_for_itself (stands_for_itself c.args.service) l.byte c.stands_for_itself.result
           (omega (arith, l.invariant.long, c.loop-byte-test.true))
-          c.is_run.ensures l.invariant.so_far;
+          c.stands_for_itself.ensures l.invariant.so_far;
     }
