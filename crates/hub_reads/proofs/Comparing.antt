@@ -21,7 +21,7 @@ use Rattle.sql_rows.proofs.Answers.{is_truth}
 use Rattle.hub_schema.specs.Cells.{natural, number_in}
 use Rattle.sqlite_value.specs.Order.{value_cmp}
 use Rattle.hub_reads.proofs.Counting.{same_natural}
-use Rattle.hub_reads.specs.Numbers.{is_low, is_above}
+use Rattle.hub_reads.specs.Mail.{is_low, is_above}
 
 odd : (k : ℕ) → ((2 ^ 65 + 2 * k + 1) % 2 == 1) ≡ true
 odd k = let one : (2 ^ 65 + 2 * k + 1) % 2 ≡ 1 = omega arith in ap (λ n. n == 1) one

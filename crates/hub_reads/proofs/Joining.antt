@@ -1,5 +1,5 @@
 -- Look-ups one after another.
-use Rattle.std.proofs.Common.{◌≡◌, false, Result, Ok, Err, IfOk, OnOk, IsTrue, sym, ap, subst, ◌∙◌, arith}
+use Rattle.std.proofs.Common.{◌≡◌, false, Result, Ok, Err, IfOk, OnOk, IsTrue, ap, subst, ◌∙◌, arith}
 use Rattle.sqlite.specs.State.{State, HasCleanDisk}
 use Rattle.sqlite.proofs.StateLemmas.{survives_then}
 use Rattle.hub_store.specs.Clean.{are_clean}
@@ -8,11 +8,11 @@ use Rattle.hub_store.specs.declared.fault.StoreFault.TheVariants.{Unclean}
 use Rattle.hub_tables.specs.Sets.{Rising}
 use Rattle.hub_tables.specs.Tables.{Tables}
 use Rattle.hub_schema.specs.Rows.{tables_in}
-use Rattle.hub_schema.specs.State.{HasTables, IsHub, IsNumbered, AreOrdered, LooksAmong, LooksFor, LooksIn, LooksUp}
+use Rattle.hub_schema.specs.State.{HasTables, LooksAmong, LooksFor, LooksIn, LooksUp}
 use Rattle.hub_schema.proofs.Leaving.{spared, spares_then}
+use Rattle.hub_schema.proofs.Same.{same_hub, same_tables}
 use Rattle.hub_schema.proofs.Single.{held_rise, hub_has_tables}
-use Rattle.sqlite.specs.Effect.{Database, IsDatabase}
-use Rattle.hub_schema.specs.Schema.{hub_schema}
+use Rattle.sqlite.specs.Effect.{Database}
 use Rattle.sqlite_schema.specs.declared.schema.Schema.{Schema}
 
 -- errors that are one are of one fault
@@ -82,22 +82,6 @@ looks_spoilt one other old new x follows it =
     fault_on (λ t x. x ≡ one t) (λ t y. y ≡ other t) (λ t. are_clean t ≡ false) (λ t. are_clean t ≡ false) old new x Unclean
     (λ _ t. follows t) it
 
--- the same tables are a hub's
-still_hub : (old new : State) → new.now ≡ old.now → IsHub old → IsHub new
-still_hub old new same hub = record {
-  schema = subst (λ (db : Database). db.schema ≡ hub_schema) (sym same) hub.schema;
-  numbered = subst (λ (db : Database). IsNumbered db.trees) (sym same) hub.numbered;
-  ordered = subst (λ (db : Database). AreOrdered db.trees) (sym same) hub.ordered;
-  sound = subst IsDatabase (sym same) hub.sound;
-}
-
-still_tables : (old new : State) → new.now ≡ old.now → HasTables old → HasTables new
-still_tables old new same has = record {
-  schema = subst (λ (db : Database). db.schema ≡ hub_schema) (sym same) has.schema;
-  ordered = subst (λ (db : Database). AreOrdered db.trees) (sym same) has.ordered;
-  sound = subst IsDatabase (sym same) has.sound;
-}
-
 -- a second look-up, which the first answer leads to
 module _ {schema : Schema} {Are : State → Type 0} (still : (old new : State) → new.now ≡ old.now → Are old → Are new) {X Y : Type 0}
     (one : Tables → X → Type 0) (two all : Tables → Y → Type 0) (spoilt worse worst : Tables → Type 0) (old mid new : State) (x : X) where
@@ -150,7 +134,7 @@ pub found_then : {X Y : Type 0} (one : Tables → X → Type 0) (two all : Table
     → ((t : Tables) → one t x → worse t → worst t)
     → LooksFor one spoilt old mid (Ok x) → (result : Result Y StoreFault) → LooksFor two worse mid new result
     → LooksFor all worst old new result
-found_then = then_among still_hub
+found_then = then_among same_hub
 
 pub held_then : {X Y : Type 0} (one : Tables → X → Type 0) (two all : Tables → Y → Type 0) (spoilt worse worst : Tables → Type 0)
     (old mid new : State) (x : X)
@@ -158,7 +142,7 @@ pub held_then : {X Y : Type 0} (one : Tables → X → Type 0) (two all : Tables
     → ((t : Tables) → one t x → worse t → worst t)
     → LooksIn one spoilt old mid (Ok x) → (result : Result Y StoreFault) → LooksIn two worse mid new result
     → LooksIn all worst old new result
-held_then = then_among still_tables
+held_then = then_among same_tables
 
 pub looks_then : {X Y : Type 0} (one : Tables → X) (two : Tables → Y) (all : Tables → Y) (old mid new : State) (x : X)
     → ((t : Tables) → x ≡ one t → two t ≡ all t)

@@ -14,6 +14,7 @@ pub mod OfLines
 pub mod Single
 pub mod OfPallets
 pub mod Joining
+pub mod OfKinds
 pub mod OfGoods
 pub mod Comparing
 pub mod OfRemembered

@@ -27,7 +27,7 @@ use Rattle.hub_schema.specs.Rows.{mail_in, tables_in}
 use Rattle.hub_schema.specs.State.{IsHub, LooksUp}
 use Rattle.hub_schema.proofs.Single.{mail_kinds, mail_cells, hub_rises}
 use Rattle.hub_reads.specs.Asks.{Asks}
-use Rattle.hub_reads.specs.Numbers.{is_low, is_above, low_of}
+use Rattle.hub_reads.specs.Mail.{is_low, is_above, low_of}
 use Rattle.hub_reads.proofs.Comparing.{cell_above, rank_above}
 use Rattle.hub_reads.proofs.Counting.{cell_bytes, all_such}
 use Rattle.hub_reads.proofs.Finding.{some_of, passes, Finds, finds}

@@ -32,7 +32,7 @@ use Rattle.hub_schema.specs.State.{IsHub, LooksUp}
 use Rattle.hub_schema.proofs.InKeyOrder.{listed_any}
 use Rattle.hub_schema.proofs.Single.{mail_kinds, mail_cells, hub_rises}
 use Rattle.hub_reads.specs.Asks.{Asks}
-use Rattle.hub_reads.specs.Numbers.{is_low, is_above, low_of, above_of}
+use Rattle.hub_reads.specs.Mail.{is_low, is_above, low_of, above_of}
 use Rattle.hub_reads.specs.Shown.{shown_mail}
 use Rattle.hub_reads.proofs.Comparing.{cell_low, cell_above}
 use Rattle.hub_reads.proofs.Counting.{cell_bytes, cell_number, any_shown, some_found, all_such}

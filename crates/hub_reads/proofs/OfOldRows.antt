@@ -17,8 +17,8 @@ use Rattle.sqlite.specs.Listing.{understood}
 use Rattle.sqlite.specs.State.{State}
 use Rattle.sql_rows.proofs.Answers.{every_shuffled}
 use Rattle.gs1_ids.specs.Digits.{is_key}
-use Rattle.gs1_ids.specs.Gln.{is_gln, gln_of}
-use Rattle.gs1_ids.specs.Sscc.{sscc_of, under_some}
+use Rattle.gs1_ids.specs.Gln.{is_gln}
+use Rattle.gs1_ids.specs.Sscc.{under_some}
 use Rattle.hub_parties.specs.Rows.{RegisterRows, IsRegister, supplier_row, row_of}
 use Rattle.hub_parties.specs.declared.row.SupplierRow.{SupplierRow}
 use Rattle.hub_tables.proofs.Lists.{same_is}
@@ -42,7 +42,6 @@ use Rattle.hub_reads.proofs.Listing.{all_clean, clean_all}
 use Rattle.hub_reads.proofs.Looking.{SelectsFrom, looks_among}
 use Rattle.hub_reads.proofs.Numbering.{all_pass}
 use Rattle.hub_reads.proofs.Sorting.{listed_moved}
-use Rattle.hub_reads.proofs.Unclean.{failed}
 
 -- Bytes that are no GLN are nobody's.
 none_found : (bytes : List ℕ) → is_gln bytes ≡ false → (suppliers : List SupplierRow)
@@ -55,32 +54,21 @@ none_found bytes wrong (row ∷ suppliers) right =
       | inr e ↦ ap (λ b. cond b (Some row) (supplier_row suppliers bytes)) e ∙ none_found bytes wrong suppliers parts.1
     ]
 
-pub nobodys : (register : RegisterRows) → IsRegister register → (bytes : List ℕ) → gln_of bytes ≡ None → row_of register bytes ≡ None
+pub nobodys : (register : RegisterRows) → IsRegister register → (bytes : List ℕ) → is_gln bytes ≡ false → row_of register bytes ≡ None
 nobodys register right bytes none =
     let others = and_parts (is_gln register.hub) _ right.glns_right in
-    none_found bytes (failed (is_gln bytes) bytes (sym none)) register.suppliers (and_parts (is_gln register.retailer) _ others.1).1
-
--- a text that is read is a GLN, or an SSCC
-read_is : (right : Bool) (bytes read : List ℕ) → cond right (Some bytes) None ≡ Some read → (right ≡ true) × (bytes ≡ read)
-read_is true bytes read e = (refl, given bytes read e)
-  where
-    given : (a b : List ℕ) → ◌≡◌ {A = Option (List ℕ)} (Some a) (Some b) → a ≡ b
-    given a b e = cc
-read_is false bytes read e = absurd cc
-
-pub a_gln : (bytes gln : List ℕ) → gln_of bytes ≡ Some gln → bytes ≡ gln
-a_gln bytes gln some = (read_is (is_gln bytes) bytes gln some).1
+    none_found bytes none register.suppliers (and_parts (is_gln register.retailer) _ others.1).1
 
 -- What is no SSCC is under no prefix.
-pub no_sscc : (found : Option SupplierRow) (bytes : List ℕ) → sscc_of bytes ≡ None → is_under found bytes ≡ false
+pub no_sscc : (found : Option SupplierRow) (bytes : List ℕ) → is_key 18 bytes ≡ false → is_under found bytes ≡ false
 no_sscc None bytes none = refl
-no_sscc (Some supplier) bytes none = ap (λ b. b && under_some bytes supplier.prefixes) (failed (is_key 18 bytes) bytes (sym none))
+no_sscc (Some supplier) bytes none = ap (λ b. b && under_some bytes supplier.prefixes) none
 
 pub an_sscc : (found : Option SupplierRow) (supplier : SupplierRow) (bytes sscc : List ℕ) → found ≡ Some supplier
-    → sscc_of bytes ≡ Some sscc → is_under found bytes ≡ under_some sscc supplier.prefixes
-an_sscc found supplier bytes sscc is some =
-    let read = read_is (is_key 18 bytes) bytes sscc some in
-    ap (λ o. is_under o bytes) is ∙ ap₂ (λ b (text : List ℕ). b && under_some text supplier.prefixes) read.0 read.1
+    → is_key 18 sscc ≡ true → sscc ≡ bytes → is_under found bytes ≡ under_some sscc supplier.prefixes
+an_sscc found supplier bytes sscc is right same =
+    ap (λ o. is_under o bytes) is
+    ∙ ap₂ (λ b (text : List ℕ). b && under_some text supplier.prefixes) (ap (is_key 18) (sym same) ∙ right) (sym same)
 
 -- what is so of all rows is so of them in any order
 all_so : {X : Type 0} (p : X → Bool) (xs ys : List X) → IsPermutation xs ys → list_all p xs ≡ true → list_all p ys ≡ true

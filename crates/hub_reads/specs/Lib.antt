@@ -2,4 +2,4 @@ pub mod Asks
 pub mod Fitting
 pub mod Numbered
 pub mod Shown
-pub mod Numbers
+pub mod Mail

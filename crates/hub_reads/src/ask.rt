@@ -3,26 +3,15 @@ ghost use Rattle.std.specs.Prelude.{◌≡◌, ◌⊎◌, ◌==◌, false, not, 
 ghost use Rattle.std.specs.List.{list_all};
 ghost use Rattle.sqlite.specs.Held.{state};
 ghost use Rattle.sqlite.specs.Values.{bound};
-ghost use Rattle.hub_schema.specs.Faults.{fault_of};
 ghost use Rattle.hub_reads.specs.Asks.{Asks};
 
 use crate::shown::{Shown, all_shown, first_shown};
 use edi_base::Items;
+use hub_schema::fault_by;
 use hub_store::StoreFault;
 use sqlite::types::ValueRef;
-use sqlite::{Alter, Connection, Error, ErrorCode, Row};
+use sqlite::{Alter, Connection, Row};
 use std::alloc::Global;
-
-// Out of memory, or a fault of the disk for all else.
-fn fault_by(error: &Error) -> StoreFault
-    ensures exact { result ≡ fault_of error.now }
-    ensures either { (result ≡ StoreFault.Memory) ⊎ (result ≡ StoreFault.Disk) }
-{
-    match error {
-        Error::SqliteFailure(ErrorCode::OutOfMemory) => StoreFault::Memory,
-        _ => StoreFault::Disk,
-    }
-}
 
 /// The rows of an answer.
 pub(crate) fn ask<S: Alter>(

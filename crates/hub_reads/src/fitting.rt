@@ -3,8 +3,7 @@ ghost use Rattle.std.specs.Prelude.{◌≡◌, ◌⊎◌, [], option_copied, IfE
 ghost use Rattle.std.specs.List.{list_all};
 ghost use Rattle.sqlite.specs.Held.{state};
 ghost use Rattle.sqlite_value.specs.Order.{column};
-ghost use Rattle.gs1_ids.specs.Gln.{gln_of};
-ghost use Rattle.gs1_ids.specs.Sscc.{sscc_of, under_some};
+ghost use Rattle.gs1_ids.specs.Sscc.{under_some};
 ghost use Rattle.hub_founding.specs.Fits as founding;
 ghost use Rattle.hub_parties.specs.Rows.{row_of};
 ghost use Rattle.hub_schema.specs.Cells.{bytes_in};
@@ -13,32 +12,12 @@ ghost use Rattle.hub_reads.specs.Asks.{Asks};
 ghost use Rattle.hub_reads.specs.Fitting as spec;
 
 use crate::ask::ask;
-use gs1_ids::{Gln, Sscc};
+use crate::values::{gln_at, sscc_at};
+use gs1_ids::Sscc;
 use hub_parties::SupplierRow;
 use hub_register::Register;
 use hub_store::StoreFault;
-use sqlite::types::ValueRef;
 use sqlite::{Alter, Connection, Row};
-
-// The GLN in a cell.
-fn gln_in(row: &Row, at: usize) -> Option<Gln>
-    ensures { result ≡ gln_of (bytes_in (column row.now at)) }
-{
-    match row.get_ref(at) {
-        Ok(ValueRef::Blob(bytes)) => Gln::parse(bytes),
-        _ => None,
-    }
-}
-
-// The SSCC in a cell.
-fn sscc_in(row: &Row, at: usize) -> Option<Sscc>
-    ensures { result ≡ sscc_of (bytes_in (column row.now at)) }
-{
-    match row.get_ref(at) {
-        Ok(ValueRef::Blob(bytes)) => Sscc::parse(bytes),
-        _ => None,
-    }
-}
 
 // The row of the supplier whose GLN is in a cell. What is no GLN is nobody's.
 fn supplier_in<'a>(register: &'a Register, row: &Row, at: usize) -> Option<&'a SupplierRow>
@@ -46,17 +25,10 @@ fn supplier_in<'a>(register: &'a Register, row: &Row, at: usize) -> Option<&'a S
 {
     // The contract of `hub` says that each GLN of the register is one.
     let _register = register.hub();
-    let Some(gln) = gln_in(row, at) else {
-        return None;
-    };
-    register.supplier(&gln)
-}
-
-// Whether the supplier of a row is registered.
-fn is_registered(register: &Register, row: &Row) -> bool
-    ensures { result ≡ spec.registered_in register.now row.now }
-{
-    supplier_in(register, row, 0).is_some()
+    match gln_at(row, at) {
+        Ok(gln) => register.supplier(&gln),
+        Err(_fault) => None,
+    }
 }
 
 // Whether an SSCC is under a prefix of a supplier.
@@ -77,17 +49,18 @@ fn pallet_fits(register: &Register, row: &Row) -> bool
     let Some(supplier) = supplier_in(register, row, 1) else {
         return false;
     };
-    let Some(sscc) = sscc_in(row, 0) else {
-        return false;
-    };
-    is_under(supplier, &sscc)
+    match sscc_at(row, 0) {
+        Ok(sscc) => is_under(supplier, &sscc),
+        Err(_fault) => false,
+    }
 }
 
 // Whether the suppliers of all rows are registered.
 fn all_registered(register: &Register, rows: &[Row]) -> bool
     ensures { result ≡ list_all (spec.registered_in register.now) rows.now }
 {
-    rows.iter().all(|row| is_registered(register, row))
+    rows.iter()
+        .all(|row| supplier_in(register, row, 0).is_some())
 }
 
 // Whether all pallets fit.
@@ -170,55 +143,20 @@ fn mail_fits<S: Alter>(conn: &mut Connection<S>, register: &Register) -> Result<
     are_registered(conn, register, "SELECT supplier FROM mail")
 }
 
-// What is remembered, and then the mail.
-fn from_remembered<S: Alter>(
-    conn: &mut Connection<S>,
-    register: &Register,
-) -> Result<bool, StoreFault>
-    ensures looks { spec.TellsOld (spec.from_remembered register.now) (state S.Store conn.old) (state S.Store conn.new) result }
-    ensures fails { IfErr result (λ fault. (fault ≡ StoreFault.Memory) ⊎ (fault ≡ StoreFault.Disk)) }
-{
-    let fit = remembered_fit(conn, register)?;
-    if !fit {
-        return Ok(false);
-    }
-    mail_fits(conn, register)
-}
-
-// The pallets, and what comes after.
+// The pallets, what is remembered, and the mail.
 fn from_pallets<S: Alter>(conn: &mut Connection<S>, register: &Register) -> Result<bool, StoreFault>
     ensures looks { spec.TellsOld (spec.from_pallets register.now) (state S.Store conn.old) (state S.Store conn.new) result }
     ensures fails { IfErr result (λ fault. (fault ≡ StoreFault.Memory) ⊎ (fault ≡ StoreFault.Disk)) }
 {
-    let fit = pallets_fit(conn, register)?;
-    if !fit {
+    let pallets = pallets_fit(conn, register)?;
+    if !pallets {
         return Ok(false);
     }
-    from_remembered(conn, register)
-}
-
-// The advices, and what comes after.
-fn from_advices<S: Alter>(conn: &mut Connection<S>, register: &Register) -> Result<bool, StoreFault>
-    ensures looks { spec.TellsOld (spec.from_advices register.now) (state S.Store conn.old) (state S.Store conn.new) result }
-    ensures fails { IfErr result (λ fault. (fault ≡ StoreFault.Memory) ⊎ (fault ≡ StoreFault.Disk)) }
-{
-    let fit = advices_fit(conn, register)?;
-    if !fit {
+    let remembered = remembered_fit(conn, register)?;
+    if !remembered {
         return Ok(false);
     }
-    from_pallets(conn, register)
-}
-
-// The lines, and what comes after.
-fn from_lines<S: Alter>(conn: &mut Connection<S>, register: &Register) -> Result<bool, StoreFault>
-    ensures looks { spec.TellsOld (spec.from_lines register.now) (state S.Store conn.old) (state S.Store conn.new) result }
-    ensures fails { IfErr result (λ fault. (fault ≡ StoreFault.Memory) ⊎ (fault ≡ StoreFault.Disk)) }
-{
-    let fit = lines_fit(conn, register)?;
-    if !fit {
-        return Ok(false);
-    }
-    from_advices(conn, register)
+    mail_fits(conn, register)
 }
 
 /// Whether the register fits to the rows of schema 1: each supplier of a row is registered, and each pallet's SSCC is under
@@ -228,9 +166,17 @@ pub fn fits<S: Alter>(conn: &mut Connection<S>, register: &Register) -> Result<b
         (λ _. ⊥) (state S.Store conn.old) (state S.Store conn.new) result }
     ensures fails { IfErr result (λ fault. (fault ≡ StoreFault.Memory) ⊎ (fault ≡ StoreFault.Disk)) }
 {
-    let fit = orders_fit(conn, register)?;
-    if !fit {
+    let orders = orders_fit(conn, register)?;
+    if !orders {
         return Ok(false);
     }
-    from_lines(conn, register)
+    let lines = lines_fit(conn, register)?;
+    if !lines {
+        return Ok(false);
+    }
+    let advices = advices_fit(conn, register)?;
+    if !advices {
+        return Ok(false);
+    }
+    from_pallets(conn, register)
 }

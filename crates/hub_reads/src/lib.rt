@@ -1,25 +1,29 @@
 //! The look-ups of a hub in SQL: one statement each, of fixed text, that reads one table by a key, or all of it.
 #![tactic(auto)]
 
+mod advice;
 mod ask;
-mod cells;
-mod documents;
+mod content;
 mod fitting;
-mod goods;
-mod lines;
+mod line;
 mod mail;
 mod number;
-mod pallets;
-mod parties;
-mod references;
+mod order;
+mod pallet;
+mod party;
+mod receipt;
+mod remembered;
 mod shown;
+mod values;
 
-pub use documents::{advice_known, order_known};
+pub use advice::advice_known;
+pub use content::contents_of;
 pub use fitting::fits;
-pub use goods::{contents_of, receipts_of};
-pub use lines::{all_lines, lines_of};
+pub use line::{all_lines, lines_of};
 pub use mail::{last_mail, mail_after, mail_item};
 pub use number::is_numbered;
-pub use pallets::{all_pallets, pallet, used};
-pub use parties::{all_hubs, all_keys, all_prefixes, register};
-pub use references::remembered;
+pub use order::order_known;
+pub use pallet::{all_pallets, pallet_of, used};
+pub use party::{all_hubs, all_keys, all_prefixes, register};
+pub use receipt::receipts_of;
+pub use remembered::remembered_content;

@@ -1,16 +1,16 @@
 //! Look-ups in mailboxes.
-ghost use Rattle.std.specs.Prelude.{◌≡◌, ◌<◌, ◌≤◌, ◌^◌, ◌&&◌, ◌⊎◌, pos, negsuc, not, filter};
-ghost use Rattle.std.specs.Prelude.{length, map, take, None, option_map, IsTrue, IfOk, IfSome};
-ghost use Rattle.std.specs.List.{list_all, list_any, last_or};
+ghost use Rattle.std.specs.Prelude.{◌≡◌, ◌<◌, ◌≤◌, ◌^◌, ◌⊎◌, pos, negsuc};
+ghost use Rattle.std.specs.Prelude.{length, map, take, IsTrue, IfOk, IfSome};
+ghost use Rattle.std.specs.List.{list_all, list_any};
 ghost use Rattle.std.specs.Option.{unwrap_or};
 ghost use Rattle.sqlite.specs.Held.{state};
 ghost use Rattle.edi_envelope.specs.Mail.{last_number};
 ghost use Rattle.hub_store.specs.Clean.{clean_head, clean_mail, is_within};
 ghost use Rattle.hub_store.specs.Heads.{head_of};
 ghost use Rattle.hub_schema.specs.State.{LooksUp};
-ghost use Rattle.hub_tables.specs.State.{entry_at, is_taken, untaken_after, last_mail as last};
+ghost use Rattle.hub_tables.specs.State.{entry_at, untaken_after, last_mail as last};
 ghost use Rattle.hub_tables.specs.Tables.{view};
-ghost use Rattle.hub_reads.specs.Numbers.{low_of, above_of, is_above};
+ghost use Rattle.hub_reads.specs.Mail as spec;
 ghost use Rattle.sqlite_sql.specs.Query.{limited, as_count};
 ghost use Rattle.sqlite_value.specs.Value.{owned};
 ghost use Rattle.sqlite.specs.Values.{bound_value};
@@ -36,7 +36,7 @@ fn signed<'a>(number: u64) -> ValueRef<'a>
 
 // Whether the supplier has an entry whose number is no greater than zero.
 fn has_low<S: Alter>(conn: &mut Connection<S>, supplier: &Gln) -> Result<bool, StoreFault>
-    ensures looks { LooksUp (λ t. list_any (low_of supplier.now) t.mail) (state S.Store conn.old) (state S.Store conn.new) result }
+    ensures looks { LooksUp (λ t. list_any (spec.low_of supplier.now) t.mail) (state S.Store conn.old) (state S.Store conn.new) result }
 {
     has_row(
         conn,
@@ -52,7 +52,8 @@ fn has_above<S: Alter>(
     number: u64,
 ) -> Result<bool, StoreFault>
     requires { number < 2 ^ 63 }
-    ensures looks { LooksUp (λ t. list_any (above_of supplier.now number) t.mail) (state S.Store conn.old) (state S.Store conn.new) result }
+    ensures looks { LooksUp (λ t. list_any (spec.above_of supplier.now number) t.mail)
+        (state S.Store conn.old) (state S.Store conn.new) result }
 {
     let bound = signed(number);
     has_row(
@@ -128,9 +129,8 @@ fn heads_above<S: Alter>(
     most: ValueRef<'_>,
 ) -> Result<Items<MailHead>, StoreFault>
     requires { number < 2 ^ 63 }
-    ensures looks { LooksUp
-        (λ t. limited (as_count (bound_value (owned most.entry))) (map head_of (filter (λ entry. is_above number entry.number
-        && not (is_taken entry)) (view supplier.now t).mail))) (state S.Store conn.old) (state S.Store conn.new) result }
+    ensures looks { LooksUp (λ t. limited (as_count (bound_value (owned most.entry))) (spec.untaken_heads supplier.now number t))
+        (state S.Store conn.old) (state S.Store conn.new) result }
     ensures clean { IfOk result (λ heads. IsTrue (list_all clean_head heads)) }
 {
     let bound = signed(number);
@@ -152,8 +152,8 @@ fn first_above<S: Alter>(
     limit: usize,
 ) -> Result<Items<MailHead>, StoreFault>
     requires { number < 2 ^ 63 }
-    ensures looks { LooksUp (λ t. take limit (map head_of (filter (λ entry. is_above number entry.number
-        && not (is_taken entry)) (view supplier.now t).mail))) (state S.Store conn.old) (state S.Store conn.new) result }
+    ensures looks { LooksUp (λ t. take limit (spec.untaken_heads supplier.now number t))
+        (state S.Store conn.old) (state S.Store conn.new) result }
     ensures clean { IfOk result (λ heads. IsTrue (list_all clean_head heads)) }
     ensures limit { IfOk result (λ heads. length heads ≤ limit) }
 {
@@ -170,8 +170,8 @@ fn untaken_above<S: Alter>(
     number: u64,
     limit: usize,
 ) -> Result<Items<MailHead>, StoreFault>
-    ensures looks { LooksUp (λ t. take limit (map head_of (filter (λ entry. is_above number entry.number
-        && not (is_taken entry)) (view supplier.now t).mail))) (state S.Store conn.old) (state S.Store conn.new) result }
+    ensures looks { LooksUp (λ t. take limit (spec.untaken_heads supplier.now number t))
+        (state S.Store conn.old) (state S.Store conn.new) result }
     ensures clean { IfOk result (λ heads. IsTrue (list_all clean_head heads)) }
     ensures limit { IfOk result (λ heads. length heads ≤ limit) }
 {
@@ -208,8 +208,7 @@ pub fn mail_after<S: Alter>(
 
 // The number of the last entry above zero.
 fn highest<S: Alter>(conn: &mut Connection<S>, supplier: &Gln) -> Result<Option<u64>, StoreFault>
-    ensures looks { LooksUp (λ t. option_map (λ entry. entry.number) (last_or None (filter (λ entry. is_above 0 entry.number)
-        (view supplier.now t).mail))) (state S.Store conn.old) (state S.Store conn.new) result }
+    ensures looks { LooksUp (spec.highest supplier.now) (state S.Store conn.old) (state S.Store conn.new) result }
     ensures within { IfOk result (λ found. IfSome found (λ number. IsTrue (is_within 1 last_number number))) }
 {
     first_of(
@@ -221,9 +220,7 @@ fn highest<S: Alter>(conn: &mut Connection<S>, supplier: &Gln) -> Result<Option<
 
 // The same, and 0 where there is none.
 fn highest_or_zero<S: Alter>(conn: &mut Connection<S>, supplier: &Gln) -> Result<u64, StoreFault>
-    ensures looks { LooksUp
-        (λ t. unwrap_or (option_map (λ entry. entry.number) (last_or None (filter (λ entry. is_above 0 entry.number)
-        (view supplier.now t).mail))) 0) (state S.Store conn.old) (state S.Store conn.new) result }
+    ensures looks { LooksUp (λ t. unwrap_or (spec.highest supplier.now t) 0) (state S.Store conn.old) (state S.Store conn.new) result }
     ensures within { IfOk result (λ number. number ≤ last_number) }
 {
     let number = highest(conn, supplier)?;

@@ -8,7 +8,7 @@ ghost use Rattle.hub_reads.specs.Shown.{shown_line, shown_pallet, shown_content,
 ghost use Rattle.hub_reads.specs.Shown.{shown_hub, shown_key, shown_prefix};
 ghost use Rattle.sqlite_value.specs.Order.{Row as Values};
 
-use crate::cells::{
+use crate::values::{
     bytes_at, case_at, decimal_at, document_at, gln_at, gtin_at, key_at, moment_at, prefix_at,
     sscc_at, within_at,
 };

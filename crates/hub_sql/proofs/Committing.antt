@@ -4,6 +4,7 @@ use Rattle.std.proofs.Common.{Ok, Err, refl, sym, ap, subst, ◌∙◌}
 use Rattle.std.specs.List.{last_or}
 use Rattle.sqlite.specs.Held.{state}
 use Rattle.sqlite_trees.specs.declared.store.Store.{Ghosts}
+use Rattle.hub_parties.specs.Rows.{RegisterRows}
 use Rattle.hub_tables.specs.Change.{apply_all}
 use Rattle.hub_tables.specs.Sets.{Fit}
 use Rattle.hub_tables.specs.Tables.{Tables}
@@ -20,7 +21,8 @@ last_added : {X : Type 0} (xs : List X) (x : X) (d : Option X) → last_or d (xs
 last_added [] x d = refl
 last_added (y ∷ ys) x d = last_added ys x (Some y)
 
-module _ {S : Type 0} (g : Ghosts S) (old new : Stored S) (settled : IsSettled g old) (whole : old.fault ≡ None)
+module _ {S : Type 0} (g : Ghosts S) {kept : Option RegisterRows} (old new : Stored S) (settled : IsSettled g kept old)
+    (whole : old.fault ≡ None)
     (changes : List Change)
     (back : honest g new → honest g old) where
   abbrev Done : Result (Unit {0}) StoreFault → Type 0
@@ -56,12 +58,13 @@ module _ {S : Type 0} (g : Ghosts S) (old new : Stored S) (settled : IsSettled g
       unclean = λ clean none is. cc;
     }
 
-    pub made_settles : IsSettled g new
+    pub made_settles : IsSettled g None new
     made_settles = record {
       idle = did.mode;
       schema = λ none clean. (did.done clean (held_before clean)).1.schema;
       hub = λ clean o. (did.done clean (held_before clean)).1;
       rows = λ clean o. sym content_after;
+      register = λ clean. tt;
     }
 
   -- none is
@@ -93,7 +96,7 @@ module _ {S : Type 0} (g : Ghosts S) (old new : Stored S) (settled : IsSettled g
       ];
     }
 
-    pub kept_settles : IsSettled g new
+    pub kept_settles : IsSettled g kept new
     kept_settles =
         still g old new settled whole past did.mode (λ clean none. makes.usable none) back
         (λ clean o. did.kept clean (held_before clean) o)

@@ -2,9 +2,11 @@
 use Rattle.std.proofs.Common.{◌≡◌, ◌≢◌, inl, inr, false, IsTrue, Option, None, Some, Result, Ok, Err, IfOk, IfErr, OnOk}
 use Rattle.std.proofs.Common.{refl, sym, ap, subst, ◌∙◌}
 use Rattle.std.specs.List.{last_or}
+use Rattle.std.specs.Option.{IfSome}
 use Rattle.sqlite.specs.Held.{state}
 use Rattle.sqlite_trees.specs.declared.store.Store.{Ghosts}
 use Rattle.sql_rows.proofs.Transactions.{clean_before}
+use Rattle.hub_parties.specs.Rows.{RegisterRows}
 use Rattle.hub_tables.specs.Tables.{Tables}
 use Rattle.hub_store.specs.Calls.{Looks, Fails, broken_after, broken_by, fault_of}
 use Rattle.hub_store.specs.Clean.{are_clean}
@@ -16,8 +18,8 @@ use Rattle.hub_schema.specs.Rows.{tables_in}
 use Rattle.hub_schema.specs.Schema.{hub_schema}
 use Rattle.hub_schema.specs.State.{Holds, LooksUp}
 use Rattle.hub_sql.specs.Settling.{Settles}
-use Rattle.hub_sql.specs.Stored.{Stored, rows_in, content, left, IsSettled, honest}
-use Rattle.hub_sql.proofs.Moving.{hub_moved}
+use Rattle.hub_sql.specs.Stored.{Stored, rows_in, content, left, HasRegister, IsSettled, honest}
+use Rattle.hub_schema.proofs.Same.{same_hub}
 
 ok_of : {X E : Type 0} (P : X → Type 0) (found : Result X E) (x : X) → found ≡ Ok x → IfOk found P → P x
 ok_of P (Ok y) x e h = let same : y ≡ x = cc in subst P same h
@@ -49,7 +51,8 @@ failed None after result none lasting known = record {
     not_version (Err f) h = λ e. h (ap Err e)
 failed (Some f) after result none lasting known = cc
 
-module _ {S : Type 0} (g : Ghosts S) (old new : Stored S) (settled : IsSettled g old) (whole : old.fault ≡ None)
+module _ {S : Type 0} (g : Ghosts S) {kept : Option RegisterRows} (old new : Stored S) (settled : IsSettled g kept old)
+    (whole : old.fault ≡ None)
     (past : new.past ≡ old.past) where
   pub same_content : content g new ≡ content g old
   same_content = ap (λ p. rows_in g (last_or None p)) past
@@ -62,14 +65,15 @@ module _ {S : Type 0} (g : Ghosts S) (old new : Stored S) (settled : IsSettled g
       → (honest g new → honest g old)
       → (honest g new → IsTrue (state g new.held).is_open → IsTrue (state g old.held).is_open ×
       ((state g new.held).now ≡ (state g old.held).now))
-      → IsSettled g new
+      → IsSettled g kept new
   still idle schema back shows = record {
     idle = idle;
     schema = λ none clean. schema clean none;
-    hub = λ clean o. let was = shows clean o in hub_moved (state g old.held) (state g new.held) was.1
+    hub = λ clean o. let was = shows clean o in same_hub (state g old.held) (state g new.held) was.1
         (settled.hub (back clean) was.0);
     rows = λ clean o. let was = shows clean o in ap (λ d. tables_in d.trees) was.1 ∙ settled.rows
         (back clean) was.0 ∙ sym same_content;
+    register = λ clean. subst (λ t. IfSome kept (HasRegister t)) (sym same_content) (settled.register (back clean));
   }
 
   module _ {X : Type 0} (answer : Tables → X) (found result : Result X StoreFault)
@@ -107,7 +111,7 @@ module _ {S : Type 0} (g : Ghosts S) (old new : Stored S) (settled : IsSettled g
     pub look_fails : Fails false old.fault new.fault result
     look_fails = failed old.fault new.fault result whole makes.lasting makes.version
 
-    pub look_settles : IsSettled g new
+    pub look_settles : IsSettled g kept new
     look_settles =
         still (looks.mode settled.idle) (λ clean none. schema result makes.value makes.usable clean none) back
         (λ clean o. looks.stays clean settled.idle (settled.schema whole (back clean)) o)

@@ -14,8 +14,9 @@ use Rattle.hub_schema.specs.Rows.{traffic_in}
 use Rattle.hub_schema.specs.Schema.{no_schema}
 use Rattle.hub_store.specs.declared.fault.StoreFault.{StoreFault}
 use Rattle.hub_store.specs.declared.fault.StoreFault.TheVariants.{Unclean, Version}
-use Rattle.hub_sql.specs.Opening.{ComesBack, Founds, IsAsBefore, IsOfFounding, IsSpared, MayBeBeside, MayBeFounded}
-use Rattle.hub_sql.specs.Opening.{RefusesFounding, SparesConnection}
+use Rattle.hub_sql.specs.Founding.{Founds, IsOfFounding, MayBeBeside, MayBeFounded, RefusesFounding}
+use Rattle.hub_sql.specs.Opening.{ComesBack, IsAsBefore, IsSpared}
+use Rattle.hub_sql.specs.Opening.{SparesConnection}
 use Rattle.hub_sql.specs.Stored.{Stored, content, left, honest}
 use Rattle.hub_sql.specs.Version.{AreRising, AreShaped, HoldsTables, schema_of}
 use Rattle.hub_sql.specs.declared.fault.FoundFault.{FoundFault}

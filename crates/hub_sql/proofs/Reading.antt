@@ -10,7 +10,7 @@ use Rattle.hub_parties.specs.Rows.{RegisterRows}
 use Rattle.hub_founding.specs.Founding.{HoldsNone, IsHeldBy}
 use Rattle.hub_tables.specs.Register.{HoldsRegister, register_of}
 use Rattle.hub_tables.specs.Tables.{Tables}
-use Rattle.hub_store.specs.Calls.{Looks, ReadsRegister, fault_of}
+use Rattle.hub_store.specs.Calls.{Fails, Looks, ReadsRegister, fault_of}
 use Rattle.hub_store.specs.declared.fault.LastingFault.{LastingFault}
 use Rattle.hub_store.specs.declared.fault.StoreFault.{StoreFault}
 use Rattle.hub_store.specs.declared.fault.StoreFault.TheVariants.{Unclean}
@@ -19,12 +19,8 @@ use Rattle.hub_schema.specs.Schema.{hub_schema}
 use Rattle.hub_schema.specs.State.{LooksFor, LooksIn, LooksUp}
 use Rattle.hub_reads.proofs.Joining.{of_hub}
 use Rattle.hub_sql.specs.Settling.{Settles}
-use Rattle.hub_sql.specs.Stored.{Stored, content, left, IsSettled, honest}
+use Rattle.hub_sql.specs.Stored.{Stored, content, left, HasRegister, IsSettled, honest}
 use Rattle.hub_sql.proofs.Looking.{failed, holds, still, same_content, looked, refused_fails}
-
--- they hold it
-abbrev pub Holds : Tables → RegisterRows → Type 0
-Holds t register = IsHeldBy t (Some register)
 
 -- where there is none, that is a fault
 abbrev pub as_fault : Result (Option RegisterRows) StoreFault → Result RegisterRows StoreFault
@@ -33,7 +29,7 @@ as_fault (Ok None) = Err Unclean
 as_fault (Err fault) = Err fault
 
 held_one : (old new : State) (found : Result (Option RegisterRows) StoreFault) → LooksFor IsHeldBy HoldsNone old new found
-    → LooksFor Holds HoldsNone old new (as_fault found)
+    → LooksFor HasRegister HoldsNone old new (as_fault found)
 held_one old new (Ok (Some register)) looks = record {
   answers = looks.answers;
   same = looks.same;
@@ -64,7 +60,7 @@ held_one old new (Err fault) looks = record {
 
 -- it is looked up in all tables, and so in a hub's
 pub held : (old new : State) (found : Result (Option RegisterRows) StoreFault) → LooksIn IsHeldBy HoldsNone old new found
-    → LooksFor Holds HoldsNone old new (as_fault found)
+    → LooksFor HasRegister HoldsNone old new (as_fault found)
 held old new found looks = held_one old new found (of_hub IsHeldBy HoldsNone old new found looks)
 
 ok_of : {X E : Type 0} (P : X → Type 0) (found : Result X E) (x : X) → found ≡ Ok x → IfOk found P → P x
@@ -78,7 +74,7 @@ on_ok_of (Err f) x e h = cc
 -- of rows that hold one it is a look-up
 pub as_look : (old new : State) (result : Result RegisterRows StoreFault)
     → (HasCleanDisk old → IsTrue old.is_open → HoldsRegister (tables_in old.now.trees))
-    → LooksFor Holds HoldsNone old new result
+    → LooksFor HasRegister HoldsNone old new result
     → LooksUp register_of old new result
 as_look old new result holds looks = record {
   answers = λ clean are. theirs (tables_in old.now.trees) result (looks.answers clean are);
@@ -92,14 +88,14 @@ as_look old new result holds looks = record {
       absurd (it.1 (holds (clean_before old new _ looks.crash clean) it.0));
 }
   where
-    theirs : (t : Tables) (result : Result RegisterRows StoreFault) → IfOk result (Holds t)
+    theirs : (t : Tables) (result : Result RegisterRows StoreFault) → IfOk result (HasRegister t)
         → IfOk result (λ register. register ≡ register_of t)
     theirs t (Ok register) is = is.1
     theirs t (Err fault) is = tt
 
-module _ {S : Type 0} (g : Ghosts S) (old new : Stored S) (settled : IsSettled g old) (whole : old.fault ≡ None)
-    (past : new.past ≡ old.past) (found result : Result RegisterRows StoreFault)
-    (looks : LooksFor Holds HoldsNone (state g old.held) (state g new.held) found)
+module _ {S : Type 0} (g : Ghosts S) {kept : Option RegisterRows} (old new : Stored S) (settled : IsSettled g kept old)
+    (whole : old.fault ≡ None) (past : new.past ≡ old.past) (found result : Result RegisterRows StoreFault)
+    (looks : LooksFor HasRegister HoldsNone (state g old.held) (state g new.held) found)
     (makes : Settles found new.held.schema result new.fault) where
   back : honest g new → honest g old
   back clean = clean_before (state g old.held) (state g new.held) _ looks.crash clean
@@ -124,15 +120,15 @@ module _ {S : Type 0} (g : Ghosts S) (old new : Stored S) (settled : IsSettled g
       none None is = tt
       none (Some fault) is = cc
 
-      go : (r : Result RegisterRows StoreFault) → IfOk r (λ x. found ≡ Ok x) → honest g new → IfOk r (Holds (content g old))
+      go : (r : Result RegisterRows StoreFault) → IfOk r (λ x. found ≡ Ok x) → honest g new → IfOk r (HasRegister (content g old))
       go (Ok x) is clean =
           let shown = on_ok_of found x is (looks.same clean) in
-          subst (λ t. Holds t x) (settled.rows (back clean) shown.0)
-          (ok_of (Holds (tables_in (state g old.held).now.trees)) found x is
+          subst (λ t. HasRegister t x) (settled.rows (back clean) shown.0)
+          (ok_of (HasRegister (tables_in (state g old.held).now.trees)) found x is
           (looks.answers clean (holds g old new settled whole past (back clean))))
       go (Err f) is clean = tt
 
-  pub read_settles : IsSettled g new
+  pub read_settles : IsSettled g kept new
   read_settles =
       still g old new settled whole past (looks.mode settled.idle)
       (λ clean none. schema result makes.value makes.usable clean none) back
@@ -166,4 +162,41 @@ module _ {S : Type 0} (g : Ghosts S) (s : Stored S) (result : Result RegisterRow
     was_honest = λ clean. clean;
     again = rw has is;
     fails = λ _. refused_fails g s result good has is;
+  }
+
+-- one that is kept is answered of a store without a fault for good
+module _ {S : Type 0} (g : Ghosts S) (s : Stored S) (register : RegisterRows) (settled : IsSettled g (Some register) s)
+    (whole : s.fault ≡ None) where
+  abbrev found : Result RegisterRows StoreFault
+  found = Ok register
+
+  pub kept_fails : Fails false s.fault s.fault found
+  kept_fails = failed s.fault s.fault found whole whole (λ is. cc)
+
+  pub kept_read : ReadsRegister (content g) (honest g) (left g) (λ s. s.fault) false s s found
+  kept_read = record {
+    held = settled.register;
+    content_stays = λ clean. refl;
+    left_stays = λ clean t h. h;
+    was_honest = λ clean. clean;
+    again = kept_fails.again;
+    fails = λ _. kept_fails;
+  }
+
+  pub kept_looked : Looks (content g) (honest g) (left g) (λ s. s.fault) s s (register_of (content g s)) found
+  kept_looked = record {
+    answers = λ clean. (settled.register clean).1;
+    content_stays = λ clean. refl;
+    left_stays = λ clean t h. h;
+    was_honest = λ clean. clean;
+    unclean = λ clean none is. cc;
+  }
+
+  pub kept_settles : IsSettled g None s
+  kept_settles = record {
+    idle = settled.idle;
+    schema = settled.schema;
+    hub = settled.hub;
+    rows = settled.rows;
+    register = λ clean. tt;
   }

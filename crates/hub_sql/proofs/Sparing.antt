@@ -14,7 +14,8 @@ use Rattle.hub_tables.specs.Tables.{Tables}
 use Rattle.hub_founding.specs.Fits.{fits, founded_beside}
 use Rattle.sqlite.specs.Schema.{Schema}
 use Rattle.hub_schema.specs.State.{IsUndone, FoundsTo, LooksAmong, ShowsTheSame, Spares}
-use Rattle.hub_sql.specs.Opening.{LeftAfter, MayBeBeside, MayBeRenumbered, SparesConnection, SparesStore, IsAsBefore, IsReady}
+use Rattle.hub_sql.specs.Founding.{MayBeBeside}
+use Rattle.hub_sql.specs.Opening.{LeftAfter, MayBeRenumbered, SparesConnection, SparesStore, IsAsBefore, IsReady}
 use Rattle.hub_sql.specs.Version.{schema_of}
 use Rattle.hub_sql.specs.declared.version.Version.{Version}
 use Rattle.hub_sql.specs.declared.version.Version.TheVariants.{Second}

@@ -11,7 +11,8 @@ use Rattle.sqlite_wal.specs.Recovery.{Image}
 use Rattle.hub_store.specs.declared.fault.StoreFault.{StoreFault}
 use Rattle.hub_store.specs.declared.fault.StoreFault.TheVariants.{Memory, Disk}
 use Rattle.hub_parties.specs.Rows.{RegisterRows}
-use Rattle.hub_sql.specs.Opening.{Adopts, Founds, Refuses, RefusesFounding}
+use Rattle.hub_sql.specs.Founding.{Founds, RefusesFounding}
+use Rattle.hub_sql.specs.Opening.{Adopts, Refuses}
 use Rattle.hub_sql.specs.Stored.{Stored}
 use Rattle.hub_sql.specs.declared.fault.FoundFault.{FoundFault}
 use Rattle.hub_sql.specs.declared.fault.FoundFault.TheVariants as found

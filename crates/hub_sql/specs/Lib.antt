@@ -1,4 +1,5 @@
 pub mod File
+pub mod Founding
 pub mod Opening
 pub mod Settling
 pub mod Stored

@@ -1,29 +1,25 @@
--- What a store is that takes over a connection or founds a hub in one, and when none does.
-use Rattle.std.specs.Prelude.{◌≡◌, ◌≢◌, ◌⊎◌, IsTrue, true, false, None}
+-- What a store is that takes over a connection, and when none does.
+use Rattle.std.specs.Prelude.{◌≡◌, ◌≢◌, ◌⊎◌, IsTrue, false, None}
 use Rattle.sqlite.specs.Held.{Held, state}
 use Rattle.sqlite.specs.Effect.{IsDatabase}
 use Rattle.sqlite.specs.State.{State, HasCleanDisk}
 use Rattle.sqlite_trees.specs.Tree.{Trees}
 use Rattle.sqlite_trees.specs.View.{IsClean}
 use Rattle.sqlite_trees.specs.declared.store.Store.{Ghosts}
-use Rattle.hub_founding.specs.Fits.{fits, founded_beside}
 use Rattle.hub_founding.specs.Founding.{HoldsNone}
-use Rattle.hub_parties.specs.Rows.{RegisterRows}
 use Rattle.hub_tables.specs.Register.{HoldsRegister}
-use Rattle.hub_tables.specs.Tables.{Tables, empty}
+use Rattle.hub_tables.specs.Tables.{Tables}
 use Rattle.hub_store.specs.declared.fault.StoreFault.{StoreFault}
-use Rattle.hub_store.specs.declared.fault.StoreFault.TheVariants.{Memory, Disk, Unclean, Version}
-use Rattle.hub_schema.specs.Rows.{tables_in, traffic_in}
-use Rattle.hub_schema.specs.Schema.{hub_schema, no_schema}
+use Rattle.hub_store.specs.declared.fault.StoreFault.TheVariants.{Unclean, Version}
+use Rattle.hub_schema.specs.Rows.{tables_in}
+use Rattle.hub_schema.specs.Schema.{hub_schema}
 use Rattle.hub_schema.specs.State.{IsFounded}
 use Rattle.hub_sql.specs.Stored.{Stored, content, left, honest}
 use Rattle.hub_sql.specs.Version.{HoldsHub, HoldsTables, schema_of}
-use Rattle.hub_sql.specs.declared.fault.FoundFault.{FoundFault}
-use Rattle.hub_sql.specs.declared.fault.FoundFault.TheVariants as found
 use Rattle.hub_sql.specs.declared.returned.Returned.{Returned}
 use Rattle.hub_sql.specs.declared.returned.Returned.TheVariants.{Connection, Store}
 use Rattle.hub_sql.specs.declared.version.Version.{Version as Stage}
-use Rattle.hub_sql.specs.declared.version.Version.TheVariants.{First, Second}
+use Rattle.hub_sql.specs.declared.version.Version.TheVariants.{Second}
 
 -- it is open, shows what was committed, and obeys its schema
 pub record IsReady (s : State) : Type 0 where
@@ -45,36 +41,6 @@ pub record Adopts {S : Type 0} (g : Ghosts S) (was : State) (store : Stored S) :
   pub holds : honest g store → HoldsRegister (content g store)
   pub crash : honest g store → (t : Tables) → left g store t → t ≡ content g store
   pub clean : honest g store → HasCleanDisk was
-
--- what stood where a hub is founded: no table, or those of schema 1 with these rows
-abbrev pub Stood : State → Tables → Type 0
-Stood was before =
-    ((was.now.schema ≡ no_schema) × (before ≡ empty))
-    ⊎ (HoldsTables First was.now × (before ≡ traffic_in was.committed.trees))
-
--- the faults of a founding that was begun
-abbrev pub IsOfFounding : FoundFault → Type 0
-IsOfFounding fault = (fault ≡ found.Rows) ⊎ ((fault ≡ found.Store Memory) ⊎ (fault ≡ found.Store Disk))
-
--- with the rows of the register beside those that stood there, to which it fits; a crash leaves these alone
-pub record Founds {S : Type 0} (g : Ghosts S) (register : RegisterRows) (was : State) (store : Stored S) : Type 0 where
-  pub before : Tables
-  pub whole : store.fault ≡ None
-  pub stood : honest g store → Stood was before
-  pub fit : honest g store → fits register before ≡ true
-  pub rows : honest g store → content g store ≡ founded_beside before register
-  pub holds : honest g store → HoldsRegister (content g store)
-  pub crash : honest g store → (t : Tables) → left g store t → t ≡ content g store
-  pub clean : honest g store → HasCleanDisk was
-
--- what may be left by a founding that failed, beside what was committed: a hub's tables, with the rows of the register
--- beside these, to which it fits
-abbrev pub MayBeBeside : Tables → RegisterRows → Trees → Type 0
-MayBeBeside before register trees =
-    (fits register before ≡ true) × IsFounded (founded_beside before register) trees
-
-abbrev pub MayBeFounded : RegisterRows → State → Trees → Type 0
-MayBeFounded register was trees = (before : Tables) × Stood was before × MayBeBeside before register trees
 
 -- after a crash: what it left before, the rows that were committed, or what else may be
 abbrev pub LeftAfter : (Trees → Type 0) → State → Trees → Type 0
@@ -129,19 +95,3 @@ pub record Refuses {S : Type 0} (g : Ghosts S) (was : State) (back : Returned S)
   pub other : was.now.schema ≢ hub_schema → fault ≡ Version
   pub unclean : fault ≡ Unclean → ComesBack g back (λ now. HoldsNone (tables_in was.committed.trees)) × IsSpared g (λ _. ⊥) was back
   pub spared : IsSpared g (MayBeRaised was) was back
-
--- `Version` comes with the connection as it was, and only where it has tables, and not those of schema 1; where they are
--- of another schema, no other fault comes. `Rows` comes where there are those of schema 1, to whose rows the register does
--- not fit, and the connection has them still. `Unclean` never comes, as no row of a register was there.
-pub record RefusesFounding {S : Type 0} (g : Ghosts S) (register : RegisterRows) (was : State) (back : Returned S)
-    (fault : FoundFault) : Type 0 where
-  pub version :
-      fault ≡ found.Store Version →
-      ComesBack g back (λ now. ((before : Tables) → ¬ Stood was before) × IsAsBefore was now)
-  pub other : was.now.schema ≢ no_schema → was.now.schema ≢ schema_of First → fault ≡ found.Store Version
-  pub rows :
-      fault ≡ found.Rows →
-      ComesBack g back (λ now. HoldsTables First was.now × (fits register (traffic_in was.committed.trees) ≡ false)
-      × (now.now.schema ≡ was.now.schema))
-  pub unclean : fault ≢ found.Store Unclean
-  pub spared : IsSpared g (MayBeFounded register was) was back

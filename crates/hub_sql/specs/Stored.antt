@@ -1,11 +1,14 @@
 -- A store over a connection, as its clauses see it.
 use Rattle.std.specs.Prelude.{◌≡◌, ◌⊎◌, Bool, false, IsTrue, List, Option, None, Some, refl}
+use Rattle.std.specs.Option.{IfSome}
 use Rattle.std.specs.Coded.{Coded, code_by, coded×, coded_list, coded_option, coded_bool}
 use Rattle.std.specs.List.{last_or}
 use Rattle.sqlite.specs.Held.{Held, held_code, state}
 use Rattle.sqlite.specs.State.{HasCleanDisk}
 use Rattle.sqlite_trees.specs.Tree.{Trees}
 use Rattle.sqlite_trees.specs.declared.store.Store.{Ghosts}
+use Rattle.hub_parties.specs.Rows.{RegisterRows}
+use Rattle.hub_tables.specs.Register.{HoldsRegister, register_of}
 use Rattle.hub_tables.specs.Tables.{Tables, empty}
 use Rattle.hub_store.specs.declared.fault.LastingFault.{LastingFault}
 use Rattle.hub_store.specs.contracts.fault.LastingFault as lasting
@@ -27,6 +30,10 @@ stored_code {S} code =
     (coded× (coded_option lasting.the_row.coded) (coded_list (coded× (held_code code) coded_bool))))
     (λ s. (s.held, (s.fault, s.past))) (λ p. record { held = p.0; fault = p.1.0; past = p.1.1 }) (λ _. refl)
 
+-- they hold this register
+abbrev pub HasRegister : Tables → RegisterRows → Type 0
+HasRegister t register = HoldsRegister t × (register ≡ register_of t)
+
 module _ {S : Type 0} (g : Ghosts S) where
   abbrev pub rows_in : Option (Held S × Bool) → Tables
   rows_in None = empty
@@ -45,11 +52,12 @@ module _ {S : Type 0} (g : Ghosts S) where
   left s t = (t ≡ content s) ⊎ ((trees : Trees) × (state g s.held).may_leave trees × (t ≡ tables_in trees))
 
   -- what is true of each store: where it is open, also after a fault for good, it has the hub's tables, whose rows are
-  -- the content; and while no fault is for good, its schema is the hub's
-  pub record IsSettled (s : Stored S) : Type 0 where
+  -- the content; while no fault is for good, its schema is the hub's; and a register that it keeps is that of the content
+  pub record IsSettled (kept : Option RegisterRows) (s : Stored S) : Type 0 where
     pub idle : s.held.in_transaction ≡ false
     pub schema : s.fault ≡ None → HasCleanDisk (state g s.held) → s.held.schema ≡ hub_schema
     pub hub : HasCleanDisk (state g s.held) → IsTrue (state g s.held).is_open → IsHub (state g s.held)
     pub rows :
         HasCleanDisk (state g s.held) → IsTrue (state g s.held).is_open →
         tables_in (state g s.held).now.trees ≡ content s
+    pub register : HasCleanDisk (state g s.held) → IfSome kept (HasRegister (content s))

@@ -39,6 +39,9 @@ impl<S: Alter> Store for SqliteStore<S> {
         if let Some(lasting) = self.fault {
             return Err(again(lasting));
         }
+        if let Some(register) = self.register.take() {
+            return Ok(register);
+        }
         let found = held_register(&mut self.conn, self.alloc);
         settle(found, self.conn.schema(), &mut self.fault)
     }
@@ -53,7 +56,7 @@ impl<S: Alter> Store for SqliteStore<S> {
         if let Some(lasting) = self.fault {
             return Err(again(lasting));
         }
-        let found = hub_reads::remembered(&mut self.conn, supplier, side, control, message);
+        let found = hub_reads::remembered_content(&mut self.conn, supplier, side, control, message);
         settle(found, self.conn.schema(), &mut self.fault)
     }
 
@@ -85,7 +88,7 @@ impl<S: Alter> Store for SqliteStore<S> {
         if let Some(lasting) = self.fault {
             return Err(again(lasting));
         }
-        let found = hub_reads::pallet(&mut self.conn, supplier, sscc);
+        let found = hub_reads::pallet_of(&mut self.conn, supplier, sscc);
         settle(found, self.conn.schema(), &mut self.fault)
     }
 
@@ -172,6 +175,7 @@ impl<S: Alter> Store for SqliteStore<S> {
         }
         match hub_writes::commit(&mut self.conn, changes) {
             Ok(()) => {
+                self.register = None;
                 self.past = self.past.and(&self.conn, &true);
                 Ok(())
             }

@@ -1,4 +1,6 @@
 //! Why a hub was not founded.
+ghost use Rattle.std.specs.Prelude.{◌≡◌, ◌⊎◌};
+
 use hub_store::StoreFault;
 
 /// Why a hub was not founded.
@@ -9,4 +11,15 @@ pub enum FoundFault {
     Rows,
     /// The store did not answer. `Version` where the database has tables, and not those of schema 1.
     Store(StoreFault),
+}
+
+/// The fault of a founding, or of a number that was not set. It is never a row without the form of its kind, since those
+/// of a register have it.
+pub(crate) fn laying_fault(fault: StoreFault) -> StoreFault
+    ensures { (result ≡ StoreFault.Memory) ⊎ (result ≡ StoreFault.Disk) }
+{
+    match fault {
+        StoreFault::Memory => StoreFault::Memory,
+        StoreFault::Disk | StoreFault::Unclean | StoreFault::Version => StoreFault::Disk,
+    }
 }

@@ -9,10 +9,10 @@ ghost use Rattle.hub_sql.specs.Opening.{IsReady};
 ghost use Rattle.hub_sql.specs.Version.{AreRising};
 
 use crate::fault::FoundFault;
-use crate::opening::fault_by;
 use crate::returned::Returned;
 use crate::store::SqliteStore;
 use hub_register::Register;
+use hub_schema::fault_by;
 use hub_store::StoreFault;
 use sqlite::{Connection, Leftover};
 use sqlite_disk::{Disk, Start};

@@ -1,10 +1,10 @@
 //! The tables of a hub in a database of SQL, in memory or in a file.
 #![tactic(auto)]
 
-mod adopting;
 mod calls;
 mod fault;
 mod file;
+mod founding;
 mod migrating;
 mod opening;
 mod register;

@@ -7,13 +7,13 @@ ghost use Rattle.hub_parties.specs.Rows.{IsRegister};
 ghost use Rattle.hub_schema.specs.Rows.{traffic_in};
 ghost use Rattle.hub_schema.specs.Schema.{old_schema, no_schema};
 ghost use Rattle.hub_schema.specs.State.{HasNumber, IsOldHub};
-ghost use Rattle.hub_sql.specs.Opening.{Founds, IsAsBefore, IsOfFounding, IsReady, MayBeBeside, RefusesFounding, SparesConnection};
+ghost use Rattle.hub_sql.specs.Founding.{Founds, IsOfFounding, MayBeBeside, RefusesFounding};
+ghost use Rattle.hub_sql.specs.Opening.{IsAsBefore, IsReady, SparesConnection};
 ghost use Rattle.hub_sql.specs.Stored.{content, left, honest};
 ghost use Rattle.hub_sql.specs.Version.{AreRising, AreShaped};
 ghost use Rattle.hub_tables.specs.Tables.{Tables};
 
-use crate::fault::FoundFault;
-use crate::opening::laying_fault;
+use crate::fault::{FoundFault, laying_fault};
 use crate::reopening::{of_version, reopened};
 use crate::returned::Returned;
 use crate::store::SqliteStore;
@@ -91,7 +91,7 @@ fn laid_beside<S: Alter + Drop>(
         return Err((conn, FoundFault::Store(StoreFault::Memory)));
     };
     match migrate(&mut conn, changes.as_slice()) {
-        Ok(()) => Ok(SqliteStore::settled(alloc, conn)),
+        Ok(()) => Ok(SqliteStore::settled(alloc, conn, None)),
         Err(fault) => Err((conn, FoundFault::Store(laying_fault(fault)))),
     }
 }

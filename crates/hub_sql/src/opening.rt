@@ -1,161 +1,229 @@
-//! Stores over connections.
-ghost use Rattle.std.specs.Prelude.{◌≡◌, ◌⊎◌, false, None, IfOk, IfErr};
+//! Hubs that are opened: connections that may hold tables.
+ghost use Rattle.std.specs.Prelude.{◌≡◌, ◌≢◌, ◌⊎◌, false, None, IfOk, IfErr, IsTrue};
 ghost use Rattle.sqlite.specs.Held.{state};
 ghost use Rattle.sqlite.specs.State.{HasCleanDisk};
-ghost use Rattle.sqlite.specs.Steps.{over_memory};
-ghost use Rattle.hub_schema.specs.Faults.{fault_of};
-ghost use Rattle.hub_schema.specs.Schema.{no_schema};
-ghost use Rattle.hub_parties.specs.Rows.{IsRegister};
-ghost use Rattle.hub_tables.specs.Register.{HoldsRegister, founded};
-ghost use Rattle.hub_tables.specs.Tables.{Tables, empty};
-ghost use Rattle.hub_sql.specs.Opening.{Founds, IsReady, MayBeBeside, RefusesFounding, SparesConnection};
-ghost use Rattle.hub_sql.specs.Stored.{content, left, honest};
-ghost use Rattle.hub_sql.specs.Version.{AreRising};
+ghost use Rattle.hub_tables.specs.Tables.{Tables};
+ghost use Rattle.hub_schema.specs.Rows.{tables_in};
+ghost use Rattle.hub_schema.specs.State.{AreOrdered, HasNumber, HasTables, IsHub};
+ghost use Rattle.hub_founding.specs.Founding.{HoldsNone};
+ghost use Rattle.hub_tables.specs.Register.{HoldsRegister};
+ghost use Rattle.hub_sql.specs.Opening.{Adopts, IsAsBefore, IsReady, MayBeRenumbered, Refuses, SparesConnection};
+ghost use Rattle.hub_sql.specs.Stored.{content, left, honest, HasRegister};
+ghost use Rattle.hub_sql.specs.Version.{AreRising, number_of};
 
-use crate::fault::FoundFault;
-use crate::migrating::{migrated, migrated_opened};
+use crate::fault::laying_fault;
+use crate::reopening::{of_hub, reopened};
 use crate::returned::Returned;
 use crate::store::SqliteStore;
-use hub_founding::register_changes;
+use crate::version::Version;
+use hub_reads::register;
 use hub_register::Register;
-use hub_schema::is_no_schema;
+use hub_schema::is_hub_schema;
 use hub_store::StoreFault;
-use hub_tables::founded_tables_hold_their_register;
-use hub_writes::found;
-use sqlite::{Alter, Connection, Error, ErrorCode};
-use sqlite_trees::memory::MemStore;
+use hub_writes::renumber;
+use sqlite::{Alter, Connection};
 use std::alloc::Global;
 
-/// Out of memory, or a fault of the disk for all else.
-pub(crate) fn fault_by(error: &Error) -> StoreFault
-    ensures exact { result ≡ fault_of error.now }
-    ensures either { (result ≡ StoreFault.Memory) ⊎ (result ≡ StoreFault.Disk) }
-{
-    match error {
-        Error::SqliteFailure(ErrorCode::OutOfMemory) => StoreFault::Memory,
-        _ => StoreFault::Disk,
-    }
-}
-
-/// The fault of a founding, or of a number that was not set. It is never a row without the form of its kind, since those
-/// of a register have it.
-pub(crate) fn laying_fault(fault: StoreFault) -> StoreFault
-    ensures { (result ≡ StoreFault.Memory) ⊎ (result ≡ StoreFault.Disk) }
+// The fault of a look-up: it has none of opening.
+fn look_fault(fault: StoreFault) -> StoreFault
+    ensures opened { result ≢ StoreFault.Version }
+    ensures unclean { result ≡ StoreFault.Unclean → fault ≡ StoreFault.Unclean }
 {
     match fault {
         StoreFault::Memory => StoreFault::Memory,
-        StoreFault::Disk | StoreFault::Unclean | StoreFault::Version => StoreFault::Disk,
+        StoreFault::Unclean => StoreFault::Unclean,
+        StoreFault::Disk | StoreFault::Version => StoreFault::Disk,
     }
 }
 
-// A store with the rows of a register alone, in a database without tables.
-fn laid<S: Alter + Drop>(
+// The connection and the register of its rows, where it still lists all tables and these hold one.
+fn with_register<S: Alter + Drop>(
     alloc: Global,
     mut conn: Connection<S>,
-    register: &Register,
-) -> Result<SqliteStore<S>, (Connection<S>, StoreFault)>
+) -> Result<(Connection<S>, Register), (Connection<S>, StoreFault)>
     requires idle { conn.in_transaction ≡ false }
-    requires bare { HasCleanDisk (state S.Store conn) → conn.schema ≡ no_schema }
-    ensures whole { IfOk result (λ store. store.fault ≡ None) }
-    ensures rows { IfOk result (λ store. honest S.Store store → content S.Store store ≡ founded register.now) }
-    ensures crash { IfOk result (λ store. honest S.Store store → (t : Tables) → left S.Store store t → t ≡ content S.Store store) }
-    ensures clean { IfOk result (λ store. honest S.Store store → HasCleanDisk (state S.Store conn)) }
-    ensures register { IsRegister register.now }
-    ensures fails { IfErr result (λ e. (e.1 ≡ StoreFault.Memory) ⊎ (e.1 ≡ StoreFault.Disk)) }
-    ensures spared { IfErr result (λ e. SparesConnection S.Store (MayBeBeside empty register.now) (state S.Store conn) e.0) }
+    requires ordered { HasCleanDisk (state S.Store conn) → AreOrdered (state S.Store conn).now.trees }
+    requires ready { HasCleanDisk (state S.Store conn) → IsReady (state S.Store conn) }
+    ensures idle { IfOk result (λ found. found.0.in_transaction ≡ false) }
+    ensures tables { IfOk result (λ found. HasCleanDisk (state S.Store found.0) → HasTables (state S.Store found.0)) }
+    ensures open { IfOk result (λ found. HasCleanDisk (state S.Store found.0) → IsTrue (state S.Store found.0).is_open) }
+    ensures limit { IfOk result (λ found. found.0.step_limit ≡ conn.step_limit) }
+    ensures before { IfOk result (λ found. HasCleanDisk (state S.Store found.0) → IsAsBefore (state S.Store conn) (state S.Store found.0)) }
+    ensures clean { IfOk result (λ found. HasCleanDisk (state S.Store found.0) → HasCleanDisk (state S.Store conn)) }
+    ensures register { IfOk result (λ found. HasCleanDisk (state S.Store found.0) →
+        HasRegister (tables_in (state S.Store conn).now.trees) found.1) }
+    ensures opened { IfErr result (λ e. e.1 ≢ StoreFault.Version) }
+    ensures unclean { IfErr result (λ e. e.1 ≡ StoreFault.Unclean →
+        HasCleanDisk (state S.Store e.0) → HoldsNone (tables_in (state S.Store conn).now.trees)) }
+    ensures spared { IfErr result (λ e. SparesConnection S.Store (λ _. ⊥) (state S.Store conn) e.0) }
 {
     // The contract of this call says whether a transaction is open.
-    let _idle = conn.is_autocommit();
-    // The contract of this call says that the register is one.
-    let _hub = register.hub();
-    let Ok(changes) = register_changes(alloc, register) else {
-        return Err((conn, StoreFault::Memory));
-    };
-    match found(&mut conn, changes.as_slice()) {
-        Ok(()) => Ok(SqliteStore::settled(alloc, conn)),
+    let _was_idle = conn.is_autocommit();
+    if !is_hub_schema(conn.schema()) {
+        return Err((conn, StoreFault::Disk));
+    }
+    match register(&mut conn, alloc) {
+        Ok(Some(register)) => {
+            // The contract of this call says whether a transaction is open.
+            let _idle = conn.is_autocommit();
+            Ok((conn, register))
+        }
+        Ok(None) => Err((conn, StoreFault::Unclean)),
+        Err(fault) => Err((conn, look_fault(fault))),
+    }
+}
+
+// The store of a connection that has the tables of schema 2, once their number is set.
+fn renumbered<S: Alter + Drop>(
+    alloc: Global,
+    mut conn: Connection<S>,
+    register: Register,
+) -> Result<SqliteStore<S>, (Connection<S>, StoreFault)>
+    requires idle { conn.in_transaction ≡ false }
+    requires tables { HasCleanDisk (state S.Store conn) → HasTables (state S.Store conn) }
+    requires number { HasCleanDisk (state S.Store conn) → HasNumber 2 (state S.Store conn).now.trees }
+    requires theirs { HasCleanDisk (state S.Store conn) → HasRegister (tables_in (state S.Store conn).now.trees) register }
+    ensures whole { IfOk result (λ store. store.fault ≡ None) }
+    ensures rows { IfOk result (λ store. honest S.Store store → content S.Store store ≡ tables_in (state S.Store conn).now.trees) }
+    ensures crash { IfOk result (λ store. honest S.Store store → (t : Tables) → left S.Store store t → t ≡ content S.Store store) }
+    ensures clean { IfOk result (λ store. honest S.Store store → HasCleanDisk (state S.Store conn)) }
+    ensures fails { IfErr result (λ e. (e.1 ≡ StoreFault.Memory) ⊎ (e.1 ≡ StoreFault.Disk)) }
+    ensures spared { IfErr result (λ e. SparesConnection S.Store
+        (MayBeRenumbered Version.Second (tables_in (state S.Store conn).now.trees)) (state S.Store conn) e.0) }
+{
+    // The contract of this call says whether a transaction is open.
+    let _was_idle = conn.is_autocommit();
+    match renumber(&mut conn) {
+        Ok(()) => Ok(SqliteStore::settled(alloc, conn, Some(register))),
         Err(fault) => Err((conn, laying_fault(fault))),
     }
 }
 
-// A hub is founded in a database without tables.
-fn founded_bare<S: Alter + Drop>(
+// The store of a connection that has the tables of schema 2 or 3.
+fn raised<S: Alter + Drop>(
     alloc: Global,
     conn: Connection<S>,
-    register: &Register,
-) -> Result<SqliteStore<S>, (Returned<S>, FoundFault)>
+    version: Version,
+    register: Register,
+) -> Result<SqliteStore<S>, (Connection<S>, StoreFault)>
     requires idle { conn.in_transaction ≡ false }
-    requires bare { conn.schema ≡ no_schema }
-    ensures founds { IfOk result (Founds S.Store register.now (state S.Store conn)) }
-    ensures refuses { IfErr result (λ e. RefusesFounding S.Store register.now (state S.Store conn) e.0 e.1) }
+    requires later { version ≢ Version.First }
+    requires tables { HasCleanDisk (state S.Store conn) → HasTables (state S.Store conn) }
+    requires open { HasCleanDisk (state S.Store conn) → IsTrue (state S.Store conn).is_open }
+    requires number { HasCleanDisk (state S.Store conn) → HasNumber (number_of version) (state S.Store conn).now.trees }
+    requires theirs { HasCleanDisk (state S.Store conn) → HasRegister (tables_in (state S.Store conn).now.trees) register }
+    ensures whole { IfOk result (λ store. store.fault ≡ None) }
+    ensures rows { IfOk result (λ store. honest S.Store store → content S.Store store ≡ tables_in (state S.Store conn).now.trees) }
+    ensures crash { IfOk result (λ store. honest S.Store store → (t : Tables) → left S.Store store t → t ≡ content S.Store store) }
+    ensures clean { IfOk result (λ store. honest S.Store store → HasCleanDisk (state S.Store conn)) }
+    ensures fails { IfErr result (λ e. (e.1 ≡ StoreFault.Memory) ⊎ (e.1 ≡ StoreFault.Disk)) }
+    ensures spared { IfErr result (λ e. SparesConnection S.Store
+        (MayBeRenumbered version (tables_in (state S.Store conn).now.trees)) (state S.Store conn) e.0) }
 {
-    founded_tables_hold_their_register();
-    match laid(alloc, conn, register) {
-        Ok(store) => Ok(store),
-        Err((conn, fault)) => Err((Returned::Connection(conn), FoundFault::Store(fault))),
+    // The contract of this call says whether a transaction is open.
+    let _idle = conn.is_autocommit();
+    match version {
+        Version::Second => renumbered(alloc, conn, register),
+        Version::First | Version::Third => Ok(SqliteStore::settled(alloc, conn, Some(register))),
+    }
+}
+
+// The store of a connection, where its rows hold a register.
+fn taken<S: Alter + Drop>(
+    alloc: Global,
+    conn: Connection<S>,
+    version: Version,
+) -> Result<SqliteStore<S>, (Connection<S>, StoreFault)>
+    requires idle { conn.in_transaction ≡ false }
+    requires later { version ≢ Version.First }
+    requires ordered { HasCleanDisk (state S.Store conn) → AreOrdered (state S.Store conn).now.trees }
+    requires number { HasCleanDisk (state S.Store conn) → HasNumber (number_of version) (state S.Store conn).now.trees }
+    requires ready { HasCleanDisk (state S.Store conn) → IsReady (state S.Store conn) }
+    ensures whole { IfOk result (λ store. store.fault ≡ None) }
+    ensures rows { IfOk result (λ store. honest S.Store store → content S.Store store ≡ tables_in (state S.Store conn).now.trees) }
+    ensures register { IfOk result (λ store. honest S.Store store → HoldsRegister (tables_in (state S.Store conn).now.trees)) }
+    ensures crash { IfOk result (λ store. honest S.Store store → (t : Tables) → left S.Store store t → t ≡ content S.Store store) }
+    ensures clean { IfOk result (λ store. honest S.Store store → HasCleanDisk (state S.Store conn)) }
+    ensures opened { IfErr result (λ e. e.1 ≢ StoreFault.Version) }
+    ensures unclean { IfErr result (λ e. e.1 ≡ StoreFault.Unclean →
+        (HasCleanDisk (state S.Store e.0) → HoldsNone (tables_in (state S.Store conn).now.trees))
+        × SparesConnection S.Store (λ _. ⊥) (state S.Store conn) e.0) }
+    ensures spared { IfErr result (λ e. SparesConnection S.Store
+        (MayBeRenumbered version (tables_in (state S.Store conn).now.trees)) (state S.Store conn) e.0) }
+{
+    match with_register(alloc, conn) {
+        Ok((conn, register)) => raised(alloc, conn, version, register),
+        Err((conn, fault)) => Err((conn, fault)),
     }
 }
 
 impl<S: Alter + Drop> SqliteStore<S> {
-    /// Founds a hub in a connection in which no transaction is open and no statement is limited: its tables with the rows
-    /// of the register, in one transaction. In a database of schema 1 they stand beside the rows that are there, none of
-    /// which changes; `Rows` where the register does not fit to these. `Version` where it has other tables, and only there;
-    /// the connection that comes back with it is as it was. With any fault no row is lost that was committed.
-    pub fn found(
+    /// Takes over a connection in which no transaction is open and no statement is limited, with the hub that is in it.
+    /// Schema 2 becomes schema 3: its number is set, and no other row changes. `Version` where it has no tables, others
+    /// than a hub's or another number of the schema, and only there; the connection that comes back with it is as it was.
+    /// `Unclean` where its rows hold no register, which then stay as they are, with their number; a row of another kind
+    /// without its form shows when it is looked up. With any fault no row is lost that was committed.
+    pub fn adopt(
         alloc: Global,
         conn: Connection<S>,
-        register: &Register,
-    ) -> Result<SqliteStore<S>, (Returned<S>, FoundFault)>
+    ) -> Result<SqliteStore<S>, (Returned<S>, StoreFault)>
         requires idle { conn.in_transaction ≡ false }
         requires unlimited { conn.step_limit ≡ None }
-        ensures founds { IfOk result (Founds S.Store register.now (state S.Store conn)) }
-        ensures refuses { IfErr result (λ e. RefusesFounding S.Store register.now (state S.Store conn) e.0 e.1) }
+        ensures adopts { IfOk result (Adopts S.Store (state S.Store conn)) }
+        ensures refuses { IfErr result (λ e. Refuses S.Store (state S.Store conn) e.0 e.1) }
     {
-        if is_no_schema(conn.schema()) {
-            founded_bare(alloc, conn, register)
-        } else {
-            migrated(alloc, conn, register)
+        let (conn, version) = match of_hub(conn) {
+            Ok((conn, version)) => (conn, version),
+            Err((conn, fault)) => return Err((Returned::Connection(conn), fault)),
+        };
+        let conn = match reopened(alloc, conn, version) {
+            Ok(conn) => conn,
+            Err((fault, store)) => return Err((Returned::Store(store), fault)),
+        };
+        match taken(alloc, conn, version) {
+            Ok(store) => Ok(store),
+            Err((conn, fault)) => Err((Returned::Connection(conn), fault)),
         }
     }
 
-    /// The same of a connection that was opened this moment, in whose tables the row numbers rise.
-    pub(crate) fn found_opened(
+    /// The same of a connection that was opened this moment, in whose tables the row numbers rise: what is below it is not
+    /// asked, and the file not read again.
+    pub(crate) fn adopt_opened(
         alloc: Global,
         conn: Connection<S>,
-        register: &Register,
-    ) -> Result<SqliteStore<S>, (Returned<S>, FoundFault)>
+    ) -> Result<SqliteStore<S>, (Returned<S>, StoreFault)>
         requires idle { conn.in_transaction ≡ false }
         requires ready { HasCleanDisk (state S.Store conn) → IsReady (state S.Store conn) }
         requires rising { HasCleanDisk (state S.Store conn) → AreRising (state S.Store conn).now.trees conn.schema.tables }
-        ensures founds { IfOk result (Founds S.Store register.now (state S.Store conn)) }
-        ensures refuses { IfErr result (λ e. RefusesFounding S.Store register.now (state S.Store conn) e.0 e.1) }
+        ensures adopts { IfOk result (Adopts S.Store (state S.Store conn)) }
+        ensures refuses { IfErr result (λ e. Refuses S.Store (state S.Store conn) e.0 e.1) }
     {
-        if is_no_schema(conn.schema()) {
-            founded_bare(alloc, conn, register)
-        } else {
-            migrated_opened(alloc, conn, register)
+        let (conn, version) = match of_hub(conn) {
+            Ok((conn, version)) => (conn, version),
+            Err((conn, fault)) => return Err((Returned::Connection(conn), fault)),
+        };
+        match taken(alloc, conn, version) {
+            Ok(store) => Ok(store),
+            Err((conn, fault)) => Err((Returned::Connection(conn), fault)),
         }
     }
-}
 
-impl SqliteStore<MemStore> {
-    /// A store in memory, with the rows of the register alone; or `Memory`, or `Disk`, for which memory has no cause.
-    pub fn in_memory(
-        alloc: Global,
-        register: &Register,
-    ) -> Result<SqliteStore<MemStore>, StoreFault>
-        ensures whole { IfOk result (λ store. store.fault ≡ None) }
-        ensures rows { IfOk result (λ store. content over_memory store ≡ founded register.now) }
-        ensures register { IfOk result (λ store. HoldsRegister (content over_memory store)) }
-        ensures crash { IfOk result (λ store. (t : Tables) → left over_memory store t → t ≡ founded register.now) }
-        ensures fails { IfErr result (λ fault. (fault ≡ StoreFault.Memory) ⊎ (fault ≡ StoreFault.Disk)) }
+    /// Gives the connection back. Where it is not shut it has the hub's tables with the rows of the content, also after
+    /// a fault for good.
+    pub fn into_connection(self) -> Connection<S>
+        ensures held { result ≡ self.held }
+        ensures idle { result.in_transaction ≡ false }
+        ensures hub { HasCleanDisk (state S.Store result) → IsTrue (state S.Store result).is_open → IsHub (state S.Store result) }
+        ensures rows { HasCleanDisk (state S.Store result) → IsTrue (state S.Store result).is_open →
+            tables_in (state S.Store result).now.trees ≡ content S.Store self }
     {
-        founded_tables_hold_their_register();
-        let Ok(conn) = Connection::open_in_memory(alloc) else {
-            return Err(StoreFault::Memory);
-        };
-        match laid(alloc, conn, register) {
-            Ok(store) => Ok(store),
-            Err((_conn, fault)) => Err(fault),
-        }
+        let SqliteStore {
+            conn,
+            alloc: _,
+            fault: _,
+            register: _,
+            past: _,
+        } = self;
+        conn
     }
 }

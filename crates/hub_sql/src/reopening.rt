@@ -7,10 +7,9 @@ ghost use Rattle.hub_sql.specs.Opening.{IsAsBefore, IsReady, SparesConnection, S
 ghost use Rattle.hub_schema.specs.Schema.{hub_schema};
 ghost use Rattle.hub_sql.specs.Version.{schema_of, number_of, AreShaped, HoldsHub, HoldsTables};
 
-use crate::opening::fault_by;
 use crate::version::Version;
 use hub_reads::is_numbered;
-use hub_schema::is_hub_schema;
+use hub_schema::{fault_by, is_hub_schema};
 use hub_store::StoreFault;
 use sqlite::{Alter, Connection};
 use std::alloc::Global;

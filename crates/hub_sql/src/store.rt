@@ -1,12 +1,16 @@
 //! A store over a connection of SQL.
 ghost use Rattle.std.specs.Prelude.{◌≡◌, ◌∷◌, [], true, false, None};
+ghost use Rattle.std.specs.Option.{IfSome};
 ghost use Rattle.sqlite.specs.Held.{state};
 ghost use Rattle.sqlite.specs.State.{HasCleanDisk};
+ghost use Rattle.hub_schema.specs.Rows.{tables_in};
 ghost use Rattle.hub_schema.specs.State.{IsHub};
 ghost use Rattle.hub_store.specs.Calls.{fault_of};
 ghost use Rattle.hub_sql.specs.Settling.{Settles};
+ghost use Rattle.hub_sql.specs.Stored.{HasRegister};
 
 use http_server::Log;
+use hub_register::Register;
 use hub_schema::is_hub_schema;
 use hub_store::{LastingFault, StoreFault};
 use sqlite::{Alter, Connection};
@@ -20,6 +24,8 @@ pub struct SqliteStore<S: Alter> {
     pub(crate) conn: Connection<S>,
     pub(crate) alloc: Global,
     pub(crate) fault: Option<LastingFault>,
+    // The register of the rows, from when they were taken over until it is asked for or they change.
+    pub(crate) register: Option<Register>,
     // Takes no memory: what the connection was when it was opened, and after each commit, which only clauses read.
     pub(crate) past: Log<Connection<S>, bool>,
 }
@@ -33,7 +39,7 @@ impl<S: Alter> Model for SqliteStore<S> {
 
     ghost view = { λ s. record { held = s.conn; fault = s.fault; past = s.past.items } };
 
-    ghost invariant = { λ s. IsSettled S.Store (record { held = s.conn; fault = s.fault; past = s.past.items }) };
+    ghost invariant = { λ s. IsSettled S.Store s.register (record { held = s.conn; fault = s.fault; past = s.past.items }) };
 }
 
 /// The fault for good, as each call answers it.
@@ -71,10 +77,15 @@ pub(crate) fn settle<X>(
 }
 
 impl<S: Alter> SqliteStore<S> {
-    // The store of a connection that holds the hub's tables.
-    pub(crate) fn settled(alloc: Global, conn: Connection<S>) -> SqliteStore<S>
+    // The store of a connection that holds the hub's tables, with the register of its rows where that is known.
+    pub(crate) fn settled(
+        alloc: Global,
+        conn: Connection<S>,
+        register: Option<Register>,
+    ) -> SqliteStore<S>
         requires idle { conn.in_transaction ≡ false }
         requires hub { HasCleanDisk (state S.Store conn) → IsHub (state S.Store conn) }
+        requires theirs { HasCleanDisk (state S.Store conn) → IfSome register (HasRegister (tables_in (state S.Store conn).now.trees)) }
         ensures { result ≡ record { held = conn; fault = None; past = (conn, true) ∷ [] } }
     {
         let past = Log::new().and(&conn, &true);
@@ -82,6 +93,7 @@ impl<S: Alter> SqliteStore<S> {
             conn,
             alloc,
             fault: None,
+            register,
             past,
         }
     }

@@ -165,10 +165,8 @@ module _ (gln no_gln item no_item sscc no_sscc : List ℕ)
   pallet = record { sscc = sscc; supplier = gln; advice = codes "DES1"; received = arrival_number Announced }
 
   pallets_within : list_all clean_pallet
-      (pallet ∷ record pallet { advice = bytes_35 } ∷ record pallet {
-        received =
-            arrival_number Received;
-      } ∷ record pallet { received = arrival_number Replaced } ∷ []) ≡ true
+      (pallet ∷ record pallet { advice = bytes_35 } ∷ record pallet { received = arrival_number Received }
+      ∷ record pallet { received = arrival_number Replaced } ∷ []) ≡ true
   pallets_within = simp (right_g, right_s) refl
 
   pallets_past :

@@ -1,6 +1,6 @@
 -- Rows of the kinds that a hub keeps: identifiers are right, texts and numbers are within their limits, and a column
 -- of cases has the number of one.
-use Rattle.std.specs.Prelude.{ℕ, ◌+◌, ◌==◌, nat_lt, nat_le, Bool, true, false, ◌&&◌, List, [], ◌∷◌, length}
+use Rattle.std.specs.Prelude.{ℕ, ◌+◌, ◌==◌, nat_lt, nat_le, Bool, ◌&&◌, List, length}
 use Rattle.std.specs.Prelude.{if◌then◌else◌}
 use Rattle.std.specs.List.{list_all, list_any}
 use Rattle.edi_base.specs.Limits.{has_length, is_printable, greatest}

@@ -44,9 +44,9 @@ pub trait Store {
     fn fault(&self) -> Option<LastingFault>
         ensures { result ≡ broken self.now };
 
-    /// The register that the rows hold. Whether they hold one is judged where a store is founded or opened, and here once
-    /// more, since what is below may have changed. Rows that hold none are never answered with one; whether later calls
-    /// answer that fault again is then open.
+    /// The register that the rows hold. Whether they hold one is judged where a store is founded or opened. A store may keep
+    /// it from then on; else they are judged here again, as what is below may have changed. Rows that hold none are never
+    /// answered with one; whether later calls answer that fault again is then open.
     fn register(&mut self) -> Result<Register, StoreFault>
         ensures looks { (honest self.old → HoldsRegister (content self.old)) →
             Looks content honest left broken self.old self.new (register_of (content self.old)) result }

@@ -1,6 +1,6 @@
 -- What a commit leaves once its transaction ends.
 use Rattle.std.proofs.Common.{◌≡◌, ◌||◌, nat_le, inl, inr, Bool, true, false, ◌&&◌, List, [], ◌∷◌, Result, Ok, Err}
-use Rattle.std.proofs.Common.{OnOk, IfErr, IsTrue, refl, sym, ap, subst, ◌∙◌, true≢false, arith}
+use Rattle.std.proofs.Common.{OnOk, IfErr, IsTrue, refl, sym, ap, ◌∙◌, true≢false, arith}
 use Rattle.std.specs.List.{list_any, list_all}
 use Rattle.std.proofs.lemmas.Bool.{and_parts}
 use Rattle.std.proofs.lemmas.Bool.Decides.{nat_tests}
@@ -35,7 +35,7 @@ use Rattle.hub_schema.specs.State.{IsHub, Makes, Holds, CommitsTo}
 use Rattle.hub_writes.specs.Acts.{great_place, great_entry, has_great, Acts}
 use Rattle.hub_writes.specs.Faults.{ended}
 use Rattle.hub_writes.proofs.Outcomes.{no_unclean}
-use Rattle.hub_writes.proofs.Hubs.{same_hub}
+use Rattle.hub_schema.proofs.Same.{same_hub}
 
 -- A row with a number that SQL does not have lacks the form of its kind.
 

@@ -1,5 +1,5 @@
 -- Entries of mailboxes in SQL.
-use Rattle.std.proofs.Common.{not, ◌≡◌, ◌&&◌, ◌==◌, ◌<◌, ◌^◌, ℕ, pos, Bool, true, false, None, List, [], ◌∷◌, map, drop}
+use Rattle.std.proofs.Common.{not, ◌≡◌, ◌&&◌, ◌==◌, ℕ, pos, Bool, true, false, None, List, [], ◌∷◌, map, drop}
 use Rattle.std.proofs.Common.{codes, if◌then◌else◌, Ok, Err, Result, OnOk, IsTrue, refl, sym, ap, ap₂, subst, ◌∙◌}
 use Rattle.std.proofs.Common.{arith}
 use Rattle.std.specs.List.{AllByRecursion}
@@ -47,6 +47,7 @@ use Rattle.hub_schema.specs.Schema.{hub_schema, mail_table}
 use Rattle.hub_schema.specs.State.{IsHub, Makes}
 use Rattle.hub_schema.proofs.InKeyOrder.{listed_map}
 use Rattle.hub_schema.proofs.Single.{mail_kinds, mail_cells}
+use Rattle.hub_writes.specs.Mail as spec
 use Rattle.hub_writes.proofs.Places.{place_met}
 use Rattle.hub_writes.proofs.Alters.{Alters, adds, altered, still_hub}
 use Rattle.hub_writes.proofs.Keys.{listed_last, is_new, number_shown, number_same, bytes_equal, number_equal, bytes_are}
@@ -92,13 +93,10 @@ set_mail_plain = (refl, refl)
 
 module _ (row : MailRow) where
   abbrev pub cells : Row
-  cells = Blob row.supplier ∷ Int (pos row.number) ∷ Int (pos row.moment) ∷ Int (pos row.decimal) ∷ Int (pos row.kind)
-      ∷ Blob row.document ∷ Blob row.body ∷ Int (pos row.taken) ∷ []
+  cells = spec.cells row
 
-  -- its numbers are those of a u64
   abbrev pub IsLow : Type 0
-  IsLow = (row.number < 2 ^ 64) × (row.moment < 2 ^ 64) × (row.decimal < 2 ^ 64) × (row.kind < 2 ^ 64)
-      × (row.taken < 2 ^ 64)
+  IsLow = spec.IsLow row
 
   -- the row that is stored
   abbrev stored : List Row → Row

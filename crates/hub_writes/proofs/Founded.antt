@@ -16,7 +16,7 @@ use Rattle.hub_store.specs.declared.fault.StoreFault.{StoreFault}
 use Rattle.hub_schema.specs.Rows.{tables_in}
 use Rattle.hub_schema.specs.State.{IsHub, IsFounded, Makes, ShowsTheSame, FoundsTo}
 use Rattle.hub_writes.specs.Faults.{ended}
-use Rattle.hub_writes.proofs.Hubs.{same_hub}
+use Rattle.hub_schema.proofs.Same.{same_hub}
 
 -- what a statement did that succeeded
 pub ended_ok : {X : Type 0} (r : Result X Error) (P : Type 0) → OnOk r P → OnOk (ended r) P

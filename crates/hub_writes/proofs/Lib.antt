@@ -5,7 +5,6 @@ pub mod Ends
 pub mod Entries
 pub mod Founded
 pub mod HubRows
-pub mod Hubs
 pub mod KeyRows
 pub mod Keys
 pub mod Lines

@@ -1,5 +1,5 @@
 -- Lines of orders in SQL.
-use Rattle.std.proofs.Common.{◌++◌, not, ◌≡◌, ◌&&◌, ◌==◌, ◌<◌, ◌^◌, ℕ, pos, Bool, true, false, None, List, [], ◌∷◌, map, drop}
+use Rattle.std.proofs.Common.{◌++◌, not, ◌≡◌, ◌&&◌, ◌==◌, ℕ, pos, Bool, true, false, None, List, [], ◌∷◌, map, drop}
 use Rattle.std.proofs.Common.{codes, if◌then◌else◌, Ok, Err, Result, OnOk, IsTrue, refl, sym, ap, ap₂, subst, ◌∙◌}
 use Rattle.std.proofs.Common.{arith}
 use Rattle.std.specs.List.{AllByRecursion}
@@ -47,6 +47,7 @@ use Rattle.hub_schema.specs.Schema.{hub_schema, line_table}
 use Rattle.hub_schema.specs.State.{IsHub, Makes}
 use Rattle.hub_schema.proofs.InKeyOrder.{listed_map}
 use Rattle.hub_schema.proofs.Single.{line_kinds, line_cells}
+use Rattle.hub_writes.specs.Line as spec
 use Rattle.hub_writes.proofs.Places.{place_met}
 use Rattle.hub_writes.proofs.Alters.{Alters, adds, altered, still_hub}
 use Rattle.hub_writes.proofs.Keys.{listed_last, is_new, number_shown, number_same, bytes_equal, number_equal, bytes_are}
@@ -96,13 +97,10 @@ set_line_plain = (refl, refl)
 
 module _ (row : LineRow) where
   abbrev pub cells : Row
-  cells = Blob row.supplier ∷ Blob row.number ∷ Int (pos row.line) ∷ Blob row.gtin ∷ Int (pos row.ordered)
-      ∷ Int (pos row.open_qty) ∷ Int (pos row.refused) ∷ Int (pos row.cancelled) ∷ Int (pos row.answer) ∷ []
+  cells = spec.cells row
 
-  -- its numbers are those of a u64
   abbrev pub IsLow : Type 0
-  IsLow = (row.line < 2 ^ 64) × (row.ordered < 2 ^ 64) × (row.open_qty < 2 ^ 64) × (row.refused < 2 ^ 64)
-      × (row.cancelled < 2 ^ 64) × (row.answer < 2 ^ 64)
+  IsLow = spec.IsLow row
 
   -- the row that is stored
   abbrev stored : List Row → Row

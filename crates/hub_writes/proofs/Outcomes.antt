@@ -29,7 +29,7 @@ use Rattle.hub_schema.proofs.Leaving.{executed_leaves}
 use Rattle.hub_writes.specs.Faults.{placed, inserted, ended, refusal_of, fault_of}
 use Rattle.hub_writes.specs.Acts.{Acts, MakesFirst}
 use Rattle.hub_writes.proofs.Nowhere.{unplaced}
-use Rattle.hub_writes.proofs.Hubs.{same_hub}
+use Rattle.hub_schema.proofs.Same.{same_hub}
 
 pub on_inserted : (A : Type 0) (r : Result ℕ Error) → OnOk r A → OnOk (inserted r) A
 on_inserted A (Ok count) h = h

@@ -1,5 +1,5 @@
 -- Pallets in SQL.
-use Rattle.std.proofs.Common.{not, ◌==◌, ◌≡◌, ◌&&◌, ◌<◌, ◌^◌, ℕ, pos, Bool, true, false, None, List, [], ◌∷◌, map, drop, codes}
+use Rattle.std.proofs.Common.{not, ◌==◌, ◌≡◌, ◌&&◌, ℕ, pos, Bool, true, false, None, List, [], ◌∷◌, map, drop, codes}
 use Rattle.std.proofs.Common.{if◌then◌else◌, Ok, Err, Result, OnOk, IsTrue, refl, sym, ap, ap₂, subst, ◌∙◌, arith}
 use Rattle.std.specs.List.{AllByRecursion}
 use Rattle.std.specs.Ordering.{is_eq}
@@ -46,6 +46,7 @@ use Rattle.hub_schema.specs.Schema.{hub_schema, pallet_table}
 use Rattle.hub_schema.specs.State.{IsHub, Makes}
 use Rattle.hub_schema.proofs.InKeyOrder.{listed_map}
 use Rattle.hub_schema.proofs.Single.{pallet_kinds, pallet_cells}
+use Rattle.hub_writes.specs.Pallet as spec
 use Rattle.hub_writes.proofs.Places.{place_met}
 use Rattle.hub_writes.proofs.Alters.{Alters, adds, altered, still_hub}
 use Rattle.hub_writes.proofs.Keys.{listed_last, is_new, number_shown, bytes_equal, bytes_are}
@@ -89,11 +90,10 @@ set_pallet_plain = (refl, refl)
 
 module _ (row : PalletRow) where
   abbrev pub cells : Row
-  cells = Blob row.sscc ∷ Blob row.supplier ∷ Blob row.advice ∷ Int (pos row.received) ∷ []
+  cells = spec.cells row
 
-  -- its numbers are those of a u64
   abbrev pub IsLow : Type 0
-  IsLow = (row.received < 2 ^ 64)
+  IsLow = spec.IsLow row
 
   -- the row that is stored
   abbrev stored : List Row → Row

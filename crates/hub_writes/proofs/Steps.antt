@@ -41,7 +41,7 @@ use Rattle.hub_schema.proofs.Leaving.{still, undone_later}
 use Rattle.hub_schema.proofs.Single.{hub_rises}
 use Rattle.hub_writes.specs.Acts.{great_place, great_entry, has_great, Acts, MakesFirst, HasRun}
 use Rattle.hub_writes.specs.Faults.{ended}
-use Rattle.hub_writes.proofs.Hubs.{same_hub}
+use Rattle.hub_schema.proofs.Same.{same_hub}
 use Rattle.hub_writes.proofs.Outcomes.{Executed, first_failed}
 
 nothing_is : command_of (understood hub_schema []) ≡ Nothing

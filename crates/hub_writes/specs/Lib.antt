@@ -1,2 +1,5 @@
 pub mod Acts
 pub mod Faults
+pub mod Line
+pub mod Mail
+pub mod Pallet

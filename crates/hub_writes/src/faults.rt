@@ -1,20 +1,11 @@
 //! What errors of SQL mean for the hub.
 ghost use Rattle.std.specs.Prelude.{◌≡◌};
-ghost use Rattle.hub_writes.specs.Faults.{fault_of, refusal_of, inserted, placed, ended};
+ghost use Rattle.hub_writes.specs.Faults.{refusal_of, inserted, placed, ended};
 
+use hub_schema::fault_by;
 use hub_store::StoreFault;
 use sqlite::{Error, ErrorCode};
 use sqlite_schema::schema::Constraint;
-
-/// Out of memory, or all else.
-pub(crate) fn fault_by(error: &Error) -> StoreFault
-    ensures { result ≡ fault_of error.now }
-{
-    match error {
-        Error::SqliteFailure(ErrorCode::OutOfMemory) => StoreFault::Memory,
-        _ => StoreFault::Disk,
-    }
-}
 
 /// A row whose key is there does not fit.
 fn refusal_by(error: &Error) -> StoreFault

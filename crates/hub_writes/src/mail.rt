@@ -1,8 +1,10 @@
 //! Entries of mailboxes.
-ghost use Rattle.std.specs.Prelude.{◌≡◌, ◌∷◌, []};
+ghost use Rattle.std.specs.Prelude.{◌≡◌, ◌<◌, ◌^◌, ◌∷◌, []};
 ghost use Rattle.sqlite.specs.Held.{state};
 ghost use Rattle.hub_tables.specs.declared.change.Change.TheVariants.{AddMail, SetMail};
 ghost use Rattle.hub_writes.specs.Acts.{Acts};
+ghost use Rattle.hub_writes.specs.Mail as spec;
+ghost use Rattle.sqlite.specs.Values.{bound};
 
 use crate::faults::{insert_ended, update_ended};
 use crate::values::{
@@ -12,6 +14,26 @@ use crate::values::{
 use hub_store::StoreFault;
 use hub_tables::MailRow;
 use sqlite::{Alter, Transaction};
+use sqlite_value::value::ValueRef;
+
+// The values of an entry.
+fn cells(row: &MailRow) -> [ValueRef<'_>; 8]
+    requires { row.now.number < 2 ^ 63 }
+    ensures cells { bound result ≡ spec.cells row.now }
+    ensures low { spec.IsLow row.now }
+{
+    let supplier = gln_value(&row.supplier);
+    let number = number_value(row.number);
+    let moment = moment_value(row.moment);
+    let decimal = byte_value(row.decimal);
+    let kind = kind_value(&row.kind);
+    let document = text_value(&row.document);
+    let body = text_value(&row.body);
+    let taken = truth_value(&row.taken);
+    [
+        supplier, number, moment, decimal, kind, document, body, taken,
+    ]
+}
 
 /// Adds an entry of a mailbox.
 pub fn add_mail<S: Alter>(tx: &mut Transaction<'_, S>, row: &MailRow) -> Result<(), StoreFault>
@@ -21,19 +43,9 @@ pub fn add_mail<S: Alter>(tx: &mut Transaction<'_, S>, row: &MailRow) -> Result<
     if is_great(row.number) {
         return Err(StoreFault::Unclean);
     }
-    let supplier = gln_value(&row.supplier);
-    let number = number_value(row.number);
-    let moment = moment_value(row.moment);
-    let decimal = byte_value(row.decimal);
-    let kind = kind_value(&row.kind);
-    let document = text_value(&row.document);
-    let body = text_value(&row.body);
-    let taken = truth_value(&row.taken);
     insert_ended(tx.execute(
         "INSERT INTO mail (supplier, number, moment, decimal, kind, document, body, taken) VALUES (?1, ?2, ?3, ?4, ?5, ?6, ?7, ?8)",
-        &[
-            supplier, number, moment, decimal, kind, document, body, taken,
-        ],
+        &cells(row),
     ))
 }
 
@@ -45,18 +57,8 @@ pub fn set_mail<S: Alter>(tx: &mut Transaction<'_, S>, row: &MailRow) -> Result<
     if is_great(row.number) {
         return Err(StoreFault::Unclean);
     }
-    let supplier = gln_value(&row.supplier);
-    let number = number_value(row.number);
-    let moment = moment_value(row.moment);
-    let decimal = byte_value(row.decimal);
-    let kind = kind_value(&row.kind);
-    let document = text_value(&row.document);
-    let body = text_value(&row.body);
-    let taken = truth_value(&row.taken);
     update_ended(tx.execute(
         "UPDATE mail SET moment = ?3, decimal = ?4, kind = ?5, document = ?6, body = ?7, taken = ?8 WHERE supplier = ?1 AND number = ?2",
-        &[
-            supplier, number, moment, decimal, kind, document, body, taken,
-        ],
+        &cells(row),
     ))
 }

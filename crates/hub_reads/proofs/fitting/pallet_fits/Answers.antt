@@ -6,14 +6,14 @@ use Rattle.sqlite_value.specs.Order.{column}
 use Rattle.hub_reads.proofs.OfOldRows.{no_sscc, an_sscc}
 use Rattle.hub_reads.proofs.fitting.pallet_fits.Goals as goal
 
-pub returns-in_default-sscc_in : goal.returns-in_default-sscc_in
-returns-in_default-sscc_in c =
+pub returns-in-Err : goal.returns-in-Err
+returns-in-Err c =
     sym (no_sscc (row_of c.args.register.now (bytes_in (column c.args.row.now 1))) (bytes_in (column c.args.row.now 0))
-    (sym c.sscc_in.ensures ∙ c.in_default-sscc_in.is))
+    c.in-Err.ensures.unclean.1)
 
-pub returns : goal.returns
-returns c =
+pub returns-in-Ok : goal.returns-in-Ok
+returns-in-Ok c =
     c.is_under.ensures
     ∙ sym (an_sscc (row_of c.args.register.now (bytes_in (column c.args.row.now 1))) c.in-Some.supplier.now
-    (bytes_in (column c.args.row.now 0)) c.in-Some-sscc_in.sscc
-    (sym c.supplier_in.ensures ∙ ap option_copied c.in-Some.is) (sym c.sscc_in.ensures ∙ c.in-Some-sscc_in.is))
+    (bytes_in (column c.args.row.now 0)) c.in-Ok.sscc
+    (sym c.supplier_in.ensures ∙ ap option_copied c.in-Some.is) c.in-Ok.ensures.right c.in-Ok.ensures.ok)

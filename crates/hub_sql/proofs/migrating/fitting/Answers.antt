@@ -1,7 +1,7 @@
 use Rattle.std.proofs.Common.{sym, ◌∙◌}
 use Rattle.sqlite.specs.Held.{state}
 use Rattle.sql_rows.proofs.Transactions.{clean_before}
-use Rattle.hub_sql.proofs.Moving.{old_hub_moved}
+use Rattle.hub_schema.proofs.Same.{same_old_hub}
 use Rattle.hub_sql.proofs.migrating.fitting.Goals as goal
 
 pub returns-in-Ok-true-clause-hub : goal.returns-in-Ok-true-clause-hub
@@ -11,7 +11,7 @@ returns-in-Ok-true-clause-hub g c clean =
     let looks = c.in-Ok-true.ensures.looks in
     let shown = looks.same clean in
     let early = clean_before old new _ looks.crash clean in
-    old_hub_moved old new shown.2 (record {
+    same_old_hub old new shown.2 (record {
       schema = sym c.schema.ensures.value ∙ c.is_old_schema.ensures.0 c.if-not-is_old_schema.false;
       numbered = c.requires.number early;
       ordered = c.requires.shaped early;

@@ -1,4 +1,3 @@
-use Rattle.std.proofs.Common.{◌<◌, ◌^◌, arith}
 use Rattle.hub_writes.proofs.Pallets.{set_pallet, cells, set_makes, set_met}
 use Rattle.hub_writes.proofs.Outcomes.{Executed, set_acts}
 use Rattle.hub_writes.proofs.pallet.set_pallet.Goals as goal
@@ -9,15 +8,8 @@ returns-clause-acts g c =
     let did : Executed g.S.Store set_pallet (cells row) c.args.tx.now.conn.now c.execute.new.self.conn.now
     c.execute.result = record {
       ended = c.execute.ensures.ended;
-      runs = λ clean begun. rw (
-        c.sscc_value-sscc.ensures,
-        c.gln_value-supplier.ensures,
-        c.text_value-advice.ensures,
-        c.arrival_value-received.ensures.value,
-      ) at (c.execute.ensures.runs clean begun);
+      runs = λ clean begun. rw c.cells.ensures.cells at (c.execute.ensures.runs clean begun);
       survives = c.execute.ensures.survives;
     } in
-    let low_received : c.args.row.now.received < 2 ^ 64 = omega (arith, c.arrival_value-received.ensures.low) in
-    let low = low_received in
-    set_acts g.S.Store _ _ _ _ c.execute.result did _ (set_makes row _ _ c.execute.result low) (set_met row _ _ low)
-    c.update_ended.result c.update_ended.ensures
+    set_acts g.S.Store _ _ _ _ c.execute.result did _ (set_makes row _ _ c.execute.result c.cells.ensures.low)
+    (set_met row _ _ c.cells.ensures.low) c.update_ended.result c.update_ended.ensures

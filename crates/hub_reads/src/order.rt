@@ -1,0 +1,26 @@
+//! Look-ups of orders.
+ghost use Rattle.sqlite.specs.Held.{state};
+ghost use Rattle.hub_schema.specs.State.{LooksUp};
+ghost use Rattle.hub_tables.specs.State.{knows_order};
+ghost use Rattle.hub_tables.specs.Tables.{view};
+
+use crate::ask::has_row;
+use gs1_ids::Gln;
+use hub_store::StoreFault;
+use sqlite::types::ValueRef;
+use sqlite::{Alter, Connection};
+
+/// Whether the supplier has an order of this number.
+pub fn order_known<S: Alter>(
+    conn: &mut Connection<S>,
+    supplier: &Gln,
+    number: &[u8],
+) -> Result<bool, StoreFault>
+    ensures looks { LooksUp (λ t. knows_order (view supplier.now t) number.now) (state S.Store conn.old) (state S.Store conn.new) result }
+{
+    has_row(
+        conn,
+        "SELECT number FROM \"order\" WHERE supplier = ?1 AND number = ?2",
+        &[ValueRef::Blob(supplier.digits()), ValueRef::Blob(number)],
+    )
+}

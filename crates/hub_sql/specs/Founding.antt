@@ -1,0 +1,66 @@
+-- What a store is that is founded, and when none is.
+use Rattle.std.specs.Prelude.{◌≡◌, ◌≢◌, ◌⊎◌, true, false, None}
+use Rattle.sqlite.specs.State.{State, HasCleanDisk}
+use Rattle.sqlite_trees.specs.Tree.{Trees}
+use Rattle.sqlite_trees.specs.declared.store.Store.{Ghosts}
+use Rattle.hub_founding.specs.Fits.{fits, founded_beside}
+use Rattle.hub_parties.specs.Rows.{RegisterRows}
+use Rattle.hub_tables.specs.Register.{HoldsRegister}
+use Rattle.hub_tables.specs.Tables.{Tables, empty}
+use Rattle.hub_store.specs.declared.fault.StoreFault.TheVariants.{Memory, Disk, Unclean, Version}
+use Rattle.hub_schema.specs.Rows.{traffic_in}
+use Rattle.hub_schema.specs.Schema.{no_schema}
+use Rattle.hub_schema.specs.State.{IsFounded}
+use Rattle.hub_sql.specs.Opening.{IsAsBefore, IsSpared, ComesBack}
+use Rattle.hub_sql.specs.Stored.{Stored, content, left, honest}
+use Rattle.hub_sql.specs.Version.{HoldsTables, schema_of}
+use Rattle.hub_sql.specs.declared.fault.FoundFault.{FoundFault}
+use Rattle.hub_sql.specs.declared.fault.FoundFault.TheVariants as found
+use Rattle.hub_sql.specs.declared.returned.Returned.{Returned}
+use Rattle.hub_sql.specs.declared.version.Version.TheVariants.{First}
+
+-- what stood where a hub is founded: no table, or those of schema 1 with these rows
+abbrev pub Stood : State → Tables → Type 0
+Stood was before =
+    ((was.now.schema ≡ no_schema) × (before ≡ empty))
+    ⊎ (HoldsTables First was.now × (before ≡ traffic_in was.committed.trees))
+
+-- the faults of a founding that was begun
+abbrev pub IsOfFounding : FoundFault → Type 0
+IsOfFounding fault = (fault ≡ found.Rows) ⊎ ((fault ≡ found.Store Memory) ⊎ (fault ≡ found.Store Disk))
+
+-- with the rows of the register beside those that stood there, to which it fits; a crash leaves these alone
+pub record Founds {S : Type 0} (g : Ghosts S) (register : RegisterRows) (was : State) (store : Stored S) : Type 0 where
+  pub before : Tables
+  pub whole : store.fault ≡ None
+  pub stood : honest g store → Stood was before
+  pub fit : honest g store → fits register before ≡ true
+  pub rows : honest g store → content g store ≡ founded_beside before register
+  pub holds : honest g store → HoldsRegister (content g store)
+  pub crash : honest g store → (t : Tables) → left g store t → t ≡ content g store
+  pub clean : honest g store → HasCleanDisk was
+
+-- what may be left by a founding that failed, beside what was committed: a hub's tables, with the rows of the register
+-- beside these, to which it fits
+abbrev pub MayBeBeside : Tables → RegisterRows → Trees → Type 0
+MayBeBeside before register trees =
+    (fits register before ≡ true) × IsFounded (founded_beside before register) trees
+
+abbrev pub MayBeFounded : RegisterRows → State → Trees → Type 0
+MayBeFounded register was trees = (before : Tables) × Stood was before × MayBeBeside before register trees
+
+-- `Version` comes with the connection as it was, and only where it has tables, and not those of schema 1; where they are
+-- of another schema, no other fault comes. `Rows` comes where there are those of schema 1, to whose rows the register does
+-- not fit, and the connection has them still. `Unclean` never comes, as no row of a register was there.
+pub record RefusesFounding {S : Type 0} (g : Ghosts S) (register : RegisterRows) (was : State) (back : Returned S)
+    (fault : FoundFault) : Type 0 where
+  pub version :
+      fault ≡ found.Store Version →
+      ComesBack g back (λ now. ((before : Tables) → ¬ Stood was before) × IsAsBefore was now)
+  pub other : was.now.schema ≢ no_schema → was.now.schema ≢ schema_of First → fault ≡ found.Store Version
+  pub rows :
+      fault ≡ found.Rows →
+      ComesBack g back (λ now. HoldsTables First was.now × (fits register (traffic_in was.committed.trees) ≡ false)
+      × (now.now.schema ≡ was.now.schema))
+  pub unclean : fault ≢ found.Store Unclean
+  pub spared : IsSpared g (MayBeFounded register was) was back
