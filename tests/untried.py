@@ -29,7 +29,7 @@ def untried():
     """All public functions with a body, and those of them that no edit touches, by their paths."""
     every, left = set(), set()
     for crate, texts in libraries():
-        names = crate_functions.given_out(texts["src/lib.rt"])
+        names = crate_functions.given_out(texts)
         public = {
             it for file, text in texts.items() for it in crate_functions.functions_in(file, text) if it.has_body and it.is_public(names)
         }

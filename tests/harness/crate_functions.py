@@ -98,10 +98,13 @@ def sources(crate):
     return found
 
 
-def given_out(library):
-    """The names that a library's root gives out."""
+def given_out(texts):
+    """The names that a library gives out, by its sources: those that its root lists, and those of its public modules."""
+    library = texts["src/lib.rt"]
     listed = re.findall(r"^pub use (?:\w+::)*(?:\{([^}]*)\}|(\w+));", library, re.MULTILINE)
-    return {it.strip() for many, one in listed for it in (many or one).split(",")}
+    modules = re.findall(r"^pub mod (\w+);", library, re.MULTILINE)
+    within = [re.findall(r"^pub (?:const )?(?:fn|struct|enum|trait) (\w+)", texts[f"src/{it}.rt"], re.MULTILINE) for it in modules]
+    return {it.strip() for many, one in listed for it in (many or one).split(",")}.union(*within)
 
 
 def pairs_of(text):

@@ -12,8 +12,8 @@ use Rattle.edi_segments.specs.declared.segment.Segment.{Segment}
 use Rattle.edi_envelope.specs.declared.fault.EnvelopeFault.{EnvelopeFault}
 use Rattle.edi_envelope.specs.declared.fault.EnvelopeFault.TheVariants.{InterchangeFrame}
 use Rattle.edi_envelope.specs.declared.header.HeaderMarks.{HeaderMarks}
-use Rattle.edi_envelope.specs.declared.judge.Judge.{Judge}
-use Rattle.edi_envelope.specs.declared.judge.Marks.{Marks}
+use Rattle.edi_envelope.specs.declared.check.EnvelopeCheck.{EnvelopeCheck}
+use Rattle.edi_envelope.specs.declared.check.Marks.{Marks}
 use Rattle.edi_envelope.specs.Segments.{is_unz, component, first_segment, last_segment, between}
 use Rattle.edi_envelope.specs.Limits.{is_reference}
 use Rattle.edi_envelope.specs.Header.{is_header, is_test}
@@ -21,8 +21,8 @@ use Rattle.edi_envelope.specs.Blocks.{blocks}
 use Rattle.edi_envelope.specs.Message.{is_within_limits, is_counted, is_closed, reference_of}
 use Rattle.edi_envelope.specs.Reference.{kept}
 use Rattle.edi_envelope.specs.Interchange.{is_framed, is_row_of_messages, is_outside_set, has_high_data, messages_in, fault_of}
-use Rattle.edi_envelope.specs.Judge.{has_identity, has_count, follows, marks_of, Fronted, AtRest}
-use Rattle.edi_envelope.specs.Judge.{Closed, marks_at, lowest_of, lost_fault, is_sound}
+use Rattle.edi_envelope.specs.Check.{has_identity, has_count, follows, marks_of, Fronted, IsBetween}
+use Rattle.edi_envelope.specs.Check.{IsEnded, marks_at, lowest_of, lost_fault, is_sound}
 use Rattle.edi_envelope.proofs.JoinLemmas.{last_of, between_of}
 use Rattle.edi_envelope.proofs.ReferenceLemmas.{kept-eq}
 use Rattle.edi_envelope.proofs.RowLemmas.{framed_by, framed_once, is_row, row_follows}
@@ -52,16 +52,16 @@ outside_more (u ∷ m) s h old new f before is =
 -- the conditions of segments as they are defined
 abbrev exact : List Segment → Marks
 exact xs = record {
-  header = not (is_header (first_segment xs));
-  limits = not (list_all is_within_limits (messages_in xs));
-  counts = not (list_all is_counted (messages_in xs));
-  references = not (list_all is_closed (messages_in xs));
-  messages = not (is_count_of (component (last_segment xs) 0 0) (length (messages_in xs)));
-  control = not (bytes_eq (component (last_segment xs) 1 0) (component (first_segment xs) 4 0));
-  twice = has_twice (map reference_of (messages_in xs));
-  test = is_test (first_segment xs);
-  many = nat_lt 999 (length (messages_in xs));
-  outside = is_outside_set xs;
+  interchange_header = not (is_header (first_segment xs));
+  message_header = not (list_all is_within_limits (messages_in xs));
+  segment_count = not (list_all is_counted (messages_in xs));
+  message_reference = not (list_all is_closed (messages_in xs));
+  message_count = not (is_count_of (component (last_segment xs) 0 0) (length (messages_in xs)));
+  control_reference = not (bytes_eq (component (last_segment xs) 1 0) (component (first_segment xs) 4 0));
+  repeated_reference = has_twice (map reference_of (messages_in xs));
+  test_indicator = is_test (first_segment xs);
+  too_many_messages = nat_lt 999 (length (messages_in xs));
+  character_set = is_outside_set xs;
 }
 
 pub fault_of-frame : (xs : List Segment) → is_framed xs ≡ false → fault_of xs ≡ Some InterchangeFrame
@@ -83,21 +83,21 @@ fault_of-lost xs h f r taken =
     ]
 
 lowest_same : (a b : Marks)
-    → a.header ≡ b.header
-    → a.limits ≡ b.limits
-    → a.counts ≡ b.counts
-    → (a.limits ≡ false → a.references ≡ b.references)
-    → a.messages ≡ b.messages
-    → (a.header ≡ false → a.control ≡ b.control)
-    → (a.limits ≡ false → a.twice ≡ b.twice)
-    → a.test ≡ b.test
-    → a.many ≡ b.many
-    → a.outside ≡ b.outside
+    → a.interchange_header ≡ b.interchange_header
+    → a.message_header ≡ b.message_header
+    → a.segment_count ≡ b.segment_count
+    → (a.message_header ≡ false → a.message_reference ≡ b.message_reference)
+    → a.message_count ≡ b.message_count
+    → (a.interchange_header ≡ false → a.control_reference ≡ b.control_reference)
+    → (a.message_header ≡ false → a.repeated_reference ≡ b.repeated_reference)
+    → a.test_indicator ≡ b.test_indicator
+    → a.too_many_messages ≡ b.too_many_messages
+    → a.character_set ≡ b.character_set
     → lowest_of a ≡ lowest_of b
 lowest_same a b header limits counts references messages control twice test many outside =
-    elim (cases_Bool a.header) [
+    elim (cases_Bool a.interchange_header) [
       | inl up ↦ rw (up, sym header ∙ up) refl
-      | inr down ↦ elim (cases_Bool a.limits) [
+      | inr down ↦ elim (cases_Bool a.message_header) [
         | inl up ↦ rw (down, sym header ∙ down, up, sym limits ∙ up) refl
         | inr low ↦
             rw (
@@ -129,7 +129,7 @@ module _ (u : Segment) (m : List Segment) (z : Segment) (h : HeaderMarks) (f : F
   framed : is_framed whole ≡ true
   framed = framed_by u m z f.begins f.alone unz
 
-  closes : (fault : Option EnvelopeFault) → fault_of whole ≡ fault → Closed whole fault
+  closes : (fault : Option EnvelopeFault) → fault_of whole ≡ fault → IsEnded whole fault
   closes fault is = record {
     fault_is = is;
     last = λ s more. ap (λ l. is_framed (u ∷ l)) (append_assoc m (z ∷ []) (s ∷ more)) ∙ framed_once u m z s more unz;
@@ -141,7 +141,7 @@ module _ (u : Segment) (m : List Segment) (z : Segment) (h : HeaderMarks) (f : F
   taken_is : h.taken ≡ is_header u
   taken_is = ap (λ (k : HeaderMarks). k.taken) f.header_is
 
-  lost_at : follows false m ≡ false → Closed whole (Some (lost_fault h))
+  lost_at : follows false m ≡ false → IsEnded whole (Some (lost_fault h))
   lost_at row = closes (Some (lost_fault h)) (fault_of-lost whole h framed (row_is ∙ row) taken_is)
 
 reference_in : (unb : Segment) → is_header unb ≡ true → is_reference (component unb 4 0) ≡ true
@@ -149,12 +149,12 @@ reference_in unb h = (and_parts _ _ (and_parts _ _ h).0).1
 
 pub ends_lost : (lent : List Segment) (z : Segment) (h : HeaderMarks) →
     Fronted lent h → is_unz z ≡ true → follows false (drop 1 lent) ≡ false
-    → Closed (lent ++ z ∷ []) (Some (lost_fault h))
+    → IsEnded (lent ++ z ∷ []) (Some (lost_fault h))
 ends_lost [] z h f unz row = absurd (false≢true f.begins)
 ends_lost (u ∷ m) z h f unz row = lost_at u m z h f unz row
 
--- the marks of the judge are the conditions, as far as they tell
-module _ (u : Segment) (m : List Segment) (z : Segment) (j : Judge) (r : AtRest (u ∷ m) j) (unz : is_unz z ≡ true) where
+-- the marks of the check are the conditions, as far as they tell
+module _ (u : Segment) (m : List Segment) (z : Segment) (j : EnvelopeCheck) (r : IsBetween (u ∷ m) j) (unz : is_unz z ≡ true) where
   abbrev all : List Segment
   all = u ∷ m ++ z ∷ []
 
@@ -202,52 +202,40 @@ module _ (u : Segment) (m : List Segment) (z : Segment) (j : Judge) (r : AtRest 
       (ap (λ l. nat_lt 999 (length l)) messages_are ∙ ap (nat_lt 999) (sym r.heads.count))
       (sym (outside_more (u ∷ m) z j.header j.outside _ r.fronted r.outside refl))
 
-  row_at : Closed all (lowest_of (marks_at j z))
+  row_at : IsEnded all (lowest_of (marks_at j z))
   row_at = closes u m z j.header r.fronted unz (lowest_of (marks_at j z)) marked
 
-pub ends_in_row : (lent : List Segment) (z : Segment) (j : Judge) → AtRest lent j →
-    is_unz z ≡ true → Closed (lent ++ z ∷ []) (lowest_of (marks_at j z))
+pub ends_in_row : (lent : List Segment) (z : Segment) (j : EnvelopeCheck) → IsBetween lent j →
+    is_unz z ≡ true → IsEnded (lent ++ z ∷ []) (lowest_of (marks_at j z))
 ends_in_row [] z j r unz = absurd (false≢true r.fronted.begins)
 ends_in_row (u ∷ m) z j r unz = row_at u m z j r unz
 
 -- nothing is marked
 record Unmarked (m : Marks) : Type 0 where
-  pub header : m.header ≡ false
-  pub limits : m.limits ≡ false
-  pub counts : m.counts ≡ false
-  pub references : m.references ≡ false
-  pub twice : m.twice ≡ false
-  pub test : m.test ≡ false
-  pub many : m.many ≡ false
-  pub outside : m.outside ≡ false
+  pub interchange_header : m.interchange_header ≡ false
+  pub message_header : m.message_header ≡ false
+  pub segment_count : m.segment_count ≡ false
+  pub message_reference : m.message_reference ≡ false
+  pub repeated_reference : m.repeated_reference ≡ false
+  pub test_indicator : m.test_indicator ≡ false
+  pub too_many_messages : m.too_many_messages ≡ false
+  pub character_set : m.character_set ≡ false
 
-unmarked : (a b c d e f g h i k : Bool)
-    → lowest_of (record {
-      header = a;
-      limits = b;
-      counts = c;
-      references = d;
-      messages =
-          e;
-      control = f;
-      twice = g;
-      test = h;
-      many = i;
-      outside = k;
-    }) ≡ None
-    → Unmarked (record {
-      header = a;
-      limits = b;
-      counts = c;
-      references =
-          d;
-      messages = e;
-      control = f;
-      twice = g;
-      test = h;
-      many = i;
-      outside = k;
-    })
+abbrev marks : Bool → Bool → Bool → Bool → Bool → Bool → Bool → Bool → Bool → Bool → Marks
+marks a b c d e f g h i k = record {
+  interchange_header = a;
+  message_header = b;
+  segment_count = c;
+  message_reference = d;
+  message_count = e;
+  control_reference = f;
+  repeated_reference = g;
+  test_indicator = h;
+  too_many_messages = i;
+  character_set = k;
+}
+
+unmarked : (a b c d e f g h i k : Bool) → lowest_of (marks a b c d e f g h i k) ≡ None → Unmarked (marks a b c d e f g h i k)
 unmarked true b c d e f g h i k n = absurd cc
 unmarked false true c d e f g h i k n = absurd cc
 unmarked false false true d e f g h i k n = absurd cc
@@ -259,18 +247,27 @@ unmarked false false false false false false false true i k n = absurd cc
 unmarked false false false false false false false false true k n = absurd cc
 unmarked false false false false false false false false false true n = absurd cc
 unmarked false false false false false false false false false false n =
-    record { header = refl; limits = refl; counts = refl; references = refl; twice = refl; test = refl; many = refl; outside = refl }
+    record {
+      interchange_header = refl;
+      message_header = refl;
+      segment_count = refl;
+      message_reference = refl;
+      repeated_reference = refl;
+      test_indicator = refl;
+      too_many_messages = refl;
+      character_set = refl;
+    }
 
-pub lowest_none : (j : Judge) (z : Segment) → lowest_of (marks_at j z) ≡ None → is_sound j ≡ true
+pub lowest_none : (j : EnvelopeCheck) (z : Segment) → lowest_of (marks_at j z) ≡ None → is_sound j ≡ true
 lowest_none j z n =
     let m = marks_at j z in
-    let none = unmarked m.header m.limits m.counts m.references m.messages m.control m.twice m.test m.many m.outside n in
-    let both = and_parts j.headers.identified j.trailers.within (not-false _ none.limits) in
-    let few : nat_le j.headers.messages 999 ≡ true = le-leb _ _ (ltb-false _ _ none.many) in
-    let taken : j.header.taken ≡ true = not-false _ none.header in
-    let counted : j.trailers.counted ≡ true = not-false _ none.counts in
-    let closed : j.trailers.closed ≡ true = not-false _ none.references in
-    let inside : j.outside ≡ false = (or_parts j.outside _ none.outside).0 in
-    let once : j.headers.twice ≡ false = none.twice in
-    let productive : j.header.test ≡ false = none.test in
+    let none = unmarked _ _ _ _ _ _ _ _ _ _ n in
+    let both = and_parts j.headers.identified j.trailers.within (not-false _ none.message_header) in
+    let few : nat_le j.headers.messages 999 ≡ true = le-leb _ _ (ltb-false _ _ none.too_many_messages) in
+    let taken : j.header.taken ≡ true = not-false _ none.interchange_header in
+    let counted : j.trailers.counted ≡ true = not-false _ none.segment_count in
+    let closed : j.trailers.closed ≡ true = not-false _ none.message_reference in
+    let inside : j.outside ≡ false = (or_parts j.outside _ none.character_set).0 in
+    let once : j.headers.twice ≡ false = none.repeated_reference in
+    let productive : j.header.test ≡ false = none.test_indicator in
     rw (taken, productive, inside, both.0, once, few, both.1, counted, closed) refl

@@ -8,18 +8,18 @@ use Rattle.std.proofs.lemmas.List.Folds.{list_any-append}
 use Rattle.edi_segments.specs.declared.segment.Segment.{Segment}
 use Rattle.edi_envelope.specs.declared.gathering.Gathered.{Gathered}
 use Rattle.edi_envelope.specs.declared.interchange.RawMessage.{RawMessage}
-use Rattle.edi_envelope.specs.declared.judge.Place.{Place}
-use Rattle.edi_envelope.specs.declared.judge.Place.TheVariants as place
+use Rattle.edi_envelope.specs.declared.check.Place.{Place}
+use Rattle.edi_envelope.specs.declared.check.Place.TheVariants as place
 use Rattle.edi_envelope.specs.Segments.{is_unz, is_unh, last_segment}
 use Rattle.edi_envelope.specs.Header.{head_of}
 use Rattle.edi_envelope.specs.Blocks.{blocks}
 use Rattle.edi_envelope.specs.Message.{message_of}
-use Rattle.edi_envelope.specs.Judge.{IsGoingOn, IsBegun, Placed}
+use Rattle.edi_envelope.specs.Check.{IsGoingOn, IsBegun, Placed}
 use Rattle.edi_envelope.specs.Gathered.{head_in, IsLast, Keeps, Whole, Ends, Gathers}
 use Rattle.edi_envelope.proofs.BlockLemmas.{blocks-at}
 use Rattle.edi_envelope.proofs.FrameLemmas.{other_tag}
 use Rattle.edi_envelope.proofs.JoinLemmas.{between_of}
-use Rattle.edi_envelope.proofs.JudgeLemmas.{last_at}
+use Rattle.edi_envelope.proofs.CheckLemmas.{last_at}
 use Rattle.edi_envelope.proofs.RowLemmas.{frame_tags}
 
 pub drop_one : (lent : List Segment) (s : Segment) → 0 < length lent → drop 1 (lent ++ s ∷ []) ≡ drop 1 lent ++ s ∷ []

@@ -15,7 +15,7 @@ use Rattle.edi_envelope.specs.declared.fault.EnvelopeFault.TheVariants.{Memory}
 use Rattle.edi_envelope.specs.Fault.{number}
 use Rattle.edi_segments.specs.declared.segment.Tokens.{Tokens}
 use Rattle.edi_envelope.specs.declared.interchange.Interchange.{Interchange}
-use Rattle.edi_envelope.specs.Interchange.{holds, faults, fault_of, judged, contents_of, interchange_of, messages_in}
+use Rattle.edi_envelope.specs.Interchange.{holds, faults, fault_of, checked, contents_of, interchange_of, messages_in}
 use Rattle.edi_envelope.specs.Law.{IsLowest, IsFaultless}
 
 rising : Above number 0 faults
@@ -67,21 +67,23 @@ module _ (segments : List Segment) where
   unfolding fault_of
   fault_of-none h = is_none number (λ fault. holds fault segments) faults rising (listed_or_false segments) h
 
-judged_fault : (found : Option EnvelopeFault) (contents : Interchange) (f : EnvelopeFault) → judged found contents ≡ Err f → found ≡ Some f
-judged_fault None contents f h = cc
-judged_fault (Some g) contents f h = cc
+checked_fault : (found : Option EnvelopeFault) (contents : Interchange) (f : EnvelopeFault) → checked found contents ≡ Err f
+    → found ≡ Some f
+checked_fault None contents f h = cc
+checked_fault (Some g) contents f h = cc
 
-judged_contents : (found : Option EnvelopeFault) (contents i : Interchange) → judged found contents ≡ Ok i → (found ≡ None) × (i ≡ contents)
-judged_contents None contents i h = (refl, cc)
-judged_contents (Some g) contents i h = cc
+checked_contents : (found : Option EnvelopeFault) (contents i : Interchange) → checked found contents ≡ Ok i
+    → (found ≡ None) × (i ≡ contents)
+checked_contents None contents i h = (refl, cc)
+checked_contents (Some g) contents i h = cc
 
 pub fault_law : (tokens : Tokens) (f : EnvelopeFault)
     → (interchange_of tokens ≡ Err f → IsLowest f tokens.segments)
     × (IsLowest f tokens.segments → interchange_of tokens ≡ Err f)
 unfolding interchange_of
 fault_law tokens f = (
-  (λ h. IsLowest-from_fault_of tokens.segments f (judged_fault (fault_of tokens.segments) (contents_of tokens) f h)),
-  (λ h. ap (λ found. judged found (contents_of tokens)) (fault_of-lowest tokens.segments f h)),
+  (λ h. IsLowest-from_fault_of tokens.segments f (checked_fault (fault_of tokens.segments) (contents_of tokens) f h)),
+  (λ h. ap (λ found. checked found (contents_of tokens)) (fault_of-lowest tokens.segments f h)),
 )
 
 pub contents_law : (tokens : Tokens) (i : Interchange)
@@ -89,7 +91,7 @@ pub contents_law : (tokens : Tokens) (i : Interchange)
     → IsFaultless tokens.segments × (i ≡ contents_of tokens)
 unfolding interchange_of
 contents_law tokens i h =
-    let both = judged_contents (fault_of tokens.segments) (contents_of tokens) i h in
+    let both = checked_contents (fault_of tokens.segments) (contents_of tokens) i h in
     (IsFaultless-from_none tokens.segments both.0, both.1)
 
 pub contents_again : (tokens : Tokens) (i : Interchange)
@@ -97,7 +99,7 @@ pub contents_again : (tokens : Tokens) (i : Interchange)
     → i ≡ contents_of tokens
     → interchange_of tokens ≡ Ok i
 unfolding interchange_of
-contents_again tokens i h e = ap (λ found. judged found (contents_of tokens)) (fault_of-none tokens.segments h) ∙ ap Ok (sym e)
+contents_again tokens i h e = ap (λ found. checked found (contents_of tokens)) (fault_of-none tokens.segments h) ∙ ap Ok (sym e)
 
 -- an interchange has at most 999 messages
 pub few_messages : (tokens : Tokens) (i : Interchange) → interchange_of tokens ≡ Ok i → length i.messages ≤ 999

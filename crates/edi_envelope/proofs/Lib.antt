@@ -9,7 +9,7 @@ pub mod ReferenceLemmas
 pub mod RowLemmas
 pub mod TallyLemmas
 pub mod EndLemmas
-pub mod JudgeLemmas
+pub mod CheckLemmas
 pub mod GatherLemmas
 pub mod OpenLemmas
 pub mod ReadLemmas

@@ -20,7 +20,7 @@ use Rattle.edi_envelope.specs.declared.fault.OpenFault.TheVariants.{Token, Envel
 use Rattle.edi_envelope.specs.declared.interchange.Interchange.{Interchange}
 use Rattle.edi_envelope.specs.Interchange.{interchange_of}
 use Rattle.edi_envelope.specs.Gathered.{Stands, HasRead, Reads, ReadsSome}
-use Rattle.edi_envelope.specs.Opened.{judged_as, read_as, opened, Opens}
+use Rattle.edi_envelope.specs.Opened.{checked_as, read_as, opened, Opens}
 
 module _ (before : Option (List ℕ)) (was : Bool) (old : Lender) where
   pub nothing_read : (opening : Opening) → Stands [] opening → HasRead before before was was old opening old
@@ -134,8 +134,8 @@ fault_opens_some old new (Envelope fault) h came = ([], subst (λ (e : EnvelopeF
 pub envelope_opens : (all : List ℕ) (tokens : Tokens) (fault : EnvelopeFault) →
     tokens_of all ≡ Ok tokens → interchange_of tokens ≡ Err fault
     → Opens (Err (Envelope fault)) (opened all)
-envelope_opens all tokens fault read judged = opens_envelope fault (opened all) (ap read_as read ∙ ap judged_as judged)
+envelope_opens all tokens fault read checked = opens_envelope fault (opened all) (ap read_as read ∙ ap checked_as checked)
 
 pub interchange_opens : (all : List ℕ) (tokens : Tokens) (i : Interchange) → tokens_of all ≡ Ok tokens → interchange_of tokens ≡ Ok i
     → opened all ≡ Ok i
-interchange_opens all tokens i read judged = ap read_as read ∙ ap judged_as judged
+interchange_opens all tokens i read checked = ap read_as read ∙ ap checked_as checked

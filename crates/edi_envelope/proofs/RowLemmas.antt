@@ -10,7 +10,7 @@ use Rattle.edi_envelope.specs.Segments.{is_unb, is_unz, is_unh, is_unt, is_ung, 
 use Rattle.edi_envelope.specs.Blocks.{before_message, blocks}
 use Rattle.edi_envelope.specs.Message.{is_frame, is_block}
 use Rattle.edi_envelope.specs.Interchange.{is_framed}
-use Rattle.edi_envelope.specs.Judge.{is_outer, follows}
+use Rattle.edi_envelope.specs.Check.{is_outer, follows}
 use Rattle.edi_envelope.proofs.FrameLemmas.{other_tag}
 use Rattle.edi_envelope.proofs.JoinLemmas.{last_of, between_of}
 

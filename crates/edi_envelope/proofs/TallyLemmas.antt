@@ -16,7 +16,7 @@ use Rattle.edi_envelope.specs.Segments.{component, first_segment, last_segment}
 use Rattle.edi_envelope.specs.Limits.{is_reference}
 use Rattle.edi_envelope.specs.Reference.{kept}
 use Rattle.edi_envelope.specs.Message.{reference_of, is_counted, is_closed, is_within_limits}
-use Rattle.edi_envelope.specs.Judge.{has_identity, has_count, Heads, Trails}
+use Rattle.edi_envelope.specs.Check.{has_identity, has_count, Heads, Trails}
 use Rattle.edi_envelope.proofs.ReferenceLemmas.{kept-eq}
 use Rattle.edi_envelope.proofs.RowLemmas.{at_end}
 

@@ -16,7 +16,7 @@ use Rattle.edi_envelope.specs.declared.interchange.Head.{Head}
 use Rattle.edi_envelope.specs.declared.interchange.Interchange.{Interchange}
 use Rattle.edi_envelope.specs.declared.opening.Opening.{Opening}
 use Rattle.edi_envelope.specs.Interchange.{messages_in}
-use Rattle.edi_envelope.specs.Judge.{Judged, is_fine}
+use Rattle.edi_envelope.specs.Check.{Checked, is_fine}
 use Rattle.edi_envelope.specs.declared.gathering.Gathered.{Gathered}
 use Rattle.edi_envelope.specs.Segments.{is_unh, is_unz, last_segment}
 use Rattle.edi_envelope.specs.Header.{head_of}
@@ -63,15 +63,15 @@ pub record IsOf (gathered : Gathered) (decimal : ℕ) (interchange : Interchange
   pub head : gathered.head ≡ Some interchange.head
   pub messages : interchange.messages ≡ gathered.messages.items
 
--- the judge of segments, and what is kept of them as long as no fault is sure
+-- the check of segments, and what is kept of them as long as no fault is sure
 pub record Stands (lent : List Segment) (opening : Opening) : Type 0 where
-  pub judged : Judged lent opening.judge
-  pub kept : is_fine opening.judge ≡ true → Gathers lent opening.gathered
+  pub checked : Checked lent opening.check
+  pub kept : is_fine opening.check ≡ true → Gathers lent opening.gathered
 
 -- what was answered is this
-abbrev pub IsJudged : Result Interchange EnvelopeFault → Result Interchange EnvelopeFault → Type 0
-IsJudged (Ok interchange) given = given ≡ Ok interchange
-IsJudged (Err fault) given = given ≡ Err fault
+abbrev pub IsChecked : Result Interchange EnvelopeFault → Result Interchange EnvelopeFault → Type 0
+IsChecked (Ok interchange) given = given ≡ Ok interchange
+IsChecked (Err fault) given = given ≡ Err fault
 
 -- of a text all segments are opened, or its token fault is told, or a read failed, or memory ran out
 abbrev pub Reads : Option (List ℕ) → Lender → Result Opening OpenFault → Lender → Type 0

@@ -81,10 +81,10 @@ contents_of tokens = record {
   messages = map message_of (messages_in tokens.segments);
 }
 
-abbrev pub judged : Option EnvelopeFault → Interchange → Result Interchange EnvelopeFault
-judged None interchange = Ok interchange
-judged (Some fault) interchange = Err fault
+abbrev pub checked : Option EnvelopeFault → Interchange → Result Interchange EnvelopeFault
+checked None interchange = Ok interchange
+checked (Some fault) interchange = Err fault
 
 -- the interchange, or the fault, of the decimal mark and the segments of a text
 unfoldable pub interchange_of : Tokens → Result Interchange EnvelopeFault
-interchange_of tokens = judged (fault_of tokens.segments) (contents_of tokens)
+interchange_of tokens = checked (fault_of tokens.segments) (contents_of tokens)

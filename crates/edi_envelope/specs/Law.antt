@@ -1,4 +1,4 @@
--- What an envelope fault and an interchange are, apart from the order in which anything is judged.
+-- What an envelope fault and an interchange are, apart from the order in which anything is checked.
 use Rattle.std.specs.Prelude.{◌≡◌, ◌<◌, true, false, List, [], ◌∷◌, ◌++◌}
 use Rattle.std.specs.List.{flat_map, AllByRecursion}
 use Rattle.edi_segments.specs.declared.segment.Segment.{Segment}

@@ -6,7 +6,7 @@ pub mod Message
 pub mod Fault
 pub mod Interchange
 pub mod Reference
-pub mod Judge
+pub mod Check
 pub mod Gathered
 pub mod Opened
 pub mod Law

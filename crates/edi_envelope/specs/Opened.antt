@@ -13,12 +13,12 @@ use Rattle.edi_envelope.specs.declared.interchange.Interchange.{Interchange}
 use Rattle.edi_envelope.specs.Fault.{code_text as envelope_code}
 use Rattle.edi_envelope.specs.Interchange.{interchange_of}
 
-abbrev pub judged_as : Result Interchange EnvelopeFault → Result Interchange OpenFault
-judged_as (Ok interchange) = Ok interchange
-judged_as (Err fault) = Err (Envelope fault)
+abbrev pub checked_as : Result Interchange EnvelopeFault → Result Interchange OpenFault
+checked_as (Ok interchange) = Ok interchange
+checked_as (Err fault) = Err (Envelope fault)
 
 abbrev pub read_as : Result Tokens TokenFault → Result Interchange OpenFault
-read_as (Ok tokens) = judged_as (interchange_of tokens)
+read_as (Ok tokens) = checked_as (interchange_of tokens)
 read_as (Err fault) = Err (Token fault)
 
 -- the interchange of a text, or its fault; a token fault goes before an envelope fault

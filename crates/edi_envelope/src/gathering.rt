@@ -3,12 +3,12 @@
 ghost use Rattle.std.specs.Prelude.{◌≡◌, ◌≢◌, ◌∷◌, ◌++◌, List, [], None, IsTrue, OnOk, MatchOption};
 ghost use Rattle.edi_segments.specs.declared.segment.Segment.{Segment};
 ghost use Rattle.edi_envelope.specs.Header.{is_header};
-ghost use Rattle.edi_envelope.specs.Judge.{Placed};
+ghost use Rattle.edi_envelope.specs.Check.{Placed};
 ghost use Rattle.edi_envelope.specs.Gathered.{Keeps, Whole, Gathers, IsOf};
 
+use crate::check::Place;
 use crate::header::head_of;
 use crate::interchange::{Head, Interchange, RawMessage};
-use crate::judge::Place;
 use crate::message::message_of;
 use edi_tokens::{Items, MemoryFault, Segment};
 use std::alloc::Global;

@@ -2,7 +2,7 @@ ghost use Rattle.std.specs.Prelude.{◌≡◌, ◌<◌, length, remove, IsTrue};
 ghost use Rattle.edi_segments.specs.Segment.{component_at};
 ghost use Rattle.edi_segments.specs.SegmentRef.{segment_in};
 ghost use Rattle.edi_envelope.specs.Header as spec;
-ghost use Rattle.edi_envelope.specs.Judge.{marks_of};
+ghost use Rattle.edi_envelope.specs.Check.{marks_of};
 
 use crate::interchange::Head;
 use crate::limits::is_reference;

@@ -2,7 +2,7 @@ ghost use Rattle.std.specs.Prelude.{◌≡◌, IfOk};
 ghost use Rattle.edi_segments.specs.SegmentRef.{segment_in};
 ghost use Rattle.edi_envelope.specs.Segments.{component, first_segment};
 ghost use Rattle.edi_envelope.specs.Message as spec;
-ghost use Rattle.edi_envelope.specs.Judge.{has_identity};
+ghost use Rattle.edi_envelope.specs.Check.{has_identity};
 
 use crate::interchange::RawMessage;
 use crate::limits;

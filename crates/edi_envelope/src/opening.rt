@@ -1,4 +1,4 @@
-//! Opening an interchange: its segments are judged as they come, and kept as long as no fault is sure.
+//! Opening an interchange: its segments are checked as they come, and kept as long as no fault is sure.
 
 ghost use Rattle.std.specs.Prelude.{◌≡◌, ◌≢◌, ◌≤◌, ◌∷◌, ◌++◌, ℕ, List, [], length, None, Ok, Err, IfOk, IfErr, OnOk};
 ghost use Rattle.edi_segments.specs.declared.segment.Segment.{Segment};
@@ -7,20 +7,20 @@ ghost use Rattle.edi_segments.specs.SegmentRef.{segment_in};
 ghost use Rattle.edi_tokens.specs.Lender.{AtEnd, Came, Fed, TakesOf, room_of, stopped};
 ghost use Rattle.edi_tokens.specs.Stops.{Stops};
 ghost use Rattle.edi_envelope.specs.Interchange as spec;
-ghost use Rattle.edi_envelope.specs.Gathered.{Stands, IsJudged, Reads, ReadsSome, Flagged};
+ghost use Rattle.edi_envelope.specs.Gathered.{Stands, IsChecked, Reads, ReadsSome, Flagged};
 ghost use Rattle.edi_envelope.specs.Opened.{opened, Opens, token_told};
 
+use crate::check::{EnvelopeCheck, Place};
 use crate::fault::{EnvelopeFault, OpenFault};
 use crate::gathering::Gathered;
 use crate::interchange::Interchange;
-use crate::judge::{Judge, Place};
 use edi_tokens::{Feeder, Lender, MemoryFault, Segment, SegmentRef, Source, Tokens};
 use std::alloc::Global;
 
-/// The judge of the segments that have come, and what is kept of them.
+/// The check of the segments that have come, and what is kept of them.
 #[derive(Drop)]
 pub(crate) struct Opening {
-    judge: Judge,
+    check: EnvelopeCheck,
     gathered: Gathered,
 }
 
@@ -29,7 +29,7 @@ impl Opening {
         ensures { Stands [] result }
     {
         Opening {
-            judge: Judge::new(alloc),
+            check: EnvelopeCheck::new(alloc),
             gathered: Gathered::new(alloc),
         }
     }
@@ -38,7 +38,7 @@ impl Opening {
     fn take(&mut self, alloc: Global, segment: Segment) -> Result<(), MemoryFault>
         ensures { (lent : List Segment) → Stands lent self.old → OnOk result (Stands (lent ++ segment ∷ []) self.new) }
     {
-        let place = self.judge.next(&SegmentRef::of(&segment))?;
+        let place = self.check.next(&SegmentRef::of(&segment))?;
         self.gathered.keep(alloc, place, segment)
     }
 
@@ -47,7 +47,7 @@ impl Opening {
         ensures { (lent : List Segment) → Stands lent self.old →
             OnOk result (Stands (lent ++ segment_in segment.now ∷ []) self.new) }
     {
-        let place = self.judge.next(segment)?;
+        let place = self.check.next(segment)?;
         match place {
             Place::Trailer => self.gathered.end(alloc),
             Place::Refused => {
@@ -61,9 +61,9 @@ impl Opening {
     // The interchange, or its fault.
     fn finish(self, decimal: u8) -> Result<Interchange, EnvelopeFault>
         ensures { (tokens : Tokens) → Stands tokens.segments self → tokens.service.decimal ≡ decimal →
-            IsJudged result (spec.interchange_of tokens) }
+            IsChecked result (spec.interchange_of tokens) }
     {
-        if let Some(fault) = self.judge.fault() {
+        if let Some(fault) = self.check.fault() {
             return Err(fault);
         }
         match self.gathered.interchange(decimal) {

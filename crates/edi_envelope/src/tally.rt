@@ -5,7 +5,7 @@ ghost use Rattle.edi_segments.specs.declared.segment.Segment.{Segment};
 ghost use Rattle.edi_segments.specs.SegmentRef.{segment_in};
 ghost use Rattle.edi_envelope.specs.Segments.{component};
 ghost use Rattle.edi_envelope.specs.Reference as reference_spec;
-ghost use Rattle.edi_envelope.specs.Judge.{Heads, Trails, are_heads_sound, are_trails_sound};
+ghost use Rattle.edi_envelope.specs.Check.{Heads, Trails, are_heads_sound, are_trails_sound};
 
 use crate::message::has_identity;
 use crate::reference::{References, kept};

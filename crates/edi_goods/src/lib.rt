@@ -8,7 +8,7 @@ mod parties;
 mod receipt;
 mod received;
 mod sums;
-mod units;
+pub mod units;
 
 pub use despatch::{Despatch, DespatchLine, Unit};
 pub use edi_messages::MessageFault;

@@ -55,8 +55,8 @@ fn rest_len(segments: &[Segment]) -> usize
     segments.len()
 }
 
-// The first segment, with what follows it up to the next that ends a unit.
-fn unit_of(segments: &[Segment]) -> &[Segment]
+/// The first segment, with what follows it up to the next that ends a unit.
+pub fn unit_of(segments: &[Segment]) -> &[Segment]
     ensures { result.now ≡ spec.unit_of segments.now }
 {
     match segments.split_first() {
@@ -105,8 +105,8 @@ fn head_len(unit: &[Segment]) -> usize
     unit.len()
 }
 
-// What stands before the first LIN of a unit.
-fn head(unit: &[Segment]) -> &[Segment]
+/// What stands before the first LIN of a unit.
+pub fn head(unit: &[Segment]) -> &[Segment]
     ensures { result.now ≡ spec.head unit.now }
 {
     let (head, _) = unit.split_at(head_len(unit));
@@ -131,8 +131,8 @@ fn sscc(unit: &[Segment]) -> Option<Sscc>
     sscc_in(only_qualified(b"GIN", b"BJ", head(unit))?)
 }
 
-// Whether CPS has an identifier.
-fn has_identifier(unit: &[Segment]) -> bool
+/// Whether CPS has an identifier.
+pub fn has_identifier(unit: &[Segment]) -> bool
     ensures { result ≡ spec.has_identifier unit.now }
 {
     match unit.first() {
@@ -152,8 +152,8 @@ fn unit_sscc(unit: &[Segment]) -> Result<Sscc, MessageFault>
     sscc(unit).ok_or(MessageFault::Unit)
 }
 
-// How many segments stand before the first CPS.
-fn outside_len(message: &[Segment]) -> usize
+/// How many segments stand before the first CPS.
+pub fn outside_len(message: &[Segment]) -> usize
     ensures within { result ≤ length message.now }
     ensures value { result ≡ prefix_len (λ segment. not (is_cps segment)) message.now }
 {

@@ -72,7 +72,7 @@ pub fn header(message: &[Segment]) -> &[Segment]
 }
 
 /// The first segment, with what follows it up to the next that ends a group.
-pub(crate) fn group_of(segments: &[Segment]) -> &[Segment]
+pub fn group_of(segments: &[Segment]) -> &[Segment]
     ensures { result.now ≡ spec.group_of segments.now }
 {
     match segments.split_first() {

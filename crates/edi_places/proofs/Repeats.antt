@@ -6,35 +6,36 @@ use Rattle.std.specs.Str.{bytes_eq}
 use Rattle.std.proofs.lemmas.List.{drop_more, take_all, length-drop}
 use Rattle.edi_base.specs.Seen.{comes_among, is_among}
 use Rattle.edi_segments.specs.declared.segment.Segment.{Segment}
-use Rattle.edi_places.specs.Envelope.{up_to_repeat}
+use Rattle.edi_places.specs.Envelope.{first_repeat_place}
 use Rattle.edi_envelope.specs.Segments.{no_segment}
 use Rattle.edi_goods.specs.Units.{unit_of, has_identifier, sscc, sscc_or_none}
-use Rattle.edi_places.specs.Goods.{begins_unit, begins_wrong_unit, ssccs_with, unit_number, up_to_unit}
-use Rattle.edi_places.specs.Orders.{up_to_line}
+use Rattle.edi_places.specs.Goods.{begins_unit, begins_wrong_unit, ssccs_with, place_in_unit, first_unit_place}
+use Rattle.edi_places.specs.Orders.{first_line_place}
 
 -- the references that have come are seen, and none of them comes twice
 pub record RepeatsFrom (segments : List Segment) (place : ℕ) (seen : List (List ℕ)) : Type 0 where
   pub come : List (List ℕ)
   pub same : (text : List ℕ) → is_among text seen ≡ is_among text come
-  pub left : up_to_repeat [] segments ≡ place + up_to_repeat come (drop place segments)
+  pub left : first_repeat_place [] segments ≡ place + first_repeat_place come (drop place segments)
 
 -- the same of line numbers
 pub record LinesFrom (segments : List Segment) (place : ℕ) (seen : List ℕ) : Type 0 where
   pub come : List ℕ
   pub same : (number : ℕ) → comes_among nat_eq number seen ≡ comes_among nat_eq number come
-  pub left : up_to_line [] segments ≡ place + up_to_line come (drop place segments)
+  pub left : first_line_place [] segments ≡ place + first_line_place come (drop place segments)
 
 -- the same of the SSCC of units
 pub record UnitsFrom (segments : List Segment) (place : ℕ) (seen : List (List ℕ)) : Type 0 where
   pub come : List (List ℕ)
   pub same : (text : List ℕ) → is_among text seen ≡ is_among text come
-  pub left : up_to_unit [] segments ≡ place + up_to_unit come (drop place segments)
+  pub left : first_unit_place [] segments ≡ place + first_unit_place come (drop place segments)
 
 one_unit : (come : List (List ℕ)) (segment : Segment) (rest : List Segment)
     → begins_wrong_unit come (segment ∷ rest) ≡ false
-    → up_to_unit come (segment ∷ rest) ≡ 1 + up_to_unit (ssccs_with come (segment ∷ rest)) rest
+    → first_unit_place come (segment ∷ rest) ≡ 1 + first_unit_place (ssccs_with come (segment ∷ rest)) rest
 one_unit come segment rest right =
-    ap (λ (t : Bool). if t then unit_number (unit_of (segment ∷ rest)) else 1 + up_to_unit (ssccs_with come (segment ∷ rest)) rest) right
+    ap (λ (t : Bool). if t then place_in_unit (unit_of (segment ∷ rest))
+    else 1 + first_unit_place (ssccs_with come (segment ∷ rest)) rest) right
 
 same_with : (t : Bool) (sscc : List ℕ) (seen come : List (List ℕ)) (text : List ℕ) → is_among text seen ≡ is_among text come
     → is_among text (if t then sscc ∷ seen else seen) ≡ is_among text (if t then sscc ∷ come else come)
@@ -55,10 +56,10 @@ more_units segments place seen new within s right grown =
     let same_right : begins_wrong_unit s.come here ≡ false =
     ap (λ (t : Bool). begins_unit here && not (has_identifier (unit_of here) && (is_some (sscc (unit_of here)) && not t)))
     (sym (s.same (sscc_or_none (unit_of here)))) ∙ right in
-    let more : up_to_unit s.come here ≡ 1 + up_to_unit (ssccs_with s.come here) rest =
-    ap (up_to_unit s.come) split
+    let more : first_unit_place s.come here ≡ 1 + first_unit_place (ssccs_with s.come here) rest =
+    ap (first_unit_place s.come) split
     ∙ one_unit s.come first rest (subst (λ (l : List Segment). begins_wrong_unit s.come l ≡ false) split same_right)
-    ∙ ap (λ (l : List Segment). 1 + up_to_unit (ssccs_with s.come l) rest) (sym split) in
+    ∙ ap (λ (l : List Segment). 1 + first_unit_place (ssccs_with s.come l) rest) (sym split) in
     record {
       come = ssccs_with s.come here;
       same = λ text.

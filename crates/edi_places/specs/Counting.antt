@@ -4,22 +4,22 @@ use Rattle.std.specs.List.{list_any}
 use Rattle.edi_segments.specs.declared.segment.Segment.{Segment}
 
 -- the number of the first segment of a kind; how many there are, where there is none
-abbrev pub up_to : (Segment → Bool) → List Segment → ℕ
-up_to kind [] = 0
-up_to kind (segment ∷ rest) = if kind segment then 1 else 1 + up_to kind rest
+abbrev pub first_place : (Segment → Bool) → List Segment → ℕ
+first_place kind [] = 0
+first_place kind (segment ∷ rest) = if kind segment then 1 else 1 + first_place kind rest
 
 -- the first segment from which on something holds shows a segment, by its number from there on: the number of that one
-abbrev pub number_from : (List Segment → Bool) → (List Segment → ℕ) → List Segment → ℕ
-number_from holds number [] = 0
-number_from holds number (segment ∷ rest) =
-    if holds (segment ∷ rest) then number (segment ∷ rest) else 1 + number_from holds number rest
+abbrev pub place_from : (List Segment → Bool) → (List Segment → ℕ) → List Segment → ℕ
+place_from holds number [] = 0
+place_from holds number (segment ∷ rest) =
+    if holds (segment ∷ rest) then number (segment ∷ rest) else 1 + place_from holds number rest
 
 -- the second segment of a kind behind the first, whose number is given, else the first
-abbrev pub second_or_first : (Segment → Bool) → ℕ → List Segment → ℕ
-second_or_first kind first segments =
-    if list_any kind (drop first segments) then first + up_to kind (drop first segments) else first
+abbrev pub second_or_first_place : (Segment → Bool) → ℕ → List Segment → ℕ
+second_or_first_place kind first segments =
+    if list_any kind (drop first segments) then first + first_place kind (drop first segments) else first
 
 -- Of what has to stand once: the second segment of a kind, else the one that there is, else another.
-abbrev pub shown_by : (Segment → Bool) → ℕ → List Segment → ℕ
-shown_by kind other segments =
-    if list_any kind segments then second_or_first kind (up_to kind segments) segments else other
+abbrev pub once_place : (Segment → Bool) → ℕ → List Segment → ℕ
+once_place kind other segments =
+    if list_any kind segments then second_or_first_place kind (first_place kind segments) segments else other

@@ -12,14 +12,14 @@ use Rattle.edi_envelope.specs.declared.fault.EnvelopeFault.TheVariants.{TestIndi
 use Rattle.edi_envelope.specs.declared.fault.EnvelopeFault.TheVariants.{Memory}
 use Rattle.edi_envelope.specs.Segments.{is_unb, is_unz, is_unh, is_unt, component, first_segment}
 use Rattle.edi_envelope.specs.Interchange.{has_high_data}
-use Rattle.edi_envelope.specs.Judge.{is_outer, has_identity}
+use Rattle.edi_envelope.specs.Check.{is_outer, has_identity}
 use Rattle.edi_envelope.specs.Message.{is_frame, is_within_limits, is_counted, is_closed}
-use Rattle.edi_places.specs.Counting.{up_to, number_from}
+use Rattle.edi_places.specs.Counting.{first_place, place_from}
 
 -- the first segment where it is no UNB, else the next UNB or UNZ, else the last
 abbrev pub frame_place : List Segment → Option ℕ
 frame_place [] = None
-frame_place (first ∷ rest) = Some (if is_unb first then 1 + up_to is_outer rest else 1)
+frame_place (first ∷ rest) = Some (if is_unb first then 1 + first_place is_outer rest else 1)
 
 -- the segment may stand in a row of messages, where one is begun or none is
 abbrev pub may_stand : Bool → Segment → Bool
@@ -27,17 +27,17 @@ may_stand false segment = is_unh segment
 may_stand true segment = is_unt segment || not (is_frame segment || is_unz segment)
 
 -- the first segment at which messages cannot go on; after one that is no UNT a message is begun
-abbrev pub up_to_break : Bool → List Segment → ℕ
-up_to_break begun [] = 0
-up_to_break begun (segment ∷ rest) = if may_stand begun segment then 1 + up_to_break (not (is_unt segment)) rest else 1
+abbrev pub first_break_place : Bool → List Segment → ℕ
+first_break_place begun [] = 0
+first_break_place begun (segment ∷ rest) = if may_stand begun segment then 1 + first_break_place (not (is_unt segment)) rest else 1
 
 abbrev pub row_place : List Segment → ℕ
 row_place [] = 0
-row_place (unb ∷ rest) = 1 + up_to_break false rest
+row_place (unb ∷ rest) = 1 + first_break_place false rest
 
 -- the segments of a message, UNH to UNT
 abbrev pub message_at : List Segment → List Segment
-message_at segments = take (up_to is_unt segments) segments
+message_at segments = take (first_place is_unt segments) segments
 
 -- the conditions of one message
 abbrev pub shows : EnvelopeFault → List Segment → Bool
@@ -51,27 +51,27 @@ abbrev pub begins_wrong : EnvelopeFault → List Segment → Bool
 begins_wrong fault segments = is_unh (first_segment segments) && shows fault (message_at segments)
 
 -- of such a message: its UNH where the reference or the identifier in it is against the limits, else its UNT
-abbrev pub number_in : EnvelopeFault → List Segment → ℕ
-number_in MessageHeader segments = if has_identity (first_segment segments) then up_to is_unt segments else 1
-number_in _ segments = up_to is_unt segments
+abbrev pub place_in_message : EnvelopeFault → List Segment → ℕ
+place_in_message MessageHeader segments = if has_identity (first_segment segments) then first_place is_unt segments else 1
+place_in_message _ segments = first_place is_unt segments
 
 -- of the first such message
 abbrev pub message_place : EnvelopeFault → List Segment → ℕ
-message_place fault segments = number_from (begins_wrong fault) (number_in fault) segments
+message_place fault segments = place_from (begins_wrong fault) (place_in_message fault) segments
 
 -- the first UNH whose reference an earlier one has, where these have come before
-abbrev pub up_to_repeat : List (List ℕ) → List Segment → ℕ
-up_to_repeat come [] = 0
-up_to_repeat come (segment ∷ rest) =
+abbrev pub first_repeat_place : List (List ℕ) → List Segment → ℕ
+first_repeat_place come [] = 0
+first_repeat_place come (segment ∷ rest) =
     if is_unh segment
-    then (if is_among (component segment 0 0) come then 1 else 1 + up_to_repeat (component segment 0 0 ∷ come) rest)
-    else 1 + up_to_repeat come rest
+    then (if is_among (component segment 0 0) come then 1 else 1 + first_repeat_place (component segment 0 0 ∷ come) rest)
+    else 1 + first_repeat_place come rest
 
 -- the UNH before which there are so many
-abbrev pub up_to_message : ℕ → List Segment → ℕ
-up_to_message before [] = 0
-up_to_message before (segment ∷ rest) =
-    if is_unh segment then (if before == 0 then 1 else 1 + up_to_message (before - 1) rest) else 1 + up_to_message before rest
+abbrev pub place_of_message : ℕ → List Segment → ℕ
+place_of_message before [] = 0
+place_of_message before (segment ∷ rest) =
+    if is_unh segment then (if before == 0 then 1 else 1 + place_of_message (before - 1) rest) else 1 + place_of_message before rest
 
 -- The segment that shows each fault, of all segments of the interchange. Where there is none at all, none shows E06.
 abbrev pub envelope_place : EnvelopeFault → List Segment → Option ℕ
@@ -83,8 +83,8 @@ envelope_place SegmentCount segments = Some (message_place SegmentCount segments
 envelope_place MessageReference segments = Some (message_place MessageReference segments)
 envelope_place MessageCount segments = Some (length segments)
 envelope_place ControlReference segments = Some (length segments)
-envelope_place RepeatedReference segments = Some (up_to_repeat [] segments)
+envelope_place RepeatedReference segments = Some (first_repeat_place [] segments)
 envelope_place TestIndicator segments = Some 1
-envelope_place TooManyMessages segments = Some (up_to_message 999 segments)
-envelope_place CharacterSet segments = Some (up_to has_high_data segments)
+envelope_place TooManyMessages segments = Some (place_of_message 999 segments)
+envelope_place CharacterSet segments = Some (first_place has_high_data segments)
 envelope_place Memory segments = None

@@ -11,9 +11,9 @@ use Rattle.edi_messages.specs.declared.fault.MessageFault.TheVariants as fault
 use Rattle.edi_goods.specs.Units.{unit_of, head, has_identifier, sscc, sscc_or_none, has_line_outside}
 use Rattle.edi_goods.specs.Despatch.{despatched, inherits, has_header_reference_or_none, is_referred}
 use Rattle.edi_goods.specs.Receipt.{is_once_or_none, is_received}
-use Rattle.edi_places.specs.Counting.{up_to, shown_by, number_from}
+use Rattle.edi_places.specs.Counting.{first_place, once_place, place_from}
 use Rattle.edi_places.specs.Header.{beginning_place, date_place, goods_parties_place, reference_place, control_place}
-use Rattle.edi_places.specs.Orders.{quantity_in, reference_in}
+use Rattle.edi_places.specs.Orders.{quantity_place, group_reference_place}
 
 -- how many segments stand before the first CPS
 abbrev pub outside : List Segment → ℕ
@@ -27,23 +27,23 @@ despatch_shows fault.Reference inherited group = not (is_referred inherited grou
 despatch_shows _ inherited group = false
 
 -- the segment of such a line group that shows it
-abbrev pub despatch_number : MessageFault → List Segment → ℕ
-despatch_number fault.Quantity group = quantity_in (codes "12") group
-despatch_number fault.Reference group = reference_in group
-despatch_number _ group = 1
+abbrev pub place_in_despatch_group : MessageFault → List Segment → ℕ
+place_in_despatch_group fault.Quantity group = quantity_place (codes "12") group
+place_in_despatch_group fault.Reference group = group_reference_place group
+place_in_despatch_group _ group = 1
 
 abbrev pub begins_wrong_despatch : MessageFault → Bool → List Segment → Bool
 begins_wrong_despatch fault inherited segments =
     is_lin (first_segment segments) && despatch_shows fault inherited (group_of segments)
 
-abbrev pub number_of_despatch : MessageFault → Bool → List Segment → ℕ
-number_of_despatch fault inherited segments =
-    number_from (begins_wrong_despatch fault inherited) (λ rest. despatch_number fault (group_of rest)) segments
+abbrev pub first_despatch_place : MessageFault → Bool → List Segment → ℕ
+first_despatch_place fault inherited segments =
+    place_from (begins_wrong_despatch fault inherited) (λ rest. place_in_despatch_group fault (group_of rest)) segments
 
 -- of the first such line group of a unit
 abbrev pub despatch_group_place : MessageFault → Bool → List Segment → ℕ
 despatch_group_place fault inherited message =
-    outside message + number_of_despatch fault inherited (drop (outside message) message)
+    outside message + first_despatch_place fault inherited (drop (outside message) message)
 
 -- the conditions of a line group of a receiving advice
 abbrev pub receipt_shows : MessageFault → List Segment → Bool
@@ -52,29 +52,29 @@ receipt_shows fault.Quantity group = not (is_received group)
 receipt_shows _ group = false
 
 -- the quantity of the first kind that is wrong, in the order of the kinds; LIN where there is none of them
-abbrev pub received_in : List Segment → ℕ
-received_in group =
-    if not (is_once_or_none (codes "194") group) then quantity_in (codes "194") group
-    else if not (is_once_or_none (codes "195") group) then quantity_in (codes "195") group
-    else quantity_in (codes "196") group
+abbrev pub received_place : List Segment → ℕ
+received_place group =
+    if not (is_once_or_none (codes "194") group) then quantity_place (codes "194") group
+    else if not (is_once_or_none (codes "195") group) then quantity_place (codes "195") group
+    else quantity_place (codes "196") group
 
-abbrev pub receipt_number : MessageFault → List Segment → ℕ
-receipt_number fault.Quantity group = received_in group
-receipt_number _ group = 1
+abbrev pub place_in_receipt_group : MessageFault → List Segment → ℕ
+place_in_receipt_group fault.Quantity group = received_place group
+place_in_receipt_group _ group = 1
 
 abbrev pub begins_wrong_receipt : MessageFault → List Segment → Bool
 begins_wrong_receipt fault segments = is_lin (first_segment segments) && receipt_shows fault (group_of segments)
 
-abbrev pub number_of_receipt : MessageFault → List Segment → ℕ
-number_of_receipt fault segments =
-    number_from (begins_wrong_receipt fault) (λ rest. receipt_number fault (group_of rest)) segments
+abbrev pub first_receipt_place : MessageFault → List Segment → ℕ
+first_receipt_place fault segments =
+    place_from (begins_wrong_receipt fault) (λ rest. place_in_receipt_group fault (group_of rest)) segments
 
 abbrev pub receipt_group_place : MessageFault → List Segment → ℕ
-receipt_group_place fault message = outside message + number_of_receipt fault (drop (outside message) message)
+receipt_group_place fault message = outside message + first_receipt_place fault (drop (outside message) message)
 
 -- the GIN with 7405 BJ of a unit: the second in its head, else the one that there is, else CPS
-abbrev pub sscc_in : List Segment → ℕ
-sscc_in unit = shown_by (is_qualified (codes "GIN") (codes "BJ")) 1 (head unit)
+abbrev pub sscc_place : List Segment → ℕ
+sscc_place unit = once_place (is_qualified (codes "GIN") (codes "BJ")) 1 (head unit)
 
 -- a unit has an SSCC, which is none of those that have come
 abbrev pub is_new_unit : List (List ℕ) → List Segment → Bool
@@ -93,19 +93,19 @@ abbrev pub ssccs_with : List (List ℕ) → List Segment → List (List ℕ)
 ssccs_with come segments = if begins_unit segments then sscc_or_none (unit_of segments) ∷ come else come
 
 -- CPS where it has no identifier, else GIN
-abbrev pub unit_number : List Segment → ℕ
-unit_number unit = if has_identifier unit then sscc_in unit else 1
+abbrev pub place_in_unit : List Segment → ℕ
+place_in_unit unit = if has_identifier unit then sscc_place unit else 1
 
 -- of the first such unit, where these SSCC have come before
-abbrev pub up_to_unit : List (List ℕ) → List Segment → ℕ
-up_to_unit come [] = 0
-up_to_unit come (segment ∷ rest) =
-    if begins_wrong_unit come (segment ∷ rest) then unit_number (unit_of (segment ∷ rest))
-    else 1 + up_to_unit (ssccs_with come (segment ∷ rest)) rest
+abbrev pub first_unit_place : List (List ℕ) → List Segment → ℕ
+first_unit_place come [] = 0
+first_unit_place come (segment ∷ rest) =
+    if begins_wrong_unit come (segment ∷ rest) then place_in_unit (unit_of (segment ∷ rest))
+    else 1 + first_unit_place (ssccs_with come (segment ∷ rest)) rest
 
 -- a LIN before the first CPS, else of such a unit
 abbrev pub unit_place : List Segment → ℕ
-unit_place message = if has_line_outside message then up_to is_lin message else up_to_unit [] message
+unit_place message = if has_line_outside message then first_place is_lin message else first_unit_place [] message
 
 -- the segment that shows each fault of a despatch advice
 abbrev pub despatch_place : MessageFault → List Segment → ℕ

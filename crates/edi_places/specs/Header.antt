@@ -5,16 +5,16 @@ use Rattle.edi_segments.specs.declared.segment.Segment.{Segment}
 use Rattle.edi_messages.specs.Parts.{header, is_qualified, is_lin, is_uns}
 use Rattle.edi_messages.specs.Header.{is_bgm, beginning, party}
 use Rattle.edi_goods.specs.Parties.{has_buyer_or_none}
-use Rattle.edi_places.specs.Counting.{up_to, second_or_first, shown_by}
+use Rattle.edi_places.specs.Counting.{first_place, second_or_first_place, once_place}
 
 -- the other BGM where BGM follows UNH, else the segment after UNH
 abbrev pub beginning_place : List Segment → ℕ
 beginning_place message =
-    if is_bgm (beginning message) && list_any is_bgm (drop 2 message) then 2 + up_to is_bgm (drop 2 message) else 2
+    if is_bgm (beginning message) && list_any is_bgm (drop 2 message) then 2 + first_place is_bgm (drop 2 message) else 2
 
 -- of what has to stand once in the header: the second, else the one that there is, else UNH
 abbrev pub header_place : List ℕ → List ℕ → List Segment → ℕ
-header_place tag qualifier message = 1 + shown_by (is_qualified tag qualifier) 0 (header message)
+header_place tag qualifier message = 1 + once_place (is_qualified tag qualifier) 0 (header message)
 
 abbrev pub date_place : List Segment → ℕ
 date_place message = header_place (codes "DTM") (codes "137") message
@@ -37,13 +37,13 @@ reference_place message = header_place (codes "RFF") (codes "ON") message
 -- behind the first UNS, whose number is given: another UNS, else a LIN, else the first UNS itself
 abbrev pub behind_section : ℕ → List Segment → ℕ
 behind_section first message =
-    if list_any is_uns (drop first message) then first + up_to is_uns (drop first message)
-    else second_or_first is_lin first message
+    if list_any is_uns (drop first message) then first + first_place is_uns (drop first message)
+    else second_or_first_place is_lin first message
 
 -- the same, and UNH where there is no UNS
 abbrev pub summary_place : List Segment → ℕ
-summary_place message = if list_any is_uns message then behind_section (up_to is_uns message) message else 1
+summary_place message = if list_any is_uns message then behind_section (first_place is_uns message) message else 1
 
 -- the second CNT with 6069 2, else the one that there is
 abbrev pub control_place : List Segment → ℕ
-control_place message = shown_by (is_qualified (codes "CNT") (codes "2")) 1 message
+control_place message = once_place (is_qualified (codes "CNT") (codes "2")) 1 message

@@ -11,15 +11,15 @@ use Rattle.edi_messages.specs.declared.fault.MessageFault.{MessageFault}
 use Rattle.edi_messages.specs.declared.fault.MessageFault.TheVariants as fault
 use Rattle.edi_orders.specs.Order.{ordered}
 use Rattle.edi_orders.specs.Response.{action, line_answer, is_referred}
-use Rattle.edi_places.specs.Counting.{shown_by, number_from}
+use Rattle.edi_places.specs.Counting.{once_place, place_from}
 use Rattle.edi_places.specs.Header.{beginning_place, date_place, parties_place, reference_place, summary_place, control_place}
 
 -- of a kind that has to stand once in a line group: the second, else the one that there is, else LIN
-abbrev pub quantity_in : List ℕ → List Segment → ℕ
-quantity_in kind group = shown_by (is_qualified (codes "QTY") kind) 1 group
+abbrev pub quantity_place : List ℕ → List Segment → ℕ
+quantity_place kind group = once_place (is_qualified (codes "QTY") kind) 1 group
 
-abbrev pub reference_in : List Segment → ℕ
-reference_in group = shown_by (is_qualified (codes "RFF") (codes "ON")) 1 group
+abbrev pub group_reference_place : List Segment → ℕ
+group_reference_place group = once_place (is_qualified (codes "RFF") (codes "ON")) 1 group
 
 -- a LIN is valid, and its line number, 0 where it is not
 abbrev pub is_lin_valid : Segment → Bool
@@ -37,10 +37,10 @@ abbrev pub numbers_with : List ℕ → Segment → List ℕ
 numbers_with come segment = if is_lin segment then lin_number segment ∷ come else come
 
 -- the first of them, where these numbers have come before
-abbrev pub up_to_line : List ℕ → List Segment → ℕ
-up_to_line come [] = 0
-up_to_line come (segment ∷ rest) =
-    if shows_line come segment then 1 else 1 + up_to_line (numbers_with come segment) rest
+abbrev pub first_line_place : List ℕ → List Segment → ℕ
+first_line_place come [] = 0
+first_line_place come (segment ∷ rest) =
+    if shows_line come segment then 1 else 1 + first_line_place (numbers_with come segment) rest
 
 -- a line group whose quantity ordered is wrong begins here
 abbrev pub begins_unordered : List Segment → Bool
@@ -48,7 +48,7 @@ begins_unordered segments = is_lin (first_segment segments) && not (is_some (ord
 
 abbrev pub ordered_place : List Segment → ℕ
 ordered_place message =
-    number_from begins_unordered (λ segments. quantity_in (codes "21") (group_of segments)) message
+    place_from begins_unordered (λ segments. quantity_place (codes "21") (group_of segments)) message
 
 -- the segment that shows each fault of an order
 abbrev pub order_place : MessageFault → List Segment → ℕ
@@ -57,7 +57,7 @@ order_place fault.Function message = 2
 order_place fault.Date message = date_place message
 order_place fault.Parties message = parties_place message
 order_place fault.Summary message = summary_place message
-order_place fault.Line message = up_to_line [] message
+order_place fault.Line message = first_line_place [] message
 order_place fault.Quantity message = ordered_place message
 order_place fault.Control message = control_place message
 order_place _ message = 1
@@ -70,15 +70,15 @@ response_shows fault.Reference order group = not (is_referred (Some order) group
 response_shows _ order group = false
 
 -- the quantity of a line that is changed
-abbrev pub changed_in : List Segment → ℕ
-changed_in group =
-    if has_qualified (codes "QTY") (codes "113") group then quantity_in (codes "113") group else quantity_in (codes "21") group
+abbrev pub changed_place : List Segment → ℕ
+changed_place group =
+    if has_qualified (codes "QTY") (codes "113") group then quantity_place (codes "113") group else quantity_place (codes "21") group
 
 -- the segment of such a line group that shows it
-abbrev pub response_number : MessageFault → List Segment → ℕ
-response_number fault.Quantity group = changed_in group
-response_number fault.Reference group = reference_in group
-response_number _ group = 1
+abbrev pub place_in_response_group : MessageFault → List Segment → ℕ
+place_in_response_group fault.Quantity group = changed_place group
+place_in_response_group fault.Reference group = group_reference_place group
+place_in_response_group _ group = 1
 
 abbrev pub begins_wrong_response : MessageFault → List ℕ → List Segment → Bool
 begins_wrong_response fault order segments =
@@ -87,7 +87,7 @@ begins_wrong_response fault order segments =
 -- of the first such line group
 abbrev pub response_group_place : MessageFault → List ℕ → List Segment → ℕ
 response_group_place fault order message =
-    number_from (begins_wrong_response fault order) (λ segments. response_number fault (group_of segments)) message
+    place_from (begins_wrong_response fault order) (λ segments. place_in_response_group fault (group_of segments)) message
 
 -- of the header where it names no order, else of a line group
 abbrev pub response_reference_place : Option (List ℕ) → List Segment → ℕ

@@ -3,13 +3,13 @@ ghost use Rattle.std.specs.Prelude.{◌≡◌, ◌≤◌, ◌+◌, [], IfOk, fal
 ghost use Rattle.std.specs.List.{list_all, list_any};
 ghost use Rattle.edi_envelope.specs.Segments.{component, first_segment, last_segment};
 ghost use Rattle.edi_envelope.specs.Interchange as interchange;
-ghost use Rattle.edi_envelope.specs.Judge as judge;
+ghost use Rattle.edi_envelope.specs.Check as check;
 ghost use Rattle.edi_envelope.specs.Limits as limits;
 ghost use Rattle.edi_envelope.specs.Message as messages;
-ghost use Rattle.edi_places.specs.Counting.{up_to};
+ghost use Rattle.edi_places.specs.Counting.{first_place};
 ghost use Rattle.edi_places.specs.Envelope as spec;
 
-use crate::counting::up_to_tag;
+use crate::counting::first_tag_place;
 use edi_base::{Seen, all_printable, count_of, has_length, is_count_of};
 use edi_envelope::EnvelopeFault;
 use edi_tokens::{Items, MemoryFault, Segment};
@@ -20,19 +20,19 @@ const MOST_MESSAGES: usize = 999;
 
 // Whether a segment stands at an end of the interchange alone.
 fn is_outer(segment: &Segment) -> bool
-    ensures { result ≡ judge.is_outer segment.now }
+    ensures { result ≡ check.is_outer segment.now }
 {
     segment.tag == *b"UNB" || segment.tag == *b"UNZ"
 }
 
 // The first UNB or UNZ; how many segments there are, where there is none.
-fn up_to_outer(segments: &[Segment]) -> usize
+fn first_outer_place(segments: &[Segment]) -> usize
     ensures within { result ≤ length segments.now }
-    ensures value { result ≡ up_to judge.is_outer segments.now }
+    ensures value { result ≡ first_place check.is_outer segments.now }
 {
-    for (place, segment) in segments.iter().enumerate() {
+    for (index, segment) in segments.iter().enumerate() {
         if is_outer(segment) {
-            return place + 1;
+            return index + 1;
         }
     }
     segments.len()
@@ -46,7 +46,7 @@ fn frame_place(segments: &[Segment]) -> Option<usize>
     if first.tag != *b"UNB" {
         return Some(1);
     }
-    Some(1 + up_to_outer(rest))
+    Some(1 + first_outer_place(rest))
 }
 
 // Whether a segment may stand in a row of messages, where one is begun or none is.
@@ -62,14 +62,14 @@ fn may_stand(begun: bool, segment: &Segment) -> bool
 }
 
 // The first segment at which messages cannot go on.
-fn up_to_break(segments: &[Segment]) -> usize
+fn first_break_place(segments: &[Segment]) -> usize
     ensures within { result ≤ length segments.now }
-    ensures value { result ≡ spec.up_to_break false segments.now }
+    ensures value { result ≡ spec.first_break_place false segments.now }
 {
     let mut begun = false;
-    for (place, segment) in segments.iter().enumerate() {
+    for (index, segment) in segments.iter().enumerate() {
         if !may_stand(begun, segment) {
-            return place + 1;
+            return index + 1;
         }
         begun = segment.tag != *b"UNT";
     }
@@ -81,7 +81,7 @@ fn row_place(segments: &[Segment]) -> usize
     ensures { result ≡ spec.row_place segments.now }
 {
     match segments.split_first() {
-        Some((_, rest)) => 1 + up_to_break(rest),
+        Some((_, rest)) => 1 + first_break_place(rest),
         None => 0,
     }
 }
@@ -90,7 +90,7 @@ fn row_place(segments: &[Segment]) -> usize
 fn message_at(segments: &[Segment]) -> &[Segment]
     ensures { result.now ≡ spec.message_at segments.now }
 {
-    let (message, _) = segments.split_at(up_to_tag(b"UNT", segments));
+    let (message, _) = segments.split_at(first_tag_place(b"UNT", segments));
     message
 }
 
@@ -110,7 +110,7 @@ fn is_identifier(low: usize, high: usize, bytes: &[u8]) -> bool
 
 // Whether UNH's reference and message identifier are within their limits.
 fn has_identity(unh: &Segment) -> bool
-    ensures { result ≡ judge.has_identity unh.now }
+    ensures { result ≡ check.has_identity unh.now }
 {
     let reference = unh.component(0, 0);
     has_length(1, 14, reference)
@@ -124,7 +124,7 @@ fn has_identity(unh: &Segment) -> bool
 
 // Whether the first segment has an identity.
 fn is_identified(segments: &[Segment]) -> bool
-    ensures { result ≡ judge.has_identity (first_segment segments.now) }
+    ensures { result ≡ check.has_identity (first_segment segments.now) }
 {
     match segments.first() {
         Some(unh) => has_identity(unh),
@@ -172,14 +172,14 @@ fn shows(fault: EnvelopeFault, message: &[Segment]) -> bool
 }
 
 // The segment of a message that shows its condition.
-fn number_in(fault: EnvelopeFault, segments: &[Segment]) -> usize
+fn place_in_message(fault: EnvelopeFault, segments: &[Segment]) -> usize
     ensures within { result ≤ length segments.now + 1 }
-    ensures value { result ≡ spec.number_in fault segments.now }
+    ensures value { result ≡ spec.place_in_message fault segments.now }
 {
     if fault == EnvelopeFault::MessageHeader && !is_identified(segments) {
         1
     } else {
-        up_to_tag(b"UNT", segments)
+        first_tag_place(b"UNT", segments)
     }
 }
 
@@ -187,37 +187,37 @@ fn number_in(fault: EnvelopeFault, segments: &[Segment]) -> usize
 fn message_place(fault: EnvelopeFault, segments: &[Segment]) -> usize
     ensures { result ≡ spec.message_place fault segments.now }
 {
-    for (place, segment) in segments.iter().enumerate() {
-        let rest = &segments[place..];
+    for (index, segment) in segments.iter().enumerate() {
+        let rest = &segments[index..];
         if segment.tag == *b"UNH" && shows(fault, message_at(rest)) {
-            return place + number_in(fault, rest);
+            return index + place_in_message(fault, rest);
         }
     }
     segments.len()
 }
 
 // The first UNH whose reference an earlier one has.
-fn up_to_repeat(alloc: Global, segments: &[Segment]) -> Result<usize, MemoryFault>
-    ensures { IfOk result (λ place. place ≡ spec.up_to_repeat [] segments.now) }
+fn first_repeat_place(alloc: Global, segments: &[Segment]) -> Result<usize, MemoryFault>
+    ensures { IfOk result (λ place. place ≡ spec.first_repeat_place [] segments.now) }
 {
     let mut seen = Seen::new(alloc);
-    for (place, segment) in segments.iter().enumerate() {
+    for (index, segment) in segments.iter().enumerate() {
         if segment.tag == *b"UNH" && !seen.insert(segment.component(0, 0))? {
-            return Ok(place + 1);
+            return Ok(index + 1);
         }
     }
     Ok(segments.len())
 }
 
 // The UNH before which there are so many.
-fn up_to_message(before: usize, segments: &[Segment]) -> usize
-    ensures { result ≡ spec.up_to_message before segments.now }
+fn place_of_message(before: usize, segments: &[Segment]) -> usize
+    ensures { result ≡ spec.place_of_message before segments.now }
 {
     let mut before = before;
-    for (place, segment) in segments.iter().enumerate() {
+    for (index, segment) in segments.iter().enumerate() {
         if segment.tag == *b"UNH" {
             if before == 0 {
-                return place + 1;
+                return index + 1;
             }
             before -= 1;
         }
@@ -252,12 +252,12 @@ fn has_high_data(segment: &Segment) -> bool
 }
 
 // The first segment with a byte from 0xA0 on.
-fn up_to_high(segments: &[Segment]) -> usize
-    ensures { result ≡ up_to interchange.has_high_data segments.now }
+fn first_high_place(segments: &[Segment]) -> usize
+    ensures { result ≡ first_place interchange.has_high_data segments.now }
 {
-    for (place, segment) in segments.iter().enumerate() {
+    for (index, segment) in segments.iter().enumerate() {
         if has_high_data(segment) {
-            return place + 1;
+            return index + 1;
         }
     }
     segments.len()
@@ -282,9 +282,9 @@ pub fn envelope_place(
         | EnvelopeFault::SegmentCount
         | EnvelopeFault::MessageReference => message_place(fault, segments),
         EnvelopeFault::MessageCount | EnvelopeFault::ControlReference => segments.len(),
-        EnvelopeFault::RepeatedReference => up_to_repeat(alloc, segments)?,
-        EnvelopeFault::TooManyMessages => up_to_message(MOST_MESSAGES, segments),
-        EnvelopeFault::CharacterSet => up_to_high(segments),
+        EnvelopeFault::RepeatedReference => first_repeat_place(alloc, segments)?,
+        EnvelopeFault::TooManyMessages => place_of_message(MOST_MESSAGES, segments),
+        EnvelopeFault::CharacterSet => first_high_place(segments),
     };
     Ok(Some(place))
 }

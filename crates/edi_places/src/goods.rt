@@ -7,15 +7,18 @@ ghost use Rattle.edi_goods.specs.Receipt as receipt;
 ghost use Rattle.edi_goods.specs.Units as units;
 ghost use Rattle.edi_places.specs.Goods as spec;
 
-use crate::counting::{shown_by, sum, up_to_tag};
-use crate::groups::{group_of, has_line, head, outside, quantity_in, reference_in, unit_of};
+use crate::counting::{first_tag_place, once_place, sum};
+use crate::groups::{group_reference_place, has_line, quantity_place};
 use crate::header::{
     beginning_place, control_place, date_place, goods_parties_place, reference_place,
 };
 use edi_base::Seen;
+use edi_goods::units::{has_identifier, head, outside_len, unit_of};
 use edi_messages::MessageFault;
 use edi_messages::lines::quantity_of;
-use edi_messages::parts::{has_lin, has_qualified, header, is_cps, is_lin, only_qualified};
+use edi_messages::parts::{
+    group_of, has_lin, has_qualified, header, is_cps, is_lin, only_qualified,
+};
 use edi_messages::references::{has_reference, order, read_reference, reference};
 use edi_tokens::{MemoryFault, Segment};
 use gs1_ids::Sscc;
@@ -45,26 +48,26 @@ fn despatch_shows(fault: MessageFault, inherited: bool, group: &[Segment]) -> bo
 }
 
 // The segment of such a line group that shows it.
-fn despatch_number(fault: MessageFault, group: &[Segment]) -> usize
+fn place_in_despatch_group(fault: MessageFault, group: &[Segment]) -> usize
     ensures within { result ≤ length group.now + 1 }
-    ensures value { result ≡ spec.despatch_number fault group.now }
+    ensures value { result ≡ spec.place_in_despatch_group fault group.now }
 {
     match fault {
-        MessageFault::Quantity => quantity_in(b"12", group),
-        MessageFault::Reference => reference_in(group),
+        MessageFault::Quantity => quantity_place(b"12", group),
+        MessageFault::Reference => group_reference_place(group),
         _ => 1,
     }
 }
 
 // The segment that shows a condition of a line group, of the first of which it holds.
-fn number_of_despatch(fault: MessageFault, inherited: bool, segments: &[Segment]) -> usize
-    ensures { result ≡ spec.number_of_despatch fault inherited segments.now }
+fn first_despatch_place(fault: MessageFault, inherited: bool, segments: &[Segment]) -> usize
+    ensures { result ≡ spec.first_despatch_place fault inherited segments.now }
 {
-    for (place, segment) in segments.iter().enumerate() {
+    for (index, segment) in segments.iter().enumerate() {
         if is_lin(segment) {
-            let group = group_of(&segments[place..]);
+            let group = group_of(&segments[index..]);
             if despatch_shows(fault, inherited, group) {
-                return place + despatch_number(fault, group);
+                return index + place_in_despatch_group(fault, group);
             }
         }
     }
@@ -117,39 +120,39 @@ fn receipt_shows(fault: MessageFault, group: &[Segment]) -> bool
 }
 
 // The quantity of the first kind that is wrong, else LIN.
-fn received_in(group: &[Segment]) -> usize
+fn received_place(group: &[Segment]) -> usize
     ensures within { result ≤ length group.now + 1 }
-    ensures value { result ≡ spec.received_in group.now }
+    ensures value { result ≡ spec.received_place group.now }
 {
     if !is_once_or_none(b"194", group) {
-        quantity_in(b"194", group)
+        quantity_place(b"194", group)
     } else if !is_once_or_none(b"195", group) {
-        quantity_in(b"195", group)
+        quantity_place(b"195", group)
     } else {
-        quantity_in(b"196", group)
+        quantity_place(b"196", group)
     }
 }
 
 // The segment of such a line group that shows it.
-fn receipt_number(fault: MessageFault, group: &[Segment]) -> usize
+fn place_in_receipt_group(fault: MessageFault, group: &[Segment]) -> usize
     ensures within { result ≤ length group.now + 1 }
-    ensures value { result ≡ spec.receipt_number fault group.now }
+    ensures value { result ≡ spec.place_in_receipt_group fault group.now }
 {
     match fault {
-        MessageFault::Quantity => received_in(group),
+        MessageFault::Quantity => received_place(group),
         _ => 1,
     }
 }
 
 // The segment that shows a condition of a line group, of the first of which it holds.
-fn number_of_receipt(fault: MessageFault, segments: &[Segment]) -> usize
-    ensures { result ≡ spec.number_of_receipt fault segments.now }
+fn first_receipt_place(fault: MessageFault, segments: &[Segment]) -> usize
+    ensures { result ≡ spec.first_receipt_place fault segments.now }
 {
-    for (place, segment) in segments.iter().enumerate() {
+    for (index, segment) in segments.iter().enumerate() {
         if is_lin(segment) {
-            let group = group_of(&segments[place..]);
+            let group = group_of(&segments[index..]);
             if receipt_shows(fault, group) {
-                return place + receipt_number(fault, group);
+                return index + place_in_receipt_group(fault, group);
             }
         }
     }
@@ -160,8 +163,8 @@ fn number_of_receipt(fault: MessageFault, segments: &[Segment]) -> usize
 fn has_wrong_receipt(fault: MessageFault, segments: &[Segment]) -> bool
     ensures { result ≡ spec.has_wrong_receipt fault segments.now }
 {
-    for (place, segment) in segments.iter().enumerate() {
-        if is_lin(segment) && receipt_shows(fault, group_of(&segments[place..])) {
+    for (index, segment) in segments.iter().enumerate() {
+        if is_lin(segment) && receipt_shows(fault, group_of(&segments[index..])) {
             return true;
         }
     }
@@ -178,18 +181,8 @@ fn begins_unit(segments: &[Segment]) -> bool
     }
 }
 
-// Whether the CPS of a unit has an identifier.
-fn has_identifier(unit: &[Segment]) -> bool
-    ensures { result ≡ units.has_identifier unit.now }
-{
-    match unit.first() {
-        Some(packing) => !packing.component(0, 0).is_empty(),
-        None => false,
-    }
-}
-
 // The bytes of the one SSCC of a GIN, which stands alone after the qualifier.
-fn sscc_of(gin: &Segment) -> Option<&[u8]>
+fn gin_sscc(gin: &Segment) -> Option<&[u8]>
     ensures { option_map (λ sscc. sscc.now) result ≡ units.sscc_in gin.now }
 {
     if gin.elements.len() != 2 || gin.element(1).len() != 1 {
@@ -207,7 +200,7 @@ fn sscc_of(gin: &Segment) -> Option<&[u8]>
 fn sscc(unit: &[Segment]) -> Option<&[u8]>
     ensures { option_map (λ sscc. sscc.now) result ≡ units.sscc unit.now }
 {
-    sscc_of(only_qualified(b"GIN", b"BJ", head(unit))?)
+    gin_sscc(only_qualified(b"GIN", b"BJ", head(unit))?)
 }
 
 // Whether a unit has an SSCC that comes for the first time.
@@ -223,12 +216,12 @@ fn is_new_unit<'a>(seen: &mut Seen<'a>, unit: &'a [Segment]) -> Result<bool, Mem
 }
 
 // The GIN that shows a wrong SSCC of a unit: the second in its head, else the one that there is, else CPS.
-fn sscc_in(unit: &[Segment]) -> usize
+fn sscc_place(unit: &[Segment]) -> usize
     ensures within { result ≤ length unit.now + 1 }
-    ensures value { result ≡ spec.sscc_in unit.now }
+    ensures value { result ≡ spec.sscc_place unit.now }
 {
     let head = head(unit);
-    shown_by(b"GIN", b"BJ", 1, head)
+    once_place(b"GIN", b"BJ", 1, head)
 }
 
 // Whether a unit that is read begins here, without an identifier or without an SSCC of its own, which else is put in.
@@ -249,26 +242,26 @@ fn begins_wrong_unit<'a>(seen: &mut Seen<'a>, segments: &'a [Segment]) -> Result
 }
 
 // The segment of such a unit that shows it: CPS where it has no identifier, else GIN.
-fn unit_number(unit: &[Segment]) -> usize
+fn place_in_unit(unit: &[Segment]) -> usize
     ensures within { result ≤ length unit.now + 1 }
-    ensures value { result ≡ spec.unit_number unit.now }
+    ensures value { result ≡ spec.place_in_unit unit.now }
 {
     if has_identifier(unit) {
-        sscc_in(unit)
+        sscc_place(unit)
     } else {
         1
     }
 }
 
 // The segment that shows a wrong unit, of the first that is wrong or has the SSCC of an earlier one.
-fn up_to_unit(alloc: Global, message: &[Segment]) -> Result<usize, MemoryFault>
-    ensures { IfOk result (λ place. place ≡ spec.up_to_unit [] message.now) }
+fn first_unit_place(alloc: Global, message: &[Segment]) -> Result<usize, MemoryFault>
+    ensures { IfOk result (λ place. place ≡ spec.first_unit_place [] message.now) }
 {
     let mut seen = Seen::new(alloc);
-    for place in 0..message.len() {
-        let rest = &message[place..];
+    for index in 0..message.len() {
+        let rest = &message[index..];
         if begins_wrong_unit(&mut seen, rest)? {
-            return Ok(place + unit_number(unit_of(rest)));
+            return Ok(index + place_in_unit(unit_of(rest)));
         }
     }
     Ok(message.len())
@@ -279,11 +272,11 @@ fn up_to_unit(alloc: Global, message: &[Segment]) -> Result<usize, MemoryFault>
 fn unit_place(alloc: Global, message: &[Segment]) -> Result<usize, MemoryFault>
     ensures { IfOk result (λ place. place ≡ spec.unit_place message.now) }
 {
-    let (before, _) = message.split_at(outside(message));
+    let (before, _) = message.split_at(outside_len(message));
     if has_lin(before) {
-        return Ok(up_to_tag(b"LIN", message));
+        return Ok(first_tag_place(b"LIN", message));
     }
-    up_to_unit(alloc, message)
+    first_unit_place(alloc, message)
 }
 
 // The segment that shows a condition of a line group of a despatch advice.
@@ -291,8 +284,8 @@ fn despatch_group_place(fault: MessageFault, message: &[Segment]) -> Result<usiz
     ensures { IfOk result (λ place. place ≡ spec.despatch_group_place fault (despatch.inherits message.now) message.now) }
 {
     let inherited = has_reference(header(message));
-    let (before, units) = message.split_at(outside(message));
-    sum(before.len(), number_of_despatch(fault, inherited, units))
+    let (before, units) = message.split_at(outside_len(message));
+    sum(before.len(), first_despatch_place(fault, inherited, units))
 }
 
 // The segment that shows a wrong reference of a despatch advice.
@@ -333,15 +326,15 @@ pub fn despatch_place(
 fn receipt_group_place(fault: MessageFault, message: &[Segment]) -> Result<usize, MemoryFault>
     ensures { IfOk result (λ place. place ≡ spec.receipt_group_place fault message.now) }
 {
-    let (before, units) = message.split_at(outside(message));
-    sum(before.len(), number_of_receipt(fault, units))
+    let (before, units) = message.split_at(outside_len(message));
+    sum(before.len(), first_receipt_place(fault, units))
 }
 
 // The segment that shows a wrong quantity of a receiving advice, else UNH.
 fn receipt_quantity_place(message: &[Segment]) -> Result<usize, MemoryFault>
     ensures { IfOk result (λ place. place ≡ spec.receipt_quantity_place message.now) }
 {
-    let (_, units) = message.split_at(outside(message));
+    let (_, units) = message.split_at(outside_len(message));
     if has_wrong_receipt(MessageFault::Quantity, units) {
         receipt_group_place(MessageFault::Quantity, message)
     } else {

@@ -3,7 +3,7 @@ ghost use Rattle.std.specs.Prelude.{◌≡◌, ◌≤◌, length};
 ghost use Rattle.edi_goods.specs.Parties.{has_buyer_or_none};
 ghost use Rattle.edi_places.specs.Header as spec;
 
-use crate::counting::{has_tag, second_or_first, shown_by, up_to_tag};
+use crate::counting::{first_tag_place, has_tag, once_place, second_or_first_place};
 use edi_messages::header::party;
 use edi_messages::parts::{has_qualified, header};
 use edi_tokens::Segment;
@@ -17,7 +17,7 @@ pub(crate) fn beginning_place(message: &[Segment]) -> usize
     }
     let rest = &message[2..];
     if message[1].tag == *b"BGM" && has_tag(b"BGM", rest) {
-        2 + up_to_tag(b"BGM", rest)
+        2 + first_tag_place(b"BGM", rest)
     } else {
         2
     }
@@ -27,7 +27,7 @@ pub(crate) fn beginning_place(message: &[Segment]) -> usize
 fn header_place(tag: &[u8; 3], qualifier: &[u8], message: &[Segment]) -> usize
     ensures { result ≡ spec.header_place tag.now qualifier.now message.now }
 {
-    1 + shown_by(tag, qualifier, 0, header(message))
+    1 + once_place(tag, qualifier, 0, header(message))
 }
 
 /// The DTM that shows a wrong document date, else UNH.
@@ -80,9 +80,9 @@ fn behind_section(first: usize, message: &[Segment]) -> usize
 {
     let rest = &message[first..];
     if has_tag(b"UNS", rest) {
-        first + up_to_tag(b"UNS", rest)
+        first + first_tag_place(b"UNS", rest)
     } else {
-        second_or_first(b"LIN", first, message)
+        second_or_first_place(b"LIN", first, message)
     }
 }
 
@@ -91,7 +91,7 @@ pub(crate) fn summary_place(message: &[Segment]) -> usize
     ensures { result ≡ spec.summary_place message.now }
 {
     if has_tag(b"UNS", message) {
-        behind_section(up_to_tag(b"UNS", message), message)
+        behind_section(first_tag_place(b"UNS", message), message)
     } else {
         1
     }
@@ -101,5 +101,5 @@ pub(crate) fn summary_place(message: &[Segment]) -> usize
 pub(crate) fn control_place(message: &[Segment]) -> usize
     ensures { result ≡ spec.control_place message.now }
 {
-    shown_by(b"CNT", b"2", 1, message)
+    once_place(b"CNT", b"2", 1, message)
 }

@@ -7,14 +7,14 @@ ghost use Rattle.edi_messages.specs.Lines as lines;
 ghost use Rattle.edi_orders.specs.Response as response;
 ghost use Rattle.edi_places.specs.Orders as spec;
 
-use crate::groups::{group_of, has_line, is_line, number_or_zero, quantity_in, reference_in};
+use crate::groups::{group_reference_place, has_line, is_line, number_or_zero, quantity_place};
 use crate::header::{
     beginning_place, control_place, date_place, parties_place, reference_place, summary_place,
 };
 use crate::numbers::Numbers;
 use edi_messages::MessageFault;
 use edi_messages::lines::quantity_of;
-use edi_messages::parts::{has_qualified, is_lin};
+use edi_messages::parts::{group_of, has_qualified, is_lin};
 use edi_messages::references::{has_reference, order, read_reference, reference};
 use edi_tokens::{MemoryFault, Segment};
 use std::alloc::Global;
@@ -36,13 +36,13 @@ fn shows_line(numbers: &mut Numbers, segment: &Segment) -> Result<bool, MemoryFa
 }
 
 // The first LIN that is wrong or has the number of an earlier one.
-fn up_to_line(alloc: Global, message: &[Segment]) -> Result<usize, MemoryFault>
-    ensures { IfOk result (λ place. place ≡ spec.up_to_line [] message.now) }
+fn first_line_place(alloc: Global, message: &[Segment]) -> Result<usize, MemoryFault>
+    ensures { IfOk result (λ place. place ≡ spec.first_line_place [] message.now) }
 {
     let mut numbers = Numbers::new(alloc);
-    for (place, segment) in message.iter().enumerate() {
+    for (index, segment) in message.iter().enumerate() {
         if shows_line(&mut numbers, segment)? {
-            return Ok(place + 1);
+            return Ok(index + 1);
         }
     }
     Ok(message.len())
@@ -52,11 +52,11 @@ fn up_to_line(alloc: Global, message: &[Segment]) -> Result<usize, MemoryFault>
 fn ordered_place(message: &[Segment]) -> usize
     ensures { result ≡ spec.ordered_place message.now }
 {
-    for (place, segment) in message.iter().enumerate() {
+    for (index, segment) in message.iter().enumerate() {
         if is_lin(segment) {
-            let group = group_of(&message[place..]);
+            let group = group_of(&message[index..]);
             if quantity_of(b"21", 1, group).is_none() {
-                return place + quantity_in(b"21", group);
+                return index + quantity_place(b"21", group);
             }
         }
     }
@@ -78,7 +78,7 @@ pub fn order_place(
         MessageFault::Date => date_place(message),
         MessageFault::Parties => parties_place(message),
         MessageFault::Summary => summary_place(message),
-        MessageFault::Line => up_to_line(alloc, message)?,
+        MessageFault::Line => first_line_place(alloc, message)?,
         MessageFault::Quantity => ordered_place(message),
         MessageFault::Control => control_place(message),
         _ => 1,
@@ -170,19 +170,19 @@ fn response_shows(fault: MessageFault, order: &[u8], group: &[Segment]) -> bool
 }
 
 // The segment of such a line group that shows it.
-fn response_number(fault: MessageFault, group: &[Segment]) -> usize
+fn place_in_response_group(fault: MessageFault, group: &[Segment]) -> usize
     ensures within { result ≤ length group.now + 1 }
-    ensures value { result ≡ spec.response_number fault group.now }
+    ensures value { result ≡ spec.place_in_response_group fault group.now }
 {
     match fault {
         MessageFault::Quantity => {
             if has_qualified(b"QTY", b"113", group) {
-                quantity_in(b"113", group)
+                quantity_place(b"113", group)
             } else {
-                quantity_in(b"21", group)
+                quantity_place(b"21", group)
             }
         }
-        MessageFault::Reference => reference_in(group),
+        MessageFault::Reference => group_reference_place(group),
         _ => 1,
     }
 }
@@ -191,11 +191,11 @@ fn response_number(fault: MessageFault, group: &[Segment]) -> usize
 fn response_group_place(fault: MessageFault, order: &[u8], message: &[Segment]) -> usize
     ensures { result ≡ spec.response_group_place fault order.now message.now }
 {
-    for (place, segment) in message.iter().enumerate() {
+    for (index, segment) in message.iter().enumerate() {
         if is_lin(segment) {
-            let group = group_of(&message[place..]);
+            let group = group_of(&message[index..]);
             if response_shows(fault, order, group) {
-                return place + response_number(fault, group);
+                return index + place_in_response_group(fault, group);
             }
         }
     }

@@ -5,7 +5,7 @@ use Rattle.std.proofs.lemmas.Bool.{true≢false, false≢true}
 use Rattle.std.specs.Io.KnownBytes.{Appends}
 use Rattle.std.proofs.KnownBytes.{Appends-trans}
 use Rattle.edi_base.specs.Buffer.{AppendsFront}
-use Rattle.edi_relay.specs.Exit.{Tells}
+use Rattle.edi_relay.specs.ErrorLines.{Tells}
 
 -- a fact where a call failed, or did not
 pub on_err : {T E P : Type 0} (r : Result T E) → P → OnErr r P

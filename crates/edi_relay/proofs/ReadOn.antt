@@ -18,11 +18,11 @@ use Rattle.edi_tokens.proofs.Settled.{settled_service}
 use Rattle.edi_envelope.specs.declared.fault.EnvelopeFault.{EnvelopeFault}
 use Rattle.edi_envelope.specs.declared.fault.EnvelopeFault.TheVariants as envelope
 use Rattle.edi_envelope.specs.declared.interchange.Interchange.{Interchange}
-use Rattle.edi_envelope.specs.declared.judge.Judge.{Judge}
-use Rattle.edi_envelope.specs.declared.judge.Place.{Place}
-use Rattle.edi_envelope.specs.declared.judge.Place.TheVariants as place
-use Rattle.edi_envelope.specs.Interchange.{is_framed, fault_of, contents_of, interchange_of, judged}
-use Rattle.edi_envelope.specs.Judge.{Judged, Placed, is_fine}
+use Rattle.edi_envelope.specs.declared.check.EnvelopeCheck.{EnvelopeCheck}
+use Rattle.edi_envelope.specs.declared.check.Place.{Place}
+use Rattle.edi_envelope.specs.declared.check.Place.TheVariants as place
+use Rattle.edi_envelope.specs.Interchange.{is_framed, fault_of, contents_of, interchange_of, checked}
+use Rattle.edi_envelope.specs.Check.{Checked, Placed, is_fine}
 use Rattle.edi_envelope.proofs.FrameLemmas.{framed_unz}
 use Rattle.edi_envelope.proofs.LawLemmas.{IsFaultless-from_none}
 use Rattle.edi_relay.specs.declared.relay.RelayWords.{RelayWords}
@@ -39,17 +39,17 @@ push_some [] s = λ e. cc
 push_some (u ∷ rest) s = λ e. cc
 
 -- one more segment
-module _ (words : RelayWords) (mark : ℕ) (lent : List Segment) (s : Segment) (o : Relaying) (judge : Judge) (stands : Place)
+module _ (words : RelayWords) (mark : ℕ) (lent : List Segment) (s : Segment) (o : Relaying) (check : EnvelopeCheck) (stands : Place)
     (before : Stands words mark lent o)
-    (judged_next : Judged (lent ++ s ∷ []) judge) (placed : Placed stands lent s)
-    (refused : (stands ≡ place.Refused) → is_fine judge ≡ false)
-    (for_good : is_fine judge ≡ true → is_fine o.judge ≡ true) where
+    (checked_next : Checked (lent ++ s ∷ []) check) (placed : Placed stands lent s)
+    (refused : (stands ≡ place.Refused) → is_fine check ≡ false)
+    (for_good : is_fine check ≡ true → is_fine o.check ≡ true) where
   pub more_stands : {E A : Type 0} (r : Result A E) (mails : Mails)
       → (Writes words mark lent o.mails → stands ≢ place.Refused → Placed stands lent s
       → OnOk r (Writes words mark (lent ++ s ∷ []) mails))
-      → OnOk r (Stands words mark (lent ++ s ∷ []) (record { judge = judge; mails = mails }))
+      → OnOk r (Stands words mark (lent ++ s ∷ []) (record { check = check; mails = mails }))
   more_stands (Ok a) mails kept = record {
-    judged = judged_next;
+    checked = checked_next;
     kept = λ fine. kept (before.kept (for_good fine)) (λ e. true≢false (sym fine ∙ refused e)) placed;
   }
   more_stands (Err e) mails kept = tt
@@ -57,13 +57,13 @@ module _ (words : RelayWords) (mark : ℕ) (lent : List Segment) (s : Segment) (
 -- ---- the end
 
 module _ (words : RelayWords) (tokens : Tokens) (o : Relaying) (stands : Stands words tokens.service.decimal tokens.segments o)
-    (none : fault_of tokens.segments ≡ None) (fine : is_fine o.judge ≡ true) where
+    (none : fault_of tokens.segments ≡ None) (fine : is_fine o.check ≡ true) where
   framed : is_framed tokens.segments ≡ true
   framed = not-false _ (IsFaultless-from_none tokens.segments none envelope.InterchangeFrame)
 
   contents : interchange_of tokens ≡ Ok (contents_of tokens)
   unfolding interchange_of
-  contents = ap (λ f. judged f (contents_of tokens)) none
+  contents = ap (λ f. checked f (contents_of tokens)) none
 
   written : o.mails.out.items ≡ mail_texts words (contents_of tokens).decimal words.number (contents_of tokens).messages
   unfolding contents_of

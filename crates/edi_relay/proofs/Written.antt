@@ -10,17 +10,17 @@ use Rattle.edi_segments.specs.declared.segment.Segment.{Segment}
 use Rattle.edi_tokens.specs.Text.{text, una, segment_text}
 use Rattle.edi_tokens.specs.Appending.{with_component}
 use Rattle.edi_envelope.specs.declared.interchange.RawMessage.{RawMessage}
-use Rattle.edi_envelope.specs.declared.judge.Place.TheVariants as place
+use Rattle.edi_envelope.specs.declared.check.Place.TheVariants as place
 use Rattle.edi_envelope.specs.Segments.{is_unz, is_unh, is_unt, last_segment}
 use Rattle.edi_envelope.specs.Blocks.{blocks}
 use Rattle.edi_envelope.specs.Message.{message_of, is_frame}
 use Rattle.edi_moment.specs.Moment.{date_text, time_text}
 use Rattle.edi_envelope.specs.Mail.{renumbered, mail_text}
-use Rattle.edi_envelope.specs.Judge.{Placed}
+use Rattle.edi_envelope.specs.Check.{Placed}
 use Rattle.edi_envelope.specs.Gathered.{IsLast}
 use Rattle.edi_envelope.proofs.FrameLemmas.{other_tag}
 use Rattle.edi_envelope.proofs.JoinLemmas.{between_of}
-use Rattle.edi_envelope.proofs.JudgeLemmas.{last_at}
+use Rattle.edi_envelope.proofs.CheckLemmas.{last_at}
 use Rattle.edi_envelope.proofs.RowLemmas.{frame_tags}
 use Rattle.edi_envelope.proofs.GatherLemmas.{drop_one, joined, not_last, last_more, Goes}
 use Rattle.edi_relay.specs.declared.relay.RelayWords.{RelayWords}

@@ -1,4 +1,4 @@
-pub mod Exit
+pub mod ErrorLines
 pub mod Relay
 pub mod Mails
 pub mod Relaying

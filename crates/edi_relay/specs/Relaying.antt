@@ -10,7 +10,7 @@ use Rattle.edi_segments.specs.Machine.{tokens_at}
 use Rattle.edi_tokens.specs.Lender.{AtEnd, Fed, HasCause, TakesOf, room_of, stopped}
 use Rattle.edi_envelope.specs.declared.fault.EnvelopeFault.{EnvelopeFault}
 use Rattle.edi_envelope.specs.declared.interchange.Interchange.{Interchange}
-use Rattle.edi_envelope.specs.Judge.{Judged, is_fine}
+use Rattle.edi_envelope.specs.Check.{Checked, is_fine}
 use Rattle.edi_relay.specs.declared.relay.RelayWords.{RelayWords}
 use Rattle.edi_relay.specs.declared.relay.RelayFault.{RelayFault}
 use Rattle.edi_relay.specs.declared.relay.RelayFault.TheVariants.{Token, Envelope, Memory}
@@ -18,10 +18,10 @@ use Rattle.edi_relay.specs.declared.relaying.Relaying.{Relaying}
 use Rattle.edi_relay.specs.Relay.{mail_texts, relayed}
 use Rattle.edi_relay.specs.Mails.{Writes}
 
--- the judge of segments, and what is written of them as long as no fault is sure
+-- the check of segments, and what is written of them as long as no fault is sure
 pub record Stands (words : RelayWords) (mark : ℕ) (lent : List Segment) (relaying : Relaying) : Type 0 where
-  pub judged : Judged lent relaying.judge
-  pub kept : is_fine relaying.judge ≡ true → Writes words mark lent relaying.mails
+  pub checked : Checked lent relaying.check
+  pub kept : is_fine relaying.check ≡ true → Writes words mark lent relaying.mails
 
 -- what was answered of an interchange with this decimal mark is this
 abbrev pub IsMailed : {X : Type 0} → RelayWords → (X → List ℕ) → Result X EnvelopeFault → Result Interchange EnvelopeFault → Type 0
@@ -29,7 +29,7 @@ IsMailed words view (Ok out) given =
     (i : Interchange) × (given ≡ Ok i) × (view out ≡ mail_texts words i.decimal words.number i.messages)
 IsMailed words view (Err fault) given = given ≡ Err fault
 
--- where the text spells segments, the judge of those that were lent, and what is written with the text's decimal mark
+-- where the text spells segments, the check of those that were lent, and what is written with the text's decimal mark
 abbrev pub StandsBy : RelayWords → Option (List ℕ) → Lender → List Segment → Relaying → Type 0
 StandsBy words known old lent relaying =
     (all : List ℕ) (tokens : Tokens) → Fed known all [] old → tokens_of all ≡ Ok tokens

@@ -3,7 +3,7 @@
 ghost use Rattle.std.specs.Prelude.{◌≡◌, ◌≢◌, ℕ, ◌+◌, ◌∷◌, ◌++◌, List, [], true, false, IfOk, OnOk};
 ghost use Rattle.edi_segments.specs.declared.segment.Segment.{Segment};
 ghost use Rattle.edi_segments.specs.SegmentRef.{segment_in};
-ghost use Rattle.edi_envelope.specs.Judge.{Placed};
+ghost use Rattle.edi_envelope.specs.Check.{Placed};
 ghost use Rattle.edi_relay.specs.Mails.{Keeps, Whole, Writes, header_text, front_text, trailer_text};
 
 use crate::relay::RelayWords;

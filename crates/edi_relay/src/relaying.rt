@@ -1,6 +1,6 @@
-//! The judge of an interchange, and what is written of its mail texts as long as no fault is sure.
+//! The check of an interchange, and what is written of its mail texts as long as no fault is sure.
 
-ghost use Rattle.std.specs.Prelude.{◌≡◌, ℕ, ◌∷◌, ◌++◌, List, [], IfOk, OnOk};
+ghost use Rattle.std.specs.Prelude.{ℕ, ◌∷◌, ◌++◌, List, [], IfOk, OnOk};
 ghost use Rattle.edi_segments.specs.declared.segment.Segment.{Segment};
 ghost use Rattle.edi_segments.specs.declared.segment.Tokens.{Tokens};
 ghost use Rattle.edi_segments.specs.SegmentRef.{segment_in};
@@ -9,13 +9,13 @@ ghost use Rattle.edi_relay.specs.Relaying.{Stands, IsMailed};
 
 use crate::mails::Mails;
 use crate::relay::RelayWords;
-use edi_envelope::{EnvelopeFault, Judge};
+use edi_envelope::{EnvelopeCheck, EnvelopeFault};
 use edi_tokens::{MemoryFault, SegmentRef};
 use std::alloc::Global;
 
 #[derive(Drop)]
 pub(crate) struct Relaying {
-    judge: Judge,
+    check: EnvelopeCheck,
     mails: Mails,
 }
 
@@ -27,7 +27,7 @@ impl Relaying {
         ensures { IfOk result (λ relaying. (mark : ℕ) → Stands words.now mark [] relaying) }
     {
         Ok(Relaying {
-            judge: Judge::new(alloc),
+            check: EnvelopeCheck::new(alloc),
             mails: Mails::new(alloc, words)?,
         })
     }
@@ -42,7 +42,7 @@ impl Relaying {
         ensures { (words : RelayWords) (lent : List Segment) → Stands words mark lent self.old →
             OnOk result (Stands words mark (lent ++ segment_in segment.now ∷ []) self.new) }
     {
-        let place = self.judge.next(segment)?;
+        let place = self.check.next(segment)?;
         self.mails.take(alloc, place, segment, mark)
     }
 
@@ -51,7 +51,7 @@ impl Relaying {
         ensures { (words : RelayWords) (tokens : Tokens) → Stands words tokens.service.decimal tokens.segments self →
             IsMailed words (λ out. out.items) result (spec.interchange_of tokens) }
     {
-        if let Some(fault) = self.judge.fault() {
+        if let Some(fault) = self.check.fault() {
             return Err(fault);
         }
         Ok(self.mails.into_out())

@@ -6,10 +6,10 @@ ghost use Rattle.edi_base.specs.Buffer.{AppendsFront};
 ghost use Rattle.edi_base.specs.Source.{TakesAtMost};
 ghost use Rattle.edi_relay.specs.declared.relay.RelayFault.{RelayFault};
 ghost use Rattle.edi_relay.specs.Relay.{AreRelayWords};
-ghost use Rattle.edi_relay.specs.Exit.{Tells};
+ghost use Rattle.edi_relay.specs.ErrorLines.{Tells};
 ghost use Rattle.edi_relay.specs.Run.{Delivers, DeliversFront, IsRefused, Ran, read_limit, refusal};
 
-use crate::exit::tell;
+use crate::error_lines::tell;
 use crate::relay::{RelayFault, RelayWords, relay_lent};
 use edi_base::exit::{DONE, FAILED, REFUSED};
 use edi_tokens::{

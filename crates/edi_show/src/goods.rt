@@ -28,7 +28,7 @@ fn put_despatch_line(
 }
 
 // Appends the lines of a unit that is despatched.
-fn put_despatch_lines(
+fn put_unit_lines(
     alloc: Global,
     out: &mut Vec<u8>,
     lines: &[DespatchLine],
@@ -47,7 +47,7 @@ fn put_unit(alloc: Global, out: &mut Vec<u8>, unit: &Unit) -> Result<(), MemoryF
     ensures { OnOk result (out.new.items ≡ out.old.items ++ spec.unit_lines unit.now) }
 {
     put_line(out, b"  unit ", unit.sscc.digits())?;
-    put_despatch_lines(alloc, out, unit.lines.as_slice())?;
+    put_unit_lines(alloc, out, unit.lines.as_slice())?;
     Ok(())
 }
 

@@ -1,18 +1,18 @@
 //! The program `edihub`: the EDI hub of one retailer.
 #![tactic(auto)]
 
+mod database;
 mod fault;
-mod file;
-mod hub;
 mod init;
 mod register;
 mod serve;
+mod tasks;
 
 use clap::Error;
+use database::{Work, over_a_hub};
 use edi_base::exit::{FAILED, USAGE};
 use edi_relay::relay_run;
 use edi_tokens::{OfRead, OfWrite};
-use file::{Work, over_a_hub};
 use hub_app::{Words, WordsFault, read_words};
 use hub_commands::{check_run, show_run};
 use init::init;

@@ -1,6 +1,6 @@
 //! Serving a hub over the network.
 use crate::fault::BeginFault;
-use crate::hub::{now, written};
+use crate::tasks::{now, written};
 use edi_base::OfWrite;
 use edi_envelope::Moment;
 use hub_app::ServeWords;

@@ -1,16 +1,16 @@
-use hub_http::{Paths, Place};
+use hub_http::{Paths, Route, part_in, party_in};
 use std::alloc::Global;
 use std::test::*;
 
-type Found<'p> = Option<(Place, &'p [u8], Option<&'p [u8]>)>;
+// The route that a path takes, who asks, and what stands for `{n}` or `{supplier}`, if anything.
+type Found<'p> = Option<(Route, &'p [u8], &'p [u8])>;
 
 fn found(alloc: Global, path: &str) -> Result<Found<'_>, Fail> {
     let paths = Paths::new(alloc)?;
-    Ok(
-        paths
-            .place_of(path)
-            .map(|routed| (routed.place, routed.party, routed.part)),
-    )
+    match paths.route_of(path) {
+        Some(route) => Ok(Some((route, party_in(path), part_in(route, path)))),
+        None => Ok(None),
+    }
 }
 
 type Row = (&'static str, Found<'static>);
@@ -18,45 +18,39 @@ type Row = (&'static str, Found<'static>);
 static PATHS: [Row; 28] = [
     (
         "/p/4012345500004/interchanges",
-        Some((Place::Interchanges, b"4012345500004", None)),
+        Some((Route::Interchanges, b"4012345500004", b"")),
     ),
-    (
-        "/p/a/mail/after/0",
-        Some((Place::MailAfter, b"a", Some(b"0"))),
-    ),
-    (
-        "/p/a/mail/item/12",
-        Some((Place::MailItem, b"a", Some(b"12"))),
-    ),
+    ("/p/a/mail/after/0", Some((Route::MailAfter, b"a", b"0"))),
+    ("/p/a/mail/item/12", Some((Route::MailItem, b"a", b"12"))),
     (
         "/p/a/mail/item/12/taken",
-        Some((Place::MailTaken, b"a", Some(b"12"))),
+        Some((Route::MailTaken, b"a", b"12")),
     ),
-    ("/p/a/status", Some((Place::Status, b"a", None))),
+    ("/p/a/status", Some((Route::Status, b"a", b""))),
     (
         "/p/a/status/4012345500004",
-        Some((Place::StatusOf, b"a", Some(b"4012345500004"))),
+        Some((Route::StatusOf, b"a", b"4012345500004")),
     ),
     (
         "/p/a/cancellations",
-        Some((Place::Cancellations, b"a", None)),
+        Some((Route::Cancellations, b"a", b"")),
     ),
     // parts are taken as they are
-    ("/p/status/status", Some((Place::Status, b"status", None))),
+    ("/p/status/status", Some((Route::Status, b"status", b""))),
     (
         "/p/p/status/status",
-        Some((Place::StatusOf, b"p", Some(b"status"))),
+        Some((Route::StatusOf, b"p", b"status")),
     ),
-    ("/p/%41%2F/status", Some((Place::Status, b"%41%2F", None))),
+    ("/p/%41%2F/status", Some((Route::Status, b"%41%2F", b""))),
     (
         "/p/a/mail/item/taken",
-        Some((Place::MailItem, b"a", Some(b"taken"))),
+        Some((Route::MailItem, b"a", b"taken")),
     ),
     (
         "/p/a/mail/item/taken/taken",
-        Some((Place::MailTaken, b"a", Some(b"taken"))),
+        Some((Route::MailTaken, b"a", b"taken")),
     ),
-    ("/p/\u{e4}/status", Some((Place::Status, b"\xc3\xa4", None))),
+    ("/p/\u{e4}/status", Some((Route::Status, b"\xc3\xa4", b""))),
     // near misses
     ("", None),
     ("/", None),

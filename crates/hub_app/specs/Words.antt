@@ -2,7 +2,7 @@
 use Rattle.std.specs.Prelude.{◌≡◌, ◌⊎◌, ℕ, true, List, [], ◌∷◌, Option, Some, None, option_and_then, codes}
 use Rattle.clap.specs.Words.{Row, Text, first_of, subcommand_of, takes}
 use Rattle.gs1_ids.specs.Gln.{gln_of}
-use Rattle.hub_app.specs.declared.words.Asker.{Asker}
+use Rattle.hub_app.specs.declared.words.HubOptions.{HubOptions}
 use Rattle.hub_app.specs.declared.words.CancelLines.{CancelLines}
 use Rattle.hub_app.specs.declared.words.HubTask.{HubTask}
 use Rattle.hub_app.specs.declared.words.HubTask.TheVariants.{Import, Status, MailAfter, MailItem, MailTaken, Cancel, Join}
@@ -79,14 +79,14 @@ IsTask command rows (Cancel cancellation) = (command ≡ codes "cancel") × (can
 IsTask command rows (Join join) = (command ≡ codes "join") × (join_given rows ≡ Some join)
 
 -- the options of every command over a hub
-pub record IsAsker (rows : List Row) (asker : Asker) : Type 0 where
-  pub db : first_of (codes "db") rows ≡ Some asker.db.now
-  pub caller : option_and_then gln_of (first_of (codes "as") rows) ≡ Some asker.caller
-  pub key : first_of (codes "key") rows ≡ Some asker.key.now
-  pub moment : if_given moment_of (first_of (codes "moment") rows) ≡ Some asker.moment
+pub record AreHubOptions (rows : List Row) (options : HubOptions) : Type 0 where
+  pub db : first_of (codes "db") rows ≡ Some options.db.now
+  pub caller : option_and_then gln_of (first_of (codes "as") rows) ≡ Some options.caller
+  pub key : first_of (codes "key") rows ≡ Some options.key.now
+  pub moment : if_given moment_of (first_of (codes "moment") rows) ≡ Some options.moment
 
 abbrev pub AreHubWords : List Row → HubWords → Type 0
-AreHubWords rows words = IsAsker rows (record {
+AreHubWords rows words = AreHubOptions rows (record {
   db = words.db;
   caller = words.caller;
   key = words.key;

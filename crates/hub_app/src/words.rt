@@ -6,7 +6,7 @@ ghost use Rattle.hub_app.specs.Options as spec;
 ghost use Rattle.hub_app.specs.Options.{Finds, if_given, moment_of, values_given};
 ghost use Rattle.edi_relay.specs.Relay.{AreRelayWords};
 ghost use Rattle.hub_texts.specs.Cancel as body;
-ghost use Rattle.hub_app.specs.Words.{cancel_options, texts_of, AreWords, Asks, IsAsker, AreHubWords, IsOverHub};
+ghost use Rattle.hub_app.specs.Words.{cancel_options, texts_of, AreWords, Asks, AreHubOptions, AreHubWords, IsOverHub};
 ghost use Rattle.hub_app.specs.Words.{IsInit, IsRelay, IsServe, IsTask, Names, Refuses, Say, join_in, join_options, texts_of_join};
 ghost use Rattle.hub_app.specs.Program.{edihub};
 
@@ -324,19 +324,19 @@ fn named_moment(options: &ArgMatches<'_>) -> Option<Option<Moment>>
     }
 }
 
-// With what a hub is asked, whatever is asked.
+// The options of every command over a hub.
 #[derive(Clone, Copy)]
-struct Asker<'a> {
+struct HubOptions<'a> {
     db: &'a str,
     caller: Gln,
     key: &'a str,
     moment: Option<Moment>,
 }
 
-fn asker_in<'a>(options: &ArgMatches<'a>) -> Option<Asker<'a>>
-    ensures { Finds (IsAsker (rows_of (found_of options.now))) result }
+fn hub_options<'a>(options: &ArgMatches<'a>) -> Option<HubOptions<'a>>
+    ensures { Finds (AreHubOptions (rows_of (found_of options.now))) result }
 {
-    Some(Asker {
+    Some(HubOptions {
         db: text(options, "db")?,
         caller: gln(text(options, "as")?)?,
         key: text(options, "key")?,
@@ -349,14 +349,14 @@ fn hub_words<'a>(options: &ArgMatches<'a>, task: HubTask<'a>) -> Option<HubWords
     ensures found { Finds (AreHubWords (rows_of (found_of options.now))) result }
     ensures task { IfSome result (λ words. words.task ≡ task.entry) }
 {
-    let Some(asker) = asker_in(options) else {
+    let Some(common) = hub_options(options) else {
         return None;
     };
     Some(HubWords {
-        db: asker.db,
-        caller: asker.caller,
-        key: asker.key,
-        moment: asker.moment,
+        db: common.db,
+        caller: common.caller,
+        key: common.key,
+        moment: common.moment,
         task,
     })
 }

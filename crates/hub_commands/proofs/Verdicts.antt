@@ -1,12 +1,12 @@
 -- What comes of a verdict that is printed.
-use Rattle.std.proofs.Common.{◌≡◌, ℕ, Bool, true, List, Option, Result, Ok, Err, codes, inl, inr, sym, subst, ◌∙◌}
+use Rattle.std.proofs.Common.{◌≡◌, ℕ, Bool, true, List, Option, Result, codes, inl, inr, sym, subst, ◌∙◌}
 use Rattle.std.specs.Prelude.{◌≢◌, ◌⊎◌}
 use Rattle.std.specs.Io.KnownBytes.{Appends, Keeps}
 use Rattle.edi_base.specs.Buffer.{AppendsFront}
 use Rattle.hub_parties.specs.Rows.{RegisterRows}
 use Rattle.hub_register.specs.declared.fault.RegisterFault.{RegisterFault}
 use Rattle.hub_commands.specs.Check.{verdict_line, verdict_status}
-use Rattle.edi_relay.specs.Exit.{Tells}
+use Rattle.edi_relay.specs.ErrorLines.{Tells}
 use Rattle.hub_commands.proofs.RegisterTexts.{never_failed}
 
 module _ (verdict : Result RegisterRows RegisterFault) (status result : ℕ) (line : List ℕ) (old new : Option (List ℕ))

@@ -6,7 +6,7 @@ ghost use Rattle.edi_base.specs.Buffer.{AppendsFront};
 ghost use Rattle.edi_base.specs.Source.{TakesAtMost};
 ghost use Rattle.hub_commands.specs.Check.{IsRegisterText, fault_line, verdict_line, verdict_status};
 ghost use Rattle.edi_relay.specs.Run.{read_limit};
-ghost use Rattle.edi_relay.specs.Exit.{Tells};
+ghost use Rattle.edi_relay.specs.ErrorLines.{Tells};
 ghost use Rattle.hub_register.specs.Register.{register_of};
 
 use edi_base::exit::{DONE, FAILED, REFUSED};

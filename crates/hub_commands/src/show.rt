@@ -4,7 +4,7 @@ ghost use Rattle.std.specs.Prelude.{◌≡◌, ◌≢◌, ◌⊎◌, true, take,
 ghost use Rattle.std.specs.Io.KnownBytes.{Consumes, Keeps};
 ghost use Rattle.edi_base.specs.Source.{TakesAtMost};
 ghost use Rattle.edi_relay.specs.Run.{read_limit};
-ghost use Rattle.edi_relay.specs.Exit.{Tells};
+ghost use Rattle.edi_relay.specs.ErrorLines.{Tells};
 ghost use Rattle.hub_commands.specs.Show.{Shows, ShowsFront, lines_shown, status_of};
 
 use edi_base::exit::{DONE, FAILED, REFUSED};

@@ -11,26 +11,21 @@ use Rattle.hub_law.specs.Replies.{whole_reply}
 use Rattle.hub_law.specs.Requests.{replied_by}
 use Rattle.hub_law.specs.Stops.{Upload, all_acts, first_acts, reply_behind}
 use Rattle.hub_law.specs.Told.{Told, Act, in_row}
+use Rattle.hub_law.proofs.Agreeing.{reply_at}
 use Rattle.hub_requests.specs.declared.reply.Reply.{Reply}
 use Rattle.hub_requests.specs.declared.request.Input.{Input}
 use Rattle.hub_core.specs.Laws.{TellsOf}
 
 -- the reply at a place of a run
-reply_there : (t : Tables) (before : Inputs) (input : Input) (mark : Mark) (later : Inputs)
-    → slice_get (shared_run t (before ++ (input, mark) ∷ later)).0 (length before)
-    ≡ Some (shared_step (shared_run t before).1 input mark).0
-reply_there t [] input mark later = refl
-reply_there t (x ∷ before) input mark later = reply_there (shared_step t x.0 x.1).1 before input mark later
-
-pub reply_at : (t after : Tables) (marked before later : Inputs) (input : Input) (mark : Mark)
+pub reply_of_run : (t after : Tables) (marked before later : Inputs) (input : Input) (mark : Mark)
     (replies : List Reply)
     → shared_run t marked ≡ (replies, after)
     → marked ≡ before ++ (input, mark) ∷ later
     → slice_get replies (length before) ≡ Some (shared_step (shared_run t before).1 input mark).0
-reply_at t after marked before later input mark replies is e =
+reply_of_run t after marked before later input mark replies is e =
     sym (ap (λ (r : List Reply × Tables). slice_get r.0 (length before)) is)
     ∙ ap (λ xs. slice_get (shared_run t xs).0 (length before)) e
-    ∙ reply_there t before input mark later
+    ∙ reply_at t before input mark later
 
 no_more : {X : Type 0} (k : ℕ) (xs : List X) → length (take k xs) ≤ k
 no_more zero xs = omega arith

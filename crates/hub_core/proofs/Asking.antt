@@ -30,7 +30,7 @@ module _ {S : Type 0} (content : S → Tables) (honest : S → Type 0) (left : S
   still h stays reply is = record {
     mark = Whole;
     is = is ∙ ap (λ t. (reply, t)) (sym (stays.content_stays h));
-    kept = λ u l. inr (inl (stays.content_stays h, stays.left_stays h u l));
+    leaves = λ u l. inr (inl (stays.content_stays h, stays.left_stays h u l));
   }
 
   pub by_look : (result : Result Reply StoreFault) (reply : Reply)
@@ -44,7 +44,7 @@ module _ {S : Type 0} (content : S → Tables) (honest : S → Type 0) (left : S
       }
   by_look (Err fault) reply stays says is = record {
     answered = λ h. tt;
-    undone = λ h. record { same = stays.content_stays h; kept = λ u l. inl (stays.left_stays h u l) };
+    undone = λ h. record { same = stays.content_stays h; leaves = λ u l. inl (stays.left_stays h u l) };
   }
 
   pub by_act : (act : Tables → Reply × Tables) (result : Result Reply StoreFault) → count ≡ 1 → ((t : Tables) → does Whole t ≡ act t)
@@ -55,7 +55,7 @@ module _ {S : Type 0} (content : S → Tables) (honest : S → Type 0) (left : S
     answered = λ h. record {
       mark = Whole;
       is = is (content old) ∙ carried.done h;
-      kept = λ u l. elim (carried.durable h u l) [
+      leaves = λ u l. elim (carried.durable h u l) [
         | inl e ↦ inl e
         | inr e ↦ inr (inl e)
       ];
@@ -66,7 +66,7 @@ module _ {S : Type 0} (content : S → Tables) (honest : S → Type 0) (left : S
     answered = λ h. tt;
     undone = λ h. record {
       same = unharmed.same h;
-      kept = λ u l. elim (carried.crash h u l) [
+      leaves = λ u l. elim (carried.crash h u l) [
         | inl e ↦ inl e
         | inr e ↦ inr (let more : OneMore count does (content old) StoppedBare u = record {
           more = Whole;

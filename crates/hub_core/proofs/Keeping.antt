@@ -23,7 +23,7 @@ use Rattle.hub_law.proofs.Retailers.{messages_stay, cancelled_stays}
 use Rattle.hub_law.proofs.Steps.{gln_of, supplier_alike}
 use Rattle.hub_transactions.specs.Joins.{KeepsRows}
 use Rattle.hub_transactions.proofs.Joins.{keeps_all, keeps_moved}
-use Rattle.hub_core.specs.Steps.{Does, Asked, IsNoJoin, JoinAnswered}
+use Rattle.hub_core.specs.Steps.{Does, Asked, IsNoJoin, JoinAnswered, SoundWith, Stepped}
 
 module _ (t : Tables) (here : SoundHub t) where
   abbrev R : RegisterRows
@@ -59,13 +59,22 @@ module _ (t : Tables) (here : SoundHub t) where
       ]
 
   -- the tables hold the same register after it
-  pub register_kept : (input : Input) (mark : Mark)
+  register_kept : (input : Input) (mark : Mark)
       → IsNoJoin input.request
       → register_of (shared_step t input mark).1 ≡ register_of t
   register_kept input mark other =
       register_same t (shared_step t input mark).1
       (subst (λ (after : Reply × Tables). PartiesStay t after.1) (sym (step_is R input mark t))
       (keeps_by input mark (supplier_row (suppliers_of t) input.caller) refl other))
+
+-- after a step that is no join the tables hold the register that they held
+pub still_held : {register : RegisterRows} {t after : Tables} {before left : Tables → Type 0} {input : Input} {reply : Reply}
+    → SoundWith register t
+    → Stepped t after before left input reply
+    → IsNoJoin input.request
+    → register ≡ register_of after
+still_held {register} {t} {after} {before} {left} {input} here step other =
+    here.held ∙ sym (register_kept t here.sound input step.mark other) ∙ ap (λ (r : Reply × Tables). register_of r.1) step.is
 
 -- a request is a join, or it is none
 pub join_or_none : (request : Request) → ((row : SupplierRow) × (request ≡ requests.Join row)) ⊎ IsNoJoin request

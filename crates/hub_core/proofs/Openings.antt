@@ -1,19 +1,17 @@
 -- What an upload is.
-use Rattle.std.proofs.Common.{◌≡◌, ◌≢◌, inl, inr, ℕ, true, false, not, cond, codes, List, Result, Ok, Err, refl, ap, ◌∙◌}
-use Rattle.std.specs.List.{list_any}
+use Rattle.std.proofs.Common.{◌≡◌, ◌≢◌, inl, inr, ℕ, List, Result, Ok, Err, refl, ap, ◌∙◌}
 use Rattle.edi_segments.specs.Reading.{tokens_of, Fails}
 use Rattle.edi_segments.specs.declared.fault.TokenFault.{TokenFault}
 use Rattle.edi_segments.specs.declared.fault.TokenFault.TheVariants as token
 use Rattle.edi_segments.specs.declared.segment.Tokens.{Tokens}
 use Rattle.edi_envelope.specs.Interchange.{interchange_of}
-use Rattle.edi_envelope.specs.Opened.{judged_as, read_as, opened, Opens}
+use Rattle.edi_envelope.specs.Opened.{checked_as, read_as, opened, Opens}
 use Rattle.edi_envelope.specs.declared.fault.EnvelopeFault.{EnvelopeFault}
 use Rattle.edi_envelope.specs.declared.fault.EnvelopeFault.TheVariants as envelope
 use Rattle.edi_envelope.specs.declared.fault.OpenFault.{OpenFault}
 use Rattle.edi_envelope.specs.declared.fault.OpenFault.TheVariants.{Token, Envelope}
 use Rattle.edi_envelope.specs.declared.interchange.Interchange.{Interchange}
-use Rattle.hub_tables.specs.Rows.{same}
-use Rattle.hub_law.specs.Opening.{told_as, interchange_in, addressed}
+use Rattle.hub_law.specs.Opening.{told_as, interchange_in}
 use Rattle.hub_core.specs.Opened.{HasCode, Sufficed, RanOut}
 
 fails_is : (fault : TokenFault) (given : Result Tokens TokenFault) → (fault ≢ token.Memory) → Fails fault given → given ≡ Err fault
@@ -41,7 +39,7 @@ pub envelope_fault : (bytes : List ℕ) (tokens : Tokens) (fault : EnvelopeFault
 unfolding interchange_in
 envelope_fault bytes tokens fault e has fails =
     ap (λ given. told_as (read_as given)) e
-    ∙ ap (λ given. told_as (judged_as given)) (fails (λ e. has (inr (ap (λ fault. Envelope fault) e))))
+    ∙ ap (λ given. told_as (checked_as given)) (fails (λ e. has (inr (ap (λ fault. Envelope fault) e))))
 
 pub opened_well : (bytes : List ℕ) (tokens : Tokens) (interchange : Interchange)
     → tokens_of bytes ≡ Ok tokens
@@ -49,7 +47,7 @@ pub opened_well : (bytes : List ℕ) (tokens : Tokens) (interchange : Interchang
     → interchange_in bytes ≡ told_as (Ok interchange)
 unfolding interchange_in
 opened_well bytes tokens interchange e f =
-    ap (λ given. told_as (read_as given)) e ∙ ap (λ given. told_as (judged_as given)) f
+    ap (λ given. told_as (read_as given)) e ∙ ap (λ given. told_as (checked_as given)) f
 
 -- an upload that was opened before, of some bytes
 opens_text : (fault : TokenFault) (given : Result Interchange OpenFault)
@@ -102,13 +100,3 @@ opened_before bytes upload read has opens = ap told_as (opens_as upload (opened 
 pub ran_out : (upload : Result Interchange OpenFault) → RanOut upload → Sufficed upload → ⊥
 ran_out (Ok interchange) out has = out
 ran_out (Err fault) out has = has out
-
--- an interchange of another sender, or for another recipient
-pub other_recipient : (sender : List ℕ) (recipients : List (List ℕ)) (interchange : Interchange)
-    → same interchange.head.sender sender ≡ true
-    → list_any (same interchange.head.recipient) recipients ≡ false
-    → addressed sender recipients (Ok interchange) ≡ Err (codes "E09")
-other_recipient sender recipients interchange from to =
-    ap (λ v. cond (not v) (Err (codes "E08"))
-    (cond (list_any (same interchange.head.recipient) recipients) (Ok interchange) (Err (codes "E09")))) from
-    ∙ ap (λ v. cond v (Ok interchange) (Err (codes "E09"))) to

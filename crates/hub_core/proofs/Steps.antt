@@ -1,6 +1,6 @@
 -- What a step and a run did is what the laws say of the machine.
 use Rattle.std.proofs.Common.{◌≡◌, ◌≢◌, ◌↔◌, inl, inr, ℕ, zero, suc, ◌+◌, drop, List, [], ◌∷◌}
-use Rattle.std.proofs.Common.{◌++◌, length, map, Option, Some, refl, sym, ap, subst}
+use Rattle.std.proofs.Common.{◌++◌, length, map, Option, refl, sym, ap, subst}
 use Rattle.std.proofs.Common.{◌∙◌, append_assoc}
 use Rattle.std.specs.Prelude.{slice_get, Result, Ok, Err, IfOk, OnErr, IsErr}
 use Rattle.std.specs.List.{AllByRecursion}
@@ -11,17 +11,17 @@ use Rattle.hub_tables.specs.Register.{register_of, parties_in}
 use Rattle.hub_tables.specs.Tables.{Tables, view}
 use Rattle.hub_store.specs.declared.fault.StoreFault.{StoreFault}
 use Rattle.hub_rules.specs.Laws.{SoundHub}
-use Rattle.hub_law.specs.Alone.{items}
-use Rattle.hub_law.specs.Laws.{StepIsOwn, RunIsOwn, IsOther, AsksStatus, alone, own_report, reply_between}
+use Rattle.hub_law.specs.Laws.{StepIsOwn, RunIsOwn, IsOther, own_report}
 use Rattle.hub_law.specs.Machine.{Inputs, step_under, shared_step, shared_run, replies_to}
 use Rattle.hub_law.specs.Mark.{Mark, Whole, StoppedEmpty, StoppedBare}
-use Rattle.hub_law.specs.Replies.{reply, stopped, stopped_line}
+use Rattle.hub_law.specs.Replies.{reply, stopped_line}
 use Rattle.hub_law.specs.Stops.{upload_of}
 use Rattle.hub_requests.specs.declared.reply.Outcome.TheVariants.{Stopped}
 use Rattle.hub_requests.specs.declared.reply.Reply.{Reply}
 use Rattle.hub_requests.specs.declared.request.Input.{Input}
+use Rattle.hub_core.specs.Laws.{OfTheMachine}
 use Rattle.hub_core.specs.Steps.{OneMore, Leaves, LeavesOf, Answered, Asked, Stepped, RunAlone, StoppedSince, RunLeaves, StopsTold}
-use Rattle.hub_core.specs.Steps.{Does, LinesBalance, Ran, SoundWith, acts_of}
+use Rattle.hub_core.specs.Steps.{Does, Ran, SoundWith, acts_of}
 
 -- what a request does to the tables to which it comes is all that is said of it
 module _ (count : ℕ) (does same : Does) (t : Tables) (agree : (mark : Mark) → does mark t ≡ same mark t) where
@@ -45,7 +45,7 @@ asked_same content honest left old new count does same (Ok answer) agree asked =
   answered = λ h. let a = asked.answered h in record {
     mark = a.mark;
     is = sym (agree a.mark) ∙ a.is;
-    kept = λ u l. leaves_as count does same (content old) agree a.mark (content new) (left old) u (a.kept u l);
+    leaves = λ u l. leaves_as count does same (content old) agree a.mark (content new) (left old) u (a.leaves u l);
   };
   undone = λ h. tt;
 }
@@ -53,7 +53,7 @@ asked_same content honest left old new count does same (Err fault) agree asked =
   answered = λ h. tt;
   undone = λ h. let a = asked.undone h in record {
     same = a.same;
-    kept = λ u l. elim (a.kept u l) [
+    leaves = λ u l. elim (a.leaves u l) [
       | inl e ↦ inl e
       | inr more ↦ inr (record {
         more = more.more;
@@ -77,25 +77,16 @@ asked_with content honest left old new register input result here asked =
     (asked_same content honest left old new (acts_of (upload_of register input)) (λ mark t. step_under register t input mark)
     (λ mark t. shared_step t input mark) result (λ mark. ap (λ (r : RegisterRows). step_under r (content old) input mark) here.held) asked)
 
-module _ (own : (gln : List ℕ) (t : Tables) (input : Input) (mark : Mark) → SoundHub t → IsOther gln t → StepIsOwn gln t input mark)
-    (stays : (t : Tables) (input : Input) (mark : Mark) → SoundHub t → SoundHub (shared_step t input mark).1)
-    (parties : (t : Tables) (inputs : Inputs) → SoundHub t → parties_in (shared_run t inputs).1 ≡ parties_in t)
-    (stops : (t : Tables) (input : Input) (mark : Mark) → ((shared_step t input mark).0.outcome ≡ Stopped) ↔ (mark ≢ Whole))
-    (statuses : (gln : List ℕ) (t : Tables) (before later : Inputs) (input : Input)
-    → SoundHub t
-    → IsOther gln t
-    → AsksStatus gln t input
-    → reply_between t before input later ≡ Some (own_report gln (alone gln (items gln t before) t).1))
-    (balance : (t : Tables) → SoundHub t → LinesBalance t) where
+module _ (laws : OfTheMachine) where
   -- what a crash leaves after an input is sound
-  kept_sound : (t after : Tables) (before left : Tables → Type 0) (input : Input) (mark : Mark)
+  leaves_sound : (t after : Tables) (before left : Tables → Type 0) (input : Input) (mark : Mark)
       → SoundHub t
       → SoundHub after
       → ((u : Tables) → before u → SoundHub u)
       → (u : Tables) → LeavesOf t input mark after before u → SoundHub u
-  kept_sound t after before left input mark hub sound were u (inl e) = subst SoundHub (sym e) sound
-  kept_sound t after before left input mark hub sound were u (inr (inl e)) = were u e.1
-  kept_sound t after before left input mark hub sound were u (inr (inr more)) = subst SoundHub more.is (stays t input more.more hub)
+  leaves_sound t after before left input mark hub sound were u (inl e) = subst SoundHub (sym e) sound
+  leaves_sound t after before left input mark hub sound were u (inr (inl e)) = were u e.1
+  leaves_sound t after before left input mark hub sound were u (inr (inr more)) = subst SoundHub more.is (laws.sound t input more.more hub)
 
   pub stepped : {S : Type 0} (content : S → Tables) (left : S → Tables → Type 0) (old new : S) (input : Input) (reply : Reply)
       → SoundHub (content old)
@@ -103,31 +94,30 @@ module _ (own : (gln : List ℕ) (t : Tables) (input : Input) (mark : Mark) → 
       → Stepped (content old) (content new) (left old) (left new) input reply
   stepped content left old new input reply hub a =
       let t = content old in
-      let sound : SoundHub (content new) = subst (λ (x : Reply × Tables). SoundHub x.1) a.is (stays t input a.mark hub) in
+      let sound : SoundHub (content new) = subst (λ (x : Reply × Tables). SoundHub x.1) a.is (laws.sound t input a.mark hub) in
       record {
         mark = a.mark;
         is = a.is;
-        stop = subst (λ (x : Reply × Tables). (x.0.outcome ≡ Stopped) ↔ (a.mark ≢ Whole)) a.is (stops t input a.mark);
+        stop = subst (λ (x : Reply × Tables). (x.0.outcome ≡ Stopped) ↔ (a.mark ≢ Whole)) a.is (laws.outcome t input a.mark);
         sound = sound;
-        parties = sym (ap (λ (x : Reply × Tables). parties_in x.1) a.is) ∙ parties t ((input, a.mark) ∷ []) hub;
-        balance = balance (content new) sound;
+        parties = sym (ap (λ (x : Reply × Tables). parties_in x.1) a.is) ∙ laws.parties t ((input, a.mark) ∷ []) hub;
+        balance = laws.balance (content new) sound;
         alone =
-            λ gln other. let law : StepIsOwn gln t input a.mark = own gln t input a.mark hub other in record {
+            λ gln other. let law : StepIsOwn gln t input a.mark = laws.step_own gln t input a.mark hub other in record {
               seen = sym (ap (λ (x : Reply × Tables). view gln x.1) a.is) ∙ law.seen;
               told = λ called. law.told called ∙ ap (λ (x : Reply × Tables). x.0 ∷ []) a.is;
               status = λ asks whole.
                   let one : (shared_step t input Whole).0 ≡ own_report gln (view gln t) =
-                  ap (λ (given : Option Reply). unwrap_or given reply) (statuses gln t [] [] input hub other asks) in
+                  ap (λ (given : Option Reply). unwrap_or given reply) (laws.status gln t [] [] input hub other asks) in
                   sym (ap (λ (x : Reply × Tables). x.0) a.is) ∙ ap (λ mark. (shared_step t input mark).0) whole ∙ one;
             };
-        kept = a.kept;
-        kept_sound = λ were u l. kept_sound t (content new) (left old) (left new) input a.mark hub sound were u (a.kept u l);
+        leaves = a.leaves;
+        leaves_sound = λ were u l. leaves_sound t (content new) (left old) (left new) input a.mark hub sound were u (a.leaves u l);
       }
 
   -- the reply to what was asked: that it was stopped, where memory or the store gave out
   pub replied : {S : Type 0} (content : S → Tables) (honest : S → Type 0) (left : S → Tables → Type 0) (old new : S)
       (input : Input) (answered : Result Reply StoreFault) (body : List ℕ) (given : Reply)
-      → ((t : Tables) → shared_step t input StoppedBare ≡ (stopped, t))
       → body ≡ stopped_line
       → IfOk answered (λ reply. given ≡ reply)
       → OnErr answered (given ≡ reply Stopped body)
@@ -136,15 +126,15 @@ module _ (own : (gln : List ℕ) (t : Tables) (input : Input) (mark : Mark) → 
       → Asked content honest left old new (acts_of (upload_of (register_of (content old)) input))
       (λ mark t. shared_step t input mark) answered
       → Stepped (content old) (content new) (left old) (left new) input given
-  replied content honest left old new input (Ok answer) body given bare says ok err h hub asked =
+  replied content honest left old new input (Ok answer) body given says ok err h hub asked =
       subst (λ (given : Reply). Stepped (content old) (content new) (left old) (left new) input given) (sym ok)
       (stepped content left old new input answer hub (asked.answered h))
-  replied content honest left old new input (Err fault) body given bare says ok err h hub asked =
+  replied content honest left old new input (Err fault) body given says ok err h hub asked =
       let undone = asked.undone h in
       stepped content left old new input given hub (record {
         mark = StoppedBare;
-        is = bare (content old) ∙ (λ i. (sym (err ∙ ap (λ body. reply Stopped body) says) i, sym undone.same i));
-        kept = λ u l. elim (undone.kept u l) [
+        is = laws.bare (content old) input ∙ (λ i. (sym (err ∙ ap (λ body. reply Stopped body) says) i, sym undone.same i));
+        leaves = λ u l. elim (undone.leaves u l) [
           | inl e ↦ inr (inl (undone.same, e))
           | inr e ↦ inr (inr e)
         ];
@@ -152,14 +142,13 @@ module _ (own : (gln : List ℕ) (t : Tables) (input : Input) (mark : Mark) → 
 
   -- the empty reply, where there is no memory to say so
   pub unanswered : {S : Type 0} (content : S → Tables) (left : S → Tables → Type 0) (store : S) (input : Input) (given : Reply)
-      → ((t : Tables) → shared_step t input StoppedEmpty ≡ (reply Stopped [], t))
       → given ≡ reply Stopped []
       → SoundHub (content store)
       → Stepped (content store) (content store) (left store) (left store) input given
-  unanswered content left store input given empty is hub = stepped content left store store input given hub (record {
+  unanswered content left store input given is hub = stepped content left store store input given hub (record {
     mark = StoppedEmpty;
-    is = empty (content store) ∙ ap (λ (reply : Reply). (reply, content store)) (sym is);
-    kept = λ u l. inr (inl (refl, l));
+    is = laws.empty (content store) input ∙ ap (λ (reply : Reply). (reply, content store)) (sym is);
+    leaves = λ u l. inr (inl (refl, l));
   })
 
 -- a fact of one of a list, where it holds of all
@@ -201,28 +190,23 @@ stops_more [] (r ∷ replies) x mark reply told one = absurd told
 stops_more (y ∷ marked) [] x mark reply told one = absurd told
 stops_more (y ∷ marked) (r ∷ replies) x mark reply told one = (told.0, stops_more marked replies x mark reply told.1 one)
 
-module _ (own : (gln : List ℕ) (t : Tables) (inputs : Inputs) → SoundHub t → IsOther gln t → RunIsOwn gln t inputs)
-    (statuses : (gln : List ℕ) (t : Tables) (before later : Inputs) (input : Input)
-    → SoundHub t
-    → IsOther gln t
-    → AsksStatus gln t input
-    → reply_between t before input later ≡ Some (own_report gln (alone gln (items gln t before) t).1)) where
+module _ (laws : OfTheMachine) where
   run_alone : (t after : Tables) (marked : Inputs) (replies : List Reply)
       → SoundHub t
       → shared_run t marked ≡ (replies, after)
       → (gln : List ℕ) → IsOther gln t → RunAlone gln t after marked replies
   run_alone t after marked replies hub is gln other =
-      let law : RunIsOwn gln t marked = own gln t marked hub other in record {
+      let law : RunIsOwn gln t marked = laws.run_own gln t marked hub other in record {
         seen = sym (ap (λ (x : List Reply × Tables). view gln x.1) is) ∙ law.seen;
         told = sym (ap (λ (x : List Reply × Tables). replies_to gln marked x.0) is) ∙ law.told;
         status = λ earlier later input e asks.
             sym (ap (λ (x : List Reply × Tables). slice_get x.0 (length earlier)) is)
             ∙ ap (λ xs. slice_get (shared_run t xs).0 (length earlier)) e
-            ∙ statuses gln t earlier later input hub other asks;
+            ∙ laws.status gln t earlier later input hub other asks;
       }
 
-  pub ran_none : (t : Tables) (left : Tables → Type 0) → SoundHub t → LinesBalance t → Ran t t left left [] []
-  ran_none t left hub balance = record {
+  pub ran_none : (t : Tables) (left : Tables → Type 0) → SoundHub t → Ran t t left left [] []
+  ran_none t left hub = record {
     run = record {
       marked = [];
       are = refl;
@@ -230,11 +214,11 @@ module _ (own : (gln : List ℕ) (t : Tables) (inputs : Inputs) → SoundHub t �
       stops = tt;
       sound = hub;
       parties = refl;
-      balance = balance;
+      balance = laws.balance t hub;
       alone = run_alone t t [] [] hub refl;
     };
-    kept = λ u l. inr (inl (refl, l));
-    kept_sound = λ were u l. were u l;
+    leaves = λ u l. inr (inl (refl, l));
+    leaves_sound = λ were u l. were u l;
   }
 
   since_more : (t middle after : Tables) (marked : Inputs) (x : Input) (mark : Mark) (u : Tables)
@@ -251,17 +235,17 @@ module _ (own : (gln : List ℕ) (t : Tables) (inputs : Inputs) → SoundHub t �
     since = s.since ∙ sym same;
   }
 
-  kept_more : (t middle after : Tables) (before left then : Tables → Type 0) (marked : Inputs) (x : Input) (mark : Mark)
+  leaves_more : (t middle after : Tables) (before left then : Tables → Type 0) (marked : Inputs) (x : Input) (mark : Mark)
       → (shared_run t marked).1 ≡ middle → (shared_step middle x mark).1 ≡ after
       → ((u : Tables) → left u → RunLeaves t marked middle before u) → (u : Tables) → LeavesOf middle x mark after left u
       → RunLeaves t (marked ++ (x, mark) ∷ []) after before u
-  kept_more t middle after before left then marked x mark here is kept u (inl e) = inl e
-  kept_more t middle after before left then marked x mark here is kept u (inr (inl e)) = elim (kept u e.1) [
+  leaves_more t middle after before left then marked x mark here is kept u (inl e) = inl e
+  leaves_more t middle after before left then marked x mark here is kept u (inr (inl e)) = elim (kept u e.1) [
     | inl a ↦ inl (a ∙ sym e.0)
     | inr (inl b) ↦ inr (inl (e.0 ∙ b.0, b.1))
     | inr (inr c) ↦ inr (inr (since_more t middle after marked x mark u is e.0 c))
   ]
-  kept_more t middle after before left then marked x mark here is kept u (inr (inr more)) = inr (inr (record {
+  leaves_more t middle after before left then marked x mark here is kept u (inr (inr more)) = inr (inr (record {
     earlier = marked;
     input = x;
     mark = mark;
@@ -298,9 +282,9 @@ module _ (own : (gln : List ℕ) (t : Tables) (inputs : Inputs) → SoundHub t �
           balance = s.balance;
           alone = run_alone t after (r.marked ++ (x, s.mark) ∷ []) (replies ++ reply ∷ []) hub is;
         };
-        kept =
-            λ u l. kept_more t middle after before left
+        leaves =
+            λ u l. leaves_more t middle after before left
             then r.marked x s.mark (ap (λ (y : List Reply × Tables). y.1) r.is) (ap (λ (y : Reply × Tables). y.1) s.is)
-            before_it.kept u (s.kept u l);
-        kept_sound = λ were u l. s.kept_sound (before_it.kept_sound were) u l;
+            before_it.leaves u (s.leaves u l);
+        leaves_sound = λ were u l. s.leaves_sound (before_it.leaves_sound were) u l;
       }

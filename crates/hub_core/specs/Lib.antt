@@ -1,5 +1,6 @@
 pub mod Broken
 pub mod Callers
+pub mod Hub
 pub mod Laws
 pub mod Made
 pub mod Opened

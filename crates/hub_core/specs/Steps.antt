@@ -61,13 +61,13 @@ pub record Answered {S : Type 0} (content : S → Tables) (left : S → Tables �
     (does : Does) (reply : Reply) : Type 0 where
   pub mark : Mark
   pub is : does mark (content old) ≡ (reply, content new)
-  pub kept : (u : Tables) → left new u → Leaves count does (content old) mark (content new) (left old) u
+  pub leaves : (u : Tables) → left new u → Leaves count does (content old) mark (content new) (left old) u
 
 -- a request did nothing: a crash leaves what it left before, or the tables after its one act
 pub record Undone {S : Type 0} (content : S → Tables) (left : S → Tables → Type 0) (old new : S) (count : ℕ)
     (does : Does) : Type 0 where
   pub same : content new ≡ content old
-  pub kept : (u : Tables) → left new u → left old u ⊎ OneMore count does (content old) StoppedBare u
+  pub leaves : (u : Tables) → left new u → left old u ⊎ OneMore count does (content old) StoppedBare u
 
 -- A request over a store. At Ok it is answered, at a fault nothing is done.
 pub record Asked {S : Type 0} (content : S → Tables) (honest : S → Type 0) (left : S → Tables → Type 0) (old new : S)
@@ -106,8 +106,8 @@ pub record Stepped (t after : Tables) (before left : Tables → Type 0) (input :
   pub parties : parties_in after ≡ parties_in t
   pub balance : LinesBalance after
   pub alone : (gln : List ℕ) → IsOther gln t → SeenAlone gln t after input mark reply
-  pub kept : (u : Tables) → left u → LeavesOf t input mark after before u
-  pub kept_sound : ((u : Tables) → before u → SoundHub u) → (u : Tables) → left u → SoundHub u
+  pub leaves : (u : Tables) → left u → LeavesOf t input mark after before u
+  pub leaves_sound : ((u : Tables) → before u → SoundHub u) → (u : Tables) → left u → SoundHub u
 
 -- The same of a run: what it sees in the end, all replies to it, and a status of it for which the retailer asks at some
 -- place, which is the text of what it sees there.
@@ -159,5 +159,5 @@ pub record RunBy (t after : Tables) (inputs : List Input) (replies : List Reply)
 pub record Ran (t after : Tables) (before left : Tables → Type 0) (inputs : List Input) (replies : List Reply)
     : Type 0 where
   pub run : RunBy t after inputs replies
-  pub kept : (u : Tables) → left u → RunLeaves t run.marked after before u
-  pub kept_sound : ((u : Tables) → before u → SoundHub u) → (u : Tables) → left u → SoundHub u
+  pub leaves : (u : Tables) → left u → RunLeaves t run.marked after before u
+  pub leaves_sound : ((u : Tables) → before u → SoundHub u) → (u : Tables) → left u → SoundHub u

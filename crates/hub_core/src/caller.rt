@@ -1,5 +1,12 @@
 //! Who asks.
-use hub_parties::SupplierRow;
+ghost use Rattle.std.specs.Prelude.{◌≡◌, None};
+ghost use Rattle.std.specs.Option.{IfSome, IfNone};
+ghost use Rattle.hub_parties.specs.Rows.{role_of};
+ghost use Rattle.hub_core.specs.Callers.{IsCaller};
+
+use gs1_ids::Gln;
+use hub_parties::{Role, SupplierRow};
+use hub_register::Register;
 
 /// Who asks, known by its own GLN and its own key.
 #[derive(Clone, Copy, Debug)]
@@ -8,4 +15,15 @@ pub(crate) enum Caller<'a> {
     Retailer,
     /// A supplier, with its row.
     Supplier(&'a SupplierRow),
+}
+
+/// Who asks, where it is known by its own key.
+pub(crate) fn caller_of<'a>(register: &'a Register, caller: &Gln, key: &[u8]) -> Option<Caller<'a>>
+    ensures some { IfSome result (IsCaller register.now caller.now key.now) }
+    ensures none { IfNone result (role_of register.now caller.now key.now ≡ None) }
+{
+    match register.may(caller, key)? {
+        Role::Retailer => Some(Caller::Retailer),
+        Role::Supplier => register.supplier(caller).map(Caller::Supplier),
+    }
 }

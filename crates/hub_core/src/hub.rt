@@ -2,24 +2,24 @@
 ghost use Rattle.std.specs.Prelude.{◌≡◌, ◌≢◌, ℕ, List, [], ◌∷◌, ◌++◌, IfOk, OnErr, Ok, Err, MatchResult};
 ghost use Rattle.edi_envelope.specs.Opened.{opened, Opens};
 ghost use Rattle.hub_parties.specs.Rows.{IsRegister, role_of};
-ghost use Rattle.hub_parties.specs.declared.row.SupplierRow.{SupplierRow};
 ghost use Rattle.std.specs.List.{AllByRecursion};
 ghost use Rattle.hub_rules.specs.Laws.{SoundHub};
 ghost use Rattle.hub_requests.specs.declared.reply.Reply.{Reply};
 ghost use Rattle.hub_requests.specs.declared.request.Input.{Input};
-ghost use Rattle.hub_requests.specs.declared.request.Request.TheVariants.{Upload, Join};
+ghost use Rattle.hub_requests.specs.declared.request.Request.TheVariants.{Upload};
 ghost use Rattle.hub_transactions.specs.Joins.{KeepsRows};
-ghost use Rattle.hub_core.specs.Broken.{Breaks, RunBreaks, does_input};
+ghost use Rattle.hub_core.specs.Broken.{RunBreaks};
+ghost use Rattle.hub_core.specs.Hub.{BreaksFrom, JoinsBy, StaysSound, StepsFrom};
 ghost use Rattle.hub_core.specs.Opened.{IsStopped, RanOut};
 ghost use Rattle.hub_core.specs.Made.{Reads};
-ghost use Rattle.hub_core.specs.Steps.{IsNoJoin, JoinAnswered, SoundWith, Stepped, Ran, input_of};
+ghost use Rattle.hub_core.specs.Steps.{IsNoJoin, SoundWith, Stepped, Ran, input_of};
 
+use crate::laws::laws_of_the_machine;
 use crate::step;
 use edi_base::{Items, MemoryFault};
 use edi_envelope::{Interchange, Moment, OpenFault};
 use edi_tokens::TokenFault;
 use gs1_ids::Gln;
-use hub_law::{each_line_balances, run_is_own};
 use hub_parties::Role;
 use hub_register::Register;
 use hub_requests::{Input, Reply, Request};
@@ -106,15 +106,12 @@ impl<S: Store> Hub<S> {
     /// the store gives out, the reply ends in `stopped`, after the lines of what was done; where there is no memory even
     /// for that, it is empty and nothing was done.
     pub fn step(&mut self, moment: Moment, caller: &Gln, key: &[u8], request: Request) -> Reply
-        ensures stepped { S.honest self.new.1 → SoundWith self.old.0 (S.content self.old.1) →
-            Stepped (S.content self.old.1) (S.content self.new.1) (S.left self.old.1) (S.left self.new.1)
+        ensures stepped { StepsFrom S.content S.honest S.left self.old self.new
             (input_of moment caller.now key.now request) result }
-        ensures held { S.honest self.new.1 → SoundWith self.old.0 (S.content self.old.1) →
-            SoundWith self.new.0 (S.content self.new.1) }
-        ensures breaks { Breaks S.plain (does_input self.old.0 (input_of moment caller.now key.now request))
-            (S.broken self.old.1) (S.broken self.new.1) result }
-        ensures joined { (row : SupplierRow) → request ≡ Join row → JoinAnswered row self.old.0 self.new.0
-            (does_input self.old.0 (input_of moment caller.now key.now request)) result }
+        ensures held { StaysSound S.content S.honest self.old self.new }
+        ensures breaks { BreaksFrom S.plain S.broken self.old self.new
+            (input_of moment caller.now key.now request) result }
+        ensures joined { JoinsBy self.old.0 self.new.0 (input_of moment caller.now key.now request) result }
         ensures keeps { KeepsRows self.old.0 self.new.0 }
         ensures register { IsNoJoin request → self.new.0 ≡ self.old.0 }
         ensures was_honest { S.honest self.new.1 → S.honest self.old.1 }
@@ -143,15 +140,13 @@ impl<S: Store> Hub<S> {
     ) -> Reply
         requires read { upload ≢ Err (OpenFault.Token TokenFault.Read) }
         ensures stepped { (bytes : List ℕ) → Opens upload (opened bytes) →
-            S.honest self.new.1 → SoundWith self.old.0 (S.content self.old.1) →
-            Stepped (S.content self.old.1) (S.content self.new.1) (S.left self.old.1) (S.left self.new.1)
+            StepsFrom S.content S.honest S.left self.old self.new
             (input_of moment caller.now key.now (Upload bytes)) result }
         ensures held { (bytes : List ℕ) → Opens upload (opened bytes) →
-            S.honest self.new.1 → SoundWith self.old.0 (S.content self.old.1) →
-            SoundWith self.new.0 (S.content self.new.1) }
+            StaysSound S.content S.honest self.old self.new }
         ensures breaks { (bytes : List ℕ) → Opens upload (opened bytes) →
-            Breaks S.plain (does_input self.old.0 (input_of moment caller.now key.now (Upload bytes)))
-            (S.broken self.old.1) (S.broken self.new.1) result }
+            BreaksFrom S.plain S.broken self.old self.new
+            (input_of moment caller.now key.now (Upload bytes)) result }
         ensures register { self.new.0 ≡ self.old.0 }
         ensures was_honest { S.honest self.new.1 → S.honest self.old.1 }
         ensures ran_out { RanOut upload → IsStopped result × (self.new ≡ self.old) }
@@ -178,8 +173,7 @@ impl<S: Store> Hub<S> {
             Ran (S.content old) (S.content new) (S.left old) (S.left new) (inputs ++ input ∷ [])
             (replies ++ reply ∷ []) }
     {
-        run_is_own();
-        each_line_balances();
+        laws_of_the_machine();
     }
 
     /// Answers requests one after another, each as `step` does. Room for the replies is taken before the first: where
@@ -188,8 +182,7 @@ impl<S: Store> Hub<S> {
         ensures ran { S.honest self.new.1 → SoundWith self.old.0 (S.content self.old.1) →
             IfOk result (λ replies. Ran (S.content self.old.1) (S.content self.new.1) (S.left self.old.1)
             (S.left self.new.1) inputs.now replies) }
-        ensures held { S.honest self.new.1 → SoundWith self.old.0 (S.content self.old.1) →
-            SoundWith self.new.0 (S.content self.new.1) }
+        ensures held { StaysSound S.content S.honest self.old self.new }
         ensures none { OnErr result (self.new ≡ self.old) }
         ensures breaks { IfOk result (λ replies. RunBreaks S.plain self.new.0 (S.broken self.old.1) (S.broken self.new.1)
             inputs.now replies) }

@@ -18,11 +18,12 @@ ghost use Rattle.hub_law.specs.Told.{Accepted, Repeated};
 ghost use Rattle.hub_requests.specs.declared.reply.Reply.{Reply};
 ghost use Rattle.hub_requests.specs.declared.request.Input.{Input};
 ghost use Rattle.hub_rules.specs.Laws.{SoundHub};
-ghost use Rattle.hub_core.specs.Laws.{TellsOf};
+ghost use Rattle.hub_core.specs.Laws.{OfTheMachine, TellsOf};
 ghost use Rattle.hub_core.specs.Steps.{RunBy};
 
 use hub_law::{
-    accepted_stays_remembered, hub_stays_sound, repeated_in_runs, runs_alike, stops_cut_uploads,
+    accepted_stays_remembered, each_line_balances, hub_stays_sound, repeated_in_runs, run_is_own,
+    runs_alike, step_is_own, stops_are_told, stops_cut_uploads,
 };
 
 /// Two runs, each of a hub and a store of its own, that agree on a GLN are alike for it: it sees the same in the end,
@@ -114,4 +115,15 @@ pub fn repeated_by_hubs()
     hub_stays_sound();
     repeated_in_runs();
     stops_cut_uploads();
+}
+
+/// What the laws say of the machine.
+pub(crate) fn laws_of_the_machine()
+    ensures { OfTheMachine }
+{
+    step_is_own();
+    run_is_own();
+    hub_stays_sound();
+    stops_are_told();
+    each_line_balances();
 }

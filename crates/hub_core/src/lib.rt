@@ -1,6 +1,7 @@
 //! The hub: who asks, what is asked, uploads and their messages, one request and a run of them, over a store.
 #![tactic(auto)]
 
+mod address;
 mod caller;
 mod hub;
 mod laws;

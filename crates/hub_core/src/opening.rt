@@ -1,17 +1,14 @@
 //! An upload is opened.
-ghost use Rattle.std.specs.Prelude.{◌≡◌, IfOk, Ok, Err};
-ghost use Rattle.std.specs.List.{list_any};
-ghost use Rattle.std.specs.Option.{IfSome, IfNone};
-ghost use Rattle.hub_tables.specs.Rows.{same};
+ghost use Rattle.std.specs.Prelude.{◌≡◌, IfOk};
+ghost use Rattle.std.specs.Option.{IfSome};
 ghost use Rattle.edi_envelope.specs.Opened.{code_text};
-ghost use Rattle.hub_law.specs.Opening.{told_as, interchange_in, addressed};
+ghost use Rattle.hub_law.specs.Opening.{told_as, interchange_in};
 ghost use Rattle.hub_core.specs.Opened as spec;
 ghost use Rattle.hub_core.specs.Opened.{HasCode, Sufficed};
 
 use edi_base::MemoryFault;
 use edi_envelope::{EnvelopeFault, Interchange, OpenFault, open};
 use edi_tokens::{TokenFault, read_all};
-use gs1_ids::Gln;
 use std::alloc::{AllocError, Global};
 
 // The code of a fault; there is none for want of memory.
@@ -57,31 +54,4 @@ pub(crate) fn opened_upload(
     ensures { IfOk result (λ opened. interchange_in upload.now ≡ spec.with_code opened) }
 {
     with_code(open_bytes(alloc, upload))
-}
-
-// Whether an identification is that of one of the recipients.
-fn is_one_of(recipients: &[Gln], named: &[u8]) -> bool
-    ensures { result ≡ list_any (same named.now) recipients.now }
-{
-    recipients
-        .iter()
-        .any(|gln| named == gln.digits().as_slice())
-}
-
-/// Why an interchange is not one of this sender for one of these recipients: E08 or E09.
-pub(crate) fn address_fault(
-    interchange: &Interchange,
-    sender: &Gln,
-    recipients: &[Gln],
-) -> Option<&'static str>
-    ensures some { IfSome result (λ code. addressed sender.now recipients.now (Ok interchange.now) ≡ Err code.now) }
-    ensures none { IfNone result (addressed sender.now recipients.now (Ok interchange.now) ≡ Ok interchange.now) }
-{
-    if interchange.head.sender.as_slice() != sender.digits().as_slice() {
-        return Some("E08");
-    }
-    if is_one_of(recipients, interchange.head.recipient.as_slice()) {
-        return None;
-    }
-    Some("E09")
 }

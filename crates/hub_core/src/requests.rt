@@ -1,8 +1,8 @@
 //! What is asked, by a supplier or by the retailer.
-ghost use Rattle.std.specs.Prelude.{◌≡◌, Ok, Err, IfOk, OnErr};
+ghost use Rattle.std.specs.Prelude.{◌≡◌, IfOk, OnErr};
 ghost use Rattle.hub_parties.specs.declared.row.SupplierRow.{SupplierRow};
 ghost use Rattle.hub_tables.specs.Register.{register_of};
-ghost use Rattle.std.specs.Option.{IfSome, IfNone};
+ghost use Rattle.std.specs.Option.{IfSome};
 ghost use Rattle.hub_law.specs.Requests.{uploaded};
 ghost use Rattle.hub_law.specs.Stops.{opened_for};
 ghost use Rattle.hub_core.specs.Opened as spec;
@@ -12,8 +12,9 @@ ghost use Rattle.hub_requests.specs.declared.request.Request.TheVariants.{Join};
 ghost use Rattle.hub_core.specs.Steps.{Asked, IsNoJoin, JoinAnswered, SoundWith, acts_of};
 ghost use Rattle.hub_core.specs.declared.caller.Caller.TheVariants.{Retailer, Supplier};
 
+use crate::address::address_fault_for;
 use crate::caller::Caller;
-use crate::opening::{address_fault, opened_upload};
+use crate::opening::opened_upload;
 use crate::replies::{denied_reply, refused_upload, unknown_reply};
 use crate::upload::{OpenedUpload, take_messages};
 use edi_envelope::{Interchange, Moment};
@@ -22,30 +23,11 @@ use hub_parties::SupplierRow;
 use hub_register::Register;
 use hub_requests::{Reply, Request};
 use hub_store::{Store, StoreFault};
-use hub_texts::interchange_line;
+use hub_texts::{STOPPED, interchange_line};
 use hub_transactions::{
     mailbox_entry, mailbox_list, status_report, take_cancel, take_entry, take_join,
 };
 use std::alloc::Global;
-
-// Why an interchange is not one that its caller may send: E08 or E09.
-fn address_fault_for(
-    register: &Register,
-    caller: Caller<'_>,
-    interchange: &Interchange,
-) -> Option<&'static str>
-    ensures some { IfSome result (λ code. addressed_by register.now caller.entry (Ok interchange.now) ≡ Err code.now) }
-    ensures none { IfNone result (addressed_by register.now caller.entry (Ok interchange.now) ≡ Ok interchange.now) }
-{
-    let hub = *register.hub();
-    let retailer = *register.retailer();
-    match caller {
-        Caller::Retailer => address_fault(interchange, &retailer, &[hub]),
-        Caller::Supplier(supplier) => {
-            address_fault(interchange, &supplier.gln, &[hub, retailer])
-        }
-    }
-}
 
 /// Takes the messages of an upload that was opened, or tells the code of its fault.
 pub(crate) fn take_opened<S: Store>(
@@ -74,7 +56,7 @@ pub(crate) fn take_opened<S: Store>(
         return Ok(refused_upload(alloc, code)?);
     }
     let mut reply = interchange_line(alloc, &interchange)?;
-    reply.try_reserve(8)?;
+    reply.try_reserve(STOPPED.len())?;
     let upload = OpenedUpload {
         register,
         caller,

@@ -1,9 +1,8 @@
 //! One request, and a run of them.
-ghost use Rattle.std.specs.Prelude.{◌≡◌, ◌≢◌, ℕ, List, IfOk, OnErr, IsErr, None, Err};
-ghost use Rattle.std.specs.Option.{IfSome, IfNone};
+ghost use Rattle.std.specs.Prelude.{◌≡◌, ◌≢◌, ℕ, List, IfOk, OnErr, IsErr, Err};
+ghost use Rattle.std.specs.Option.{IfSome};
 ghost use Rattle.edi_envelope.specs.Opened.{opened, Opens};
 ghost use Rattle.std.specs.List.{AllByRecursion};
-ghost use Rattle.hub_parties.specs.Rows.{role_of};
 ghost use Rattle.hub_parties.specs.declared.row.SupplierRow.{SupplierRow};
 ghost use Rattle.hub_tables.specs.Register.{register_of};
 ghost use Rattle.hub_law.specs.Machine.{step_under};
@@ -12,12 +11,13 @@ ghost use Rattle.hub_law.specs.Stops.{upload_of};
 ghost use Rattle.hub_requests.specs.declared.reply.Outcome.TheVariants.{Stopped};
 ghost use Rattle.hub_requests.specs.declared.request.Request.TheVariants.{Upload, Join};
 ghost use Rattle.hub_transactions.specs.Joins.{KeepsRows};
-ghost use Rattle.hub_core.specs.Broken.{Breaks, BreaksAsked, RunBreaks, does_input};
-ghost use Rattle.hub_core.specs.Callers.{IsCaller};
+ghost use Rattle.hub_core.specs.Broken.{BreaksAsked, RunBreaks, does_input};
+ghost use Rattle.hub_core.specs.Hub.{BreaksFrom, JoinsBy, StaysSound, StepsFrom};
 ghost use Rattle.hub_core.specs.Opened.{IsStopped, RanOut};
-ghost use Rattle.hub_core.specs.Steps.{Asked, IsNoJoin, JoinAnswered, SoundWith, Stepped, Ran, acts_of, input_of};
+ghost use Rattle.hub_core.specs.Steps.{Asked, IsNoJoin, JoinAnswered, SoundWith, Ran, acts_of, input_of};
 
-use crate::caller::Caller;
+use crate::caller::{Caller, caller_of};
+use crate::laws::laws_of_the_machine;
 use crate::opening::with_code;
 use crate::replies::denied_reply;
 use crate::requests::{asked_by_retailer, asked_by_supplier, take_opened};
@@ -25,23 +25,11 @@ use edi_base::{Items, MemoryFault, copied};
 use edi_envelope::{Interchange, Moment, OpenFault};
 use edi_tokens::TokenFault;
 use gs1_ids::Gln;
-use hub_law::{each_line_balances, hub_stays_sound, run_is_own, step_is_own, stops_are_told};
-use hub_parties::Role;
 use hub_register::Register;
 use hub_requests::{Input, Outcome, Reply, Request};
 use hub_store::{Store, StoreFault};
+use hub_texts::STOPPED;
 use std::alloc::Global;
-
-// Who asks, where it is known by its own key.
-fn caller_of<'a>(register: &'a Register, caller: &Gln, key: &[u8]) -> Option<Caller<'a>>
-    ensures some { IfSome result (IsCaller register.now caller.now key.now) }
-    ensures none { IfNone result (role_of register.now caller.now key.now ≡ None) }
-{
-    match register.may(caller, key)? {
-        Role::Retailer => Some(Caller::Retailer),
-        Role::Supplier => register.supplier(caller).map(Caller::Supplier),
-    }
-}
 
 // Answers a request, where memory and the store suffice.
 fn answer<S: Store>(
@@ -138,26 +126,19 @@ pub(crate) fn step<S: Store>(
     key: &[u8],
     request: &Request,
 ) -> Reply
-    ensures stepped { S.honest store.new → SoundWith register.old (S.content store.old) →
-        Stepped (S.content store.old) (S.content store.new) (S.left store.old) (S.left store.new)
+    ensures stepped { StepsFrom S.content S.honest S.left (register.old, store.old) (register.new, store.new)
         (input_of moment caller.now key.now request.now) result }
-    ensures held { S.honest store.new → SoundWith register.old (S.content store.old) →
-        SoundWith register.new (S.content store.new) }
-    ensures joined { (row : SupplierRow) → request.now ≡ Join row → JoinAnswered row register.old register.new
-        (does_input register.old (input_of moment caller.now key.now request.now)) result }
+    ensures held { StaysSound S.content S.honest (register.old, store.old) (register.new, store.new) }
+    ensures joined { JoinsBy register.old register.new (input_of moment caller.now key.now request.now) result }
     ensures keeps { KeepsRows register.old register.new }
     ensures same { IsNoJoin request.now → register.new ≡ register.old }
     ensures broken { IfSome (S.broken store.old) (λ _. register.new ≡ register.old) }
-    ensures breaks { Breaks S.plain (does_input register.old (input_of moment caller.now key.now request.now))
-        (S.broken store.old) (S.broken store.new) result }
+    ensures breaks { BreaksFrom S.plain S.broken (register.old, store.old) (register.new, store.new)
+        (input_of moment caller.now key.now request.now) result }
     ensures was_honest { S.honest store.new → S.honest store.old }
 {
-    step_is_own();
-    run_is_own();
-    hub_stays_sound();
-    stops_are_told();
-    each_line_balances();
-    let Ok(stopped) = copied(alloc, b"stopped\n") else {
+    laws_of_the_machine();
+    let Ok(stopped) = copied(alloc, STOPPED) else {
         return stopped_with(Items::new(alloc));
     };
     let answered = answer(alloc, register, store, moment, caller, key, request);
@@ -175,24 +156,19 @@ pub(crate) fn step_opened<S: Store>(
     upload: Result<Interchange, OpenFault>,
 ) -> Reply
     requires read { upload ≢ Err (OpenFault.Token TokenFault.Read) }
-    ensures stepped { (bytes : List ℕ) → Opens upload (opened bytes) → S.honest store.new →
-        SoundWith register.now (S.content store.old) →
-        Stepped (S.content store.old) (S.content store.new) (S.left store.old) (S.left store.new)
+    ensures stepped { (bytes : List ℕ) → Opens upload (opened bytes) →
+        StepsFrom S.content S.honest S.left (register.now, store.old) (register.now, store.new)
         (input_of moment caller.now key.now (Upload bytes)) result }
-    ensures held { (bytes : List ℕ) → Opens upload (opened bytes) → S.honest store.new →
-        SoundWith register.now (S.content store.old) → SoundWith register.now (S.content store.new) }
+    ensures held { (bytes : List ℕ) → Opens upload (opened bytes) →
+        StaysSound S.content S.honest (register.now, store.old) (register.now, store.new) }
     ensures breaks { (bytes : List ℕ) → Opens upload (opened bytes) →
-        Breaks S.plain (does_input register.now (input_of moment caller.now key.now (Upload bytes)))
-        (S.broken store.old) (S.broken store.new) result }
+        BreaksFrom S.plain S.broken (register.now, store.old) (register.now, store.new)
+        (input_of moment caller.now key.now (Upload bytes)) result }
     ensures was_honest { S.honest store.new → S.honest store.old }
     ensures ran_out { RanOut upload → IsStopped result × (store.new ≡ store.old) }
 {
-    step_is_own();
-    run_is_own();
-    hub_stays_sound();
-    stops_are_told();
-    each_line_balances();
-    let Ok(stopped) = copied(alloc, b"stopped\n") else {
+    laws_of_the_machine();
+    let Ok(stopped) = copied(alloc, STOPPED) else {
         return stopped_with(Items::new(alloc));
     };
     let answered = answer_opened(alloc, register, store, moment, caller, key, upload);
@@ -209,8 +185,7 @@ pub(crate) fn run<S: Store>(
     ensures ran { S.honest store.new → SoundWith register.old (S.content store.old) →
         IfOk result (λ replies. Ran (S.content store.old) (S.content store.new) (S.left store.old) (S.left store.new)
         inputs.now replies) }
-    ensures held { S.honest store.new → SoundWith register.old (S.content store.old) →
-        SoundWith register.new (S.content store.new) }
+    ensures held { StaysSound S.content S.honest (register.old, store.old) (register.new, store.new) }
     ensures keeps { KeepsRows register.old register.new }
     ensures same { AllByRecursion (λ input. IsNoJoin input.request) inputs.now → register.new ≡ register.old }
     ensures none { OnErr result ((store.new ≡ store.old) × (register.new ≡ register.old)) }
@@ -218,9 +193,7 @@ pub(crate) fn run<S: Store>(
         inputs.now replies) }
     ensures was_honest { S.honest store.new → S.honest store.old }
 {
-    run_is_own();
-    hub_stays_sound();
-    each_line_balances();
+    laws_of_the_machine();
     let mut replies = Vec::with_capacity(alloc, inputs.len())?;
     for input in inputs {
         let key = input.key.as_slice();

@@ -1,11 +1,12 @@
 //! The messages of an upload, one after another.
-ghost use Rattle.std.specs.Prelude.{◌≡◌, ⊤, ◌||◌, ◌+◌, ◌≤◌, ◌∷◌, ◌++◌, length, IfOk, OnErr, Ok, vec_len, vec_capacity};
+ghost use Rattle.std.specs.Prelude.{◌≡◌, ⊤, ◌||◌, ◌∷◌, ◌++◌, length, IfOk, OnErr, Ok};
 ghost use Rattle.hub_law.specs.Messages.{incoming};
 ghost use Rattle.hub_law.specs.Replies.{interchange_line, told_words};
 ghost use Rattle.hub_law.specs.Requests.{uploaded};
 ghost use Rattle.hub_law.specs.Told as law;
 ghost use Rattle.hub_law.specs.Widths.{line};
 ghost use Rattle.hub_transactions.specs.Acts.{Carried, FailsWith, OfAny, Unharmed};
+ghost use Rattle.hub_transactions.specs.Messages.{MayStop};
 ghost use Rattle.hub_texts.specs.Decision.{told_of};
 ghost use Rattle.hub_core.specs.Broken.{Breaks};
 ghost use Rattle.hub_core.specs.Callers.{delivered, MayDeliver};
@@ -18,7 +19,7 @@ use hub_law::acts_stay_sound;
 use hub_register::Register;
 use hub_requests::{Outcome, Reply};
 use hub_store::{Store, StoreFault};
-use hub_texts::Decision;
+use hub_texts::{Decision, STOPPED};
 use hub_transactions::{take_retailers_message, take_suppliers_message};
 use std::alloc::Global;
 
@@ -50,8 +51,8 @@ fn take_message<S: Store>(
         MayDeliver upload.now.register.now upload.now.caller (S.content store.new) }
     ensures line { IfOk result (λ told. reply.new.items ≡ reply.old.items
         ++ line (message.now.reference ∷ message.now.kind ∷ told_words (told_of told))) }
-    ensures kept { OnErr result (reply.new.items ≡ reply.old.items) }
-    ensures room { vec_len reply.old + 8 ≤ vec_capacity reply.old → vec_len reply.new + 8 ≤ vec_capacity reply.new }
+    ensures reply_stays { OnErr result (reply.new.items ≡ reply.old.items) }
+    ensures room { MayStop reply.old → MayStop reply.new }
 {
     acts_stay_sound();
     let OpenedUpload {
@@ -85,7 +86,7 @@ fn either_refused(before: bool, told: Decision) -> bool
 }
 
 /// Takes the messages one after another, until one is stopped. The reply begins as the line of the interchange, with
-/// room for `stopped` and the end of its line.
+/// room for the line `stopped`.
 pub(crate) fn take_messages<S: Store>(
     alloc: Global,
     upload: &OpenedUpload<'_>,
@@ -93,7 +94,7 @@ pub(crate) fn take_messages<S: Store>(
     mut reply: Vec<u8>,
 ) -> Reply
     requires line { reply.items ≡ interchange_line upload.now.interchange.now }
-    requires room { vec_len reply + 8 ≤ vec_capacity reply }
+    requires room { MayStop reply }
     ensures answered { S.honest store.new → MayDeliver upload.now.register.now upload.now.caller (S.content store.old) →
         Answered S.content S.left store.old store.new (length upload.now.interchange.now.messages) (λ mark t.
         uploaded (delivered upload.now.register.now upload.now.caller) upload.now.moment mark (Ok upload.now.interchange.now) t) result }
@@ -105,7 +106,7 @@ pub(crate) fn take_messages<S: Store>(
     let mut refused = false;
     for message in upload.interchange.messages.as_slice() {
         let Ok(told) = take_message(alloc, upload, store, message, &mut reply) else {
-            reply.extend_from_slice(b"stopped\n").unwrap();
+            reply.extend_from_slice(STOPPED).unwrap();
             return Reply {
                 outcome: Outcome::Stopped,
                 refused,

@@ -1,5 +1,5 @@
 //! The prefixes of each supplier, gathered from the rows of all.
-ghost use Rattle.std.specs.Prelude.{◌≡◌, ◌<◌, [], true, false, length, map, is_some, IfOk, IfErr, OnOk};
+ghost use Rattle.std.specs.Prelude.{◌≡◌, ◌<◌, [], true, false, length, map, is_some, IfOk, OnOk};
 ghost use Rattle.std.specs.Option.{IfNone, IfSome};
 ghost use Rattle.std.specs.List.{HoldsAt};
 ghost use Rattle.hub_parties.specs.KeyOrder.{Rises};

@@ -1,8 +1,8 @@
 //! The register that rows of tables hold.
-ghost use Rattle.std.specs.Prelude.{◌≡◌, false, length, map, option_map, IfOk};
+ghost use Rattle.std.specs.Prelude.{◌≡◌, false, length, map, IfOk};
 ghost use Rattle.std.specs.Option.{IfNone, IfSome};
 ghost use Rattle.hub_parties.specs.KeyOrder.{Rises};
-ghost use Rattle.hub_parties.specs.Prefixes.{company_prefixes_of, are_company_prefixes, by_bytes};
+ghost use Rattle.hub_parties.specs.Prefixes.{are_company_prefixes, by_bytes};
 ghost use Rattle.hub_tables.specs.Rows.{key_cmp, prefix_cmp};
 ghost use Rattle.hub_tables.specs.Tables.{Tables};
 ghost use Rattle.hub_founding.specs.Founding.{IsHeldBy};

@@ -7,17 +7,18 @@ use Rattle.std.proofs.lemmas.Bool.{ltb-false}
 use Rattle.edi_base.specs.Limits.{are_digits, number_of}
 use Rattle.edi_base.specs.Source.{TakesAtMost}
 use Rattle.edi_base.proofs.Taken.{takes_more}
-use Rattle.hub_parties.specs.Rows.{RegisterRows}
+use Rattle.hub_parties.specs.Rows.{RegisterRows, role_of}
+use Rattle.hub_parties.specs.declared.role.Role.{Role}
 use Rattle.http_messages.specs.Fields.{values_of}
 use Rattle.http_messages.specs.Head.{Heading, longest_head}
-use Rattle.hub_http.specs.declared.routes.Place.{Place}
 use Rattle.hub_http.specs.Answer.{size_asked}
-use Rattle.hub_http.specs.Asked.{Asked, Asker, announced, asked_by, asker_of, at_place, by_asker, by_method, by_party}
-use Rattle.hub_http.specs.Asked.{encoding_field, is_single, key_field, length_field, longest_body, place_in, posted, size_of, with_size}
-use Rattle.hub_http.specs.Sought.{is_post, may_ask, method_of, sought_at}
+use Rattle.hub_http.specs.Asked.{Asked, announced, asked_by, at_route, by_keys, by_number, by_role, by_route}
+use Rattle.hub_http.specs.Asked.{encoding_field, is_single, key_field, length_field, longest_body, posted, route_in, size_of, with_size}
+use Rattle.hub_http.specs.Parts.{first, second}
+use Rattle.hub_http.specs.Route.{is_post, may_ask, method_of, number_at}
 use Rattle.hub_http.specs.declared.refusal.Refusal.{Refusal}
 use Rattle.hub_http.specs.declared.refusal.Refusal.TheVariants.{BadRequest, Method, Denied, Length, TooLarge}
-use Rattle.hub_http.specs.declared.sought.Sought.{Sought}
+use Rattle.hub_http.specs.declared.route.Route.{Route}
 
 -- first so many bytes at most, and then so many more
 pub both_taken : (a b c : Option (List ℕ)) (first more : ℕ) → TakesAtMost a b first → TakesAtMost b c more
@@ -51,44 +52,53 @@ short_if : (test : Bool) (r s : Result ℕ Refusal) → Short r → Short s → 
 short_if true r s first second = first
 short_if false r s first second = second
 
-size_short : (sought : Sought) (fields : List (List ℕ × List ℕ)) → Short (size_of sought fields)
-size_short sought fields =
-    short_if (is_post sought) (posted fields) (Ok 0)
+size_short : (route : Route) (fields : List (List ℕ × List ℕ)) → Short (size_of route fields)
+size_short route fields =
+    short_if (is_post route) (posted fields) (Ok 0)
     (short_if (length (values_of encoding_field fields) == 0) (announced (values_of length_field fields)) (Err Length)
     (announced_short (values_of length_field fields)) tt)
     (omega arith)
-
-with_short : (sought : Sought) (who : Asker) (size : Result ℕ Refusal) → Short size
-    → size_asked (with_size sought who size) ≤ longest_body
-with_short sought who (Ok size) short = short
-with_short sought who (Err refusal) short = omega arith
 
 few_if : (test : Bool) (r s : Result Asked Refusal) → size_asked r ≤ longest_body → size_asked s ≤ longest_body
     → size_asked (if test then r else s) ≤ longest_body
 few_if true r s first second = first
 few_if false r s first second = second
 
-by_short : (sought : Sought) (fields : List (List ℕ × List ℕ)) (who : Option Asker)
-    → size_asked (by_asker sought fields who) ≤ longest_body
-by_short sought fields None = omega arith
-by_short sought fields (Some who) =
-    few_if (may_ask who.role sought) (with_size sought who (size_of sought fields)) (Err Denied)
-    (with_short sought who (size_of sought fields) (size_short sought fields)) (omega arith)
+with_short : (route : Route) (gln part : List ℕ) (number : ℕ) (key : List ℕ) (size : Result ℕ Refusal) → Short size
+    → size_asked (with_size route gln part number key size) ≤ longest_body
+with_short route gln part number key (Ok size) short = short
+with_short route gln part number key (Err refusal) short = omega arith
 
-method_short : (register : RegisterRows) (head : Heading) (parts : List (List ℕ)) (sought : Option Sought)
-    → size_asked (by_method register head parts sought) ≤ longest_body
-method_short register head parts None = omega arith
-method_short register head parts (Some sought) =
-    few_if (not (bytes_eq head.method (method_of sought))) (Err Method) (by_party register head parts sought) (omega arith)
-    (by_short sought head.fields (asker_of register parts (values_of key_field head.fields)))
+role_short : (head : Heading) (route : Route) (gln part : List ℕ) (number : ℕ) (key : List ℕ) (role : Option Role)
+    → size_asked (by_role head route gln part number key role) ≤ longest_body
+role_short head route gln part number key None = omega arith
+role_short head route gln part number key (Some role) =
+    few_if (may_ask role route) (with_size route gln part number key (size_of route head.fields)) (Err Denied)
+    (with_short route gln part number key (size_of route head.fields) (size_short route head.fields)) (omega arith)
 
-at_short : (register : RegisterRows) (head : Heading) (place : Option (Place × List (List ℕ)))
-    → size_asked (at_place register head place) ≤ longest_body
+module _ (register : RegisterRows) (head : Heading) (route : Route) (party part : List ℕ) where
+  keys_short : (number : ℕ) (keys : List (List ℕ)) → size_asked (by_keys register head route party part number keys) ≤ longest_body
+  keys_short number [] = omega arith
+  keys_short number (key ∷ []) = role_short head route party part number key (role_of register party key)
+  keys_short number (key ∷ other ∷ keys) = omega arith
+
+  number_short : (found : Option ℕ) → size_asked (by_number register head route party part found) ≤ longest_body
+  number_short None = omega arith
+  number_short (Some number) =
+      few_if (not (bytes_eq head.method (method_of route))) (Err Method)
+      (by_keys register head route party part number (values_of key_field head.fields)) (omega arith)
+      (keys_short number (values_of key_field head.fields))
+
+  route_short : size_asked (by_route register head route party part) ≤ longest_body
+  route_short = number_short (number_at route part)
+
+at_short : (register : RegisterRows) (head : Heading) (found : Option (Route × List (List ℕ)))
+    → size_asked (at_route register head found) ≤ longest_body
 at_short register head None = omega arith
-at_short register head (Some (place, parts)) = method_short register head parts (sought_at place parts)
+at_short register head (Some (route, parts)) = route_short register head route (first parts) (second parts)
 
 -- no longer body is asked for
 pub asked_short : (register : RegisterRows) (head : Heading) → size_asked (asked_by register head) ≤ longest_body
 asked_short register head =
-    few_if (not (is_single head)) (Err BadRequest) (at_place register head (place_in head.target)) (omega arith)
-    (at_short register head (place_in head.target))
+    few_if (not (is_single head)) (Err BadRequest) (at_route register head (route_in head.target)) (omega arith)
+    (at_short register head (route_in head.target))

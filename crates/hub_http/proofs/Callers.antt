@@ -1,6 +1,5 @@
 -- Who asks has a GLN.
-use Rattle.std.proofs.Common.{◌≡◌, ℕ, List, [], ◌∷◌, Bool, true, false, Some, None, cond, map, refl, sym, ap, ◌∙◌}
-use Rattle.std.specs.Prelude.{option_map}
+use Rattle.std.proofs.Common.{◌≡◌, ℕ, List, [], ◌∷◌, Bool, true, false, Some, None, Err, cond, map, refl, sym, ap, ◌∙◌}
 use Rattle.std.specs.List.{list_all}
 use Rattle.std.specs.Str.{bytes_eq}
 use Rattle.std.proofs.lemmas.Bool.{and_parts, false≢true, false_from_ne_true}
@@ -9,7 +8,10 @@ use Rattle.std.proofs.lemmas.Option.{none-some}
 use Rattle.gs1_ids.specs.Gln.{gln_of, is_gln}
 use Rattle.hub_parties.specs.Rows.{RegisterRows, IsRegister, supplier_row, role_of}
 use Rattle.hub_parties.specs.declared.row.SupplierRow.{SupplierRow}
-use Rattle.hub_http.specs.Asked.{asker, asker_by}
+use Rattle.http_messages.specs.Head.{Heading}
+use Rattle.hub_http.specs.Asked.{by_party, by_role}
+use Rattle.hub_http.specs.declared.refusal.Refusal.TheVariants.{Denied}
+use Rattle.hub_http.specs.declared.route.Route.{Route}
 
 -- what is no GLN differs from a GLN
 differs : (gln party : List ℕ) → is_gln gln ≡ true → is_gln party ≡ false → bytes_eq gln party ≡ false
@@ -35,10 +37,10 @@ nobody register party key right none =
     let other : bytes_eq register.retailer party ≡ false = differs register.retailer party others.0 none in
     rw (no_row register.suppliers party others.1 none, other) refl
 
-pub no_asker : (register : RegisterRows) (party key : List ℕ) → IsRegister register → is_gln party ≡ false
-    → None ≡ asker_by register party key
-no_asker register party key right none =
-    ap (option_map (λ role. asker role party key)) (sym (nobody register party key right none))
+pub denied : (register : RegisterRows) (head : Heading) (route : Route) (party part : List ℕ) (number : ℕ) (key : List ℕ)
+    → IsRegister register → is_gln party ≡ false → Err Denied ≡ by_party register head route party part number key
+denied register head route party part number key right none =
+    ap (by_role head route party part number key) (sym (nobody register party key right none))
 
 -- what is not read as a GLN is no GLN
 pub no_gln : (text : List ℕ) → gln_of text ≡ None → is_gln text ≡ false

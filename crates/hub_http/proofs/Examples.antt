@@ -4,9 +4,9 @@ use Rattle.hub_requests.specs.declared.request.Request.TheVariants as asks
 use Rattle.hub_parties.specs.Rows.{RegisterRows, rows_by}
 use Rattle.hub_parties.specs.declared.row.SupplierRow.{SupplierRow}
 use Rattle.http_messages.specs.Head.{Heading}
-use Rattle.hub_http.specs.declared.routes.Place.{Place}
-use Rattle.hub_http.specs.declared.routes.Place.TheVariants.{Interchanges, MailAfter, MailItem, Status, StatusOf, Cancellations}
-use Rattle.hub_http.specs.Asked.{at_place}
+use Rattle.hub_http.specs.declared.route.Route.{Route}
+use Rattle.hub_http.specs.declared.route.Route.TheVariants.{Interchanges, MailAfter, MailItem, Status, StatusOf, Cancellations}
+use Rattle.hub_http.specs.Asked.{at_route}
 use Rattle.hub_http.specs.Question.{Question, and_body, question_of}
 use Rattle.hub_http.specs.declared.refusal.Refusal.{Refusal}
 use Rattle.hub_http.specs.declared.refusal.Refusal.TheVariants.{BadRequest, Unknown, Method, Denied, Length, TooLarge}
@@ -39,9 +39,9 @@ size digits = (codes "content-length", digits)
 abbrev asking : List ℕ → List ℕ → Fields → List ℕ → Heading
 asking method target fields rest = record { method = method; target = target; fields = fields; rest = rest }
 
--- what is asked at a place
-abbrev asked : Place → List (List ℕ) → List ℕ → Fields → List ℕ → Result Question Refusal
-asked place parts method fields rest = and_body rest (at_place register (asking method [] fields rest) (Some (place, parts)))
+-- what is asked on a route
+abbrev asked : Route → List (List ℕ) → List ℕ → Fields → List ℕ → Result Question Refusal
+asked route parts method fields rest = and_body rest (at_route register (asking method [] fields rest) (Some (route, parts)))
 
 mail_list : asked MailAfter (supplier ∷ codes "0" ∷ []) (codes "GET") (key ∷ []) []
     ≡ Ok (record { gln = supplier; key = codes "alpha-key-1"; request = asks.MailAfter 0 })

@@ -1,9 +1,8 @@
-mod Asking
 mod Bounds
 mod Callers
 mod Examples
 mod Judging
-mod RouteExamples
+mod PathExamples
 mod Serving
 mod Uploads
 pub mod Among

@@ -9,7 +9,7 @@ use Rattle.hub_parties.specs.Rows.{RegisterRows}
 use Rattle.http_messages.specs.Body.{body_in}
 use Rattle.http_messages.specs.Head.{Heading, Finds, before, longest_head}
 use Rattle.edi_base.specs.Source.{TakesAtMost}
-use Rattle.hub_http.specs.Answer.{Answers, OneStep, ReadsWithin, Serves, announced_by}
+use Rattle.hub_http.specs.Answer.{Answers, AnswersOne, OneStep, ReadsWithin, Serves, announced_by}
 use Rattle.hub_http.specs.Asked.{Asked, asked_by, is_single}
 use Rattle.hub_http.specs.Question.{Question, and_body, question_of, with_body}
 use Rattle.hub_http.specs.Serve.{response}
@@ -43,11 +43,14 @@ module _ (register : RegisterRows) where
 
 module _ (Replies : Question → Reply → Type 0) (Same : Type 0) (register : RegisterRows) where
   -- where it is known what was answered, it is known what was asked
-  pub one_step : (passed : Bool) (question : Result Question Refusal) (answer : Answer)
+  one_step : (passed : Bool) (question : Result Question Refusal) (answer : Answer)
       → Answers Replies Same passed question answer → OneStep Replies Same
   one_step passed (Ok question) answer (inl ends) = inr (question, ends.0, ends.1)
   one_step passed (Err refusal) answer (inl ends) = inl ends.0
   one_step passed question answer (inr stops) = inl stops.1.0
+
+  pub one_asked : (answer : Answer) → AnswersOne Replies Same answer → OneStep Replies Same
+  one_asked answer one = one_step true one.0 answer one.1
 
   -- without a head
   pub serves_none : (old new : Option (List ℕ)) (answer : Answer) → Finds old new None → TakesAtMost old new longest_head

@@ -9,16 +9,16 @@ use Rattle.matchit.specs.Params.{walk, wild_from, wild_stop, next_at, part_of, a
 use Rattle.matchit.specs.Seek.{first}
 use Rattle.matchit.specs.declared.error.InsertError.{InsertError}
 use Rattle.matchit.proofs.OnLiterals.{matchit_on_literals}
-use Rattle.hub_http.specs.Routes.{Routes, added_scan, seven, parts_by, with_parts, place_at}
+use Rattle.hub_http.specs.Paths.{Routes, added_scan, seven, parts_by, with_parts, route_at}
 use Rattle.hub_http.specs.Parts.{parts, begin}
-use Rattle.hub_http.specs.declared.routes.Place.{Place}
-use Rattle.hub_http.specs.declared.routes.Place.TheVariants.{Interchanges, MailAfter, MailItem, MailTaken, Status}
-use Rattle.hub_http.specs.declared.routes.Place.TheVariants.{StatusOf, Cancellations}
+use Rattle.hub_http.specs.declared.route.Route.{Route}
+use Rattle.hub_http.specs.declared.route.Route.TheVariants.{Interchanges, MailAfter, MailItem, MailTaken, Status}
+use Rattle.hub_http.specs.declared.route.Route.TheVariants.{StatusOf, Cancellations}
 use Rattle.std.proofs.lemmas.Bool.{ltb-true, ltb-false}
 use Rattle.hub_http.proofs.Among.{Each, each_placed, found_holds}
 
--- the row's route takes the parts of its place
-abbrev pub Takes : RouteOf Place → Type 0
+-- what was read of a route takes the parts that it has
+abbrev pub Takes : RouteOf Route → Type 0
 Takes r = (path : List ℕ) → parts_by r path ≡ parts r.value path
 
 -- the tokens are all bytes that stand for themselves
@@ -69,14 +69,14 @@ two pattern text path first second token at later on e next =
     ∙ ap (λ (w : ℕ × ℕ). part_of path at (wild_stop pattern token path at) ∷ part_of path w.1 (wild_stop pattern w.0 path w.1) ∷ [])
     (next (wild_stop pattern token path at))
 
-abbrev pub TakesRead : Result Scan InsertError → Place → Type 0
-TakesRead (Ok s) place = Takes (route_from s place)
-TakesRead (Err e) place = Unit {0}
+abbrev pub TakesRead : Result Scan InsertError → Route → Type 0
+TakesRead (Ok s) route = Takes (route_from s route)
+TakesRead (Err e) route = Unit {0}
 
-each_added : (read : Result Scan InsertError) (place : Place) (routes : Routes) → TakesRead read place → Each Takes routes → Each Takes
-    (added_scan read place routes)
-each_added (Ok s) place routes takes each = each_placed Takes (s.pattern, route_from s place) routes takes each
-each_added (Err e) place routes takes each = each
+each_added : (read : Result Scan InsertError) (route : Route) (routes : Routes) → TakesRead read route → Each Takes routes → Each Takes
+    (added_scan read route routes)
+each_added (Ok s) route routes takes each = each_placed Takes (s.pattern, route_from s route) routes takes each
+each_added (Err e) route routes takes each = each
 
 interchanges_takes : TakesRead (parse_route (codes "/p/{gln}/interchanges")) Interchanges
 unfolding matchit_on_literals
@@ -137,6 +137,6 @@ each_seven =
     (each_added _ Interchanges _ interchanges_takes tt))))))
 
 -- the parts of a path, where a route is found
-pub found_parts : (path : List ℕ) (r : RouteOf Place) → first seven path ≡ Some r → place_at path ≡ Some (r.value, parts r.value path)
+pub found_parts : (path : List ℕ) (r : RouteOf Route) → first seven path ≡ Some r → route_at path ≡ Some (r.value, parts r.value path)
 found_parts path r e =
     ap (with_parts path) e ∙ ap (λ l. Some (r.value, l)) (found_holds Takes seven path r each_seven e path)

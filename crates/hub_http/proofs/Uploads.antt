@@ -18,15 +18,15 @@ use Rattle.edi_envelope.specs.Gathered.{Flagged}
 use Rattle.edi_envelope.specs.Opened.{opened, Opens}
 use Rattle.hub_requests.specs.declared.reply.Reply.{Reply}
 use Rattle.http_messages.specs.Body.{body_in}
-use Rattle.hub_http.specs.Answer.{Answers, AnswersOne, Ends, OneStep}
+use Rattle.hub_http.specs.Answer.{Answers, AnswersOne, Ends}
 use Rattle.hub_http.specs.Asked.{Asked}
 use Rattle.hub_http.specs.Question.{Question, of_asker, request_for, uploading, with_body}
 use Rattle.hub_http.specs.Upload.{IsUpload}
 use Rattle.hub_http.specs.declared.answer.Answer.{Answer}
 use Rattle.hub_http.specs.declared.refusal.Refusal.{Refusal}
 use Rattle.hub_http.specs.declared.refusal.Refusal.TheVariants.{BadRequest}
-use Rattle.hub_http.specs.declared.sought.Sought.{Sought}
-use Rattle.hub_http.specs.declared.sought.Sought.TheVariants as seeks
+use Rattle.hub_http.specs.declared.route.Route.{Route}
+use Rattle.hub_http.specs.declared.route.Route.TheVariants.{Interchanges}
 
 -- where no read failed, the reader's flag stays
 cause_kept : (fault : TokenFault) (old new : Bool) → fault ≢ token.Read → HasCause fault old new → new ≡ old
@@ -124,18 +124,18 @@ opens_some size front lender upload fed some =
     some (record { known = Some []; all = take size (front ++ []); fed = fed [] })
 
 module _ (Replies : Question → Reply → Type 0) (Same : Type 0) (asked : Asked) where
-  asks_upload : (bytes : List ℕ) → asked.sought ≡ seeks.Upload → with_body asked (Some bytes) ≡ Ok (uploading asked bytes)
-  asks_upload bytes sought = ap (λ (s : Sought). of_asker asked (request_for s bytes)) sought
+  asks_upload : (bytes : List ℕ) → asked.route ≡ Interchanges → with_body asked (Some bytes) ≡ Ok (uploading asked bytes)
+  asks_upload bytes route = ap (λ (r : Route). of_asker asked (request_for r asked.part asked.number bytes)) route
 
   -- what is answered to an upload is answered to what its body asks
   pub answers_upload : (body : List ℕ → Option (List ℕ)) (known : Option (List ℕ)) (upload : Result Interchange OpenFault)
-      (answer : Answer) → asked.sought ≡ seeks.Upload
+      (answer : Answer) → asked.route ≡ Interchanges
       → IfSome known (λ left. IsUpload (Some upload) (body left))
       → ((bytes : List ℕ) → Opens upload (opened bytes) → Ends Replies Same (Ok (uploading asked bytes)) answer)
       → IfSome known (λ left. Answers Replies Same true (with_body asked (body left)) answer)
-  answers_upload body None upload answer sought is ends = tt
-  answers_upload body (Some left) upload answer sought is ends =
-      let same : with_body asked (body left) ≡ Ok (uploading asked is.0) = ap (with_body asked) is.1 ∙ asks_upload is.0 sought in
+  answers_upload body None upload answer route is ends = tt
+  answers_upload body (Some left) upload answer route is ends =
+      let same : with_body asked (body left) ≡ Ok (uploading asked is.0) = ap (with_body asked) is.1 ∙ asks_upload is.0 route in
       subst (λ (q : Result Question Refusal). Answers Replies Same true q answer) (sym same) (inl (ends is.0 is.2))
 
   pub answers_cut : (body : List ℕ → Option (List ℕ)) (known : Option (List ℕ)) (answer : Answer)
@@ -145,14 +145,6 @@ module _ (Replies : Question → Reply → Type 0) (Same : Type 0) (asked : Aske
   answers_cut body None answer is ends = tt
   answers_cut body (Some left) answer is ends =
       subst (λ (q : Result Question Refusal). Answers Replies Same true q answer) (sym (ap (with_body asked) is)) (inl ends)
-
-  pub step_upload : (upload : Result Interchange OpenFault) (answer : Answer)
-      → ((bytes : List ℕ) × Opens upload (opened bytes))
-      → ((bytes : List ℕ) → Opens upload (opened bytes) → Ends Replies Same (Ok (uploading asked bytes)) answer)
-      → OneStep Replies Same
-  step_upload upload answer some ends =
-      let end = ends some.0 some.1 in
-      inr (uploading asked some.0, end.0, end.1)
 
   pub one_upload : (upload : Result Interchange OpenFault) (answer : Answer)
       → ((bytes : List ℕ) × Opens upload (opened bytes))

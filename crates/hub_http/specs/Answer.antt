@@ -6,7 +6,8 @@ use Rattle.hub_requests.specs.declared.reply.Outcome.TheVariants.{Done, Bad, Den
 use Rattle.hub_requests.specs.declared.reply.Reply.{Reply}
 use Rattle.hub_parties.specs.Rows.{RegisterRows}
 use Rattle.hub_tables.specs.Tables.{Tables}
-use Rattle.hub_core.specs.Steps.{SoundWith, Stepped, input_of}
+use Rattle.hub_core.specs.Hub.{StaysSound, StepsFrom}
+use Rattle.hub_core.specs.Steps.{input_of}
 use Rattle.http_messages.specs.Head.{Heading, HeadIs, longest_head}
 use Rattle.hub_http.specs.Asked.{Asked, asked_by, is_single}
 use Rattle.hub_http.specs.Question.{Question, Asks}
@@ -37,14 +38,13 @@ pub record Says (status : ℕ) (text : List ℕ) (answer : Answer) : Type 0 wher
 abbrev pub Steps : {S : Type 0} → (S → Tables) → (S → Type 0) → (S → Tables → Type 0) → ℕ → RegisterRows × S
     → RegisterRows × S → Question → Reply → Type 0
 Steps content honest left moment old new question reply =
-    honest new.1 → SoundWith old.0 (content old.1)
-    → Stepped (content old.1) (content new.1) (left old.1) (left new.1)
-    (input_of moment question.gln question.key question.request) reply
+    StepsFrom content honest left old new (input_of moment question.gln question.key question.request) reply
 
--- over sound rows that hold its register the hub comes to such rows
-abbrev pub StaysSound : {S : Type 0} → (S → Tables) → (S → Type 0) → RegisterRows × S → RegisterRows × S → Type 0
-StaysSound content honest old new =
-    honest new.1 → SoundWith old.0 (content old.1) → SoundWith new.0 (content new.1)
+-- what holds of a hub that was not asked for a join, whatever else it was asked
+pub record Stays {S : Type 0} (content : S → Tables) (honest : S → Type 0) (old new : RegisterRows × S) : Type 0 where
+  pub held : StaysSound content honest old new
+  pub register : new.0 ≡ old.0
+  pub was_honest : honest new.1 → honest old.1
 
 module _ (Replies : Question → Reply → Type 0) (Same : Type 0) where
   -- the hub is as before, or one question was asked
@@ -68,6 +68,11 @@ module _ (Replies : Question → Reply → Type 0) (Same : Type 0) where
   -- one question was answered, whichever it was
   abbrev pub AnswersOne : Answer → Type 0
   AnswersOne answer = (question : Result Question Refusal) × Answers true question answer
+
+  -- that, and the reader's flag stays; or a read failed, and the hub is as before
+  abbrev pub AnswersOnce : {E : Type 0} → Bool → Bool → Result Answer E → Type 0
+  AnswersOnce failed_before failed (Ok answer) = AnswersOne answer × (failed ≡ failed_before)
+  AnswersOnce failed_before failed (Err fault) = Same × (failed ≡ true)
 
 -- the first check: a head stands there, and its key and its length at most once
 abbrev pub passes : Option Heading → Bool

@@ -1,7 +1,7 @@
 -- What the head of a request asks for, and who asks; or why it is refused. The checks come in this order: a key or a
 -- length that stands twice, the path, the method, who asks, the length of the body.
 use Rattle.std.specs.Prelude.{ℕ, Bool, ◌&&◌, ◌==◌, not, nat_lt, if◌then◌else◌, List, [], ◌∷◌, length}
-use Rattle.std.specs.Prelude.{codes, Option, Some, None, option_map, Result, Ok, Err}
+use Rattle.std.specs.Prelude.{codes, Option, Some, None, Result, Ok, Err}
 use Rattle.std.specs.List.{list_any}
 use Rattle.std.specs.Str.{bytes_eq}
 use Rattle.edi_base.specs.Limits.{are_digits, number_of}
@@ -10,12 +10,12 @@ use Rattle.hub_parties.specs.Rows.{RegisterRows, role_of}
 use Rattle.hub_parties.specs.declared.role.Role.{Role}
 use Rattle.http_messages.specs.Fields.{values_of}
 use Rattle.http_messages.specs.Head.{Heading, longest_head}
-use Rattle.hub_http.specs.Routes.{place_at}
-use Rattle.hub_http.specs.declared.routes.Place.{Place}
-use Rattle.hub_http.specs.Sought.{is_post, may_ask, method_of, sought_at}
+use Rattle.hub_http.specs.Parts.{first, second}
+use Rattle.hub_http.specs.Paths.{route_at}
+use Rattle.hub_http.specs.Route.{is_post, may_ask, method_of, number_at}
 use Rattle.hub_http.specs.declared.refusal.Refusal.{Refusal}
 use Rattle.hub_http.specs.declared.refusal.Refusal.TheVariants.{BadRequest, Unknown, Method, Denied, Length, TooLarge}
-use Rattle.hub_http.specs.declared.sought.Sought.{Sought}
+use Rattle.hub_http.specs.declared.route.Route.{Route}
 
 -- the names of the fields that are looked at
 abbrev pub key_field : List ℕ
@@ -39,28 +39,9 @@ is_single head =
 abbrev pub has_query : List ℕ → Bool
 has_query target = list_any (λ byte. byte == 0x3F) target
 
--- the place that a target names, and the parts of its path
-abbrev pub place_in : List ℕ → Option (Place × List (List ℕ))
-place_in target = if has_query target then None else place_at target
-
--- who asks: its side, its GLN and its key
-pub record Asker : Type 0 where
-  pub role : Role
-  pub gln : List ℕ
-  pub key : List ℕ
-
-abbrev pub asker : Role → List ℕ → List ℕ → Asker
-asker role gln key = record { role = role; gln = gln; key = key }
-
-abbrev pub asker_by : RegisterRows → List ℕ → List ℕ → Option Asker
-asker_by register gln key = option_map (λ role. asker role gln key) (role_of register gln key)
-
--- the party that the path names first, with the one key of the head
-abbrev pub asker_of : RegisterRows → List (List ℕ) → List (List ℕ) → Option Asker
-asker_of register [] keys = None
-asker_of register (party ∷ parts) [] = None
-asker_of register (party ∷ parts) (key ∷ []) = asker_by register party key
-asker_of register (party ∷ parts) (key ∷ other ∷ keys) = None
+-- the route that a target takes, and the parts of its path
+abbrev pub route_in : List ℕ → Option (Route × List (List ℕ))
+route_in target = if has_query target then None else route_at target
 
 -- how many bytes a body has at most: as many as the longest upload
 abbrev pub longest_body : ℕ
@@ -86,40 +67,55 @@ posted fields =
     if length (values_of encoding_field fields) == 0 then announced (values_of length_field fields) else Err Length
 
 -- no other body is looked at
-abbrev pub size_of : Sought → List (List ℕ × List ℕ) → Result ℕ Refusal
-size_of sought fields = if is_post sought then posted fields else Ok 0
+abbrev pub size_of : Route → List (List ℕ × List ℕ) → Result ℕ Refusal
+size_of route fields = if is_post route then posted fields else Ok 0
 
 -- what is asked for, who asks with which key, and how long the body is
 pub record Asked : Type 0 where
-  pub sought : Sought
+  pub route : Route
+  pub part : List ℕ
+  pub number : ℕ
   pub gln : List ℕ
   pub key : List ℕ
   pub size : ℕ
 
-abbrev pub with_size : Sought → Asker → Result ℕ Refusal → Result Asked Refusal
-with_size sought who (Ok size) = Ok (record { sought = sought; gln = who.gln; key = who.key; size = size })
-with_size sought who (Err refusal) = Err refusal
+abbrev pub with_size : Route → List ℕ → List ℕ → ℕ → List ℕ → Result ℕ Refusal → Result Asked Refusal
+with_size route gln part number key (Ok size) =
+    Ok (record { route = route; part = part; number = number; gln = gln; key = key; size = size })
+with_size route gln part number key (Err refusal) = Err refusal
 
-abbrev pub by_asker : Sought → List (List ℕ × List ℕ) → Option Asker → Result Asked Refusal
-by_asker sought fields None = Err Denied
-by_asker sought fields (Some who) =
-    if may_ask who.role sought then with_size sought who (size_of sought fields) else Err Denied
+-- by the side of who asks
+abbrev pub by_role : Heading → Route → List ℕ → List ℕ → ℕ → List ℕ → Option Role → Result Asked Refusal
+by_role head route gln part number key None = Err Denied
+by_role head route gln part number key (Some role) =
+    if may_ask role route then with_size route gln part number key (size_of route head.fields) else Err Denied
 
--- by the party that the path names
-abbrev pub by_party : RegisterRows → Heading → List (List ℕ) → Sought → Result Asked Refusal
-by_party register head parts sought =
-    by_asker sought head.fields (asker_of register parts (values_of key_field head.fields))
+-- by the party that the path names first
+abbrev pub by_party : RegisterRows → Heading → Route → List ℕ → List ℕ → ℕ → List ℕ → Result Asked Refusal
+by_party register head route party part number key =
+    by_role head route party part number key (role_of register party key)
 
-abbrev pub by_method : RegisterRows → Heading → List (List ℕ) → Option Sought → Result Asked Refusal
-by_method register head parts None = Err Unknown
-by_method register head parts (Some sought) =
-    if not (bytes_eq head.method (method_of sought)) then Err Method else by_party register head parts sought
+-- with the one key of the head
+abbrev pub by_keys : RegisterRows → Heading → Route → List ℕ → List ℕ → ℕ → List (List ℕ) → Result Asked Refusal
+by_keys register head route party part number [] = Err Denied
+by_keys register head route party part number (key ∷ []) = by_party register head route party part number key
+by_keys register head route party part number (key ∷ other ∷ keys) = Err Denied
 
-abbrev pub at_place : RegisterRows → Heading → Option (Place × List (List ℕ)) → Result Asked Refusal
-at_place register head None = Err Unknown
-at_place register head (Some (place, parts)) = by_method register head parts (sought_at place parts)
+-- by the number in the path, where it is one
+abbrev pub by_number : RegisterRows → Heading → Route → List ℕ → List ℕ → Option ℕ → Result Asked Refusal
+by_number register head route party part None = Err Unknown
+by_number register head route party part (Some number) =
+    if not (bytes_eq head.method (method_of route)) then Err Method
+    else by_keys register head route party part number (values_of key_field head.fields)
+
+abbrev pub by_route : RegisterRows → Heading → Route → List ℕ → List ℕ → Result Asked Refusal
+by_route register head route party part = by_number register head route party part (number_at route part)
+
+abbrev pub at_route : RegisterRows → Heading → Option (Route × List (List ℕ)) → Result Asked Refusal
+at_route register head None = Err Unknown
+at_route register head (Some (route, parts)) = by_route register head route (first parts) (second parts)
 
 -- what a head asks for
 abbrev pub asked_by : RegisterRows → Heading → Result Asked Refusal
 asked_by register head =
-    if not (is_single head) then Err BadRequest else at_place register head (place_in head.target)
+    if not (is_single head) then Err BadRequest else at_route register head (route_in head.target)

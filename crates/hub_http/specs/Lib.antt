@@ -1,10 +1,10 @@
 pub mod Answer
 pub mod Asked
 pub mod Parts
+pub mod Paths
 pub mod Question
 pub mod Refusal
-pub mod Routes
+pub mod Route
 pub mod Serve
-pub mod Sought
 pub mod Upload
 pub mod Wording

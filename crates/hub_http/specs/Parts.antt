@@ -3,9 +3,9 @@
 use Rattle.std.specs.Prelude.{ℕ, ◌+◌, ◌-◌, List, [], ◌∷◌, length, max, min, drop}
 use Rattle.matchit.specs.Seek.{segment}
 use Rattle.matchit.specs.Params.{part_of}
-use Rattle.hub_http.specs.declared.routes.Place.{Place}
-use Rattle.hub_http.specs.declared.routes.Place.TheVariants.{Interchanges, MailAfter, MailItem, MailTaken}
-use Rattle.hub_http.specs.declared.routes.Place.TheVariants.{Status, StatusOf, Cancellations}
+use Rattle.hub_http.specs.declared.route.Route.{Route}
+use Rattle.hub_http.specs.declared.route.Route.TheVariants.{Interchanges, MailAfter, MailItem, MailTaken}
+use Rattle.hub_http.specs.declared.route.Route.TheVariants.{Status, StatusOf, Cancellations}
 
 -- so many bytes on, where the path does not end before
 abbrev pub begin : ℕ → ℕ → ℕ → ℕ
@@ -38,7 +38,7 @@ abbrev pub inner_part : ℕ → List ℕ → List ℕ
 inner_part skip path = part_of path (second_start skip path) (to_slash path (second_start skip path))
 
 -- behind the party stand `/mail/after/`, `/mail/item/` and `/status/`, of 12, 11 and 8 bytes
-abbrev pub parts : Place → List ℕ → List (List ℕ)
+abbrev pub parts : Route → List ℕ → List (List ℕ)
 parts Interchanges path = party path ∷ []
 parts MailAfter path = party path ∷ last_part 12 path ∷ []
 parts MailItem path = party path ∷ last_part 11 path ∷ []
@@ -46,3 +46,16 @@ parts MailTaken path = party path ∷ inner_part 11 path ∷ []
 parts Status path = party path ∷ []
 parts StatusOf path = party path ∷ last_part 8 path ∷ []
 parts Cancellations path = party path ∷ []
+
+-- of the parts of a path the first, and the second, which is empty where there is none
+abbrev pub first : List (List ℕ) → List ℕ
+first [] = []
+first (party ∷ parts) = party
+
+abbrev pub second : List (List ℕ) → List ℕ
+second [] = []
+second (party ∷ []) = []
+second (party ∷ part ∷ parts) = part
+
+abbrev pub part_in : Route → List ℕ → List ℕ
+part_in route path = second (parts route path)

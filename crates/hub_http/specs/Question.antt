@@ -1,5 +1,6 @@
 -- What the bytes of a connection ask of the hub, and by whom; or why they are refused.
 use Rattle.std.specs.Prelude.{◌≡◌, ℕ, List, Option, Some, None, Result, Ok, Err}
+use Rattle.gs1_ids.specs.Gln.{gln_of}
 use Rattle.hub_parties.specs.Rows.{RegisterRows}
 use Rattle.hub_rules.specs.declared.cancel.Cancel.{Cancel as Cancellation}
 use Rattle.hub_texts.specs.Cancel.{cancel_of}
@@ -10,24 +11,29 @@ use Rattle.http_messages.specs.Head.{Heading, HeadIs}
 use Rattle.hub_http.specs.Asked.{Asked, asked_by}
 use Rattle.hub_http.specs.declared.refusal.Refusal.{Refusal}
 use Rattle.hub_http.specs.declared.refusal.Refusal.TheVariants.{BadRequest, Unknown}
-use Rattle.hub_http.specs.declared.sought.Sought.{Sought}
-use Rattle.hub_http.specs.declared.sought.Sought.TheVariants as seeks
+use Rattle.hub_http.specs.declared.route.Route.{Route}
+use Rattle.hub_http.specs.declared.route.Route.TheVariants.{Interchanges, MailAfter, MailItem, MailTaken}
+use Rattle.hub_http.specs.declared.route.Route.TheVariants.{Status, StatusOf, Cancellations}
 
 -- the cancellation in a body
 abbrev pub cancelled : Option Cancellation → Result Request Refusal
 cancelled (Some cancel) = Ok (asks.Cancel cancel)
 cancelled None = Err BadRequest
 
--- what is asked, with the body; what is no GLN is no supplier
-abbrev pub request_for : Sought → List ℕ → Result Request Refusal
-request_for seeks.Upload body = Ok (asks.Upload body)
-request_for (seeks.MailAfter number) body = Ok (asks.MailAfter number)
-request_for (seeks.MailItem number) body = Ok (asks.MailItem number)
-request_for (seeks.MailTaken number) body = Ok (asks.MailTaken number)
-request_for seeks.Status body = Ok asks.Status
-request_for (seeks.StatusOf (Some supplier)) body = Ok (asks.StatusOf supplier)
-request_for (seeks.StatusOf None) body = Err Unknown
-request_for seeks.Cancel body = cancelled (cancel_of body)
+-- the status of a supplier; what is no GLN is no supplier
+abbrev pub supplied : Option (List ℕ) → Result Request Refusal
+supplied (Some supplier) = Ok (asks.StatusOf supplier)
+supplied None = Err Unknown
+
+-- what is asked, with the part of the path, its number and the body
+abbrev pub request_for : Route → List ℕ → ℕ → List ℕ → Result Request Refusal
+request_for Interchanges part number body = Ok (asks.Upload body)
+request_for MailAfter part number body = Ok (asks.MailAfter number)
+request_for MailItem part number body = Ok (asks.MailItem number)
+request_for MailTaken part number body = Ok (asks.MailTaken number)
+request_for Status part number body = Ok asks.Status
+request_for StatusOf part number body = supplied (gln_of part)
+request_for Cancellations part number body = cancelled (cancel_of body)
 
 -- who asks, with which key, and what
 pub record Question : Type 0 where
@@ -35,18 +41,24 @@ pub record Question : Type 0 where
   pub key : List ℕ
   pub request : Request
 
+abbrev pub question_as : Asked → Request → Question
+question_as asked request = record { gln = asked.gln; key = asked.key; request = request }
+
 abbrev pub of_asker : Asked → Result Request Refusal → Result Question Refusal
-of_asker asked (Ok request) = Ok (record { gln = asked.gln; key = asked.key; request = request })
+of_asker asked (Ok request) = Ok (question_as asked request)
 of_asker asked (Err refusal) = Err refusal
 
 -- an upload of these bytes
 abbrev pub uploading : Asked → List ℕ → Question
-uploading asked bytes = record { gln = asked.gln; key = asked.key; request = asks.Upload bytes }
+uploading asked bytes = question_as asked (asks.Upload bytes)
 
 -- with the body, none where it is cut
+abbrev pub request_with : Asked → Option (List ℕ) → Result Request Refusal
+request_with asked (Some body) = request_for asked.route asked.part asked.number body
+request_with asked None = Err BadRequest
+
 abbrev pub with_body : Asked → Option (List ℕ) → Result Question Refusal
-with_body asked (Some body) = of_asker asked (request_for asked.sought body)
-with_body asked None = Err BadRequest
+with_body asked body = of_asker asked (request_with asked body)
 
 abbrev pub and_body : List ℕ → Result Asked Refusal → Result Question Refusal
 and_body rest (Ok asked) = with_body asked (body_in asked.size rest)

@@ -1,6 +1,6 @@
 //! The one answer to a connection.
 ghost use Rattle.std.specs.Prelude.{◌≡◌, ◌≢◌, ◌+◌, ◌++◌, ◌≤◌, ℕ, List, codes, true, Ok, Err, Some, IfOk, IfSome};
-ghost use Rattle.std.specs.Prelude.{OnErr, OnOk, IfErr};
+ghost use Rattle.std.specs.Prelude.{OnErr, IfErr};
 ghost use Rattle.edi_base.specs.Source.{TakesAtMost};
 ghost use Rattle.edi_envelope.specs.Opened.{opened, Opens};
 ghost use Rattle.http_messages.specs.Head.{before, longest_head};
@@ -8,23 +8,24 @@ ghost use Rattle.http_messages.specs.Body.{body_in};
 ghost use Rattle.hub_core.specs.Steps.{IsNoJoin};
 ghost use Rattle.hub_http.specs.Answer as spec;
 ghost use Rattle.hub_http.specs.Asked.{asked_by, is_single, longest_body};
-ghost use Rattle.hub_http.specs.Question.{question_of as asked_of, uploading, with_body};
+ghost use Rattle.hub_http.specs.Question.{question_as, question_of, uploading, with_body};
 ghost use Rattle.hub_http.specs.Refusal.{status_of as refusal_status, text_of};
-ghost use Rattle.hub_http.specs.Wording.{asking_as, question_as};
+ghost use Rattle.hub_http.specs.Wording.{asked_as};
 
-use crate::asked::{Asking, asking_of};
-use crate::question::{Posed, question_of};
+use crate::asked::{Asked, asked_of};
+use crate::paths::Paths;
+use crate::question::request_of;
 use crate::refusal::Refusal;
-use crate::routes::Paths;
-use crate::sought::Sought;
+use crate::route::Route;
 use crate::upload::{Opened, open_body};
 use edi_base::{Items, ReadFault, Source};
 use edi_envelope::{Moment, OpenFault};
 use edi_tokens::TokenFault;
 use http::StatusCode;
 use http_messages::{Head, HeadFault, read_body, read_head};
-use hub_core::{Hub, Outcome, Reply};
+use hub_core::{Hub, Outcome, Reply, Request};
 use hub_store::Store;
+use hub_texts::STOPPED;
 use std::alloc::Global;
 
 /// The body of a response.
@@ -57,7 +58,7 @@ fn stopped() -> Answer
 {
     Answer {
         status: StatusCode::SERVICE_UNAVAILABLE,
-        text: Text::Fixed(b"stopped\n"),
+        text: Text::Fixed(STOPPED),
     }
 }
 
@@ -85,15 +86,13 @@ fn replied(reply: Reply) -> Answer
 }
 
 // Asks the hub.
-fn ask<S: Store>(hub: &mut Hub<S>, moment: Moment, posed: Posed<'_>) -> Answer
+fn ask<S: Store>(hub: &mut Hub<S>, moment: Moment, asked: &Asked<'_>, request: Request) -> Answer
+    requires { IsNoJoin request }
     ensures asked { spec.Ends (spec.Steps S.content S.honest S.left moment hub.old hub.new) (hub.new ≡ hub.old)
-        (Ok (question_as posed.entry)) result }
-    ensures held { spec.StaysSound S.content S.honest hub.old hub.new }
-    ensures register { IsNoJoin posed.entry.request → hub.new.0 ≡ hub.old.0 }
-    ensures was_honest { S.honest hub.new.1 → S.honest hub.old.1 }
+        (Ok (question_as (asked_as asked.now) request)) result }
+    ensures stays { spec.Stays S.content S.honest hub.old hub.new }
 {
-    let Posed { gln, key, request } = posed;
-    let reply = hub.step(moment, &gln, key, request);
+    let reply = hub.step(moment, &asked.gln, asked.key, request);
     replied(reply)
 }
 
@@ -102,51 +101,19 @@ fn answer_body<S: Store>(
     alloc: Global,
     hub: &mut Hub<S>,
     moment: Moment,
-    asking: &Asking<'_>,
+    asked: &Asked<'_>,
     body: Option<Items<u8>>,
 ) -> Answer
     ensures answers { spec.Answers (spec.Steps S.content S.honest S.left moment hub.old hub.new) (hub.new ≡ hub.old)
-        true (with_body (asking_as asking.now) body) result }
-    ensures refused { IfErr (with_body (asking_as asking.now) body) (λ refusal.
+        true (with_body (asked_as asked.now) body) result }
+    ensures refused { IfErr (with_body (asked_as asked.now) body) (λ refusal.
         spec.Says (refusal_status refusal) (text_of refusal) result) }
-    ensures held { spec.StaysSound S.content S.honest hub.old hub.new }
-    ensures register { hub.new.0 ≡ hub.old.0 }
-    ensures was_honest { S.honest hub.new.1 → S.honest hub.old.1 }
+    ensures stays { spec.Stays S.content S.honest hub.old hub.new }
 {
-    match question_of(alloc, asking, body) {
-        Ok(Ok(posed)) => ask(hub, moment, posed),
+    match request_of(alloc, asked, body) {
+        Ok(Ok(request)) => ask(hub, moment, asked, request),
         Ok(Err(refusal)) => refused(refusal),
         Err(_) => stopped(),
-    }
-}
-
-// The answer to what is asked for with a body that is kept, and begins with these bytes.
-fn answer_kept<R: Source, S: Store>(
-    alloc: Global,
-    hub: &mut Hub<S>,
-    moment: Moment,
-    reader: &mut R,
-    front: &[u8],
-    asking: &Asking<'_>,
-) -> Result<Answer, HeadFault>
-    ensures answers { IfOk result (λ answer. IfSome (R.remaining reader.old) (λ left.
-        spec.Answers (spec.Steps S.content S.honest S.left moment hub.old hub.new) (hub.new ≡ hub.old) true
-        (with_body (asking_as asking.now) (body_in (asking_as asking.now).size (front.now ++ left))) answer)) }
-    ensures answers_one { IfOk result (λ answer.
-        spec.AnswersOne (spec.Steps S.content S.honest S.left moment hub.old hub.new) (hub.new ≡ hub.old) answer) }
-    ensures stepped { spec.OneStep (spec.Steps S.content S.honest S.left moment hub.old hub.new) (hub.new ≡ hub.old) }
-    ensures untouched { OnErr result (hub.new ≡ hub.old) }
-    ensures held { spec.StaysSound S.content S.honest hub.old hub.new }
-    ensures register { hub.new.0 ≡ hub.old.0 }
-    ensures was_honest { S.honest hub.new.1 → S.honest hub.old.1 }
-    ensures front { TakesAtMost (R.remaining reader.old) (R.remaining reader.new) asking.now.size }
-    ensures failed { OnErr result (R.failed reader.new ≡ true) }
-    ensures kept { OnOk result (R.failed reader.new ≡ R.failed reader.old) }
-{
-    match read_body(alloc, reader, front, asking.size) {
-        Ok(body) => Ok(answer_body(alloc, hub, moment, asking, body)),
-        Err(ReadFault::Read) => Err(HeadFault),
-        Err(ReadFault::Memory) => Ok(stopped()),
     }
 }
 
@@ -154,18 +121,16 @@ fn answer_kept<R: Source, S: Store>(
 fn ask_opened<S: Store>(
     hub: &mut Hub<S>,
     moment: Moment,
-    asking: &Asking<'_>,
+    asked: &Asked<'_>,
     upload: Opened,
 ) -> Answer
     requires { upload ≢ Err (OpenFault.Token TokenFault.Read) }
     ensures asked { (bytes : List ℕ) → Opens upload (opened bytes) →
         spec.Ends (spec.Steps S.content S.honest S.left moment hub.old hub.new) (hub.new ≡ hub.old)
-        (Ok (uploading (asking_as asking.now) bytes)) result }
-    ensures held { (bytes : List ℕ) → Opens upload (opened bytes) → spec.StaysSound S.content S.honest hub.old hub.new }
-    ensures register { hub.new.0 ≡ hub.old.0 }
-    ensures was_honest { S.honest hub.new.1 → S.honest hub.old.1 }
+        (Ok (uploading (asked_as asked.now) bytes)) result }
+    ensures stays { (bytes : List ℕ) → Opens upload (opened bytes) → spec.Stays S.content S.honest hub.old hub.new }
 {
-    let reply = hub.step_opened(moment, &asking.gln, asking.key, upload);
+    let reply = hub.step_opened(moment, &asked.gln, asked.key, upload);
     replied(reply)
 }
 
@@ -176,59 +141,51 @@ fn answer_upload<R: Source, S: Store>(
     moment: Moment,
     reader: &mut R,
     front: &[u8],
-    asking: &Asking<'_>,
+    asked: &Asked<'_>,
 ) -> Result<Answer, HeadFault>
-    requires sought { asking.now.sought ≡ Sought.Upload }
-    requires short { asking.now.size ≤ longest_body }
+    requires route { asked.now.route ≡ Route.Interchanges }
+    requires short { asked.now.size ≤ longest_body }
     ensures answers { IfOk result (λ answer. IfSome (R.remaining reader.old) (λ left.
         spec.Answers (spec.Steps S.content S.honest S.left moment hub.old hub.new) (hub.new ≡ hub.old) true
-        (with_body (asking_as asking.now) (body_in (asking_as asking.now).size (front.now ++ left))) answer)) }
-    ensures answers_one { IfOk result (λ answer.
-        spec.AnswersOne (spec.Steps S.content S.honest S.left moment hub.old hub.new) (hub.new ≡ hub.old) answer) }
-    ensures stepped { spec.OneStep (spec.Steps S.content S.honest S.left moment hub.old hub.new) (hub.new ≡ hub.old) }
-    ensures untouched { OnErr result (hub.new ≡ hub.old) }
-    ensures held { spec.StaysSound S.content S.honest hub.old hub.new }
-    ensures register { hub.new.0 ≡ hub.old.0 }
-    ensures was_honest { S.honest hub.new.1 → S.honest hub.old.1 }
-    ensures front { TakesAtMost (R.remaining reader.old) (R.remaining reader.new) asking.now.size }
-    ensures failed { OnErr result (R.failed reader.new ≡ true) }
-    ensures kept { OnOk result (R.failed reader.new ≡ R.failed reader.old) }
+        (with_body (asked_as asked.now) (body_in (asked_as asked.now).size (front.now ++ left))) answer)) }
+    ensures once { spec.AnswersOnce (spec.Steps S.content S.honest S.left moment hub.old hub.new) (hub.new ≡ hub.old)
+        (R.failed reader.old) (R.failed reader.new) result }
+    ensures stays { spec.Stays S.content S.honest hub.old hub.new }
+    ensures front { TakesAtMost (R.remaining reader.old) (R.remaining reader.new) asked.now.size }
 {
-    match open_body(alloc, reader, front, asking.size) {
-        Ok(Some(upload)) => Ok(ask_opened(hub, moment, asking, upload)),
+    match open_body(alloc, reader, front, asked.size) {
+        Ok(Some(upload)) => Ok(ask_opened(hub, moment, asked, upload)),
         Ok(None) => Ok(refused(Refusal::BadRequest)),
         Err(ReadFault::Read) => Err(HeadFault),
         Err(ReadFault::Memory) => Ok(stopped()),
     }
 }
 
-// The answer to what is asked for, whose body begins with these bytes.
+// The answer to what is asked for, whose body begins with these bytes. A body is read whole, but for an upload's.
 fn answer_asked<R: Source, S: Store>(
     alloc: Global,
     hub: &mut Hub<S>,
     moment: Moment,
     reader: &mut R,
     front: &[u8],
-    asking: &Asking<'_>,
+    asked: &Asked<'_>,
 ) -> Result<Answer, HeadFault>
-    requires { asking.now.size ≤ longest_body }
+    requires { asked.now.size ≤ longest_body }
     ensures answers { IfOk result (λ answer. IfSome (R.remaining reader.old) (λ left.
         spec.Answers (spec.Steps S.content S.honest S.left moment hub.old hub.new) (hub.new ≡ hub.old) true
-        (with_body (asking_as asking.now) (body_in (asking_as asking.now).size (front.now ++ left))) answer)) }
-    ensures answers_one { IfOk result (λ answer.
-        spec.AnswersOne (spec.Steps S.content S.honest S.left moment hub.old hub.new) (hub.new ≡ hub.old) answer) }
-    ensures stepped { spec.OneStep (spec.Steps S.content S.honest S.left moment hub.old hub.new) (hub.new ≡ hub.old) }
-    ensures untouched { OnErr result (hub.new ≡ hub.old) }
-    ensures held { spec.StaysSound S.content S.honest hub.old hub.new }
-    ensures register { hub.new.0 ≡ hub.old.0 }
-    ensures was_honest { S.honest hub.new.1 → S.honest hub.old.1 }
-    ensures front { TakesAtMost (R.remaining reader.old) (R.remaining reader.new) asking.now.size }
-    ensures failed { OnErr result (R.failed reader.new ≡ true) }
-    ensures kept { OnOk result (R.failed reader.new ≡ R.failed reader.old) }
+        (with_body (asked_as asked.now) (body_in (asked_as asked.now).size (front.now ++ left))) answer)) }
+    ensures once { spec.AnswersOnce (spec.Steps S.content S.honest S.left moment hub.old hub.new) (hub.new ≡ hub.old)
+        (R.failed reader.old) (R.failed reader.new) result }
+    ensures stays { spec.Stays S.content S.honest hub.old hub.new }
+    ensures front { TakesAtMost (R.remaining reader.old) (R.remaining reader.new) asked.now.size }
 {
-    match asking.sought {
-        Sought::Upload => answer_upload(alloc, hub, moment, reader, front, asking),
-        _ => answer_kept(alloc, hub, moment, reader, front, asking),
+    if let Route::Interchanges = asked.route {
+        return answer_upload(alloc, hub, moment, reader, front, asked);
+    }
+    match read_body(alloc, reader, front, asked.size) {
+        Ok(body) => Ok(answer_body(alloc, hub, moment, asked, body)),
+        Err(ReadFault::Read) => Err(HeadFault),
+        Err(ReadFault::Memory) => Ok(stopped()),
     }
 }
 
@@ -243,21 +200,15 @@ fn answer_head<R: Source, S: Store>(
 ) -> Result<Answer, HeadFault>
     ensures answers { IfOk result (λ answer. IfSome (R.remaining reader.old) (λ left.
         spec.Answers (spec.Steps S.content S.honest S.left moment hub.old hub.new) (hub.new ≡ hub.old)
-        (is_single head.now) (asked_of hub.old.0 (Some (before left head.now))) answer)) }
-    ensures answers_one { IfOk result (λ answer.
-        spec.AnswersOne (spec.Steps S.content S.honest S.left moment hub.old hub.new) (hub.new ≡ hub.old) answer) }
-    ensures stepped { spec.OneStep (spec.Steps S.content S.honest S.left moment hub.old hub.new) (hub.new ≡ hub.old) }
-    ensures untouched { OnErr result (hub.new ≡ hub.old) }
-    ensures held { spec.StaysSound S.content S.honest hub.old hub.new }
-    ensures register { hub.new.0 ≡ hub.old.0 }
-    ensures was_honest { S.honest hub.new.1 → S.honest hub.old.1 }
+        (is_single head.now) (question_of hub.old.0 (Some (before left head.now))) answer)) }
+    ensures once { spec.AnswersOnce (spec.Steps S.content S.honest S.left moment hub.old hub.new) (hub.new ≡ hub.old)
+        (R.failed reader.old) (R.failed reader.new) result }
+    ensures stays { spec.Stays S.content S.honest hub.old hub.new }
     ensures front { TakesAtMost (R.remaining reader.old) (R.remaining reader.new)
         (spec.size_asked (asked_by hub.old.0 head.now)) }
-    ensures failed { OnErr result (R.failed reader.new ≡ true) }
-    ensures kept { OnOk result (R.failed reader.new ≡ R.failed reader.old) }
 {
-    match asking_of(paths, hub, head) {
-        Ok(asking) => answer_asked(alloc, hub, moment, reader, head.rest(), &asking),
+    match asked_of(paths, hub, head) {
+        Ok(asked) => answer_asked(alloc, hub, moment, reader, head.rest(), &asked),
         Err(refusal) => Ok(refused(refusal)),
     }
 }
@@ -273,18 +224,12 @@ pub(crate) fn answer_one<R: Source, S: Store>(
     ensures answered { IfOk result (λ answer. IfSome (R.remaining reader.old) (λ known.
         spec.Serves (spec.Steps S.content S.honest S.left moment hub.old hub.new) (hub.new ≡ hub.old) hub.old.0 known
         (R.remaining reader.new) answer)) }
-    ensures answers_one { IfOk result (λ answer.
-        spec.AnswersOne (spec.Steps S.content S.honest S.left moment hub.old hub.new) (hub.new ≡ hub.old) answer) }
-    ensures stepped { spec.OneStep (spec.Steps S.content S.honest S.left moment hub.old hub.new) (hub.new ≡ hub.old) }
-    ensures untouched { OnErr result (hub.new ≡ hub.old) }
-    ensures held { spec.StaysSound S.content S.honest hub.old hub.new }
-    ensures register { hub.new.0 ≡ hub.old.0 }
-    ensures was_honest { S.honest hub.new.1 → S.honest hub.old.1 }
+    ensures once { spec.AnswersOnce (spec.Steps S.content S.honest S.left moment hub.old hub.new) (hub.new ≡ hub.old)
+        (R.failed reader.old) (R.failed reader.new) result }
+    ensures stays { spec.Stays S.content S.honest hub.old hub.new }
     ensures front { TakesAtMost (R.remaining reader.old) (R.remaining reader.new) (longest_head + longest_body) }
     ensures cut { OnErr result (IfSome (R.remaining reader.old) (λ known.
         spec.ReadsWithin hub.old.0 known (R.remaining reader.new))) }
-    ensures failed { OnErr result (R.failed reader.new ≡ true) }
-    ensures kept { OnOk result (R.failed reader.new ≡ R.failed reader.old) }
 {
     match read_head(reader)? {
         Some(head) => answer_head(alloc, paths, hub, moment, reader, &head),

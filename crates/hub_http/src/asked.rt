@@ -1,13 +1,14 @@
 //! What the head of a request asks for, and who asks.
 ghost use Rattle.std.specs.Prelude.{◌≡◌, Some, option_map};
 ghost use Rattle.http_messages.specs.Fields.{values_of};
-ghost use Rattle.hub_http.specs.Routes.{shown};
 ghost use Rattle.hub_http.specs.Asked as spec;
-ghost use Rattle.hub_http.specs.Wording.{asker_as, asked_or_refused};
+ghost use Rattle.hub_http.specs.Parts.{part_in, parts, party};
+ghost use Rattle.hub_http.specs.Wording.{asked_or_refused};
 
+use crate::parts::{part_in, party_in};
+use crate::paths::Paths;
 use crate::refusal::Refusal;
-use crate::routes::{Paths, Routed};
-use crate::sought::{Sought, sought_at};
+use crate::route::Route;
 use edi_base::{are_digits, value_of};
 use edi_tokens::TEXT_LIMIT;
 use gs1_ids::Gln;
@@ -21,18 +22,14 @@ const LONGEST_BODY: u32 = TEXT_LIMIT as u32;
 /// How many digits a length has at most: as many as there is room for in a head.
 const LONGEST_LENGTH: usize = LONGEST_HEAD;
 
-/// Who asks, known by its own key.
+/// What is asked for, and by whom, known by its own key.
 #[derive(Clone, Copy)]
-pub(crate) struct Asker<'h> {
-    pub role: Role,
-    pub gln: Gln,
-    pub key: &'h [u8],
-}
-
-/// What is asked for, and by whom.
-#[derive(Clone, Copy)]
-pub(crate) struct Asking<'h> {
-    pub sought: Sought,
+pub(crate) struct Asked<'h> {
+    pub route: Route,
+    /// What stands in the path for `{n}` or `{supplier}`, where the route has it.
+    pub part: &'h [u8],
+    /// The number that stands for `{n}`; 0 where the route has none.
+    pub number: u64,
     pub gln: Gln,
     pub key: &'h [u8],
     /// How many bytes the body has.
@@ -62,35 +59,14 @@ fn has_query(target: &str) -> bool
     target.as_bytes().iter().any(|byte| *byte == b'?')
 }
 
-// The place that a target names.
-fn place_in<'h>(paths: &Paths, target: &'h str) -> Option<Routed<'h>>
-    ensures { option_map shown result ≡ spec.place_in target.now }
+// The route that a target takes.
+fn route_in(paths: &Paths, target: &str) -> Option<Route>
+    ensures { option_map (λ route. (route, parts route target.now)) result ≡ spec.route_in target.now }
 {
     if has_query(target) {
         return None;
     }
-    paths.place_of(target)
-}
-
-// Who asks, where the register has this GLN with this key.
-fn asker_by<'h, S: Store>(hub: &Hub<S>, party: &[u8], key: &'h [u8]) -> Option<Asker<'h>>
-    ensures { option_map asker_as result ≡ spec.asker_by hub.now.0 party.now key.now }
-{
-    hub.has_a_right_register();
-    let gln = Gln::parse(party)?;
-    let role = hub.role(&gln, key)?;
-    Some(Asker { role, gln, key })
-}
-
-// Who asks: the party that the path names, with the one key of the head.
-fn asker_of<'h, S: Store>(hub: &Hub<S>, routed: Routed<'_>, head: &'h Head) -> Option<Asker<'h>>
-    ensures { option_map asker_as result ≡ spec.asker_of hub.now.0 (shown routed.entry).1
-        (values_of spec.key_field head.now.fields) }
-{
-    match head.values(b"X-Hub-Key") {
-        Values::One(key) => asker_by(hub, routed.party, key),
-        _ => None,
-    }
+    paths.route_of(target)
 }
 
 // How many bytes a body has, by the value of its length.
@@ -128,83 +104,104 @@ fn posted(head: &Head) -> Result<usize, Refusal>
 }
 
 // How many bytes of a body are looked at: of a GET none.
-fn size_of(sought: &Sought, head: &Head) -> Result<usize, Refusal>
-    ensures { result ≡ spec.size_of sought.now head.now.fields }
+fn size_of(route: Route, head: &Head) -> Result<usize, Refusal>
+    ensures { result ≡ spec.size_of route head.now.fields }
 {
-    if sought.is_post() {
-        posted(head)
-    } else {
-        Ok(0)
-    }
+    if route.is_post() { posted(head) } else { Ok(0) }
 }
 
 // What is asked for, where who asks is known: its side may ask for it, and the length of the body is right.
-fn by_asker<'h>(
-    sought: Sought,
-    head: &Head,
-    role: Role,
+fn by_role<'h>(
+    head: &'h Head,
+    route: Route,
+    number: u64,
     gln: Gln,
     key: &'h [u8],
-) -> Result<Asking<'h>, Refusal>
-    ensures { asked_or_refused result ≡ spec.by_asker sought head.now.fields (Some (spec.asker role gln key.now)) }
+    role: Role,
+) -> Result<Asked<'h>, Refusal>
+    ensures { asked_or_refused result
+        ≡ spec.by_role head.now route gln (part_in route head.now.target) number key.now (Some role) }
 {
-    if !sought.is_for(role) {
+    if !route.is_for(role) {
         return Err(Refusal::Denied);
     }
-    let size = size_of(&sought, head)?;
-    Ok(Asking {
-        sought,
+    let size = size_of(route, head)?;
+    let part = part_in(route, head.target());
+    Ok(Asked {
+        route,
+        part,
+        number,
         gln,
         key,
         size,
     })
 }
 
-// What is asked for, with the party that the path names.
+// What is asked for with this key by the party that the path names.
 fn by_party<'h, S: Store>(
     hub: &Hub<S>,
-    routed: Routed<'_>,
-    sought: Sought,
     head: &'h Head,
-) -> Result<Asking<'h>, Refusal>
-    ensures { asked_or_refused result ≡ spec.by_party hub.now.0 head.now (shown routed.entry).1 sought }
+    route: Route,
+    number: u64,
+    key: &'h [u8],
+) -> Result<Asked<'h>, Refusal>
+    ensures { asked_or_refused result
+        ≡ spec.by_party hub.now.0 head.now route (party head.now.target) (part_in route head.now.target) number key.now }
 {
-    match asker_of(hub, routed, head) {
-        Some(asker) => by_asker(sought, head, asker.role, asker.gln, asker.key),
+    hub.has_a_right_register();
+    let Some(gln) = Gln::parse(party_in(head.target())) else {
+        return Err(Refusal::Denied);
+    };
+    match hub.role(&gln, key) {
+        Some(role) => by_role(head, route, number, gln, key, role),
         None => Err(Refusal::Denied),
     }
 }
 
-// What is asked for, where the path names a place.
-fn at_place<'h, S: Store>(
+// What is asked for with the one key of the head.
+fn by_key<'h, S: Store>(
     hub: &Hub<S>,
-    routed: Routed<'_>,
     head: &'h Head,
-) -> Result<Asking<'h>, Refusal>
-    ensures { asked_or_refused result ≡ spec.at_place hub.now.0 head.now (Some (shown routed.entry)) }
+    route: Route,
+    number: u64,
+) -> Result<Asked<'h>, Refusal>
+    ensures { asked_or_refused result
+        ≡ spec.by_keys hub.now.0 head.now route (party head.now.target) (part_in route head.now.target) number
+        (values_of spec.key_field head.now.fields) }
 {
-    let Some(sought) = sought_at(routed) else {
+    match head.values(b"X-Hub-Key") {
+        Values::One(key) => by_party(hub, head, route, number, key),
+        _ => Err(Refusal::Denied),
+    }
+}
+
+// What is asked for, where the path takes a route.
+fn by_route<'h, S: Store>(hub: &Hub<S>, head: &'h Head, route: Route) -> Result<Asked<'h>, Refusal>
+    ensures { asked_or_refused result
+        ≡ spec.by_route hub.now.0 head.now route (party head.now.target) (part_in route head.now.target) }
+{
+    let Some(number) = route.number(part_in(route, head.target())) else {
         return Err(Refusal::Unknown);
     };
-    if head.method() != sought.method() {
+    if head.method() != route.method() {
         return Err(Refusal::Method);
     }
-    by_party(hub, routed, sought, head)
+    by_key(hub, head, route, number)
 }
 
 /// What a head asks for, and who asks; or why it is refused. Takes no memory.
-pub(crate) fn asking_of<'h, S: Store>(
+pub(crate) fn asked_of<'h, S: Store>(
     paths: &Paths,
     hub: &Hub<S>,
     head: &'h Head,
-) -> Result<Asking<'h>, Refusal>
+) -> Result<Asked<'h>, Refusal>
     ensures { asked_or_refused result ≡ spec.asked_by hub.now.0 head.now }
 {
     if !is_single(head) {
         return Err(Refusal::BadRequest);
     }
-    match place_in(paths, head.target()) {
+    match route_in(paths, head.target()) {
         None => Err(Refusal::Unknown),
-        Some(routed) => at_place(hub, routed, head),
+        Some(route) => by_route(hub, head, route),
     }
 }

@@ -4,12 +4,14 @@
 mod answer;
 mod asked;
 mod parts;
+mod paths;
 mod question;
 mod refusal;
-mod routes;
+mod route;
 mod serve;
-mod sought;
 mod upload;
 
-pub use routes::{Paths, Place, Routed};
+pub use parts::{part_in, party_in};
+pub use paths::Paths;
+pub use route::Route;
 pub use serve::{IoFault, Served, serve_one};

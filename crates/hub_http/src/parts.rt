@@ -3,9 +3,8 @@
 ghost use Rattle.std.specs.Prelude.{◌≡◌, ◌≤◌, length};
 ghost use Rattle.matchit.specs.Params.{part_of};
 ghost use Rattle.hub_http.specs.Parts as spec;
-ghost use Rattle.hub_http.specs.Routes.{shown};
 
-use crate::routes::{Place, Routed};
+use crate::route::Route;
 
 // Where the part ends that begins here and stops before the next slash.
 fn to_slash(path: &[u8], at: usize) -> usize
@@ -36,25 +35,29 @@ fn begin(skip: usize, path: &[u8], at: usize) -> usize
     at.max(at.saturating_add(skip).min(path.len()))
 }
 
-/// The place with the parts that its route takes from a path.
-pub(crate) fn with_parts(place: Place, path: &[u8]) -> Routed<'_>
-    ensures { shown result ≡ (place, spec.parts place path.now) }
+/// Who asks: what stands for `{gln}` in a path that takes a route.
+pub fn party_in(path: &str) -> &[u8]
+    ensures { result.now ≡ spec.party path.now }
 {
-    let start = begin(3, path, 0);
-    let end = to_slash(path, start);
-    let part_of_path = match place {
-        Place::MailAfter => Some(part(path, begin(12, path, end), path.len())),
-        Place::MailItem => Some(part(path, begin(11, path, end), path.len())),
-        Place::MailTaken => {
-            let start = begin(11, path, end);
-            Some(part(path, start, to_slash(path, start)))
+    let bytes = path.as_bytes();
+    let start = begin(3, bytes, 0);
+    part(bytes, start, to_slash(bytes, start))
+}
+
+/// What stands for `{n}` or `{supplier}` in a path that takes this route, empty where the route has neither.
+pub fn part_in(route: Route, path: &str) -> &[u8]
+    ensures { result.now ≡ spec.part_in route path.now }
+{
+    let bytes = path.as_bytes();
+    let end = to_slash(bytes, begin(3, bytes, 0));
+    match route {
+        Route::MailAfter => part(bytes, begin(12, bytes, end), bytes.len()),
+        Route::MailItem => part(bytes, begin(11, bytes, end), bytes.len()),
+        Route::MailTaken => {
+            let start = begin(11, bytes, end);
+            part(bytes, start, to_slash(bytes, start))
         }
-        Place::StatusOf => Some(part(path, begin(8, path, end), path.len())),
-        Place::Interchanges | Place::Status | Place::Cancellations => None,
-    };
-    Routed {
-        place,
-        party: part(path, start, end),
-        part: part_of_path,
+        Route::StatusOf => part(bytes, begin(8, bytes, end), bytes.len()),
+        Route::Interchanges | Route::Status | Route::Cancellations => b"",
     }
 }

@@ -2,39 +2,36 @@
 ghost use Rattle.std.specs.Prelude.{◌≡◌, ◌≢◌, None, IfOk, IsOk, OnErr};
 ghost use Rattle.hub_core.specs.Steps.{IsNoJoin};
 ghost use Rattle.hub_http.specs.Question as spec;
-ghost use Rattle.hub_http.specs.Wording.{asking_as, question_or_refused};
+ghost use Rattle.hub_http.specs.Wording.{asked_as};
 ghost use Rattle.hub_texts.specs.Cancel.{cancel_of};
 
-use crate::asked::Asking;
+use crate::asked::Asked;
 use crate::refusal::Refusal;
-use crate::sought::Sought;
+use crate::route::Route;
 use edi_base::{Items, MemoryFault};
 use gs1_ids::Gln;
 use hub_core::{Cancel, Request, read_cancel};
 use std::alloc::Global;
 
-/// Who asks, with which key, and what.
-#[derive(Drop)]
-pub(crate) struct Posed<'h> {
-    pub gln: Gln,
-    pub key: &'h [u8],
-    pub request: Request,
-}
-
 // What is asked, with the cancellation in the body, where one is asked for.
-fn request_for(sought: Sought, body: Items<u8>, cancel: Option<Cancel>) -> Result<Request, Refusal>
-    ensures value { (sought ≡ Sought.Cancel → cancel ≡ cancel_of body) → result ≡ spec.request_for sought body }
+fn request_for(
+    route: Route,
+    part: &[u8],
+    number: u64,
+    body: Items<u8>,
+    cancel: Option<Cancel>,
+) -> Result<Request, Refusal>
+    ensures value { (route ≡ Route.Cancellations → cancel ≡ cancel_of body) → result ≡ spec.request_for route part.now number body }
     ensures no_join { IfOk result IsNoJoin }
 {
-    match sought {
-        Sought::Upload => Ok(Request::Upload(body)),
-        Sought::MailAfter(number) => Ok(Request::MailAfter(number)),
-        Sought::MailItem(number) => Ok(Request::MailItem(number)),
-        Sought::MailTaken(number) => Ok(Request::MailTaken(number)),
-        Sought::Status => Ok(Request::Status),
-        Sought::StatusOf(Some(supplier)) => Ok(Request::StatusOf(supplier)),
-        Sought::StatusOf(None) => Err(Refusal::Unknown),
-        Sought::Cancel => match cancel {
+    match route {
+        Route::Interchanges => Ok(Request::Upload(body)),
+        Route::MailAfter => Ok(Request::MailAfter(number)),
+        Route::MailItem => Ok(Request::MailItem(number)),
+        Route::MailTaken => Ok(Request::MailTaken(number)),
+        Route::Status => Ok(Request::Status),
+        Route::StatusOf => Ok(Request::StatusOf(Gln::parse(part).ok_or(Refusal::Unknown)?)),
+        Route::Cancellations => match cancel {
             Some(cancel) => Ok(Request::Cancel(cancel)),
             None => Err(Refusal::BadRequest),
         },
@@ -42,37 +39,30 @@ fn request_for(sought: Sought, body: Items<u8>, cancel: Option<Cancel>) -> Resul
 }
 
 // The cancellation in a body, where one is asked for.
-fn cancel_in(alloc: Global, sought: Sought, body: &[u8]) -> Result<Option<Cancel>, MemoryFault>
-    ensures value { IfOk result (λ cancel. sought ≡ Sought.Cancel → cancel ≡ cancel_of body.now) }
-    ensures memory { OnErr result ((sought ≡ Sought.Cancel) × (cancel_of body.now ≢ None)) }
+fn cancel_in(alloc: Global, route: Route, body: &[u8]) -> Result<Option<Cancel>, MemoryFault>
+    ensures value { IfOk result (λ cancel. route ≡ Route.Cancellations → cancel ≡ cancel_of body.now) }
+    ensures memory { OnErr result ((route ≡ Route.Cancellations) × (cancel_of body.now ≢ None)) }
 {
-    match sought {
-        Sought::Cancel => read_cancel(alloc, body),
+    match route {
+        Route::Cancellations => read_cancel(alloc, body),
         _ => Ok(None),
     }
 }
 
 /// What is asked of the hub, with the body of the request, or `None` where it is cut; or why nothing is, and that takes
 /// no memory.
-pub(crate) fn question_of<'h>(
+pub(crate) fn request_of(
     alloc: Global,
-    asking: &Asking<'h>,
+    asked: &Asked<'_>,
     body: Option<Items<u8>>,
-) -> Result<Result<Posed<'h>, Refusal>, MemoryFault>
-    ensures value { IfOk result (λ posed. question_or_refused posed ≡ spec.with_body (asking_as asking.now) body) }
-    ensures memory { OnErr result (IsOk (spec.with_body (asking_as asking.now) body)) }
-    ensures no_join { IfOk result (λ posed. IfOk posed (λ posed. IsNoJoin posed.request)) }
+) -> Result<Result<Request, Refusal>, MemoryFault>
+    ensures value { IfOk result (λ request. request ≡ spec.request_with (asked_as asked.now) body) }
+    ensures memory { OnErr result (IsOk (spec.request_with (asked_as asked.now) body)) }
+    ensures no_join { IfOk result (λ request. IfOk request IsNoJoin) }
 {
     let Some(body) = body else {
         return Ok(Err(Refusal::BadRequest));
     };
-    let cancel = cancel_in(alloc, asking.sought, body.as_slice())?;
-    match request_for(asking.sought, body, cancel) {
-        Ok(request) => Ok(Ok(Posed {
-            gln: asking.gln,
-            key: asking.key,
-            request,
-        })),
-        Err(refusal) => Ok(Err(refusal)),
-    }
+    let cancel = cancel_in(alloc, asked.route, body.as_slice())?;
+    Ok(request_for(asked.route, asked.part, asked.number, body, cancel))
 }

@@ -4,12 +4,13 @@ ghost use Rattle.edi_base.specs.Buffer.{Flags};
 ghost use Rattle.edi_base.specs.Source.{TakesAtMost};
 ghost use Rattle.http_messages.specs.Head.{longest_head};
 ghost use Rattle.http_messages.specs.Response.{Writes};
-ghost use Rattle.hub_http.specs.Answer.{AnswersOne, OneStep, ReadsWithin, StaysSound, Steps};
+ghost use Rattle.hub_core.specs.Hub.{StaysSound};
+ghost use Rattle.hub_http.specs.Answer.{AnswersOne, OneStep, ReadsWithin, Steps};
 ghost use Rattle.hub_http.specs.Asked.{longest_body};
 ghost use Rattle.hub_http.specs.Serve as spec;
 
 use crate::answer::{Answer, Text, answer_one};
-use crate::routes::Paths;
+use crate::paths::Paths;
 use edi_base::{Sink, Source, WriteFault};
 use edi_envelope::Moment;
 use http_messages::write_response;

@@ -21,6 +21,7 @@ use Rattle.hub_tables.specs.declared.change.Change.TheVariants.{SetLine, AddAdvi
 use Rattle.hub_tables.specs.declared.rows.ContentRow.{ContentRow}
 use Rattle.hub_tables.specs.declared.rows.LineRow.{LineRow}
 use Rattle.hub_tables.specs.declared.rows.PalletRow.{PalletRow}
+use Rattle.hub_tables.proofs.Founding.{applied_in_turn}
 use Rattle.hub_tables.proofs.KeyOrder.{any_put}
 use Rattle.hub_tables.proofs.Lists.{all_weaker, all_itself, same_if}
 use Rattle.hub_order_lines.specs.Book.{facts_of, facts_among, with_row, answered_row}
@@ -44,10 +45,6 @@ joined_grouped a b (Accept rest) = ap Accept (append_assoc a b rest)
 joined_none : (v : Verdict) → joined [] v ≡ v
 joined_none (Refuse code) = refl
 joined_none (Accept rest) = refl
-
-applied_in_turn : (a b : List Change) (state : Tables) → apply_all (a ++ b) state ≡ apply_all b (apply_all a state)
-applied_in_turn [] b state = refl
-applied_in_turn (change ∷ a) b state = applied_in_turn a b (apply change state)
 
 -- what follows a list of changes and a verdict follows the verdict, on what the changes left
 grouped : (a : List Change) (v : Verdict) (third : Judge) (state : Tables)

@@ -21,11 +21,11 @@ keeps_all : {X : Type 0} (p : X → Bool) (xs : List X) → AllByRecursion (λ x
 keeps_all p [] all = refl
 keeps_all p (x ∷ xs) all = ap₂ (λ v rest. cond v (x ∷ rest) rest) all.0 (keeps_all p xs all.1)
 
-of_gtins : (P : List ℕ → Type 0) (lines : List ReceiptLine) → AllByRecursion (λ line. P line.gtin) lines
+pub all_gtins : (P : List ℕ → Type 0) (lines : List ReceiptLine) → AllByRecursion (λ line. P line.gtin) lines
     → AllByRecursion P (gtins lines)
-of_gtins P [] all = tt
-of_gtins P (line ∷ lines) all =
-    (all.0, all_filter P (λ gtin. not (same gtin line.gtin)) (gtins lines) (of_gtins P lines all.1))
+all_gtins P [] all = tt
+all_gtins P (line ∷ lines) all =
+    (all.0, all_filter P (λ gtin. not (same gtin line.gtin)) (gtins lines) (all_gtins P lines all.1))
 
 abbrev Comes : List ReceiptLine → List ℕ → Type 0
 Comes lines article = is_some (total_from None article lines) ≡ true
@@ -57,7 +57,7 @@ pub all_left : (totals : List ℕ → Option Total) (lines : List ReceiptLine)
     → ((article : List ℕ) → totals article ≡ total_from None article lines)
     → left totals lines ≡ gtins lines
 all_left totals lines are =
-    keeps_all (λ gtin. is_some (totals gtin)) (gtins lines) (of_gtins (λ gtin. is_some (totals gtin) ≡ true) lines
+    keeps_all (λ gtin. is_some (totals gtin)) (gtins lines) (all_gtins (λ gtin. is_some (totals gtin) ≡ true) lines
     (all_weaker (λ line. Comes lines line.gtin) (λ line. is_some (totals line.gtin) ≡ true)
     (λ line h. ap is_some (are line.gtin) ∙ h) lines (all_come lines)))
 

@@ -33,7 +33,7 @@ status_seen gln t input asked =
     ∙ ap (λ o. report o (view gln t)) (sym (own_row gln t))
 
 -- the replies of a run are those of its inputs, in their order
-reply_at : (t : Tables) (before : Inputs) (input : Input) (mark : Mark) (later : Inputs)
+pub reply_at : (t : Tables) (before : Inputs) (input : Input) (mark : Mark) (later : Inputs)
     → slice_get (shared_run t (before ++ (input, mark) ∷ later)).0 (length before)
     ≡ Some (shared_step (shared_run t before).1 input mark).0
 reply_at t [] input mark later = refl

@@ -16,49 +16,24 @@ use Rattle.hub_tables.specs.declared.cases.MailKind.TheVariants as kinds
 use Rattle.hub_tables.specs.declared.rows.MailRow.{MailRow}
 use Rattle.hub_law.specs.Machine.{Inputs, shared_run}
 use Rattle.hub_law.specs.MailText.{entry_text, list_text}
-use Rattle.hub_law.specs.Mark.{Mark, Whole, StoppedEmpty, StoppedBare, StoppedAfter}
+use Rattle.hub_law.specs.Mark.{Whole, StoppedEmpty, StoppedBare, StoppedAfter}
 use Rattle.hub_law.specs.Opening.{interchange_in}
 use Rattle.hub_law.specs.Replies.{reply, done}
 use Rattle.hub_law.specs.StatusText.{status_text}
-use Rattle.hub_requests.specs.declared.reply.Outcome.TheVariants.{Done, Bad, Denied, Unknown, Stopped}
+use Rattle.hub_requests.specs.declared.reply.Outcome.TheVariants.{Bad, Denied, Unknown, Stopped}
 use Rattle.hub_requests.specs.declared.reply.Reply.{Reply}
-use Rattle.hub_requests.specs.declared.request.Input.{Input}
-use Rattle.hub_requests.specs.declared.request.Request.{Request}
 use Rattle.hub_requests.specs.declared.request.Request.TheVariants as requests
-
-abbrev retailer : List ℕ
-retailer = codes "5412345000013"
+use Rattle.hub_law.proofs.InExamples.{retailer, beta, register_with, by_retailer, by, lines, refused}
 
 abbrev alpha : SupplierRow
 alpha = record { gln = codes "4012345500004"; prefixes = codes "40123455" ∷ []; key = codes "alpha-key-1" }
 
-abbrev beta : SupplierRow
-beta = record { gln = codes "8712345000004"; prefixes = codes "8712345" ∷ []; key = codes "beta-key-1" }
-
 abbrev register : RegisterRows
-register = record {
-  hub = codes "5412345000006";
-  retailer = retailer;
-  retailer_key = codes "retail-key";
-  suppliers = alpha ∷ beta ∷ [];
-}
+register = register_with (alpha ∷ beta ∷ [])
 
--- each at 2025-06-03 09:20:00
-abbrev by_retailer : Request → Input × Mark
-by_retailer request = (record { moment = 1_748_942_400; caller = retailer; key = codes "retail-key"; request = request }, Whole)
-
-abbrev by : SupplierRow → Request → Input × Mark
-by s request = (record { moment = 1_748_942_400; caller = s.gln; key = s.key; request = request }, Whole)
-
--- lines, each ended by LF, and by CR LF
-abbrev lines : List (List ℕ) → List ℕ
-lines texts = flat_map (λ text. text ++ 0x0A ∷ []) texts
-
+-- segments, each ended by CR LF
 abbrev spelled : List (List ℕ) → List ℕ
 spelled segments = flat_map (λ text. text ++ 0x0D ∷ 0x0A ∷ []) segments
-
-abbrev refused : List (List ℕ) → Reply
-refused texts = record { outcome = Done; refused = true; body = lines texts }
 
 abbrev bad : List ℕ → Reply
 bad code = record { outcome = Bad; refused = true; body = lines ((codes "refused " ++ code) ∷ []) }

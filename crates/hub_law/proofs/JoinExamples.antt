@@ -1,7 +1,6 @@
 -- The hub's machine at joins: what is replied to each input, byte by byte.
-use Rattle.std.proofs.Common.{◌≡◌, ℕ, true, List, [], ◌∷◌, ◌++◌, Some, codes, refl}
+use Rattle.std.proofs.Common.{◌≡◌, ℕ, List, [], ◌∷◌, ◌++◌, Some, codes, refl}
 use Rattle.std.specs.Fmt.{digits}
-use Rattle.std.specs.List.{flat_map}
 use Rattle.edi_envelope.specs.Interchange.{interchange_of, fault_of, contents_of, is_framed, is_row_of_messages, is_outside_set}
 use Rattle.edi_orders.specs.Order.{order_of}
 use Rattle.edi_orders.specs.Response.{response_of}
@@ -13,21 +12,14 @@ use Rattle.hub_tables.specs.Register.{founded, row_at}
 use Rattle.hub_tables.specs.Tables.{Tables, view}
 use Rattle.hub_law.specs.Alone.{items, Joined}
 use Rattle.hub_law.specs.Machine.{Inputs, shared_run}
-use Rattle.hub_law.specs.Mark.{Mark, Whole, StoppedEmpty, StoppedBare, StoppedAfter}
+use Rattle.hub_law.specs.Mark.{Whole, StoppedEmpty, StoppedBare, StoppedAfter}
 use Rattle.hub_law.specs.Opening.{interchange_in}
 use Rattle.hub_law.specs.Replies.{reply, done}
 use Rattle.hub_law.specs.StatusText.{status_text}
-use Rattle.hub_requests.specs.declared.reply.Outcome.TheVariants.{Done, Denied, Unknown, Stopped}
+use Rattle.hub_requests.specs.declared.reply.Outcome.TheVariants.{Denied, Unknown, Stopped}
 use Rattle.hub_requests.specs.declared.reply.Reply.{Reply}
-use Rattle.hub_requests.specs.declared.request.Input.{Input}
-use Rattle.hub_requests.specs.declared.request.Request.{Request}
 use Rattle.hub_requests.specs.declared.request.Request.TheVariants as requests
-
-abbrev retailer : List ℕ
-retailer = codes "5412345000013"
-
-abbrev beta : SupplierRow
-beta = record { gln = codes "8712345000004"; prefixes = codes "8712345" ∷ []; key = codes "beta-key-1" }
+use Rattle.hub_law.proofs.InExamples.{retailer, beta, register_with, asked, by_retailer, by, lines, refused}
 
 abbrev gamma : SupplierRow
 gamma = record {
@@ -41,27 +33,7 @@ abbrev delta : List (List ℕ) → SupplierRow
 delta prefixes = record { gln = codes "4012345500004"; prefixes = prefixes; key = codes "delta-key-1" }
 
 abbrev register : RegisterRows
-register = record {
-  hub = codes "5412345000006";
-  retailer = retailer;
-  retailer_key = codes "retail-key";
-  suppliers = beta ∷ [];
-}
-
-abbrev asked : Mark → List ℕ → List ℕ → Request → Input × Mark
-asked mark caller key request = (record { moment = 1_748_942_400; caller = caller; key = key; request = request }, mark)
-
-abbrev by_retailer : Request → Input × Mark
-by_retailer = asked Whole retailer (codes "retail-key")
-
-abbrev by : SupplierRow → Request → Input × Mark
-by s = asked Whole s.gln s.key
-
-abbrev lines : List (List ℕ) → List ℕ
-lines texts = flat_map (λ text. text ++ 0x0A ∷ []) texts
-
-abbrev refused : List (List ℕ) → Reply
-refused texts = record { outcome = Done; refused = true; body = lines texts }
+register = register_with (beta ∷ [])
 
 abbrev denied_line : Reply
 denied_line = reply Denied (lines (codes "denied" ∷ []))

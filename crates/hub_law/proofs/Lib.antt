@@ -6,6 +6,7 @@ pub mod Callers
 pub mod Cutting
 mod Examples
 pub mod Going
+mod InExamples
 mod JoinExamples
 pub mod JoinsApart
 pub mod Judged

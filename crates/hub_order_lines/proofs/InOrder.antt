@@ -31,7 +31,7 @@ from_point p [] n bound point = omega arith
 from_point p (x ∷ xs) n bound point =
     sym (prefix_len_is p (x ∷ xs) n x bound (λ k l. point.0 k x (omega arith) l) (λ l. point.1 n x (omega arith) l))
 
-less_is : (o : Ordering) → is_lt o ≡ true → o ≡ Less
+pub less_is : (o : Ordering) → is_lt o ≡ true → o ≡ Less
 less_is Less h = refl
 less_is Equal h = cc
 less_is Greater h = cc

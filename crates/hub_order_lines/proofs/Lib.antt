@@ -4,6 +4,7 @@ pub mod FirstLine
 pub mod InOrder
 pub mod IndexArticles
 pub mod ArticleLines
+pub mod Moved
 pub mod Passing
 pub mod StepsUp
 pub mod SetLine

@@ -1,9 +1,8 @@
 -- Lines of which each is below the next rise.
-use Rattle.std.proofs.Common.{◌≡◌, true, List, [], ◌∷◌, Some, None, refl, sym, subst}
+use Rattle.std.proofs.Common.{◌≡◌, true, List, [], ◌∷◌, Some, None, sym, subst}
 use Rattle.std.specs.List.{AllByRecursion}
 use Rattle.std.specs.Cmp.{IsTotalOrder}
-use Rattle.std.specs.declared.cmp.Ordering.{Ordering}
-use Rattle.std.specs.declared.cmp.Ordering.TheVariants.{Less, Equal, Greater}
+use Rattle.std.specs.declared.cmp.Ordering.TheVariants.{Less}
 use Rattle.std.specs.Ordering.{is_lt}
 use Rattle.std.proofs.lemmas.Bool.{and_parts}
 use Rattle.std.proofs.lemmas.Cmp.{on_total, then_total, nat_cmp_total, nat_list_cmp_total}
@@ -13,14 +12,10 @@ use Rattle.hub_tables.specs.declared.rows.LineRow.{LineRow}
 use Rattle.hub_order_lines.specs.Book.{facts_cmp, place_cmp, rows}
 use Rattle.hub_order_lines.specs.KnownLines.{steps_up}
 use Rattle.hub_order_lines.specs.declared.facts.LineFacts.{LineFacts}
+use Rattle.hub_order_lines.proofs.InOrder.{less_is}
 
 place_total : IsTotalOrder place_cmp
 place_total = then_total (on_total (λ line. line.number) nat_list_cmp_total) (on_total (λ line. line.line) nat_cmp_total)
-
-less_is : (o : Ordering) → is_lt o ≡ true → o ≡ Less
-less_is Less h = refl
-less_is Equal h = cc
-less_is Greater h = cc
 
 all_above : (before : LineRow) (lines : List LineRow)
     → steps_up (Some before) lines ≡ true

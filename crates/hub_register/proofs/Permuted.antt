@@ -19,7 +19,7 @@ use Rattle.hub_parties.specs.Rows.{RegisterRows, glns, company_prefixes, keys, m
 use Rattle.hub_parties.specs.declared.row.SupplierRow.{SupplierRow}
 use Rattle.hub_register.specs.Document.{rows_of_text}
 use Rattle.hub_register.specs.Fault.{fault_of}
-use Rattle.hub_register.specs.Register.{register_of_rows, judged, HasRows, RegisterHasItsRows}
+use Rattle.hub_register.specs.Register.{register_of_rows, unless_faulty, HasRows, RegisterHasItsRows}
 use Rattle.hub_register.specs.InOrder.{put, put_all, with_sorted_prefixes, in_gln_order}
 use Rattle.hub_register.specs.declared.fault.RegisterFault.{RegisterFault}
 use Rattle.hub_register.specs.declared.fault.RegisterFault.TheVariants.{Many, Gln, Twice, Prefix, Key, Overlap}
@@ -91,7 +91,7 @@ ordered rows once =
 
 by_fault : (rows register : RegisterRows) (fault : Option RegisterFault)
     → fault_of rows ≡ fault
-    → judged rows fault ≡ Ok register
+    → unless_faulty rows fault ≡ Ok register
     → HasRows rows register
 by_fault rows register None right e =
     let same : in_gln_order rows ≡ register = cc in

@@ -11,7 +11,7 @@ use Rattle.hub_parties.specs.Rows.{RegisterRows, company_prefixes, glns, keys, m
 use Rattle.hub_register.specs.Document.{rows_of_text}
 use Rattle.hub_register.specs.Fault.{fault_of}
 use Rattle.hub_register.specs.InOrder.{in_gln_order, with_sorted_prefixes}
-use Rattle.hub_register.specs.Register.{judged, register_of_rows, RegisterIsPrefixFree}
+use Rattle.hub_register.specs.Register.{unless_faulty, register_of_rows, RegisterOfTextIsPrefixFree}
 use Rattle.hub_register.specs.declared.fault.RegisterFault.{RegisterFault}
 use Rattle.hub_register.specs.declared.fault.RegisterFault.TheVariants.{Many, Gln, Twice, Prefix, Key, Overlap}
 use Rattle.hub_register.proofs.Right.{free_in_order}
@@ -42,7 +42,7 @@ none_overlaps rows right =
 
 by_fault : (rows register : RegisterRows) (fault : Option RegisterFault)
     → fault_of rows ≡ fault
-    → judged rows fault ≡ Ok register
+    → unless_faulty rows fault ≡ Ok register
     → PrefixFree (company_prefixes register.suppliers)
 by_fault rows register None right h =
     let same : in_gln_order rows ≡ register = cc in
@@ -56,5 +56,5 @@ by_rows : (register : RegisterRows) (read : Option RegisterRows)
 by_rows register None h = cc
 by_rows register (Some rows) h = by_fault rows register (fault_of rows) refl h
 
-pub is_prefix_free : RegisterIsPrefixFree
+pub is_prefix_free : RegisterOfTextIsPrefixFree
 is_prefix_free text register h = by_rows register (rows_of_text text) h

@@ -9,13 +9,13 @@ use Rattle.hub_register.specs.declared.fault.RegisterFault.{RegisterFault}
 use Rattle.hub_register.specs.declared.fault.RegisterFault.TheVariants.{Text}
 
 -- the register of rows, its suppliers in the order of their GLNs, or their fault
-abbrev pub judged : RegisterRows → Option RegisterFault → Result RegisterRows RegisterFault
-judged rows None = Ok (in_gln_order rows)
-judged rows (Some fault) = Err fault
+abbrev pub unless_faulty : RegisterRows → Option RegisterFault → Result RegisterRows RegisterFault
+unless_faulty rows None = Ok (in_gln_order rows)
+unless_faulty rows (Some fault) = Err fault
 
 abbrev pub register_of_rows : Option RegisterRows → Result RegisterRows RegisterFault
 register_of_rows None = Err Text
-register_of_rows (Some rows) = judged rows (fault_of rows)
+register_of_rows (Some rows) = unless_faulty rows (fault_of rows)
 
 -- the register that a text writes, or the fault of the text
 abbrev pub register_of : List ℕ → Result RegisterRows RegisterFault
@@ -35,6 +35,6 @@ RegisterHasItsRows = (text : List ℕ) (register : RegisterRows) → register_of
     → (rows : RegisterRows) × (rows_of_text text ≡ Some rows) × HasRows rows register
 
 -- in the register of a text no prefix of one supplier begins a prefix of another
-abbrev pub RegisterIsPrefixFree : Type 0
-RegisterIsPrefixFree = (text : List ℕ) (register : RegisterRows) → register_of text ≡ Ok register
+abbrev pub RegisterOfTextIsPrefixFree : Type 0
+RegisterOfTextIsPrefixFree = (text : List ℕ) (register : RegisterRows) → register_of text ≡ Ok register
     → PrefixFree (company_prefixes register.suppliers)

@@ -13,4 +13,4 @@ mod rows;
 
 pub use fault::RegisterFault;
 pub use hub_parties::{CompanyPrefixes, Key, Role, SupplierRow};
-pub use register::{Register, register_has_its_rows, register_is_prefix_free};
+pub use register::{Register, register_has_its_rows, register_of_text_is_prefix_free};

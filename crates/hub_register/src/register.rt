@@ -1,6 +1,6 @@
 ghost use Rattle.toml.specs.Parse.{parse_document};
 ghost use Rattle.toml.specs.View.{table_view};
-ghost use Rattle.std.specs.Prelude.{◌≡◌, ◌≢◌, ◌+◌, ◌∷◌, [], true, false, nat_lt, nat_le, IfOk, IfErr, OnOk};
+ghost use Rattle.std.specs.Prelude.{◌≡◌, ◌≢◌, ◌+◌, true, false, nat_lt, nat_le, IfOk, IfErr, OnOk};
 ghost use Rattle.std.specs.Prelude.{OnErr, Ok, Err, Some, None, length, map, option_map, option_copied};
 ghost use Rattle.std.specs.BTreeMap.{keys, values};
 ghost use Rattle.std.specs.List.{list_all, list_any};
@@ -15,7 +15,7 @@ ghost use Rattle.hub_register.specs.Fault.{fault_of};
 ghost use Rattle.hub_register.specs.Joined.{joined_by, left_by};
 ghost use Rattle.hub_register.specs.Kept as kept;
 ghost use Rattle.hub_register.specs.declared.fault.RegisterFault.TheVariants.{Overlap};
-ghost use Rattle.hub_register.specs.Register.{register_of, register_of_rows, RegisterHasItsRows, RegisterIsPrefixFree};
+ghost use Rattle.hub_register.specs.Register.{register_of, register_of_rows, RegisterHasItsRows, RegisterOfTextIsPrefixFree};
 
 use crate::columns;
 use crate::document::Document;
@@ -117,7 +117,7 @@ fn overlap_in(suppliers: &[CompanyPrefixes]) -> Option<RegisterFault>
 }
 
 // The register of what a text says.
-fn judge(alloc: Global, document: &Document<'_>) -> Result<Register, RegisterFault>
+fn register_of_document(alloc: Global, document: &Document<'_>) -> Result<Register, RegisterFault>
     ensures ok { IfOk result (λ register. register_of_rows (Some (rows_from document.now)) ≡ Ok register) }
     ensures err { IfErr result (λ fault. fault ≢ RegisterFault.Memory → register_of_rows (Some (rows_from document.now)) ≡ Err fault) }
     ensures register { IfOk result IsRegister }
@@ -172,7 +172,7 @@ impl Register {
     {
         let table = table_of(alloc, text)?;
         let document = Document::read(alloc, &table)?;
-        judge(alloc, &document)
+        register_of_document(alloc, &document)
     }
 
     /// The register of these rows, the suppliers as they stand; `None` exactly where they are those of no register.
@@ -317,6 +317,6 @@ pub fn register_has_its_rows()
 {}
 
 /// In the register of a text no prefix of one supplier begins a prefix of another.
-pub fn register_is_prefix_free()
-    ensures { RegisterIsPrefixFree }
+pub fn register_of_text_is_prefix_free()
+    ensures { RegisterOfTextIsPrefixFree }
 {}

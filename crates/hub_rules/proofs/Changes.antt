@@ -1,7 +1,7 @@
 -- What a change of one supplier's rows does to what each supplier sees.
-use Rattle.std.proofs.Common.{◌≡◌, ◌≢◌, ℕ, true, false, not, ◌&&◌, ◌||◌, ◌==◌, inl, inr, List, [], ◌∷◌, filter, Some, refl, sym}
+use Rattle.std.proofs.Common.{◌≡◌, ◌≢◌, ℕ, true, false, not, ◌&&◌, ◌==◌, inl, inr, List, [], ◌∷◌, filter, Some, refl, sym}
 use Rattle.std.proofs.Common.{◌∙◌, ap, subst, arith}
-use Rattle.std.specs.List.{AllByRecursion, list_any}
+use Rattle.std.specs.List.{AllByRecursion}
 use Rattle.std.proofs.lemmas.Bool.{and_parts}
 use Rattle.std.proofs.lemmas.Bool.Decides.{nat_tests}
 use Rattle.gs1_ids.specs.Sscc.{under_some}
@@ -21,13 +21,14 @@ use Rattle.hub_tables.specs.declared.rows.LineRow.{LineRow}
 use Rattle.hub_tables.specs.declared.rows.PalletRow.{PalletRow}
 use Rattle.hub_tables.specs.declared.rows.MailRow.{MailRow}
 use Rattle.hub_tables.proofs.Lists.{decide, same_is, same_if, differ, filter_alike, filter_replace, filter_replace_out}
-use Rattle.hub_tables.proofs.Lists.{all_filter, all_replace, all_weaker, all_always}
+use Rattle.hub_tables.proofs.Lists.{all_replace, all_weaker, all_always}
 use Rattle.hub_tables.proofs.KeyOrder.{all_put, any_put, filter_put_in, filter_put_out}
 use Rattle.hub_tables.proofs.KindOrders.{order_total, line_total, advice_total, pallet_total, content_total, receipt_total}
 use Rattle.hub_tables.proofs.KindOrders.{remembered_total, mail_total, ordered_after}
 use Rattle.hub_rules.specs.Laws.{PartiesStay}
 use Rattle.hub_rules.specs.Sound.{IsRooted, Rooted}
 use Rattle.hub_rules.proofs.Belonging.{Belongs, BelongAll, Follows}
+use Rattle.hub_rules.proofs.OnPallets.{OnPallet, contents_after, receipts_after}
 use Rattle.hub_rules.proofs.Filters.{filter_again, filter_swap}
 use Rattle.hub_rules.proofs.Prefixes.{ours, under_held, holds_seen, holds_all, holds_none}
 
@@ -43,19 +44,6 @@ holds_set other r (p ∷ ps) x all =
           let number : p.sscc ≡ r.sscc = same_is p.sscc r.sscc e in
           let who : p.supplier ≡ r.supplier = all.0 e in
           let head : (same r.supplier other && same r.sscc x) ≡ (same p.supplier other && same p.sscc x) = cc in
-          grind (arith, e, head, ih)
-      | inr e ↦ grind (arith, e, ih)
-    ]
-
-pub has_set : (r : PalletRow) (ps : List PalletRow) (x : List ℕ)
-    → list_any (λ p. same p.sscc x) (replace (same_pallet r) r ps) ≡ list_any (λ p. same p.sscc x) ps
-has_set r [] x = refl
-has_set r (p ∷ ps) x =
-    let ih = has_set r ps x in
-    elim (decide (same p.sscc r.sscc)) [
-      | inl e ↦
-          let number : p.sscc ≡ r.sscc = same_is p.sscc r.sscc e in
-          let head : same r.sscc x ≡ same p.sscc x = cc in
           grind (arith, e, head, ih)
       | inr e ↦ grind (arith, e, ih)
     ]
@@ -250,133 +238,38 @@ module _ (suppliers : List SupplierRow) (free : PrefixFree (company_prefixes sup
       (all_always (λ y. same_mail r y ≡ true → same y.supplier other ≡ false)
       (λ y e. not_theirs y.supplier other ne (key_mail r y e ∙ h)) t.mail))
 
-  grown : (r : PalletRow) (x : List ℕ) → has_pallet t x ≡ true → list_any (λ p. same p.sscc x) (put pallet_cmp r t.pallets) ≡ true
-  grown r x h = any_put pallet_cmp (λ p. same p.sscc x) t.pallets r ∙ ap (λ v. v || list_any (λ p. same p.sscc x) (r ∷ [])) h
-
-  kept_set : (r : PalletRow) (x : List ℕ)
-      → has_pallet t x ≡ true
-      → list_any (λ p. same p.sscc x) (replace (same_pallet r) r t.pallets) ≡ true
-  kept_set r x h = has_set r t.pallets x ∙ h
-
   in_all : (x : List ℕ) → has_pallet (view s.gln t) x ≡ true → has_pallet t x ≡ true
   in_all x h = used_seen x (below_held x h) ∙ h
 
   rooted_row : (r : PalletRow) → r.supplier ≡ s.gln → under_some r.sscc s.prefixes ≡ true → IsRooted suppliers r
   rooted_row r who below = record { supplier = s; known = ap (supplier_row suppliers) who ∙ known; is_under = below }
 
+  on_pallet : (c : Change) → Belongs s (view s.gln t) c → OnPallet t c
+  on_pallet (AddContent r) h = in_all r.sscc h
+  on_pallet (AddReceipt r) h = in_all r.sscc h
+  on_pallet other h = tt
+
+  pallets_rooted : (c : Change) → Belongs s (view s.gln t) c → AllByRecursion (IsRooted suppliers) (apply c t).pallets
+  pallets_rooted (AddPallet r) h = all_put pallet_cmp (IsRooted suppliers) t.pallets r rooted.pallets (rooted_row r h.0 h.1)
+  pallets_rooted (SetPallet r) h =
+      all_replace (IsRooted suppliers) (same_pallet r) r t.pallets rooted.pallets (rooted_row r h.0 (below_held r.sscc h.1))
+  pallets_rooted other h = rooted.pallets
+
   -- and the tables stay rooted
   pub rooted_after : (c : Change) → Belongs s (view s.gln t) c → Rooted suppliers (apply c t)
-  rooted_after (AddHub r) h = absurd h
-  rooted_after (AddKey r) h = absurd h
-  rooted_after (AddPrefix r) h = absurd h
-  rooted_after (AddOrder r) h =
-      record {
-        ordered = ordered_after (AddOrder r) t rooted.ordered;
-        pallets = rooted.pallets;
-        contents = rooted.contents;
-        receipts = rooted.receipts;
-      }
-  rooted_after (AddLine r) h =
-      record {
-        ordered = ordered_after (AddLine r) t rooted.ordered;
-        pallets = rooted.pallets;
-        contents = rooted.contents;
-        receipts = rooted.receipts;
-      }
-  rooted_after (SetLine r) h =
-      record {
-        ordered = ordered_after (SetLine r) t rooted.ordered;
-        pallets = rooted.pallets;
-        contents = rooted.contents;
-        receipts = rooted.receipts;
-      }
-  rooted_after (AddAdvice r) h =
-      record {
-        ordered = ordered_after (AddAdvice r) t rooted.ordered;
-        pallets = rooted.pallets;
-        contents = rooted.contents;
-        receipts = rooted.receipts;
-      }
-  rooted_after (AddPallet r) h = record {
-    ordered = ordered_after (AddPallet r) t rooted.ordered;
-    pallets = all_put pallet_cmp (IsRooted suppliers) t.pallets r rooted.pallets (rooted_row r h.0 h.1);
-    contents =
-        all_weaker (λ c. has_pallet t c.sscc ≡ true) (λ c. has_pallet (apply (AddPallet r) t) c.sscc ≡ true)
-        (λ c there. grown r c.sscc there) t.contents rooted.contents;
-    receipts =
-        all_weaker (λ c. has_pallet t c.sscc ≡ true) (λ c. has_pallet (apply (AddPallet r) t) c.sscc ≡ true)
-        (λ c there. grown r c.sscc there) t.receipts rooted.receipts;
+  rooted_after c h = record {
+    ordered = ordered_after c t rooted.ordered;
+    pallets = pallets_rooted c h;
+    contents = contents_after t c (on_pallet c h) rooted.contents;
+    receipts = receipts_after t c (on_pallet c h) rooted.receipts;
   }
-  rooted_after (SetPallet r) h = record {
-    ordered = ordered_after (SetPallet r) t rooted.ordered;
-    pallets = all_replace (IsRooted suppliers) (same_pallet r) r t.pallets rooted.pallets (rooted_row r h.0 (below_held r.sscc h.1));
-    contents =
-        all_weaker (λ c. has_pallet t c.sscc ≡ true) (λ c. has_pallet (apply (SetPallet r) t) c.sscc ≡ true)
-        (λ c there. kept_set r c.sscc there) t.contents rooted.contents;
-    receipts =
-        all_weaker (λ c. has_pallet t c.sscc ≡ true) (λ c. has_pallet (apply (SetPallet r) t) c.sscc ≡ true)
-        (λ c there. kept_set r c.sscc there) t.receipts rooted.receipts;
-  }
-  rooted_after (AddContent r) h =
-      record {
-        ordered = ordered_after (AddContent r) t rooted.ordered;
-        pallets = rooted.pallets;
-        contents = all_put content_cmp (λ c. has_pallet t c.sscc ≡ true) t.contents r rooted.contents (in_all r.sscc h);
-        receipts = rooted.receipts;
-      }
-  rooted_after (AddReceipt r) h =
-      record {
-        ordered = ordered_after (AddReceipt r) t rooted.ordered;
-        pallets = rooted.pallets;
-        contents = rooted.contents;
-        receipts = all_put receipt_cmp (λ c. has_pallet t c.sscc ≡ true) t.receipts r rooted.receipts (in_all r.sscc h);
-      }
-  rooted_after (ClearReceipts sscc) h =
-      record {
-        ordered = ordered_after (ClearReceipts sscc) t rooted.ordered;
-        pallets = rooted.pallets;
-        contents = rooted.contents;
-        receipts = all_filter (λ c. has_pallet t c.sscc ≡ true) (λ c. not (same c.sscc sscc)) t.receipts rooted.receipts;
-      }
-  rooted_after (Remember r) h =
-      record {
-        ordered = ordered_after (Remember r) t rooted.ordered;
-        pallets = rooted.pallets;
-        contents = rooted.contents;
-        receipts = rooted.receipts;
-      }
-  rooted_after (AddMail r) h =
-      record {
-        ordered = ordered_after (AddMail r) t rooted.ordered;
-        pallets = rooted.pallets;
-        contents = rooted.contents;
-        receipts = rooted.receipts;
-      }
-  rooted_after (SetMail r) h =
-      record {
-        ordered = ordered_after (SetMail r) t rooted.ordered;
-        pallets = rooted.pallets;
-        contents = rooted.contents;
-        receipts = rooted.receipts;
-      }
 
 -- nothing of the register is changed
 pub parties_stay : (s : SupplierRow) (state t : Tables) (c : Change) → Belongs s state c → PartiesStay t (apply c t)
 parties_stay s state t (AddHub r) h = absurd h
 parties_stay s state t (AddKey r) h = absurd h
 parties_stay s state t (AddPrefix r) h = absurd h
-parties_stay s state t (AddOrder r) h = record { hubs = refl; keys = refl; prefixes = refl }
-parties_stay s state t (AddLine r) h = record { hubs = refl; keys = refl; prefixes = refl }
-parties_stay s state t (SetLine r) h = record { hubs = refl; keys = refl; prefixes = refl }
-parties_stay s state t (AddAdvice r) h = record { hubs = refl; keys = refl; prefixes = refl }
-parties_stay s state t (AddPallet r) h = record { hubs = refl; keys = refl; prefixes = refl }
-parties_stay s state t (SetPallet r) h = record { hubs = refl; keys = refl; prefixes = refl }
-parties_stay s state t (AddContent r) h = record { hubs = refl; keys = refl; prefixes = refl }
-parties_stay s state t (AddReceipt r) h = record { hubs = refl; keys = refl; prefixes = refl }
-parties_stay s state t (ClearReceipts sscc) h = record { hubs = refl; keys = refl; prefixes = refl }
-parties_stay s state t (Remember r) h = record { hubs = refl; keys = refl; prefixes = refl }
-parties_stay s state t (AddMail r) h = record { hubs = refl; keys = refl; prefixes = refl }
-parties_stay s state t (SetMail r) h = record { hubs = refl; keys = refl; prefixes = refl }
+parties_stay s state t other h = record { hubs = refl; keys = refl; prefixes = refl }
 
 module _ (suppliers : List SupplierRow) (free : PrefixFree (company_prefixes suppliers)) (s : SupplierRow)
     (known : supplier_row suppliers s.gln ≡ Some s) where

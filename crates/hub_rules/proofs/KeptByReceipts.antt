@@ -36,7 +36,7 @@ use Rattle.hub_rules.proofs.GoodRows.{good_after, leaves_good}
 use Rattle.hub_rules.proofs.Keeping.{kept_received, kept_receipt, kept_mail}
 use Rattle.hub_rules.proofs.KeptByMessages.{leads_message}
 use Rattle.hub_rules.proofs.KeptLists.{is_received, received_now, found_unreceived}
-use Rattle.hub_rules.proofs.Owned.{pallet_stays}
+use Rattle.hub_rules.proofs.OnPallets.{pallet_stays}
 use Rattle.hub_rules.proofs.Verdicts.{not_refused, was_given, Leaves, Leads, leaves_given, leaves_nothing, leaves_next}
 use Rattle.hub_rules.proofs.Verdicts.{leads_in_order, leaves_in_turn}
 

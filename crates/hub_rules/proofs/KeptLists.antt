@@ -8,7 +8,8 @@ use Rattle.std.specs.declared.cmp.Ordering.TheVariants.{Equal}
 use Rattle.std.proofs.lemmas.Bool.{and_parts, or_parts, or_cases, or_left, or_right}
 use Rattle.std.proofs.lemmas.Bool.Decides.{nat_tests}
 use Rattle.std.proofs.lemmas.Cmp.{tied_itself, nat_list_cmp_total}
-use Rattle.edi_base.proofs.Twice.{bytes_eq-sym}
+use Rattle.std.specs.Cmp.{IsTotalOrder}
+use Rattle.edi_base.proofs.Twice.{bytes_eq-sym, nat_eq-sym}
 use Rattle.hub_parties.specs.KeyOrder.{InOrder, put, replace, bytes_cmp}
 use Rattle.hub_tables.specs.Rows.{same, content_cmp, receipt_cmp, mail_cmp, same_pallet}
 use Rattle.hub_tables.specs.declared.rows.ContentRow.{ContentRow}
@@ -126,25 +127,39 @@ pub sent_same : (p : ContentRow → Bool) (cs : List ContentRow) (c : ContentRow
     → sum_by (λ c. c.quantity) (filter p (put content_cmp c cs)) ≡ sum_by (λ c. c.quantity) (filter p cs)
 sent_same p cs c h = ap (sum_by (λ c. c.quantity)) (filter_put_out content_cmp p cs c h)
 
+-- one that is like none of its group, where those of each group are apart
+module _ {X : Type 0} {cmp : X → X → Ordering} (total : IsTotalOrder cmp) (group : X → List ℕ) (alike : X → X → Bool)
+    (turn : (x y : X) → alike x y ≡ alike y x) where
+  grouped_put : (text : List ℕ) (xs : List X) (x : X)
+      → InOrder cmp xs
+      → Single alike (filter (λ y. same (group y) text) xs)
+      → list_any (λ y. alike y x) (filter (λ y. same (group y) (group x)) xs) ≡ false
+      → Single alike (filter (λ y. same (group y) text) (put cmp x xs))
+  grouped_put text xs x ordered single fresh =
+      elim (decide (same (group x) text)) [
+        | inl e ↦
+            let here : list_any (λ y. alike y x) (filter (λ y. same (group y) text) xs) ≡ false =
+            subst (λ text. list_any (λ y. alike y x) (filter (λ y. same (group y) text) xs) ≡ false) (same_is (group x) text e) fresh in
+            subst (Single alike) (sym (filter_put_in total (λ y. same (group y) text) xs x ordered e))
+            (single_put cmp alike turn (filter (λ y. same (group y) text) xs) x single here)
+        | inr e ↦ subst (Single alike) (sym (filter_put_out cmp (λ y. same (group y) text) xs x e)) single
+      ]
+
 -- a content at a place that none on its pallet has
 pub contents_put : (sscc : List ℕ) (cs : List ContentRow) (c : ContentRow)
     → InOrder content_cmp cs
     → Single same_place (filter (λ y. same y.sscc sscc) cs)
     → list_any (λ y. same_place y c) (filter (λ y. same y.sscc c.sscc) cs) ≡ false
     → Single same_place (filter (λ y. same y.sscc sscc) (put content_cmp c cs))
-contents_put sscc cs c ordered single fresh =
-    elim (decide (same c.sscc sscc)) [
-      | inl e ↦
-          let here : list_any (λ y. same_place y c) (filter (λ y. same y.sscc sscc) cs) ≡ false =
-          subst (λ x. list_any (λ y. same_place y c) (filter (λ y. same y.sscc x) cs) ≡ false) (same_is c.sscc sscc e) fresh in
-          subst (Single same_place) (sym (filter_put_in content_total (λ y. same y.sscc sscc) cs c ordered e))
-          (single_put content_cmp same_place (λ x y. nat_eq-turned x.place y.place) (filter (λ y. same y.sscc sscc) cs) c
-          single here)
-      | inr e ↦ subst (Single same_place) (sym (filter_put_out content_cmp (λ y. same y.sscc sscc) cs c e)) single
-    ]
-  where
-    nat_eq-turned : (a b : ℕ) → (a == b) ≡ (b == a)
-    nat_eq-turned a b = grind (arith, nat_tests)
+contents_put = grouped_put content_total (λ (c : ContentRow). c.sscc) same_place (λ x y. nat_eq-sym x.place y.place)
+
+-- a receipt of an article that none on its pallet has
+pub receipts_put : (sscc : List ℕ) (rs : List ReceiptRow) (r : ReceiptRow)
+    → InOrder receipt_cmp rs
+    → Single same_gtin (filter (λ y. same y.sscc sscc) rs)
+    → list_any (λ y. same_gtin y r) (filter (λ y. same y.sscc r.sscc) rs) ≡ false
+    → Single same_gtin (filter (λ y. same y.sscc sscc) (put receipt_cmp r rs))
+receipts_put = grouped_put receipt_total (λ (r : ReceiptRow). r.sscc) same_gtin (λ x y. bytes_eq-sym x.gtin y.gtin)
 
 -- where the places on a pallet are below one, none is at it
 pub none_at : (sscc : List ℕ) (n : ℕ) (cs : List ContentRow) (c : ContentRow)
@@ -163,22 +178,6 @@ none_at sscc n (y ∷ cs) c next below =
   where
     differs : (a b : ℕ) → a < b → (a == b) ≡ false
     differs a b h = grind (arith, nat_tests)
-
-pub receipts_put : (sscc : List ℕ) (rs : List ReceiptRow) (r : ReceiptRow)
-    → InOrder receipt_cmp rs
-    → Single same_gtin (filter (λ y. same y.sscc sscc) rs)
-    → list_any (λ y. same_gtin y r) (filter (λ y. same y.sscc r.sscc) rs) ≡ false
-    → Single same_gtin (filter (λ y. same y.sscc sscc) (put receipt_cmp r rs))
-receipts_put sscc rs r ordered single fresh =
-    elim (decide (same r.sscc sscc)) [
-      | inl e ↦
-          let here : list_any (λ y. same_gtin y r) (filter (λ y. same y.sscc sscc) rs) ≡ false =
-          subst (λ x. list_any (λ y. same_gtin y r) (filter (λ y. same y.sscc x) rs) ≡ false) (same_is r.sscc sscc e) fresh in
-          subst (Single same_gtin) (sym (filter_put_in receipt_total (λ y. same y.sscc sscc) rs r ordered e))
-          (single_put receipt_cmp same_gtin (λ x y. bytes_eq-sym x.gtin y.gtin) (filter (λ y. same y.sscc sscc) rs) r
-          single here)
-      | inr e ↦ subst (Single same_gtin) (sym (filter_put_out receipt_cmp (λ y. same y.sscc sscc) rs r e)) single
-    ]
 
 -- the pallet was received
 abbrev pub is_received : PalletRow → Bool

@@ -16,6 +16,7 @@ pub mod KeptByReceipts
 pub mod KeptByResponses
 pub mod KeptLists
 pub mod KeptMail
+pub mod OnPallets
 pub mod OwnChanges
 pub mod Owned
 pub mod Prefixes

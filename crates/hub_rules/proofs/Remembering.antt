@@ -29,12 +29,12 @@ module _ (r : Reference) (content : List ℕ) (state : Tables) where
   new_remembers none (Refuse code) =
       record {
         first = λ change changes h. cc;
-        again = (λ h. cc, λ there. let both : None ≡ Some (there.1).row = sym none ∙ (there.1).found in absurd (cc));
+        repeated = (λ h. cc, λ there. let both : None ≡ Some (there.1).row = sym none ∙ (there.1).found in absurd (cc));
       }
   new_remembers none (Accept rest) =
       record {
         first = λ change changes h. cc;
-        again = (λ h. cc, λ there. let both : None ≡ Some (there.1).row = sym none ∙ (there.1).found in absurd (cc));
+        repeated = (λ h. cc, λ there. let both : None ≡ Some (there.1).row = sym none ∙ (there.1).found in absurd (cc));
       }
 
   -- one that is there
@@ -46,11 +46,11 @@ module _ (r : Reference) (content : List ℕ) (state : Tables) where
   old_remembers row found true e =
       record {
         first = λ change changes h. cc;
-        again = (λ h. (tt, record { row = row; found = found; says = same_is row.content content e }), λ there. refl);
+        repeated = (λ h. (tt, record { row = row; found = found; says = same_is row.content content e }), λ there. refl);
       }
   old_remembers row found false e = record {
     first = λ change changes h. cc;
-    again = (
+    repeated = (
       λ h. cc,
       λ there.
           let one : row ≡ (there.1).row = cc in
@@ -75,12 +75,12 @@ module _ (r : Reference) (content : List ℕ) (state : Tables) where
       → Remembers r content A state rest
       → Remembers r content ((b ≡ false) × A) state (refuse_if b code rest)
   checked_remembers A true code rest there =
-      record { first = λ change changes h. cc; again = (λ h. cc, λ both. let no = (both.0).0 in absurd (cc)) }
+      record { first = λ change changes h. cc; repeated = (λ h. cc, λ both. let no = (both.0).0 in absurd (cc)) }
   checked_remembers A false code rest there =
       record {
         first = there.first;
-        again =
-            (λ h. let found = (there.again).0 h in ((refl, found.0), found.1), λ both. (there.again).1 ((both.0).1, both.1));
+        repeated =
+            (λ h. let found = (there.repeated).0 h in ((refl, found.0), found.1), λ both. (there.repeated).1 ((both.0).1, both.1));
       }
 
   -- admitted by another fact
@@ -92,7 +92,7 @@ module _ (r : Reference) (content : List ℕ) (state : Tables) where
   admitted_by A B verdict f g there =
       record {
         first = there.first;
-        again = (λ h. let found = (there.again).0 h in (f found.0, found.1), λ both. (there.again).1 (g both.0, both.1));
+        repeated = (λ h. let found = (there.repeated).0 h in (f found.0, found.1), λ both. (there.repeated).1 (g both.0, both.1));
       }
 
   -- of the supplier itself

@@ -23,7 +23,7 @@ was_given None code rest changes h = cc
 was_given (Some x) code rest changes h = (x, refl, h)
 
 -- what was joined to changes that were given
-joined_rest : (first : List Change) (verdict : Verdict) (changes : List Change)
+pub joined_rest : (first : List Change) (verdict : Verdict) (changes : List Change)
     → joined first verdict ≡ Accept changes
     → (rest : List Change) × (verdict ≡ Accept rest) × (first ++ rest ≡ changes)
 joined_rest first (Refuse code) changes h = cc

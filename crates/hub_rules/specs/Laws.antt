@@ -85,4 +85,4 @@ pub record Remembers (r : Reference) (content : List ℕ) (admitted : Type 0) (s
     (verdict : Verdict) : Type 0 where
   pub first : (change : Change) (changes : List Change) →
       verdict ≡ Accept (change ∷ changes) → change ≡ Remember (remembered r content)
-  pub again : (verdict ≡ Accept []) ↔ (admitted × IsRemembered state r content)
+  pub repeated : (verdict ≡ Accept []) ↔ (admitted × IsRemembered state r content)

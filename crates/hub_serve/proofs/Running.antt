@@ -8,7 +8,7 @@ use Rattle.hub_rules.specs.Laws.{SoundHub}
 use Rattle.hub_requests.specs.declared.reply.Reply.{Reply}
 use Rattle.hub_requests.specs.declared.request.Input.{Input}
 use Rattle.hub_core.specs.Steps.{SoundWith, Stepped, Ran}
-use Rattle.hub_http.specs.Answer.{StaysSound}
+use Rattle.hub_core.specs.Hub.{StaysSound}
 use Rattle.hub_serve.specs.One.{Did, DoesTo}
 use Rattle.hub_serve.specs.Serve.{Asked, Connection, inputs, input_in, inputs_of, replies, replies_of}
 

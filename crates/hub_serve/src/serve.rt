@@ -1,7 +1,7 @@
 //! Connections served one after another.
 ghost use Rattle.std.specs.Prelude.{◌≡◌, IsTrue, [], OnErr, OnOk};
 ghost use Rattle.hub_core.specs.Steps.{Ran, SoundWith};
-ghost use Rattle.hub_http.specs.Answer.{StaysSound};
+ghost use Rattle.hub_core.specs.Hub.{StaysSound};
 ghost use Rattle.hub_serve.specs.Connections.{known};
 ghost use Rattle.hub_serve.specs.One.{ServesNext, DoesTo};
 ghost use Rattle.hub_serve.specs.Serve.{Serves, Stops};

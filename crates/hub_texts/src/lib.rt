@@ -23,4 +23,4 @@ pub use lines::with_lines;
 pub use mail::{LIST_LIMIT, entry_text, list_text};
 pub use number::number_of;
 pub use pallets::with_pallet;
-pub use replies::{interchange_line, message_line, refused_line, told_line};
+pub use replies::{STOPPED, interchange_line, message_line, refused_line, told_line};

@@ -12,6 +12,9 @@ use edi_envelope::{Interchange, RawMessage};
 use itoa::Buffer;
 use std::alloc::Global;
 
+/// The line of what is stopped.
+pub const STOPPED: &[u8] = b"stopped\n";
+
 // Appends the line that tells a refusal with its code.
 fn put_refused(out: &mut Vec<u8>, code: &str) -> Result<(), MemoryFault>
     ensures { OnOk result (out.new.items ≡ out.old.items ++ line (codes "refused" ∷ code.now ∷ [])) }

@@ -65,6 +65,7 @@ use Rattle.hub_rules.specs.declared.verdict.Verdict.{Verdict}
 use Rattle.hub_rules.specs.declared.verdict.Verdict.TheVariants.{Accept, Refuse}
 use Rattle.hub_rules.proofs.GoodRows.{line_found}
 use Rattle.hub_rules.proofs.Verdicts.{not_refused, was_given}
+use Rattle.hub_judges.proofs.Once.{all_gtins}
 use Rattle.hub_transactions.specs.Clean.{WithinIncoming, WithinOrderLine, WithinOrder, WithinUnit, WithinDespatch}
 use Rattle.hub_transactions.specs.Clean.{WithinReceiptLine, WithinReceiptUnit, WithinReceipt}
 use Rattle.hub_transactions.proofs.CleanRows.{CleanRows, CleanChange, both_true}
@@ -404,12 +405,6 @@ module _ (s : SupplierRow) (gln : is_gln s.gln ≡ true) where
       (suppliers s gln incoming within) (cleans_new_despatch used despatch fine)
 
 -- Receipts.
-
-all_gtins : (P : List ℕ → Type 0) (lines : List ReceiptLine) → AllByRecursion (λ line. P line.gtin) lines
-    → AllByRecursion P (gtins lines)
-all_gtins P [] all = tt
-all_gtins P (line ∷ lines) all =
-    (all.0, all_filter P (λ gtin. not (same gtin line.gtin)) (gtins lines) (all_gtins P lines all.1))
 
 module _ (unit : ReceiptUnit) (within : WithinReceiptUnit unit) where
   clean_receipts : (items : List (List ℕ)) → AllByRecursion

@@ -112,204 +112,74 @@ CleanChange (Remember row) = clean_remembered row ≡ true
 CleanChange (AddMail row) = clean_mail row ≡ true
 CleanChange (SetMail row) = clean_mail row ≡ true
 
-clean_after : (change : Change) (t : Tables) → CleanChange change → CleanRows t → CleanRows (apply change t)
-clean_after (AddHub row) t c h = record {
-  hubs = all_put hub_cmp _ t.hubs row h.hubs c;
-  keys = h.keys;
-  prefixes = h.prefixes;
-  orders = h.orders;
-  lines = h.lines;
-  advices = h.advices;
-  pallets = h.pallets;
-  contents = h.contents;
-  receipts = h.receipts;
-  remembered = h.remembered;
-  mail = h.mail;
-}
-clean_after (AddKey row) t c h = record {
-  hubs = h.hubs;
-  keys = all_put key_cmp _ t.keys row h.keys c;
-  prefixes = h.prefixes;
-  orders = h.orders;
-  lines = h.lines;
-  advices = h.advices;
-  pallets = h.pallets;
-  contents = h.contents;
-  receipts = h.receipts;
-  remembered = h.remembered;
-  mail = h.mail;
-}
-clean_after (AddPrefix row) t c h = record {
-  hubs = h.hubs;
-  keys = h.keys;
-  prefixes = all_put prefix_cmp _ t.prefixes row h.prefixes c;
-  orders = h.orders;
-  lines = h.lines;
-  advices = h.advices;
-  pallets = h.pallets;
-  contents = h.contents;
-  receipts = h.receipts;
-  remembered = h.remembered;
-  mail = h.mail;
-}
-clean_after (AddOrder row) t c h = record {
-  hubs = h.hubs;
-  keys = h.keys;
-  prefixes = h.prefixes;
-  orders = all_put order_cmp _ t.orders row h.orders c;
-  lines = h.lines;
-  advices = h.advices;
-  pallets = h.pallets;
-  contents = h.contents;
-  receipts = h.receipts;
-  remembered = h.remembered;
-  mail = h.mail;
-}
-clean_after (AddLine row) t c h = record {
-  hubs = h.hubs;
-  keys = h.keys;
-  prefixes = h.prefixes;
-  orders = h.orders;
-  lines = all_put line_cmp _ t.lines row h.lines c;
-  advices = h.advices;
-  pallets = h.pallets;
-  contents = h.contents;
-  receipts = h.receipts;
-  remembered = h.remembered;
-  mail = h.mail;
-}
-clean_after (SetLine row) t c h = record {
-  hubs = h.hubs;
-  keys = h.keys;
-  prefixes = h.prefixes;
-  orders = h.orders;
-  lines = all_replace _ (same_line row) row t.lines h.lines c;
-  advices = h.advices;
-  pallets = h.pallets;
-  contents = h.contents;
-  receipts = h.receipts;
-  remembered = h.remembered;
-  mail = h.mail;
-}
-clean_after (AddAdvice row) t c h = record {
-  hubs = h.hubs;
-  keys = h.keys;
-  prefixes = h.prefixes;
-  orders = h.orders;
-  lines = h.lines;
-  advices = all_put advice_cmp _ t.advices row h.advices c;
-  pallets = h.pallets;
-  contents = h.contents;
-  receipts = h.receipts;
-  remembered = h.remembered;
-  mail = h.mail;
-}
-clean_after (AddPallet row) t c h = record {
-  hubs = h.hubs;
-  keys = h.keys;
-  prefixes = h.prefixes;
-  orders = h.orders;
-  lines = h.lines;
-  advices = h.advices;
-  pallets = all_put pallet_cmp _ t.pallets row h.pallets c;
-  contents = h.contents;
-  receipts = h.receipts;
-  remembered = h.remembered;
-  mail = h.mail;
-}
-clean_after (SetPallet row) t c h = record {
-  hubs = h.hubs;
-  keys = h.keys;
-  prefixes = h.prefixes;
-  orders = h.orders;
-  lines = h.lines;
-  advices = h.advices;
-  pallets = all_replace _ (same_pallet row) row t.pallets h.pallets c;
-  contents = h.contents;
-  receipts = h.receipts;
-  remembered = h.remembered;
-  mail = h.mail;
-}
-clean_after (AddContent row) t c h = record {
-  hubs = h.hubs;
-  keys = h.keys;
-  prefixes = h.prefixes;
-  orders = h.orders;
-  lines = h.lines;
-  advices = h.advices;
-  pallets = h.pallets;
-  contents = all_put content_cmp _ t.contents row h.contents c;
-  receipts = h.receipts;
-  remembered = h.remembered;
-  mail = h.mail;
-}
-clean_after (AddReceipt row) t c h = record {
-  hubs = h.hubs;
-  keys = h.keys;
-  prefixes = h.prefixes;
-  orders = h.orders;
-  lines = h.lines;
-  advices = h.advices;
-  pallets = h.pallets;
-  contents = h.contents;
-  receipts = all_put receipt_cmp _ t.receipts row h.receipts c;
-  remembered = h.remembered;
-  mail = h.mail;
-}
-clean_after (ClearReceipts sscc) t c h = record {
-  hubs = h.hubs;
-  keys = h.keys;
-  prefixes = h.prefixes;
-  orders = h.orders;
-  lines = h.lines;
-  advices = h.advices;
-  pallets = h.pallets;
-  contents = h.contents;
-  receipts = all_filter _ (λ row. not (same row.sscc sscc)) t.receipts h.receipts;
-  remembered = h.remembered;
-  mail = h.mail;
-}
-clean_after (Remember row) t c h = record {
-  hubs = h.hubs;
-  keys = h.keys;
-  prefixes = h.prefixes;
-  orders = h.orders;
-  lines = h.lines;
-  advices = h.advices;
-  pallets = h.pallets;
-  contents = h.contents;
-  receipts = h.receipts;
-  remembered = all_put remembered_cmp _ t.remembered row h.remembered c;
-  mail = h.mail;
-}
-clean_after (AddMail row) t c h = record {
-  hubs = h.hubs;
-  keys = h.keys;
-  prefixes = h.prefixes;
-  orders = h.orders;
-  lines = h.lines;
-  advices = h.advices;
-  pallets = h.pallets;
-  contents = h.contents;
-  receipts = h.receipts;
-  remembered = h.remembered;
-  mail = all_put mail_cmp _ t.mail row h.mail c;
-}
-clean_after (SetMail row) t c h = record {
-  hubs = h.hubs;
-  keys = h.keys;
-  prefixes = h.prefixes;
-  orders = h.orders;
-  lines = h.lines;
-  advices = h.advices;
-  pallets = h.pallets;
-  contents = h.contents;
-  receipts = h.receipts;
-  remembered = h.remembered;
-  mail = all_replace _ (same_mail row) row t.mail h.mail c;
-}
+-- the rows of each kind after a change
+module _ (t : Tables) (h : CleanRows t) where
+  hubs : (change : Change) → CleanChange change → AllByRecursion (λ row. clean_hub row ≡ true) (apply change t).hubs
+  hubs (AddHub row) c = all_put hub_cmp _ t.hubs row h.hubs c
+  hubs other c = h.hubs
 
-pub clean_all : (changes : List Change) (t : Tables) → AllByRecursion CleanChange changes → CleanRows t → CleanRows
-    (apply_all changes t)
+  keys : (change : Change) → CleanChange change → AllByRecursion (λ row. clean_key row ≡ true) (apply change t).keys
+  keys (AddKey row) c = all_put key_cmp _ t.keys row h.keys c
+  keys other c = h.keys
+
+  prefixes : (change : Change) → CleanChange change → AllByRecursion (λ row. clean_prefix row ≡ true) (apply change t).prefixes
+  prefixes (AddPrefix row) c = all_put prefix_cmp _ t.prefixes row h.prefixes c
+  prefixes other c = h.prefixes
+
+  orders : (change : Change) → CleanChange change → AllByRecursion (λ row. clean_order row ≡ true) (apply change t).orders
+  orders (AddOrder row) c = all_put order_cmp _ t.orders row h.orders c
+  orders other c = h.orders
+
+  lines : (change : Change) → CleanChange change → AllByRecursion (λ row. clean_line row ≡ true) (apply change t).lines
+  lines (AddLine row) c = all_put line_cmp _ t.lines row h.lines c
+  lines (SetLine row) c = all_replace _ (same_line row) row t.lines h.lines c
+  lines other c = h.lines
+
+  advices : (change : Change) → CleanChange change → AllByRecursion (λ row. clean_advice row ≡ true) (apply change t).advices
+  advices (AddAdvice row) c = all_put advice_cmp _ t.advices row h.advices c
+  advices other c = h.advices
+
+  pallets : (change : Change) → CleanChange change → AllByRecursion (λ row. clean_pallet row ≡ true) (apply change t).pallets
+  pallets (AddPallet row) c = all_put pallet_cmp _ t.pallets row h.pallets c
+  pallets (SetPallet row) c = all_replace _ (same_pallet row) row t.pallets h.pallets c
+  pallets other c = h.pallets
+
+  contents : (change : Change) → CleanChange change → AllByRecursion (λ row. clean_content row ≡ true) (apply change t).contents
+  contents (AddContent row) c = all_put content_cmp _ t.contents row h.contents c
+  contents other c = h.contents
+
+  receipts : (change : Change) → CleanChange change → AllByRecursion (λ row. clean_receipt row ≡ true) (apply change t).receipts
+  receipts (AddReceipt row) c = all_put receipt_cmp _ t.receipts row h.receipts c
+  receipts (ClearReceipts sscc) c = all_filter _ (λ row. not (same row.sscc sscc)) t.receipts h.receipts
+  receipts other c = h.receipts
+
+  remembered : (change : Change) → CleanChange change → AllByRecursion (λ row. clean_remembered row ≡ true) (apply change t).remembered
+  remembered (Remember row) c = all_put remembered_cmp _ t.remembered row h.remembered c
+  remembered other c = h.remembered
+
+  mail : (change : Change) → CleanChange change → AllByRecursion (λ row. clean_mail row ≡ true) (apply change t).mail
+  mail (AddMail row) c = all_put mail_cmp _ t.mail row h.mail c
+  mail (SetMail row) c = all_replace _ (same_mail row) row t.mail h.mail c
+  mail other c = h.mail
+
+  clean_after : (change : Change) → CleanChange change → CleanRows (apply change t)
+  clean_after change c = record {
+    hubs = hubs change c;
+    keys = keys change c;
+    prefixes = prefixes change c;
+    orders = orders change c;
+    lines = lines change c;
+    advices = advices change c;
+    pallets = pallets change c;
+    contents = contents change c;
+    receipts = receipts change c;
+    remembered = remembered change c;
+    mail = mail change c;
+  }
+
+pub clean_all : (changes : List Change) (t : Tables)
+    → AllByRecursion CleanChange changes
+    → CleanRows t
+    → CleanRows (apply_all changes t)
 clean_all [] t all h = h
-clean_all (change ∷ changes) t all h = clean_all changes (apply change t) all.1 (clean_after change t all.0 h)
+clean_all (change ∷ changes) t all h = clean_all changes (apply change t) all.1 (clean_after t h change all.0)

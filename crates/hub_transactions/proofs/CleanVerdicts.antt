@@ -21,10 +21,11 @@ use Rattle.hub_tables.specs.declared.change.Change.TheVariants.{SetMail}
 use Rattle.hub_tables.specs.declared.rows.MailRow.{MailRow}
 use Rattle.hub_tables.proofs.Lists.{all_found}
 use Rattle.hub_store.specs.Clean.{is_within, is_number, is_kind, are_bytes, is_truth, clean_mail, are_clean}
-use Rattle.hub_rules.specs.Judging.{Judge, gives, joined, goes_on, in_turn, in_order}
+use Rattle.hub_rules.specs.Judging.{Judge, gives, goes_on, in_turn, in_order}
 use Rattle.hub_rules.specs.JoinRules.{is_join, judge_join}
 use Rattle.hub_rules.specs.declared.verdict.Verdict.{Verdict}
 use Rattle.hub_rules.specs.declared.verdict.Verdict.TheVariants.{Accept, Refuse}
+use Rattle.hub_rules.proofs.Verdicts.{joined_rest}
 use Rattle.hub_law.specs.Requests.{taking}
 use Rattle.hub_law.specs.Told.{changed}
 use Rattle.hub_transactions.proofs.Joins.{changes_are}
@@ -43,11 +44,6 @@ accepted given changes h clean = let e : given ≡ changes = cc in subst Clean e
 both_clean : (a b : List Change) → Clean a → Clean b → Clean (a ++ b)
 both_clean [] b first second = second
 both_clean (change ∷ changes) b first second = (first.0, both_clean changes b first.1 second)
-
-joined_rest : (first : List Change) (verdict : Verdict) (changes : List Change) → joined first verdict ≡ Accept changes →
-    (rest : List Change) × (verdict ≡ Accept rest) × (first ++ rest ≡ changes)
-joined_rest first (Refuse code) changes h = cc
-joined_rest first (Accept rest) changes h = (rest, refl, cc)
 
 -- changes that are given, and what a judge makes of what they left
 pub cleans_rest : (first : List Change) (second : Judge) (state : Tables) (changes : List Change) → CleanRows state → Clean first →

@@ -6,6 +6,7 @@ use Rattle.std.specs.List.{AllByRecursion, flat_map, list_any}
 use Rattle.std.specs.List.Sorted.{IsStrictlySortedBy}
 use Rattle.std.specs.declared.cmp.Ordering.TheVariants.{Less, Equal}
 use Rattle.std.proofs.lemmas.Cmp.{tied_itself, nat_list_cmp_total}
+use Rattle.std.proofs.lemmas.List.{append-nil}
 use Rattle.edi_base.specs.Seen.{is_among}
 use Rattle.edi_base.proofs.Twice.{bytes_eq-sym}
 use Rattle.hub_parties.specs.KeyOrder.{bytes_cmp, Rises}
@@ -24,10 +25,6 @@ and_true false = refl
 and_false : (b : Bool) → (b && false) ≡ false
 and_false true = refl
 and_false false = refl
-
-nothing_more : {X : Type 0} (xs : List X) → xs ++ [] ≡ xs
-nothing_more [] = refl
-nothing_more (x ∷ xs) = ap (λ ys. x ∷ ys) (nothing_more xs)
 
 -- one more, where the test holds of it
 pub kept_more : (test : List ℕ → Bool) (so_far : List (List ℕ)) (number : List ℕ) (holds : Bool) (later : List (List ℕ))
@@ -123,7 +120,7 @@ module _ (state : Tables) (order : List ℕ) where
       ∙ elim (decide (same order key.now)) [
         | inl e ↦ let is : order ≡ key.now = same_is order key.now e in
             ap (λ xs. of_it (lines_of state key.now) ++ xs) (none_later key keys (sym is) sorted.0)
-            ∙ nothing_more (of_it (lines_of state key.now))
+            ∙ append-nil (of_it (lines_of state key.now))
             ∙ ap (λ n. of_it (lines_of state n)) (sym is)
             ∙ filter_twice (λ row. same row.number order) state.lines
         | inr e ↦

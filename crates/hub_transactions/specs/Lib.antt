@@ -2,5 +2,6 @@ pub mod Acts
 pub mod Clean
 pub mod Joins
 pub mod Judged
+pub mod Messages
 pub mod Named
 pub mod Status

@@ -22,7 +22,11 @@ use hub_texts::cancel_text;
 use std::alloc::Global;
 
 // Carries out what comes of a cancellation, to which this is the reply.
-fn finish<S: Store>(store: &mut S, verdict: &Verdict, reply: Reply) -> Result<Reply, StoreFault>
+fn commit_and_reply<S: Store>(
+    store: &mut S,
+    verdict: &Verdict,
+    reply: Reply,
+) -> Result<Reply, StoreFault>
     requires { reply ≡ act_reply (told verdict.now) }
     ensures carried { VerdictFits verdict.now (S.content store.old) →
         Carried S.content S.honest S.left store.old store.new (λ t.
@@ -56,5 +60,5 @@ pub fn take_cancel<S: Store>(
     let known = known_for_cancel(alloc, store, cancel)?;
     let verdict = judge_cancel(alloc, supplier, &known, content, cancel)?;
     let reply = reply_to_act(alloc, told_of_verdict(&verdict))?;
-    finish(store, &verdict, reply)
+    commit_and_reply(store, &verdict, reply)
 }

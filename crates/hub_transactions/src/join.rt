@@ -41,7 +41,7 @@ fn let_in<S: Store>(
     ensures carried { Fit changes.now (S.content store.old) →
         Carried S.content S.honest S.left store.old store.new (act (Accept changes.now)) (λ _. Accepted) result }
     ensures taken { OnOk result (register.new ≡ joined_by row.now register.old) }
-    ensures kept { OnErr result (register.new ≡ register.old) }
+    ensures register_stays { OnErr result (register.new ≡ register.old) }
     ensures fails { FailsWith S.plain ⊥ no_answer (S.broken store.old) (S.broken store.new) result }
     ensures unharmed { Unharmed S.content S.honest store.old store.new result }
 {
@@ -78,7 +78,7 @@ pub fn take_join<S: Store>(
     ensures told { IfOk result (λ reply. (t : Tables) → (joined register.old Whole join.now t).0 ≡ reply) }
     ensures moves { IfOk result (MovesBy join.now register.old register.new) }
     ensures taken { OnOk result (register.new ≡ after_join join.now register.old) }
-    ensures kept { OnErr result (register.new ≡ register.old) }
+    ensures register_stays { OnErr result (register.new ≡ register.old) }
     ensures broken { IfSome (S.broken store.old) (λ _. register.new ≡ register.old) }
     ensures refused { joins register.old join.now ≡ false → store.new ≡ store.old }
     ensures fails { FailsWith S.plain ⊥ (OfAny (joined register.old Whole join.now) as_told)

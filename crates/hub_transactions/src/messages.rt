@@ -1,5 +1,5 @@
 //! One message of an interchange.
-ghost use Rattle.std.specs.Prelude.{◌≡◌, ◌∷◌, ◌++◌, ◌+◌, ◌≤◌, IfOk, OnErr, vec_len, vec_capacity};
+ghost use Rattle.std.specs.Prelude.{◌≡◌, ◌∷◌, ◌++◌, IfOk, OnErr};
 ghost use Rattle.hub_parties.specs.Rows.{parties_of};
 ghost use Rattle.hub_tables.specs.Tables.{Tables, view};
 ghost use Rattle.hub_rules.specs.Laws.{SoundUnder, Registered, PartiesRise};
@@ -9,6 +9,7 @@ ghost use Rattle.hub_law.specs.Requests.{deliver_named};
 ghost use Rattle.hub_law.specs.Widths.{line};
 ghost use Rattle.hub_transactions.specs.Acts.{Carried, FailsWith, OfAny, Unharmed};
 ghost use Rattle.hub_transactions.specs.Judged.{act_of, JudgedFits};
+ghost use Rattle.hub_transactions.specs.Messages.{MayStop};
 ghost use Rattle.hub_transactions.specs.Named.{MessageUnclean};
 ghost use Rattle.hub_texts.specs.Decision.{told_of};
 
@@ -19,12 +20,12 @@ use edi_envelope::{Interchange, Moment, RawMessage};
 use hub_parties::SupplierRow;
 use hub_register::Register;
 use hub_store::{Store, StoreFault};
-use hub_texts::{Decision, message_line};
+use hub_texts::{Decision, STOPPED, message_line};
 use std::alloc::Global;
 
-// Carries out what comes of a message, and puts its line after the others. Room for the line and for one word more,
-// `stopped`, is taken before anything is done.
-fn finish<S: Store>(
+// Carries out what comes of a message, and puts its line after the others. Room for it and for the line `stopped` is taken
+// before anything is done.
+fn commit_and_tell<S: Store>(
     alloc: Global,
     store: &mut S,
     message: &RawMessage,
@@ -38,19 +39,19 @@ fn finish<S: Store>(
     ensures unharmed { Unharmed S.content S.honest store.old store.new result }
     ensures line { IfOk result (λ told. reply.new.items ≡ reply.old.items
         ++ line (message.now.reference ∷ message.now.kind ∷ told_words (told_of told))) }
-    ensures kept { OnErr result (reply.new.items ≡ reply.old.items) }
-    ensures room { vec_len reply.old + 8 ≤ vec_capacity reply.old → vec_len reply.new + 8 ≤ vec_capacity reply.new }
+    ensures reply_stays { OnErr result (reply.new.items ≡ reply.old.items) }
+    ensures room { MayStop reply.old → MayStop reply.new }
 {
     let line = message_line(alloc, message, told_of_judged(judged))?;
-    reply.try_reserve(line.len() + 8)?;
+    reply.try_reserve(line.len() + STOPPED.len())?;
     let told = carry_out_judged(store, judged)?;
     reply.extend_from_slice(line.as_slice()).unwrap();
     Ok(told)
 }
 
 /// Takes a message of the retailer: reads and judges it, commits what comes of it as one act, and puts its line after
-/// the others of the reply. At a fault nothing was done, and no line is there. Where the reply had room for `stopped`
-/// and the end of its line, it has so after it.
+/// the others of the reply. At a fault nothing was done, and no line is there. Where the reply had room for the
+/// line `stopped`, it has so after it.
 pub fn take_retailers_message<S: Store>(
     alloc: Global,
     register: &Register,
@@ -69,12 +70,12 @@ pub fn take_retailers_message<S: Store>(
     ensures unharmed { Unharmed S.content S.honest store.old store.new result }
     ensures line { IfOk result (λ told. reply.new.items ≡ reply.old.items
         ++ line (message.now.reference ∷ message.now.kind ∷ told_words (told_of told))) }
-    ensures kept { OnErr result (reply.new.items ≡ reply.old.items) }
-    ensures room { vec_len reply.old + 8 ≤ vec_capacity reply.old → vec_len reply.new + 8 ≤ vec_capacity reply.new }
+    ensures reply_stays { OnErr result (reply.new.items ≡ reply.old.items) }
+    ensures room { MayStop reply.old → MayStop reply.new }
 {
     let came = incoming_of(alloc, moment, interchange, message)?;
     let judged = judged_for_retailer(alloc, register, store, message, came)?;
-    finish(alloc, store, message, &judged, reply)
+    commit_and_tell(alloc, store, message, &judged, reply)
 }
 
 /// Takes a message of a supplier, as `take_retailers_message` does one of the retailer.
@@ -99,10 +100,10 @@ pub fn take_suppliers_message<S: Store>(
     ensures unharmed { Unharmed S.content S.honest store.old store.new result }
     ensures line { IfOk result (λ told. reply.new.items ≡ reply.old.items
         ++ line (message.now.reference ∷ message.now.kind ∷ told_words (told_of told))) }
-    ensures kept { OnErr result (reply.new.items ≡ reply.old.items) }
-    ensures room { vec_len reply.old + 8 ≤ vec_capacity reply.old → vec_len reply.new + 8 ≤ vec_capacity reply.new }
+    ensures reply_stays { OnErr result (reply.new.items ≡ reply.old.items) }
+    ensures room { MayStop reply.old → MayStop reply.new }
 {
     let came = incoming_of(alloc, moment, interchange, message)?;
     let judged = judged_for_supplier(alloc, register, supplier, store, message, came)?;
-    finish(alloc, store, message, &judged, reply)
+    commit_and_tell(alloc, store, message, &judged, reply)
 }

@@ -8,7 +8,7 @@ mod told;
 use crate::rising::{ALPHA, ITEM, Line, OTHER_ITEM, gln, gtin, rising};
 use edi_base::{Items, copied};
 use edi_envelope::{Interchange, Moment, RawMessage, open};
-use edi_tokens::{MemoryFault, Tokens, read_all};
+use edi_tokens::{MemoryFault, read_all};
 use gs1_ids::{Gln, Prefix};
 use hub_judges::Known;
 use hub_parties::{CompanyPrefixes, Key, SupplierRow};
@@ -56,27 +56,14 @@ fn delivery(alloc: Global) -> Result<IncomingMessage, Fail> {
 }
 
 // What each judge asks for: the retailer, alpha's row, and message 7 of interchange 1001 with the body of its mail.
-#[derive(Drop)]
-struct Setting {
-    retailer: Gln,
-    row: SupplierRow,
-    delivery: IncomingMessage,
-    body: Items<u8>,
-}
+type Setting = (Gln, SupplierRow, IncomingMessage, Items<u8>);
 
-impl Setting {
-    fn new(alloc: Global) -> Result<Setting, Fail> {
-        let retailer = gln(RETAILER)?;
-        let body = copied(alloc, b"body")?;
-        let row = alpha(alloc)?;
-        let delivery = delivery(alloc)?;
-        Ok(Setting {
-            retailer,
-            row,
-            delivery,
-            body,
-        })
-    }
+fn setting(alloc: Global) -> Result<Setting, Fail> {
+    let retailer = gln(RETAILER)?;
+    let body = copied(alloc, b"body")?;
+    let row = alpha(alloc)?;
+    let delivery = delivery(alloc)?;
+    Ok((retailer, row, delivery, body))
 }
 
 // Lines of three orders that wait.
@@ -123,12 +110,8 @@ fn known(alloc: Global, lines: [Line; 3], remembered: Option<&str>) -> Result<Kn
     })
 }
 
-fn tokens(alloc: Global, text: &[u8]) -> Result<Tokens, Fail> {
-    Ok(read_all(alloc, text)?)
-}
-
 fn opened(alloc: Global, text: &[u8]) -> Result<Interchange, Fail> {
-    let tokens = tokens(alloc, text)?;
+    let tokens = read_all(alloc, text)?;
     Ok(open(alloc, tokens)?)
 }
 

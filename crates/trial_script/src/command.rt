@@ -7,7 +7,7 @@ pub enum Command {
     /// `hub`
     Hub,
     /// `as`
-    Caller,
+    As,
     /// `run`
     Run,
     /// `end`
@@ -27,7 +27,7 @@ impl Command {
     pub fn of(word: &[u8]) -> Result<Command, ScriptFault> {
         match word {
             b"hub" => Ok(Command::Hub),
-            b"as" => Ok(Command::Caller),
+            b"as" => Ok(Command::As),
             b"run" => Ok(Command::Run),
             b"end" => Ok(Command::End),
             b"connection" => Ok(Command::Connection),

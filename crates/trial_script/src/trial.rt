@@ -22,7 +22,7 @@ use trial_store::TrialStore;
 
 /// Who asks, and when.
 #[derive(Drop)]
-struct Caller {
+struct Asker {
     moment: Moment,
     gln: Gln,
     key: Items<u8>,
@@ -35,7 +35,7 @@ pub struct Trial<S: Store + Drop, O: Opener<S>> {
     paths: Paths,
     opener: O,
     hub: Option<Hub<TrialStore<S>>>,
-    caller: Option<Caller>,
+    asker: Option<Asker>,
     run: Option<Vec<Input>>,
     quiet: bool,
 }
@@ -82,27 +82,23 @@ fn register_of(alloc: Global, bytes: &[u8]) -> Result<Register, ScriptFault> {
 }
 
 // Who asks from now on, by the words of a line.
-fn caller_of(alloc: Global, words: &mut Words<'_>) -> Result<Caller, ScriptFault> {
+fn asker_of(alloc: Global, words: &mut Words<'_>) -> Result<Asker, ScriptFault> {
     let seconds = words.next_number().ok_or(ScriptFault::Line)?;
     let moment = Moment::new(seconds).ok_or(ScriptFault::Line)?;
     let gln = words.next_gln().ok_or(ScriptFault::Line)?;
     let key = copied(alloc, words.next_word())?;
-    Ok(Caller { moment, gln, key })
+    Ok(Asker { moment, gln, key })
 }
 
 // What whoever asks puts into a run.
-fn input_of(
-    alloc: Global,
-    caller: Option<&Caller>,
-    request: Request,
-) -> Result<Input, ScriptFault> {
-    let Some(caller) = caller else {
+fn input_of(alloc: Global, asker: Option<&Asker>, request: Request) -> Result<Input, ScriptFault> {
+    let Some(asker) = asker else {
         return Err(ScriptFault::Line);
     };
-    let key = copied(alloc, caller.key.as_slice())?;
+    let key = copied(alloc, asker.key.as_slice())?;
     Ok(Input {
-        moment: caller.moment,
-        caller: caller.gln,
+        moment: asker.moment,
+        caller: asker.gln,
         key,
         request,
     })
@@ -116,8 +112,8 @@ fn put(inputs: &mut Vec<Input>, input: Result<Input, ScriptFault>) -> Result<(),
 }
 
 // The calls of a hub, each by itself: its contract is then of no other's goals.
-fn replied<S: Store>(hub: &mut Hub<S>, caller: &Caller, request: Request) -> Reply {
-    hub.step(caller.moment, &caller.gln, caller.key.as_slice(), request)
+fn replied<S: Store>(hub: &mut Hub<S>, asker: &Asker, request: Request) -> Reply {
+    hub.step(asker.moment, &asker.gln, asker.key.as_slice(), request)
 }
 
 fn ran<S: Store>(hub: &mut Hub<S>, inputs: &[Input]) -> Result<Items<Reply>, ScriptFault> {
@@ -143,7 +139,7 @@ impl<S: Store + Drop, O: Opener<S>> Trial<S, O> {
             paths: Paths::new(alloc)?,
             opener,
             hub: None,
-            caller: None,
+            asker: None,
             run: None,
             quiet: false,
         })
@@ -193,7 +189,7 @@ impl<S: Store + Drop, O: Opener<S>> Trial<S, O> {
     ) -> Result<(), ScriptFault> {
         match command {
             Command::Hub => self.make_hub(rt, words, script, out),
-            Command::Caller => self.set_caller(words),
+            Command::As => self.set_asker(words),
             Command::Run => self.begin_run(),
             Command::End => self.make_run(out),
             Command::Connection => self.serve(words, script, out),
@@ -244,25 +240,25 @@ impl<S: Store + Drop, O: Opener<S>> Trial<S, O> {
     }
 
     // Who asks from now on, and when.
-    fn set_caller(&mut self, words: &mut Words<'_>) -> Result<(), ScriptFault> {
-        self.caller = Some(caller_of(self.alloc, words)?);
+    fn set_asker(&mut self, words: &mut Words<'_>) -> Result<(), ScriptFault> {
+        self.asker = Some(asker_of(self.alloc, words)?);
         Ok(())
     }
 
     // Asks, or puts what is asked into the run.
     fn ask<W: Sink>(&mut self, request: Request, out: &mut W) -> Result<(), ScriptFault> {
         match &mut self.run {
-            Some(inputs) => put(inputs, input_of(self.alloc, self.caller.as_ref(), request)),
+            Some(inputs) => put(inputs, input_of(self.alloc, self.asker.as_ref(), request)),
             None => self.step(request, out),
         }
     }
 
     // Asks, and prints the reply.
     fn step<W: Sink>(&mut self, request: Request, out: &mut W) -> Result<(), ScriptFault> {
-        let (Some(hub), Some(caller)) = (&mut self.hub, &self.caller) else {
+        let (Some(hub), Some(asker)) = (&mut self.hub, &self.asker) else {
             return Err(ScriptFault::Line);
         };
-        let reply = replied(hub, caller, request);
+        let reply = replied(hub, asker, request);
         self.tell(slice::from_ref(&reply), out)
     }
 
@@ -306,7 +302,7 @@ impl<S: Store + Drop, O: Opener<S>> Trial<S, O> {
     ) -> Result<(), ScriptFault> {
         let bytes = payload(words, script)?;
         let manner = Manner::of(words)?;
-        let moment = self.caller.as_ref().ok_or(ScriptFault::Line)?.moment;
+        let moment = self.asker.as_ref().ok_or(ScriptFault::Line)?.moment;
         let hub = self.hub.as_mut().ok_or(ScriptFault::Line)?;
         let mut writer = Outgoing::new(self.alloc, manner)?;
         let reader = Incoming::new(bytes, manner);

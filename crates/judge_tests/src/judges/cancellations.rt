@@ -108,37 +108,20 @@ fn judged(
     Ok(judge_cancel(alloc, supplier, known, content, cancel)?)
 }
 
-fn verdict_on(
-    alloc: Global,
-    is_registered: bool,
-    known: &Known,
-    cancel: &Cancel,
-) -> Result<Verdict, Fail> {
-    let row = alpha(alloc)?;
-    let content = copied(alloc, SAID.as_bytes())?;
-    judged(
-        alloc,
-        registered(&row, is_registered),
-        known,
-        content,
-        cancel,
-    )
-}
-
 fn verdict(alloc: Global, case: &CancelCase) -> Result<Verdict, Fail> {
     let cancel = cancel(alloc, case)?;
     let known = known_of(alloc, case)?;
-    verdict_on(alloc, case.is_registered, &known, &cancel)
-}
-
-fn is_judged(alloc: Global, case: &CancelCase) -> Result<bool, Fail> {
-    is_told(alloc, verdict(alloc, case), case.want)
+    let row = alpha(alloc)?;
+    let content = copied(alloc, SAID.as_bytes())?;
+    let supplier = registered(&row, case.is_registered);
+    judged(alloc, supplier, &known, content, &cancel)
 }
 
 #[test]
 fn cancellations_are_judged(rt: HostRuntime) -> Result<(), Fail> {
     for case in &CASES {
-        assert!(rt; is_judged(rt.alloc(), case)?, "{}", case.name);
+        let is_told = is_told(rt.alloc(), verdict(rt.alloc(), case), case.want)?;
+        assert!(rt; is_told, "{}", case.name);
     }
     Ok(())
 }

@@ -172,12 +172,7 @@ fn judged(
     requires each_unit { length known.used ≡ length despatch.now.units }
     requires apart { has_twice (map (λ unit. unit.sscc) despatch.now.units) ≡ false }
 {
-    let Setting {
-        retailer,
-        row,
-        delivery,
-        ..
-    } = setting;
+    let (retailer, row, delivery, _) = setting;
     Ok(judge_despatch(alloc, &retailer, Some(&row), known, delivery, despatch)?)
 }
 
@@ -188,7 +183,7 @@ fn verdict_on(alloc: Global, known: Known, despatch: &Despatch) -> Result<Verdic
     if known.used.as_slice().len() != despatch.units.as_slice().len() {
         return Err(Fail::new("not a flag for each unit"));
     }
-    let setting = Setting::new(alloc)?;
+    let setting = setting(alloc)?;
     judged(alloc, setting, known, despatch)
 }
 
@@ -198,14 +193,11 @@ fn verdict(alloc: Global, case: &DespatchCase) -> Result<Verdict, Fail> {
     verdict_on(alloc, known, &despatch)
 }
 
-fn is_judged(alloc: Global, case: &DespatchCase) -> Result<bool, Fail> {
-    is_told(alloc, verdict(alloc, case), case.want)
-}
-
 #[test]
 fn despatches_are_judged(rt: HostRuntime) -> Result<(), Fail> {
     for case in &CASES {
-        assert!(rt; is_judged(rt.alloc(), case)?, "{}", case.name);
+        let is_told = is_told(rt.alloc(), verdict(rt.alloc(), case), case.want)?;
+        assert!(rt; is_told, "{}", case.name);
     }
     Ok(())
 }

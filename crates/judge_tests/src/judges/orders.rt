@@ -15,6 +15,19 @@ struct OrderCase {
     want: &'static str,
 }
 
+// What is told of an order that is taken, with the number of its mailbox entry.
+macro_rules! taken {
+    ($number:literal) => {
+        concat!(
+            "accepted\nremember 4012345500004 Retailer 1001/7 said\nmail 4012345500004 ",
+            $number,
+            " 1748942400 44 Orders 128576 body false\norder 4012345500004 128576\n",
+            "line 4012345500004 128576 7 04000862141404 48 48 0 0 Waiting\n",
+            "line 4012345500004 128576 2 04000862141411 30 30 0 0 Waiting"
+        )
+    };
+}
+
 // A new order of alpha where nothing is known.
 const NEW: OrderCase = OrderCase {
     name: "a new order is remembered, mailed and open",
@@ -24,12 +37,7 @@ const NEW: OrderCase = OrderCase {
     remembered: None,
     is_number_known: false,
     mails: 0,
-    want: "accepted
-remember 4012345500004 Retailer 1001/7 said
-mail 4012345500004 1 1748942400 44 Orders 128576 body false
-order 4012345500004 128576
-line 4012345500004 128576 7 04000862141404 48 48 0 0 Waiting
-line 4012345500004 128576 2 04000862141411 30 30 0 0 Waiting",
+    want: taken!("1"),
 };
 
 static CASES: [OrderCase; 10] = [
@@ -37,23 +45,13 @@ static CASES: [OrderCase; 10] = [
     OrderCase {
         name: "a mailbox entry is numbered behind those there",
         mails: 4,
-        want: "accepted
-remember 4012345500004 Retailer 1001/7 said
-mail 4012345500004 5 1748942400 44 Orders 128576 body false
-order 4012345500004 128576
-line 4012345500004 128576 7 04000862141404 48 48 0 0 Waiting
-line 4012345500004 128576 2 04000862141411 30 30 0 0 Waiting",
+        want: taken!("5"),
         ..NEW
     },
     OrderCase {
         name: "the last number of a mailbox is given",
         mails: 99_999_999_999_998,
-        want: "accepted
-remember 4012345500004 Retailer 1001/7 said
-mail 4012345500004 99999999999999 1748942400 44 Orders 128576 body false
-order 4012345500004 128576
-line 4012345500004 128576 7 04000862141404 48 48 0 0 Waiting
-line 4012345500004 128576 2 04000862141411 30 30 0 0 Waiting",
+        want: taken!("99999999999999"),
         ..NEW
     },
     OrderCase {
@@ -142,12 +140,7 @@ fn judged(
     known: &Known,
     order: &Order,
 ) -> Result<Verdict, Fail> {
-    let Setting {
-        retailer,
-        row,
-        delivery,
-        body,
-    } = setting;
+    let (retailer, row, delivery, body) = setting;
     let supplier = registered(&row, case.is_registered);
     Ok(judge_order(alloc, &retailer, supplier, known, delivery, body, order)?)
 }
@@ -161,19 +154,16 @@ fn known_of(alloc: Global, case: &OrderCase) -> Result<Known, Fail> {
 
 fn verdict(alloc: Global, case: &OrderCase) -> Result<Verdict, Fail> {
     let order = order(alloc, case.buyer, case.supplier)?;
-    let setting = Setting::new(alloc)?;
+    let setting = setting(alloc)?;
     let known = known_of(alloc, case)?;
     judged(alloc, setting, case, &known, &order)
-}
-
-fn is_judged(alloc: Global, case: &OrderCase) -> Result<bool, Fail> {
-    is_told(alloc, verdict(alloc, case), case.want)
 }
 
 #[test]
 fn orders_are_judged(rt: HostRuntime) -> Result<(), Fail> {
     for case in &CASES {
-        assert!(rt; is_judged(rt.alloc(), case)?, "{}", case.name);
+        let is_told = is_told(rt.alloc(), verdict(rt.alloc(), case), case.want)?;
+        assert!(rt; is_told, "{}", case.name);
     }
     Ok(())
 }

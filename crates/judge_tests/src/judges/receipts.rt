@@ -246,12 +246,7 @@ fn judged(
     requires apart { has_twice (map (λ unit. unit.sscc) receipt.now.units) ≡ false }
     requires sums { list_all (λ unit. has_sums unit.lines) receipt.now.units ≡ true }
 {
-    let Setting {
-        retailer,
-        row,
-        delivery,
-        body,
-    } = setting;
+    let (retailer, row, delivery, body) = setting;
     let supplier = registered(&row, is_registered);
     Ok(judge_receipt(alloc, &retailer, supplier, known, delivery, body, receipt)?)
 }
@@ -269,7 +264,7 @@ fn verdict_on(
     if known.pallets.as_slice().len() != receipt.units.as_slice().len() {
         return Err(Fail::new("not a pallet for each unit"));
     }
-    let setting = Setting::new(alloc)?;
+    let setting = setting(alloc)?;
     judged(alloc, setting, is_registered, known, receipt)
 }
 
@@ -287,14 +282,11 @@ fn verdict(alloc: Global, case: &ReceiptCase) -> Result<Verdict, Fail> {
     verdict_on(alloc, case.is_registered, &known, &receipt)
 }
 
-fn is_judged(alloc: Global, case: &ReceiptCase) -> Result<bool, Fail> {
-    is_told(alloc, verdict(alloc, case), case.want)
-}
-
 #[test]
 fn receipts_are_judged(rt: HostRuntime) -> Result<(), Fail> {
     for case in &CASES {
-        assert!(rt; is_judged(rt.alloc(), case)?, "{}", case.name);
+        let is_told = is_told(rt.alloc(), verdict(rt.alloc(), case), case.want)?;
+        assert!(rt; is_told, "{}", case.name);
     }
     Ok(())
 }

@@ -23,7 +23,21 @@ enum Said {
 // Line 1 where it is answered, and a second line of the same order and item.
 const ANSWERED: Line = ("128576", 1, [48, 36, 0, 0], Answered::Accepted);
 
+// The same line where nothing is despatched, where some is refused and cancelled, and with a smaller quantity.
+const UNTOUCHED: Line = ("128576", 1, [48, 48, 0, 0], Answered::Waiting);
+
+const BEGUN: Line = ("128576", 1, [48, 30, 4, 2], Answered::Waiting);
+
+const SMALLER: Line = ("128576", 1, [30, 18, 0, 0], Answered::Waiting);
+
 const SECOND: Line = ("128576", 2, [48, 36, 0, 0], Answered::Waiting);
+
+// What is told of an answer that is taken: it is remembered, and these lines of alpha's are set.
+macro_rules! taken {
+    ($($line:literal),*) => {
+        concat!("accepted\nremember 4012345500004 Supplier 1001/7 said" $(, "\nset 4012345500004 ", $line)*)
+    };
+}
 
 // An answer to line 1 of order 128576, between other orders' lines like it: 48 pieces, of which 12 are despatched.
 const TOO_LITTLE: ResponseCase = ResponseCase {
@@ -39,17 +53,13 @@ static CASES: [ResponseCase; 21] = [
     ResponseCase {
         name: "what is despatched leaves nothing open",
         said: Said::Lines(&[(Some(1), ITEM, LineAnswer::Changed(12))]),
-        want: "accepted
-remember 4012345500004 Supplier 1001/7 said
-set 4012345500004 128576 1 04000862141404 48 0 36 0 Changed",
+        want: taken!("128576 1 04000862141404 48 0 36 0 Changed"),
         ..TOO_LITTLE
     },
     ResponseCase {
         name: "the whole quantity leaves all open",
         said: Said::Lines(&[(Some(1), ITEM, LineAnswer::Changed(48))]),
-        want: "accepted
-remember 4012345500004 Supplier 1001/7 said
-set 4012345500004 128576 1 04000862141404 48 36 0 0 Changed",
+        want: taken!("128576 1 04000862141404 48 36 0 0 Changed"),
         ..TOO_LITTLE
     },
     ResponseCase {
@@ -60,44 +70,28 @@ set 4012345500004 128576 1 04000862141404 48 36 0 0 Changed",
     },
     ResponseCase {
         name: "a part of what none is despatched of",
-        lines: &[
-            BEFORE,
-            ("128576", 1, [48, 48, 0, 0], Answered::Waiting),
-            BEHIND,
-        ],
+        lines: &[BEFORE, UNTOUCHED, BEHIND],
         said: Said::Lines(&[(None, ITEM, LineAnswer::Changed(36))]),
-        want: "accepted
-remember 4012345500004 Supplier 1001/7 said
-set 4012345500004 128576 1 04000862141404 48 36 12 0 Changed",
+        want: taken!("128576 1 04000862141404 48 36 12 0 Changed"),
         ..TOO_LITTLE
     },
     ResponseCase {
         name: "a change adds to what is refused",
-        lines: &[
-            BEFORE,
-            ("128576", 1, [48, 30, 4, 2], Answered::Waiting),
-            BEHIND,
-        ],
+        lines: &[BEFORE, BEGUN, BEHIND],
         said: Said::Lines(&[(Some(1), ITEM, LineAnswer::Changed(20))]),
-        want: "accepted
-remember 4012345500004 Supplier 1001/7 said
-set 4012345500004 128576 1 04000862141404 48 8 26 2 Changed",
+        want: taken!("128576 1 04000862141404 48 8 26 2 Changed"),
         ..TOO_LITTLE
     },
     ResponseCase {
         name: "an accepted line keeps its quantities",
         said: Said::Lines(&[(Some(1), ITEM, LineAnswer::Accepted)]),
-        want: "accepted
-remember 4012345500004 Supplier 1001/7 said
-set 4012345500004 128576 1 04000862141404 48 36 0 0 Accepted",
+        want: taken!("128576 1 04000862141404 48 36 0 0 Accepted"),
         ..TOO_LITTLE
     },
     ResponseCase {
         name: "a refused line has nothing open",
         said: Said::Lines(&[(Some(1), ITEM, LineAnswer::Refused)]),
-        want: "accepted
-remember 4012345500004 Supplier 1001/7 said
-set 4012345500004 128576 1 04000862141404 48 0 36 0 NotAccepted",
+        want: taken!("128576 1 04000862141404 48 0 36 0 NotAccepted"),
         ..TOO_LITTLE
     },
     ResponseCase {
@@ -155,40 +149,30 @@ set 4012345500004 128576 1 04000862141404 48 0 36 0 NotAccepted",
             (Some(2), ITEM, LineAnswer::Accepted),
             (Some(1), ITEM, LineAnswer::Changed(20)),
         ]),
-        want: "accepted
-remember 4012345500004 Supplier 1001/7 said
-set 4012345500004 128576 2 04000862141404 48 36 0 0 Accepted
-set 4012345500004 128576 1 04000862141404 48 8 28 0 Changed",
+        want: taken!(
+            "128576 2 04000862141404 48 36 0 0 Accepted",
+            "128576 1 04000862141404 48 8 28 0 Changed"
+        ),
         ..TOO_LITTLE
     },
     ResponseCase {
         name: "a whole refusal refuses what is open",
-        lines: &[
-            BEFORE,
-            ("128576", 1, [30, 18, 0, 0], Answered::Waiting),
-            BEHIND,
-        ],
+        lines: &[BEFORE, SMALLER, BEHIND],
         said: Said::AllRefused,
-        want: "accepted
-remember 4012345500004 Supplier 1001/7 said
-set 4012345500004 128576 1 04000862141404 30 0 18 0 NotAccepted",
+        want: taken!("128576 1 04000862141404 30 0 18 0 NotAccepted"),
         ..TOO_LITTLE
     },
     ResponseCase {
         name: "a whole answer is of its order alone",
         said: Said::AllAccepted,
-        want: "accepted
-remember 4012345500004 Supplier 1001/7 said
-set 4012345500004 128576 1 04000862141404 48 36 0 0 Accepted",
+        want: taken!("128576 1 04000862141404 48 36 0 0 Accepted"),
         ..TOO_LITTLE
     },
     ResponseCase {
         name: "a whole answer leaves lines that do not wait",
         lines: &[ANSWERED, SECOND, BEHIND],
         said: Said::AllAccepted,
-        want: "accepted
-remember 4012345500004 Supplier 1001/7 said
-set 4012345500004 128576 2 04000862141404 48 36 0 0 Accepted",
+        want: taken!("128576 2 04000862141404 48 36 0 0 Accepted"),
         ..TOO_LITTLE
     },
     ResponseCase {
@@ -252,24 +236,15 @@ fn judged(
     known: Known,
     response: &Response,
 ) -> Result<Verdict, Fail> {
-    let Setting {
-        retailer,
-        row,
-        delivery,
-        ..
-    } = setting;
+    let (retailer, row, delivery, _) = setting;
     Ok(judge_response(alloc, &retailer, Some(&row), known, delivery, response)?)
-}
-
-fn verdict_on(alloc: Global, case: &ResponseCase, response: &Response) -> Result<Verdict, Fail> {
-    let setting = Setting::new(alloc)?;
-    let known = known(alloc, *case.lines, None)?;
-    judged(alloc, setting, known, response)
 }
 
 fn verdict(alloc: Global, case: &ResponseCase) -> Result<Verdict, Fail> {
     let response = response(alloc, case)?;
-    verdict_on(alloc, case, &response)
+    let setting = setting(alloc)?;
+    let known = known(alloc, *case.lines, None)?;
+    judged(alloc, setting, known, &response)
 }
 
 // The table, so that its rows do not stand in the proof of the test.
@@ -277,14 +252,11 @@ fn cases() -> &'static [ResponseCase] {
     &CASES
 }
 
-fn is_judged(alloc: Global, case: &ResponseCase) -> Result<bool, Fail> {
-    is_told(alloc, verdict(alloc, case), case.want)
-}
-
 #[test]
 fn responses_are_judged(rt: HostRuntime) -> Result<(), Fail> {
     for case in cases() {
-        assert!(rt; is_judged(rt.alloc(), case)?, "{}", case.name);
+        let is_told = is_told(rt.alloc(), verdict(rt.alloc(), case), case.want)?;
+        assert!(rt; is_told, "{}", case.name);
     }
     Ok(())
 }

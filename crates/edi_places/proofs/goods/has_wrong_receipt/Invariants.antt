@@ -3,5 +3,5 @@ use Rattle.edi_places.specs.Goods.{has_wrong_receipt}
 use Rattle.edi_places.proofs.goods.has_wrong_receipt.Given as goal
 
 -- the condition holds of no line group so far
-abbrev pub invariant-loop-place : goal.invariant-loop-place
-invariant-loop-place l = has_wrong_receipt l.fault l.segments ≡ has_wrong_receipt l.fault (drop l.place l.segments)
+abbrev pub invariant-loop-index : goal.invariant-loop-index
+invariant-loop-index l = has_wrong_receipt l.fault l.segments ≡ has_wrong_receipt l.fault (drop l.index l.segments)

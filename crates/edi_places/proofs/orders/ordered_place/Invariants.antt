@@ -3,5 +3,5 @@ use Rattle.edi_places.specs.Orders.{ordered_place}
 use Rattle.edi_places.proofs.orders.ordered_place.Given as goal
 
 -- each line group so far has its quantity
-abbrev pub invariant-loop-place : goal.invariant-loop-place
-invariant-loop-place l = ordered_place l.message ≡ l.place + ordered_place (drop l.place l.message)
+abbrev pub invariant-loop-index : goal.invariant-loop-index
+invariant-loop-index l = ordered_place l.message ≡ l.index + ordered_place (drop l.index l.message)

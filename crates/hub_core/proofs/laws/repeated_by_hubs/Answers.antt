@@ -6,7 +6,7 @@ use Rattle.hub_law.specs.Mark.{Whole}
 use Rattle.hub_law.specs.Told.{Repeated}
 use Rattle.hub_requests.specs.declared.reply.Reply.{Reply}
 use Rattle.hub_core.specs.Laws.{TellsOf}
-use Rattle.hub_core.proofs.Again.{reply_at, tells}
+use Rattle.hub_core.proofs.Again.{reply_of_run, tells}
 use Rattle.hub_core.proofs.laws.repeated_by_hubs.Goals as goal
 
 pub returns-clause-message : goal.returns-clause-message
@@ -14,7 +14,7 @@ returns-clause-message c t after xs replies run before between later first secon
     message one other reply e same reached there =
     let earlier = before ++ (first, mark) ∷ between in
     let here : Tables = (shared_run t earlier).1 in
-    let at = reply_at t after run.marked earlier later second other_mark replies run.is e in
+    let at = reply_of_run t after run.marked earlier later second other_mark replies run.is e in
     let is = ap (λ (given : Option Reply). unwrap_or given reply) (sym at ∙ there) in
     let told = c.repeated_in_runs.ensures.message t before between first second mark place other_place message one other same in
     subst (λ (reply : Reply). TellsOf other.upload.interchange other_place Repeated reply) is
@@ -24,7 +24,7 @@ returns-clause-message c t after xs replies run before between later first secon
 
 pub returns-clause-cancellation : goal.returns-clause-cancellation
 returns-clause-cancellation c t after xs replies run before between later first second cancel e hub asks again accepted =
-    reply_at t after run.marked (before ++ (first, Whole) ∷ between) later second Whole replies run.is e
+    reply_of_run t after run.marked (before ++ (first, Whole) ∷ between) later second Whole replies run.is e
     ∙ ap (λ (r : Reply × Tables). Some r.0)
     (c.repeated_in_runs.ensures.cancellation t before between first second cancel
     (c.hub_stays_sound.ensures.run t before hub) asks again accepted)

@@ -3,7 +3,6 @@ use Rattle.std.proofs.lemmas.Grind.{common_steps}
 use Rattle.std.proofs.lemmas.List.{drop_more}
 use Rattle.hub_requests.specs.declared.reply.Reply.{Reply}
 use Rattle.hub_requests.specs.declared.request.Input.{Input}
-use Rattle.hub_tables.specs.Register.{suppliers_of}
 use Rattle.hub_transactions.proofs.Joins.{keeps_all, keeps_on}
 use Rattle.hub_core.specs.Broken.{Breaks, RunBreaks, does_input}
 use Rattle.hub_core.specs.Steps.{IsNoJoin, Stepped, Ran, input_of}
@@ -59,7 +58,7 @@ loop-input-preserved g c =
           (c.step-reply.ensures.stepped honest (c.loop-input.invariant.held was here)) in
           subst (λ (xs : List Input). Ran t after before then xs c.push.new.self.items) (sym taken)
           (subst (λ (rs : List Reply). Ran t after before then (earlier ++ c.input-item.result ∷ []) rs) (sym pushed)
-          (ran_more c.run_is_own.ensures.run c.run_is_own.ensures.status t middle after before left
+          (ran_more c.laws_of_the_machine.ensures t middle after before left
           then earlier c.input-item.result c.loop-input.replies.items c.step-reply.result here.sound so_far one));
       held = λ honest here.
           c.step-reply.ensures.held honest (c.loop-input.invariant.held (c.step-reply.ensures.was_honest honest) here);
@@ -85,10 +84,7 @@ loop-input-init g c = record {
       λ honest here. subst
       (λ (rs : List Reply). Ran (g.S.Store.content c.args.store.now) (g.S.Store.content c.args.store.now)
       (g.S.Store.left c.args.store.now) (g.S.Store.left c.args.store.now) [] rs) (grind (arith, common_steps))
-      (ran_none c.run_is_own.ensures.run c.run_is_own.ensures.status (g.S.Store.content c.args.store.now)
-      (g.S.Store.left c.args.store.now) here.sound
-      (c.each_line_balances.ensures (suppliers_of (g.S.Store.content c.args.store.now)) (g.S.Store.content c.args.store.now)
-      here.sound.sound));
+      (ran_none c.laws_of_the_machine.ensures (g.S.Store.content c.args.store.now) (g.S.Store.left c.args.store.now) here.sound);
   held = λ honest here. here;
   keeps = keeps_all c.args.register.now c.args.register.now refl;
   same = λ none. refl;

@@ -1,8 +1,5 @@
-use Rattle.std.proofs.Common.{inl, inr, refl, sym, ap, ◌∙◌}
-use Rattle.hub_tables.specs.Register.{register_of, suppliers_of}
-use Rattle.hub_tables.specs.Tables.{Tables}
-use Rattle.hub_requests.specs.declared.reply.Reply.{Reply}
-use Rattle.hub_core.proofs.Keeping.{register_kept, join_or_none, join_stopped, join_replied, rows_kept}
+use Rattle.std.proofs.Common.{inl, inr, refl, ap, ◌∙◌}
+use Rattle.hub_core.proofs.Keeping.{join_or_none, join_stopped, join_replied, rows_kept, still_held}
 use Rattle.hub_law.specs.Replies.{reply}
 use Rattle.hub_requests.specs.declared.reply.Outcome.TheVariants.{Stopped}
 use Rattle.hub_core.specs.Steps.{input_of}
@@ -14,38 +11,27 @@ use Rattle.hub_core.proofs.step.step.Goals as goal
 
 pub returns-in_default-clause-stepped : goal.returns-in_default-clause-stepped
 returns-in_default-clause-stepped g c honest here =
-    let input = input_of c.args.moment c.args.caller.now c.args.key.now c.args.request.now in
-    unanswered c.step_is_own.ensures c.hub_stays_sound.ensures.step c.hub_stays_sound.ensures.parties
-    c.stops_are_told.ensures.outcome c.run_is_own.ensures.status (λ t here. c.each_line_balances.ensures (suppliers_of t) t here.sound)
-    g.S.Store.content g.S.Store.left c.args.store.now input c.stopped_with.result
-    (λ t. c.stops_are_told.ensures.empty t input) (c.stopped_with.ensures ∙ ap (λ body. reply Stopped body) c.new.ensures)
-    here.sound
+    unanswered c.laws_of_the_machine.ensures g.S.Store.content g.S.Store.left c.args.store.now
+    (input_of c.args.moment c.args.caller.now c.args.key.now c.args.request.now) c.stopped_with.result
+    (c.stopped_with.ensures ∙ ap (λ body. reply Stopped body) c.new.ensures) here.sound
 
 pub returns-clause-stepped : goal.returns-clause-stepped
 returns-clause-stepped g c honest here =
     let input = input_of c.args.moment c.args.caller.now c.args.key.now c.args.request.now in
-    replied c.step_is_own.ensures c.hub_stays_sound.ensures.step c.hub_stays_sound.ensures.parties
-    c.stops_are_told.ensures.outcome c.run_is_own.ensures.status (λ t here. c.each_line_balances.ensures (suppliers_of t) t here.sound)
-    g.S.Store.content g.S.Store.honest g.S.Store.left c.args.store.now c.answer-answered.new.store input
-    c.answer-answered.result c.in-Ok.stopped c.replied.result
-    (λ t. c.stops_are_told.ensures.bare t input) c.in-Ok.ensures c.replied.ensures.ok c.replied.ensures.err
+    replied c.laws_of_the_machine.ensures g.S.Store.content g.S.Store.honest g.S.Store.left
+    c.args.store.now c.answer-answered.new.store input
+    c.answer-answered.result c.in-Ok.stopped c.replied.result c.in-Ok.ensures c.replied.ensures.ok c.replied.ensures.err
     honest here.sound
     (asked_with g.S.Store.content g.S.Store.honest g.S.Store.left c.args.store.now c.answer-answered.new.store c.args.register.now input
     c.answer-answered.result here (c.answer-answered.ensures.asked here))
 
 pub returns-clause-held : goal.returns-clause-held
 returns-clause-held g c honest here =
-    let t = g.S.Store.content c.args.store.now in
-    let input = input_of c.args.moment c.args.caller.now c.args.key.now c.args.request.now in
     let s = returns-clause-stepped g c honest here in record {
       sound = s.sound;
       held = elim (join_or_none c.args.request.now) [
         | inl join ↦ c.answer-answered.ensures.held join.0 join.1 honest here
-        | inr other ↦
-            c.answer-answered.ensures.same other
-            ∙ here.held
-            ∙ sym (register_kept t here.sound input s.mark other)
-            ∙ ap (λ (r : Reply × Tables). register_of r.1) s.is
+        | inr other ↦ c.answer-answered.ensures.same other ∙ still_held here s other
       ];
     }
 

@@ -1,10 +1,7 @@
-use Rattle.std.proofs.Common.{ap, inl, inr, refl, sym, ◌∙◌}
-use Rattle.hub_tables.specs.Register.{register_of, suppliers_of}
-use Rattle.hub_tables.specs.Tables.{Tables}
-use Rattle.hub_core.proofs.Keeping.{register_kept, no_join}
+use Rattle.std.proofs.Common.{ap, inl, inr, refl, ◌∙◌}
+use Rattle.hub_core.proofs.Keeping.{no_join, still_held}
 use Rattle.hub_law.specs.Replies.{reply}
 use Rattle.hub_requests.specs.declared.reply.Outcome.TheVariants.{Stopped}
-use Rattle.hub_requests.specs.declared.reply.Reply.{Reply}
 use Rattle.hub_requests.specs.declared.request.Request.TheVariants.{Upload}
 use Rattle.hub_core.specs.Steps.{input_of}
 use Rattle.hub_core.proofs.Steps.{replied, unanswered, asked_with, where_err}
@@ -14,21 +11,16 @@ use Rattle.hub_core.proofs.step.step_opened.Goals as goal
 
 pub returns-in_default-clause-stepped : goal.returns-in_default-clause-stepped
 returns-in_default-clause-stepped g c bytes opens honest here =
-    let input = input_of c.args.moment c.args.caller.now c.args.key.now (Upload bytes) in
-    unanswered c.step_is_own.ensures c.hub_stays_sound.ensures.step c.hub_stays_sound.ensures.parties
-    c.stops_are_told.ensures.outcome c.run_is_own.ensures.status (λ t here. c.each_line_balances.ensures (suppliers_of t) t here.sound)
-    g.S.Store.content g.S.Store.left c.args.store.now input c.stopped_with.result
-    (λ t. c.stops_are_told.ensures.empty t input) (c.stopped_with.ensures ∙ ap (λ body. reply Stopped body) c.new.ensures)
-    here.sound
+    unanswered c.laws_of_the_machine.ensures g.S.Store.content g.S.Store.left c.args.store.now
+    (input_of c.args.moment c.args.caller.now c.args.key.now (Upload bytes)) c.stopped_with.result
+    (c.stopped_with.ensures ∙ ap (λ body. reply Stopped body) c.new.ensures) here.sound
 
 pub returns-clause-stepped : goal.returns-clause-stepped
 returns-clause-stepped g c bytes opens honest here =
     let input = input_of c.args.moment c.args.caller.now c.args.key.now (Upload bytes) in
-    replied c.step_is_own.ensures c.hub_stays_sound.ensures.step c.hub_stays_sound.ensures.parties
-    c.stops_are_told.ensures.outcome c.run_is_own.ensures.status (λ t here. c.each_line_balances.ensures (suppliers_of t) t here.sound)
-    g.S.Store.content g.S.Store.honest g.S.Store.left c.args.store.now c.answer_opened-answered.new.store input
-    c.answer_opened-answered.result c.in-Ok.stopped c.replied.result
-    (λ t. c.stops_are_told.ensures.bare t input) c.in-Ok.ensures c.replied.ensures.ok c.replied.ensures.err
+    replied c.laws_of_the_machine.ensures g.S.Store.content g.S.Store.honest g.S.Store.left
+    c.args.store.now c.answer_opened-answered.new.store input
+    c.answer_opened-answered.result c.in-Ok.stopped c.replied.result c.in-Ok.ensures c.replied.ensures.ok c.replied.ensures.err
     honest here.sound
     (asked_with g.S.Store.content g.S.Store.honest g.S.Store.left c.args.store.now
     c.answer_opened-answered.new.store c.args.register.now input
@@ -36,14 +28,8 @@ returns-clause-stepped g c bytes opens honest here =
 
 pub returns-clause-held : goal.returns-clause-held
 returns-clause-held g c bytes opens honest here =
-    let t = g.S.Store.content c.args.store.now in
-    let input = input_of c.args.moment c.args.caller.now c.args.key.now (Upload bytes) in
-    let s = returns-clause-stepped g c bytes opens honest here in record {
-      sound = s.sound;
-      held = here.held
-          ∙ sym (register_kept t here.sound input s.mark (no_join bytes))
-          ∙ ap (λ (r : Reply × Tables). register_of r.1) s.is;
-    }
+    let s = returns-clause-stepped g c bytes opens honest here in
+    record { sound = s.sound; held = still_held here s (no_join bytes) }
 
 pub returns-clause-ran_out : goal.returns-clause-ran_out
 returns-clause-ran_out g c out =

@@ -50,7 +50,7 @@ returns-in_default-clause-answered g c honest may =
     let written : c.extend_from_slice.new.self.items ≡ c.take_message.new.reply.items ++ stopped_line =
     grind (arith, common_steps) in
     let body : c.from_vec.result ≡ c.loop-message.reply.items ++ stopped_line =
-    c.from_vec.ensures ∙ written ∙ ap (λ xs. xs ++ stopped_line) c.in_default.ensures.kept in
+    c.from_vec.ensures ∙ written ∙ ap (λ xs. xs ++ stopped_line) c.in_default.ensures.reply_stays in
     let same = c.in_default.ensures.unharmed.same honest in
     record {
       mark = StoppedAfter count;
@@ -59,7 +59,7 @@ returns-in_default-clause-answered g c honest may =
           c.loop-message.refused
           c.loop-message.reply.items below far
           ∙ (λ i. (record { outcome = Stopped; refused = c.loop-message.refused; body = sym body i }, sym same i));
-      kept = λ u l. elim ((c.in_default.ensures.carried (c.loop-message.invariant.may was may)).crash honest u l) [
+      leaves = λ u l. elim ((c.in_default.ensures.carried (c.loop-message.invariant.may was may)).crash honest u l) [
         | inl e ↦ elim (c.loop-message.invariant.left was may u e) [
           | inl a ↦ inl (a ∙ sym same)
           | inr b ↦ inr (inl (same ∙ b.0, b.1))

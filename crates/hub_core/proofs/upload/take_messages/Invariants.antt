@@ -1,13 +1,14 @@
-use Rattle.std.proofs.Common.{◌≡◌, ◌⊎◌, ◌≤◌, ◌+◌, vec_len, vec_capacity}
+use Rattle.std.proofs.Common.{◌≡◌, ◌⊎◌}
 use Rattle.std.specs.Option.{IfSome}
 use Rattle.hub_tables.specs.Tables.{Tables}
+use Rattle.hub_transactions.specs.Messages.{MayStop}
 use Rattle.hub_core.specs.Callers.{delivered, MayDeliver}
 use Rattle.hub_core.specs.Uploads.{DoneSoFar}
 use Rattle.hub_core.proofs.upload.take_messages.Given as goal
 
 abbrev pub invariant-loop-message : goal.invariant-loop-message
 invariant-loop-message g l = record {
-  room : vec_len l.reply + 8 ≤ vec_capacity l.reply;
+  room : MayStop l.reply;
   was_honest : g.S.Store.honest l.store → g.S.Store.honest l.fn.store;
   may : g.S.Store.honest l.store
       → MayDeliver l.upload.register.now l.upload.caller (g.S.Store.content l.fn.store)

@@ -1,8 +1,8 @@
 use Rattle.std.proofs.Common.{◌≡◌, ◌≤◌, Result, Err, inl, refl, sym, subst}
 use Rattle.hub_http.specs.Answer.{Steps, size_asked}
 use Rattle.hub_http.specs.Asked.{Asked, asked_by, longest_body}
-use Rattle.hub_http.specs.Wording.{asking_as, asked_or_refused}
-use Rattle.hub_http.specs.declared.asked.Asking.{Asking}
+use Rattle.hub_http.specs.Wording.{asked_as, asked_or_refused}
+use Rattle.hub_http.specs.declared.asked.Asked.{Asked as AskedHere}
 use Rattle.hub_http.specs.declared.refusal.Refusal.{Refusal}
 use Rattle.hub_http.proofs.Bounds.{asked_short}
 use Rattle.hub_http.proofs.Serving.{answers_head}
@@ -10,17 +10,17 @@ use Rattle.hub_http.proofs.answer.answer_head.Goals as goal
 
 pub answer_asked-requires : goal.answer_asked-requires
 answer_asked-requires g c =
-    subst (λ (r : Result Asking Refusal). size_asked (asked_or_refused r) ≤ longest_body) c.in-Ok.is
-    (subst (λ (r : Result Asked Refusal). size_asked r ≤ longest_body) (sym c.asking_of.ensures)
+    subst (λ (r : Result AskedHere Refusal). size_asked (asked_or_refused r) ≤ longest_body) c.in-Ok.is
+    (subst (λ (r : Result Asked Refusal). size_asked r ≤ longest_body) (sym c.asked_of.ensures)
     (asked_short c.args.hub.now.0 c.args.head.now))
 
 pub returns-in-Ok-clause-answers : goal.returns-in-Ok-clause-answers
 returns-in-Ok-clause-answers g c =
     answers_head (Steps g.S.Store.content g.S.Store.honest g.S.Store.left c.args.moment c.args.hub.now c.answer_asked.new.hub)
     (c.answer_asked.new.hub ≡ c.args.hub.now) c.args.hub.now.0 (g.R.Source.remaining c.args.reader.now) c.args.head.now
-    (asking_as c.in-Ok.asking) c.rest.result.now c.answer_asked.result
-    (subst (λ (r : Result Asking Refusal). asked_or_refused r ≡ asked_by c.args.hub.now.0 c.args.head.now) c.in-Ok.is
-    c.asking_of.ensures) c.rest.ensures c.answer_asked.ensures.answers
+    (asked_as c.in-Ok.asked) c.rest.result.now c.answer_asked.result
+    (subst (λ (r : Result AskedHere Refusal). asked_or_refused r ≡ asked_by c.args.hub.now.0 c.args.head.now) c.in-Ok.is
+    c.asked_of.ensures) c.rest.ensures c.answer_asked.ensures.answers
 
-pub returns-in-Err-clause-answers_one : goal.returns-in-Err-clause-answers_one
-returns-in-Err-clause-answers_one g c = (Err c.in-Err.refusal, inl (refl, c.refused.ensures))
+pub returns-in-Err-clause-once : goal.returns-in-Err-clause-once
+returns-in-Err-clause-once g c = ((Err c.in-Err.refusal, inl (refl, c.refused.ensures)), refl)

@@ -1,6 +1,6 @@
 use Rattle.std.proofs.Common.{◌≡◌}
 use Rattle.hub_http.specs.Answer.{Steps}
-use Rattle.hub_http.proofs.Serving.{ended_whole}
+use Rattle.hub_http.proofs.Serving.{ended_whole, one_asked}
 use Rattle.hub_http.proofs.serve.serve_one.Goals as goal
 
 pub returns-in-Ok-write_answer-clause-served : goal.returns-in-Ok-write_answer-clause-served
@@ -11,4 +11,14 @@ returns-in-Ok-write_answer-clause-served g c =
 
 pub returns-in-Ok-write_answer-clause-written : goal.returns-in-Ok-write_answer-clause-written
 returns-in-Ok-write_answer-clause-written g c =
-    (c.in-Ok.answer, c.in-Ok.ensures.answers_one, c.in-Ok-write_answer.ensures.bytes, c.as_u16.ensures.value)
+    (c.in-Ok.answer, c.in-Ok.ensures.once.0, c.in-Ok-write_answer.ensures.bytes, c.as_u16.ensures.value)
+
+pub returns-in-Ok-write_answer-clause-stepped : goal.returns-in-Ok-write_answer-clause-stepped
+returns-in-Ok-write_answer-clause-stepped g c =
+    one_asked (Steps g.S.Store.content g.S.Store.honest g.S.Store.left c.args.moment c.args.hub.now c.answer_one.new.hub)
+    (c.answer_one.new.hub ≡ c.args.hub.now) c.args.hub.now.0 c.in-Ok.answer c.in-Ok.ensures.once.0
+
+pub returns-clause-stepped : goal.returns-clause-stepped
+returns-clause-stepped g c =
+    one_asked (Steps g.S.Store.content g.S.Store.honest g.S.Store.left c.args.moment c.args.hub.now c.answer_one.new.hub)
+    (c.answer_one.new.hub ≡ c.args.hub.now) c.args.hub.now.0 c.in-Ok.answer c.in-Ok.ensures.once.0

@@ -1,5 +1,5 @@
 use Rattle.std.proofs.Common.{◌≡◌, ◌≤◌, ◌-◌}
-use Rattle.hub_http.specs.Answer.{StaysSound}
+use Rattle.hub_core.specs.Hub.{StaysSound}
 use Rattle.hub_serve.specs.Connections.{known}
 use Rattle.hub_serve.proofs.Running.{RunsTo}
 use Rattle.hub_serve.proofs.SoFar.{SoFar}

@@ -27,13 +27,13 @@ returns-clause-carried g c = λ hub rise.
     c.in_ok-verdict.verdict ≡ judge_cancel (supplier_row register.suppliers cancel.supplier) (cancel_text cancel) cancel state =
     λ honest. c.in_ok-verdict.ensures state (c.in_ok-known.ensures.told honest)
     ∙ (λ i. judge_cancel (supplier i) (content i) cancel state) in
-    after_looking g.S.Store.content g.S.Store.honest g.S.Store.left c.args.store.now c.known_for_cancel.new.store c.finish.new.store
+    after_looking g.S.Store.content g.S.Store.honest g.S.Store.left c.args.store.now c.known_for_cancel.new.store c.commit_and_reply.new.store
     does (λ t. replied_by act_reply (act c.in_ok-verdict.verdict t)) as_told
     (VerdictFits c.in_ok-verdict.verdict)
-    c.in_ok-known.ensures.stays c.finish.ensures.unharmed.was_honest
+    c.in_ok-known.ensures.stays c.commit_and_reply.ensures.unharmed.was_honest
     (λ honest. ap (λ verdict. replied_by act_reply (act verdict t)) (sym (verdict honest)))
     (λ honest. subst (λ verdict. VerdictFits verdict t) (sym (verdict honest)) (named_fits register.suppliers cancel.supplier t
     (λ supplier. judge_cancel supplier (cancel_text cancel) cancel) hub tt
     (λ s here changes accepted. c.accepted_changes_fit.ensures.cancel register.suppliers s t (cancel_text cancel) cancel changes
     here rise accepted)))
-    c.finish.result c.finish.ensures.carried
+    c.commit_and_reply.result c.commit_and_reply.ensures.carried

@@ -6,10 +6,13 @@ use Rattle.hub_tables.specs.State.{knows_order, lines_of}
 use Rattle.hub_tables.specs.Tables.{view, has_pallet}
 use Rattle.hub_order_lines.specs.KnownLines.{AreUnclean}
 use Rattle.hub_judges.specs.Known.{names_order}
+use Rattle.hub_transactions.specs.Named.{NamedUnclean}
 use Rattle.hub_transactions.proofs.LookUps.{same_rows}
 use Rattle.hub_transactions.proofs.Named.{known_among, lines_of_named, numbers_rise, seen_is_there}
 use Rattle.hub_transactions.proofs.Failing.{ends_in, none_broken}
+use Rattle.hub_transactions.proofs.despatches.known_for_despatch.Given as given
 use Rattle.hub_transactions.proofs.despatches.known_for_despatch.Goals as goal
+use Rattle.hub_transactions.proofs.despatches.known_for_despatch.Goals.{In_err-lines}
 
 pub returns-clause-told : goal.returns-clause-told
 returns-clause-told g c = λ honest kept.
@@ -47,8 +50,12 @@ returns-clause-told g c = λ honest kept.
           ∙ lines_of_named state order c.in_ok-named.named.keys c.in_ok-named.ensures.ordered (is_named order names));
     }
 
-pub returns-in_err-lines-clause-unclean : goal.returns-in_err-lines-clause-unclean
-returns-in_err-lines-clause-unclean g c = λ honest going clean unclean.
+-- the orders of whose lines nothing can be known
+named_unclean : (g : given.Over) (c : In_err-lines g)
+    → AreUnclean c.put_known.new.lines
+    → g.S.Store.honest c.put_known.new.store
+    → NamedUnclean c.args.despatch.now.units (view c.args.supplier.now (g.S.Store.content c.args.store.now))
+named_unclean g c unclean honest =
     let supplier = c.args.supplier.now in
     let third = c.in_ok-put_known.ensures.stays.was_honest honest in
     let second = c.in_ok-used.ensures.stays.was_honest third in
@@ -61,13 +68,17 @@ returns-in_err-lines-clause-unclean g c = λ honest going clean unclean.
     let found = c.in_ok-put_known.ensures.rows honest
     ∙ ap₂ (λ so_far s. so_far ++ flat_map (lines_of s) numbers) c.new-rows.ensures
     (ap (view supplier) (three ∙ two ∙ one)) in
-    let given = c.from_residual-in_err-lines.ensures in
     record {
       orders = numbers;
       named = λ order. c.in_ok-named.ensures.orders order ∙ ap (λ units. names_order units order) c.as_slice-units.ensures;
       rise = numbers_rise keys c.in_ok-named.ensures.ordered;
-      lines = subst AreUnclean found (c.in_err-lines.ensures.unclean search rules);
+      lines = subst AreUnclean found unclean;
     }
+
+pub returns-in_err-lines-clause-unclean : goal.returns-in_err-lines-clause-unclean
+returns-in_err-lines-clause-unclean g c = λ honest going clean unclean.
+    let given = c.from_residual-in_err-lines.ensures in
+    named_unclean g (goal.at.returns-in_err-lines-clause-unclean g c).In_err-lines (c.in_err-lines.ensures.unclean search rules) honest
 
 pub returns-in_err-lines-clause-fails : goal.returns-in_err-lines-clause-fails
 returns-in_err-lines-clause-fails g c =
@@ -81,26 +92,5 @@ returns-in_err-lines-clause-fails g c =
     (fourth.after ∙ third.after ∙ second.after ∙ first.after)
     (elim c.in_err-lines.ensures.faults [
       | inl e ↦ inl e
-      | inr e ↦ inr (
-        e.0,
-        λ honest.
-            let supplier = c.args.supplier.now in
-            let third = c.in_ok-put_known.ensures.stays.was_honest honest in
-            let second = c.in_ok-used.ensures.stays.was_honest third in
-            let first = c.advice_known.ensures.looks.was_honest second in
-            let one = c.remembered.ensures.looks.content_stays first in
-            let two = c.advice_known.ensures.looks.content_stays second in
-            let three = c.in_ok-used.ensures.stays.content_stays third in
-            let keys = c.in_ok-named.named.keys in
-            let numbers = map (λ number. number.now) keys in
-            let found = c.in_ok-put_known.ensures.rows honest
-            ∙ ap₂ (λ so_far s. so_far ++ flat_map (lines_of s) numbers) c.new-rows.ensures
-            (ap (view supplier) (three ∙ two ∙ one)) in
-            record {
-              orders = numbers;
-              named = λ order. c.in_ok-named.ensures.orders order ∙ ap (λ units. names_order units order) c.as_slice-units.ensures;
-              rise = numbers_rise keys c.in_ok-named.ensures.ordered;
-              lines = subst AreUnclean found e.1;
-            },
-      )
+      | inr e ↦ inr (e.0, named_unclean g (goal.at.returns-in_err-lines-clause-fails g c).In_err-lines e.1)
     ])

@@ -1,15 +1,11 @@
-use Rattle.std.proofs.Common.{◌≡◌, ◌+◌, ◌||◌, ◌∷◌, Bool, true, false, drop, map, refl, sym, ap, ◌∙◌}
+use Rattle.std.proofs.Common.{◌+◌, ◌||◌, ◌∷◌, drop, map, sym, ap, ◌∙◌}
 use Rattle.std.specs.List.{list_any}
 use Rattle.std.proofs.lemmas.List.{drop_more}
 use Rattle.edi_base.specs.Seen.{is_among}
 use Rattle.edi_base.proofs.Twice.{is_among-insert, text_of, bytes_eq-sym}
 use Rattle.hub_tables.specs.Rows.{same}
+use Rattle.hub_order_lines.proofs.Moved.{or_moved}
 use Rattle.hub_transactions.proofs.naming.put_orders.Goals as goal
-
-or_moved : (a b c : Bool) → ((a || b) || c) ≡ (b || (a || c))
-or_moved true true c = refl
-or_moved true false c = refl
-or_moved false b c = refl
 
 pub loop-line-preserved : goal.loop-line-preserved
 loop-line-preserved c = record {

@@ -5,9 +5,12 @@ use Rattle.hub_tables.specs.State.{contents_of, receipts_of}
 use Rattle.hub_tables.specs.Tables.{view}
 use Rattle.hub_law.specs.StatusText.{pallet_text}
 use Rattle.hub_texts.specs.Totals.{IsUnclean}
+use Rattle.hub_transactions.specs.Status.{PalletUnclean}
 use Rattle.hub_transactions.proofs.Reports.{has_at}
 use Rattle.hub_transactions.proofs.Failing.{ends_in, none_broken}
+use Rattle.hub_transactions.proofs.status.with_pallets.Given as given
 use Rattle.hub_transactions.proofs.status.with_pallets.Goals as goal
+use Rattle.hub_transactions.proofs.status.with_pallets.Goals.{In_err-whole}
 
 pub loop-pallet-preserved : goal.loop-pallet-preserved
 loop-pallet-preserved g c =
@@ -38,8 +41,12 @@ loop-pallet-preserved g c =
           ∙ before.text first same;
     }
 
-pub returns-in_err-whole-clause-unclean : goal.returns-in_err-whole-clause-unclean
-returns-in_err-whole-clause-unclean g c = λ honest going clean unclean.
+-- the pallet at which it stops
+unclean_pallet : (g : given.Over) (c : In_err-whole g)
+    → IsUnclean c.args.lines.now c.as_slice-contents.result.now c.as_slice-receipts.result.now
+    → g.S.Store.honest c.receipts_of.new.self
+    → PalletUnclean (view c.args.supplier.now (g.S.Store.content c.args.store.now)) c.args.lines.now c.args.pallets.now
+unclean_pallet g c unclean honest =
     let supplier = c.args.supplier.now in
     let state = view supplier (g.S.Store.content c.args.store.now) in
     let lines = c.args.lines.now in
@@ -63,8 +70,12 @@ returns-in_err-whole-clause-unclean g c = λ honest going clean unclean.
       there = has_at pallets i pallet rest next;
       unclean =
           subst (λ rows. IsUnclean lines (contents_of state pallet.sscc) rows) receipts
-          (subst (λ rows. IsUnclean lines rows c.as_slice-receipts.result.now) contents (c.in_err-whole.ensures.unclean search rules));
+          (subst (λ rows. IsUnclean lines rows c.as_slice-receipts.result.now) contents unclean);
     }
+
+pub returns-in_err-whole-clause-unclean : goal.returns-in_err-whole-clause-unclean
+returns-in_err-whole-clause-unclean g c = λ honest going clean unclean.
+    unclean_pallet g (goal.at.returns-in_err-whole-clause-unclean g c).In_err-whole (c.in_err-whole.ensures.unclean search rules) honest
 
 pub returns-in_err-whole-clause-fails : goal.returns-in_err-whole-clause-fails
 returns-in_err-whole-clause-fails g c =
@@ -77,33 +88,5 @@ returns-in_err-whole-clause-fails g c =
     (second.after ∙ first.after ∙ stays)
     (elim c.in_err-whole.ensures.faults [
       | inl e ↦ inl e
-      | inr e ↦ inr (
-        e.0,
-        λ honest.
-            let supplier = c.args.supplier.now in
-            let state = view supplier (g.S.Store.content c.args.store.now) in
-            let lines = c.args.lines.now in
-            let pallets = c.args.pallets.now in
-            let pallet = c.pallet-item.result in
-            let i = c.loop-pallet.pallet-index in
-            let rest = drop (i + 1) pallets in
-            let next = drop_more pallets i pallet c.loop-pallet-test.true ∙ ap (λ one. one ∷ rest) (sym c.pallet-item.is) in
-            let second = c.receipts_of.ensures.looks.was_honest honest in
-            let first = c.contents_of.ensures.looks.was_honest second in
-            let was = c.loop-pallet.invariant.stays.content_stays first in
-            let then = c.contents_of.ensures.looks.content_stays second ∙ was in
-            let contents = c.as_slice-contents.ensures
-            ∙ c.in_ok-announced.ensures.looks.answers second
-            ∙ ap (λ t. contents_of (view supplier t) pallet.sscc) was in
-            let receipts = c.as_slice-receipts.ensures
-            ∙ c.in_ok-received.ensures.looks.answers honest
-            ∙ ap (λ t. receipts_of (view supplier t) pallet.sscc) then in
-            record {
-              pallet = pallet;
-              there = has_at pallets i pallet rest next;
-              unclean =
-                  subst (λ rows. IsUnclean lines (contents_of state pallet.sscc) rows) receipts
-                  (subst (λ rows. IsUnclean lines rows c.as_slice-receipts.result.now) contents e.1);
-            },
-      )
+      | inr e ↦ inr (e.0, unclean_pallet g (goal.at.returns-in_err-whole-clause-fails g c).In_err-whole e.1)
     ])

@@ -1,6 +1,6 @@
 use Rattle.std.proofs.Common.{refl, inr}
 use Rattle.std.proofs.lemmas.Result.{on_ok_weaker}
-use Rattle.edi_envelope.specs.declared.judge.Place.TheVariants as place
+use Rattle.edi_envelope.specs.declared.check.Place.TheVariants as place
 use Rattle.edi_envelope.proofs.GatherLemmas.{keeps_at, trailer_kept}
 use Rattle.edi_envelope.proofs.gathering.Gathered.end.Goals as goal
 

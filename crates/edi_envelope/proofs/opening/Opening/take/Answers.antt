@@ -5,5 +5,5 @@ pub returns : goal.returns
 returns c = λ lent stands.
     let next = c.in_ok-place.ensures in
     keeps lent c.args.segment _ c.args.self.now c.next.new.self c.in_ok-place.place c.of.ensures stands
-    (next.judged lent stands.judged) (next.placed lent stands.judged) next.refused.0 next.for_good
+    (next.checked lent stands.checked) (next.placed lent stands.checked) next.refused.0 next.for_good
     c.keep.result c.keep.new.self (λ gathers known placed. c.keep.ensures lent gathers known placed)

@@ -4,8 +4,8 @@ use Rattle.edi_segments.specs.declared.segment.Segment.{Segment}
 use Rattle.edi_segments.specs.SegmentRef.{segment_in}
 use Rattle.edi_tokens.specs.Appending.{with_component}
 use Rattle.edi_tokens.specs.Text.{segment_text}
-use Rattle.edi_envelope.specs.declared.judge.Place.{Place}
-use Rattle.edi_envelope.specs.Judge.{Placed}
+use Rattle.edi_envelope.specs.declared.check.Place.{Place}
+use Rattle.edi_envelope.specs.Check.{Placed}
 use Rattle.edi_envelope.proofs.GatherLemmas.{goes_at}
 use Rattle.edi_relay.proofs.Written.{unh_written, more_written, renumbered_inside, renumbered_unt}
 use Rattle.edi_relay.proofs.mails.Mails.take.Goals as goal

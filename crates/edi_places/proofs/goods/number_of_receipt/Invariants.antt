@@ -1,7 +1,0 @@
-use Rattle.std.proofs.Common.{◌≡◌, ◌+◌, drop}
-use Rattle.edi_places.specs.Goods.{number_of_receipt}
-use Rattle.edi_places.proofs.goods.number_of_receipt.Given as goal
-
--- the condition holds of no line group so far
-abbrev pub invariant-loop-place : goal.invariant-loop-place
-invariant-loop-place l = number_of_receipt l.fault l.segments ≡ l.place + number_of_receipt l.fault (drop l.place l.segments)

@@ -1,0 +1,12 @@
+//! The lines on standard error that go with an exit status.
+
+ghost use Rattle.edi_relay.specs.ErrorLines.{Tells};
+
+use edi_tokens::{Sink, write_bytes};
+
+/// Prints a line. Where the writer fails, the exit status alone tells.
+pub fn tell<E: Sink>(line: &[u8], err: &mut E)
+    ensures { Tells (E.contents err.old) (E.contents err.new) (E.failed err.new) line.now }
+{
+    let _ = write_bytes(line, err);
+}

@@ -1,0 +1,86 @@
+//! The hub in a database file: opened for the work, and closed after it.
+ghost use Rattle.hub_tables.specs.Register.{HoldsRegister};
+ghost use Rattle.hub_sql.specs.Stored.{content, honest};
+
+use crate::fault::BeginFault;
+use crate::serve::serve_over;
+use crate::tasks::obey;
+use crate::tell;
+use edi_base::exit::FAILED;
+use hub_app::{HubWords, ServeWords};
+use hub_core::Hub;
+use hub_sql::SqliteStore;
+use hub_store::StoreFault;
+use sqlite::Alter;
+use sqlite_disk::{Start, Unknown};
+use sqlite_std_file::FileFrom;
+use sqlite_store::FileStore;
+use std::path::Path;
+
+/// What is to be done with the hub.
+#[derive(Drop)]
+pub(crate) enum Work<'a> {
+    /// One command.
+    Command(HubWords<'a>),
+    /// Serving it over the network.
+    Serve(ServeWords<'a>),
+}
+
+// The path of the database file.
+fn db_of<'a>(work: &Work<'a>) -> &'a str {
+    match work {
+        Work::Command(words) => words.db,
+        Work::Serve(words) => words.db,
+    }
+}
+
+// Whether a file can be opened in the folder of a path, and none stands there. Opening it would make one.
+fn is_missing(rt: &HostRuntime, path: &str) -> bool {
+    let path = Path::new(path);
+    let folder = match path.parent() {
+        Some(folder) if folder.as_str() != "" => folder,
+        _ => Path::new("."),
+    };
+    folder.is_dir(rt) && matches!(path.try_exists(rt), Ok(false))
+}
+
+// Does the work over the hub in these tables, and gives them back, also where nothing was done.
+fn over_tables<A: Alter + Drop>(
+    rt: &HostRuntime,
+    tables: SqliteStore<A>,
+    work: Work<'_>,
+) -> (Result<u8, BeginFault>, SqliteStore<A>)
+    requires { honest A.Store tables → HoldsRegister (content A.Store tables) }
+{
+    let mut hub = match Hub::new(rt.alloc(), tables) {
+        Ok(hub) => hub,
+        Err((tables, fault)) => return (Err(BeginFault::Store(fault)), tables),
+    };
+    let status = match work {
+        Work::Command(words) => obey(rt, &mut hub, words),
+        Work::Serve(words) => serve_over(rt, &mut hub, &words),
+    };
+    let (_register, tables) = hub.into_store();
+    (status, tables)
+}
+
+// Does the work over the hub in a file, and closes it, with all that stands in the log beside it. What was accepted is
+// kept where that fails too. No file is made: a hub is founded by `init` alone.
+fn over_file<S: Start>(rt: &HostRuntime, work: Work<'_>, start: S) -> Result<u8, BeginFault> {
+    let db = db_of(&work);
+    if is_missing(rt, db) {
+        return Err(BeginFault::Store(StoreFault::Version));
+    }
+    let tables = SqliteStore::at_path(rt, db, start).map_err(|(fault, _left)| fault)?;
+    let (status, tables) = over_tables::<FileStore<FileFrom<S>>>(rt, tables, work);
+    let _ = tables.into_connection().close();
+    status
+}
+
+/// Does the work over the hub in the database file that its words name, and answers the exit status.
+pub(crate) fn over_a_hub(rt: &HostRuntime, work: Work<'_>) -> u8 {
+    match over_file(rt, work, Unknown) {
+        Ok(status) => status,
+        Err(fault) => tell(rt, fault, FAILED),
+    }
+}

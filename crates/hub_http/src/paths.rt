@@ -1,0 +1,76 @@
+//! The router of the seven routes.
+
+ghost use Rattle.std.specs.Prelude.{◌≡◌, IfOk, option_map};
+ghost use Rattle.hub_http.specs.Parts.{parts};
+ghost use Rattle.hub_http.specs.Paths as spec;
+
+use crate::route::Route;
+use matchit::{InsertError, Router};
+use std::alloc::{AllocError, Global};
+use std::marker::Model;
+
+// The router with one more route. It is handed over and back, so that nothing is left to let go where memory gives out.
+fn with_route(
+    mut router: Router<Route>,
+    text: &str,
+    route: Route,
+) -> Result<Router<Route>, InsertError>
+    ensures { IfOk result (λ with. with ≡ spec.added text.now route router) }
+{
+    router.insert(text, route)?;
+    Ok(router)
+}
+
+// The router of the seven routes.
+fn seven_routes(alloc: Global) -> Result<Router<Route>, InsertError>
+    ensures { IfOk result (λ router. router ≡ spec.seven) }
+{
+    let router = Router::new(alloc);
+    let router = with_route(router, "/p/{gln}/interchanges", Route::Interchanges)?;
+    let router = with_route(router, "/p/{gln}/mail/after/{n}", Route::MailAfter)?;
+    let router = with_route(router, "/p/{gln}/mail/item/{n}", Route::MailItem)?;
+    let router = with_route(router, "/p/{gln}/mail/item/{n}/taken", Route::MailTaken)?;
+    let router = with_route(router, "/p/{gln}/status", Route::Status)?;
+    let router = with_route(router, "/p/{gln}/status/{supplier}", Route::StatusOf)?;
+    with_route(router, "/p/{gln}/cancellations", Route::Cancellations)
+}
+
+/// The router of the seven routes, made once for many paths.
+#[derive(Drop)]
+pub struct Paths {
+    router: Router<Route>,
+}
+
+impl Model for Paths {
+    ghost use Rattle.hub_http.specs.Paths.{Routes};
+
+    ghost Value = { Routes };
+
+    ghost use Rattle.hub_http.specs.Paths.{routes_in, IsSeven};
+
+    ghost view = { routes_in };
+
+    ghost invariant = { IsSeven };
+}
+
+impl Paths {
+    /// Fails only for want of memory.
+    pub fn new(alloc: Global) -> Result<Self, AllocError> {
+        match seven_routes(alloc) {
+            Ok(router) => Ok(Paths { router }),
+            Err(_) => Err(AllocError),
+        }
+    }
+
+    /// The route that a path takes, and so the parts that `party_in` and `part_in` take from it; `None` where it takes
+    /// none of the seven. The path is the target of a request in origin form without its query (RFC 9112, section
+    /// 3.2.1); it is taken as it is, and nothing in it is decoded. Takes no memory.
+    pub fn route_of(&self, path: &str) -> Option<Route>
+        ensures { option_map (λ route. (route, parts route path.now)) result ≡ spec.route_at path.now }
+    {
+        match self.router.at(path) {
+            Ok(found) => Some(*found.value),
+            Err(_) => None,
+        }
+    }
+}
