@@ -2,7 +2,7 @@
 EXAMPLE = 5412345000006 4012345500004 1748942400 1
 PROVED = crates/edihub/out/edihub
 
-.PHONY: run day serve page page-test page-pictures try case test wrong found hostile fuzz year crowd hubs bench
+.PHONY: run day serve page page-test page-pictures try case test wrong split-commit hostile fuzz year crowd hubs bench
 .PHONY: edihub trial_script tests_of_calls install uninstall clean
 
 # The main job, proved: the example's ORDERS interchange becomes the supplier's mailbox interchange. The program that does this
@@ -93,7 +93,7 @@ wrong:
 	python3 -m tests.wrong $(CRATE)
 
 # Whether the trial of a machine that stops finds a commit in two transactions, which the contracts refuse: some minutes.
-found:
+split-commit:
 	python3 -m tests.split_commit
 
 # Kills, full disks, damaged files and refused memory, for some minutes; no part of the gate.

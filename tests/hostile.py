@@ -42,7 +42,7 @@ from tests.harness.http_texts import response
 from tests.harness.hub_scripts import DESPATCH, MOMENT, RECEIPT, RESPONSE, SECOND, SPELLED, TWO_SUPPLIERS, interchange
 from tests.harness.hub_scripts import order
 from tests.harness.hub_steps import REGISTER, found as found_hub, init, over, told
-from tests.harness.kept_files import kept
+from tests.harness.older_files import older_file
 from tests.harness.register_texts import ALPHA, BETA, GAMMA, HUB, RETAILER, of_prefixes
 from tests.harness.servers import Server, all_of, free_port, get, listed, upload
 from tests.harness.shims import HEAP, REFUSE, STOP, built
@@ -624,7 +624,7 @@ def file_damaged(program, top, data, has_sums):
 def files_damaged(program, top):
     for name, data, has_sums in (
         ("of today", file_of_today(program, top), True),
-        ("of schema 2", kept("schema2_received")[0], True),
+        ("of schema 2", older_file("schema2_received")[0], True),
         ("that SQLite made, without sums", file_of(), False),
     ):
         counts = file_damaged(program, top, data, has_sums)

@@ -1,4 +1,4 @@
-"""`make found`: whether the machine that stops at each call (trials/stopped_machine.py) finds what the contracts refuse.
+"""`make split-commit`: whether the machine that stops at each call (trials/stopped_machine.py) finds what the contracts refuse.
 
 The contracts refuse a commit in two transactions (`hub_writes/must-fail/commit_in_two_transactions.edit`). Here the program
 `trial_script` is built with that edit in a copy of the tree, by `rt try`, which proves nothing, and the machine is stopped at every

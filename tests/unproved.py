@@ -16,7 +16,7 @@ from glob import glob
 
 from tests import test
 from tests.cases import fault_places, goods, hub_commands, older_files, orders, without_hub
-from tests.harness.tree import KEPT, ROOT
+from tests.harness.tree import OLDER_FILES, ROOT
 from tests.harness.tree_copies import crates
 from tests.wrong import Kept
 
@@ -34,7 +34,7 @@ GROUPS = {
 CRATE = os.path.join(ROOT, "crates", "edihub")
 PROGRAM = os.path.join(CRATE, "out", "unproved")
 # a hub that is served, so that the program stands there for a while
-SERVED = os.path.join(KEPT, "schema2_received.db")
+SERVED = os.path.join(OLDER_FILES, "schema2_received.db")
 SERVE = ["serve", "--db", "hub.db", "--port", "8999", "--count", "1"]
 
 

@@ -8,7 +8,7 @@ from tests.harness.hub_scripts import DESPATCH, KEYS, OTHER_PALLET, PALLET, RECE
 from tests.harness.hub_scripts import TWO_SUPPLIERS, line_status
 from tests.harness.hub_steps import EACH, FIRST_TWO, REGISTER, cancelled, init, mail, one, over, rows_of_register
 from tests.harness.hub_steps import status_of, step, steps, told
-from tests.harness.kept_files import FOUNDED, MISFIT, VERSION, beside, kept, rows_of
+from tests.harness.older_files import FOUNDED, MISFIT, VERSION, beside, older_file, rows_of
 from tests.harness.register_texts import ALPHA, BETA, GAMMA, RETAILER, register
 
 A, B = (ALPHA, "40123455", KEYS[ALPHA]), (BETA, "8712345", KEYS[BETA])
@@ -29,7 +29,7 @@ def old_file(rows=OLD_ROWS, *changes):
 
 def brought_over(name):
     """No command opens it before, each does afterwards, and a register that does not fit changes nothing."""
-    data, status = kept(name)
+    data, status = older_file(name)
     still, whole = is_still(data), has_rows(beside(rows_of(data)))
     return steps(
         f"a database file of schema 1, {name}",
@@ -48,7 +48,7 @@ def brought_over(name):
 def of_schema_2():
     """A file of schema 2 as it was once written: a command opens it, and shows what it showed; of its rows none but the schema's number
     changes. Its receipt can then be corrected."""
-    data, status = kept("schema2_received")
+    data, status = older_file("schema2_received")
     rows = {**rows_of(data, database_files.ROWS), "schema": REGISTERED["schema"]}
     return steps(
         "a database file of schema 2, in which a pallet was received",
@@ -65,7 +65,7 @@ def of_schema_2():
 
 def of_schema_2_by_each():
     """Each command that opens it sets the number, whatever else it does."""
-    data, status = kept("schema2_received")
+    data, status = older_file("schema2_received")
     join = ("--supplier", GAMMA, "--supplier-key", "gamma-key-1", "--prefixes", "7612345")
     firsts = {
         "status": step(over("status", ALPHA), status),
@@ -93,7 +93,7 @@ def of_schema_2_and_unclean():
 
 def works_on():
     """What was accepted before is repeated, what comes is judged by what was there, and a supplier that joins begins with nothing."""
-    data, _ = kept("schema1_received")
+    data, _ = older_file("schema1_received")
     join = ("--supplier", GAMMA, "--supplier-key", "gamma-key-1", "--prefixes", "7612345")
     return steps(
         "a file that was brought over goes on",

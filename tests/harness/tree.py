@@ -5,4 +5,4 @@ HARNESS = os.path.dirname(os.path.abspath(__file__))
 ROOT = os.path.dirname(os.path.dirname(HARNESS))
 EXAMPLES = os.path.join(ROOT, "examples")
 # database files as earlier versions wrote them
-KEPT = os.path.join(ROOT, "tests", "kept")
+OLDER_FILES = os.path.join(ROOT, "tests", "older_files")

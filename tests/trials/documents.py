@@ -19,9 +19,9 @@ from tests.harness.hub_scripts import FIRST_MAIL, KEYS, MOMENT, OTHER_PALLET, PA
 from tests.harness.hub_steps import told
 from tests.harness.register_texts import ALPHA, RETAILER
 from tests.harness.servers import listed
-from tests.harness.tree import EXAMPLES, KEPT, ROOT
+from tests.harness.tree import EXAMPLES, OLDER_FILES, ROOT
 
-OLD_FILE = os.path.join(KEPT, "schema1_received.db")
+OLD_FILE = os.path.join(OLDER_FILES, "schema1_received.db")
 # lines between fences, or indented by four blanks, with empty lines between
 BLOCK = re.compile(r"^```[^\n]*\n(.*?)^```$|((?:^    [^\n]*\n(?:\n+(?=    ))?)+)", re.MULTILINE | re.DOTALL)
 

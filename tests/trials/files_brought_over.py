@@ -11,7 +11,7 @@ from tests.harness.first_order import ORDERS
 from tests.harness.hub_scripts import DESPATCH, OTHER_PALLET, RECEIPT, RESPONSE, SECOND, TWO_SUPPLIERS, despatch
 from tests.harness.hub_scripts import interchange, response
 from tests.harness.hub_steps import REGISTER, found, init, over
-from tests.harness.kept_files import FOUNDED, beside, kept, rows_of
+from tests.harness.older_files import FOUNDED, beside, older_file, rows_of
 from tests.harness.register_texts import ALPHA, BETA, RETAILER
 from tests.harness.shims import STOP, WAYS, built
 from tests.trials.disturbed_commands import at_each_change, founding_killed
@@ -45,7 +45,7 @@ def as_if_founded(program):
             if (it := ran(one_folder, over("import", who, "--folder", str(k))))[0]:
                 return f"upload {k}: {it!r:.300}"
         with open(os.path.join(other, NAME), "wb") as file:
-            file.write(kept("schema1_received")[0])
+            file.write(older_file("schema1_received")[0])
         found(program, other)
         for words in looks:
             if ran(one_folder, words) != ran(other, words):
@@ -56,7 +56,7 @@ def as_if_founded(program):
 def two_at_once(program):
     """What is wrong where two foundings of one file of schema 1 come at once, if anything: one brings it over, the other finds it open or
     done."""
-    data, status = kept("schema1_received")
+    data, status = older_file("schema1_received")
     with tempfile.TemporaryDirectory() as folder:
         for name, its in ((REGISTER, TWO_SUPPLIERS.encode()), (NAME, data)):
             with open(os.path.join(folder, name), "wb") as file:
@@ -72,14 +72,14 @@ def two_at_once(program):
 
 def killed(program):
     """What is wrong where a file is brought over by a command that is killed at a change of it, if anything."""
-    data, status = kept("schema1_received")
+    data, status = older_file("schema1_received")
     return founding_killed(program, data, beside(rows_of(data)), status)
 
 
 def raised(program):
     """What is wrong where a file of schema 2 is opened by a command that is killed at a change of it, if anything: it is of schema 2 or 3,
     and each row else is as it was."""
-    data, status = kept("schema2_received")
+    data, status = older_file("schema2_received")
     rows = rows_of(data, database_files.ROWS)
     before, after = ({**rows, "schema": [(number,)]} for number in (2, 3))
     with tempfile.TemporaryDirectory() as top:

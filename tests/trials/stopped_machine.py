@@ -12,10 +12,10 @@ from concurrent.futures import ThreadPoolExecutor
 from tests.harness.acts_in_turn import LOOKS, ends, inputs, looks, script
 from tests.harness.case import SECONDS
 from tests.harness.hub_scripts import Play
-from tests.harness.tree import KEPT
+from tests.harness.tree import OLDER_FILES
 
 FILES = ("stop-file", "stop-log")
-OLD = os.path.join(KEPT, "schema1_received.db")
+OLD = os.path.join(OLDER_FILES, "schema1_received.db")
 # how many calls of a file are stopped at least behind the making of the tables, and how many are tried at most
 FEWEST, MOST = 20, 2000
 

@@ -1,20 +1,20 @@
-"""Database files as earlier versions wrote them (tests/kept), and the rows that today's have then."""
+"""Database files as earlier versions wrote them (tests/older_files), and the rows that today's have then."""
 import os
 import sqlite3
 import tempfile
 
 from tests.harness.database_files import NAME, OLD_ROWS
 from tests.harness.hub_steps import FIRST_TWO, rows_of_register, told
-from tests.harness.tree import KEPT
+from tests.harness.tree import OLDER_FILES
 
 FOUNDED, MISFIT, VERSION = told("ok 2 suppliers"), told("fault rows"), "store version\n"
 
 
-def kept(name):
+def older_file(name):
     """A file as it was once written, and the status of the first supplier in it."""
-    with open(os.path.join(KEPT, f"{name}.db"), "rb") as file:
+    with open(os.path.join(OLDER_FILES, f"{name}.db"), "rb") as file:
         data = file.read()
-    with open(os.path.join(KEPT, f"{name}.status"), encoding="ascii") as file:
+    with open(os.path.join(OLDER_FILES, f"{name}.status"), encoding="ascii") as file:
         return data, file.read()
 
 
