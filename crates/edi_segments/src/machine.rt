@@ -231,7 +231,7 @@ impl Machine {
         4
     }
 
-    // A call for each run of bytes would cost a tenth of a relay: so this and what it calls stands where it is called.
+    // A call for each run of bytes would cost a tenth of a relay, so this and what it calls are inlined.
     /// Takes the bytes at the front that are plain data, and says how many. None outside of data.
     #[inline(always)]
     fn push_plain(&mut self, bytes: &[u8]) -> usize

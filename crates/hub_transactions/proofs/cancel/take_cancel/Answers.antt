@@ -27,7 +27,8 @@ returns-clause-carried g c = λ hub rise.
     c.in_ok-verdict.verdict ≡ judge_cancel (supplier_row register.suppliers cancel.supplier) (cancel_text cancel) cancel state =
     λ honest. c.in_ok-verdict.ensures state (c.in_ok-known.ensures.told honest)
     ∙ (λ i. judge_cancel (supplier i) (content i) cancel state) in
-    after_looking g.S.Store.content g.S.Store.honest g.S.Store.left c.args.store.now c.known_for_cancel.new.store c.commit_and_reply.new.store
+    after_looking g.S.Store.content g.S.Store.honest g.S.Store.left c.args.store.now
+    c.known_for_cancel.new.store c.commit_and_reply.new.store
     does (λ t. replied_by act_reply (act c.in_ok-verdict.verdict t)) as_told
     (VerdictFits c.in_ok-verdict.verdict)
     c.in_ok-known.ensures.stays c.commit_and_reply.ensures.unharmed.was_honest

@@ -18,7 +18,8 @@ returns-clause-carried g c = λ here rise.
     let message = c.args.message.now in
     let came = incoming c.args.moment c.args.interchange.now message in
     let t = g.S.Store.content c.args.store.now in
-    after_looking g.S.Store.content g.S.Store.honest g.S.Store.left c.args.store.now c.judged_for_supplier.new.store c.commit_and_tell.new.store
+    after_looking g.S.Store.content g.S.Store.honest g.S.Store.left c.args.store.now
+    c.judged_for_supplier.new.store c.commit_and_tell.new.store
     (deliver_suppliers (view s.gln) (parties_of register) s (message, came))
     (act_of c.in_ok-judged.judged) told_of (JudgedFits c.in_ok-judged.judged)
     c.in_ok-judged.ensures.stays c.commit_and_tell.ensures.unharmed.was_honest
